@@ -1,0 +1,4 @@
+pub mod Limits
+pub mod Mind
+pub mod Status
+pub mod Turn

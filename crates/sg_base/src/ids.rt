@@ -1,0 +1,29 @@
+//! Identifiers: each is a place in the order in which its kind was declared.
+
+/// An actor: the first actor of the deployment has the number 1.
+#[derive(Clone, Copy, Debug, PartialEq, Eq)]
+pub struct ActorId(pub u32);
+
+/// A point of the platform: the hosts in declared order from 0 on, then the routers.
+#[derive(Clone, Copy, Debug, PartialEq, Eq)]
+pub struct PointId(pub u32);
+
+/// A link, from 0 on in declared order. A SPLITDUPLEX row gives two, up and then down; the last one of all is
+/// the loopback.
+#[derive(Clone, Copy, Debug, PartialEq, Eq)]
+pub struct LinkId(pub u32);
+
+/// A zone, from 0 on in declared order.
+#[derive(Clone, Copy, Debug, PartialEq, Eq)]
+pub struct ZoneId(pub u32);
+
+/// A child of a zone.
+#[derive(Clone, Copy, Debug, PartialEq, Eq)]
+pub enum Child {
+    Point(PointId),
+    Zone(ZoneId),
+}
+
+/// The serial of an activity, counted up from 1 over the whole run.
+#[derive(Clone, Copy, Debug, PartialEq, Eq)]
+pub struct Serial(pub u64);

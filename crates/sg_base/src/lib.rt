@@ -1,0 +1,23 @@
+//! The words that every layer of the simulator speaks: identifiers, calls, actions, answers, records, how a
+//! program ends, texts, lists, and the counter of steps.
+#![tactic(auto)]
+
+mod call;
+mod ids;
+mod laws;
+mod links;
+mod memory;
+mod status;
+mod steps;
+mod text;
+mod trace_record;
+
+pub use call::{Action, Answer, Call};
+pub use ids::{ActorId, Child, LinkId, PointId, Serial, ZoneId};
+pub use laws::turns_keep_limits;
+pub use links::Links;
+pub use memory::Memory;
+pub use status::Status;
+pub use steps::Steps;
+pub use text::Text;
+pub use trace_record::Record;

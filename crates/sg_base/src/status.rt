@@ -1,0 +1,52 @@
+//! How the program ends.
+
+/// How a call of the whole program ended.
+#[derive(Clone, Copy, Debug, PartialEq, Eq)]
+pub enum Status {
+    /// All actors have ended.
+    Completed,
+    /// The words of the command line were refused.
+    Words,
+    /// The platform was refused.
+    Platform,
+    /// The deployment was refused.
+    Deployment,
+    /// A bad script line was met.
+    Script,
+    /// Nobody was ready, and nothing was under way.
+    Deadlock,
+    /// Nobody was ready, and nothing that was under way would ever be over.
+    Starved,
+    /// An event was next, and the budget of events was used up.
+    Budget,
+    /// A part could not be read.
+    ReadFault,
+    /// A write failed.
+    WriteFault,
+    /// There was no memory left.
+    Memory,
+}
+
+impl Status {
+    ghost use Rattle.std.specs.Prelude.{◌≡◌};
+    ghost use Rattle.sg_base.specs.Status.{status_code};
+
+    /// The exit status of the program.
+    pub fn code(self) -> u8
+        ensures { result ≡ status_code self }
+    {
+        match self {
+            Status::Completed => 0,
+            Status::Words => 2,
+            Status::Platform => 3,
+            Status::Deployment => 4,
+            Status::Script => 5,
+            Status::Deadlock => 6,
+            Status::Starved => 7,
+            Status::Budget => 8,
+            Status::ReadFault => 10,
+            Status::WriteFault => 11,
+            Status::Memory => 12,
+        }
+    }
+}
