@@ -5,8 +5,8 @@ use Rattle.std.proofs.lemmas.List.Sums.{sum_by-cons, count_by-le-length}
 use Rattle.sg_maxmin.specs.declared.flow_row.FlowRow.{FlowRow}
 use Rattle.sg_maxmin.specs.declared.uses.Use.{Use}
 use Rattle.sg_maxmin.specs.Fill.{Flow, Fixed, is_on, taken, waiting, level, limits, least, lowest, step, steps_from, unfixed, level_of, share_of}
-use Rattle.sg_maxmin.specs.Laws.{HasLimit, HaveLimits}
-use Rattle.sg_maxmin.specs.Sharing.{Sharing, held, flow_at}
+use Rattle.sg_maxmin.specs.Laws.{HaveLimits}
+use Rattle.sg_maxmin.specs.Sharing.{Sharing, HasLimit, held, flow_at}
 use Rattle.sg_maxmin.specs.Uses.{IsChain, resources, flow_of, flows_of, share_in, AreRows}
 use Rattle.sg_maxmin.proofs.Chains.{length-resources}
 use Rattle.sg_maxmin.proofs.Rows.{flow_at-flows_of}

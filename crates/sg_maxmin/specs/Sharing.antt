@@ -1,8 +1,7 @@
 -- What contracts see of a `System`.
-use Rattle.std.specs.Prelude.{◌≡◌, ◌≢◌, ℕ, ◌<◌, Option, None, Some, List, length, filter_map, slice_index, slice_index_or, All, AllPairs, sum_by, refl}
+use Rattle.std.specs.Prelude.{◌≡◌, ◌≢◌, ℕ, ◌<◌, Option, None, Some, IsSome, List, [], length, filter_map, slice_index, slice_index_or, All, AllPairs, sum_by, refl}
 use Rattle.std.specs.Coded.{Coded, code_by, coded×, coded_ℕ, coded_list, coded_option}
 use Rattle.sg_maxmin.specs.Fill.{Flow, share_of}
-use Rattle.sg_maxmin.specs.Laws.{HasLimit}
 
 -- the capacities, the flow or nothing under each id, the share under each id, and room for so many flows and uses more
 pub record Sharing : Type 0 where
@@ -25,6 +24,15 @@ flow_at slots id = slice_index_or slots id None
 -- the flows that are held
 abbrev pub held : List (Option Flow) → List Flow
 held slots = filter_map (λ slot. slot) slots
+
+-- what a slot adds to a sum over the flows
+abbrev pub slot_part : (Flow → ℕ) → Option Flow → ℕ
+slot_part amount None = 0
+slot_part amount (Some flow) = amount flow
+
+-- a flow that uses no resource has a bound
+abbrev pub HasLimit : Flow → Type 0
+HasLimit flow = flow.uses ≡ [] → IsSome flow.bound
 
 -- the flow's resources exist, and each is listed once; with no resource it has a bound
 pub record IsFlow (capacities : List ℕ) (flow : Flow) : Type 0 where

@@ -1,26 +1,49 @@
-//! Laws of filling: each function does nothing, and its contract is the law.
+//! Laws of filling, each the contract of a function that does nothing.
+ghost use Rattle.sg_maxmin.specs.Laws.{FillsApart, FillsFairly, FixesAll, IsHeld, KeepsBound, KeepsShare, LevelRises, SharesSame, SumsChange};
 
-ghost use Rattle.std.specs.Prelude.{ℕ, List};
-ghost use Rattle.sg_maxmin.specs.Fill.{Flow, share_of};
-ghost use Rattle.sg_maxmin.specs.Fair.{IsFair};
-ghost use Rattle.sg_maxmin.specs.Laws.{HaveLimits, FillsApart, LevelRises, KeepsShare};
-
-/// Filling is max-min fair in whole units.
+/// Progressive filling is max-min fair in whole units: on each resource the shares add up to at most its capacity,
+/// and each flow has its bound as its share, or uses a resource on which its share is the greatest and on which
+/// fewer units are left than flows use it.
 pub fn is_fair()
-    ensures { (capacities : List ℕ) (flows : List Flow) → HaveLimits flows → IsFair capacities flows (share_of capacities flows) }
+    ensures { FillsFairly }
 {}
 
-/// Where two lists of flows share no resource, the fill of both is the fill of each.
-pub fn fills_apart()
-    ensures { FillsApart }
+/// No flow gets more than its bound.
+pub fn keeps_bound()
+    ensures { KeepsBound }
 {}
 
-/// The lowest level rises from step to step.
+/// Filling ends: after as many steps as there are flows each flow is fixed.
+pub fn fixes_all()
+    ensures { FixesAll }
+{}
+
+/// The lowest level rises strictly from step to step.
 pub fn level_rises()
     ensures { LevelRises }
+{}
+
+/// The filling of two lists of flows that share no resource is the filling of each.
+pub fn fills_apart()
+    ensures { FillsApart }
 {}
 
 /// A flow that shares no resource with those that come and go keeps its share.
 pub fn keeps_share()
     ensures { KeepsShare }
+{}
+
+/// Where all sums over two lists of flows are equal, so are the shares: the order of the flows doesn't matter.
+pub fn shares_same()
+    ensures { SharesSame }
+{}
+
+/// A sum over the flows that a system holds changes by what comes or goes.
+pub fn sums_change()
+    ensures { SumsChange }
+{}
+
+/// The flow under a number is one of those that the system holds.
+pub fn is_held()
+    ensures { IsHeld }
 {}

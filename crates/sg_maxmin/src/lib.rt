@@ -7,7 +7,10 @@ mod laws;
 mod system;
 mod uses;
 
-pub use laws::{fills_apart, is_fair, keeps_share, level_rises};
+pub use laws::{
+    fills_apart, fixes_all, is_fair, is_held, keeps_bound, keeps_share, level_rises, shares_same,
+    sums_change,
+};
 pub use system::{FlowId, System};
 
 #[cfg(test)]
