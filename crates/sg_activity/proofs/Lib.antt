@@ -1,0 +1,6 @@
+pub mod Times
+pub mod Serials
+pub mod Sums
+pub mod Kept
+pub mod Keeps
+pub mod Due

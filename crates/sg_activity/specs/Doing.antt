@@ -1,0 +1,96 @@
+-- What contracts see of `Activities`.
+use Rattle.std.specs.Prelude.{◌≡◌, ℕ, ◌+◌, ◌-◌, ◌*◌, ◌^◌, ◌<◌, ◌≤◌, ◌==◌, if◌then◌else◌, Bool, false, Option, None, Some, List, [], ◌∷◌, ◌++◌, length, slice_set, is_some, refl}
+use Rattle.std.specs.List.{list_any}
+use Rattle.std.specs.Coded.{Coded, code_by, coded×, coded_ℕ, coded_bool, coded_list, coded_option}
+use Rattle.sg_maxmin.specs.Sharing.{flow_code}
+use Rattle.sg_maxmin.specs.Fill.{Flow}
+use Rattle.sg_activity.specs.declared.kinds.HostCap.{HostCap}
+use Rattle.sg_activity.specs.declared.kinds.Phase.{Phase}
+use Rattle.sg_activity.specs.declared.kinds.PhaseKind.{PhaseKind}
+use Rattle.sg_activity.specs.declared.kinds.PhaseKind.TheVariants as phase
+use Rattle.sg_activity.specs.Hosts.{host_flow}
+use Rattle.sg_activity.specs.Dates.{next_in, tasks_later, due_in}
+use Rattle.sg_activity.specs.Task.{Task, task_at}
+
+-- The hosts, the date, the phase or nothing of each serial from 1 on, the serials that are due and not ended yet, whether the rates are up to date, and room for so many starts.
+pub record Doing : Type 0 where
+  pub hosts : List HostCap
+  pub date : ℕ
+  pub tasks : List (Option Task)
+  pub due : List ℕ
+  pub settled : Bool
+  pub room : ℕ
+
+abbrev pub kind_number : PhaseKind → ℕ
+kind_number phase.Exec = 0
+kind_number phase.Timer = 1
+
+abbrev pub kind_numbered : ℕ → PhaseKind
+kind_numbered n = if n == 0 then phase.Exec else phase.Timer
+
+abbrev pub kind_again : (k : PhaseKind) → kind_numbered (kind_number k) ≡ k
+kind_again phase.Exec = refl
+kind_again phase.Timer = refl
+
+abbrev pub kind_code : Coded PhaseKind
+kind_code = code_by ℕ coded_ℕ kind_number kind_numbered kind_again
+
+abbrev pub task_code : Coded Task
+task_code = code_by (PhaseKind × (ℕ × Flow)) (coded× kind_code (coded× coded_ℕ flow_code)) (λ t. (t.kind, (t.left, t.flow))) (λ p. record { kind = p.0; left = p.1.0; flow = p.1.1 }) (λ _. refl)
+
+abbrev pub host_code : Coded HostCap
+host_code = code_by (ℕ × ℕ) (coded× coded_ℕ coded_ℕ) (λ h. (h.speed, h.cores)) (λ p. record { speed = p.0; cores = p.1 }) (λ _. refl)
+
+abbrev pub doing_code : Coded Doing
+doing_code = code_by (List HostCap × (ℕ × (List (Option Task) × (List ℕ × (Bool × ℕ))))) (coded× (coded_list host_code) (coded× coded_ℕ (coded× (coded_list (coded_option task_code)) (coded× (coded_list coded_ℕ) (coded× coded_bool coded_ℕ))))) (λ d. (d.hosts, (d.date, (d.tasks, (d.due, (d.settled, d.room)))))) (λ p. record { hosts = p.0; date = p.1.0; tasks = p.1.1.0; due = p.1.1.1.0; settled = p.1.1.1.1.0; room = p.1.1.1.1.1 }) (λ _. refl)
+
+abbrev pub no_flow : Flow
+no_flow = record { uses = []; bound = None }
+
+abbrev pub exec_of : List HostCap → ℕ → ℕ → Task
+exec_of hosts host flops = record { kind = phase.Exec; left = flops * 1000000000; flow = host_flow hosts host }
+
+abbrev pub timer_of : ℕ → Task
+timer_of ns = record { kind = phase.Timer; left = ns; flow = no_flow }
+
+-- at first
+abbrev pub nothing_on : List HostCap → Doing
+nothing_on hosts = record { hosts = hosts; date = 0; tasks = []; due = []; settled = false; room = 0 }
+
+-- whether something is under way
+abbrev pub is_running : Doing → Bool
+is_running doing = list_any is_some doing.tasks
+
+-- the next serial is of this phase
+abbrev pub started : Doing → Task → Doing
+started doing task = record doing { tasks = doing.tasks ++ Some task ∷ []; settled = false; room = doing.room - 1 }
+
+-- so many nanoseconds later every amount has fallen, and those whose time this is are due
+abbrev pub later : ℕ → Doing → Doing
+later span doing = record doing { date = doing.date + span; tasks = tasks_later doing.hosts span doing.tasks; due = due_in doing.hosts span doing.tasks }
+
+-- this phase is the first of those due
+pub record IsDue (doing : Doing) (phase : Phase) : Type 0 where
+  pub rest : List ℕ
+  pub first : doing.due ≡ phase.serial.0 ∷ rest
+  pub task : Task
+  pub at : task_at doing.tasks phase.serial.0 ≡ Some task
+  pub kind : task.kind ≡ phase.kind
+  pub from : 0 < phase.serial.0
+  pub to : phase.serial.0 ≤ length doing.tasks
+
+-- the next phase is due at this date
+pub record IsNext (doing : Doing) (date : ℕ) : Type 0 where
+  pub from : doing.date ≤ date
+  pub in_time : next_in doing.hosts doing.tasks ≡ Some (date - doing.date)
+  pub soon : date ≤ doing.date + 10 ^ 24
+
+-- the first of those due has ended
+abbrev pub ended : List ℕ → Doing → Doing
+ended [] doing = doing
+ended (serial ∷ more) doing = record doing { tasks = slice_set doing.tasks (serial - 1) None; due = more; settled = false }
+
+-- the date isn't behind this time
+abbrev pub IsUpTo : ℕ → Option ℕ → Type 0
+IsUpTo span None = ⊥
+IsUpTo span (Some time) = span ≤ time

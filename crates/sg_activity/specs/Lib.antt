@@ -1,0 +1,5 @@
+pub mod Hosts
+pub mod Task
+pub mod Dates
+pub mod Doing
+pub mod Rows

@@ -1,0 +1,213 @@
+//! Activities under way.
+
+ghost use Rattle.std.specs.Prelude.{◌≡◌, ◌≢◌, ◌+◌, ◌-◌, ◌*◌, ◌<◌, ◌≤◌, ◌^◌, false, true, None, Some, IsTrue, IfOk, OnOk, OnErr, All, MatchOption, [], ◌∷◌, length};
+ghost use Rattle.sg_base.specs.Limits.{IsAmount, IsTime};
+ghost use Rattle.sg_activity.specs.Hosts.{IsHost, capacities_of};
+ghost use Rattle.sg_activity.specs.Dates.{next_in};
+ghost use Rattle.sg_activity.specs.Doing.{nothing_on, exec_of, timer_of, started, later, IsDue, IsNext, ended, IsUpTo, is_running};
+
+use crate::kinds::{HostCap, Phase, PhaseKind};
+use crate::rows::{self, Row};
+use sg_base::{Memory, PointId, Serial, Steps};
+use sg_maxmin::System;
+use std::alloc::Global;
+use std::marker::Model;
+use std::sync::ledger::Ledger;
+
+/// The activities under way, each under the serial that it drew.
+#[derive(Drop)]
+pub struct Activities {
+    hosts: Vec<HostCap>,
+    system: System,
+    slots: Vec<Option<Row>>,
+    date: u128,
+    settled: bool,
+    room: usize,
+}
+
+impl Model for Activities {
+    ghost use Rattle.sg_activity.specs.Doing.{Doing, doing_code};
+
+    ghost Value = { Doing };
+
+    ghost coded = { doing_code };
+
+    ghost use Rattle.std.specs.Prelude.{◌+◌, ◌<◌, ◌≤◌, ◌^◌, vec_len, vec_capacity};
+    ghost use Rattle.sg_activity.specs.Rows.{AreKept, doing_of};
+
+    ghost view = { λ s. doing_of s.hosts.items s.date s.slots.items s.settled s.room };
+
+    ghost invariant = { λ s. AreKept s.hosts.items s.slots.items s.system s.settled × (vec_len s.slots + s.room ≤ vec_capacity s.slots) × (s.room ≤ s.system.flow_room) × (s.room ≤ s.system.use_room) × (s.date < 10 ^ 34) };
+}
+
+// What each host offers in all.
+fn offers(alloc: Global, hosts: &[HostCap]) -> Result<Vec<u64>, Memory>
+    requires hosts { All IsHost hosts.now }
+    ensures { IfOk result (λ capacities. capacities.items ≡ capacities_of hosts.now) }
+{
+    let mut capacities = Vec::new(alloc);
+    for host in hosts {
+        match capacities.push(host.speed * u64::from(host.cores)) {
+            Ok(()) => {}
+            Err(_) => return Err(Memory),
+        }
+    }
+    Ok(capacities)
+}
+
+impl Activities {
+    /// Nothing is under way on these hosts.
+    pub fn new(alloc: Global, hosts: &[HostCap]) -> Result<Activities, Memory>
+        requires hosts { All IsHost hosts.now }
+        ensures { IfOk result (λ doing. doing ≡ nothing_on hosts.now) }
+    {
+        let capacities = offers(alloc, hosts)?;
+        Ok(Activities {
+            hosts: Vec::from_slice(alloc, hosts)?,
+            system: System::new(alloc, &capacities)?,
+            slots: Vec::new(alloc),
+            date: 0,
+            settled: false,
+            room: 0,
+        })
+    }
+
+    /// Room for so many more starts.
+    pub fn reserve(&mut self, n: usize) -> Result<(), Memory>
+        ensures room { OnOk result (n ≤ self.new.room) }
+        ensures grows { self.old.room ≤ self.new.room }
+        ensures kept { self.new ≡ record self.old { room = self.new.room } }
+    {
+        let n = n.max(self.room);
+        self.slots.reserve(n)?;
+        self.system.reserve(n, n)?;
+        self.room = n;
+        Ok(())
+    }
+
+    /// An execution, under the serial that is answered.
+    pub fn start_exec(&mut self, host: PointId, flops: u64) -> Serial
+        requires host { host.0 < length self.old.hosts }
+        requires flops { IsAmount flops }
+        requires room { 0 < self.old.room }
+        requires few { length self.old.tasks < 10 ^ 9 }
+        ensures serial { result.0 ≡ length self.old.tasks + 1 }
+        ensures starts { self.new ≡ started self.old (exec_of self.old.hosts host.0 flops) }
+    {
+        let serial = self.next_serial();
+        let host = host.0 as usize;
+        let flow = self.system.add(&[host], Some(self.hosts[host].speed));
+        self.slots.push_reserved(Some(Row {
+            kind: PhaseKind::Exec,
+            left: u128::from(flops) * 1_000_000_000,
+            host,
+            flow,
+            due: false,
+        }));
+        self.settled = false;
+        self.room -= 1;
+        serial
+    }
+
+    /// A sleep, under the serial that is answered.
+    pub fn start_timer(&mut self, ns: u64) -> Serial
+        requires ns { IsTime ns }
+        requires room { 0 < self.old.room }
+        requires few { length self.old.tasks < 10 ^ 9 }
+        ensures serial { result.0 ≡ length self.old.tasks + 1 }
+        ensures starts { self.new ≡ started self.old (timer_of ns) }
+    {
+        let serial = self.next_serial();
+        self.slots.push_reserved(Some(Row {
+            kind: PhaseKind::Timer,
+            left: u128::from(ns),
+            host: 0,
+            flow: 0,
+            due: false,
+        }));
+        self.settled = false;
+        self.room -= 1;
+        serial
+    }
+
+    /// The serial that is drawn next.
+    pub fn next_serial(&self) -> Serial
+        requires { length self.now.tasks < 10 ^ 9 }
+        ensures { result.0 ≡ length self.now.tasks + 1 }
+    {
+        Serial(self.slots.len() as u64 + 1)
+    }
+
+    /// Brings the rates up to date.
+    pub fn settle<L: Ledger>(&mut self, steps: &mut Steps<L>)
+        ensures { self.new ≡ record self.old { settled = true } }
+    {
+        self.system.solve(steps);
+        self.settled = true;
+    }
+
+    /// The date.
+    pub fn date(&self) -> u128
+        ensures { result ≡ self.now.date }
+    {
+        self.date
+    }
+
+    /// Whether something is under way.
+    pub fn running(&self) -> bool
+        ensures { result ≡ is_running self.now }
+    {
+        rows::is_any(&self.slots)
+    }
+
+    /// The date of the next phase end.
+    pub fn next_date(&self) -> Option<u128>
+        requires { IsTrue self.now.settled }
+        ensures { MatchOption result (next_in self.now.hosts self.now.tasks ≡ None) (λ date. IsNext self.now date) }
+    {
+        match rows::soonest(&self.slots, &self.system) {
+            Some(span) => Some(self.date + span),
+            None => None,
+        }
+    }
+
+    /// Goes to that date.
+    pub fn advance_to(&mut self, date: u128)
+        requires settled { IsTrue self.old.settled }
+        requires from { self.old.date ≤ date }
+        requires to { IsUpTo (date - self.old.date) (next_in self.old.hosts self.old.tasks) }
+        requires small { date < 10 ^ 34 }
+        ensures { self.new ≡ later (date - self.old.date) self.old }
+    {
+        let span = date - self.date;
+        rows::pass(&mut self.slots, &self.system, span);
+        self.date = date;
+    }
+
+    /// The next phase that is due.
+    pub fn due(&self) -> Option<Phase>
+        requires { length self.now.tasks ≤ 10 ^ 9 }
+        ensures { MatchOption result (self.now.due ≡ []) (λ phase. IsDue self.now phase) }
+    {
+        match rows::first_due(&self.slots) {
+            Some((i, row)) => Some(Phase {
+                serial: Serial(i as u64 + 1),
+                kind: row.kind,
+            }),
+            None => None,
+        }
+    }
+
+    /// Ends that phase.
+    pub fn finish(&mut self)
+        requires { self.old.due ≢ [] }
+        ensures { self.new ≡ ended self.old.due self.old }
+    {
+        let Some((i, row)) = rows::first_due(&self.slots) else {
+            unreachable!()
+        };
+        rows::release(&mut self.system, &row);
+        self.slots[i] = None;
+        self.settled = false;
+    }
+}

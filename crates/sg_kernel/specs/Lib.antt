@@ -1,0 +1,6 @@
+pub mod World
+pub mod Calls
+pub mod Passes
+pub mod Known
+pub mod Records
+pub mod Sound

@@ -1,0 +1,77 @@
+-- What a simulation is made of.
+use Rattle.std.specs.Prelude.{ℕ, ◌-◌, ◌≤◌, ◌<◌, Option, None, Some, List, length, slice_index, slice_index_or, slice_set, Bool, true, false, IsTrue}
+use Rattle.sg_base.specs.declared.call.Answer.{Answer}
+use Rattle.sg_base.specs.declared.call.Call.{Call}
+use Rattle.sg_base.specs.Mind.{Mind}
+use Rattle.sg_activity.specs.declared.kinds.HostCap.{HostCap}
+use Rattle.sg_activity.specs.Task.{Task}
+use Rattle.sg_kernel.specs.declared.states.State.{State}
+use Rattle.sg_kernel.specs.declared.states.State.TheVariants.{Ready, Blocked, Ended}
+use Rattle.sg_kernel.specs.declared.states.Whose.{Whose}
+
+-- what stays: the hosts, the host of each actor, and how many events there may be
+pub record Setup : Type 0 where
+  pub hosts : List HostCap
+  pub homes : List ℕ
+  pub budget : ℕ
+
+-- The part of the world that calls and passes change: the date; what each actor does, by id from 1 on; of each activity ever made, by serial from 1 on, the phase that is under way, if any, and whose it is; the count of events.
+pub record Core : Type 0 where
+  pub date : ℕ
+  pub actors : List State
+  pub tasks : List (Option Task)
+  pub whose : List Whose
+  pub events : ℕ
+
+-- The world: the core, and of each actor its mind and how many Asks it has made. The records are what its steps make, one after another.
+pub record World : Type 0 where
+  pub minds : List Mind
+  pub asks : List ℕ
+  pub core : Core
+
+abbrev pub host_of : Setup → ℕ → ℕ
+host_of setup actor = slice_index setup.homes (actor - 1)
+
+abbrev pub state_of : Core → ℕ → State
+state_of core actor = slice_index_or core.actors (actor - 1) Ended
+
+abbrev pub with_state : ℕ → State → Core → Core
+with_state actor state core = record core { actors = slice_set core.actors (actor - 1) state }
+
+abbrev pub is_ready : State → Bool
+is_ready (Ready answer) = true
+is_ready (Blocked what since on) = false
+is_ready Ended = false
+
+abbrev pub is_blocked : State → Bool
+is_blocked (Ready answer) = false
+is_blocked (Blocked what since on) = true
+is_blocked Ended = false
+
+abbrev pub is_ended : State → Bool
+is_ended (Ready answer) = false
+is_ended (Blocked what since on) = false
+is_ended Ended = true
+
+-- the answer that a ready actor has
+abbrev pub inbox_of : State → Option Answer
+inbox_of (Ready answer) = Some answer
+inbox_of (Blocked what since on) = None
+inbox_of Ended = None
+
+-- the call on which an actor is blocked
+abbrev pub blocked_of : State → Option Call
+blocked_of (Ready answer) = None
+blocked_of (Blocked what since on) = Some what
+blocked_of Ended = None
+
+-- there is such an actor
+pub record IsActor (core : Core) (actor : ℕ) : Type 0 where
+  pub from : 0 < actor
+  pub to : actor ≤ length core.actors
+
+-- the actor exists, and neither has ended nor is blocked
+pub record MayCall (core : Core) (actor : ℕ) : Type 0 where
+  pub from : 0 < actor
+  pub to : actor ≤ length core.actors
+  pub ready : IsTrue (is_ready (state_of core actor))

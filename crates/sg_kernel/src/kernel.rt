@@ -1,0 +1,232 @@
+//! The kernel.
+
+ghost use Rattle.std.specs.Prelude.{◌≡◌, ◌≢◌, [], ◌==◌, ◌+◌, ◌-◌, ◌<◌, ◌≤◌, ◌^◌, ◌++◌, false, IfOk, OnOk, IfSome, All, length, Some, None, is_ok, if◌then◌else◌};
+ghost use Rattle.std.specs.List.{list_all, list_any};
+ghost use Rattle.sg_base.specs.declared.ids.PointId.{PointId};
+ghost use Rattle.sg_base.specs.Limits.{IsCall, IsAction, IsAnswer};
+ghost use Rattle.sg_activity.specs.Hosts.{IsHost};
+ghost use Rattle.sg_kernel.specs.declared.states.State.TheVariants.{Ready, Ended};
+ghost use Rattle.sg_kernel.specs.World.{is_ready, is_ended, state_of, with_state, inbox_of, blocked_of, IsActor, MayCall};
+ghost use Rattle.sg_kernel.specs.Calls.{answered, answered_call, counted, told, result_of};
+ghost use Rattle.sg_kernel.specs.Passes.{pass_of};
+ghost use Rattle.sg_kernel.specs.Known.{after, first_known};
+ghost use Rattle.sg_kernel.specs.Records.{IsBlocking, AreRecords};
+
+use crate::parts::Parts;
+use crate::passes::{end_due, none_next};
+use crate::starts::{compute, first_parts, reserve, sleep};
+use crate::states::{State, Stop};
+use sg_activity::HostCap;
+use sg_base::{Action, ActorId, Answer, Call, Memory, PointId, Record, Steps};
+use std::alloc::Global;
+use std::marker::Model;
+use std::sync::ledger::Ledger;
+
+/// What runs a simulation. In a round each ready actor takes its turn, and the kernel answers the calls by rising
+/// actor; once nobody is ready, a pass moves the date to where the next activities are done. Each call that is
+/// answered and each activity that is done is one event.
+#[derive(Drop)]
+pub struct Kernel {
+    parts: Parts,
+}
+
+impl Model for Kernel {
+    ghost use Rattle.sg_kernel.specs.Known.{Known};
+
+    ghost Value = { Known };
+
+    ghost use Rattle.sg_kernel.specs.Sound.{known_of, IsSound, IsDated, AreLimited};
+
+    ghost view = { λ s. known_of s.parts };
+
+    ghost invariant = { λ s. IsSound s.parts × IsDated s.parts × AreLimited s.parts };
+}
+
+impl Kernel {
+    /// A kernel in which nothing has happened yet: each actor stands on its home, a host, and is ready with the
+    /// answer Start. `budget` is the most events that there may be.
+    pub fn new(
+        alloc: Global,
+        hosts: &[HostCap],
+        homes: &[PointId],
+        budget: u64,
+    ) -> Result<Kernel, Memory>
+        requires hosts { All IsHost hosts.now }
+        requires homes { All (λ (home : PointId). home.0 < length hosts.now) homes.now }
+        requires budget { budget ≤ 10 ^ 9 }
+        ensures { IfOk result (λ kernel. kernel ≡ first_known hosts.now homes.now budget) }
+    {
+        let parts = first_parts(alloc, hosts, homes, budget)?;
+        Ok(Kernel { parts })
+    }
+
+    /// Makes room for so many calls, and for all passes up to the next round. The calls and the passes then take
+    /// no memory.
+    pub fn reserve_round(&mut self, n: usize) -> Result<(), Memory>
+        ensures room { OnOk result (n ≤ self.new.room) }
+        ensures kept { self.new ≡ record self.old { room = self.new.room } }
+    {
+        reserve(&mut self.parts, n)
+    }
+
+    /// Answers a call of a ready actor. An Ask is refused: `tell` is its answer where there is a script.
+    pub fn answer(&mut self, actor: ActorId, call: Call) -> Result<(), Stop>
+        requires caller { MayCall self.old.core actor.0 }
+        requires call { IsCall call }
+        requires room { 0 < self.old.room }
+        ensures step { self.new ≡ record (after (answered self.old.setup self.old.core actor.0 call) self.old) { room = self.old.room - (if is_ok result then 1 else 0) } }
+        ensures result { result ≡ result_of (answered self.old.setup self.old.core actor.0 call).stop }
+    {
+        if self.parts.events == self.parts.budget {
+            return Err(Stop::Budget);
+        }
+        self.answer_call(actor, call);
+        Ok(())
+    }
+
+    // Answers a call, where the budget isn't used up.
+    fn answer_call(&mut self, actor: ActorId, call: Call)
+        requires caller { MayCall self.old.core actor.0 }
+        requires call { IsCall call }
+        requires room { 0 < self.old.room }
+        requires budget { self.old.core.events ≢ self.old.setup.budget }
+        ensures { self.new ≡ record (after (answered_call self.old.setup self.old.core actor.0 call) self.old) { room = self.old.room - 1 } }
+    {
+        match call {
+            Call::Ask => self.ready(actor, Answer::Refused),
+            Call::Compute(flops) => compute(&mut self.parts, actor, flops),
+            Call::Sleep(ns) => sleep(&mut self.parts, actor, ns),
+            Call::Exit => self.exit(actor),
+        }
+    }
+
+    /// Tells an actor that asked its next line, or that there is none.
+    pub fn tell(&mut self, actor: ActorId, action: Option<Action>) -> Result<(), Stop>
+        requires caller { MayCall self.old.core actor.0 }
+        requires action { IfSome action IsAction }
+        requires room { 0 < self.old.room }
+        ensures step { self.new ≡ record (after (told self.old.setup self.old.core actor.0 action) self.old) { room = self.old.room - (if is_ok result then 1 else 0) } }
+        ensures result { result ≡ result_of (told self.old.setup self.old.core actor.0 action).stop }
+    {
+        if self.parts.events == self.parts.budget {
+            return Err(Stop::Budget);
+        }
+        match action {
+            Some(action) => self.ready(actor, Answer::Act(action)),
+            None => self.ready(actor, Answer::NoMore),
+        }
+        Ok(())
+    }
+
+    // The actor goes on with this answer.
+    fn ready(&mut self, actor: ActorId, answer: Answer)
+        requires caller { MayCall self.old.core actor.0 }
+        requires answer { IsAnswer answer }
+        requires room { 0 < self.old.room }
+        requires budget { self.old.core.events ≢ self.old.setup.budget }
+        ensures { self.new ≡ record self.old { core = counted (with_state actor.0 (Ready answer) self.old.core); room = self.old.room - 1 } }
+    {
+        self.parts.states[actor.0 as usize - 1] = State::Ready(answer);
+        self.parts.events += 1;
+        self.parts.room -= 1;
+    }
+
+    fn exit(&mut self, actor: ActorId)
+        requires caller { MayCall self.old.core actor.0 }
+        requires room { 0 < self.old.room }
+        requires budget { self.old.core.events ≢ self.old.setup.budget }
+        ensures { self.new ≡ record self.old { core = counted (with_state actor.0 Ended self.old.core); room = self.old.room - 1 } }
+    {
+        self.parts.states[actor.0 as usize - 1] = State::Ended;
+        self.parts.ended += 1;
+        self.parts.events += 1;
+        self.parts.room -= 1;
+    }
+
+    /// Moves the date to where the next activities are done, and ends them by rising serial.
+    pub fn pass<L: Ledger>(&mut self, steps: &mut Steps<L>) -> Result<(), Stop>
+        requires idle { list_any is_ready self.old.core.actors ≡ false }
+        requires going { list_all is_ended self.old.core.actors ≡ false }
+        ensures step { self.new ≡ after (pass_of self.old.setup self.old.core) self.old }
+        ensures result { result ≡ result_of (pass_of self.old.setup self.old.core).stop }
+    {
+        self.parts.doing.settle(steps);
+        let Some(date) = self.parts.doing.next_date() else {
+            return Err(none_next(&self.parts.doing));
+        };
+        if self.parts.events == self.parts.budget {
+            return Err(Stop::Budget);
+        }
+        self.parts.doing.advance_to(date);
+        end_due(&mut self.parts)
+    }
+
+    /// The answer of a ready actor.
+    pub fn inbox(&self, actor: ActorId) -> Option<Answer>
+        requires { IsActor self.now.core actor.0 }
+        ensures is { result ≡ inbox_of (state_of self.now.core actor.0) }
+        ensures limited { IfSome result IsAnswer }
+    {
+        match self.parts.states[actor.0 as usize - 1] {
+            State::Ready(answer) => Some(answer),
+            _ => None,
+        }
+    }
+
+    /// The call on which an actor is blocked.
+    pub fn blocked(&self, actor: ActorId) -> Option<Call>
+        requires { IsActor self.now.core actor.0 }
+        ensures is { result ≡ blocked_of (state_of self.now.core actor.0) }
+        ensures limited { IfSome result IsBlocking }
+    {
+        match self.parts.states[actor.0 as usize - 1] {
+            State::Blocked(what, _, _) => Some(what),
+            _ => None,
+        }
+    }
+
+    /// Whether all actors have ended.
+    pub fn ending(&self) -> bool
+        ensures is { result ≡ list_all is_ended self.now.core.actors }
+        ensures number { length self.now.core.actors ≡ length self.now.setup.homes }
+    {
+        self.parts.ended == self.parts.states.len()
+    }
+
+    /// Whether as many events were counted as there may be.
+    pub fn is_used_up(&self) -> bool
+        ensures { result ≡ (self.now.core.events == self.now.setup.budget) }
+    {
+        self.parts.events == self.parts.budget
+    }
+
+    /// The date, in nanoseconds.
+    pub fn date(&self) -> u128
+        ensures is { result ≡ self.now.core.date }
+        ensures below { result < 10 ^ 33 }
+    {
+        self.parts.doing.date()
+    }
+
+    /// How many events there were.
+    pub fn events(&self) -> u64
+        ensures { result ≡ self.now.core.events }
+    {
+        self.parts.events
+    }
+
+    /// The records that aren't cleared, in the order in which they were made.
+    pub fn records(&self) -> &[Record]
+        ensures are { result.now ≡ self.now.records }
+        ensures limited { AreRecords (length self.now.setup.homes) self.now.records }
+    {
+        self.parts.records.as_slice()
+    }
+
+    /// Clears the records.
+    pub fn clear_records(&mut self)
+        ensures { self.new ≡ record self.old { records = [] } }
+    {
+        self.parts.records.clear();
+    }
+}

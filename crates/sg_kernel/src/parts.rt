@@ -1,0 +1,24 @@
+//! What the kernel keeps.
+use crate::states::{State, Whose};
+use sg_activity::Activities;
+use sg_base::{PointId, Record};
+
+/// The fields of a kernel.
+#[derive(Drop)]
+pub(crate) struct Parts {
+    pub(crate) doing: Activities,
+    /// What each actor does, by id from 1 on.
+    pub(crate) states: Vec<State>,
+    /// Whose each activity is, by serial from 1 on.
+    pub(crate) whose: Vec<Whose>,
+    /// The records that aren't cleared.
+    pub(crate) records: Vec<Record>,
+    /// The host of each actor.
+    pub(crate) homes: Vec<PointId>,
+    /// How many actors have ended.
+    pub(crate) ended: usize,
+    pub(crate) events: u64,
+    pub(crate) budget: u64,
+    /// Room for so many calls.
+    pub(crate) room: usize,
+}

@@ -1,0 +1,134 @@
+//! A simulation begins, and executions and sleeps begin in it.
+
+ghost use Rattle.std.specs.Prelude.{◌≡◌, ◌≢◌, ◌+◌, ◌-◌, ◌<◌, ◌≤◌, ◌^◌, OnOk, IfOk, All, length, count_by, replicate};
+ghost use Rattle.sg_base.specs.declared.ids.PointId.{PointId};
+ghost use Rattle.sg_base.specs.declared.call.Answer.TheVariants as answer;
+ghost use Rattle.sg_base.specs.Limits.{IsAmount, IsTime};
+ghost use Rattle.sg_activity.specs.Hosts.{IsHost};
+ghost use Rattle.sg_activity.specs.Doing.{exec_of, timer_of};
+ghost use Rattle.sg_kernel.specs.declared.states.State.TheVariants.{Ready};
+ghost use Rattle.sg_kernel.specs.World.{MayCall, host_of, is_ended};
+ghost use Rattle.sg_kernel.specs.Calls.{blocks_on, counted};
+ghost use Rattle.sg_kernel.specs.Known.{first_known};
+ghost use Rattle.sg_kernel.specs.Sound.{core_of, known_of, IsSound, IsDated, AreLimited, KeepsLimits, blocked_count};
+
+use crate::parts::Parts;
+use crate::states::{State, Whose};
+use sg_activity::{Activities, HostCap};
+use sg_base::{ActorId, Answer, Call, Memory, PointId};
+use std::alloc::Global;
+
+// All actors are ready with the answer Start.
+fn first_states(alloc: Global, n: usize) -> Result<Vec<State>, Memory>
+    ensures are { IfOk result (λ states. states.items ≡ replicate n (Ready answer.Start)) }
+    ensures none { IfOk result (λ states. (count_by is_ended states.items ≡ 0) × (blocked_count states.items ≡ 0)) }
+    ensures limited { IfOk result (λ states. All KeepsLimits states.items) }
+{
+    let mut states = Vec::new(alloc);
+    for _i in 0..n {
+        match states.push(State::Ready(Answer::Start)) {
+            Ok(()) => {}
+            Err(_) => return Err(Memory),
+        }
+    }
+    Ok(states)
+}
+
+/// Where a simulation begins.
+pub(crate) fn first_parts(
+    alloc: Global,
+    hosts: &[HostCap],
+    homes: &[PointId],
+    budget: u64,
+) -> Result<Parts, Memory>
+    requires hosts { All IsHost hosts.now }
+    requires homes { All (λ (home : PointId). home.0 < length hosts.now) homes.now }
+    requires budget { budget ≤ 10 ^ 9 }
+    ensures known { IfOk result (λ parts. known_of parts ≡ first_known hosts.now homes.now budget) }
+    ensures sound { IfOk result (λ parts. IsSound parts) }
+    ensures dated { IfOk result (λ parts. IsDated parts) }
+    ensures limited { IfOk result (λ parts. AreLimited parts) }
+{
+    let doing = Activities::new(alloc, hosts)?;
+    let states = first_states(alloc, homes.len())?;
+    let homes = Vec::from_slice(alloc, homes)?;
+    Ok(Parts {
+        doing,
+        states,
+        whose: Vec::new(alloc),
+        records: Vec::new(alloc),
+        homes,
+        ended: 0,
+        events: 0,
+        budget,
+        room: 0,
+    })
+}
+
+/// The actor computes.
+pub(crate) fn compute(parts: &mut Parts, actor: ActorId, flops: u64)
+    requires caller { MayCall (core_of parts.old) actor.0 }
+    requires flops { IsAmount flops }
+    requires room { 0 < parts.old.room }
+    requires budget { parts.old.events ≢ parts.old.budget }
+    requires sound { IsSound parts.old }
+    requires dated { IsDated parts.old }
+    requires limited { AreLimited parts.old }
+    ensures known { known_of parts.new ≡ record (known_of parts.old) { core = counted (blocks_on (exec_of parts.old.doing.hosts (host_of (known_of parts.old).setup actor.0) flops) actor.0 (Call.Compute flops) (core_of parts.old)); room = parts.old.room - 1 } }
+    ensures sound { IsSound parts.new }
+    ensures dated { IsDated parts.new }
+    ensures limited { AreLimited parts.new }
+{
+    let i = actor.0 as usize - 1;
+    let date = parts.doing.date();
+    let serial = parts.doing.start_exec(parts.homes[i], flops);
+    parts.whose.push_reserved(Whose::Alone(actor));
+    parts.states[i] = State::Blocked(Call::Compute(flops), date, serial);
+    parts.events += 1;
+    parts.room -= 1;
+}
+
+/// The actor sleeps.
+pub(crate) fn sleep(parts: &mut Parts, actor: ActorId, ns: u64)
+    requires caller { MayCall (core_of parts.old) actor.0 }
+    requires ns { IsTime ns }
+    requires room { 0 < parts.old.room }
+    requires budget { parts.old.events ≢ parts.old.budget }
+    requires sound { IsSound parts.old }
+    requires dated { IsDated parts.old }
+    requires limited { AreLimited parts.old }
+    ensures known { known_of parts.new ≡ record (known_of parts.old) { core = counted (blocks_on (timer_of ns) actor.0 (Call.Sleep ns) (core_of parts.old)); room = parts.old.room - 1 } }
+    ensures sound { IsSound parts.new }
+    ensures dated { IsDated parts.new }
+    ensures limited { AreLimited parts.new }
+{
+    let i = actor.0 as usize - 1;
+    let date = parts.doing.date();
+    let serial = parts.doing.start_timer(ns);
+    parts.whose.push_reserved(Whose::Alone(actor));
+    parts.states[i] = State::Blocked(Call::Sleep(ns), date, serial);
+    parts.events += 1;
+    parts.room -= 1;
+}
+
+/// Makes room for so many calls, and for what the passes after them make.
+pub(crate) fn reserve(parts: &mut Parts, n: usize) -> Result<(), Memory>
+    requires sound { IsSound parts.old }
+    requires dated { IsDated parts.old }
+    requires limited { AreLimited parts.old }
+    ensures room { OnOk result (n ≤ parts.new.room) }
+    ensures known { known_of parts.new ≡ record (known_of parts.old) { room = parts.new.room } }
+    ensures sound { IsSound parts.new }
+    ensures dated { IsDated parts.new }
+    ensures limited { AreLimited parts.new }
+{
+    let n = n.max(parts.room);
+    let Some(most) = n.checked_add(parts.states.len()) else {
+        return Err(Memory);
+    };
+    parts.doing.reserve(n)?;
+    parts.whose.reserve(n)?;
+    parts.records.reserve(most)?;
+    parts.room = n;
+    Ok(())
+}
