@@ -7,7 +7,7 @@ use Rattle.sg_kernel.specs.declared.states.State.{State}
 use Rattle.sg_kernel.specs.declared.states.State.TheVariants.{Ready, Blocked, Ended}
 use Rattle.sg_kernel.specs.declared.states.Whose.{Whose}
 use Rattle.sg_kernel.specs.declared.states.Whose.TheVariants.{Gone, Alone}
-use Rattle.sg_kernel.specs.World.{Core, is_ended, is_blocked}
+use Rattle.sg_kernel.specs.World.{Core, is_ready, is_ended, is_blocked}
 use Rattle.sg_kernel.specs.Known.{Known, point_number}
 use Rattle.sg_kernel.specs.Records.{IsBlocking, AreRecords}
 
@@ -39,6 +39,7 @@ pub record IsSound (parts : Parts) : Type 0 where
   pub homes_known : length parts.homes.items ≡ length parts.states.items
   pub hosts_known : All (λ (home : PointId). home.0 < length parts.doing.hosts) parts.homes.items
   pub owners : All (IsOwner (length parts.states.items)) parts.whose.items
+  pub ready_count : parts.ready ≡ count_by is_ready parts.states.items
   pub ended_count : parts.ended ≡ count_by is_ended parts.states.items
   pub start_room : parts.room ≤ parts.doing.room
   pub whose_fits : length parts.whose.items + parts.room ≤ vec_capacity parts.whose

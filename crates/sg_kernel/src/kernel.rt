@@ -138,6 +138,7 @@ impl Kernel {
         ensures { self.new ≡ record self.old { core = counted (with_state actor.0 Ended self.old.core); room = self.old.room - 1 } }
     {
         self.parts.states[actor.0 as usize - 1] = State::Ended;
+        self.parts.ready -= 1;
         self.parts.ended += 1;
         self.parts.events += 1;
         self.parts.room -= 1;
@@ -159,6 +160,14 @@ impl Kernel {
         }
         self.parts.doing.advance_to(date);
         end_due(&mut self.parts)
+    }
+
+    /// How many actors there are. Their ids count from 1.
+    pub fn actors(&self) -> usize
+        ensures is { result ≡ length self.now.core.actors }
+        ensures homes { result ≡ length self.now.setup.homes }
+    {
+        self.parts.states.len()
     }
 
     /// The answer of a ready actor.
@@ -183,6 +192,13 @@ impl Kernel {
             State::Blocked(what, _, _) => Some(what),
             _ => None,
         }
+    }
+
+    /// Whether an actor is ready.
+    pub fn any_ready(&self) -> bool
+        ensures { result ≡ list_any is_ready self.now.core.actors }
+    {
+        self.parts.ready > 0
     }
 
     /// Whether all actors have ended.

@@ -9,3 +9,6 @@ mod states;
 
 pub use kernel::Kernel;
 pub use states::{State, Stop, Whose};
+
+#[cfg(test)]
+mod tests;

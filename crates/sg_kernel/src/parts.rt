@@ -15,6 +15,8 @@ pub(crate) struct Parts {
     pub(crate) records: Vec<Record>,
     /// The host of each actor.
     pub(crate) homes: Vec<PointId>,
+    /// How many actors are ready.
+    pub(crate) ready: usize,
     /// How many actors have ended.
     pub(crate) ended: usize,
     pub(crate) events: u64,

@@ -49,6 +49,7 @@ fn answer_actor(parts: &mut Parts, serial: Serial, actor: ActorId)
                 took: Some(date.saturating_sub(since)),
             });
             parts.states[i] = State::Ready(Answer::Done);
+            parts.ready += 1;
         }
         _ => {}
     }

@@ -7,7 +7,7 @@ ghost use Rattle.sg_base.specs.Limits.{IsAmount, IsTime};
 ghost use Rattle.sg_activity.specs.Hosts.{IsHost};
 ghost use Rattle.sg_activity.specs.Doing.{exec_of, timer_of};
 ghost use Rattle.sg_kernel.specs.declared.states.State.TheVariants.{Ready};
-ghost use Rattle.sg_kernel.specs.World.{MayCall, host_of, is_ended};
+ghost use Rattle.sg_kernel.specs.World.{MayCall, host_of, is_ready, is_ended};
 ghost use Rattle.sg_kernel.specs.Calls.{blocks_on, counted};
 ghost use Rattle.sg_kernel.specs.Known.{first_known};
 ghost use Rattle.sg_kernel.specs.Sound.{core_of, known_of, IsSound, IsDated, AreLimited, KeepsLimits, blocked_count};
@@ -21,7 +21,7 @@ use std::alloc::Global;
 // All actors are ready with the answer Start.
 fn first_states(alloc: Global, n: usize) -> Result<Vec<State>, Memory>
     ensures are { IfOk result (λ states. states.items ≡ replicate n (Ready answer.Start)) }
-    ensures none { IfOk result (λ states. (count_by is_ended states.items ≡ 0) × (blocked_count states.items ≡ 0)) }
+    ensures counts { IfOk result (λ states. (count_by is_ready states.items ≡ n) × (count_by is_ended states.items ≡ 0) × (blocked_count states.items ≡ 0)) }
     ensures limited { IfOk result (λ states. All KeepsLimits states.items) }
 {
     let mut states = Vec::new(alloc);
@@ -50,7 +50,8 @@ pub(crate) fn first_parts(
     ensures limited { IfOk result (λ parts. AreLimited parts) }
 {
     let doing = Activities::new(alloc, hosts)?;
-    let states = first_states(alloc, homes.len())?;
+    let actors = homes.len();
+    let states = first_states(alloc, actors)?;
     let homes = Vec::from_slice(alloc, homes)?;
     Ok(Parts {
         doing,
@@ -58,6 +59,7 @@ pub(crate) fn first_parts(
         whose: Vec::new(alloc),
         records: Vec::new(alloc),
         homes,
+        ready: actors,
         ended: 0,
         events: 0,
         budget,
@@ -84,6 +86,7 @@ pub(crate) fn compute(parts: &mut Parts, actor: ActorId, flops: u64)
     let serial = parts.doing.start_exec(parts.homes[i], flops);
     parts.whose.push_reserved(Whose::Alone(actor));
     parts.states[i] = State::Blocked(Call::Compute(flops), date, serial);
+    parts.ready -= 1;
     parts.events += 1;
     parts.room -= 1;
 }
@@ -107,6 +110,7 @@ pub(crate) fn sleep(parts: &mut Parts, actor: ActorId, ns: u64)
     let serial = parts.doing.start_timer(ns);
     parts.whose.push_reserved(Whose::Alone(actor));
     parts.states[i] = State::Blocked(Call::Sleep(ns), date, serial);
+    parts.ready -= 1;
     parts.events += 1;
     parts.room -= 1;
 }
