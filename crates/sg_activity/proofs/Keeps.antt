@@ -1,21 +1,22 @@
 -- The rows and the system stay of one mind as time passes, as a phase comes and as one goes.
-use Rattle.std.proofs.Common.{◌≡◌, ◌≢◌, ℕ, zero, suc, ◌+◌, ◌-◌, ◌*◌, ◌/◌, ◌^◌, ◌==◌, ◌<◌, ◌≤◌, ◌⊎◌, inl, inr, Bool, true, false, cond, true≢false, min, is_some, Option, None, Some, option_map, List, [], ◌∷◌, ◌++◌, length, drop, map, set, get_or, sum_by, IsTrue, IsSome, refl, sym, ap, ap₂, subst, ◌∙◌, arith}
-use Rattle.std.proofs.lemmas.List.{map-append, map-set, length-map}
+use Rattle.std.proofs.Common.{◌≡◌, ◌≢◌, ℕ, zero, suc, ◌+◌, ◌-◌, ◌*◌, ◌/◌, ◌^◌, ◌==◌, ◌<◌, ◌≤◌, ◌⊎◌, inl, inr, Bool, true, false, cond, not, true≢false, min, is_some, Option, None, Some, option_map, List, [], ◌∷◌, ◌++◌, length, drop, filter, map, set, get_or, sum_by, IsTrue, IsSome, refl, sym, ap, ap₂, subst, ◌∙◌, arith}
+use Rattle.std.proofs.lemmas.List.{map-append, map-set, length-map, get_or-map}
 use Rattle.std.specs.List.{cons_option, list_any}
 use Rattle.std.specs.Int.{div_ceil}
 use Rattle.std.proofs.lemmas.List.Sums.{sum_by-append, sum_by-set}
 use Rattle.sg_maxmin.specs.Fill.{Flow}
-use Rattle.sg_maxmin.specs.Sharing.{Sharing, flow_at, held, slot_part, Changes}
+use Rattle.sg_maxmin.specs.Sharing.{Sharing, flow_at, held, slot_part, Changes, AreShares}
 use Rattle.sg_activity.specs.declared.kinds.HostCap.{HostCap}
 use Rattle.sg_activity.specs.declared.rows.Row.{Row}
 use Rattle.sg_activity.specs.Task.{Task, is_filled, flow_in, flows, rate, wait, soonest, sooner, serials, passes, is_at, passed}
 use Rattle.sg_activity.specs.Hosts.{capacities_of}
 use Rattle.sg_activity.specs.Dates.{rates, wait_in, next_in}
 use Rattle.sg_activity.specs.Doing.{Doing, nothing_on, later, IsDue, ended, started}
-use Rattle.sg_activity.specs.Rows.{row_flow, task_of, tasks_of, row_rate, row_wait, row_later, IsHeld, AreKept, HaveFlows, IsFirst, is_row_due, doing_of}
+use Rattle.sg_activity.specs.Rows.{row_flow, task_of, tasks_of, row_rate, row_wait, row_later, later_row, IsHeld, AreKept, AreRising, HaveFlows, IsFirst, live, spread, slots_of, is_row_due, is_due, doing_of}
 use Rattle.sg_maxmin.proofs.Held.{sums_change_lem}
 use Rattle.sg_activity.proofs.Kept.{pushed_cases, get_or-map_none, sums_flows, rate_kept, wait_kept, soonest-map, map_same, map_twice}
-use Rattle.sg_activity.proofs.Serials.{first_found, rest_found, serials_push, serials-map}
+use Rattle.sg_activity.proofs.Serials.{filter_first, filter_rest, serials_push, serials-map}
+use Rattle.sg_activity.proofs.Spread.{spread_at, spread-map, spread-set, serials_spread, length-spread, rising_at, rising-set}
 
 some_same : {X : Type 0} {x y : X} → Some x ≡ Some y → x ≡ y
 some_same e = cc e
@@ -150,8 +151,33 @@ pub next_small : (hosts : List HostCap) (system : Sharing) (settled : Bool) (row
 next_small hosts system settled rows are n e =
     soonest_small (row_wait system) (10 ^ 24) rows (λ i row k at w. omega (arith, are.small i row at, wait_small (row_rate system row) row.left k w)) n e
 
-pub have_flows : (hosts : List HostCap) (system : Sharing) (settled : Bool) (rows : List (Option Row)) → AreKept hosts rows system settled → HaveFlows rows system
-have_flows hosts system settled rows are i row at full = subst (λ o. IsSome o) (sym (are.each i row at full)) refl
+live_is : (x row : Row) → live x ≡ Some row → x ≡ row
+live_is x row e = cases x.done e
+  where
+    cases : (b : Bool) → cond b None (Some x) ≡ Some row → x ≡ row
+    cases true z = absurd (cc z)
+    cases false z = some_same z
+
+live_at : (rows : List Row) (i : ℕ) (row : Row) → get_or (map live rows) i None ≡ Some row → (i < length rows) × (get_or rows i row ≡ row)
+live_at [] i row e = absurd (cc e)
+live_at (x ∷ rows) zero row e = (omega arith, live_is x row e)
+live_at (x ∷ rows) (suc i) row e = let more = live_at rows i row e in (omega (arith, more.0), more.1)
+
+-- a row that isn't done stands at its serial
+pub slot_at : (drawn : ℕ) (rows : List Row) (i : ℕ) (row : Row) → AreRising 1 (drawn + 1) rows → i < length rows → get_or rows i row ≡ row → live row ≡ Some row → get_or (slots_of drawn rows) (row.serial - 1) None ≡ Some row
+slot_at drawn rows i row rising within at alive =
+    subst (λ (x : Row). get_or (slots_of drawn rows) (x.serial - 1) None ≡ live x) at (spread_at 1 (drawn + 1) rows i row rising within) ∙ alive
+
+pub have_flows : (hosts : List HostCap) (system : Sharing) (settled : Bool) (drawn : ℕ) (rows : List Row) → AreRising 1 (drawn + 1) rows → AreKept hosts (slots_of drawn rows) system settled → HaveFlows rows system
+have_flows hosts system settled drawn rows rising are i row at full =
+    let there = live_at rows i row at in
+    let alive : live row ≡ Some row = ap live (sym there.1) ∙ sym (get_or-map live rows i row None there.0) ∙ at in
+    subst (λ o. IsSome o) (sym (are.each (row.serial - 1) row (slot_at drawn rows i row rising there.0 there.1 alive) full)) refl
+
+-- as many serials as were drawn
+pub drawn_is : (hosts : List HostCap) (date drawn : ℕ) (rows : List Row) (settled : Bool) (room : ℕ) (doing : Doing) → AreRising 1 (drawn + 1) rows → doing_of hosts date (slots_of drawn rows) settled room ≡ doing → length doing.tasks ≡ drawn
+drawn_is hosts date drawn rows settled room doing rising same =
+    omega (arith, ap (λ (d : Doing). length d.tasks) same, length-map (slots_of drawn rows) (option_map (task_of hosts)), length-spread 1 (drawn + 1) rows rising)
 
 -- ---- what the rows tell is what the definitions say
 pub next_told : (hosts : List HostCap) (date : ℕ) (rows : List (Option Row)) (system : Sharing) (settled : Bool) (room : ℕ) (doing : Doing) → AreKept hosts rows system settled → doing_of hosts date rows settled room ≡ doing → IsTrue doing.settled →
@@ -177,33 +203,90 @@ later_told hosts date span rows system settled room doing are is set =
     (λ i row e. ap (λ w. is_at w span) (wait_kept hosts rows system sure i row e)) in
     ap₂ (λ t l. record d { date = date + span; tasks = t; due = l }) tasks due ∙ ap (later span) is
 
-pub due_told : (hosts : List HostCap) (date : ℕ) (rows : List (Option Row)) (settled : Bool) (room i : ℕ) (row : Row) (doing : Doing) → IsFirst rows i row → doing_of hosts date rows settled room ≡ doing → IsDue doing (record { serial = record { 0 = i + 1 }; kind = row.kind })
-due_told hosts date rows settled room i row doing is same =
-    let passing : passes is_row_due (get_or rows i None) ≡ true = ap (passes is_row_due) is.at ∙ is.due in
-    let back : i + 1 - 1 ≡ i = omega arith in
-    let due : IsDue (doing_of hosts date rows settled room) (record { serial = record { 0 = i + 1 }; kind = row.kind }) = record {
-      rest = serials is_row_due (i + 2) (drop (i + 1) rows);
-      first = first_found is_row_due rows i None is.within is.before passing;
-      task = task_of hosts row;
-      at = ap (λ k. get_or (tasks_of hosts rows) k None) back ∙ get_or-map_none (task_of hosts) rows i ∙ ap (option_map (task_of hosts)) is.at;
-      kind = refl;
-      from = omega arith;
-      to = omega (arith, is.within, length-map rows (option_map (task_of hosts)));
-    } in
-    subst (λ d. IsDue d (record { serial = record { 0 = i + 1 }; kind = row.kind })) same due
+dues : (drawn : ℕ) (rows : List Row) → AreRising 1 (drawn + 1) rows → serials is_row_due 1 (slots_of drawn rows) ≡ map (λ (row : Row). row.serial) (filter is_due rows)
+dues drawn rows rising = serials_spread is_row_due 1 (drawn + 1) rows rising
 
-pub ended_told : (hosts : List HostCap) (date : ℕ) (rows : List (Option Row)) (settled : Bool) (room i : ℕ) (row : Row) (doing : Doing) → IsFirst rows i row → doing_of hosts date rows settled room ≡ doing →
-    doing_of hosts date (set rows i None) false room ≡ ended doing.due doing
-ended_told hosts date rows settled room i row doing is same =
-    let d = doing_of hosts date rows settled room in
-    let passing : passes is_row_due (get_or rows i None) ≡ true = ap (passes is_row_due) is.at ∙ is.due in
-    let found = first_found is_row_due rows i None is.within is.before passing in
-    let back : i + 1 - 1 ≡ i = omega arith in
-    let tasks : tasks_of hosts (set rows i None) ≡ set (tasks_of hosts rows) (i + 1 - 1) None =
-    map-set (option_map (task_of hosts)) rows i None ∙ sym (ap (λ k. set (tasks_of hosts rows) k None) back) in
-    ap₂ (λ t l. record d { tasks = t; due = l; settled = false }) tasks (rest_found is_row_due rows i None is.within is.before refl)
-    ∙ sym (ap (λ l. ended l d) found)
+pub none_due_told : (hosts : List HostCap) (date drawn : ℕ) (rows : List Row) (settled : Bool) (room : ℕ) (doing : Doing) → AreRising 1 (drawn + 1) rows → filter is_due rows ≡ [] → doing_of hosts date (slots_of drawn rows) settled room ≡ doing → doing.due ≡ []
+none_due_told hosts date drawn rows settled room doing rising none same =
+    sym (ap (λ (d : Doing). d.due) same) ∙ dues drawn rows rising ∙ ap (map (λ (row : Row). row.serial)) none
+
+first_told_due : (drawn : ℕ) (rows : List Row) (i : ℕ) (row : Row) → AreRising 1 (drawn + 1) rows → IsFirst rows i row → serials is_row_due 1 (slots_of drawn rows) ≡ row.serial ∷ map (λ (row : Row). row.serial) (filter is_due (drop (i + 1) rows))
+first_told_due drawn rows i row rising is =
+    dues drawn rows rising
+    ∙ ap (map (λ (row : Row). row.serial)) (filter_first is_due rows i row is.within is.at is.before (ap (passes is_row_due) is.live ∙ is.due))
+
+pub due_told : (hosts : List HostCap) (date drawn : ℕ) (rows : List Row) (settled : Bool) (room i : ℕ) (row : Row) (doing : Doing) → AreRising 1 (drawn + 1) rows → IsFirst rows i row → doing_of hosts date (slots_of drawn rows) settled room ≡ doing →
+    IsDue doing (record { serial = record { 0 = row.serial }; kind = row.kind })
+due_told hosts date drawn rows settled room i row doing rising is same =
+    let slots = slots_of drawn rows in
+    let within = subst (λ (x : Row). (1 ≤ x.serial) × (x.serial < drawn + 1)) is.at (rising_at 1 (drawn + 1) rows i row rising is.within) in
+    let due : IsDue (doing_of hosts date slots settled room) (record { serial = record { 0 = row.serial }; kind = row.kind }) = record {
+      rest = map (λ (row : Row). row.serial) (filter is_due (drop (i + 1) rows));
+      first = first_told_due drawn rows i row rising is;
+      task = task_of hosts row;
+      at = get_or-map_none (task_of hosts) slots (row.serial - 1) ∙ ap (option_map (task_of hosts)) (slot_at drawn rows i row rising is.within is.at is.live);
+      kind = refl;
+      from = omega (arith, within.0);
+      to = omega (arith, within.1, length-map slots (option_map (task_of hosts)), length-spread 1 (drawn + 1) rows rising);
+    } in
+    subst (λ d. IsDue d (record { serial = record { 0 = row.serial }; kind = row.kind })) same due
+
+abbrev pub done_row : Row → Row
+done_row row = record row { done = true }
+
+pub slots_done : (drawn : ℕ) (rows : List Row) (i : ℕ) (row : Row) → AreRising 1 (drawn + 1) rows → IsFirst rows i row → slots_of drawn (set rows i (done_row row)) ≡ set (slots_of drawn rows) (row.serial - 1) None
+slots_done drawn rows i row rising is = spread-set 1 (drawn + 1) rows i (done_row row) row rising is.within (ap (λ (x : Row). x.serial) (sym is.at))
+
+pub rising_done : (drawn : ℕ) (rows : List Row) (i : ℕ) (row : Row) → AreRising 1 (drawn + 1) rows → IsFirst rows i row → AreRising 1 (drawn + 1) (set rows i (done_row row))
+rising_done drawn rows i row rising is = rising-set 1 (drawn + 1) rows i (done_row row) row (ap (λ (x : Row). x.serial) (sym is.at)) is.within rising
+
+pub ended_told : (hosts : List HostCap) (date drawn : ℕ) (rows : List Row) (settled : Bool) (room i : ℕ) (row : Row) (doing : Doing) → AreRising 1 (drawn + 1) rows → IsFirst rows i row → doing_of hosts date (slots_of drawn rows) settled room ≡ doing →
+    doing_of hosts date (slots_of drawn (set rows i (done_row row))) false room ≡ ended doing.due doing
+ended_told hosts date drawn rows settled room i row doing rising is same =
+    let slots = slots_of drawn rows in
+    let d = doing_of hosts date slots settled room in
+    let tasks : tasks_of hosts (slots_of drawn (set rows i (done_row row))) ≡ set (tasks_of hosts slots) (row.serial - 1) None =
+    ap (tasks_of hosts) (slots_done drawn rows i row rising is) ∙ map-set (option_map (task_of hosts)) slots (row.serial - 1) None in
+    let due : serials is_row_due 1 (slots_of drawn (set rows i (done_row row))) ≡ map (λ (row : Row). row.serial) (filter is_due (drop (i + 1) rows)) =
+    dues drawn (set rows i (done_row row)) (rising_done drawn rows i row rising is)
+    ∙ ap (map (λ (row : Row). row.serial)) (filter_rest is_due rows i (done_row row) is.within is.before refl) in
+    ap₂ (λ t l. record d { tasks = t; due = l; settled = false }) tasks due
+    ∙ sym (ap (λ l. ended l d) (first_told_due drawn rows i row rising is))
     ∙ ap (λ (e : Doing). ended e.due e) same
+
+-- ---- time passes over the rows
+pub later_kept : (system : Sharing) (span : ℕ) (row : Row) → (later_row system span row).serial ≡ row.serial
+later_kept system span row = cases row.done
+  where
+    cases : (b : Bool) → (cond b row (row_later system span row)).serial ≡ row.serial
+    cases true = refl
+    cases false = refl
+
+pub later_live : (system : Sharing) (span : ℕ) (row : Row) → live (later_row system span row) ≡ option_map (row_later system span) (live row)
+later_live system span row = cases row.done refl
+  where
+    cases : (b : Bool) → row.done ≡ b → live (cond b row (row_later system span row)) ≡ option_map (row_later system span) (cond b None (Some row))
+    cases true e = ap (λ b. cond b None (Some row)) e
+    cases false e = ap (λ b. cond b None (Some (row_later system span row))) e
+
+pub slots_later : (drawn : ℕ) (system : Sharing) (span : ℕ) (rows : List Row) → slots_of drawn (map (later_row system span) rows) ≡ map (option_map (row_later system span)) (slots_of drawn rows)
+slots_later drawn system span rows = spread-map 1 (drawn + 1) (later_row system span) (row_later system span) rows (later_kept system span) (later_live system span)
+
+-- ---- the rates are brought up to date
+abbrev pub is_left : Row → Bool
+is_left row = not row.done
+
+pub kept_settled : (hosts : List HostCap) (rows : List (Option Row)) (old new : Sharing) (settled : Bool) → AreKept hosts rows old settled → new ≡ record old { shares = new.shares } → AreShares new → AreKept hosts rows new true
+kept_settled hosts rows old new settled are is shares =
+    let slots : new.slots ≡ old.slots = ap (λ (s : Sharing). s.slots) is in
+    record {
+      capacities = ap (λ (s : Sharing). s.capacities) is ∙ are.capacities;
+      each = λ i row at full. ap (λ l. flow_at l row.flow) slots ∙ are.each i row at full;
+      apart = are.apart;
+      sums = λ h. ap (λ l. sum_by h (held l)) slots ∙ are.sums h;
+      small = are.small;
+      shares = λ _. shares;
+    }
 
 -- ---- what the methods leave
 pub kept_started : (hosts : List HostCap) (rows : List (Option Row)) (old new : Sharing) (settled : Bool) (row : Row) → AreKept hosts rows old settled → new.capacities ≡ old.capacities → IsTrue (is_filled row.kind) → flow_at old.slots row.flow ≡ None → Changes old.slots new.slots row.flow (Some (row_flow hosts row)) → row.left ≤ 10 ^ 24 → AreKept hosts (rows ++ Some row ∷ []) new false
@@ -260,8 +343,8 @@ any_told hosts (None ∷ rows) = any_told hosts rows
 any_told hosts (Some row ∷ rows) = refl
 
 -- ---- at first
-pub kept_first : (hosts : List HostCap) (system : Sharing) → system.capacities ≡ capacities_of hosts → system.slots ≡ [] → AreKept hosts [] system false
-unfolding flows
+pub kept_first : (hosts : List HostCap) (system : Sharing) → system.capacities ≡ capacities_of hosts → system.slots ≡ [] → AreKept hosts (slots_of 0 []) system false
+unfolding flows spread
 kept_first hosts system caps none = record {
   capacities = caps;
   each = λ i row e. absurd (cc e);
@@ -271,6 +354,10 @@ kept_first hosts system caps none = record {
   shares = λ e. absurd (true≢false (sym e));
 }
 
-pub first_told : (hosts : List HostCap) → doing_of hosts 0 [] false 0 ≡ nothing_on hosts
-unfolding serials
+pub first_told : (hosts : List HostCap) → doing_of hosts 0 (slots_of 0 []) false 0 ≡ nothing_on hosts
+unfolding serials spread
 first_told hosts = refl
+
+pub rising_first : AreRising 1 1 []
+unfolding AreRising
+rising_first = omega arith

@@ -1,10 +1,10 @@
 -- How `Activities` keeps its phases.
-use Rattle.std.specs.Prelude.{◌≡◌, ℕ, ◌-◌, ◌*◌, ◌^◌, ◌<◌, ◌≤◌, Bool, true, Option, None, Some, option_map, if◌then◌else◌, List, [], map, length, take, slice_index, slice_index_or, sum_by, IsTrue, IsSome}
+use Rattle.std.specs.Prelude.{◌≡◌, ℕ, ◌+◌, ◌-◌, ◌*◌, ◌^◌, ◌<◌, ◌≤◌, Bool, true, Option, None, Some, option_map, if◌then◌else◌, List, [], ◌∷◌, ◌++◌, replicate, filter, map, length, take, slice_index, slice_index_or, sum_by, IsTrue, IsSome}
 use Rattle.sg_maxmin.specs.Fill.{Flow}
 use Rattle.sg_maxmin.specs.Sharing.{Sharing, flow_at, held, AreShares}
 use Rattle.sg_activity.specs.declared.kinds.HostCap.{HostCap}
 use Rattle.sg_activity.specs.declared.rows.Row.{Row}
-use Rattle.sg_activity.specs.Task.{Task, is_filled, flows, wait, is_at, serials}
+use Rattle.sg_activity.specs.Task.{Task, is_filled, flows, wait, is_at, passes, serials}
 use Rattle.sg_activity.specs.Hosts.{capacities_of, host_flow}
 use Rattle.sg_activity.specs.Doing.{Doing, no_flow}
 
@@ -40,26 +40,51 @@ pub record AreKept (hosts : List HostCap) (rows : List (Option Row)) (system : S
   pub small : (i : ℕ) (row : Row) → slice_index_or rows i None ≡ Some row → row.left ≤ 10 ^ 24
   pub shares : IsTrue settled → AreShares system
 
-abbrev pub HaveFlows : List (Option Row) → Sharing → Type 0
-HaveFlows rows system = (i : ℕ) (row : Row) → slice_index_or rows i None ≡ Some row → IsTrue (is_filled row.kind) → IsSome (flow_at system.slots row.flow)
+-- the row, unless its activity is done
+abbrev pub live : Row → Option Row
+live row = if row.done then None else Some row
+
+-- The rows by serial, from the first number on and below the second: nothing stands at a serial that has no row, or whose activity is done.
+unfoldable pub spread : ℕ → ℕ → List Row → List (Option Row)
+spread from to [] = replicate (to - from) None
+spread from to (row ∷ rows) = replicate (row.serial - from) None ++ live row ∷ spread (row.serial + 1) to rows
+
+-- the serials rise, from the first number on and below the second
+unfoldable pub AreRising : ℕ → ℕ → List Row → Type 0
+AreRising from to [] = from ≤ to
+AreRising from to (row ∷ rows) = (from ≤ row.serial) × AreRising (row.serial + 1) to rows
+
+-- by serial from 1 on, where so many were drawn
+abbrev pub slots_of : ℕ → List Row → List (Option Row)
+slots_of drawn rows = spread 1 (drawn + 1) rows
+
+abbrev pub HaveFlows : List Row → Sharing → Type 0
+HaveFlows rows system = (i : ℕ) (row : Row) → slice_index_or (map live rows) i None ≡ Some row → IsTrue (is_filled row.kind) → IsSome (flow_at system.slots row.flow)
+
+abbrev pub later_row : Sharing → ℕ → Row → Row
+later_row system span row = if row.done then row else row_later system span row
 
 abbrev pub is_row_due : Row → Bool
 is_row_due row = row.due
 
--- the row at this place is due, and none before it
-pub record IsFirst (rows : List (Option Row)) (i : ℕ) (row : Row) : Type 0 where
-  pub within : i < length rows
-  pub at : slice_index_or rows i None ≡ Some row
-  pub due : row.due ≡ true
-  pub before : serials is_row_due 1 (take i rows) ≡ []
+abbrev pub is_due : Row → Bool
+is_due row = passes is_row_due (live row)
 
--- what the fields stand for
+-- the row at this place is due, and none before it
+pub record IsFirst (rows : List Row) (i : ℕ) (row : Row) : Type 0 where
+  pub within : i < length rows
+  pub at : slice_index_or rows i row ≡ row
+  pub live : live row ≡ Some row
+  pub due : row.due ≡ true
+  pub before : filter is_due (take i rows) ≡ []
+
+-- what the fields stand for, with the rows by serial
 abbrev pub doing_of : List HostCap → ℕ → List (Option Row) → Bool → ℕ → Doing
-doing_of hosts date rows settled room = record {
+doing_of hosts date slots settled room = record {
   hosts = hosts;
   date = date;
-  tasks = tasks_of hosts rows;
-  due = serials is_row_due 1 rows;
+  tasks = tasks_of hosts slots;
+  due = serials is_row_due 1 slots;
   settled = settled;
   room = room;
 }

@@ -14,12 +14,18 @@ use std::alloc::Global;
 use std::marker::Model;
 use std::sync::ledger::Ledger;
 
-/// The activities under way, each under the serial that it drew.
+/// The activities under way on some hosts, each under the serial that it drew.
 #[derive(Drop)]
 pub struct Activities {
     hosts: Vec<HostCap>,
+    // holds a flow for each execution under way
     system: System,
-    slots: Vec<Option<Row>>,
+    // by rising serial; among them those that are done since the last `settle`
+    rows: Vec<Row>,
+    // no row before this place is due
+    next: usize,
+    // how many serials were drawn
+    drawn: u64,
     date: u128,
     settled: bool,
     room: usize,
@@ -32,12 +38,12 @@ impl Model for Activities {
 
     ghost coded = { doing_code };
 
-    ghost use Rattle.std.specs.Prelude.{◌+◌, ◌<◌, ◌≤◌, ◌^◌, vec_len, vec_capacity};
-    ghost use Rattle.sg_activity.specs.Rows.{AreKept, doing_of};
+    ghost use Rattle.std.specs.Prelude.{◌≡◌, ◌+◌, ◌<◌, ◌≤◌, ◌^◌, [], filter, take, length, vec_len, vec_capacity};
+    ghost use Rattle.sg_activity.specs.Rows.{AreKept, AreRising, slots_of, doing_of, is_due};
 
-    ghost view = { λ s. doing_of s.hosts.items s.date s.slots.items s.settled s.room };
+    ghost view = { λ s. doing_of s.hosts.items s.date (slots_of s.drawn s.rows.items) s.settled s.room };
 
-    ghost invariant = { λ s. AreKept s.hosts.items s.slots.items s.system s.settled × (vec_len s.slots + s.room ≤ vec_capacity s.slots) × (s.room ≤ s.system.flow_room) × (s.room ≤ s.system.use_room) × (s.date < 10 ^ 34) };
+    ghost invariant = { λ s. AreKept s.hosts.items (slots_of s.drawn s.rows.items) s.system s.settled × AreRising 1 (s.drawn + 1) s.rows.items × (s.next ≤ length s.rows.items) × (filter is_due (take s.next s.rows.items) ≡ []) × (vec_len s.rows + s.room ≤ vec_capacity s.rows) × (s.room ≤ s.system.flow_room) × (s.room ≤ s.system.use_room) × (s.date < 10 ^ 34) };
 }
 
 // What each host offers in all.
@@ -65,7 +71,9 @@ impl Activities {
         Ok(Activities {
             hosts: Vec::from_slice(alloc, hosts)?,
             system: System::new(alloc, &capacities)?,
-            slots: Vec::new(alloc),
+            rows: Vec::new(alloc),
+            next: 0,
+            drawn: 0,
             date: 0,
             settled: false,
             room: 0,
@@ -79,7 +87,7 @@ impl Activities {
         ensures kept { self.new ≡ record self.old { room = self.new.room } }
     {
         let n = n.max(self.room);
-        self.slots.reserve(n)?;
+        self.rows.reserve(n)?;
         self.system.reserve(n, n)?;
         self.room = n;
         Ok(())
@@ -97,13 +105,16 @@ impl Activities {
         let serial = self.next_serial();
         let host = host.0 as usize;
         let flow = self.system.add(&[host], Some(self.hosts[host].speed));
-        self.slots.push_reserved(Some(Row {
+        self.rows.push_reserved(Row {
+            serial: serial.0,
             kind: PhaseKind::Exec,
             left: u128::from(flops) * 1_000_000_000,
             host,
             flow,
             due: false,
-        }));
+            done: false,
+        });
+        self.drawn += 1;
         self.settled = false;
         self.room -= 1;
         serial
@@ -118,13 +129,16 @@ impl Activities {
         ensures starts { self.new ≡ started self.old (timer_of ns) }
     {
         let serial = self.next_serial();
-        self.slots.push_reserved(Some(Row {
+        self.rows.push_reserved(Row {
+            serial: serial.0,
             kind: PhaseKind::Timer,
             left: u128::from(ns),
             host: 0,
             flow: 0,
             due: false,
-        }));
+            done: false,
+        });
+        self.drawn += 1;
         self.settled = false;
         self.room -= 1;
         serial
@@ -135,13 +149,15 @@ impl Activities {
         requires { length self.now.tasks < 10 ^ 9 }
         ensures { result.0 ≡ length self.now.tasks + 1 }
     {
-        Serial(self.slots.len() as u64 + 1)
+        Serial(self.drawn + 1)
     }
 
     /// Brings the rates up to date.
     pub fn settle<L: Ledger>(&mut self, steps: &mut Steps<L>)
         ensures { self.new ≡ record self.old { settled = true } }
     {
+        rows::clear_done(&mut self.rows);
+        self.next = 0;
         self.system.solve(steps);
         self.settled = true;
     }
@@ -157,7 +173,7 @@ impl Activities {
     pub fn running(&self) -> bool
         ensures { result ≡ is_running self.now }
     {
-        rows::is_any(&self.slots)
+        rows::is_any(&self.rows)
     }
 
     /// The date of the next phase end.
@@ -165,7 +181,7 @@ impl Activities {
         requires { IsTrue self.now.settled }
         ensures { MatchOption result (next_in self.now.hosts self.now.tasks ≡ None) (λ date. IsNext self.now date) }
     {
-        match rows::soonest(&self.slots, &self.system) {
+        match rows::soonest(&self.rows, &self.system) {
             Some(span) => Some(self.date + span),
             None => None,
         }
@@ -180,7 +196,8 @@ impl Activities {
         ensures { self.new ≡ later (date - self.old.date) self.old }
     {
         let span = date - self.date;
-        rows::pass(&mut self.slots, &self.system, span);
+        rows::pass(&mut self.rows, &self.system, span);
+        self.next = 0;
         self.date = date;
     }
 
@@ -189,9 +206,9 @@ impl Activities {
         requires { length self.now.tasks ≤ 10 ^ 9 }
         ensures { MatchOption result (self.now.due ≡ []) (λ phase. IsDue self.now phase) }
     {
-        match rows::first_due(&self.slots) {
-            Some((i, row)) => Some(Phase {
-                serial: Serial(i as u64 + 1),
+        match rows::first_due(&self.rows, self.next) {
+            Some((_, row)) => Some(Phase {
+                serial: Serial(row.serial),
                 kind: row.kind,
             }),
             None => None,
@@ -203,11 +220,12 @@ impl Activities {
         requires { self.old.due ≢ [] }
         ensures { self.new ≡ ended self.old.due self.old }
     {
-        let Some((i, row)) = rows::first_due(&self.slots) else {
+        let Some((i, row)) = rows::first_due(&self.rows, self.next) else {
             unreachable!()
         };
         rows::release(&mut self.system, &row);
-        self.slots[i] = None;
+        self.rows[i] = Row { done: true, ..row };
+        self.next = i;
         self.settled = false;
     }
 }

@@ -1,23 +1,33 @@
-//! The rows of phases, and what is asked of all of them.
+//! The rows of activities, and what is asked of all of them.
 
-ghost use Rattle.std.specs.Prelude.{◌≡◌, ◌+◌, ◌-◌, ◌*◌, ◌<◌, ◌≤◌, ◌^◌, ℕ, Bool, Some, None, IsTrue, false, true, IsSome, map, option_map, option_and_then, MatchOption, [], is_some};
+ghost use Rattle.std.specs.Prelude.{◌≡◌, ◌+◌, ◌-◌, ◌*◌, ◌<◌, ◌≤◌, ◌^◌, ℕ, Bool, Some, None, IsTrue, false, true, IsSome, map, option_map, option_and_then, MatchOption, [], is_some, filter, take, length, not, vec_len, vec_capacity};
 ghost use Rattle.std.specs.List.{list_any};
 ghost use Rattle.sg_maxmin.specs.Sharing.{flow_at, Changes};
-ghost use Rattle.sg_activity.specs.Task.{is_filled, wait as wait_spec, sooner as sooner_spec, soonest as soonest_spec, passes, serials};
+ghost use Rattle.sg_activity.specs.Task.{is_filled, wait as wait_spec, sooner as sooner_spec, soonest as soonest_spec, passes};
 ghost use Rattle.sg_activity.specs.declared.rows.Row.{Row};
-ghost use Rattle.sg_activity.specs.Rows.{row_rate, row_wait, row_later, is_row_due, HaveFlows, IsFirst};
+ghost use Rattle.sg_activity.specs.Rows.{live as live_spec, row_rate, row_wait, row_later, later_row as later_row_spec, is_row_due, is_due, HaveFlows, IsFirst};
 
 use crate::kinds::PhaseKind;
 use sg_maxmin::{FlowId, System};
 
-/// A phase under way, as it is kept.
+/// An activity under way, as it is kept, or one that was done not long ago.
 #[derive(Clone, Copy)]
 pub(crate) struct Row {
+    pub(crate) serial: u64,
     pub(crate) kind: PhaseKind,
     pub(crate) left: u128,
+    /// The host of an execution, and its flow there.
     pub(crate) host: usize,
     pub(crate) flow: FlowId,
     pub(crate) due: bool,
+    pub(crate) done: bool,
+}
+
+// The row, unless its activity is done.
+fn live(row: &Row) -> Option<Row>
+    ensures { result ≡ live_spec row.now }
+{
+    if row.done { None } else { Some(*row) }
 }
 
 pub(crate) fn fills(kind: PhaseKind) -> bool
@@ -64,24 +74,24 @@ fn sooner(a: Option<u128>, b: Option<u128>) -> Option<u128>
     }
 }
 
-fn wait_of(slot: &Option<Row>, system: &System) -> Option<u128>
-    requires { (row : Row) → slot.now ≡ Some row → IsTrue (is_filled row.kind) → IsSome (flow_at system.now.slots row.flow) }
-    ensures { result ≡ option_and_then (row_wait system.now) slot.now }
+fn wait_of(slot: Option<Row>, system: &System) -> Option<u128>
+    requires { (row : Row) → slot ≡ Some row → IsTrue (is_filled row.kind) → IsSome (flow_at system.now.slots row.flow) }
+    ensures { result ≡ option_and_then (row_wait system.now) slot }
 {
     match slot {
-        Some(row) => wait(rate_of(row, system), row.left),
+        Some(row) => wait(rate_of(&row, system), row.left),
         None => None,
     }
 }
 
 /// The least of all waits.
-pub(crate) fn soonest(slots: &[Option<Row>], system: &System) -> Option<u128>
-    requires { HaveFlows slots.now system.now }
-    ensures { result ≡ soonest_spec (row_wait system.now) slots.now }
+pub(crate) fn soonest(rows: &[Row], system: &System) -> Option<u128>
+    requires { HaveFlows rows.now system.now }
+    ensures { result ≡ soonest_spec (row_wait system.now) (map live_spec rows.now) }
 {
     let mut best = None;
-    for slot in slots {
-        best = sooner(best, wait_of(slot, system));
+    for row in rows {
+        best = sooner(best, wait_of(live(row), system));
     }
     best
 }
@@ -105,23 +115,24 @@ fn later(row: &Row, system: &System, span: u128) -> Row
     }
 }
 
-fn later_slot(slot: &Option<Row>, system: &System, span: u128) -> Option<Row>
-    requires { (row : Row) → slot.now ≡ Some row → IsTrue (is_filled row.kind) → IsSome (flow_at system.now.slots row.flow) }
-    ensures { result ≡ option_map (row_later system.now span) slot.now }
+fn later_row(row: Row, system: &System, span: u128) -> Row
+    requires { (other : Row) → live_spec row ≡ Some other → IsTrue (is_filled other.kind) → IsSome (flow_at system.now.slots other.flow) }
+    ensures { result ≡ later_row_spec system.now span row }
 {
-    match slot {
-        Some(row) => Some(later(row, system, span)),
-        None => None,
+    if row.done {
+        row
+    } else {
+        later(&row, system, span)
     }
 }
 
 /// Lets so many nanoseconds pass.
-pub(crate) fn pass(slots: &mut [Option<Row>], system: &System, span: u128)
-    requires { HaveFlows slots.old system.now }
-    ensures { slots.new ≡ map (option_map (row_later system.now span)) slots.old }
+pub(crate) fn pass(rows: &mut [Row], system: &System, span: u128)
+    requires { HaveFlows rows.old system.now }
+    ensures { rows.new ≡ map (later_row_spec system.now span) rows.old }
 {
-    for slot in slots.iter_mut() {
-        *slot = later_slot(slot, system, span);
+    for row in rows.iter_mut() {
+        *row = later_row(*row, system, span);
     }
 }
 
@@ -134,16 +145,27 @@ fn due_row(slot: Option<Row>) -> Option<Row>
     }
 }
 
-/// The first place that is due.
-pub(crate) fn first_due(slots: &[Option<Row>]) -> Option<(usize, Row)>
-    ensures { MatchOption result (serials is_row_due 1 slots.now ≡ []) (λ found. IsFirst slots.now found.0 found.1) }
+/// The first row that is due, and its place. No row before the place `from` is due.
+pub(crate) fn first_due(rows: &[Row], from: usize) -> Option<(usize, Row)>
+    requires within { from ≤ length rows.now }
+    requires before { filter is_due (take from rows.now) ≡ [] }
+    ensures { MatchOption result (filter is_due rows.now ≡ []) (λ found. IsFirst rows.now found.0 found.1) }
 {
-    for i in 0..slots.len() {
-        if let Some(row) = due_row(slots[i]) {
+    for i in from..rows.len() {
+        if let Some(row) = due_row(live(&rows[i])) {
             return Some((i, row));
         }
     }
     None
+}
+
+/// Lets the rows go whose activities are done.
+pub(crate) fn clear_done(rows: &mut Vec<Row>)
+    ensures items { rows.new.items ≡ filter (λ (row : Row). not row.done) rows.old.items }
+    ensures len { vec_len rows.new ≤ vec_len rows.old }
+    ensures capacity { vec_capacity rows.new ≡ vec_capacity rows.old }
+{
+    rows.retain(|row| !row.done);
 }
 
 /// Takes the row's flow away, where it has one.
@@ -159,9 +181,9 @@ pub(crate) fn release(system: &mut System, row: &Row)
     }
 }
 
-/// Whether a phase is under way.
-pub(crate) fn is_any(slots: &[Option<Row>]) -> bool
-    ensures { result ≡ list_any is_some slots.now }
+/// Whether an activity is under way.
+pub(crate) fn is_any(rows: &[Row]) -> bool
+    ensures { result ≡ list_any (λ row. is_some (live_spec row)) rows.now }
 {
-    slots.iter().any(|slot| slot.is_some())
+    rows.iter().any(|row| live(row).is_some())
 }

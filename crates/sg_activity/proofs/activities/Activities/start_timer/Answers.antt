@@ -1,28 +1,47 @@
-use Rattle.std.proofs.Common.{◌-◌, ◌≤◌, ◌^◌, false, sym, ap, subst, ◌∙◌, refl, arith}
+use Rattle.std.proofs.Common.{◌≡◌, ◌+◌, ◌-◌, ◌≤◌, ◌^◌, false, [], ◌∷◌, filter, take, length, sym, ap, subst, ◌∙◌, refl, arith}
+use Rattle.std.proofs.lemmas.List.{length-append, take-append-le}
 use Rattle.sg_activity.specs.declared.rows.Row.{Row}
 use Rattle.sg_activity.specs.declared.kinds.PhaseKind.TheVariants as phase
 use Rattle.sg_activity.specs.Doing.{Doing, started, timer_of}
-use Rattle.sg_activity.specs.Rows.{AreKept, doing_of}
-use Rattle.sg_activity.proofs.Keeps.{kept_timed, started_told}
+use Rattle.sg_activity.specs.Rows.{AreKept, AreRising, slots_of, doing_of, is_due}
+use Rattle.sg_activity.proofs.Spread.{spread-push, rising-push}
+use Rattle.sg_activity.proofs.Keeps.{kept_timed, started_told, drawn_is}
 use Rattle.sg_activity.proofs.activities.Activities.start_timer.Goals as goal
+
+pub overflow_add-self : goal.overflow_add-self
+overflow_add-self c =
+    let s = c.self.inside in
+    omega (arith, drawn_is s.hosts.items s.date s.drawn s.rows.items s.settled s.room c.args.self.now c.self.invariant.1 c.self.view_is, c.requires.few)
 
 pub invariant_of-self : goal.invariant_of-self
 invariant_of-self c =
     let s = c.self.inside in
-    let row : Row = record { kind = phase.Timer; left = c.from.result; host = 0; flow = 0; due = false } in
-    let small : row.left ≤ 10 ^ 24 = omega (arith, c.from.ensures, c.requires.ns) in
-    let room = ap (λ (d : Doing). d.room) c.self.view_is in (
-      subst (λ l. AreKept s.hosts.items l s.system false) (sym c.push_reserved.ensures.items) (kept_timed s.hosts.items s.slots.items s.system s.settled row c.self.invariant.0 refl small),
-      omega (arith, room, c.requires.room, c.self.invariant.1, c.push_reserved.ensures.len, c.push_reserved.ensures.capacity),
-      omega (arith, c.self.invariant.2),
-      omega (arith, c.self.invariant.3),
-      c.self.invariant.4,
+    let hosts = s.hosts.items in
+    let rows = s.rows.items in
+    let slots = slots_of s.drawn rows in
+    let row : Row = record { serial = c.next_serial-serial.result.0; kind = phase.Timer; left = c.from.result; host = 0; flow = 0; due = false; done = false } in
+    let serial : row.serial ≡ s.drawn + 1 = omega (arith, c.next_serial-serial.ensures, drawn_is hosts s.date s.drawn rows s.settled s.room c.args.self.now c.self.invariant.1 c.self.view_is) in
+    let items = c.push_reserved.ensures.items in
+    let room = ap (λ (d : Doing). d.room) c.self.view_is in
+    let small : row.left ≤ 10 ^ 24 = omega (arith, c.from.ensures, c.requires.ns) in (
+      subst (λ l. AreKept hosts (slots_of (s.drawn + 1) l) s.system false) (sym items)
+          (subst (λ l. AreKept hosts l s.system false) (sym (spread-push 1 (s.drawn + 1) rows row serial)) (kept_timed hosts slots s.system s.settled row c.self.invariant.0 refl small)),
+      subst (AreRising 1 (s.drawn + 1 + 1)) (sym items) (rising-push 1 (s.drawn + 1) rows row c.self.invariant.1 serial),
+      omega (arith, c.self.invariant.2, ap length items, length-append rows (row ∷ [])),
+      ap (λ l. filter is_due (take s.next l)) items ∙ ap (filter is_due) (take-append-le s.next rows (row ∷ []) c.self.invariant.2) ∙ c.self.invariant.3,
+      omega (arith, room, c.requires.room, c.self.invariant.4, c.push_reserved.ensures.len, c.push_reserved.ensures.capacity),
+      omega (arith, c.self.invariant.5),
+      omega (arith, c.self.invariant.6),
+      c.self.invariant.7,
     )
 
 pub returns-clause-starts : goal.returns-clause-starts
 returns-clause-starts c =
     let s = c.self.inside in
-    let row : Row = record { kind = phase.Timer; left = c.from.result; host = 0; flow = 0; due = false } in
-    ap (λ l. doing_of s.hosts.items s.date l false (s.room - 1)) c.push_reserved.ensures.items
-    ∙ started_told s.hosts.items s.date s.slots.items s.settled s.room row c.args.self.now refl c.self.view_is
+    let rows = s.rows.items in
+    let row : Row = record { serial = c.next_serial-serial.result.0; kind = phase.Timer; left = c.from.result; host = 0; flow = 0; due = false; done = false } in
+    let serial : row.serial ≡ s.drawn + 1 = omega (arith, c.next_serial-serial.ensures, drawn_is s.hosts.items s.date s.drawn rows s.settled s.room c.args.self.now c.self.invariant.1 c.self.view_is) in
+    ap (λ l. doing_of s.hosts.items s.date (slots_of (s.drawn + 1) l) false (s.room - 1)) c.push_reserved.ensures.items
+    ∙ ap (λ l. doing_of s.hosts.items s.date l false (s.room - 1)) (spread-push 1 (s.drawn + 1) rows row serial)
+    ∙ started_told s.hosts.items s.date (slots_of s.drawn rows) s.settled s.room row c.args.self.now refl c.self.view_is
     ∙ ap (λ n. started c.args.self.now (timer_of n)) c.from.ensures
