@@ -31,3 +31,15 @@ first_known hosts homes budget = record { setup = record { hosts = hosts; homes 
 -- The kernel stands for each world with this core: it keeps no minds, no numbers of Asks and no records once they are cleared.
 abbrev pub Stands : Known → World → Type 0
 Stands known world = known.core ≡ world.core
+
+-- the world to which a step leads
+abbrev pub led : Step → World → World
+led step world = record world { core = step.core }
+
+-- A new kernel stands for the first world.
+abbrev pub StandsAtFirst : Type 0
+StandsAtFirst = (hosts : List HostCap) (homes : List PointId) (budget : ℕ) (world : World) → world.core ≡ first_core (length homes) → Stands (first_known hosts homes budget) world
+
+-- Each step leads from every world for which the kernel stood to the step's world, for which it then stands.
+abbrev pub StepsLead : Type 0
+StepsLead = (step : Setup → Core → Step) (known : Known) (world : World) → Stands known world → Stands (after (step known.setup known.core) known) (led (step known.setup world.core) world)

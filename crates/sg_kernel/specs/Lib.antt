@@ -3,4 +3,5 @@ pub mod Calls
 pub mod Passes
 pub mod Known
 pub mod Records
+pub mod Owners
 pub mod Sound

@@ -12,7 +12,7 @@ use Rattle.sg_kernel.specs.Known.{Known, point_number}
 use Rattle.sg_kernel.specs.Records.{IsBlocking, AreRecords}
 
 abbrev pub core_of : Parts → Core
-core_of parts = record { date = parts.doing.date; actors = parts.states.items; tasks = parts.doing.tasks; whose = parts.whose.items; events = parts.events }
+core_of parts = record { date = parts.doing.date; actors = parts.states.items; tasks = parts.doing.tasks; whose = parts.whose.whose; events = parts.events }
 
 abbrev pub known_of : Parts → Known
 known_of parts = record {
@@ -32,17 +32,17 @@ blocked_count states = count_by is_blocked states
 
 -- the numbers keep to their limits, and there is room for what the next calls and passes make
 pub record IsSound (parts : Parts) : Type 0 where
-  pub numbered : length parts.whose.items ≡ length parts.doing.tasks
+  pub numbered : length parts.whose.whose ≡ length parts.doing.tasks
   pub few : length parts.doing.tasks ≤ parts.events
   pub within : parts.events ≤ parts.budget
   pub budgeted : parts.budget ≤ 10 ^ 9
   pub homes_known : length parts.homes.items ≡ length parts.states.items
   pub hosts_known : All (λ (home : PointId). home.0 < length parts.doing.hosts) parts.homes.items
-  pub owners : All (IsOwner (length parts.states.items)) parts.whose.items
+  pub owners : All (IsOwner (length parts.states.items)) parts.whose.whose
   pub ready_count : parts.ready ≡ count_by is_ready parts.states.items
   pub ended_count : parts.ended ≡ count_by is_ended parts.states.items
   pub start_room : parts.room ≤ parts.doing.room
-  pub whose_fits : length parts.whose.items + parts.room ≤ vec_capacity parts.whose
+  pub whose_room : parts.room ≤ parts.whose.room
   pub records_fit : vec_len parts.records + parts.room + blocked_count parts.states.items ≤ vec_capacity parts.records
 
 -- the first event moves no date

@@ -2,12 +2,15 @@
 #![tactic(auto)]
 
 mod kernel;
+mod laws;
+mod owners;
 mod parts;
 mod passes;
 mod starts;
 mod states;
 
 pub use kernel::Kernel;
+pub use laws::{stands_at_first, steps_lead};
 pub use states::{State, Stop, Whose};
 
 #[cfg(test)]

@@ -1,5 +1,6 @@
 //! What the kernel keeps.
-use crate::states::{State, Whose};
+use crate::owners::Owners;
+use crate::states::State;
 use sg_activity::Activities;
 use sg_base::{PointId, Record};
 
@@ -9,8 +10,8 @@ pub(crate) struct Parts {
     pub(crate) doing: Activities,
     /// What each actor does, by id from 1 on.
     pub(crate) states: Vec<State>,
-    /// Whose each activity is, by serial from 1 on.
-    pub(crate) whose: Vec<Whose>,
+    /// Whose each activity is.
+    pub(crate) whose: Owners,
     /// The records that aren't cleared.
     pub(crate) records: Vec<Record>,
     /// The host of each actor.

@@ -69,10 +69,8 @@ fn end_phase(parts: &mut Parts, phase: Phase)
     ensures date { parts.new.doing.date ≡ parts.old.doing.date }
     ensures events { parts.new.events ≡ parts.old.events + 1 }
 {
-    let i = phase.serial.0 as usize - 1;
-    let whose = parts.whose[i];
+    let whose = parts.whose.take(phase.serial);
     parts.doing.finish();
-    parts.whose[i] = Whose::Gone;
     parts.events += 1;
     match whose {
         Whose::Alone(actor) => answer_actor(parts, phase.serial, actor),

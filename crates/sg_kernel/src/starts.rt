@@ -12,8 +12,9 @@ ghost use Rattle.sg_kernel.specs.Calls.{blocks_on, counted};
 ghost use Rattle.sg_kernel.specs.Known.{first_known};
 ghost use Rattle.sg_kernel.specs.Sound.{core_of, known_of, IsSound, IsDated, AreLimited, KeepsLimits, blocked_count};
 
+use crate::owners::Owners;
 use crate::parts::Parts;
-use crate::states::{State, Whose};
+use crate::states::State;
 use sg_activity::{Activities, HostCap};
 use sg_base::{ActorId, Answer, Call, Memory, PointId};
 use std::alloc::Global;
@@ -56,7 +57,7 @@ pub(crate) fn first_parts(
     Ok(Parts {
         doing,
         states,
-        whose: Vec::new(alloc),
+        whose: Owners::new(alloc),
         records: Vec::new(alloc),
         homes,
         ready: actors,
@@ -84,7 +85,7 @@ pub(crate) fn compute(parts: &mut Parts, actor: ActorId, flops: u64)
     let i = actor.0 as usize - 1;
     let date = parts.doing.date();
     let serial = parts.doing.start_exec(parts.homes[i], flops);
-    parts.whose.push_reserved(Whose::Alone(actor));
+    parts.whose.push(actor);
     parts.states[i] = State::Blocked(Call::Compute(flops), date, serial);
     parts.ready -= 1;
     parts.events += 1;
@@ -108,7 +109,7 @@ pub(crate) fn sleep(parts: &mut Parts, actor: ActorId, ns: u64)
     let i = actor.0 as usize - 1;
     let date = parts.doing.date();
     let serial = parts.doing.start_timer(ns);
-    parts.whose.push_reserved(Whose::Alone(actor));
+    parts.whose.push(actor);
     parts.states[i] = State::Blocked(Call::Sleep(ns), date, serial);
     parts.ready -= 1;
     parts.events += 1;

@@ -16,7 +16,15 @@ fn on_one_host(alloc: Global, homes: &[PointId], budget: u64) -> Result<Kernel, 
     requires homes { All (λ (home : PointId). home.0 < 1) homes.now }
     requires budget { budget ≤ 10 ^ 9 }
 {
-    Kernel::new(alloc, &[HostCap { speed: 10, cores: 1 }], homes, budget)
+    Kernel::new(
+        alloc,
+        &[HostCap {
+            speed: 10,
+            cores: 1,
+        }],
+        homes,
+        budget,
+    )
 }
 
 // Answers a call of an actor, if it is ready.
@@ -98,7 +106,10 @@ fn eleven<L: Ledger>(alloc: Global, blank: Blank) -> Result<(Option<Stop>, u128)
 
 #[test]
 fn starves_at_share_nothing(rt: HostRuntime) -> Result<(), Fail> {
-    assert_eq!(rt; eleven::<Brand>(rt.alloc(), Blank::new(1))?, (Some(Stop::Starved), 0));
+    assert_eq!(rt;
+        eleven::<Brand>(rt.alloc(), Blank::new(1))?,
+        (Some(Stop::Starved), 0)
+    );
     Ok(())
 }
 
