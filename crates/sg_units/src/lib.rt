@@ -3,6 +3,7 @@
 
 mod date;
 mod fault;
+mod laws;
 mod number;
 mod readers;
 mod scale;
@@ -10,6 +11,7 @@ mod units;
 
 pub use date::date_text;
 pub use fault::AmountFault;
+pub use laws::number_is_longest;
 pub use readers::{read_amount, read_bandwidth, read_speed, read_time};
 
 #[cfg(test)]
