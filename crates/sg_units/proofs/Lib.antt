@@ -1,0 +1,4 @@
+pub mod DateValue
+pub mod Digits
+pub mod Scaling
+pub mod Values

@@ -1,0 +1,6 @@
+pub mod Amount
+pub mod Date
+pub mod Number
+pub mod Scaled
+pub mod Shown
+pub mod Units
