@@ -1,13 +1,16 @@
-// A library with one function.
+//! Reads platforms and deployments in TOML. A text that is refused is told its fault of least place: table, then
+//! row, then key; at one place the one of least kind.
 #![tactic(auto)]
 
-ghost use Rattle.std.specs.Prelude.{◌≡◌};
-ghost use Rattle.sg_platform.specs.Echo.{echo_of};
+mod build;
+mod deployment;
+mod index;
+mod platform;
+mod rows;
+#[cfg(test)]
+mod tests;
 
-// The `ensures` clause is the contract: what `echo` returns is `echo_of` of its argument, a definition
-// in `specs/Echo.antt`, which a caller's clause can cite too.
-pub fn echo(x: usize) -> usize
-    ensures { result ≡ echo_of x }
-{
-    x
-}
+pub use deployment::{Deployment, DeploymentFault, read_deployment};
+pub use platform::{PlatformFault, PlatformText, read_platform};
+pub use rows::{ActorRow, Function, HostRow, Routing, ZoneRow};
+pub use sg_tree::Place;

@@ -56,3 +56,7 @@ names_view names = record {
 -- each number fits 32 bits
 abbrev pub FitsIn32 : Finds → Type 0
 FitsIn32 found = (name : List ℕ) → IfSome (found name) (λ i. i < 2 ^ 32)
+
+-- so does each that a row keeps
+pub record AreSmall (names : Known) : Type 0 where
+  pub points : FitsIn32 names.points

@@ -1,3 +1,5 @@
 pub mod Along
-pub mod TreeLemmas
+pub mod Bounds
+pub mod Kept
 pub mod NameLemmas
+pub mod TreeLemmas
