@@ -122,7 +122,11 @@ fn rows_of(alloc: Global, names: &Names, tree: &toml::Table) -> Result<Deploymen
 }
 
 /// The names that stand beside a platform.
-fn names_on(alloc: Global, tree: &toml::Table, platform: &PlatformText) -> Result<Names, sg_base::Memory>
+fn names_on(
+    alloc: Global,
+    tree: &toml::Table,
+    platform: &PlatformText,
+) -> Result<Names, sg_base::Memory>
     ensures known { IfOk result (λ names. names_view names ≡ names_on platform.now (table_view tree.now)) }
     ensures small { IfOk result (λ names. AreSmall (names_view names)) }
     ensures few { IfOk result (λ names. names.zones + names.hosts ≤ 16384) }

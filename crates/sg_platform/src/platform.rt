@@ -97,7 +97,11 @@ fn fault_of(fault: Fault) -> PlatformFault
 }
 
 #[tactic(auto, unfolding(crate::specs::PlatformOf::rows_of))]
-fn rows_of(alloc: Global, names: &Names, tree: &toml::Table) -> Result<PlatformText, sg_base::Memory>
+fn rows_of(
+    alloc: Global,
+    names: &Names,
+    tree: &toml::Table,
+) -> Result<PlatformText, sg_base::Memory>
     requires small { AreSmall (names_view names.now) }
     requires kept { IsPlatform (rows_of (names_view names.now) (table_view tree.now)) }
     ensures { IfOk result (λ p. p ≡ rows_of (names_view names.now) (table_view tree.now)) }

@@ -37,7 +37,8 @@ fn reads_a_platform_and_a_deployment(rt: HostRuntime) -> Result<(), Fail> {
     assert_eq!(rt; hosts[1].cores, 4);
     assert_eq!(rt; hosts[0].cores, 1);
     assert_eq!(rt; hosts[0].zone, ZoneId(0));
-    let text = "actor = [{name = 'p0', host = 'h1', function = 'replay'}, {name = 'p1', host = 'h2', function = 'replay'}]";
+    let text =
+        "actor = [{name = 'p0', host = 'h1', function = 'replay'}, {name = 'p1', host = 'h2', function = 'replay'}]";
     let deployment = read_deployment(rt.alloc(), text.as_bytes(), &platform)?;
     let actors = deployment.actors();
     assert_eq!(rt; actors.len(), 2);
@@ -54,7 +55,10 @@ fn tells_the_first_fault_of_a_platform(rt: HostRuntime) -> Result<(), Fail> {
         ("host = [", "BadToml"),
         ("thing = 1", "Unknown(Place { table: 0, row: 0, key: 0 })"),
         ("host = 1", "WrongType(Place { table: 2, row: 0, key: 0 })"),
-        ("host = [1]", "WrongType(Place { table: 2, row: 1, key: 0 })"),
+        (
+            "host = [1]",
+            "WrongType(Place { table: 2, row: 1, key: 0 })",
+        ),
         (
             "host = [{id = 'h', zone = 'z', speed = '1', more = 1}]",
             "Unknown(Place { table: 2, row: 1, key: 0 })",
