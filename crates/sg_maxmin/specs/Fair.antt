@@ -1,0 +1,22 @@
+-- Max-min fairness in whole units.
+use Rattle.std.specs.Prelude.{◌≡◌, ℕ, ◌+◌, ◌<◌, ◌≤◌, ◌⊎◌, Some, List, Contains, if◌then◌else◌, sum_by, count_by, slice_index, IsTrue}
+use Rattle.sg_maxmin.specs.Fill.{Flow, is_on}
+
+-- what the flows on the resource have together
+abbrev pub load : List Flow → (Flow → ℕ) → ℕ → ℕ
+load flows share resource = sum_by (λ flow. if is_on resource flow then share flow else 0) flows
+
+-- how many flows use the resource
+abbrev pub users : List Flow → ℕ → ℕ
+users flows resource = count_by (is_on resource) flows
+
+-- The flow uses the resource, has the greatest share there, and fewer units are left than flows use it.
+pub record IsBottleneck (capacities : List ℕ) (flows : List Flow) (share : Flow → ℕ) (flow : Flow) (resource : ℕ) : Type 0 where
+  pub used : IsTrue (is_on resource flow)
+  pub greatest : (other : Flow) → Contains flows other → IsTrue (is_on resource other) → share other ≤ share flow
+  pub full : slice_index capacities resource < load flows share resource + users flows resource
+
+-- No resource gives more than its capacity, and each flow has its bound as its share, or a bottleneck.
+pub record IsFair (capacities : List ℕ) (flows : List Flow) (share : Flow → ℕ) : Type 0 where
+  pub within : (resource : ℕ) → load flows share resource ≤ slice_index capacities resource
+  pub limited : (flow : Flow) → Contains flows flow → (flow.bound ≡ Some (share flow)) ⊎ ((resource : ℕ) × IsBottleneck capacities flows share flow resource)

@@ -1,0 +1,62 @@
+//! Laws of filling, each the contract of a function that does nothing.
+ghost use Rattle.std.specs.Prelude.{◌≡◌, [], ◌∷◌, Some, None};
+ghost use Rattle.sg_maxmin.specs.Fill.{fill, flow};
+ghost use Rattle.sg_maxmin.specs.Laws.{FillsApart, FillsFairly, FixesAll, IsHeld, KeepsBound, KeepsShare, LevelRises, SharesSame, SumsChange};
+
+/// Progressive filling is max-min fair in whole units: on each resource the shares add up to at most its capacity,
+/// and each flow has its bound as its share, or uses a resource on which its share is the greatest and on which
+/// fewer units are left than flows use it.
+pub fn is_fair()
+    ensures { FillsFairly }
+{}
+
+/// No flow gets more than its bound.
+pub fn keeps_bound()
+    ensures { KeepsBound }
+{}
+
+/// Filling ends: after as many steps as there are flows each flow is fixed.
+pub fn fixes_all()
+    ensures { FixesAll }
+{}
+
+/// The lowest level rises strictly from step to step.
+pub fn level_rises()
+    ensures { LevelRises }
+{}
+
+/// The filling of two lists of flows that share no resource is the filling of each.
+pub fn fills_apart()
+    ensures { FillsApart }
+{}
+
+/// A flow that shares no resource with those that come and go keeps its share.
+pub fn keeps_share()
+    ensures { KeepsShare }
+{}
+
+/// Where all sums over two lists of flows are equal, so are the shares: the order of the flows doesn't matter.
+pub fn shares_same()
+    ensures { SharesSame }
+{}
+
+/// A sum over the flows that a system holds changes by what comes or goes.
+pub fn sums_change()
+    ensures { SumsChange }
+{}
+
+/// The flow under a number is one of those that the system holds.
+pub fn is_held()
+    ensures { IsHeld }
+{}
+
+/// Fillings that were worked out by hand: of these capacities and these flows, each with its uses and its bound,
+/// these are the shares.
+pub fn worked_examples()
+    ensures alike { fill (10 ∷ []) (flow (0 ∷ []) (Some 10) ∷ flow (0 ∷ []) (Some 10) ∷ flow (0 ∷ []) (Some 10) ∷ []) ≡ 3 ∷ 3 ∷ 3 ∷ [] }
+    ensures two_links { fill (5 ∷ 5 ∷ []) (flow (0 ∷ []) None ∷ flow (0 ∷ 1 ∷ []) None ∷ flow (1 ∷ []) None ∷ []) ≡ 2 ∷ 2 ∷ 2 ∷ [] }
+    ensures left_by_a_bound { fill (10 ∷ []) (flow (0 ∷ []) (Some 2) ∷ flow (0 ∷ []) None ∷ flow (0 ∷ []) None ∷ []) ≡ 2 ∷ 4 ∷ 4 ∷ [] }
+    ensures left_by_a_link { fill (2 ∷ 10 ∷ []) (flow (0 ∷ 1 ∷ []) None ∷ flow (1 ∷ []) None ∷ flow (1 ∷ []) None ∷ []) ≡ 2 ∷ 4 ∷ 4 ∷ [] }
+    ensures bounds_alone { fill (1 ∷ []) (flow [] (Some 7) ∷ flow [] (Some 9) ∷ flow (0 ∷ []) (Some 5) ∷ []) ≡ 7 ∷ 9 ∷ 1 ∷ [] }
+    ensures nothing { fill (3 ∷ []) (flow (0 ∷ []) None ∷ flow (0 ∷ []) None ∷ flow (0 ∷ []) None ∷ flow (0 ∷ []) (Some 2) ∷ []) ≡ 0 ∷ 0 ∷ 0 ∷ 0 ∷ [] }
+{}

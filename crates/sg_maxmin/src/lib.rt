@@ -1,0 +1,17 @@
+//! Shares of flows on resources, by progressive filling in whole numbers.
+#![tactic(auto)]
+
+mod filling;
+mod flow_row;
+mod laws;
+mod system;
+mod uses;
+
+pub use laws::{
+    fills_apart, fixes_all, is_fair, is_held, keeps_bound, keeps_share, level_rises, shares_same,
+    sums_change, worked_examples,
+};
+pub use system::{FlowId, System};
+
+#[cfg(test)]
+mod tests;
