@@ -29,7 +29,7 @@ pub record AreCounted (capacities : List ℕ) (rows : List (Option FlowRow)) (us
   pub left_is : (resource : ℕ) → resource < length capacities → slice_index left resource ≡ slice_index capacities resource - taken_on rows uses resource
   pub waiting_is : (resource : ℕ) → resource < length capacities → slice_index waiting resource ≡ waiting_on rows uses resource
 
--- what holds a row back
+-- the limits of a row
 abbrev pub row_limits : List ℕ → List ℕ → List (Option Use) → FlowRow → List ℕ
 row_limits left waiting uses row = option_to_list row.bound ++ map (λ c. slice_index left c / slice_index waiting c) (resources row.count uses row.first)
 
@@ -62,7 +62,7 @@ row_count (Some row) = row.count
 abbrev pub count_of : List (Option FlowRow) → ℕ
 count_of rows = sum_by (λ row. row.count) (rows_held rows)
 
--- an unfixed flow that something holds back at this level gets it, and else all stays
+-- an unfixed flow that is at this level gets it, and else all stays
 abbrev pub IsStepped : ℕ → Type 0 → Option ℕ → Option ℕ → Type 0
 IsStepped low at (Some share) after = after ≡ Some share
 IsStepped low at None after = (at × (after ≡ Some low)) ⊎ ((at → ⊥) × (after ≡ None))
@@ -76,7 +76,7 @@ RowSteps low limits (Some row) after = (share : Option ℕ) × (after ≡ Some (
 abbrev pub with_share : Option ℕ → FlowRow → FlowRow
 with_share share row = record row { share = share }
 
--- what holds a row back, where it isn't fixed
+-- the limits of a row that isn't fixed
 abbrev pub unfixed_limits : (FlowRow → List ℕ) → Option FlowRow → List ℕ
 unfixed_limits limits None = []
 unfixed_limits limits (Some row) = if is_none row.share then limits row else []

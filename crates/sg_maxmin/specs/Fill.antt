@@ -7,6 +7,10 @@ pub record Flow : Type 0 where
   pub uses : List ℕ
   pub bound : Option ℕ
 
+-- the flow with these uses and this bound
+abbrev pub flow : List ℕ → Option ℕ → Flow
+flow uses bound = record { uses = uses; bound = bound }
+
 -- whether the flow uses the resource
 abbrev pub is_on : ℕ → Flow → Bool
 is_on resource flow = list_any (λ used. used == resource) flow.uses

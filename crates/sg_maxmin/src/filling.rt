@@ -1,10 +1,12 @@
-//! The passes of a filling over the rows.
+//! Progressive filling. Each step is three passes over the flows: the first counts, for each resource, what the
+//! fixed flows leave and how many unfixed ones wait for it; the second finds the lowest limit; the third fixes
+//! each flow that is at it.
 
-ghost use Rattle.std.specs.Prelude.{◌≡◌, ◌≢◌, ◌↔◌, IsTrue, IsSomeAnd, option_map, ◌≤◌, ◌<◌, ◌+◌, ◌-◌, ◌*◌, ◌^◌, ◌/◌, ℕ, List, [], ◌++◌, length, All, Some, None, slice_index, take};
-ghost use Rattle.sg_maxmin.specs.Uses.{IsOneChain, AreRows, flow_of, flows_of, resources};
+ghost use Rattle.std.specs.Prelude.{◌≡◌, ◌≢◌, ◌↔◌, IsTrue, IsSomeAnd, option_map, ◌≤◌, ◌<◌, ◌+◌, ◌-◌, ◌*◌, ◌^◌, ◌/◌, ℕ, List, ◌++◌, length, All, Some, None, slice_index};
+ghost use Rattle.sg_maxmin.specs.Uses.{IsOneChain, AreRows, flows_of, resources};
 ghost use Rattle.sg_maxmin.specs.Laws.{HaveLimits};
 ghost use Rattle.sg_maxmin.specs.Sharing.{held};
-ghost use Rattle.slab.specs.Slab.{get, with_value};
+ghost use Rattle.slab.specs.Slab.{get};
 ghost use Rattle.sg_maxmin.specs.Counting.{HavePlaces, times, IsLeast, row_limits, least_with, AreCounted, row_taken, row_waiting, row_count, count_of, unfixed_limits, all_limits, with_share, RowSteps, SameRows, AreRowShares};
 
 use crate::flow_row::FlowRow;
@@ -13,12 +15,12 @@ use sg_base::Steps;
 use slab::Slab;
 use std::sync::ledger::Ledger;
 
-// Counts a flow as waiting at each of its resources.
+// Counts an unfixed flow at each of its resources.
 fn put_waiting<L: Ledger>(uses: &Slab<Use>, row: FlowRow, waiting: &mut [u64], steps: &mut Steps<L>)
     requires chain { IsOneChain row.count uses.now.slots row.first }
-    requires exist { All (λ c. c < length waiting.old) (resources row.count uses.now.slots row.first) }
-    requires fits { (c : ℕ) → slice_index waiting.old c + times c (resources row.count uses.now.slots row.first) < 2 ^ 64 }
-    ensures counts { (c : ℕ) → slice_index waiting.new c ≡ slice_index waiting.old c + times c (resources row.count uses.now.slots row.first) }
+    requires exist { All (λ resource. resource < length waiting.old) (resources row.count uses.now.slots row.first) }
+    requires fits { (resource : ℕ) → slice_index waiting.old resource + times resource (resources row.count uses.now.slots row.first) < 2 ^ 64 }
+    ensures counts { (resource : ℕ) → slice_index waiting.new resource ≡ slice_index waiting.old resource + times resource (resources row.count uses.now.slots row.first) }
     ensures looks { steps.new ≡ steps.old + row.count }
 {
     let mut at = row.first;
@@ -29,7 +31,7 @@ fn put_waiting<L: Ledger>(uses: &Slab<Use>, row: FlowRow, waiting: &mut [u64], s
     }
 }
 
-// Takes a flow's share off what is left of each of its resources.
+// Takes a fixed flow's share off what is left of each of its resources.
 fn take_off<L: Ledger>(
     uses: &Slab<Use>,
     row: FlowRow,
@@ -38,8 +40,8 @@ fn take_off<L: Ledger>(
     steps: &mut Steps<L>,
 )
     requires chain { IsOneChain row.count uses.now.slots row.first }
-    requires exist { All (λ c. c < length left.old) (resources row.count uses.now.slots row.first) }
-    ensures counts { (c : ℕ) → slice_index left.new c ≡ slice_index left.old c - times c (resources row.count uses.now.slots row.first) * share }
+    requires exist { All (λ resource. resource < length left.old) (resources row.count uses.now.slots row.first) }
+    ensures counts { (resource : ℕ) → slice_index left.new resource ≡ slice_index left.old resource - times resource (resources row.count uses.now.slots row.first) * share }
     ensures looks { steps.new ≡ steps.old + row.count }
 {
     let mut at = row.first;
@@ -51,7 +53,7 @@ fn take_off<L: Ledger>(
     }
 }
 
-// The least of what holds a flow back.
+// The least of a flow's limits: its bound, and the levels of its resources.
 fn least_limit<L: Ledger>(
     uses: &Slab<Use>,
     row: FlowRow,
@@ -60,8 +62,8 @@ fn least_limit<L: Ledger>(
     steps: &mut Steps<L>,
 ) -> Option<u64>
     requires chain { IsOneChain row.count uses.now.slots row.first }
-    requires left { All (λ c. c < length left.now) (resources row.count uses.now.slots row.first) }
-    requires waiting { All (λ c. c < length waiting.now) (resources row.count uses.now.slots row.first) }
+    requires left { All (λ resource. resource < length left.now) (resources row.count uses.now.slots row.first) }
+    requires waiting { All (λ resource. resource < length waiting.now) (resources row.count uses.now.slots row.first) }
     ensures least { IsLeast result (row_limits left.now waiting.now uses.now.slots row) }
     ensures looks { steps.new ≡ steps.old + row.count }
 {
@@ -76,14 +78,14 @@ fn least_limit<L: Ledger>(
     least
 }
 
-// What is left, shared by those that wait.
+// The level of a resource: what is left for each flow that waits. Where none waits it plays no part.
 fn level_of(left: u64, waiting: u64) -> u64
     ensures { result ≡ left / waiting }
 {
     if waiting == 0 { 0 } else { left / waiting }
 }
 
-// The smaller of the two, where there are two.
+// The smaller of the two, or the one where there is one.
 fn smaller(least: Option<u64>, level: u64) -> Option<u64>
     ensures { result ≡ Some (least_with least level) }
 {
@@ -95,14 +97,14 @@ fn smaller(least: Option<u64>, level: u64) -> Option<u64>
 
 // Writes 0 everywhere.
 fn clear(waiting: &mut [u64])
-    ensures { (c : ℕ) → slice_index waiting.new c ≡ 0 }
+    ensures { (resource : ℕ) → slice_index waiting.new resource ≡ 0 }
 {
-    for w in waiting.iter_mut() {
-        *w = 0;
+    for count in waiting.iter_mut() {
+        *count = 0;
     }
 }
 
-// Counts the row under one number.
+// Counts the flow under one number, where there is one.
 fn count_row<L: Ledger>(
     flows: &Slab<FlowRow>,
     uses: &Slab<Use>,
@@ -112,9 +114,9 @@ fn count_row<L: Ledger>(
     steps: &mut Steps<L>,
 )
     requires rows { HavePlaces flows.now.slots uses.now.slots left.old waiting.old }
-    requires fits { (c : ℕ) → slice_index waiting.old c + 1 < 2 ^ 64 }
-    ensures left { (c : ℕ) → slice_index left.new c ≡ slice_index left.old c - row_taken uses.now.slots (get flows.now id) c }
-    ensures waiting { (c : ℕ) → slice_index waiting.new c ≡ slice_index waiting.old c + row_waiting uses.now.slots (get flows.now id) c }
+    requires fits { (resource : ℕ) → slice_index waiting.old resource + 1 < 2 ^ 64 }
+    ensures left { (resource : ℕ) → slice_index left.new resource ≡ slice_index left.old resource - row_taken uses.now.slots (get flows.now id) resource }
+    ensures waiting { (resource : ℕ) → slice_index waiting.new resource ≡ slice_index waiting.old resource + row_waiting uses.now.slots (get flows.now id) resource }
     ensures looks { steps.new ≡ steps.old + row_count (get flows.now id) }
 {
     let Some(row) = flows.get(id) else {
@@ -126,7 +128,7 @@ fn count_row<L: Ledger>(
     }
 }
 
-// Counts all rows.
+// The first pass: what is left of each resource, and how many flows wait for it.
 fn count_all<L: Ledger>(
     flows: &Slab<FlowRow>,
     uses: &Slab<Use>,
@@ -148,7 +150,7 @@ fn count_all<L: Ledger>(
     }
 }
 
-// The least of what holds the flow under one number back, and of what was found before.
+// The least of what was found before and of the limits of the flow under one number, where it isn't fixed.
 fn lowest_with<L: Ledger>(
     flows: &Slab<FlowRow>,
     uses: &Slab<Use>,
@@ -175,7 +177,7 @@ fn lowest_with<L: Ledger>(
     }
 }
 
-// The least of what holds an unfixed flow back.
+// The second pass: the lowest limit of the flows that aren't fixed, or None where all are.
 fn lowest<L: Ledger>(
     flows: &Slab<FlowRow>,
     uses: &Slab<Use>,
@@ -195,7 +197,7 @@ fn lowest<L: Ledger>(
     least
 }
 
-// Gives a row a share, or none.
+// Fixes the flow under one number at a share, or makes it unfixed.
 fn set_share(flows: &mut Slab<FlowRow>, id: usize, share: Option<u64>)
     ensures changed { get flows.new id ≡ option_map (with_share share) (get flows.old id) }
     ensures others { (other : ℕ) → other ≢ id → get flows.new other ≡ get flows.old other }
@@ -218,7 +220,7 @@ fn unfix_all(flows: &mut Slab<FlowRow>)
     }
 }
 
-// Whether an unfixed flow is at this level.
+// Whether the flow under one number isn't fixed and its least limit is this level.
 fn is_at<L: Ledger>(
     flows: &Slab<FlowRow>,
     uses: &Slab<Use>,
@@ -268,7 +270,7 @@ fn fix_row<L: Ledger>(
     }
 }
 
-// Fixes each unfixed flow that is at this level.
+// The third pass: fixes each unfixed flow that is at this level, all by the same counts.
 fn fix_all<L: Ledger>(
     flows: &mut Slab<FlowRow>,
     uses: &Slab<Use>,
@@ -290,7 +292,7 @@ fn fix_all<L: Ledger>(
     }
 }
 
-// Fills all rows: each flow gets its share.
+// Gives each flow its share. After as many steps as there are flows all are fixed, mostly long before.
 pub(crate) fn fill<L: Ledger>(
     flows: &mut Slab<FlowRow>,
     uses: &Slab<Use>,

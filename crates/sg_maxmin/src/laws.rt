@@ -1,4 +1,6 @@
 //! Laws of filling, each the contract of a function that does nothing.
+ghost use Rattle.std.specs.Prelude.{◌≡◌, [], ◌∷◌, Some, None};
+ghost use Rattle.sg_maxmin.specs.Fill.{fill, flow};
 ghost use Rattle.sg_maxmin.specs.Laws.{FillsApart, FillsFairly, FixesAll, IsHeld, KeepsBound, KeepsShare, LevelRises, SharesSame, SumsChange};
 
 /// Progressive filling is max-min fair in whole units: on each resource the shares add up to at most its capacity,
@@ -46,4 +48,15 @@ pub fn sums_change()
 /// The flow under a number is one of those that the system holds.
 pub fn is_held()
     ensures { IsHeld }
+{}
+
+/// Fillings that were worked out by hand: of these capacities and these flows, each with its uses and its bound,
+/// these are the shares.
+pub fn worked_examples()
+    ensures alike { fill (10 ∷ []) (flow (0 ∷ []) (Some 10) ∷ flow (0 ∷ []) (Some 10) ∷ flow (0 ∷ []) (Some 10) ∷ []) ≡ 3 ∷ 3 ∷ 3 ∷ [] }
+    ensures two_links { fill (5 ∷ 5 ∷ []) (flow (0 ∷ []) None ∷ flow (0 ∷ 1 ∷ []) None ∷ flow (1 ∷ []) None ∷ []) ≡ 2 ∷ 2 ∷ 2 ∷ [] }
+    ensures left_by_a_bound { fill (10 ∷ []) (flow (0 ∷ []) (Some 2) ∷ flow (0 ∷ []) None ∷ flow (0 ∷ []) None ∷ []) ≡ 2 ∷ 4 ∷ 4 ∷ [] }
+    ensures left_by_a_link { fill (2 ∷ 10 ∷ []) (flow (0 ∷ 1 ∷ []) None ∷ flow (1 ∷ []) None ∷ flow (1 ∷ []) None ∷ []) ≡ 2 ∷ 4 ∷ 4 ∷ [] }
+    ensures bounds_alone { fill (1 ∷ []) (flow [] (Some 7) ∷ flow [] (Some 9) ∷ flow (0 ∷ []) (Some 5) ∷ []) ≡ 7 ∷ 9 ∷ 1 ∷ [] }
+    ensures nothing { fill (3 ∷ []) (flow (0 ∷ []) None ∷ flow (0 ∷ []) None ∷ flow (0 ∷ []) None ∷ flow (0 ∷ []) (Some 2) ∷ []) ≡ 0 ∷ 0 ∷ 0 ∷ 0 ∷ [] }
 {}

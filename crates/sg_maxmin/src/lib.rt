@@ -9,7 +9,7 @@ mod uses;
 
 pub use laws::{
     fills_apart, fixes_all, is_fair, is_held, keeps_bound, keeps_share, level_rises, shares_same,
-    sums_change,
+    sums_change, worked_examples,
 };
 pub use system::{FlowId, System};
 

@@ -1,6 +1,8 @@
 //! The system of capacities and flows: which flow uses which resources, and the share that each gets.
 ghost use Rattle.std.specs.Prelude.{◌≡◌, ◌≤◌, ◌<◌, ◌+◌, [], length, Some, None, IsSome, IfSome, IfOk, OnOk, slice_index};
-ghost use Rattle.sg_maxmin.specs.Sharing.{flow_at, AreShares, Changes, IsFlow, KeepsShares, use_count};
+ghost use Rattle.sg_maxmin.specs.Fair.{IsFair};
+ghost use Rattle.sg_maxmin.specs.Fill.{share_of};
+ghost use Rattle.sg_maxmin.specs.Sharing.{flow_at, held, AreShares, Changes, IsFlow, KeepsShares, use_count};
 
 use crate::filling::fill;
 use crate::flow_row::FlowRow;
@@ -120,10 +122,11 @@ impl System {
         unchain(&mut self.uses, flow, row.count, row.first);
     }
 
-    /// Gives each flow its share by progressive filling over the whole system. `steps` counts the looks at uses:
-    /// each use is looked at once at least.
+    /// Gives each flow its share by progressive filling over the whole system; the shares are max-min fair.
+    /// `steps` counts the looks at uses: each use is looked at once at least.
     pub fn solve<L: Ledger>(&mut self, steps: &mut Steps<L>)
         ensures shares { AreShares self.new }
+        ensures fair { IsFair self.new.capacities (held self.new.slots) (share_of self.new.capacities (held self.new.slots)) }
         ensures kept { self.new ≡ record self.old { shares = self.new.shares } }
         ensures looks { steps.old + use_count self.old ≤ steps.new }
     {

@@ -7,7 +7,8 @@ use std::marker::Brand;
 use std::sync::ledger::{Blank, Ledger};
 use std::test::Fail;
 
-fn shares_of<L: Ledger>(alloc: Global, blank: Blank) -> Result<(u64, u64, u64, u64), Memory>
+// two links, a flow over each and one over both, and one that no link carries
+fn over_two_links<L: Ledger>(alloc: Global, blank: Blank) -> Result<(u64, u64, u64, u64), Memory>
     requires name { blank.name ≡ L.name }
     requires parts { blank.parts ≡ L.parts }
     requires some { 0 < blank.parts }
@@ -15,24 +16,60 @@ fn shares_of<L: Ledger>(alloc: Global, blank: Blank) -> Result<(u64, u64, u64, u
     let mut steps = Steps::<L>::new(blank);
     let mut system = System::new(alloc, &[5, 5])?;
     system.reserve(4, 4)?;
-    let a = system.add(&[0], None);
-    let b = system.add(&[0, 1], None);
-    let c = system.add(&[1], Some(9));
-    let d = system.add(&[], Some(7));
+    let one = system.add(&[0], None);
+    let both = system.add(&[0, 1], None);
+    let other = system.add(&[1], Some(9));
+    let free = system.add(&[], Some(7));
     system.solve(&mut steps);
     Ok((
-        system.share(a),
-        system.share(b),
-        system.share(c),
-        system.share(d),
+        system.share(one),
+        system.share(both),
+        system.share(other),
+        system.share(free),
     ))
 }
 
+// the shares of two flows after a solve, then of what stays and what comes before the next, and after it
+fn as_flows_change<L: Ledger>(alloc: Global, blank: Blank) -> Result<[u64; 6], Memory>
+    requires name { blank.name ≡ L.name }
+    requires parts { blank.parts ≡ L.parts }
+    requires some { 0 < blank.parts }
+{
+    let mut steps = Steps::<L>::new(blank);
+    let mut system = System::new(alloc, &[10])?;
+    system.reserve(3, 3)?;
+    let stays = system.add(&[0], None);
+    let goes = system.add(&[0], Some(2));
+    system.solve(&mut steps);
+    let (first, second) = (system.share(stays), system.share(goes));
+    system.remove(goes);
+    let comes = system.add(&[0], Some(3));
+    let (third, fourth) = (system.share(stays), system.share(comes));
+    system.solve(&mut steps);
+    Ok([
+        first,
+        second,
+        third,
+        fourth,
+        system.share(stays),
+        system.share(comes),
+    ])
+}
+
 #[test]
-fn levels(rt: HostRuntime) -> Result<(), Fail> {
+fn fills_two_links(rt: HostRuntime) -> Result<(), Fail> {
     assert_eq!(rt;
-        shares_of::<Brand>(rt.alloc(), Blank::new(1))?,
+        over_two_links::<Brand>(rt.alloc(), Blank::new(1))?,
         (2, 2, 2, 7)
+    );
+    Ok(())
+}
+
+#[test]
+fn keeps_shares_until_the_next_solve(rt: HostRuntime) -> Result<(), Fail> {
+    assert_eq!(rt;
+        as_flows_change::<Brand>(rt.alloc(), Blank::new(1))?,
+        [8, 2, 8, 0, 7, 3]
     );
     Ok(())
 }

@@ -1,7 +1,8 @@
 use Rattle.std.proofs.Common.{◌≡◌, ◌-◌, length, map, ap, ap₂, subst, ◌∙◌, arith}
 use Rattle.std.proofs.lemmas.List.{with_items_is}
 use Rattle.slab.specs.Slab.{slab_len}
-use Rattle.sg_maxmin.specs.Sharing.{use_count}
+use Rattle.sg_maxmin.specs.Sharing.{held, use_count}
+use Rattle.sg_maxmin.proofs.Proved.{is_fair_lem}
 use Rattle.sg_maxmin.specs.Uses.{flows_of, share_in}
 use Rattle.sg_maxmin.specs.Counting.{AreRowShares}
 use Rattle.sg_maxmin.proofs.Counts.{rows_same}
@@ -36,3 +37,10 @@ pub returns-clause-looks : goal.returns-clause-looks
 returns-clause-looks g c =
     let count = count_is c.self.inside.capacities.items c.self.inside.flows.slots c.self.inside.uses.slots c.self.invariant.0 in
     omega (arith, c.fill.ensures.looks, count, ap (λ s. use_count s) c.self.view_is)
+
+pub returns-clause-fair : goal.returns-clause-fair
+returns-clause-fair g c =
+    let caps = c.self.inside.capacities.items in
+    let rows = c.fill.new.flows.slots in
+    let uses = c.self.inside.uses.slots in
+    is_fair_lem caps (held (flows_of rows uses)) (have_limits caps rows uses (rows_same caps uses c.self.inside.flows.slots rows c.fill.ensures.same c.self.invariant.0))

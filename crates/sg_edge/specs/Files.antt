@@ -1,0 +1,68 @@
+-- What the parts show, and what the calls do to them.
+use Rattle.std.specs.Prelude.{◌≡◌, ◌≢◌, ◌<◌, ◌≤◌, ◌++◌, ℕ, List, [], length, Option, None, Some, if◌then◌else◌, ◌==◌, IsSome}
+use Rattle.sg_edge.specs.declared.files.Part.{Part}
+use Rattle.sg_edge.specs.declared.files.Stage.{Stage}
+use Rattle.sg_edge.specs.declared.files.Stage.TheVariants.{Fresh, Begun, Over, Broken}
+
+-- the stage of a part, the bytes that are left where they are told, and how many of its calls have failed
+pub record PartView : Type 0 where
+  pub stage : Stage
+  pub left : Option (List ℕ)
+  pub faults : ℕ
+
+-- these bytes, and then those that are left, where they are told
+abbrev pub before : List ℕ → Option (List ℕ) → Option (List ℕ)
+before bytes None = None
+before bytes (Some rest) = Some (bytes ++ rest)
+
+-- no bytes are left, where they are told
+abbrev pub NoneLeft : Option (List ℕ) → Type 0
+NoneLeft None = Unit {0}
+NoneLeft (Some rest) = rest ≡ []
+
+-- the part is open and has lost nothing
+pub record Begins (old new : PartView) : Type 0 where
+  pub stage : new.stage ≡ Begun
+  pub left : new.left ≡ old.left
+  pub faults : new.faults ≡ old.faults
+
+-- a call failed at the part and took nothing
+pub record Breaks (old new : PartView) : Type 0 where
+  pub stage : new.stage ≡ Broken
+  pub left : new.left ≡ old.left
+  pub faults : old.faults < new.faults
+
+-- these bytes were taken; where there are none, that is the end
+pub record Takes (bytes : List ℕ) (old new : PartView) : Type 0 where
+  pub left : old.left ≡ before bytes new.left
+  pub stage : new.stage ≡ (if length bytes == 0 then Over else Begun)
+  pub end : length bytes ≡ 0 → NoneLeft new.left
+  pub faults : new.faults ≡ old.faults
+
+-- no other part changed
+abbrev pub Only : Part → (Part → PartView) → (Part → PartView) → Type 0
+Only part old new = (q : Part) → q ≢ part → new q ≡ old q
+
+-- these bytes were taken, and they are all or as many as the limit
+pub record ReadsWhole (limit : ℕ) (bytes : List ℕ) (old new : PartView) : Type 0 where
+  pub left : old.left ≡ before bytes new.left
+  pub most : length bytes ≤ limit
+  pub whole : length bytes < limit → NoneLeft new.left
+  pub not_broken : new.stage ≢ Broken
+  pub faults : new.faults ≡ old.faults
+
+-- a read failed, after fewer bytes than the limit
+pub record ReadsFault (limit : ℕ) (old new : PartView) : Type 0 where
+  pub stage : new.stage ≡ Broken
+  pub bytes : List ℕ
+  pub left : old.left ≡ before bytes new.left
+  pub fewer : length bytes < limit
+  pub faults : old.faults < new.faults
+
+-- a part with these bytes, none of them taken
+abbrev pub fresh_view : List ℕ → PartView
+fresh_view bytes = record { stage = Fresh; left = Some bytes; faults = 0 }
+
+-- a part that tells its bytes goes on telling them
+abbrev pub KeepsTelling : PartView → PartView → Type 0
+KeepsTelling old new = IsSome old.left → IsSome new.left

@@ -1,0 +1,22 @@
+-- What the streams hold.
+use Rattle.std.specs.Prelude.{◌≡◌, ◌≢◌, ◌++◌, ℕ, List, Option, None, Some}
+use Rattle.sg_edge.specs.declared.sinks.Stream.{Stream}
+
+-- what is held, and then these bytes, where it is told
+abbrev pub gain : Option (List ℕ) → List ℕ → Option (List ℕ)
+gain None bytes = None
+gain (Some held) bytes = Some (held ++ bytes)
+
+-- no other stream changed
+abbrev pub SameBut : Stream → (Stream → Option (List ℕ)) → (Stream → Option (List ℕ)) → Type 0
+SameBut to old new = (s : Stream) → s ≢ to → new s ≡ old s
+
+-- of the text a front was appended, and this rest was not
+pub record Written (text rest : List ℕ) (old new : Option (List ℕ)) : Type 0 where
+  pub done : List ℕ
+  pub split : text ≡ done ++ rest
+  pub held : new ≡ gain old done
+
+-- a front of the text was appended
+abbrev pub GainsFront : List ℕ → Option (List ℕ) → Option (List ℕ) → Type 0
+GainsFront text old new = (rest : List ℕ) × Written text rest old new

@@ -1,0 +1,27 @@
+//! What the simulator reads and writes: three input parts and two output streams, and stand-ins for both in
+//! memory.
+//!
+//! Whoever reads real files or writes to a real terminal implements [`Files`] and [`Sinks`]. All layers above
+//! know these two traits alone.
+#![tactic(auto)]
+
+mod files;
+mod loading;
+mod mem_files;
+mod mem_part;
+mod mem_sinks;
+mod mem_stream;
+mod numbers;
+mod sinks;
+mod sure_files;
+mod sure_sinks;
+#[cfg(test)]
+mod tests;
+
+pub use files::{Failed, Files, Part, Stage};
+pub use loading::{Loaded, ReadError, load, read_whole};
+pub use mem_files::MemFiles;
+pub use mem_sinks::MemSinks;
+pub use sinks::{Sinks, Stream, write_all};
+pub use sure_files::SureFiles;
+pub use sure_sinks::SureSinks;

@@ -1,0 +1,120 @@
+//! Three parts in memory, whose calls fail where they are told to.
+ghost use Rattle.std.specs.Prelude.{◌≡◌, ◌+◌, ◌<◌, ◌≤◌, ◌&&◌, length, take, min, not, is_ok, IfOk, OnOk, OnErr};
+ghost use Rattle.std.specs.Option.{option_copied};
+ghost use Rattle.sg_edge.specs.declared.files.Stage.TheVariants.{Fresh, Begun};
+ghost use Rattle.sg_edge.specs.Calls.{steps_of};
+ghost use Rattle.sg_edge.specs.Files.{Begins, Breaks, Takes, Only};
+
+use crate::files::{Failed, Files, Part, Stage};
+use crate::mem_part::MemPart;
+use crate::numbers::is_among;
+use sg_base::Memory;
+use std::alloc::Global;
+
+/// Three parts in memory, some of them maybe not there, whose calls fail where they are told to.
+///
+/// A call fails exactly where its number is among those to fail, or it begins a part that isn't there. Calls of
+/// `begin` and `read` are counted together from 1. A read takes as many bytes as there are and the buffer holds.
+#[derive(Drop)]
+pub struct MemFiles {
+    platform: MemPart,
+    deployment: MemPart,
+    script: MemPart,
+    failing: Vec<u64>,
+    calls: u128,
+    // Each call takes a byte or moves a stage on, so the count of calls can't wrap.
+    ghost few: { calls ≤ (platform.taken + steps_of platform.stage) + (deployment.taken + steps_of deployment.stage) + (script.taken + steps_of script.stage) },
+}
+
+impl MemFiles {
+    ghost use Rattle.sg_edge.specs.MemFiles.{calls_of, failing_of, mem_left, StartsAs};
+
+    /// Parts with these bytes, or none, and the numbers of the calls that are to fail.
+    pub fn new(
+        alloc: Global,
+        platform: Option<&[u8]>,
+        deployment: Option<&[u8]>,
+        script: Option<&[u8]>,
+        failing: &[u64],
+    ) -> Result<MemFiles, Memory>
+        ensures platform { IfOk result (λ m. StartsAs m Part.Platform (option_copied platform.entry)) }
+        ensures deployment { IfOk result (λ m. StartsAs m Part.Deployment (option_copied deployment.entry)) }
+        ensures script { IfOk result (λ m. StartsAs m Part.Script (option_copied script.entry)) }
+        ensures failing { IfOk result (λ m. failing_of m ≡ failing.now) }
+        ensures calls { IfOk result (λ m. calls_of m ≡ 0) }
+    {
+        Ok(MemFiles {
+            platform: MemPart::new(alloc, platform)?,
+            deployment: MemPart::new(alloc, deployment)?,
+            script: MemPart::new(alloc, script)?,
+            failing: Vec::from_slice(alloc, failing)?,
+            calls: 0,
+        })
+    }
+
+    /// The bytes of a part that were not taken.
+    pub fn left(&self, part: Part) -> &[u8]
+        ensures { result.now ≡ mem_left self.now part }
+    {
+        match part {
+            Part::Platform => &self.platform.bytes[self.platform.taken..],
+            Part::Deployment => &self.deployment.bytes[self.deployment.taken..],
+            Part::Script => &self.script.bytes[self.script.taken..],
+        }
+    }
+}
+
+impl Files for MemFiles {
+    ghost use Rattle.sg_edge.specs.MemFiles.{mem_view, mem_over, call_fails, is_there, mem_left, CountsCall};
+
+    ghost shows = { mem_view };
+
+    ghost nothing_left = { mem_over };
+
+    fn begin(&mut self, part: Part, _name: &str) -> Result<(), Failed>
+        requires { (mem_view self.old part).stage ≡ Fresh }
+        ensures begun { OnOk result (Begins (mem_view self.old part) (mem_view self.new part)) }
+        ensures failed { OnErr result (Breaks (mem_view self.old part) (mem_view self.new part)) }
+        ensures others { Only part (mem_view self.old) (mem_view self.new) }
+        ensures exact { is_ok result ≡ (is_there self.old part && not (call_fails self.old)) }
+        ensures counted { CountsCall self.old self.new }
+    {
+        let call = self.calls + 1;
+        let fails = is_among(&self.failing, call);
+        self.calls = call;
+        match part {
+            Part::Platform => self.platform.begin(fails),
+            Part::Deployment => self.deployment.begin(fails),
+            Part::Script => self.script.begin(fails),
+        }
+    }
+
+    fn read(&mut self, part: Part, buf: &mut [u8]) -> Result<usize, Failed>
+        requires begun { (mem_view self.old part).stage ≡ Begun }
+        requires room { 0 < length buf.old }
+        ensures count { IfOk result (λ n. n ≤ length buf.new) }
+        ensures most { IfOk result (λ n. n ≡ min (length buf.old) (length (mem_left self.old part))) }
+        ensures took { IfOk result (λ n. Takes (take n buf.new) (mem_view self.old part) (mem_view self.new part)) }
+        ensures failed { OnErr result (Breaks (mem_view self.old part) (mem_view self.new part)) }
+        ensures others { Only part (mem_view self.old) (mem_view self.new) }
+        ensures exact { is_ok result ≡ not (call_fails self.old) }
+        ensures counted { CountsCall self.old self.new }
+    {
+        let call = self.calls + 1;
+        let fails = is_among(&self.failing, call);
+        self.calls = call;
+        match part {
+            Part::Platform => self.platform.read(fails, buf),
+            Part::Deployment => self.deployment.read(fails, buf),
+            Part::Script => self.script.read(fails, buf),
+        }
+    }
+
+    fn stage(&self, part: Part) -> Stage {
+        match part {
+            Part::Platform => self.platform.stage,
+            Part::Deployment => self.deployment.stage,
+            Part::Script => self.script.stage,
+        }
+    }
+}

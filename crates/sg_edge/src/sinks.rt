@@ -1,0 +1,58 @@
+//! The two outputs.
+ghost use Rattle.std.specs.Prelude.{◌≡◌, ◌<◌, ◌≤◌, ℕ, List, Option, length, take, IfOk, OnOk, OnErr};
+ghost use Rattle.sg_edge.specs.declared.sinks.Stream.{Stream};
+ghost use Rattle.sg_edge.specs.Sinks.{gain, SameBut, GainsFront};
+
+use crate::files::Failed;
+
+/// An output stream.
+#[derive(Clone, Copy, Debug, PartialEq, Eq)]
+pub enum Stream {
+    Out,
+    Err,
+}
+
+/// Where the two streams are written to.
+///
+/// An implementation shows contracts what each stream holds, or `None` where nobody can know, and how many writes
+/// have failed, on either stream. The count rises exactly in a write that answers `Failed`. Since no write follows
+/// one that failed, a truth value serves an implementation as its count.
+pub trait Sinks {
+    /// What each stream holds, where that is told.
+    ghost held: { Self → Stream → Option (List ℕ) };
+
+    /// How many writes have failed.
+    ghost faults: { Self → ℕ };
+
+    /// Appends the first bytes of the piece, at least one, and answers how many.
+    ///
+    /// A device that takes nothing fails. A write that fails appends nothing. The other stream stays as it is.
+    fn write(&mut self, to: Stream, piece: &[u8]) -> Result<usize, Failed>
+        requires some { 0 < length piece.now }
+        requires sound { faults self.old ≡ 0 }
+        ensures count { IfOk result (λ n. (0 < n) × (n ≤ length piece.now)) }
+        ensures wrote { IfOk result (λ n. held self.new to ≡ gain (held self.old to) (take n piece.now)) }
+        ensures sound { OnOk result (faults self.new ≡ faults self.old) }
+        ensures nothing { OnErr result (held self.new to ≡ held self.old to) }
+        ensures failed { OnErr result (faults self.old < faults self.new) }
+        ensures other { SameBut to (held self.old) (held self.new) };
+}
+
+/// Appends the whole text, piece by piece.
+///
+/// After a failure the stream has gained a front of the text, maybe an empty one, and the count has risen.
+pub fn write_all<O: Sinks>(out: &mut O, to: Stream, text: &[u8]) -> Result<(), Failed>
+    requires { O.faults out.old ≡ 0 }
+    ensures wrote { OnOk result (O.held out.new to ≡ gain (O.held out.old to) text.now) }
+    ensures sound { OnOk result (O.faults out.new ≡ 0) }
+    ensures front { OnErr result (GainsFront text.now (O.held out.old to) (O.held out.new to)) }
+    ensures failed { OnErr result (0 < O.faults out.new) }
+    ensures other { SameBut to (O.held out.old) (O.held out.new) }
+{
+    let mut rest = text;
+    while !rest.is_empty() {
+        let n = out.write(to, rest)?;
+        rest = &rest[n..];
+    }
+    Ok(())
+}

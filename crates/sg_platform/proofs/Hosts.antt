@@ -1,0 +1,25 @@
+-- The row of a name is below the count of the rows.
+use Rattle.std.proofs.Common.{◌≡◌, ℕ, ◌+◌, ◌<◌, ◌≤◌, ◌^◌, IfSome, List, [], ◌∷◌, length, Some, arith}
+use Rattle.std.specs.Map.{lookup}
+use Rattle.std.specs.Str.{bytes_eq}
+use Rattle.sg_platform.specs.Index.{host_names, host_number, names_if_replay, replay_names, replay_number}
+use Rattle.sg_platform.specs.declared.rows.ActorRow.{ActorRow}
+use Rattle.sg_platform.specs.declared.rows.HostRow.{HostRow}
+use Rattle.sg_tree.proofs.Bounds.{along_below, below_all, numbered_below}
+use Rattle.sg_tree.specs.Along.{along}
+
+pub host_below : (hosts : List HostRow) (q : List ℕ) → IfSome (host_number hosts q) (λ row. row < length hosts)
+host_below hosts q =
+    below_all _ (0 + 0 + length hosts) (length hosts) (omega arith)
+    (along_below (bytes_eq q) host_names 0 (λ j host. below_all _ (j + 1) (0 + j + 1) (omega arith) (numbered_below (bytes_eq q) j (host.id ∷ []))) 0 hosts)
+
+pub hosts_small : (hosts : List HostRow) (q : List ℕ) → length hosts ≤ 16384 → IfSome (host_number hosts q) (λ row. row < 4294967296)
+hosts_small hosts q few = below_all _ (length hosts) 4294967296 (omega (arith, few)) (host_below hosts q)
+
+replay_within : (actors : List ActorRow) (q : List ℕ) → IfSome (replay_number actors q) (λ row. row < length actors)
+replay_within actors q =
+    below_all _ (0 + 0 + length actors) (length actors) (omega arith)
+    (along_below (bytes_eq q) replay_names 0 (λ j actor. below_all _ (j + 1) (0 + j + 1) (omega arith) (numbered_below (bytes_eq q) j (names_if_replay actor.function actor.name))) 0 actors)
+
+pub replay_below : (actors : List ActorRow) (q : List ℕ) (row : ℕ) → replay_number actors q ≡ Some row → row < length actors
+replay_below actors q row found = let within = rw found at (replay_within actors q) in within

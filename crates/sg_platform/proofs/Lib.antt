@@ -1,0 +1,4 @@
+pub mod Deployed
+pub mod Hosts
+pub mod KeptRows
+pub mod Whole

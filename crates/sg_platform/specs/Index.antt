@@ -1,0 +1,32 @@
+-- Rows by their names.
+use Rattle.std.specs.Prelude.{ℕ, Bool, List, [], ◌∷◌, Option}
+use Rattle.std.specs.Map.{lookup}
+use Rattle.std.specs.Str.{bytes_eq}
+use Rattle.std.specs.Global.{Vec}
+use Rattle.sg_platform.specs.declared.rows.ActorRow.{ActorRow}
+use Rattle.sg_platform.specs.declared.rows.Function.{Function}
+use Rattle.sg_platform.specs.declared.rows.Function.TheVariants.{Replay}
+use Rattle.sg_platform.specs.declared.rows.HostRow.{HostRow}
+use Rattle.sg_tree.specs.Along.{along}
+use Rattle.sg_tree.specs.Names.{Finds, numbered}
+
+-- the key is these bytes
+abbrev pub by_bytes : List ℕ → Vec ℕ → Bool
+by_bytes bytes key = bytes_eq bytes key.items
+
+-- the row of the first host of a name
+abbrev pub host_names : ℕ → HostRow → List (List ℕ × ℕ)
+host_names i host = numbered i (host.id ∷ [])
+
+abbrev pub host_number : List HostRow → Finds
+host_number hosts name = lookup (bytes_eq name) (along host_names 0 hosts)
+
+-- the row of the first actor of a name that replays
+abbrev pub names_if_replay : Function → List ℕ → List (List ℕ)
+names_if_replay Replay name = name ∷ []
+
+abbrev pub replay_names : ℕ → ActorRow → List (List ℕ × ℕ)
+replay_names i actor = numbered i (names_if_replay actor.function actor.name)
+
+abbrev pub replay_number : List ActorRow → Finds
+replay_number actors name = lookup (bytes_eq name) (along replay_names 0 actors)

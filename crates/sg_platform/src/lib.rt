@@ -1,0 +1,16 @@
+//! Reads platforms and deployments in TOML. A text that is refused is told its fault of least place: table, then
+//! row, then key; at one place the one of least kind.
+#![tactic(auto)]
+
+mod build;
+mod deployment;
+mod index;
+mod platform;
+mod rows;
+#[cfg(test)]
+mod tests;
+
+pub use deployment::{Deployment, DeploymentFault, read_deployment};
+pub use platform::{PlatformFault, PlatformText, read_platform};
+pub use rows::{ActorRow, Function, HostRow, Routing, ZoneRow};
+pub use sg_tree::Place;

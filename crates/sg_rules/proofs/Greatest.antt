@@ -1,0 +1,42 @@
+-- The greatest value of each reader.
+use Rattle.std.proofs.Common.{◌≡◌, ℕ, ◌≤◌, ◌==◌, Bool, true, false, cond, nat_le, List, length, Option, Some, None, Result, Ok, Err, IfOk, inl, inr, arith}
+use Rattle.std.proofs.lemmas.Bool.{cases_Bool}
+use Rattle.std.proofs.lemmas.Bool.Decides.{nat_tests}
+use Rattle.sg_rules.specs.Units.{value_of, speed_value}
+use Rattle.sg_units.specs.Amount.{up_to, sized, read_by, speed_of, is_short, value_of as amount}
+use Rattle.sg_units.specs.Number.{Number, number_of}
+use Rattle.sg_units.specs.Units.{Units, size_of, speed_units}
+use Rattle.sg_units.specs.declared.fault.AmountFault.{AmountFault}
+use Rattle.sg_units.specs.declared.fault.AmountFault.TheVariants.{NotANumber, TooLarge}
+use Rattle.sg_units.specs.declared.units.Ratio.{Ratio}
+
+abbrev Within : ℕ → Result ℕ AmountFault → Type 0
+Within greatest r = IfOk r (λ value. value ≤ greatest)
+
+chosen : (b : Bool) (r s : Result ℕ AmountFault) (greatest : ℕ) → Within greatest r → Within greatest s → Within greatest (cond b r s)
+chosen true r s greatest p q = p
+chosen false r s greatest p q = q
+
+within_up_to : (greatest value : ℕ) → Within greatest (up_to greatest value)
+within_up_to greatest value =
+    elim (cases_Bool (nat_le value greatest)) [
+      | inl fits ↦ rw fits (let le : value ≤ greatest = grind (arith, nat_tests) in le)
+      | inr over ↦ rw over tt
+    ]
+
+within_sized : (greatest : ℕ) (n : Number) (size : Option Ratio) → Within greatest (sized greatest n size)
+within_sized greatest n None = tt
+within_sized greatest n (Some size) = chosen (is_short n) (up_to greatest (amount n size)) (Err TooLarge) greatest (within_up_to greatest (amount n size)) tt
+
+pub within_read : (units : Units) (greatest : ℕ) (text : List ℕ) → Within greatest (read_by units greatest text)
+within_read units greatest text =
+    let n = number_of text in
+    chosen (length n.whole == 0) (Err NotANumber) (sized greatest n (size_of units n.unit)) greatest tt (within_sized greatest n (size_of units n.unit))
+
+pub value_within : (greatest : ℕ) (r : Result ℕ AmountFault) (n : ℕ) → Within greatest r → value_of r ≡ Some n → n ≤ greatest
+value_within greatest (Ok value) n within same = let e : value ≡ n = cc in omega (arith, within, e)
+value_within greatest (Err fault) n within same = cc
+
+pub speed_within : (text : List ℕ) (n : ℕ) → speed_value text ≡ Some n → n ≤ 1000000000000000
+unfolding speed_value
+speed_within text n same = value_within 1000000000000000 (speed_of text) n (within_read speed_units 1000000000000000 text) same

@@ -1,0 +1,126 @@
+-- What holds of the rows of a tree that has no fault.
+use Rattle.std.proofs.Common.{◌≡◌, ℕ, ◌+◌, ◌<◌, ◌≤◌, ◌==◌, Bool, true, false, not, nat_le, ◌&&◌, List, [], ◌∷◌, length, Option, Some, None, option_and_then, refl, sym, arith}
+use Rattle.std.proofs.lemmas.Bool.Decides.{nat_tests}
+use Rattle.std.specs.List.{All, AllByRecursion, list_all}
+use Rattle.sg_rules.proofs.TableLemmas.{few_rows}
+use Rattle.sg_rules.specs.Faults.{key_faults, row_faults, row_faults_at, rows_before, table_faults, table_kinds}
+use Rattle.sg_rules.specs.Names.{Known}
+use Rattle.sg_rules.specs.Rules.{host_kinds, id_kinds, is_between, is_name, is_name_byte, is_positive, key_kinds, kinds_at, rate_kinds, text_kinds, value_kinds, zone_kinds}
+use Rattle.sg_rules.specs.Tables.{key, keys_of, row_limit, shape_of, table_number, table_text, word_text}
+use Rattle.sg_rules.specs.declared.tables.Key.{Key}
+use Rattle.sg_rules.specs.declared.tables.Need.TheVariants.{Required, Optional}
+use Rattle.sg_rules.specs.declared.tables.Rule.{Rule}
+use Rattle.sg_rules.specs.declared.tables.Shape.TheVariants.{Text}
+use Rattle.sg_rules.specs.declared.tables.Table.{Table}
+use Rattle.sg_rules.specs.declared.tables.Word.{Word}
+use Rattle.sg_tree.proofs.Kept.{all_kept, empty_at, empty_left, empty_right}
+use Rattle.sg_tree.specs.Along.{along}
+use Rattle.sg_tree.specs.Faults.{broken, of_type}
+use Rattle.sg_tree.specs.Names.{Finds}
+use Rattle.sg_tree.specs.Tree.{rows_at, text_at}
+use Rattle.sg_tree.specs.declared.fault.Kind.{Kind}
+use Rattle.toml.specs.Data.{Data, Members, get, get_member, as_str}
+
+-- a rule that gives no kind is kept
+pub unbroken : (b : Bool) (kind : Kind) → broken b kind ≡ [] → b ≡ false
+unbroken true kind empty = cc
+unbroken false kind empty = refl
+
+pub not_false : (b : Bool) → not b ≡ false → b ≡ true
+not_false true e = refl
+not_false false e = sym e
+
+-- no more rows than the limit
+pub rows_few : (names : Known) (tree : Members) (table : Table) → table_faults names tree table ≡ [] → length (rows_at (table_text table) tree) ≤ row_limit table
+unfolding table_faults rows_at
+rows_few names tree table empty =
+    let none = empty_at _ _ _ (table_kinds table (get_member (table_text table) tree)) (empty_left _ _ empty) in
+    few_rows table (get_member (table_text table) tree) (rw none)
+
+-- no key of a row has a fault
+abbrev pub KeysKept : Known → ℕ → Data → List Key → Type 0
+KeysKept names number row keys = AllByRecursion (λ k. key_kinds names number row k ≡ []) keys
+
+keys_kept : (names : Known) (number t r : ℕ) (row : Data) (i : ℕ) (keys : List Key) → along (key_faults names number t r row) i keys ≡ [] → KeysKept names number row keys
+keys_kept names number t r row i [] empty = tt
+keys_kept names number t r row i (k ∷ ks) empty =
+    let here = key_faults names number t r row i k in
+    let rest = along (key_faults names number t r row) (i + 1) ks in
+    (empty_at t r (i + 1) (key_kinds names number row k) (empty_left here rest empty), keys_kept names number t r row (i + 1) ks (empty_right here rest empty))
+
+-- what follows for a row whose keys have no fault holds of each row
+pub rows_kept : (names : Known) (tree : Members) (table : Table) (P : Data → Type 0) → ((number : ℕ) (row : Data) → KeysKept names number row (keys_of table) → P row)
+    → table_faults names tree table ≡ [] → All P (rows_at (table_text table) tree)
+unfolding table_faults row_faults
+rows_kept names tree table P kept empty =
+    all_kept P (row_faults_at names (keys_of table) (rows_before names table) (table_number table))
+    (λ j row none. kept (rows_before names table + j) row (keys_kept names (rows_before names table + j) (table_number table) (j + 1) row 0 (keys_of table) (empty_right _ _ none)))
+    0 (rows_at (table_text table) tree) (empty_right _ _ empty)
+
+-- a text at a key that keeps its rule
+abbrev pub HasText : Known → ℕ → Data → Rule → Option (List ℕ) → Type 0
+HasText names number row rule found = (text : List ℕ) × (found ≡ Some text) × (text_kinds names number row rule text ≡ [])
+
+typed_text : (names : Known) (number : ℕ) (row : Data) (rule : Rule) (found : Option (List ℕ)) → of_type (text_kinds names number row rule) found ≡ [] → HasText names number row rule found
+typed_text names number row rule None empty = cc
+typed_text names number row rule (Some text) empty = (text, refl, empty)
+
+required_at : (names : Known) (number : ℕ) (row : Data) (word : Word) (rule : Rule) → shape_of rule ≡ Text → (d : Option Data) → kinds_at names number row (key word Required rule) d ≡ []
+    → HasText names number row rule (option_and_then as_str d)
+unfolding value_kinds
+required_at names number row word rule shape None empty = cc
+required_at names number row word rule shape (Some d) empty = typed_text names number row rule (as_str d) (rw shape at empty)
+
+-- a required text is there, and keeps its rule
+pub required_text : (names : Known) (number : ℕ) (row : Data) (word : Word) (rule : Rule) → shape_of rule ≡ Text → key_kinds names number row (key word Required rule) ≡ []
+    → HasText names number row rule (text_at (word_text word) row)
+unfolding key_kinds
+required_text names number row word rule shape empty = required_at names number row word rule shape (get (word_text word) row) empty
+
+optional_at : (names : Known) (number : ℕ) (row : Data) (word : Word) (rule : Rule) → shape_of rule ≡ Text → (d : Option Data) → kinds_at names number row (key word Optional rule) d ≡ []
+    → (text : List ℕ) → option_and_then as_str d ≡ Some text → text_kinds names number row rule text ≡ []
+unfolding value_kinds
+optional_at names number row word rule shape None empty text there = cc
+optional_at names number row word rule shape (Some d) empty text there = rw there at (rw shape at empty)
+
+-- an optional text, where it is there, keeps its rule
+pub optional_text : (names : Known) (number : ℕ) (row : Data) (word : Word) (rule : Rule) → shape_of rule ≡ Text → key_kinds names number row (key word Optional rule) ≡ []
+    → (text : List ℕ) → text_at (word_text word) row ≡ Some text → text_kinds names number row rule text ≡ []
+unfolding key_kinds
+optional_text names number row word rule shape empty text there = optional_at names number row word rule shape (get (word_text word) row) empty text there
+
+-- a new name has at most 64 bytes
+pub name_short : (numbers : Finds) (number : ℕ) (name : List ℕ) → id_kinds numbers number name ≡ [] → length name ≤ 64
+unfolding id_kinds is_name
+name_short numbers number name empty = short (length name) (list_all is_name_byte name) (not_false _ (unbroken _ _ (empty_left _ _ empty)))
+  where
+    short : (n : ℕ) (b : Bool) → (not (n == 0) && nat_le n 64) && b ≡ true → n ≤ 64
+    short n b named = grind (arith, nat_tests)
+
+-- a number within bounds
+pub between : (least end : ℕ) (found : Option ℕ) → is_between least end found ≡ true → (n : ℕ) × (found ≡ Some n) × (least ≤ n) × (n < end)
+between least end None within = cc
+between least end (Some n) within = (n, refl, low, high)
+  where
+    low : least ≤ n
+    low = grind (arith, nat_tests)
+
+    high : n < end
+    high = grind (arith, nat_tests)
+
+pub zone_there : (names : Known) (name : List ℕ) → zone_kinds names name ≡ [] → (n : ℕ) × (names.points name ≡ Some n) × (0 ≤ n) × (n < names.zones)
+unfolding zone_kinds
+zone_there names name empty = between 0 names.zones (names.points name) (not_false _ (unbroken _ _ empty))
+
+pub host_there : (names : Known) (name : List ℕ) → host_kinds names name ≡ [] → (n : ℕ) × (names.points name ≡ Some n) × (names.zones ≤ n) × (n < names.zones + names.hosts)
+unfolding host_kinds
+host_there names name empty = between names.zones (names.zones + names.hosts) (names.points name) (not_false _ (unbroken _ _ empty))
+
+-- a speed or a bandwidth is above zero
+pub rate_there : (value : Option ℕ) → rate_kinds value ≡ [] → (n : ℕ) × (value ≡ Some n) × (1 ≤ n)
+unfolding rate_kinds
+rate_there value empty = above value (not_false _ (unbroken _ _ empty))
+  where
+    above : (o : Option ℕ) → is_positive o ≡ true → (n : ℕ) × (o ≡ Some n) × (1 ≤ n)
+    above None positive = cc
+    above (Some n) positive = (n, refl, (let le : 1 ≤ n = grind (arith, nat_tests) in le))

@@ -1,0 +1,5 @@
+pub mod Greatest
+pub mod Kept
+pub mod NameLemmas
+pub mod Small
+pub mod TableLemmas

@@ -1,0 +1,55 @@
+-- The first fault of a table.
+use Rattle.std.proofs.Common.{◌≡◌, ◌<◌, ◌≤◌, true, nat_lt, List, map, length, Option, Some, None, option_and_then, ap, ◌∙◌, sym, inl, inr, arith}
+use Rattle.std.proofs.lemmas.List.{length-map}
+use Rattle.toml.specs.Data.{Members, get_member}
+use Rattle.toml.specs.View.{view}
+use Rattle.toml.specs.declared.value.Value.{Value}
+use Rattle.sg_tree.specs.Tree.{rows_at}
+use Rattle.sg_rules.specs.Names.{Known}
+use Rattle.sg_tree.specs.Along.{first}
+use Rattle.sg_tree.specs.Along.{along}
+use Rattle.sg_rules.specs.Faults.{row_faults_at, table_kinds, table_faults, rows_before}
+use Rattle.sg_rules.specs.Tables.{table_text, table_number, keys_of, row_limit}
+use Rattle.sg_tree.specs.declared.fault.Kind.{Kind}
+use Rattle.sg_rules.specs.declared.tables.Table.{Table}
+use Rattle.sg_rules.specs.declared.tables.Table.TheVariants.{Zone, Host, Actor}
+use Rattle.sg_tree.proofs.Along.{first_append_none, first_append_some, first_at_none, first_at_some, along_map}
+use Rattle.std.proofs.lemmas.Bool.{cases_Bool}
+use Rattle.std.proofs.lemmas.Bool.Decides.{nat_tests}
+use Rattle.sg_tree.specs.Faults.{broken, of_type}
+use Rattle.sg_tree.specs.Tree.{items_or_none, list_of}
+use Rattle.sg_tree.specs.declared.fault.Kind.TheVariants.{Limit}
+use Rattle.toml.specs.Data.{Data, Items, as_array}
+
+pub few_rows : (table : Table) (o : Option Data) → first (table_kinds table o) ≡ None → length (items_or_none (option_and_then as_array o)) ≤ row_limit table
+few_rows table None none = omega arith
+few_rows table (Some d) none = few_items table (as_array d) none
+  where
+    few_items : (table : Table) (o : Option Items) → first (of_type (λ items. broken (nat_lt (row_limit table) (length (list_of items))) Limit) o) ≡ None → length (items_or_none o) ≤ row_limit table
+    few_items table None none = omega arith
+    few_items table (Some items) none =
+        elim (cases_Bool (nat_lt (row_limit table) (length (list_of items)))) [
+          | inl over ↦ let told : first (broken true Limit) ≡ None = rw over at none in cc
+          | inr within ↦ grind (arith, nat_tests)
+        ]
+
+pub table_head : (names : Known) (tree : Members) (table : Table) (kind : Kind) → first (table_kinds table (get_member (table_text table) tree)) ≡ Some kind
+    → first (table_faults names tree table) ≡ Some (record { place = record { table = table_number table; row = 0; key = 0 }; kind = kind })
+unfolding table_faults
+table_head names tree table kind told = first_append_some _ _ _ (first_at_some _ _ _ _ kind told)
+
+pub table_rest : (names : Known) (tree : Members) (table : Table) (rows : List Value) → map view rows ≡ rows_at (table_text table) tree → first (table_kinds table (get_member (table_text table) tree)) ≡ None
+    → first (along (λ i row. row_faults_at names (keys_of table) (rows_before names table) (table_number table) i (view row)) 0 rows) ≡ first (table_faults names tree table)
+unfolding table_faults
+table_rest names tree table rows seen none =
+    let f = row_faults_at names (keys_of table) (rows_before names table) (table_number table) in
+    sym (ap first (along_map view f 0 rows)) ∙ ap (λ rs. first (along f 0 rs)) seen ∙ sym (first_append_none _ _ (first_at_none _ _ _ _ none))
+
+limit_small : (table : Table) → row_limit table < 1048576
+limit_small Zone = omega arith
+limit_small Host = omega arith
+limit_small Actor = omega arith
+
+pub few_at : (tree : Members) (table : Table) (rows : List Value) → map view rows ≡ rows_at (table_text table) tree → first (table_kinds table (get_member (table_text table) tree)) ≡ None → length rows < 1048576
+unfolding rows_at
+few_at tree table rows seen none = omega (arith, limit_small table, few_rows table (get_member (table_text table) tree) none, ap length seen, length-map rows view)

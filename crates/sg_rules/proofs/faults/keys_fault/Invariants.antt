@@ -1,0 +1,12 @@
+use Rattle.std.proofs.Common.{◌≡◌, drop}
+use Rattle.toml.specs.View.{view}
+use Rattle.sg_rules.specs.Names.{names_view}
+use Rattle.sg_tree.specs.Along.{first}
+use Rattle.sg_tree.specs.Along.{along}
+use Rattle.sg_rules.specs.Faults.{key_faults}
+use Rattle.sg_rules.proofs.faults.keys_fault.Given as goal
+
+abbrev pub invariant-loop-i : goal.invariant-loop-i
+invariant-loop-i l =
+    let f = key_faults (names_view l.names) l.number l.table l.row_number (view l.row) in
+    first (along f l.i (drop l.i l.keys)) ≡ first (along f 0 l.keys)

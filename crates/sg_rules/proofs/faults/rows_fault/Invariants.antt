@@ -1,0 +1,12 @@
+use Rattle.std.proofs.Common.{◌≡◌, drop}
+use Rattle.toml.specs.View.{view}
+use Rattle.sg_rules.specs.Names.{names_view}
+use Rattle.sg_tree.specs.Along.{first}
+use Rattle.sg_tree.specs.Along.{along}
+use Rattle.sg_rules.specs.Faults.{row_faults_at}
+use Rattle.sg_rules.proofs.faults.rows_fault.Given as goal
+
+abbrev pub invariant-loop-i : goal.invariant-loop-i
+invariant-loop-i l =
+    first (along (λ i row. row_faults_at (names_view l.names) l.keys l.before l.table i (view row)) l.i (drop l.i l.rows))
+    ≡ first (along (λ i row. row_faults_at (names_view l.names) l.keys l.before l.table i (view row)) 0 l.rows)

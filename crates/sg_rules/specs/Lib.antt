@@ -1,0 +1,5 @@
+pub mod Tables
+pub mod Units
+pub mod Names
+pub mod Rules
+pub mod Faults

@@ -1,0 +1,244 @@
+//! The first fault of a tree.
+ghost use Rattle.std.specs.Prelude.{◌≡◌, ◌<◌, ◌≤◌, ◌+◌, ◌^◌, length, map, codes};
+ghost use Rattle.std.specs.Prelude.{string_bytes};
+ghost use Rattle.toml.specs.Data.{get_member};
+ghost use Rattle.std.specs.List.{list_any, list_all};
+ghost use Rattle.std.specs.BTreeMap.{keys as map_keys};
+ghost use Rattle.std.specs.Str.{bytes_eq};
+ghost use Rattle.toml.specs.View.{view, table_view};
+ghost use Rattle.sg_rules.specs.Names.{names_view};
+ghost use Rattle.sg_tree.specs.Along.{first, along};
+ghost use Rattle.sg_tree.specs.Tree.{has_only};
+ghost use Rattle.sg_rules.specs.Rules.{key_text};
+ghost use Rattle.sg_rules.specs.Tables.{keys_of, row_limit, table_text};
+ghost use Rattle.sg_rules.specs.Faults.{key_faults, row_faults, row_faults_at, row_kinds, table_kinds, table_faults, rows_before, faults_of, top_kinds};
+
+use crate::checks::key_fault;
+use crate::names::Names;
+use crate::tables::{Key, Table};
+use sg_tree::{Fault, Kind, Place, rows_at, value_at};
+use toml::Value;
+
+/// The first fault of the keys of a row.
+fn keys_fault(
+    names: &Names,
+    number: usize,
+    table: u32,
+    row_number: u32,
+    keys: &[Key],
+    row: &Value,
+) -> Option<Fault>
+    requires { length keys.now < 100 }
+    ensures { result ≡ first (along (key_faults (names_view names.now) number table row_number (view row.now)) 0 keys.now) }
+{
+    for (i, key) in keys.iter().enumerate() {
+        if let Some(kind) = key_fault(names, number, row, *key) {
+            let place = Place {
+                table,
+                row: row_number,
+                key: i as u32 + 1,
+            };
+            return Some(Fault { place, kind });
+        }
+    }
+    None
+}
+
+fn is_key(keys: &[Key], name: &str) -> bool
+    ensures { result ≡ list_any (λ k. bytes_eq name.now k) (map key_text keys.now) }
+{
+    for key in keys {
+        if name == key.word.text() {
+            return true;
+        }
+    }
+    false
+}
+
+fn are_keys(keys: &[Key], members: &toml::Table) -> bool
+    ensures { result ≡ list_all (λ k. list_any (λ t. bytes_eq (string_bytes k) t) (map key_text keys.now)) (map_keys members.now) }
+{
+    members.keys().all(|name| is_key(keys, name.as_str()))
+}
+
+fn has_only(keys: &[Key], members: &toml::Table) -> bool
+    ensures { result ≡ has_only (map key_text keys.now) (table_view members.now) }
+{
+    are_keys(keys, members)
+}
+
+/// The first rule that a row breaks as a whole.
+fn whole_fault(keys: &[Key], row: &Value) -> Option<Kind>
+    ensures { result ≡ first (row_kinds keys.now (view row.now)) }
+{
+    match row.as_table() {
+        None => Some(Kind::WrongType),
+        Some(members) => {
+            if has_only(keys, members) {
+                None
+            } else {
+                Some(Kind::Unknown)
+            }
+        }
+    }
+}
+
+/// The first fault of a row, which has this number in its space.
+#[tactic(auto, unfolding(crate::specs::Faults::row_faults))]
+fn row_fault(
+    names: &Names,
+    keys: &[Key],
+    number: usize,
+    table: u32,
+    row_number: u32,
+    row: &Value,
+) -> Option<Fault>
+    requires { length keys.now < 100 }
+    ensures { result ≡ first (row_faults (names_view names.now) keys.now number table row_number (view row.now)) }
+{
+    if let Some(kind) = whole_fault(keys, row) {
+        let place = Place {
+            table,
+            row: row_number,
+            key: 0,
+        };
+        return Some(Fault { place, kind });
+    }
+    keys_fault(names, number, table, row_number, keys, row)
+}
+
+/// The first fault of the rows of a table, before which stand this many rows of its space.
+fn rows_fault(
+    names: &Names,
+    keys: &[Key],
+    before: usize,
+    table: u32,
+    rows: &[Value],
+) -> Option<Fault>
+    requires few_keys { length keys.now < 100 }
+    requires few_rows { length rows.now < 2 ^ 20 }
+    requires few_before { before < 2 ^ 63 }
+    ensures { result ≡ first (along (λ i row. row_faults_at (names_view names.now) keys.now before table i (view row)) 0 rows.now) }
+{
+    for (i, row) in rows.iter().enumerate() {
+        let found = row_fault(names, keys, before + i, table, i as u32 + 1, row);
+        if found.is_some() {
+            return found;
+        }
+    }
+    None
+}
+
+/// The first rule that a table breaks as a whole.
+#[tactic(auto, using(sg_tree::proofs::TreeLemmas::length_of_items))]
+fn head_fault(tree: &toml::Table, table: Table) -> Option<Kind>
+    ensures { result ≡ first (table_kinds table (get_member (table_text table) (table_view tree.now))) }
+{
+    match value_at(tree, table.text()) {
+        None => None,
+        Some(value) => match value.as_array() {
+            None => Some(Kind::WrongType),
+            Some(rows) => {
+                if rows.len() > table.row_limit() {
+                    Some(Kind::Limit)
+                } else {
+                    None
+                }
+            }
+        },
+    }
+}
+
+fn before(names: &Names, table: Table) -> usize
+    ensures { result ≡ rows_before (names_view names.now) table }
+{
+    match table {
+        Table::Host => names.zones,
+        _ => 0,
+    }
+}
+
+/// The first fault of a table.
+#[tactic(auto, using(crate::proofs::TableLemmas::table_rest, crate::proofs::TableLemmas::table_head, crate::proofs::TableLemmas::few_at))]
+fn table_fault(names: &Names, tree: &toml::Table, table: Table) -> Option<Fault>
+    requires { names.now.zones + names.now.hosts < 2 ^ 63 }
+    ensures { result ≡ first (table_faults (names_view names.now) (table_view tree.now) table) }
+{
+    match head_fault(tree, table) {
+        Some(kind) => {
+            let place = Place {
+                table: table.number(),
+                row: 0,
+                key: 0,
+            };
+            Some(Fault { place, kind })
+        }
+        None => {
+            let rows = rows_at(tree, table.text());
+            rows_fault(
+                names,
+                table.keys(),
+                before(names, table),
+                table.number(),
+                rows,
+            )
+        }
+    }
+}
+
+fn is_table(tables: &[Table], name: &str) -> bool
+    ensures { result ≡ list_any (λ k. bytes_eq name.now k) (map table_text tables.now) }
+{
+    for table in tables {
+        if name == table.text() {
+            return true;
+        }
+    }
+    false
+}
+
+fn are_tables(tables: &[Table], members: &toml::Table) -> bool
+    ensures { result ≡ list_all (λ k. list_any (λ t. bytes_eq (string_bytes k) t) (map table_text tables.now)) (map_keys members.now) }
+{
+    members.keys().all(|name| is_table(tables, name.as_str()))
+}
+
+fn has_only_tables(tables: &[Table], members: &toml::Table) -> bool
+    ensures { result ≡ has_only (map table_text tables.now) (table_view members.now) }
+{
+    are_tables(tables, members)
+}
+
+/// The first fault of these tables.
+fn tables_fault(names: &Names, tree: &toml::Table, tables: &[Table]) -> Option<Fault>
+    requires { names.now.zones + names.now.hosts < 2 ^ 63 }
+    ensures { result ≡ first (along (λ i table. table_faults (names_view names.now) (table_view tree.now) table) 0 tables.now) }
+{
+    for table in tables {
+        let found = table_fault(names, tree, *table);
+        if found.is_some() {
+            return found;
+        }
+    }
+    None
+}
+
+/// The first fault of a tree.
+#[tactic(auto, unfolding(crate::specs::Faults::faults_of))]
+pub fn first_fault(names: &Names, tables: &[Table], tree: &toml::Table) -> Option<Fault>
+    requires { names.now.zones + names.now.hosts < 2 ^ 63 }
+    ensures { result ≡ first (faults_of (names_view names.now) tables.now (table_view tree.now)) }
+{
+    if !has_only_tables(tables, tree) {
+        let place = Place {
+            table: 0,
+            row: 0,
+            key: 0,
+        };
+        return Some(Fault {
+            place,
+            kind: Kind::Unknown,
+        });
+    }
+    tables_fault(names, tree, tables)
+}

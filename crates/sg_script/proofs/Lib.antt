@@ -1,0 +1,13 @@
+pub mod Asking
+pub mod Chains
+pub mod FrontLemmas
+pub mod KnownLemmas
+pub mod Needs
+pub mod QueueLemmas
+pub mod Rows
+pub mod Spending
+pub mod Splits
+pub mod StandLemmas
+pub mod Steps
+pub mod Whole
+pub mod WordLemmas

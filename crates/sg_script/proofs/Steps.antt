@@ -1,0 +1,110 @@
+-- One step of reading on.
+use Rattle.std.proofs.Common.{◌≡◌, ◌≢◌, ◌<◌, ◌+◌, ◌∙◌, suc, sym, ap, refl, ℕ, Bool, List, [], ◌∷◌, ◌++◌, length, take, Option, None, Some, Result, Ok, Err, inl, inr, arith}
+use Rattle.std.proofs.lemmas.Bool.{cases_lt}
+use Rattle.std.proofs.lemmas.Bool.Decides.{nat_tests}
+use Rattle.std.proofs.lemmas.List.{length-set, get_or-set_other}
+use Rattle.sg_edge.specs.Files.{PartView}
+use Rattle.sg_edge.specs.declared.files.Stage.{Stage}
+use Rattle.sg_edge.specs.declared.files.Stage.TheVariants.{Fresh, Broken}
+use Rattle.sg_base.specs.declared.call.Action.{Action}
+use Rattle.sg_script.specs.declared.line.Entry.{Entry}
+use Rattle.sg_script.specs.Known.{Known}
+use Rattle.sg_script.specs.declared.fault.ScriptFault.{ScriptFault}
+use Rattle.sg_script.specs.declared.fault.ScriptFault.TheVariants.{Line, Read, Memory}
+use Rattle.std.specs.Prelude.{slice_get, slice_set}
+use Rattle.sg_script.specs.Asked.{judged, judgements, actions_of, first_bad, answer_by}
+use Rattle.sg_script.specs.Line.{Judgement}
+use Rattle.sg_script.specs.Front.{May, Leads, IsOpen}
+use Rattle.sg_script.specs.Queues.{queue_at}
+use Rattle.sg_script.specs.Stands.{Kept, answer_from}
+use Rattle.sg_script.specs.Steps.{Passes, LineIs, StepIs, settled, queued, IsOther, to_do, Answers}
+use Rattle.sg_script.proofs.StandLemmas.{moves_line, tells_line, tells_bad, tells_broken}
+use Rattle.sg_script.proofs.Chains.{reads_none, goes_not}
+
+-- a line that isn't bad is one of those allowed
+ok_few : (known : Known) (lines : ℕ) (line : List ℕ) (said : Option Entry) → judged known (lines + 1) line ≡ Ok said → lines < 100000000
+ok_few known lines line said is = elim (cases_lt 100000000 (lines + 1)) [
+  | inl late ↦ grind (arith, nat_tests)
+  | inr few ↦ omega arith
+]
+
+less : (stage : Stage) (end : ℕ) (queues : List (List Action)) (old new : Kept) → old.lines < 100000000 → Passes queues end old new → to_do stage new < to_do stage old
+less stage end queues old new few passes =
+    let lines : new.lines ≡ old.lines + 1 = passes.lines in
+    omega arith
+
+queued_length : (said : Option Entry) (queues : List (List Action)) → length (queued said queues) ≡ length queues
+queued_length None queues = refl
+queued_length (Some entry) queues = length-set queues entry.actor.0 (queue_at queues entry.actor.0 ++ entry.action ∷ [])
+
+still_empty : (actors actor : ℕ) (said : Option Entry) (queues : List (List Action)) → IsOther actors actor said → queue_at queues actor ≡ [] → queue_at (queued said queues) actor ≡ []
+still_empty actors actor None queues other empty = empty
+still_empty actors actor (Some entry) queues other empty = get_or-set_other queues entry.actor.0 actor (queue_at queues entry.actor.0 ++ entry.action ∷ []) [] (λ e. other.0 (sym e)) ∙ empty
+
+pub line_steps : (known : Known) (v : PartView) (old new : Kept) (len end actor : ℕ) (r : Result (Option Action) ScriptFault) → v.stage ≢ Fresh
+    → ((rest : List ℕ) (broken : Bool) → May v.stage rest broken → Leads known old.lines old.pending len end rest broken)
+    → queue_at old.queues actor ≡ []
+    → LineIs (judged known (old.lines + 1) (take len old.pending)) actor end r old new → StepIs known actor (settled r) v v old new
+line_steps known v old new len end actor (Ok None) begun leads empty is =
+    let (said, judged_is, other, passes) = is in (
+      record {
+        piece = [];
+        reads = reads_none v begun;
+        moves = moves_line known v.stage old new len end actor said leads judged_is other passes;
+        queues = ap length passes.queued ∙ queued_length said old.queues;
+      },
+      ap (λ (qs : List (List Action)). queue_at qs actor) passes.queued ∙ still_empty (length old.queues) actor said old.queues other empty,
+      less v.stage end (queued said old.queues) old new (ok_few known old.lines (take len old.pending) said judged_is) passes,
+    )
+line_steps known v old new len end actor (Ok (Some action)) begun leads empty is = (
+  record {
+    piece = [];
+    reads = reads_none v begun;
+    tells = tells_line known v.stage old new len end actor action leads empty is.0 is.1;
+    queues = ap length is.1.queued;
+  },
+  tt,
+)
+line_steps known v old new len end actor (Err (Line n kind)) begun leads empty is = rw (is.1, is.2) (
+  record {
+    piece = [];
+    reads = reads_none v begun;
+    tells = tells_bad known v.stage old len end actor kind leads empty is.0;
+    queues = refl;
+  },
+  tt,
+)
+line_steps known v old new len end actor (Err Read) begun leads empty is = absurd is
+line_steps known v old new len end actor (Err Memory) begun leads empty is = rw is (goes_not known v old begun, tt)
+
+pub broken_steps : (known : Known) (v : PartView) (kept : Kept) (actor : ℕ) → v.stage ≡ Broken → IsOpen kept.lines kept.pending → queue_at kept.queues actor ≡ [] → v.stage ≢ Fresh → StepIs known actor (Some (Err Read)) v v kept kept
+broken_steps known v kept actor broken unended empty begun = (
+  record {
+    piece = [];
+    reads = reads_none v begun;
+    tells = tells_broken known v.stage kept actor broken unended empty;
+    queues = refl;
+  },
+  broken,
+)
+
+-- the first action of the actor's queue
+pub pop_tells : (known : Known) (v : PartView) (old new : Kept) (actor : ℕ) (action : Action) → v.stage ≢ Fresh
+    → queue_at old.queues actor ≡ action ∷ queue_at new.queues actor → new.queues ≡ slice_set old.queues actor (queue_at new.queues actor) → new.lines ≡ old.lines → new.pending ≡ old.pending
+    → Answers known actor (Ok (Some action)) v v old new
+pop_tells known v old new actor action begun first others lines pending =
+    let more : List ℕ → Bool → List Judgement = λ rest broken. judgements known old.lines (old.pending ++ rest) broken in
+    let whole : (rest : List ℕ) (broken : Bool) (k : ℕ) → answer_from known old rest broken actor k ≡ answer_by broken (first_bad old.lines (more rest broken)) (slice_get (action ∷ (queue_at new.queues actor ++ actions_of actor (more rest broken))) k) = λ rest broken k.
+    ap (λ (q : List Action). answer_by broken (first_bad old.lines (more rest broken)) (slice_get (q ++ actions_of actor (more rest broken)) k)) first in
+    record {
+      piece = [];
+      reads = reads_none v begun;
+      tells = record {
+        now = λ rest broken may. whole rest broken 0;
+        later = λ rest broken may later. whole rest broken (suc later) ∙ rw (lines, pending) refl;
+        others = λ rest broken may other later isnt.
+            let same : queue_at old.queues other ≡ queue_at new.queues other = sym (ap (λ (qs : List (List Action)). queue_at qs other) others ∙ get_or-set_other old.queues actor other (queue_at new.queues actor) [] isnt) in
+            rw (same, lines, pending) refl;
+      };
+      queues = ap length others ∙ length-set old.queues actor (queue_at new.queues actor);
+    }

@@ -1,0 +1,21 @@
+use Rattle.std.proofs.Common.{◌∙◌}
+use Rattle.sg_edge.specs.declared.files.Part.TheVariants.{Script as ScriptPart}
+use Rattle.sg_script.specs.Known.{known_in}
+use Rattle.sg_script.specs.Stands.{kept_of}
+use Rattle.sg_script.proofs.Chains.{goes_then, ends_then}
+use Rattle.sg_script.proofs.Spending.{spent_then, frugal_of}
+use Rattle.sg_script.proofs.script.Script.read_on.Goals as goal
+
+pub returns-in-Some-clause-ends : goal.returns-in-Some-clause-ends
+returns-in-Some-clause-ends g c = ends_then (known_in c.args.deployment.now) c.args.actor.0 c.in-Some.answer (g.F.Files.shows c.args.files.now ScriptPart) (g.F.Files.shows c.loop-answer.files ScriptPart) (g.F.Files.shows c.step.new.files ScriptPart) (kept_of c.args.self.now) (kept_of c.loop-answer.self) (kept_of c.step.new.self) c.loop-answer.invariant.goes c.in-Some.ensures.step.0
+
+pub loop-answer-preserved : goal.loop-answer-preserved
+loop-answer-preserved g c = record {
+  goes = goes_then (known_in c.args.deployment.now) (g.F.Files.shows c.args.files.now ScriptPart) (g.F.Files.shows c.loop-answer.files ScriptPart) (g.F.Files.shows c.step.new.files ScriptPart) (kept_of c.args.self.now) (kept_of c.loop-answer.self) (kept_of c.step.new.self) c.loop-answer.invariant.goes c.in-None.ensures.step.0;
+  spent = spent_then (known_in c.args.deployment.now) c.args.actor.0 (g.F.Files.shows c.args.files.now ScriptPart) (g.F.Files.shows c.loop-answer.files ScriptPart) (g.F.Files.shows c.step.new.files ScriptPart) (kept_of c.args.self.now) (kept_of c.loop-answer.self) (kept_of c.step.new.self) c.loop-answer.invariant.spent c.in-None.ensures.spent;
+  empty = c.in-None.ensures.step.1;
+  others = λ q isnt. c.step.ensures.others q isnt ∙ c.loop-answer.invariant.others q isnt;
+}
+
+pub returns-in-Some-clause-frugal : goal.returns-in-Some-clause-frugal
+returns-in-Some-clause-frugal g c = frugal_of (known_in c.args.deployment.now) c.args.actor.0 (g.F.Files.shows c.args.files.now ScriptPart) (g.F.Files.shows c.loop-answer.files ScriptPart) (g.F.Files.shows c.step.new.files ScriptPart) (kept_of c.args.self.now) (kept_of c.loop-answer.self) c.loop-answer.invariant.spent c.in-Some.ensures.spent

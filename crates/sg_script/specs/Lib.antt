@@ -1,0 +1,11 @@
+pub mod Asked
+pub mod Front
+pub mod Frugal
+pub mod Known
+pub mod Line
+pub mod Needed
+pub mod Queues
+pub mod Stands
+pub mod Steps
+pub mod Verbs
+pub mod Words

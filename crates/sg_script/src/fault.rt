@@ -1,0 +1,32 @@
+//! Why a line is bad, and why an Ask has no answer.
+
+/// Why a script line is bad. Where several hold, the first in this order is told, but for the arguments, which are
+/// judged from left to right.
+#[derive(Clone, Copy, Debug, PartialEq, Eq)]
+pub enum LineFault {
+    /// It has more than 4,096 bytes, its newline not counted.
+    TooLong,
+    /// It has a byte that is neither a tab nor in 0x20 to 0x7E.
+    NotAscii,
+    /// Its first word isn't a replay actor.
+    UnknownActor,
+    /// It has no second word, or one that isn't an action.
+    UnknownAction,
+    /// The action has more or fewer arguments.
+    ArgumentCount,
+    /// An amount or a time that its reader refuses.
+    BadAmount,
+    /// It is line 100,000,001. This is told before all else.
+    TooManyLines,
+}
+
+/// Why an Ask has no answer.
+#[derive(Clone, Copy, Debug, PartialEq, Eq)]
+pub enum ScriptFault {
+    /// The first bad line: its number, counted from 1, and why it is bad.
+    Line(u64, LineFault),
+    /// The script could not be read further.
+    Read,
+    /// There was no memory for a line that waits for its actor.
+    Memory,
+}

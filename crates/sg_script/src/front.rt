@@ -1,0 +1,78 @@
+//! The line at the front of bytes that were read.
+ghost use Rattle.std.specs.Prelude.{ℕ, ◌≡◌, ◌≢◌, ◌≤◌, ◌<◌, length, true, None};
+ghost use Rattle.std.specs.List.{position};
+ghost use Rattle.sg_edge.specs.declared.files.Stage.TheVariants.{Fresh, Over};
+ghost use Rattle.sg_script.specs.Asked.{is_newline, is_last_line};
+ghost use Rattle.sg_script.specs.Front.{FrontIs};
+
+use sg_edge::Stage;
+
+/// What stands at the front of bytes that were read.
+#[derive(Clone, Copy, Debug, PartialEq, Eq)]
+pub enum Front {
+    /// A line of `len` bytes that takes `end` bytes with its newline; or a front of one that is bad however it goes
+    /// on.
+    Line { len: usize, end: usize },
+    /// A part of a line, or nothing; more may come.
+    Unread,
+    /// Nothing, and nothing more comes.
+    End,
+    /// A part of a line, or nothing, before a read that failed.
+    Broken,
+}
+
+fn newline_at(bytes: &[u8]) -> Option<usize>
+    ensures { result ≡ position is_newline bytes.now }
+{
+    bytes.iter().position(|b| *b == b'\n')
+}
+
+// Whether these bytes make a bad line, however it goes on.
+fn is_bad(bytes: &[u8], before: u64) -> bool
+    ensures { result ≡ is_last_line true before bytes.now }
+{
+    bytes.len() > 4096 || (!bytes.is_empty() && before == 100_000_000)
+}
+
+// What stands behind the last newline, where no more is to come.
+#[tactic(auto, using(crate::proofs::FrontLemmas::leads_last))]
+fn last(bytes: &[u8]) -> Front
+    requires { position is_newline bytes.now ≡ None }
+    ensures { (before : ℕ) → FrontIs Over before bytes.now result }
+{
+    let len = bytes.len();
+    if len == 0 {
+        return Front::End;
+    }
+    Front::Line { len, end: len }
+}
+
+// What stands behind the last newline.
+#[tactic(auto, using(crate::proofs::FrontLemmas::leads_bad, crate::proofs::FrontLemmas::is_short))]
+fn unended(bytes: &[u8], before: u64, stage: Stage) -> Front
+    requires begun { stage ≢ Fresh }
+    requires newline { position is_newline bytes.now ≡ None }
+    ensures { FrontIs stage before bytes.now result }
+{
+    let len = bytes.len();
+    if is_bad(bytes, before) {
+        return Front::Line { len, end: len };
+    }
+    match stage {
+        Stage::Fresh | Stage::Begun => Front::Unread,
+        Stage::Broken => Front::Broken,
+        Stage::Over => last(bytes),
+    }
+}
+
+/// What stands at the front of these bytes, before which so many lines were.
+#[tactic(auto, using(crate::proofs::FrontLemmas::leads_newline, crate::proofs::FrontLemmas::below))]
+pub fn front_of(bytes: &[u8], before: u64, stage: Stage) -> Front
+    requires { stage ≢ Fresh }
+    ensures { FrontIs stage before bytes.now result }
+{
+    match newline_at(bytes) {
+        Some(len) => Front::Line { len, end: len + 1 },
+        None => unended(bytes, before, stage),
+    }
+}

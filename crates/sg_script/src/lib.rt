@@ -1,0 +1,18 @@
+//! Scripts: what their lines say, and the answers to what actors ask of them, read on demand.
+#![tactic(auto)]
+
+mod fault;
+mod front;
+mod judging;
+mod line;
+mod pending;
+mod queues;
+mod script;
+#[cfg(test)]
+mod tests;
+mod verbs;
+mod words;
+
+pub use fault::{LineFault, ScriptFault};
+pub use line::{Entry, read_line};
+pub use script::Script;

@@ -1,0 +1,129 @@
+//! What one line of a script says.
+ghost use Rattle.std.specs.Prelude.{◌≡◌, ◌≤◌, IfOk, IfSome};
+ghost use Rattle.std.specs.List.{list_all};
+ghost use Rattle.sg_base.specs.Limits.{IsAction, IsAmount, IsTime};
+ghost use Rattle.sg_script.specs.Known.{known_in, actors_in};
+ghost use Rattle.sg_script.specs.Line.{line_of, text_of, entry_of, action_of, without_return, is_plain, amount_in, time_in, KeepsLimits};
+ghost use Rattle.sg_script.specs.Words.{words};
+
+use crate::fault::LineFault;
+use crate::verbs::{Verb, read_verb};
+use crate::words::{next_word, one};
+use sg_base::{Action, ActorId};
+use sg_platform::Deployment;
+use sg_units::{read_amount, read_time};
+
+/// The most bytes of a line, its newline not counted.
+const LONGEST_LINE: usize = 4096;
+
+/// A good line: whose it is, and what it asks for.
+#[derive(Clone, Copy, Debug, PartialEq, Eq)]
+pub struct Entry {
+    pub actor: ActorId,
+    pub action: Action,
+}
+
+fn amount(text: &[u8]) -> Result<u64, LineFault>
+    ensures value { result ≡ amount_in text.now }
+    ensures limit { IfOk result IsAmount }
+{
+    match read_amount(text) {
+        Ok(n) => Ok(n),
+        Err(_) => Err(LineFault::BadAmount),
+    }
+}
+
+fn time(text: &[u8]) -> Result<u64, LineFault>
+    ensures value { result ≡ time_in text.now }
+    ensures limit { IfOk result IsTime }
+{
+    match read_time(text) {
+        Ok(n) => Ok(n),
+        Err(_) => Err(LineFault::BadAmount),
+    }
+}
+
+// The action with the arguments that stand in this text.
+fn read_action(verb: Verb, text: &[u8]) -> Result<Action, LineFault>
+    ensures said { result ≡ action_of verb (words text.now) }
+    ensures limit { IfOk result IsAction }
+{
+    match verb {
+        Verb::Compute => Ok(Action::Compute(amount(one(text)?)?)),
+        Verb::Sleep => Ok(Action::Sleep(time(one(text)?)?)),
+    }
+}
+
+// The replay actor of that name.
+#[tactic(auto, using(crate::proofs::KnownLemmas::named_within))]
+fn actor_named(deployment: &Deployment, name: &[u8]) -> Option<ActorId>
+    ensures named { result ≡ (known_in deployment.now).actor name.now }
+    ensures within { IfSome result (λ actor. actor.0 ≤ actors_in deployment.now) }
+{
+    deployment.replay_actor(name)
+}
+
+// The entry of a first word and the text behind it.
+fn read_entry(name: &[u8], text: &[u8], deployment: &Deployment) -> Result<Option<Entry>, LineFault>
+    ensures said { result ≡ entry_of (known_in deployment.now) name.now (words text.now) }
+    ensures limits { KeepsLimits (actors_in deployment.now) result }
+{
+    let Some(actor) = actor_named(deployment, name) else {
+        return Err(LineFault::UnknownActor);
+    };
+    let Some((word, rest)) = next_word(text) else {
+        return Err(LineFault::UnknownAction);
+    };
+    let Some(verb) = read_verb(word) else {
+        return Err(LineFault::UnknownAction);
+    };
+    let action = read_action(verb, rest)?;
+    Ok(Some(Entry { actor, action }))
+}
+
+fn is_ascii(text: &[u8]) -> bool
+    ensures { result ≡ list_all is_plain text.now }
+{
+    text.iter()
+        .all(|b| *b == b'\t' || (b' '..=b'~').contains(b))
+}
+
+fn without_end(line: &[u8]) -> &[u8]
+    ensures { result.now ≡ without_return line.entry.now }
+{
+    match line.last() {
+        Some(b'\r') => &line[..line.len() - 1],
+        _ => line,
+    }
+}
+
+fn read_text(text: &[u8], deployment: &Deployment) -> Result<Option<Entry>, LineFault>
+    ensures said { result ≡ text_of (known_in deployment.now) text.now }
+    ensures limits { KeepsLimits (actors_in deployment.now) result }
+{
+    let Some((first, rest)) = next_word(text) else {
+        return Ok(None);
+    };
+    if let [b'#', ..] = first {
+        return Ok(None);
+    }
+    if !is_ascii(text) {
+        return Err(LineFault::NotAscii);
+    }
+    read_entry(first, rest, deployment)
+}
+
+/// What a line says, without its newline: `None` where it is passed over.
+///
+/// Words are separated by blanks, which are spaces and tabs; one carriage return at the end is dropped. A line of
+/// blanks alone, or whose first word begins with `#`, is passed over. Else its words are the name of a replay
+/// actor, an action and the arguments of the action. It takes no memory.
+pub fn read_line(line: &[u8], deployment: &Deployment) -> Result<Option<Entry>, LineFault>
+    ensures said { result ≡ line_of (known_in deployment.now) line.now }
+    ensures limits { KeepsLimits (actors_in deployment.now) result }
+{
+    if line.len() > LONGEST_LINE {
+        return Err(LineFault::TooLong);
+    }
+    read_text(without_end(line), deployment)
+}

@@ -1,0 +1,231 @@
+//! A script of which lines are read when an actor asks for one.
+ghost use Rattle.std.specs.Prelude.{◌≡◌, ◌≢◌, ◌<◌, ◌≤◌, ◌+◌, ℕ, List, [], length, take, drop, IfOk, IfSome, Ok};
+ghost use Rattle.sg_base.specs.Limits.{IsAction};
+ghost use Rattle.sg_edge.specs.declared.files.Stage.TheVariants.{Fresh, Begun};
+ghost use Rattle.sg_edge.specs.Files.{Only};
+ghost use Rattle.sg_script.specs.Asked.{judged};
+ghost use Rattle.sg_script.specs.Known.{known_in, actors_in};
+
+use crate::fault::ScriptFault;
+use crate::front::{Front, front_of};
+use crate::judging::{judge, settle};
+use crate::line::Entry;
+use crate::pending::{PIECE, Pending};
+use crate::queues::Queues;
+use sg_base::{Action, ActorId, Memory};
+use sg_edge::{Failed, Files, Part};
+use sg_platform::Deployment;
+use std::alloc::Global;
+
+/// A script that is read as far as the answers to Asks need it.
+///
+/// It keeps the lines that were read and not yet asked for, how many lines there were, and the bytes behind them.
+/// What stands there is judged when it is reached, so a bad line and a read that failed are told again to each Ask
+/// that needs more.
+#[derive(Drop)]
+pub struct Script {
+    pub queues: Queues,
+    pub pending: Pending,
+    pub before: u64,
+    ghost few: { before ≤ 100000000 },
+    ghost some: { 0 < length queues },
+}
+
+impl Script {
+    ghost use Rattle.sg_edge.specs.declared.files.Stage.{Stage};
+    ghost use Rattle.sg_script.specs.Frugal.{SpentIs, Frugal};
+    ghost use Rattle.sg_script.specs.Known.{Known};
+    ghost use Rattle.sg_script.specs.Queues.{queue_at};
+    ghost use Rattle.sg_script.specs.Stands.{IsLimited, AskIs, IsRead, Breaking, actors_of, kept_of, Stands};
+    ghost use Rattle.sg_script.specs.Steps.{LineIs, StepIs, Ends, ReadIs};
+
+    /// A script of which nothing was read, for so many actors.
+    pub fn new(alloc: Global, actors: u32) -> Result<Script, Memory>
+        ensures actors { IfOk result (λ s. actors_of s ≡ actors) }
+        ensures stands { IfOk result (λ s. (known : Known) (stage : Stage) → Stands known [] stage (λ _. 0) (kept_of s)) }
+    {
+        Ok(Script {
+            queues: Queues::new(alloc, actors as usize + 1)?,
+            pending: Pending::new(alloc)?,
+            before: 0,
+        })
+    }
+
+    // Lets the line go that took so many bytes.
+    fn pass(&mut self, end: usize)
+        requires end { end ≤ length self.old.pending }
+        requires few { self.old.before < 100000000 }
+        ensures queues { self.new.queues ≡ self.old.queues }
+        ensures pending { self.new.pending ≡ drop end self.old.pending }
+        ensures lines { self.new.before ≡ self.old.before + 1 }
+    {
+        self.pending.advance(end);
+        self.before += 1;
+    }
+
+    // An action of that actor is the answer, and one of another actor waits for it. Without memory the line stays.
+    fn take_entry(
+        &mut self,
+        entry: Entry,
+        end: usize,
+        actor: ActorId,
+    ) -> Result<Option<Action>, ScriptFault>
+        requires end { end ≤ length self.old.pending }
+        requires few { self.old.before < 100000000 }
+        requires within { entry.actor.0 < length self.old.queues }
+        requires limited { IsAction entry.action }
+        ensures line { LineIs (Ok (Some entry)) actor.0 end result (kept_of self.old) (kept_of self.new) }
+        ensures limited { IsLimited result }
+    {
+        if entry.actor.0 == actor.0 {
+            self.pass(end);
+            return Ok(Some(entry.action));
+        }
+        match self.queues.push(entry.actor, entry.action) {
+            Ok(()) => {
+                self.pass(end);
+                Ok(None)
+            }
+            Err(Memory) => Err(ScriptFault::Memory),
+        }
+    }
+
+    // Takes the line at the front, which has `len` bytes and takes `end`.
+    fn take_line(
+        &mut self,
+        len: usize,
+        end: usize,
+        actor: ActorId,
+        deployment: &Deployment,
+    ) -> Result<Option<Action>, ScriptFault>
+        requires len { len ≤ end }
+        requires end { end ≤ length self.old.pending }
+        requires actors { actors_in deployment.now < length self.old.queues }
+        ensures line { LineIs (judged (known_in deployment.now) (self.old.before + 1) (take len self.old.pending)) actor.0 end result (kept_of self.old) (kept_of self.new) }
+        ensures limited { IsLimited result }
+    {
+        match judge(&self.pending.bytes()[..len], self.before, deployment) {
+            Err(kind) => Err(ScriptFault::Line(self.before + 1, kind)),
+            Ok(None) => {
+                self.pass(end);
+                Ok(None)
+            }
+            Ok(Some(entry)) => self.take_entry(entry, end, actor),
+        }
+    }
+
+    // Reads one piece. Where that fails the part is broken, which the next step sees.
+    fn read_piece<F: Files>(&mut self, files: &mut F)
+        requires begun { (F.shows files.old Part.Script).stage ≡ Begun }
+        requires short { length self.old.pending ≤ 4096 }
+        ensures read { ReadIs (F.shows files.old Part.Script) (F.shows files.new Part.Script) (kept_of self.old) (kept_of self.new) }
+        ensures others { Only Part.Script (F.shows files.old) (F.shows files.new) }
+    {
+        let mut piece = [0u8; PIECE];
+        match files.read(Part::Script, &mut piece) {
+            Ok(n) => self.pending.add(&piece[..n]),
+            Err(Failed) => {}
+        }
+    }
+
+    // Takes a line or reads a piece: the answer, where the actor has it now.
+    fn step<F: Files>(
+        &mut self,
+        actor: ActorId,
+        deployment: &Deployment,
+        files: &mut F,
+    ) -> Option<Result<Option<Action>, ScriptFault>>
+        requires begun { (F.shows files.old Part.Script).stage ≢ Fresh }
+        requires actors { actors_in deployment.now < length self.old.queues }
+        requires empty { queue_at self.old.queues actor.0 ≡ [] }
+        ensures step { StepIs (known_in deployment.now) actor.0 result (F.shows files.old Part.Script) (F.shows files.new Part.Script) (kept_of self.old) (kept_of self.new) }
+        ensures limited { IfSome result IsLimited }
+        ensures spent { SpentIs (known_in deployment.now) actor.0 result (F.shows files.old Part.Script) (F.shows files.new Part.Script) (kept_of self.old) (kept_of self.new) }
+        ensures others { Only Part.Script (F.shows files.old) (F.shows files.new) }
+    {
+        let front = front_of(self.pending.bytes(), self.before, files.stage(Part::Script));
+        match front {
+            Front::Line { len, end } => settle(self.take_line(len, end, actor, deployment)),
+            Front::Unread => {
+                self.read_piece(files);
+                None
+            }
+            Front::End => Some(Ok(None)),
+            Front::Broken => Some(Err(ScriptFault::Read)),
+        }
+    }
+
+    // Reads on until the actor has an answer.
+    fn read_on<F: Files>(
+        &mut self,
+        actor: ActorId,
+        deployment: &Deployment,
+        files: &mut F,
+    ) -> Result<Option<Action>, ScriptFault>
+        requires begun { (F.shows files.old Part.Script).stage ≢ Fresh }
+        requires actors { actors_in deployment.now < length self.old.queues }
+        requires empty { queue_at self.old.queues actor.0 ≡ [] }
+        ensures ends { Ends (known_in deployment.now) actor.0 result (F.shows files.old Part.Script) (F.shows files.new Part.Script) (kept_of self.old) (kept_of self.new) }
+        ensures limited { IsLimited result }
+        ensures frugal { Frugal (known_in deployment.now) actor.0 (F.shows files.old Part.Script) (F.shows files.new Part.Script) (kept_of self.old) }
+        ensures read { IsRead result (F.shows files.old Part.Script) (F.shows files.new Part.Script) }
+        ensures others { Only Part.Script (F.shows files.old) (F.shows files.new) }
+    {
+        loop {
+            match self.step(actor, deployment, files) {
+                Some(answer) => return answer,
+                None => {}
+            }
+        }
+    }
+
+    // The first action that waits for the actor, or what reading on gives.
+    fn answer<F: Files>(
+        &mut self,
+        actor: ActorId,
+        deployment: &Deployment,
+        files: &mut F,
+    ) -> Result<Option<Action>, ScriptFault>
+        requires begun { (F.shows files.old Part.Script).stage ≢ Fresh }
+        requires actors { actors_in deployment.now < length self.old.queues }
+        requires actor { actor.0 < length self.old.queues }
+        ensures ends { Ends (known_in deployment.now) actor.0 result (F.shows files.old Part.Script) (F.shows files.new Part.Script) (kept_of self.old) (kept_of self.new) }
+        ensures limited { IsLimited result }
+        ensures frugal { Frugal (known_in deployment.now) actor.0 (F.shows files.old Part.Script) (F.shows files.new Part.Script) (kept_of self.old) }
+        ensures read { IsRead result (F.shows files.old Part.Script) (F.shows files.new Part.Script) }
+        ensures others { Only Part.Script (F.shows files.old) (F.shows files.new) }
+    {
+        match self.queues.pop(actor) {
+            Some(action) => Ok(Some(action)),
+            None => self.read_on(actor, deployment, files),
+        }
+    }
+
+    /// The answer to an Ask of that actor: its next line, or `None` where it has no further one.
+    ///
+    /// The answer is that of the whole script. It reads on in pieces of at most 4,096 bytes, each only where the
+    /// answer isn't there yet. After `Memory` no byte that was taken is lost, and the Ask can be made again. `Line`
+    /// and `Read` are told again to each Ask that needs more than what was read.
+    ///
+    /// It is to be given the same deployment and files each time.
+    pub fn next_of<F: Files>(
+        &mut self,
+        actor: ActorId,
+        deployment: &Deployment,
+        files: &mut F,
+    ) -> Result<Option<Action>, ScriptFault>
+        requires begun { (F.shows files.old Part.Script).stage ≢ Fresh }
+        requires actors { actors_in deployment.now ≡ actors_of self.old }
+        requires actor { actor.0 ≤ actors_of self.old }
+        ensures asked { (taken : List ℕ) (asks : ℕ → ℕ) → Stands (known_in deployment.now) taken (F.shows files.old Part.Script).stage asks (kept_of self.old)
+            → AskIs (known_in deployment.now) taken asks actor.0 result (F.shows files.old Part.Script) (F.shows files.new Part.Script) (kept_of self.new) }
+        ensures limited { IsLimited result }
+        ensures frugal { Frugal (known_in deployment.now) actor.0 (F.shows files.old Part.Script) (F.shows files.new Part.Script) (kept_of self.old) }
+        ensures read { IsRead result (F.shows files.old Part.Script) (F.shows files.new Part.Script) }
+        ensures part { Breaking (F.shows files.old Part.Script) (F.shows files.new Part.Script) }
+        ensures actors { actors_of self.new ≡ actors_of self.old }
+        ensures others { Only Part.Script (F.shows files.old) (F.shows files.new) }
+    {
+        self.answer(actor, deployment, files)
+    }
+}

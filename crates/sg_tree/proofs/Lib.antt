@@ -1,0 +1,5 @@
+pub mod Along
+pub mod Bounds
+pub mod Kept
+pub mod NameLemmas
+pub mod TreeLemmas

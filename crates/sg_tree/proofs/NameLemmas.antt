@@ -1,0 +1,67 @@
+-- What a map of names finds.
+use Rattle.std.proofs.Common.{◌≡◌, ℕ, ◌+◌, ◌<◌, Bool, true, false, cond, List, [], ◌∷◌, ◌++◌, map, length, drop, get_or, Option, Some, None, is_some, refl, ap, ◌∙◌, sym, inl, inr}
+use Rattle.std.proofs.lemmas.Bool.{cases_Bool, false≢true, false_from_ne_true}
+use Rattle.std.proofs.lemmas.List.{drop_more}
+use Rattle.std.proofs.lemmas.Slice.Eq.{bytes_eq-Decides}
+use Rattle.std.specs.List.{flat_map}
+use Rattle.std.specs.Map.{lookup}
+use Rattle.std.specs.Str.{bytes_eq}
+use Rattle.sg_tree.proofs.Along.{along_map}
+use Rattle.sg_tree.specs.Along.{along}
+use Rattle.sg_tree.specs.Names.{or_else}
+
+pub absent_from : (o : Option ℕ) (b : Bool) → b ≡ is_some o → b ≡ false → o ≡ None
+absent_from None b e h = refl
+absent_from (Some n) b e h = absurd (false≢true (sym h ∙ e))
+
+pub or_else_none : (o : Option ℕ) → or_else o None ≡ o
+or_else_none None = refl
+or_else_none (Some n) = refl
+
+pub or_else_assoc : (a b c : Option ℕ) → or_else (or_else a b) c ≡ or_else a (or_else b c)
+or_else_assoc None b c = refl
+or_else_assoc (Some n) b c = refl
+
+pub new_name : (name q : List ℕ) (n : ℕ) (look : List ℕ → Option ℕ) → look name ≡ None
+    → cond (bytes_eq name q) (Some n) (look q) ≡ or_else (look q) (cond (bytes_eq q name) (Some n) None)
+new_name name q n look absent =
+    elim (cases_Bool (bytes_eq name q)) [
+      | inl same ↦
+          let e : name ≡ q = (bytes_eq-Decides name q).0 same in
+          let gone : look q ≡ None = rw (← e) absent in
+          let itself : bytes_eq q name ≡ true = (bytes_eq-Decides q name).1 (sym e) in
+          rw (same, gone, itself)
+      | inr other ↦
+          let back : bytes_eq q name ≡ false = false_from_ne_true _ (λ t. false≢true (sym other ∙ (bytes_eq-Decides name q).1 (sym ((bytes_eq-Decides q name).0 t)))) in
+          rw (other, back) (sym (or_else_none (look q)))
+    ]
+
+pub lookup_append : {K : Type 0} (test : K → Bool) (xs ys : List (K × ℕ)) → lookup test (xs ++ ys) ≡ or_else (lookup test xs) (lookup test ys)
+lookup_append test [] ys = refl
+lookup_append test (x ∷ xs) ys =
+    elim (cases_Bool (test x.0)) [
+      | inl here ↦ rw here
+      | inr other ↦ rw other (lookup_append test xs ys)
+    ]
+
+-- one more under the next number, where the last is the only one
+pub given_here : (b : Bool) (n : ℕ) (old : Option ℕ) (rest : Option ℕ) → or_else (or_else old (cond b (Some n) None)) rest ≡ or_else old (cond b (Some n) rest)
+given_here true n old rest = or_else_assoc old (Some n) rest
+given_here false n old rest = or_else_assoc old None rest
+
+-- a turn of a loop that gives numbers along a list
+pub along_turn : {K A : Type 0} (test : K → Bool) (f : ℕ → A → List (K × ℕ)) (xs : List A) (i : ℕ) (d : A) (old new : Option ℕ) → i < length xs
+    → new ≡ or_else old (lookup test (f i (get_or xs i d))) → or_else new (lookup test (along f (i + 1) (drop (i + 1) xs))) ≡ or_else old (lookup test (along f i (drop i xs)))
+along_turn test f xs i d old new within step =
+    let here = f i (get_or xs i d) in
+    let rest = along f (i + 1) (drop (i + 1) xs) in
+    rw (step, drop_more xs i d within) (or_else_assoc old (lookup test here) (lookup test rest) ∙ ap (or_else old) (sym (lookup_append test here rest)))
+
+pub flat_map_map : {X A B : Type 0} (v : X → A) (f : A → List B) (xs : List X) → flat_map f (map v xs) ≡ flat_map (λ x. f (v x)) xs
+flat_map_map v f [] = refl
+flat_map_map v f (x ∷ xs) = ap (λ t. f (v x) ++ t) (flat_map_map v f xs)
+
+-- what a map that began empty holds, in the order of rows
+pub made_along : {X A K : Type 0} (v : X → A) (f : ℕ → A → List (K × ℕ)) (test : K → Bool) (xs : List X) (empty made : Option ℕ) → empty ≡ None → made ≡ or_else empty (lookup test (along (λ i x. f i (v x)) 0 xs))
+    → made ≡ lookup test (along f 0 (map v xs))
+made_along v f test xs empty made none step = step ∙ rw (none, along_map v f 0 xs)

@@ -1,0 +1,4 @@
+pub mod Along
+pub mod Tree
+pub mod Names
+pub mod Faults

@@ -1,0 +1,40 @@
+//! Faults of a text, each with its place.
+
+/// Which rule a text breaks. At one place the earlier kind is told.
+#[derive(Clone, Copy, Debug, PartialEq, Eq)]
+pub enum Kind {
+    /// A key that must be there is missing.
+    MissingKey,
+    /// A value isn't of its type.
+    WrongType,
+    /// A text or a number isn't a value of its key.
+    BadValue,
+    /// A name isn't 1 to 64 letters, digits, underscores, points and hyphens.
+    BadName,
+    /// An earlier row took the name or the pair.
+    Duplicate,
+    /// There is no such name, or no such key or table.
+    Unknown,
+    /// There are more rows or items, or a longer text, than the limit.
+    Limit,
+    /// An actor's function isn't known.
+    Function,
+    /// An actor's arguments don't fit its function.
+    Arguments,
+}
+
+/// A place in a text: tables, rows and keys count from 1. Key 0 is the row as a whole, row 0 the table as a
+/// whole, and table 0 the text as a whole.
+#[derive(Clone, Copy, Debug, PartialEq, Eq)]
+pub struct Place {
+    pub table: u32,
+    pub row: u32,
+    pub key: u32,
+}
+
+/// A rule that is broken at a place.
+#[derive(Clone, Copy, Debug, PartialEq, Eq)]
+pub struct Fault {
+    pub place: Place,
+    pub kind: Kind,
+}

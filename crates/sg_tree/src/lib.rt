@@ -1,0 +1,10 @@
+//! Reads a TOML text into its tree, and finds there rows, keys and names; faults with their places.
+#![tactic(auto)]
+
+mod fault;
+mod names;
+mod tree;
+
+pub use fault::{Fault, Kind, Place};
+pub use names::{add_name, add_names, add_pair, names_at};
+pub use tree::{NoTree, read_tree, rows_at, text_at, text_or_empty, value_at};

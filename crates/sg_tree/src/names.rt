@@ -1,0 +1,103 @@
+//! The number under which a name stands first.
+ghost use Rattle.std.specs.Prelude.{◌≡◌, ◌+◌, ◌<◌, ◌^◌, ℕ, List, Some, None, if◌then◌else◌, IfOk, OnOk, length, map};
+ghost use Rattle.std.specs.HashMap.{get_by, get_by_text};
+ghost use Rattle.std.specs.Map.{lookup};
+ghost use Rattle.std.specs.Str.{bytes_eq};
+ghost use Rattle.sg_tree.specs.Along.{along};
+ghost use Rattle.sg_tree.specs.Names.{Pair, pair_eq, names_from, numbered, or_else, texts_at};
+ghost use Rattle.toml.specs.View.{view};
+
+use crate::tree::text_at;
+use indexmap::IndexMap;
+use sg_base::Memory;
+use std::alloc::Global;
+use toml::Value;
+
+/// Gives a name its number, unless it has one.
+pub fn add_name(
+    alloc: Global,
+    space: &mut IndexMap<String, usize>,
+    name: &str,
+    number: usize,
+) -> Result<(), Memory>
+    ensures { OnOk result ((q : List ℕ) → get_by_text space.new q ≡ or_else (get_by_text space.old q) (if bytes_eq q name.now then Some number else None)) }
+{
+    if !space.contains_key(name) {
+        let key = String::from_str(alloc, name)?;
+        space.insert(key, number)?;
+    }
+    Ok(())
+}
+
+/// Gives a pair its number, unless it has one.
+pub fn add_pair(
+    space: &mut IndexMap<(usize, usize), usize>,
+    pair: (usize, usize),
+    number: usize,
+) -> Result<(), Memory>
+    ensures { OnOk result ((q : Pair) → get_by (pair_eq q) space.new ≡ or_else (get_by (pair_eq q) space.old) (if pair_eq q pair then Some number else None)) }
+{
+    if !space.contains_key(&pair) {
+        space.insert(pair, number)?;
+    }
+    Ok(())
+}
+
+/// Gives the text at a key of a row its number.
+fn add_text(
+    alloc: Global,
+    space: &mut IndexMap<String, usize>,
+    key: &str,
+    number: usize,
+    row: &Value,
+) -> Result<(), Memory>
+    ensures { OnOk result ((q : List ℕ) → get_by_text space.new q ≡ or_else (get_by_text space.old q) (lookup (bytes_eq q) (numbered number (texts_at key.now (view row.now))))) }
+{
+    match text_at(row, key) {
+        Some(name) => add_name(alloc, space, name, number),
+        None => Ok(()),
+    }
+}
+
+/// Gives the texts at a key of rows the numbers from this one on.
+#[tactic(auto, using(crate::proofs::NameLemmas::along_turn))]
+fn add_texts(
+    alloc: Global,
+    space: &mut IndexMap<String, usize>,
+    key: &str,
+    before: usize,
+    rows: &[Value],
+) -> Result<(), Memory>
+    requires { before + length rows.now < 2 ^ 64 }
+    ensures { OnOk result ((q : List ℕ) → get_by_text space.new q ≡ or_else (get_by_text space.old q) (lookup (bytes_eq q) (along (λ i row. numbered (before + i) (texts_at key.now (view row))) 0 rows.now))) }
+{
+    for (i, row) in rows.iter().enumerate() {
+        add_text(alloc, space, key, before + i, row)?;
+    }
+    Ok(())
+}
+
+/// Gives the names at a key of rows the numbers of the rows, of which the first has this one. A name that has a
+/// number keeps it.
+pub fn add_names(
+    alloc: Global,
+    space: &mut IndexMap<String, usize>,
+    key: &str,
+    before: usize,
+    rows: &[Value],
+) -> Result<(), Memory>
+    requires { before + length rows.now < 2 ^ 64 }
+    ensures { OnOk result ((q : List ℕ) → get_by_text space.new q ≡ or_else (get_by_text space.old q) (lookup (bytes_eq q) (names_from key.now before (map view rows.now)))) }
+{
+    add_texts(alloc, space, key, before, rows)?;
+    Ok(())
+}
+
+/// The names at a key of rows, with the numbers of the rows from 0 on.
+pub fn names_at(alloc: Global, key: &str, rows: &[Value]) -> Result<IndexMap<String, usize>, Memory>
+    ensures { IfOk result (λ made. (q : List ℕ) → get_by_text made q ≡ lookup (bytes_eq q) (names_from key.now 0 (map view rows.now))) }
+{
+    let mut made = IndexMap::new(alloc);
+    add_names(alloc, &mut made, key, 0, rows)?;
+    Ok(made)
+}

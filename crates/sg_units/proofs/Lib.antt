@@ -1,0 +1,5 @@
+pub mod DateValue
+pub mod Digits
+pub mod NumberTexts
+pub mod Scaling
+pub mod Values

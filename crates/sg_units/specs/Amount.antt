@@ -1,0 +1,62 @@
+-- What a reader answers: the number as an exact fraction, times the unit, rounded down, or the first fault.
+use Rattle.std.specs.Prelude.{ℕ, ◌+◌, ◌*◌, ◌/◌, ◌^◌, Bool, ◌==◌, ◌&&◌, nat_le, List, ◌++◌, length, Option, None, Some, Result, Ok, Err, if◌then◌else◌}
+use Rattle.std.specs.Str.Parse.{digits_value}
+use Rattle.sg_units.specs.declared.fault.AmountFault.{AmountFault}
+use Rattle.sg_units.specs.declared.fault.AmountFault.TheVariants.{NotANumber, UnknownUnit, TooLarge}
+use Rattle.sg_units.specs.declared.units.Ratio.{Ratio}
+use Rattle.sg_units.specs.Number.{Number, number_of}
+use Rattle.sg_units.specs.Units.{Units, size_of, amount_units, speed_units, bandwidth_units, time_units}
+
+-- a number is its digits, times 10 to the power, over 10 to its places behind the point
+abbrev pub exponent_of : Number → ℕ
+exponent_of n = digits_value 10 n.exponent
+
+abbrev pub digits_of : Number → ℕ
+digits_of n = digits_value 10 (n.whole ++ n.fraction)
+
+abbrev pub power_of : Number → ℕ
+power_of n = if n.is_negative then 0 else exponent_of n
+
+abbrev pub places_of : Number → ℕ
+places_of n = length n.fraction + (if n.is_negative then exponent_of n else 0)
+
+-- the number times the size of its unit, rounded down
+abbrev pub value_of : Number → Ratio → ℕ
+value_of n size = digits_of n * 10 ^ power_of n * size.numerator / (10 ^ places_of n * size.denominator)
+
+-- at most 20 digits before the exponent and 3 in it
+abbrev pub is_short : Number → Bool
+is_short n = nat_le (length n.whole + length n.fraction) 20 && nat_le (length n.exponent) 3
+
+abbrev pub up_to : ℕ → ℕ → Result ℕ AmountFault
+up_to greatest value = if nat_le value greatest then Ok value else Err TooLarge
+
+abbrev pub limited : ℕ → Number → Ratio → Result ℕ AmountFault
+limited greatest n size = if is_short n then up_to greatest (value_of n size) else Err TooLarge
+
+abbrev pub sized : ℕ → Number → Option Ratio → Result ℕ AmountFault
+sized greatest n None = Err UnknownUnit
+sized greatest n (Some size) = limited greatest n size
+
+abbrev pub judged : Units → ℕ → Number → Result ℕ AmountFault
+judged units greatest n = if length n.whole == 0 then Err NotANumber else sized greatest n (size_of units n.unit)
+
+-- a reader, by its units and its greatest value
+abbrev pub read_by : Units → ℕ → List ℕ → Result ℕ AmountFault
+read_by units greatest text = judged units greatest (number_of text)
+
+-- flops or bytes
+abbrev pub amount_of : List ℕ → Result ℕ AmountFault
+amount_of = read_by amount_units (10 ^ 15)
+
+-- flops per second
+abbrev pub speed_of : List ℕ → Result ℕ AmountFault
+speed_of = read_by speed_units (10 ^ 15)
+
+-- bytes per second
+abbrev pub bandwidth_of : List ℕ → Result ℕ AmountFault
+bandwidth_of = read_by bandwidth_units (10 ^ 15)
+
+-- nanoseconds
+abbrev pub time_of : List ℕ → Result ℕ AmountFault
+time_of = read_by time_units (10 ^ 18)

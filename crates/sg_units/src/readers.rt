@@ -1,0 +1,139 @@
+//! The readers of amounts, speeds, bandwidths and times.
+ghost use Rattle.std.specs.Prelude.{◌≡◌, ◌≤◌, ◌<◌, ◌^◌, IsTrue, IfOk};
+ghost use Rattle.std.specs.Str.Parse.{digits_value};
+ghost use Rattle.sg_base.specs.Limits.{IsAmount, IsTime};
+ghost use Rattle.sg_units.specs.Amount.{limited, read_by, power_of, places_of, digits_of, is_short, amount_of, speed_of, bandwidth_of, time_of};
+ghost use Rattle.sg_units.specs.Shown.{parts_of, HasDigits};
+ghost use Rattle.sg_units.specs.Units.{rows, are_sizes, IsSize};
+
+use crate::fault::AmountFault;
+use crate::number::Number;
+use crate::scale::{read_after, scaled};
+use crate::units::{
+    AMOUNT_UNITS, BANDWIDTH_UNITS, Ratio, SPEED_UNITS, TIME_UNITS, UnitRow, size_of,
+};
+
+/// The greatest number of flops or bytes, and the greatest speed and bandwidth.
+const GREATEST_AMOUNT: u64 = 1_000_000_000_000_000;
+
+/// The greatest time in nanoseconds.
+const GREATEST_TIME: u64 = 1_000_000_000_000_000_000;
+
+fn is_short(number: &Number) -> bool
+    ensures { result ≡ is_short (parts_of number.now) }
+{
+    number.whole.len() <= 20
+        && number.fraction.len() <= 20 - number.whole.len()
+        && number.exponent.len() <= 3
+}
+
+fn digits_of(number: &Number) -> u128
+    requires digits { HasDigits number.now }
+    requires short { IsTrue (is_short (parts_of number.now)) }
+    ensures value { result ≡ digits_of (parts_of number.now) }
+    ensures bound { result < 10 ^ 20 }
+{
+    read_after(read_after(0, number.whole), number.fraction)
+}
+
+fn exponent_of(number: &Number) -> u32
+    requires digits { HasDigits number.now }
+    requires short { IsTrue (is_short (parts_of number.now)) }
+    ensures value { result ≡ digits_value 10 number.now.exponent.now }
+    ensures bound { result < 10 ^ 3 }
+{
+    read_after(0, number.exponent) as u32
+}
+
+fn power_of(number: &Number) -> u32
+    requires digits { HasDigits number.now }
+    requires short { IsTrue (is_short (parts_of number.now)) }
+    ensures { result ≡ power_of (parts_of number.now) }
+{
+    if number.is_negative {
+        0
+    } else {
+        exponent_of(number)
+    }
+}
+
+fn places_of(number: &Number) -> u32
+    requires digits { HasDigits number.now }
+    requires short { IsTrue (is_short (parts_of number.now)) }
+    ensures { result ≡ places_of (parts_of number.now) }
+{
+    let places = number.fraction.len() as u32;
+    if number.is_negative {
+        places + exponent_of(number)
+    } else {
+        places
+    }
+}
+
+/// The number times the size of its unit, rounded down.
+fn limited(number: &Number, size: Ratio, greatest: u64) -> Result<u64, AmountFault>
+    requires digits { HasDigits number.now }
+    requires size { IsSize size }
+    requires greatest { greatest ≤ 10 ^ 18 }
+    ensures value { result ≡ limited greatest (parts_of number.now) size }
+    ensures limit { IfOk result (λ n. n ≤ greatest) }
+{
+    if !is_short(number) {
+        return Err(AmountFault::TooLarge);
+    }
+    let product = digits_of(number) * u128::from(size.numerator);
+    // Over the denominator and rounded down, this is the greatest value.
+    let most = (greatest + 1) * size.denominator - 1;
+    match scaled(product, power_of(number), places_of(number), most) {
+        Some(value) => Ok(value / size.denominator),
+        None => Err(AmountFault::TooLarge),
+    }
+}
+
+fn read_by(units: &[UnitRow], greatest: u64, text: &[u8]) -> Result<u64, AmountFault>
+    requires units { IsTrue (are_sizes (rows units.now)) }
+    requires greatest { greatest ≤ 10 ^ 18 }
+    ensures value { result ≡ read_by (rows units.now) greatest text.now }
+    ensures limit { IfOk result (λ n. n ≤ greatest) }
+{
+    let number = Number::split(text);
+    if number.whole.is_empty() {
+        return Err(AmountFault::NotANumber);
+    }
+    match size_of(units, number.unit) {
+        Some(size) => limited(&number, size, greatest),
+        None => Err(AmountFault::UnknownUnit),
+    }
+}
+
+/// Reads flops or bytes, which have no unit, up to 10^15.
+pub fn read_amount(text: &[u8]) -> Result<u64, AmountFault>
+    ensures value { result ≡ amount_of text.now }
+    ensures limit { IfOk result IsAmount }
+{
+    read_by(&AMOUNT_UNITS, GREATEST_AMOUNT, text)
+}
+
+/// Reads a speed in flops per second, up to 10^15.
+pub fn read_speed(text: &[u8]) -> Result<u64, AmountFault>
+    ensures value { result ≡ speed_of text.now }
+    ensures limit { IfOk result (λ n. n ≤ 10 ^ 15) }
+{
+    read_by(&SPEED_UNITS, GREATEST_AMOUNT, text)
+}
+
+/// Reads a bandwidth in bytes per second, up to 10^15. The units that end in `bps` are bits per second.
+pub fn read_bandwidth(text: &[u8]) -> Result<u64, AmountFault>
+    ensures value { result ≡ bandwidth_of text.now }
+    ensures limit { IfOk result (λ n. n ≤ 10 ^ 15) }
+{
+    read_by(&BANDWIDTH_UNITS, GREATEST_AMOUNT, text)
+}
+
+/// Reads a time in nanoseconds, up to 10^18. Without a unit it is in seconds.
+pub fn read_time(text: &[u8]) -> Result<u64, AmountFault>
+    ensures value { result ≡ time_of text.now }
+    ensures limit { IfOk result IsTime }
+{
+    read_by(&TIME_UNITS, GREATEST_TIME, text)
+}

@@ -1,0 +1,75 @@
+//! The units of the readers.
+ghost use Rattle.std.specs.Prelude.{◌≡◌, IsTrue, IfSome};
+ghost use Rattle.sg_units.specs.Units.{rows, size_of, are_sizes, IsSize};
+
+/// A size as a fraction.
+#[derive(Clone, Copy, Debug)]
+pub struct Ratio {
+    pub numerator: u64,
+    pub denominator: u64,
+}
+
+/// A unit: its name, and the numerator and the denominator of its size in the base unit.
+pub type UnitRow = (&'static [u8], u64, u64);
+
+/// Flops and bytes.
+pub const AMOUNT_UNITS: [UnitRow; 1] = [(b"", 1, 1)];
+
+/// Flops per second.
+pub const SPEED_UNITS: [UnitRow; 7] = [
+    (b"", 1, 1),
+    (b"f", 1, 1),
+    (b"kf", 1_000, 1),
+    (b"Mf", 1_000_000, 1),
+    (b"Gf", 1_000_000_000, 1),
+    (b"Tf", 1_000_000_000_000, 1),
+    (b"Pf", 1_000_000_000_000_000, 1),
+];
+
+/// Bytes per second.
+pub const BANDWIDTH_UNITS: [UnitRow; 13] = [
+    (b"", 1, 1),
+    (b"Bps", 1, 1),
+    (b"kBps", 1_000, 1),
+    (b"MBps", 1_000_000, 1),
+    (b"GBps", 1_000_000_000, 1),
+    (b"TBps", 1_000_000_000_000, 1),
+    (b"KiBps", 1 << 10, 1),
+    (b"MiBps", 1 << 20, 1),
+    (b"GiBps", 1 << 30, 1),
+    (b"bps", 1, 8),
+    (b"kbps", 1_000, 8),
+    (b"Mbps", 1_000_000, 8),
+    (b"Gbps", 1_000_000_000, 8),
+];
+
+/// Nanoseconds.
+pub const TIME_UNITS: [UnitRow; 9] = [
+    (b"", 1_000_000_000, 1),
+    (b"ns", 1, 1),
+    (b"us", 1_000, 1),
+    (b"ms", 1_000_000, 1),
+    (b"s", 1_000_000_000, 1),
+    (b"m", 60_000_000_000, 1),
+    (b"h", 3_600_000_000_000, 1),
+    (b"d", 86_400_000_000_000, 1),
+    (b"w", 604_800_000_000_000, 1),
+];
+
+/// The size of the unit of this name.
+pub fn size_of(mut units: &[UnitRow], name: &[u8]) -> Option<Ratio>
+    requires { IsTrue (are_sizes (rows units.now)) }
+    ensures size { result ≡ size_of (rows units.entry.now) name.now }
+    ensures small { IfSome result IsSize }
+{
+    while let [(unit, numerator, denominator), rest @ ..] = units {
+        if *unit == name {
+            return Some(Ratio {
+                numerator: *numerator,
+                denominator: *denominator,
+            });
+        }
+        units = rest;
+    }
+    None
+}
