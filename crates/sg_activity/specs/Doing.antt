@@ -1,12 +1,9 @@
 -- What contracts see of `Activities`.
-use Rattle.std.specs.Prelude.{◌≡◌, ℕ, ◌+◌, ◌-◌, ◌*◌, ◌^◌, ◌<◌, ◌≤◌, ◌==◌, if◌then◌else◌, Bool, false, Option, None, Some, List, [], ◌∷◌, ◌++◌, length, slice_set, is_some, refl}
+use Rattle.std.specs.Prelude.{◌≡◌, ℕ, ◌+◌, ◌-◌, ◌*◌, ◌^◌, ◌<◌, ◌≤◌, Bool, false, Option, None, Some, List, [], ◌∷◌, ◌++◌, length, slice_set, is_some}
 use Rattle.std.specs.List.{list_any}
-use Rattle.std.specs.Coded.{Coded, code_by, coded×, coded_ℕ, coded_bool, coded_list, coded_option}
-use Rattle.sg_maxmin.specs.Sharing.{flow_code}
 use Rattle.sg_maxmin.specs.Fill.{Flow}
 use Rattle.sg_activity.specs.declared.kinds.HostCap.{HostCap}
 use Rattle.sg_activity.specs.declared.kinds.Phase.{Phase}
-use Rattle.sg_activity.specs.declared.kinds.PhaseKind.{PhaseKind}
 use Rattle.sg_activity.specs.declared.kinds.PhaseKind.TheVariants as phase
 use Rattle.sg_activity.specs.Hosts.{host_flow}
 use Rattle.sg_activity.specs.Dates.{next_in, tasks_later, due_in}
@@ -20,29 +17,6 @@ pub record Doing : Type 0 where
   pub due : List ℕ
   pub settled : Bool
   pub room : ℕ
-
-abbrev pub kind_number : PhaseKind → ℕ
-kind_number phase.Exec = 0
-kind_number phase.Timer = 1
-
-abbrev pub kind_numbered : ℕ → PhaseKind
-kind_numbered n = if n == 0 then phase.Exec else phase.Timer
-
-abbrev pub kind_again : (k : PhaseKind) → kind_numbered (kind_number k) ≡ k
-kind_again phase.Exec = refl
-kind_again phase.Timer = refl
-
-abbrev pub kind_code : Coded PhaseKind
-kind_code = code_by ℕ coded_ℕ kind_number kind_numbered kind_again
-
-abbrev pub task_code : Coded Task
-task_code = code_by (PhaseKind × (ℕ × Flow)) (coded× kind_code (coded× coded_ℕ flow_code)) (λ t. (t.kind, (t.left, t.flow))) (λ p. record { kind = p.0; left = p.1.0; flow = p.1.1 }) (λ _. refl)
-
-abbrev pub host_code : Coded HostCap
-host_code = code_by (ℕ × ℕ) (coded× coded_ℕ coded_ℕ) (λ h. (h.speed, h.cores)) (λ p. record { speed = p.0; cores = p.1 }) (λ _. refl)
-
-abbrev pub doing_code : Coded Doing
-doing_code = code_by (List HostCap × (ℕ × (List (Option Task) × (List ℕ × (Bool × ℕ))))) (coded× (coded_list host_code) (coded× coded_ℕ (coded× (coded_list (coded_option task_code)) (coded× (coded_list coded_ℕ) (coded× coded_bool coded_ℕ))))) (λ d. (d.hosts, (d.date, (d.tasks, (d.due, (d.settled, d.room)))))) (λ p. record { hosts = p.0; date = p.1.0; tasks = p.1.1.0; due = p.1.1.1.0; settled = p.1.1.1.1.0; room = p.1.1.1.1.1 }) (λ _. refl)
 
 abbrev pub no_flow : Flow
 no_flow = record { uses = []; bound = None }
@@ -90,7 +64,7 @@ abbrev pub ended : List ℕ → Doing → Doing
 ended [] doing = doing
 ended (serial ∷ more) doing = record doing { tasks = slice_set doing.tasks (serial - 1) None; due = more; settled = false }
 
--- the date isn't behind this time
+-- no more nanoseconds than this
 abbrev pub IsUpTo : ℕ → Option ℕ → Type 0
 IsUpTo span None = ⊥
 IsUpTo span (Some time) = span ≤ time

@@ -14,7 +14,15 @@ use std::alloc::Global;
 use std::marker::Model;
 use std::sync::ledger::Ledger;
 
-/// The activities under way on some hosts, each under the serial that it drew.
+/// The activities under way on some hosts: executions, which share their hosts by progressive filling, and sleeps.
+/// Each has the serial that it drew, counted up from 1.
+///
+/// Contracts see the hosts, the date, by serial the phase that is under way or nothing, the serials that are due,
+/// whether the rates are up to date, and for how many starts there is room. Dates and times are in nanoseconds.
+/// What is left of an execution is in unit-nanoseconds: one of so many flops needs 10^9 times as many, and each
+/// nanosecond takes as much as the rate.
+///
+/// A pass is `settle`, `next_date`, `advance_to`, and then `due` and `finish` for each phase that is due.
 #[derive(Drop)]
 pub struct Activities {
     hosts: Vec<HostCap>,
@@ -32,11 +40,9 @@ pub struct Activities {
 }
 
 impl Model for Activities {
-    ghost use Rattle.sg_activity.specs.Doing.{Doing, doing_code};
+    ghost use Rattle.sg_activity.specs.Doing.{Doing};
 
     ghost Value = { Doing };
-
-    ghost coded = { doing_code };
 
     ghost use Rattle.std.specs.Prelude.{◌≡◌, ◌+◌, ◌<◌, ◌≤◌, ◌^◌, [], filter, take, length, vec_len, vec_capacity};
     ghost use Rattle.sg_activity.specs.Rows.{AreKept, AreRising, slots_of, doing_of, is_due};
@@ -62,7 +68,7 @@ fn offers(alloc: Global, hosts: &[HostCap]) -> Result<Vec<u64>, Memory>
 }
 
 impl Activities {
-    /// Nothing is under way on these hosts.
+    /// Nothing is under way on these hosts, and the date is 0.
     pub fn new(alloc: Global, hosts: &[HostCap]) -> Result<Activities, Memory>
         requires hosts { All IsHost hosts.now }
         ensures { IfOk result (λ doing. doing ≡ nothing_on hosts.now) }
@@ -80,7 +86,8 @@ impl Activities {
         })
     }
 
-    /// Room for so many more starts.
+    /// Makes room for so many more starts, which then take no memory. Nothing but the room changes, also where there
+    /// is no memory, and the room doesn't shrink.
     pub fn reserve(&mut self, n: usize) -> Result<(), Memory>
         ensures room { OnOk result (n ≤ self.new.room) }
         ensures grows { self.old.room ≤ self.new.room }
@@ -93,7 +100,7 @@ impl Activities {
         Ok(())
     }
 
-    /// An execution, under the serial that is answered.
+    /// Starts an execution of so many flops on a host, and answers its serial. It gets at most the host's speed.
     pub fn start_exec(&mut self, host: PointId, flops: u64) -> Serial
         requires host { host.0 < length self.old.hosts }
         requires flops { IsAmount flops }
@@ -120,7 +127,7 @@ impl Activities {
         serial
     }
 
-    /// A sleep, under the serial that is answered.
+    /// Starts a sleep of so many nanoseconds, and answers its serial.
     pub fn start_timer(&mut self, ns: u64) -> Serial
         requires ns { IsTime ns }
         requires room { 0 < self.old.room }
@@ -152,7 +159,8 @@ impl Activities {
         Serial(self.drawn + 1)
     }
 
-    /// Brings the rates up to date.
+    /// Brings the rates up to date: each execution's is its share of the filling of all of them. `steps` counts the
+    /// looks at uses of hosts.
     pub fn settle<L: Ledger>(&mut self, steps: &mut Steps<L>)
         ensures { self.new ≡ record self.old { settled = true } }
     {
@@ -176,7 +184,8 @@ impl Activities {
         rows::is_any(&self.rows)
     }
 
-    /// The date of the next phase end.
+    /// The date at which the next phase is due: now where nothing is left of it, and else once its rate has taken what
+    /// is left. `None` where none ever is, since each has the rate 0 or nothing is under way.
     pub fn next_date(&self) -> Option<u128>
         requires { IsTrue self.now.settled }
         ensures { MatchOption result (next_in self.now.hosts self.now.tasks ≡ None) (λ date. IsNext self.now date) }
@@ -187,7 +196,8 @@ impl Activities {
         }
     }
 
-    /// Goes to that date.
+    /// Goes to a date, from now to that of `next_date`: of each phase so much is left as its rate leaves in that
+    /// time, and those whose date it is are due.
     pub fn advance_to(&mut self, date: u128)
         requires settled { IsTrue self.old.settled }
         requires from { self.old.date ≤ date }
@@ -201,7 +211,7 @@ impl Activities {
         self.date = date;
     }
 
-    /// The next phase that is due.
+    /// The phase of least serial that is due and not ended yet.
     pub fn due(&self) -> Option<Phase>
         requires { length self.now.tasks ≤ 10 ^ 9 }
         ensures { MatchOption result (self.now.due ≡ []) (λ phase. IsDue self.now phase) }
@@ -215,7 +225,7 @@ impl Activities {
         }
     }
 
-    /// Ends that phase.
+    /// Ends the phase that `due` tells: its activity is done.
     pub fn finish(&mut self)
         requires { self.old.due ≢ [] }
         ensures { self.new ≡ ended self.old.due self.old }

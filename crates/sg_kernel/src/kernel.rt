@@ -25,6 +25,13 @@ use std::sync::ledger::Ledger;
 /// What runs a simulation. In a round each ready actor takes its turn, and the kernel answers the calls by rising
 /// actor; once nobody is ready, a pass moves the date to where the next activities are done. Each call that is
 /// answered and each activity that is done is one event.
+///
+/// Contracts see the setup, the core of the world, the records that aren't cleared, and for how many calls there is
+/// room. It stands for each world with that core: it keeps no minds of actors, no numbers of their Asks, nothing of
+/// activities that are done, and no record once it is cleared.
+///
+/// After a `Stop` it is as before the event that was refused. A pass that the budget stops in its middle keeps the
+/// events before that one, and one that it stops before its first event leaves the date.
 #[derive(Drop)]
 pub struct Kernel {
     parts: Parts,
@@ -61,7 +68,7 @@ impl Kernel {
     }
 
     /// Makes room for so many calls, and for all passes up to the next round. The calls and the passes then take
-    /// no memory.
+    /// no memory. Nothing but the room changes, also where there is no memory.
     pub fn reserve_round(&mut self, n: usize) -> Result<(), Memory>
         ensures room { OnOk result (n ≤ self.new.room) }
         ensures kept { self.new ≡ record self.old { room = self.new.room } }
@@ -144,7 +151,8 @@ impl Kernel {
         self.parts.room -= 1;
     }
 
-    /// Moves the date to where the next activities are done, and ends them by rising serial.
+    /// Moves the date to where the next activities are done, and ends them by rising serial: each answers its actor,
+    /// with a record. `steps` counts the looks of the filling.
     pub fn pass<L: Ledger>(&mut self, steps: &mut Steps<L>) -> Result<(), Stop>
         requires idle { list_any is_ready self.old.core.actors ≡ false }
         requires going { list_all is_ended self.old.core.actors ≡ false }
