@@ -5,6 +5,8 @@ ghost use Rattle.sg_edge.specs.declared.files.Stage.TheVariants.{Fresh, Over};
 ghost use Rattle.sg_script.specs.Asked.{is_newline, is_last_line};
 ghost use Rattle.sg_script.specs.Front.{FrontIs};
 
+use crate::judging::MOST_LINES;
+use crate::line::LONGEST_LINE;
 use sg_edge::Stage;
 
 /// What stands at the front of bytes that were read.
@@ -31,7 +33,7 @@ fn newline_at(bytes: &[u8]) -> Option<usize>
 fn is_bad(bytes: &[u8], before: u64) -> bool
     ensures { result ≡ is_last_line true before bytes.now }
 {
-    bytes.len() > 4096 || (!bytes.is_empty() && before == 100_000_000)
+    bytes.len() > LONGEST_LINE || (!bytes.is_empty() && before == MOST_LINES)
 }
 
 // What stands behind the last newline, where no more is to come.

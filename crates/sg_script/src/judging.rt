@@ -12,7 +12,7 @@ use sg_base::Action;
 use sg_platform::Deployment;
 
 /// The most lines of a script.
-const MOST_LINES: u64 = 100_000_000;
+pub const MOST_LINES: u64 = 100_000_000;
 
 /// The judgement of a line before which so many lines stand.
 pub fn judge(line: &[u8], before: u64, deployment: &Deployment) -> Result<Option<Entry>, LineFault>

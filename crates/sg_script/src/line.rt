@@ -14,7 +14,7 @@ use sg_platform::Deployment;
 use sg_units::{read_amount, read_time};
 
 /// The most bytes of a line, its newline not counted.
-const LONGEST_LINE: usize = 4096;
+pub const LONGEST_LINE: usize = 4096;
 
 /// A good line: whose it is, and what it asks for.
 #[derive(Clone, Copy, Debug, PartialEq, Eq)]

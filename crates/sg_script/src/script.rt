@@ -24,9 +24,9 @@ use std::alloc::Global;
 /// that needs more.
 #[derive(Drop)]
 pub struct Script {
-    pub queues: Queues,
-    pub pending: Pending,
-    pub before: u64,
+    queues: Queues,
+    pending: Pending,
+    before: u64,
     ghost few: { before ≤ 100000000 },
     ghost some: { 0 < length queues },
 }
