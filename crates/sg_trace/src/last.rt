@@ -1,0 +1,17 @@
+//! What is told at the end of a run.
+use sg_base::{ActorId, Call};
+
+/// What a line at the end of a run tells. Dates are in nanoseconds.
+#[derive(Clone, Copy, Debug, PartialEq, Eq)]
+pub enum Last {
+    /// All actors had ended at this date.
+    Time(u128),
+    /// Nobody was ready, and nothing was under way.
+    Deadlock(u128),
+    /// Nobody was ready, and nothing that was under way would ever be over.
+    Starved(u128),
+    /// The budget, of so many events, was used up at this date.
+    Budget(u64, u128),
+    /// An actor that was blocked on this call.
+    Blocked(ActorId, Call),
+}

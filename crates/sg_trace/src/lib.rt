@@ -1,0 +1,13 @@
+//! The lines on standard output: those of the trace, and those that tell how a run ended. Nothing here takes memory.
+#![tactic(auto)]
+
+mod last;
+mod lines;
+mod pieces;
+
+pub use last::Last;
+pub use lines::{ending_line, line};
+pub use pieces::Line;
+
+#[cfg(test)]
+mod tests;

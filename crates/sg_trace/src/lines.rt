@@ -1,0 +1,79 @@
+//! The lines on standard output.
+ghost use Rattle.std.specs.Prelude.{◌≡◌, ◌≤◌, ◌+◌, ◌++◌, length};
+ghost use Rattle.arrayvec.specs.ArrayString.{array_string_len};
+ghost use Rattle.sg_platform.specs.Deployment.{IsDeployedOn};
+ghost use Rattle.sg_trace.specs.Ending.{IsLastOf, ending_of, last_text};
+ghost use Rattle.sg_trace.specs.Line.{IsDate, IsOfDeployment, line_of};
+ghost use Rattle.sg_units.specs.Date.{date_of};
+
+use crate::last::Last;
+use crate::pieces::{Line, push_actor, push_call, push_date, push_number, push_took};
+use sg_base::Record;
+use sg_platform::{Deployment, PlatformText};
+
+/// The line of the trace that tells a record, with its newline. It takes no memory.
+pub fn line(answered: &Record, platform: &PlatformText, deployment: &Deployment) -> Line
+    requires answered { IsOfDeployment deployment.now answered.now }
+    requires deployed { IsDeployedOn platform.now deployment.now }
+    ensures { result.bytes ≡ line_of answered.now platform.now deployment.now }
+{
+    let mut line = Line::new();
+    line.push_str("[");
+    push_actor(&mut line, platform, deployment, answered.actor);
+    line.push_str(" ");
+    push_date(&mut line, answered.date);
+    line.push_str("] ");
+    push_call(&mut line, answered.what);
+    line.push_str(" ");
+    push_took(&mut line, answered.took);
+    line.push_str("\n");
+    line
+}
+
+fn push_dated(line: &mut Line, text: &str, date: u128)
+    requires date { IsDate date }
+    requires text { length text.now ≤ 40 }
+    requires room { array_string_len line.old ≤ 400 }
+    ensures bytes { line.new.bytes ≡ line.old.bytes ++ (text.now ++ date_of date) }
+    ensures len { array_string_len line.new ≤ array_string_len line.old + 104 }
+{
+    line.push_str(text);
+    push_date(line, date);
+}
+
+fn push_last(line: &mut Line, last: Last, platform: &PlatformText, deployment: &Deployment)
+    requires last { IsLastOf deployment.now last }
+    requires deployed { IsDeployedOn platform.now deployment.now }
+    requires room { array_string_len line.old ≤ 200 }
+    ensures bytes { line.new.bytes ≡ line.old.bytes ++ last_text last platform.now deployment.now }
+    ensures len { array_string_len line.new ≤ array_string_len line.old + 200 }
+{
+    match last {
+        Last::Time(date) => push_dated(line, "Simulation time ", date),
+        Last::Deadlock(date) => push_dated(line, "deadlock at ", date),
+        Last::Starved(date) => push_dated(line, "starved at ", date),
+        Last::Budget(events, date) => {
+            line.push_str("budget of ");
+            push_number(line, events);
+            push_dated(line, " events used at ", date);
+        }
+        Last::Blocked(actor, call) => {
+            line.push_str("blocked [");
+            push_actor(line, platform, deployment, actor);
+            line.push_str("] ");
+            push_call(line, call);
+        }
+    }
+}
+
+/// A line that tells how the run ended, with its newline. It takes no memory.
+pub fn ending_line(last: &Last, platform: &PlatformText, deployment: &Deployment) -> Line
+    requires last { IsLastOf deployment.now last.now }
+    requires deployed { IsDeployedOn platform.now deployment.now }
+    ensures { result.bytes ≡ ending_of last.now platform.now deployment.now }
+{
+    let mut line = Line::new();
+    push_last(&mut line, *last, platform, deployment);
+    line.push_str("\n");
+    line
+}
