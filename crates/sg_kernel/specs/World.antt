@@ -26,7 +26,7 @@ pub record Core : Type 0 where
 -- The world: the core, and of each actor its mind and how many Asks it has made. The records are what its steps make, one after another.
 pub record World : Type 0 where
   pub minds : List Mind
-  pub asks : List ℕ
+  pub asks : ℕ → ℕ
   pub core : Core
 
 abbrev pub host_of : Setup → ℕ → ℕ

@@ -158,6 +158,7 @@ impl Kernel {
         requires going { list_all is_ended self.old.core.actors ≡ false }
         ensures step { self.new ≡ after (pass_of self.old.setup self.old.core) self.old }
         ensures result { result ≡ result_of (pass_of self.old.setup self.old.core).stop }
+        ensures actors { length self.new.core.actors ≡ length self.old.core.actors }
     {
         self.parts.doing.settle(steps);
         let Some(date) = self.parts.doing.next_date() else {

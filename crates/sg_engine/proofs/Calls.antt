@@ -1,0 +1,145 @@
+-- Calls that are answered one after another.
+use Rattle.std.proofs.Common.{◌≡◌, ◌≢◌, ◌∙◌, sym, ap, ap₂, subst, refl, ℕ, ◌+◌, ◌-◌, ◌==◌, ◌<◌, ◌≤◌, Bool, true, false, cond, List, [], ◌++◌, length, set, get_or, drop, Option, None, Some, Result, Ok, Err, IsTrue, arith, append_assoc}
+use Rattle.std.specs.Prelude.{option_map}
+use Rattle.std.proofs.lemmas.List.{append-nil, get_or-set_other, length-set, at_drop_more, at_drop_all}
+use Rattle.sg_base.specs.declared.call.Action.{Action}
+use Rattle.sg_base.specs.declared.call.Call.{Call}
+use Rattle.sg_base.specs.declared.call.Call.TheVariants as call
+use Rattle.sg_base.specs.declared.trace_record.Record.{Record}
+use Rattle.sg_base.specs.Mind.{Mind}
+use Rattle.sg_edge.specs.Files.{PartView}
+use Rattle.sg_edge.specs.Given.{Source}
+use Rattle.sg_edge.specs.declared.files.Stage.TheVariants.{Fresh}
+use Rattle.sg_kernel.specs.declared.states.State.{State}
+use Rattle.sg_kernel.specs.declared.states.State.TheVariants.{Ended as HasEnded}
+use Rattle.sg_kernel.specs.World.{Setup, Core, World, MayCall, is_ready}
+use Rattle.sg_kernel.specs.Calls.{Step, answered, answered_call, told, stops}
+use Rattle.sg_kernel.specs.Known.{Known, after}
+use Rattle.sg_kernel.specs.declared.states.Stop.TheVariants.{Budget}
+use Rattle.sg_script.specs.Asked.{asked}
+use Rattle.sg_script.specs.Known.{Known as Names}
+use Rattle.sg_script.specs.Stands.{Kept, IsAsked, Reads, one_more}
+use Rattle.sg_script.specs.declared.fault.ScriptFault.{ScriptFault}
+use Rattle.sg_script.proofs.Chains.{reads_none, reads_then}
+use Rattle.sg_script.proofs.Whole.{GoesOn}
+use Rattle.sg_engine.specs.declared.ended.Ended.{Ended}
+use Rattle.sg_engine.specs.declared.ended.Ended.TheVariants as ended
+use Rattle.sg_engine.specs.Run.{Answering, Progress, at_world, with_front, and_then, ended_by, in_world, ask, tells, one_call, if_call, calls_from}
+use Rattle.sg_engine.specs.Reached.{Moment, moment, StandsFor, Reached, CutOff, ending}
+use Rattle.sg_engine.proofs.Reaching.{reached_then, reached_as, rest_as, goes_on_to, ends_at, stands_as}
+
+-- ---- one call
+-- a step of the kernel, for which nothing of the script was read
+pub stepped : (names : Names) (taken : List ℕ) (minds : List Mind) (part : PartView) (kept : Kept) (old new : Known) (world : World) (step : Step) (how : Option Ended) →
+    part.stage ≢ Fresh → StandsFor names taken minds (moment part kept old) world → new.core ≡ step.core → new.records ≡ old.records ++ step.made → new.setup ≡ old.setup → how ≡ option_map ended_by step.stop →
+    Reached names (λ answers. in_world world step) (ending how) taken minds (moment part kept old) (moment part kept new)
+stepped names taken minds part kept old new world step how begun stands core records setup is = record {
+  piece = [];
+  reads = reads_none part begun;
+  setup = setup;
+  world = record world { core = step.core };
+  stands = stands_as names taken (taken ++ []) minds (moment part kept new) (record world { core = step.core }) (sym (append-nil taken)) (record { script = stands.script; core = core; minds = stands.minds });
+  made = step.made;
+  records = records;
+  is = λ source goes.
+      let end : List Record → Option Ended → Progress = λ made ended. record { world = record world { core = step.core }; made = made; ended = ended } in
+      ap₂ end (sym (append-nil step.made)) (sym is);
+}
+
+-- the budget is used up: nothing happens
+pub used_up : (names : Names) (taken : List ℕ) (minds : List Mind) (part : PartView) (kept : Kept) (known : Known) (world : World) (actor : ℕ) →
+    part.stage ≢ Fresh → StandsFor names taken minds (moment part kept known) world → (known.core.events == known.setup.budget) ≡ true →
+    Reached names (λ answers. ask known.setup answers actor world) (ending (Some ended.Budget)) taken minds (moment part kept known) (moment part kept known)
+used_up names taken minds part kept known world actor begun stands used = record {
+  piece = [];
+  reads = reads_none part begun;
+  setup = refl;
+  world = world;
+  stands = stands_as names taken (taken ++ []) minds (moment part kept known) world (sym (append-nil taken)) stands;
+  made = [];
+  records = sym (append-nil known.records);
+  is = λ source goes.
+      let here : (world.core.events == known.setup.budget) ≡ true = ap (λ (core : Core). core.events == known.setup.budget) (sym stands.core) ∙ used in
+      ap (λ (b : Bool). cond b (at_world (Some ended.Budget) world) (tells known.setup actor (asked names source actor (world.asks actor)) (record world { asks = one_more actor world.asks }))) here;
+}
+
+-- the script has answered an Ask
+abbrev pub asked_to : (names : Names) (taken : List ℕ) (minds : List Mind) (part part' : PartView) (kept kept' : Kept) (known : Known) (world : World) (actor : ℕ) (answer : Result (Option Action) ScriptFault) →
+    StandsFor names taken minds (moment part kept known) world → (known.core.events == known.setup.budget) ≡ false → IsAsked names taken world.asks actor answer part part' kept' →
+    Reached names (λ answers. ask known.setup answers actor world) (λ answers w. tells known.setup actor answer w) taken minds (moment part kept known) (moment part' kept' known)
+asked_to names taken minds part part' kept kept' known world actor answer stands unused is_asked = record {
+  piece = is_asked.piece;
+  reads = is_asked.reads;
+  setup = refl;
+  world = record world { asks = one_more actor world.asks };
+  stands = record { script = is_asked.stands; core = stands.core; minds = stands.minds };
+  made = [];
+  records = sym (append-nil known.records);
+  is = λ source goes.
+      let here : (world.core.events == known.setup.budget) ≡ false = ap (λ (core : Core). core.events == known.setup.budget) (sym stands.core) ∙ unused in
+      let next : World = record world { asks = one_more actor world.asks } in
+      let said : asked names source actor (world.asks actor) ≡ answer = ap (λ (b : List ℕ). asked names (record { bytes = b; broken = source.broken }) actor (world.asks actor)) goes.bytes ∙ is_asked.answer_is goes.rest source.broken goes.may in
+      ap (λ (b : Bool). cond b (at_world (Some ended.Budget) world) (tells known.setup actor (asked names source actor (world.asks actor)) next)) here
+      ∙ ap (λ (a : Result (Option Action) ScriptFault). tells known.setup actor a next) said;
+}
+
+-- and the kernel has told it to the actor
+pub told_to : (names : Names) (taken : List ℕ) (minds : List Mind) (part part' : PartView) (kept kept' : Kept) (old new : Known) (world : World) (actor : ℕ) (action : Option Action) (how : Option Ended) →
+    StandsFor names taken minds (moment part kept old) world → (old.core.events == old.setup.budget) ≡ false → IsAsked names taken world.asks actor (Ok action) part part' kept' →
+    new.core ≡ (told old.setup old.core actor action).core → new.records ≡ old.records ++ (told old.setup old.core actor action).made → new.setup ≡ old.setup → how ≡ option_map ended_by (told old.setup old.core actor action).stop →
+    Reached names (λ answers. ask old.setup answers actor world) (ending how) taken minds (moment part kept old) (moment part' kept' new)
+told_to names taken minds part part' kept kept' old new world actor action how stands unused is_asked core records setup is =
+    let first = asked_to names taken minds part part' kept kept' old world actor (Ok action) stands unused is_asked in
+    let step : Core → Step = λ c. told old.setup c actor action in
+    let same : old.core ≡ world.core = stands.core in
+    reached_then names (λ answers. ask old.setup answers actor world) (λ answers w. tells old.setup actor (Ok action) w) (ending how) taken minds minds (moment part kept old) (moment part' kept' old) (moment part' kept' new) first
+    (stepped names (taken ++ is_asked.piece) minds part' kept' old new (record world { asks = one_more actor world.asks }) (step world.core) how is_asked.reads.begun first.stands
+    (core ∙ ap (λ (c : Core). (step c).core) same)
+    (records ∙ ap (λ (c : Core). old.records ++ (step c).made) same)
+    setup
+    (is ∙ ap (λ (c : Core). option_map ended_by (step c).stop) same))
+
+-- ---- calls one after another
+calls_more : (setup : Setup) (answers : Answering) (calls : List (Option Call)) (i : ℕ) (world : World) → i < length calls →
+    calls_from setup answers (i + 1) (drop i calls) world ≡ and_then (if_call setup answers (i + 1) (get_or calls i None) world) (calls_from setup answers (i + 1 + 1) (drop (i + 1) calls))
+unfolding calls_from
+calls_more setup answers calls i world within = at_drop_more (λ l. calls_from setup answers (i + 1) l world) calls i None within
+
+calls_none : (setup : Setup) (answers : Answering) (calls : List (Option Call)) (i : ℕ) (world : World) → length calls ≤ i → calls_from setup answers (i + 1) (drop i calls) world ≡ at_world None world
+unfolding calls_from
+calls_none setup answers calls i world past = at_drop_all (λ l. calls_from setup answers (i + 1) l world) calls i past
+
+-- the calls from a place on
+abbrev pub rest_from : Setup → List (Option Call) → ℕ → Answering → World → Progress
+rest_from setup calls i answers world = calls_from setup answers (i + 1) (drop i calls) world
+
+-- one more call was answered, and the run goes on
+pub one_more_call : (names : Names) (whole : Answering → Progress) (setup : Setup) (calls : List (Option Call)) (i : ℕ) (taken : List ℕ) (minds : List Mind) (old mid new : Moment) → i < length calls → mid.kernel.setup ≡ setup →
+    (first : Reached names whole (rest_from setup calls i) taken minds old mid) → Reached names (λ answers. if_call mid.kernel.setup answers (i + 1) (get_or calls i None) first.world) (ending None) (taken ++ first.piece) minds mid new →
+    Reached names whole (rest_from setup calls (i + 1)) taken minds old new
+one_more_call names whole setup calls i taken minds old mid new within same first step =
+    let here : Reached names (λ answers. if_call setup answers (i + 1) (get_or calls i None) first.world) (ending None) (taken ++ first.piece) minds mid new =
+    subst (λ (s : Setup). Reached names (λ answers. if_call s answers (i + 1) (get_or calls i None) first.world) (ending None) (taken ++ first.piece) minds mid new) same step in
+    reached_then names whole (rest_from setup calls i) (rest_from setup calls (i + 1)) taken minds minds old mid new first
+    (reached_as names _ (λ answers. rest_from setup calls i answers first.world) (rest_from setup calls (i + 1)) (taken ++ first.piece) minds mid new (λ answers. calls_more setup answers calls i first.world within)
+    (goes_on_to names (λ answers. if_call setup answers (i + 1) (get_or calls i None) first.world) (rest_from setup calls (i + 1)) (taken ++ first.piece) minds mid new here))
+
+-- one more call was answered, and the run has ended
+pub last_call : (names : Names) (whole : Answering → Progress) (setup : Setup) (calls : List (Option Call)) (i : ℕ) (how : Ended) (taken : List ℕ) (minds : List Mind) (old mid new : Moment) → i < length calls → mid.kernel.setup ≡ setup →
+    (first : Reached names whole (rest_from setup calls i) taken minds old mid) → Reached names (λ answers. if_call mid.kernel.setup answers (i + 1) (get_or calls i None) first.world) (ending (Some how)) (taken ++ first.piece) minds mid new →
+    Reached names whole (ending (Some how)) taken minds old new
+last_call names whole setup calls i how taken minds old mid new within same first step =
+    let here : Reached names (λ answers. if_call setup answers (i + 1) (get_or calls i None) first.world) (ending (Some how)) (taken ++ first.piece) minds mid new =
+    subst (λ (s : Setup). Reached names (λ answers. if_call s answers (i + 1) (get_or calls i None) first.world) (ending (Some how)) (taken ++ first.piece) minds mid new) same step in
+    reached_then names whole (rest_from setup calls i) (ending (Some how)) taken minds minds old mid new first
+    (reached_as names _ (λ answers. rest_from setup calls i answers first.world) (ending (Some how)) (taken ++ first.piece) minds mid new (λ answers. calls_more setup answers calls i first.world within)
+    (ends_at names (λ answers. if_call setup answers (i + 1) (get_or calls i None) first.world) (rest_from setup calls (i + 1)) how (taken ++ first.piece) minds mid new here))
+
+-- no call is left
+pub all_called : (names : Names) (whole : Answering → Progress) (setup : Setup) (calls : List (Option Call)) (i : ℕ) (taken : List ℕ) (minds : List Mind) (old new : Moment) → length calls ≤ i →
+    Reached names whole (rest_from setup calls i) taken minds old new → Reached names whole (ending None) taken minds old new
+all_called names whole setup calls i taken minds old new past reached = rest_as names whole (rest_from setup calls i) (ending None) taken minds old new (λ answers world. calls_none setup answers calls i world past) reached
+
+-- memory was wanting at a later call
+pub cut_later : (piece : List ℕ) (old mid new : PartView) → Reads piece old mid → CutOff mid new → CutOff old new
+cut_later piece old mid new reads cut = record { piece = piece ++ cut.piece; reads = reads_then piece cut.piece old mid new reads cut.reads }

@@ -1,0 +1,124 @@
+-- Stretches of a run, one after another.
+use Rattle.std.proofs.Common.{◌≡◌, ◌∙◌, sym, ap, ap₂, subst, refl, ℕ, List, [], ◌++◌, length, Bool, Option, None, Some, append_assoc}
+use Rattle.std.proofs.lemmas.List.{append-nil}
+use Rattle.sg_base.specs.declared.trace_record.Record.{Record}
+use Rattle.sg_base.specs.Mind.{Mind}
+use Rattle.sg_edge.specs.Given.{Source}
+use Rattle.sg_edge.specs.declared.files.Stage.{Stage}
+use Rattle.sg_edge.specs.Files.{PartView}
+use Rattle.sg_kernel.specs.World.{World}
+use Rattle.sg_script.specs.Asked.{asked}
+use Rattle.sg_script.specs.Known.{Known as Names}
+use Rattle.sg_script.specs.Stands.{Kept, Stands, Reads}
+use Rattle.sg_script.proofs.Whole.{GoesOn}
+use Rattle.sg_script.proofs.Chains.{may_back, reads_then, reads_none}
+use Rattle.sg_engine.specs.declared.ended.Ended.{Ended}
+use Rattle.sg_engine.specs.Run.{Answering, Progress, at_world, with_front, and_then, and_then_by}
+use Rattle.sg_engine.specs.Reached.{Moment, StandsFor, Reached, ending}
+
+-- a source that goes on from a later moment goes on from an earlier one
+pub goes_back : (taken piece : List ℕ) (old new : PartView) (source : Source) → Reads piece old new → GoesOn (taken ++ piece) new.stage source → GoesOn taken old.stage source
+goes_back taken piece old new source reads goes = record {
+  rest = piece ++ goes.rest;
+  bytes = goes.bytes ∙ append_assoc taken piece goes.rest;
+  may = may_back old.stage new.stage piece goes.rest source.broken reads.stayed goes.may;
+}
+
+pub front-front : (first second : List Record) (progress : Progress) → with_front first (with_front second progress) ≡ with_front (first ++ second) progress
+front-front first second progress = ap (λ (l : List Record). record progress { made = l }) (sym (append_assoc first second progress.made))
+
+pub stands_as : (names : Names) (taken other : List ℕ) (minds : List Mind) (now : Moment) (world : World) → taken ≡ other → StandsFor names taken minds now world → StandsFor names other minds now world
+stands_as names taken other minds now world same stands = subst (λ (t : List ℕ). StandsFor names t minds now world) same stands
+
+-- one stretch, and then another from where it led
+abbrev pub reached_then : (names : Names) (whole : Answering → Progress) (middle rest : Answering → World → Progress) (taken : List ℕ) (minds then_minds : List Mind) (old mid new : Moment) →
+    (first : Reached names whole middle taken minds old mid) → Reached names (λ answers. middle answers first.world) rest (taken ++ first.piece) then_minds mid new → Reached names whole rest taken then_minds old new
+reached_then names whole middle rest taken minds then_minds old mid new first second =
+    let joined : (taken ++ first.piece) ++ second.piece ≡ taken ++ (first.piece ++ second.piece) = append_assoc taken first.piece second.piece in
+    record {
+      piece = first.piece ++ second.piece;
+      reads = reads_then first.piece second.piece old.part mid.part new.part first.reads second.reads;
+      setup = second.setup ∙ first.setup;
+      world = second.world;
+      stands = stands_as names _ _ then_minds new second.world joined second.stands;
+      made = first.made ++ second.made;
+      records = second.records ∙ ap (λ (l : List Record). l ++ second.made) first.records ∙ append_assoc old.kernel.records first.made second.made;
+      is = λ source goes.
+          let there : GoesOn ((taken ++ first.piece) ++ second.piece) new.part.stage source = subst (λ (t : List ℕ). GoesOn t new.part.stage source) (sym joined) goes in
+          let answers = asked names source in
+          first.is source (goes_back (taken ++ first.piece) second.piece mid.part new.part source second.reads there)
+          ∙ ap (with_front first.made) (second.is source there)
+          ∙ front-front first.made second.made (rest answers second.world);
+    }
+
+-- the whole in other words
+abbrev pub reached_as : (names : Names) (whole other : Answering → Progress) (rest : Answering → World → Progress) (taken : List ℕ) (minds : List Mind) (old new : Moment) →
+    ((answers : Answering) → other answers ≡ whole answers) → Reached names whole rest taken minds old new → Reached names other rest taken minds old new
+reached_as names whole other rest taken minds old new same reached = record {
+  piece = reached.piece;
+  reads = reached.reads;
+  setup = reached.setup;
+  world = reached.world;
+  stands = reached.stands;
+  made = reached.made;
+  records = reached.records;
+  is = λ source goes. same (asked names source) ∙ reached.is source goes;
+}
+
+-- the rest in other words
+abbrev pub rest_as : (names : Names) (whole : Answering → Progress) (rest other : Answering → World → Progress) (taken : List ℕ) (minds : List Mind) (old new : Moment) →
+    ((answers : Answering) (world : World) → rest answers world ≡ other answers world) → Reached names whole rest taken minds old new → Reached names whole other taken minds old new
+rest_as names whole rest other taken minds old new same reached = record {
+  piece = reached.piece;
+  reads = reached.reads;
+  setup = reached.setup;
+  world = reached.world;
+  stands = reached.stands;
+  made = reached.made;
+  records = reached.records;
+  is = λ source goes. reached.is source goes ∙ ap (with_front reached.made) (same (asked names source) reached.world);
+}
+
+-- a first stretch that doesn't end the run
+abbrev pub goes_on_to : (names : Names) (first : Answering → Progress) (next : Answering → World → Progress) (taken : List ℕ) (minds : List Mind) (old new : Moment) →
+    Reached names first (ending None) taken minds old new → Reached names (λ answers. and_then (first answers) (next answers)) next taken minds old new
+goes_on_to names first next taken minds old new reached = record {
+  piece = reached.piece;
+  reads = reached.reads;
+  setup = reached.setup;
+  world = reached.world;
+  stands = reached.stands;
+  made = reached.made;
+  records = reached.records;
+  is = λ source goes.
+      let answers = asked names source in
+      ap (λ (p : Progress). and_then p (next answers)) (reached.is source goes)
+      ∙ ap (λ (l : List Record). with_front l (next answers reached.world)) (append-nil reached.made);
+}
+
+-- a first stretch that ends the run
+abbrev pub ends_at : (names : Names) (first : Answering → Progress) (next : Answering → World → Progress) (how : Ended) (taken : List ℕ) (minds : List Mind) (old new : Moment) →
+    Reached names first (ending (Some how)) taken minds old new → Reached names (λ answers. and_then (first answers) (next answers)) (ending (Some how)) taken minds old new
+ends_at names first next how taken minds old new reached = record {
+  piece = reached.piece;
+  reads = reached.reads;
+  setup = reached.setup;
+  world = reached.world;
+  stands = reached.stands;
+  made = reached.made;
+  records = reached.records;
+  is = λ source goes. ap (λ (p : Progress). and_then p (next (asked names source))) (reached.is source goes);
+}
+
+-- nothing has happened yet
+pub reached_none : (names : Names) (rest : Answering → World → Progress) (taken : List ℕ) (minds : List Mind) (now : Moment) (world : World) → Reads [] now.part now.part → StandsFor names taken minds now world → Reached names (λ answers. rest answers world) rest taken minds now now
+reached_none names rest taken minds now world reads stands = record {
+  piece = [];
+  reads = reads;
+  setup = refl;
+  world = world;
+  stands = stands_as names _ _ minds now world (sym (append-nil taken)) stands;
+  made = [];
+  records = sym (append-nil now.kernel.records);
+  is = λ source goes. refl;
+}

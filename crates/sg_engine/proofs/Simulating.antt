@@ -1,0 +1,277 @@
+-- Parts of a run with their lines, one after another.
+use Rattle.std.proofs.Common.{◌≡◌, ◌≢◌, ◌∙◌, sym, ap, ap₂, subst, refl, ℕ, suc, ◌+◌, ◌-◌, ◌<◌, ◌≤◌, List, [], ◌∷◌, ◌++◌, length, Bool, true, false, cond, Option, None, Some, append_assoc, arith}
+use Rattle.std.specs.Prelude.{MatchBool}
+use Rattle.std.specs.List.{list_all}
+use Rattle.std.proofs.lemmas.List.{append-nil}
+use Rattle.sg_base.specs.declared.trace_record.Record.{Record}
+use Rattle.sg_base.specs.Mind.{Mind}
+use Rattle.sg_edge.specs.Files.{PartView}
+use Rattle.sg_edge.specs.Given.{Source}
+use Rattle.sg_edge.specs.declared.files.Stage.TheVariants.{Fresh}
+use Rattle.sg_edge.specs.Sinks.{gain, Written, GainsFront}
+use Rattle.sg_edge.proofs.Writing.{gain-gain, gain-nil}
+use Rattle.sg_kernel.specs.Known.{Known}
+use Rattle.sg_kernel.specs.World.{Setup, Core, World, is_ended}
+use Rattle.sg_script.specs.Asked.{asked}
+use Rattle.sg_script.specs.Known.{Known as Names}
+use Rattle.sg_script.specs.Stands.{Kept, Reads}
+use Rattle.sg_script.proofs.Chains.{reads_then, reads_none}
+use Rattle.sg_script.proofs.Whole.{GoesOn}
+use Rattle.sg_engine.specs.declared.ended.Ended.{Ended}
+use Rattle.sg_engine.specs.declared.ended.Ended.TheVariants as ended
+use Rattle.sg_engine.specs.Reached.{Moment, moment, StandsFor, Reached, CutOff, ending}
+use Rattle.sg_engine.specs.Run.{Answering, Progress, at_world, with_front, and_then, and_then_by, round_or_pass, run_from}
+use Rattle.sg_engine.specs.Gains.{cuts}
+use Rattle.sg_engine.specs.Keeping.{PartIs}
+use Rattle.sg_engine.specs.Simulated.{Trace, Advances, CutsOff, IsOver}
+use Rattle.sg_engine.proofs.Reaching.{goes_back, reached_then, reached_as, goes_on_to, ends_at}
+
+-- ---- one part
+-- the records of a stretch stand behind others that were cleared since, and there is other room
+abbrev pub with_records : (names : Names) (whole : Answering → Progress) (rest : Answering → World → Progress) (taken : List ℕ) (minds : List Mind) (part part' : PartView) (kept kept' : Kept) (old new old' new' : Known) (front : List Record) →
+    (reached : Reached names whole rest taken minds (moment part kept old) (moment part' kept' new)) → old'.records ≡ front → old'.setup ≡ old.setup → new'.core ≡ new.core → new'.setup ≡ new.setup → new'.records ≡ front ++ reached.made →
+    Reached names whole rest taken minds (moment part kept old') (moment part' kept' new')
+with_records names whole rest taken minds part part' kept kept' old new old' new' front reached before setup core setup' after = record {
+  piece = reached.piece;
+  reads = reached.reads;
+  setup = setup' ∙ reached.setup ∙ sym setup;
+  world = reached.world;
+  stands = record { script = reached.stands.script; core = core ∙ reached.stands.core; minds = reached.stands.minds };
+  made = reached.made;
+  records = after ∙ ap (λ (l : List Record). l ++ reached.made) (sym before);
+  is = reached.is;
+}
+
+-- a moment with other room stands for the same worlds
+pub stands_with : (names : Names) (taken : List ℕ) (minds : List Mind) (part : PartView) (kept : Kept) (old new : Known) (world : World) → new.core ≡ old.core → StandsFor names taken minds (moment part kept old) world → StandsFor names taken minds (moment part kept new) world
+stands_with names taken minds part kept old new world core stands = record { script = stands.script; core = core ∙ stands.core; minds = stands.minds }
+
+-- a part was made and printed
+pub advances : (names : Names) (trace : Trace) (whole : Answering → Progress) (how : Option Ended) (taken : List ℕ) (minds : List Mind) (part part' : PartView) (kept kept' : Kept) (old mid new : Known) (before after : Option (List ℕ)) →
+    Reached names whole (ending how) taken minds (moment part kept mid) (moment part' kept' new) → mid.records ≡ [] → old.records ≡ [] → mid.setup ≡ old.setup → after ≡ gain before (trace new.records) → (new' : Known) → new'.core ≡ new.core → new'.setup ≡ new.setup →
+    Advances names trace whole how taken minds (moment part kept old) (moment part' kept' new') before after
+advances names trace whole how taken minds part part' kept kept' old mid new before after reached none none' setup printed new' core setup' =
+    let made : new.records ≡ reached.made = reached.records ∙ ap (λ (l : List Record). l ++ reached.made) none in
+    record {
+      records = reached.made;
+      reached = with_records names whole (ending how) taken minds part part' kept kept' mid new old (record new' { records = reached.made }) [] reached none' (sym setup) core setup' refl;
+      printed = printed ∙ ap (λ (l : List Record). gain before (trace l)) made;
+    }
+
+-- a write failed in the lines of a part
+pub cuts_off_at : (names : Names) (trace : Trace) (whole : Answering → Progress) (how : Option Ended) (taken : List ℕ) (minds : List Mind) (part part' : PartView) (kept kept' : Kept) (mid new : Known) (before after : Option (List ℕ)) →
+    Reached names whole (ending how) taken minds (moment part kept mid) (moment part' kept' new) → mid.records ≡ [] → GainsFront (trace new.records) before after → CutsOff names trace whole taken part part' before after
+cuts_off_at names trace whole how taken minds part part' kept kept' mid new before after reached none front = record {
+  piece = reached.piece;
+  reads = reached.reads;
+  front = λ source goes.
+      let made : new.records ≡ (whole (asked names source)).made = reached.records ∙ ap (λ (l : List Record). l ++ reached.made) none ∙ sym (ap (λ (p : Progress). p.made) (reached.is source goes) ∙ append-nil reached.made) in
+      subst (λ (l : List Record). GainsFront (trace l) before after) made front;
+}
+
+-- memory was wanting, and nothing was written
+pub cuts_off_by : (names : Names) (trace : Trace) (whole : Answering → Progress) (taken : List ℕ) (part part' : PartView) (before : Option (List ℕ)) → CutOff part part' → CutsOff names trace whole taken part part' before before
+cuts_off_by names trace whole taken part part' before cut = record {
+  piece = cut.piece;
+  reads = cut.reads;
+  front = λ source goes. (trace (whole (asked names source)).made, record { done = []; split = refl; held = sym (gain-nil before) });
+}
+
+-- a part that didn't cut the run off
+pub part_is : (names : Names) (trace : Trace) (whole : Answering → Progress) (how : Option Ended) (taken : List ℕ) (minds : List Mind) (old new : Moment) (before after : Option (List ℕ)) → cuts how ≡ false → Advances names trace whole how taken minds old new before after → PartIs names trace whole how taken minds old new before after
+part_is names trace whole how taken minds old new before after uncut advances = rw uncut advances
+
+uncut_not : (b : Bool) → b ≡ true → b ≡ false → ⊥
+uncut_not b is isnt = absurd (let e : true ≡ false = sym is ∙ isnt in cc e)
+
+pub uncut_write : (how : Option Ended) → cuts how ≡ false → how ≡ Some ended.WriteFault → ⊥
+uncut_write how uncut is = uncut_not (cuts how) (ap cuts is) uncut
+
+-- ---- rounds and passes one after another
+pub run_done : (n m : ℕ) (setup : Setup) (answers : Answering) (world : World) → n ≡ suc m → list_all is_ended world.core.actors ≡ true → run_from n setup answers world ≡ at_world (Some ended.Completed) world
+unfolding run_from
+run_done n m setup answers world more all = ap (λ (k : ℕ). run_from k setup answers world) more ∙ ap (λ (b : Bool). cond b (at_world (Some ended.Completed) world) (and_then (round_or_pass setup answers world) (run_from m setup answers))) all
+
+pub run_goes : (n m : ℕ) (setup : Setup) (answers : Answering) (world : World) → n ≡ suc m → list_all is_ended world.core.actors ≡ false → run_from n setup answers world ≡ and_then (round_or_pass setup answers world) (run_from m setup answers)
+unfolding run_from
+run_goes n m setup answers world more some = ap (λ (k : ℕ). run_from k setup answers world) more ∙ ap (λ (b : Bool). cond b (at_world (Some ended.Completed) world) (and_then (round_or_pass setup answers world) (run_from m setup answers))) some
+
+pub run_out : (n : ℕ) (setup : Setup) (answers : Answering) (world : World) → n ≡ 0 → run_from n setup answers world ≡ at_world (Some ended.Budget) world
+unfolding run_from
+run_out n setup answers world none = ap (λ (k : ℕ). run_from k setup answers world) none
+
+-- what is left of a run, after so many rounds and passes
+abbrev pub rest_of : ℕ → Setup → Answering → World → Progress
+rest_of n setup answers world = run_from n setup answers world
+
+-- the run has come to its end
+abbrev pub over_by : (names : Names) (trace : Trace) (whole : Answering → Progress) (how : Ended) (minds : List Mind) (p0 p1 : PartView) (q0 q1 : Kept) (k0 k1 : Known) (core : Core) (before after : Option (List ℕ)) →
+    (reached : Reached names whole (ending (Some how)) [] minds (moment p0 q0 k0) (moment p1 q1 k1)) → core ≡ k1.core → after ≡ gain before (trace reached.made) → IsOver names trace whole how core p0 p1 before after
+over_by names trace whole how minds p0 p1 q0 q1 k0 k1 core before after reached same printed = record {
+  piece = reached.piece;
+  reads = reached.reads;
+  world = reached.world;
+  core_is = same ∙ reached.stands.core;
+  made = reached.made;
+  printed = printed;
+  is = λ source goes.
+      let end : List Record → Progress = λ made. record { world = reached.world; made = made; ended = Some how } in
+      reached.is source goes ∙ ap end (append-nil reached.made);
+}
+
+-- all actors have ended
+pub completed : (names : Names) (trace : Trace) (whole : Answering → Progress) (n m : ℕ) (setup : Setup) (minds : List Mind) (p0 p1 : PartView) (q0 q1 : Kept) (k0 k1 : Known) (core : Core) (before after : Option (List ℕ)) →
+    (reached : Reached names whole (rest_of n setup) [] minds (moment p0 q0 k0) (moment p1 q1 k1)) → n ≡ suc m → core ≡ k1.core → list_all is_ended core.actors ≡ true → after ≡ gain before (trace reached.made) → IsOver names trace whole ended.Completed core p0 p1 before after
+completed names trace whole n m setup minds p0 p1 q0 q1 k0 k1 core before after reached more same all printed =
+    let all_here : list_all is_ended reached.world.core.actors ≡ true = ap (λ (c : Core). list_all is_ended c.actors) (sym (same ∙ reached.stands.core)) ∙ all in
+    over_by names trace whole ended.Completed minds p0 p1 q0 q1 k0 k1 core before after (record {
+      piece = reached.piece;
+      reads = reached.reads;
+      setup = reached.setup;
+      world = reached.world;
+      stands = reached.stands;
+      made = reached.made;
+      records = reached.records;
+      is = λ source goes. reached.is source goes ∙ ap (with_front reached.made) (run_done n m setup (asked names source) reached.world more all_here);
+    }) same printed
+
+-- no round and no pass is left
+pub used_up : (names : Names) (trace : Trace) (whole : Answering → Progress) (n : ℕ) (setup : Setup) (minds : List Mind) (p0 p1 : PartView) (q0 q1 : Kept) (k0 k1 : Known) (core : Core) (before after : Option (List ℕ)) →
+    (reached : Reached names whole (rest_of n setup) [] minds (moment p0 q0 k0) (moment p1 q1 k1)) → n ≡ 0 → core ≡ k1.core → after ≡ gain before (trace reached.made) → IsOver names trace whole ended.Budget core p0 p1 before after
+used_up names trace whole n setup minds p0 p1 q0 q1 k0 k1 core before after reached none same printed =
+    over_by names trace whole ended.Budget minds p0 p1 q0 q1 k0 k1 core before after (record {
+      piece = reached.piece;
+      reads = reached.reads;
+      setup = reached.setup;
+      world = reached.world;
+      stands = reached.stands;
+      made = reached.made;
+      records = reached.records;
+      is = λ source goes. reached.is source goes ∙ ap (with_front reached.made) (run_out n setup (asked names source) reached.world none);
+    }) same printed
+
+-- one part more, and the run goes on
+abbrev pub part_on : (names : Names) (trace : Trace) (whole : Answering → Progress) (n m : ℕ) (setup : Setup) (minds minds' : List Mind) (p0 p1 p2 : PartView) (q0 q1 q2 : Kept) (k0 k1 k1' k2 : Known) (before after : Option (List ℕ)) →
+    (reached : Reached names whole (rest_of n setup) [] minds (moment p0 q0 k0) (moment p1 q1 k1')) → n ≡ suc m → k1'.core ≡ k1.core → k1'.setup ≡ k1.setup → list_all is_ended k1.core.actors ≡ false → k0.records ≡ [] →
+    (part : Advances names trace (λ answers. round_or_pass setup answers reached.world) None reached.piece minds' (moment p1 q1 k1) (moment p2 q2 k2) before after) → k1.records ≡ [] →
+    Reached names whole (rest_of m setup) [] minds' (moment p0 q0 k0) (moment p2 q2 (record k2 { records = reached.made ++ part.records }))
+part_on names trace whole n m setup minds minds' p0 p1 p2 q0 q1 q2 k0 k1 k1' k2 before after reached more core same some first part cleared =
+    let made : part.records ≡ part.reached.made = part.reached.records ∙ ap (λ (l : List Record). l ++ part.reached.made) cleared in
+    let here : k1'.records ≡ reached.made = reached.records ∙ ap (λ (l : List Record). l ++ reached.made) first in
+    let some_here : list_all is_ended reached.world.core.actors ≡ false = ap (λ (c : Core). list_all is_ended c.actors) (sym (sym core ∙ reached.stands.core)) ∙ some in
+    let shifted : Reached names (λ answers. round_or_pass setup answers reached.world) (ending None) reached.piece minds' (moment p1 q1 k1') (moment p2 q2 (record k2 { records = reached.made ++ part.records })) =
+    with_records names (λ answers. round_or_pass setup answers reached.world) (ending None) reached.piece minds' p1 p2 q1 q2 k1 (record k2 { records = part.records }) k1' (record k2 { records = reached.made ++ part.records }) reached.made part.reached here same refl refl (ap (λ (l : List Record). reached.made ++ l) made) in
+    reached_then names whole (rest_of n setup) (rest_of m setup) [] minds minds' (moment p0 q0 k0) (moment p1 q1 k1') (moment p2 q2 (record k2 { records = reached.made ++ part.records })) reached
+    (reached_as names (λ answers. and_then (round_or_pass setup answers reached.world) (rest_of m setup answers)) (λ answers. rest_of n setup answers reached.world) (rest_of m setup) reached.piece minds' (moment p1 q1 k1') (moment p2 q2 (record k2 { records = reached.made ++ part.records }))
+    (λ answers. run_goes n m setup answers reached.world more some_here)
+    (goes_on_to names (λ answers. round_or_pass setup answers reached.world) (rest_of m setup) reached.piece minds' (moment p1 q1 k1') (moment p2 q2 (record k2 { records = reached.made ++ part.records })) shifted))
+
+-- one part more, which has ended the run
+abbrev pub part_last : (names : Names) (trace : Trace) (whole : Answering → Progress) (how : Ended) (n m : ℕ) (setup : Setup) (minds minds' : List Mind) (p0 p1 p2 : PartView) (q0 q1 q2 : Kept) (k0 k1 k1' k2 : Known) (before after : Option (List ℕ)) →
+    (reached : Reached names whole (rest_of n setup) [] minds (moment p0 q0 k0) (moment p1 q1 k1')) → n ≡ suc m → k1'.core ≡ k1.core → k1'.setup ≡ k1.setup → list_all is_ended k1.core.actors ≡ false → k0.records ≡ [] →
+    (part : Advances names trace (λ answers. round_or_pass setup answers reached.world) (Some how) reached.piece minds' (moment p1 q1 k1) (moment p2 q2 k2) before after) → k1.records ≡ [] →
+    Reached names whole (ending (Some how)) [] minds' (moment p0 q0 k0) (moment p2 q2 (record k2 { records = reached.made ++ part.records }))
+part_last names trace whole how n m setup minds minds' p0 p1 p2 q0 q1 q2 k0 k1 k1' k2 before after reached more core same some first part cleared =
+    let made : part.records ≡ part.reached.made = part.reached.records ∙ ap (λ (l : List Record). l ++ part.reached.made) cleared in
+    let here : k1'.records ≡ reached.made = reached.records ∙ ap (λ (l : List Record). l ++ reached.made) first in
+    let some_here : list_all is_ended reached.world.core.actors ≡ false = ap (λ (c : Core). list_all is_ended c.actors) (sym (sym core ∙ reached.stands.core)) ∙ some in
+    let shifted : Reached names (λ answers. round_or_pass setup answers reached.world) (ending (Some how)) reached.piece minds' (moment p1 q1 k1') (moment p2 q2 (record k2 { records = reached.made ++ part.records })) =
+    with_records names (λ answers. round_or_pass setup answers reached.world) (ending (Some how)) reached.piece minds' p1 p2 q1 q2 k1 (record k2 { records = part.records }) k1' (record k2 { records = reached.made ++ part.records }) reached.made part.reached here same refl refl (ap (λ (l : List Record). reached.made ++ l) made) in
+    reached_then names whole (rest_of n setup) (ending (Some how)) [] minds minds' (moment p0 q0 k0) (moment p1 q1 k1') (moment p2 q2 (record k2 { records = reached.made ++ part.records })) reached
+    (reached_as names (λ answers. and_then (round_or_pass setup answers reached.world) (rest_of m setup answers)) (λ answers. rest_of n setup answers reached.world) (ending (Some how)) reached.piece minds' (moment p1 q1 k1') (moment p2 q2 (record k2 { records = reached.made ++ part.records }))
+    (λ answers. run_goes n m setup answers reached.world more some_here)
+    (ends_at names (λ answers. round_or_pass setup answers reached.world) (rest_of m setup) how reached.piece minds' (moment p1 q1 k1') (moment p2 q2 (record k2 { records = reached.made ++ part.records })) shifted))
+
+-- ---- a run that is cut off
+-- the records of a stretch and what follows it begin with those of the stretch
+made_and_then : (how : Option Ended) (first : Progress) (next : World → Progress) → (more : List Record) × ((and_then_by how first next).made ≡ first.made ++ more)
+made_and_then None first next = ((next first.world).made, refl)
+made_and_then (Some how) first next = ([], sym (append-nil first.made))
+
+-- the trace of records and then of others
+abbrev pub Appends : Trace → Type 0
+Appends trace = (first second : List Record) → trace (first ++ second) ≡ trace first ++ trace second
+
+-- a part was cut off, and so is the run
+pub part_cut : (names : Names) (trace : Trace) → Appends trace → (whole : Answering → Progress) (n m : ℕ) (setup : Setup) (minds : List Mind) (p0 p1 p2 : PartView) (q0 q1 : Kept) (k0 k1 : Known) (start before after : Option (List ℕ)) →
+    (reached : Reached names whole (rest_of n setup) [] minds (moment p0 q0 k0) (moment p1 q1 k1)) → n ≡ suc m → list_all is_ended k1.core.actors ≡ false → before ≡ gain start (trace reached.made) →
+    CutsOff names trace (λ answers. round_or_pass setup answers reached.world) reached.piece p1 p2 before after → CutsOff names trace whole [] p0 p2 start after
+part_cut names trace appends whole n m setup minds p0 p1 p2 q0 q1 k0 k1 start before after reached more some printed cut = record {
+  piece = reached.piece ++ cut.piece;
+  reads = reads_then reached.piece cut.piece p0 p1 p2 reached.reads cut.reads;
+  front = λ source goes.
+      let answers = asked names source in
+      let first = round_or_pass setup answers reached.world in
+      let some_here : list_all is_ended reached.world.core.actors ≡ false = ap (λ (c : Core). list_all is_ended c.actors) (sym reached.stands.core) ∙ some in
+      let rest = made_and_then first.ended first (rest_of m setup answers) in
+      let all : (whole answers).made ≡ reached.made ++ (first.made ++ rest.0) =
+      ap (λ (p : Progress). p.made) (reached.is source (goes_back reached.piece cut.piece p1 p2 source cut.reads goes) ∙ ap (with_front reached.made) (run_goes n m setup answers reached.world more some_here))
+      ∙ ap (λ (l : List Record). reached.made ++ l) rest.1 in
+      let text : trace (whole answers).made ≡ trace reached.made ++ (trace first.made ++ trace rest.0) =
+      ap trace all ∙ appends reached.made (first.made ++ rest.0) ∙ ap (λ (l : List ℕ). trace reached.made ++ l) (appends first.made rest.0) in
+      let front = cut.front source goes in (
+        front.0 ++ trace rest.0,
+        record {
+          done = trace reached.made ++ front.1.done;
+          split = text
+              ∙ ap (λ (l : List ℕ). trace reached.made ++ (l ++ trace rest.0)) front.1.split
+              ∙ ap (λ (l : List ℕ). trace reached.made ++ l) (append_assoc front.1.done front.0 (trace rest.0))
+              ∙ sym (append_assoc (trace reached.made) front.1.done (front.0 ++ trace rest.0));
+          held = front.1.held ∙ ap (λ (h : Option (List ℕ)). gain h front.1.done) printed ∙ gain-gain start (trace reached.made) front.1.done;
+        },
+      );
+}
+
+-- ---- the run so far, with its trace lines
+pub record SoFar (names : Names) (trace : Trace) (whole : Answering → Progress) (rest : Answering → World → Progress) (minds : List Mind) (p0 p1 : PartView) (q0 q1 : Kept) (k0 k1 : Known) (before after : Option (List ℕ)) : Type 0 where
+  pub records : List Record
+  pub reached : Reached names whole rest [] minds (moment p0 q0 k0) (moment p1 q1 (record k1 { records = records }))
+  pub printed : after ≡ gain before (trace reached.made)
+
+-- at the beginning
+pub far_first : (names : Names) (trace : Trace) (whole : Answering → Progress) (rest : Answering → World → Progress) (minds : List Mind) (part : PartView) (kept : Kept) (known : Known) (before : Option (List ℕ)) (world : World) →
+    part.stage ≢ Fresh → StandsFor names [] minds (moment part kept known) world → ((answers : Answering) → whole answers ≡ rest answers world) → trace [] ≡ [] → SoFar names trace whole rest minds part part kept kept known known before before
+far_first names trace whole rest minds part kept known before world begun stands same none = record {
+  records = known.records;
+  reached = record {
+    piece = [];
+    reads = reads_none part begun;
+    setup = refl;
+    world = world;
+    stands = stands;
+    made = [];
+    records = sym (append-nil known.records);
+    is = λ source goes. same (asked names source);
+  };
+  printed = sym (gain-nil before) ∙ ap (gain before) (sym none);
+}
+
+-- one part more
+pub far_on : (names : Names) (trace : Trace) → Appends trace → (whole : Answering → Progress) (n m : ℕ) (setup : Setup) (minds minds' : List Mind) (p0 p1 p2 : PartView) (q0 q1 q2 : Kept) (k0 k1 k2 : Known) (start before after : Option (List ℕ)) →
+    (far : SoFar names trace whole (rest_of n setup) minds p0 p1 q0 q1 k0 k1 start before) → n ≡ suc m → list_all is_ended k1.core.actors ≡ false → k0.records ≡ [] → k1.records ≡ [] →
+    Advances names trace (λ answers. round_or_pass setup answers far.reached.world) None far.reached.piece minds' (moment p1 q1 k1) (moment p2 q2 k2) before after → SoFar names trace whole (rest_of m setup) minds' p0 p2 q0 q2 k0 k2 start after
+far_on names trace appends whole n m setup minds minds' p0 p1 p2 q0 q1 q2 k0 k1 k2 start before after far more some first cleared part =
+    let made : part.records ≡ part.reached.made = part.reached.records ∙ ap (λ (l : List Record). l ++ part.reached.made) cleared in
+    record {
+      records = far.reached.made ++ part.records;
+      reached = part_on names trace whole n m setup minds minds' p0 p1 p2 q0 q1 q2 k0 k1 (record k1 { records = far.records }) k2 before after far.reached more refl refl some first part cleared;
+      printed = part.printed ∙ ap₂ (λ (h : Option (List ℕ)) (l : List Record). gain h (trace l)) far.printed made ∙ gain-gain start (trace far.reached.made) (trace part.reached.made) ∙ ap (gain start) (sym (appends far.reached.made part.reached.made));
+    }
+
+-- the last part
+pub far_over : (names : Names) (trace : Trace) → Appends trace → (whole : Answering → Progress) (how : Ended) (n m : ℕ) (setup : Setup) (minds minds' : List Mind) (p0 p1 p2 : PartView) (q0 q1 q2 : Kept) (k0 k1 k2 : Known) (start before after : Option (List ℕ)) →
+    (far : SoFar names trace whole (rest_of n setup) minds p0 p1 q0 q1 k0 k1 start before) → n ≡ suc m → list_all is_ended k1.core.actors ≡ false → k0.records ≡ [] → k1.records ≡ [] →
+    Advances names trace (λ answers. round_or_pass setup answers far.reached.world) (Some how) far.reached.piece minds' (moment p1 q1 k1) (moment p2 q2 k2) before after → IsOver names trace whole how k2.core p0 p2 start after
+far_over names trace appends whole how n m setup minds minds' p0 p1 p2 q0 q1 q2 k0 k1 k2 start before after far more some first cleared part =
+    let made : part.records ≡ part.reached.made = part.reached.records ∙ ap (λ (l : List Record). l ++ part.reached.made) cleared in
+    over_by names trace whole how minds' p0 p2 q0 q2 k0 (record k2 { records = far.reached.made ++ part.records }) k2.core start after
+    (part_last names trace whole how n m setup minds minds' p0 p1 p2 q0 q1 q2 k0 k1 (record k1 { records = far.records }) k2 before after far.reached more refl refl some first part cleared) refl
+    (part.printed ∙ ap₂ (λ (h : Option (List ℕ)) (l : List Record). gain h (trace l)) far.printed made ∙ gain-gain start (trace far.reached.made) (trace part.reached.made) ∙ ap (gain start) (sym (appends far.reached.made part.reached.made)))
+
+-- what a part did that ended the run or cut it off
+pub far_ends : (names : Names) (trace : Trace) → Appends trace → (whole : Answering → Progress) (how : Ended) (b : Bool) (n m : ℕ) (setup : Setup) (minds minds' : List Mind) (p0 p1 p2 : PartView) (q0 q1 q2 : Kept) (k0 k1 k2 : Known) (start before after : Option (List ℕ)) →
+    (far : SoFar names trace whole (rest_of n setup) minds p0 p1 q0 q1 k0 k1 start before) → n ≡ suc m → list_all is_ended k1.core.actors ≡ false → k0.records ≡ [] → k1.records ≡ [] →
+    MatchBool b (CutsOff names trace (λ answers. round_or_pass setup answers far.reached.world) far.reached.piece p1 p2 before after) (Advances names trace (λ answers. round_or_pass setup answers far.reached.world) (Some how) far.reached.piece minds' (moment p1 q1 k1) (moment p2 q2 k2) before after) →
+    MatchBool b (CutsOff names trace whole [] p0 p2 start after) (IsOver names trace whole how k2.core p0 p2 start after)
+far_ends names trace appends whole how true n m setup minds minds' p0 p1 p2 q0 q1 q2 k0 k1 k2 start before after far more some first cleared cut = part_cut names trace appends whole n m setup minds p0 p1 p2 q0 q1 k0 (record k1 { records = far.records }) start before after far.reached more some far.printed cut
+far_ends names trace appends whole how false n m setup minds minds' p0 p1 p2 q0 q1 q2 k0 k1 k2 start before after far more some first cleared part = far_over names trace appends whole how n m setup minds minds' p0 p1 p2 q0 q1 q2 k0 k1 k2 start before after far more some first cleared part

@@ -1,0 +1,9 @@
+use Rattle.std.proofs.Common.{◌≡◌, ◌∙◌, sym, ap, [], ◌++◌, Ok, Err}
+use Rattle.sg_engine.proofs.PutLines.{put_broke, put_put, put_writes}
+use Rattle.sg_engine.proofs.printing.print_stuck.Goals as goal
+
+pub returns-in-Err-put_all_blocked : goal.returns-in-Err-put_all_blocked
+returns-in-Err-put_all_blocked g c = put_broke c.args.buffer.now _ _ _ _ _ _ _ _ c.requires.empty c.in-Ok.ensures c.in-Err-put_all_blocked.ensures
+
+pub returns : goal.returns
+returns g c = put_writes _ _ c.flush.result _ _ _ _ _ (put_put c.args.buffer.now _ _ _ _ _ _ _ _ _ c.requires.empty c.in-Ok.ensures c.in-Ok-put_all_blocked.ensures) c.flush.ensures.writes

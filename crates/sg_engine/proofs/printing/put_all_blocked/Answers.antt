@@ -1,0 +1,16 @@
+use Rattle.std.proofs.Common.{◌≡◌, ◌∙◌, ◌+◌, ◌++◌, sym, arith, length}
+use Rattle.sg_engine.specs.Output.{blocked_lines}
+use Rattle.sg_engine.proofs.Fronts.{put_none}
+use Rattle.sg_engine.proofs.PutLines.{line_put, line_broke, none_left, blocked_more, blocked_none}
+use Rattle.sg_engine.proofs.printing.put_all_blocked.Goals as goal
+
+pub loop-i-preserved : goal.loop-i-preserved
+loop-i-preserved g c =
+    line_put _ c.loop-i.buffer _ _ _ _ _ _ _ _ _ (blocked_more c.args.setup.now.platform c.args.setup.now.deployment c.args.kernel.now.core.actors c.loop-i.i (omega (arith, c.loop-i-test.true, c.actors-i-end.ensures.is))) c.loop-i.invariant c.in-Ok.ensures
+
+pub returns-in-Err : goal.returns-in-Err
+returns-in-Err g c =
+    line_broke _ c.loop-i.buffer _ _ _ _ _ _ _ _ (blocked_more c.args.setup.now.platform c.args.setup.now.deployment c.args.kernel.now.core.actors c.loop-i.i (omega (arith, c.loop-i-test.true, c.actors-i-end.ensures.is))) c.loop-i.invariant c.in-Err.ensures
+
+pub returns : goal.returns
+returns g c = none_left _ c.loop-i.buffer _ _ _ _ (blocked_none c.args.setup.now.platform c.args.setup.now.deployment c.args.kernel.now.core.actors c.loop-i.i (omega (arith, c.loop-i-test.false, c.actors-i-end.ensures.is))) c.loop-i.invariant

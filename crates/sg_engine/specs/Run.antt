@@ -1,0 +1,139 @@
+-- A run, for any number of hosts and actors: rounds until nobody is ready, then a pass, and again, until it ends.
+use Rattle.std.specs.Prelude.{ℕ, zero, suc, ◌+◌, ◌-◌, ◌==◌, Option, None, Some, option_map, Result, Ok, Err, Bool, true, false, if◌then◌else◌, List, [], ◌∷◌, ◌++◌, map, length}
+use Rattle.std.specs.List.{list_any, list_all}
+use Rattle.sg_base.specs.declared.call.Action.{Action}
+use Rattle.sg_base.specs.declared.call.Answer.{Answer}
+use Rattle.sg_base.specs.declared.call.Call.{Call}
+use Rattle.sg_base.specs.declared.call.Call.TheVariants as call
+use Rattle.sg_base.specs.declared.trace_record.Record.{Record}
+use Rattle.sg_base.specs.Mind.{Mind, replay_mind}
+use Rattle.sg_base.specs.Turn.{turn}
+use Rattle.sg_kernel.specs.declared.states.Stop.{Stop}
+use Rattle.sg_kernel.specs.declared.states.Stop.TheVariants as stop
+use Rattle.sg_kernel.specs.World.{Setup, Core, World, inbox_of, is_ready, is_ended}
+use Rattle.sg_kernel.specs.Calls.{Step, answered, told}
+use Rattle.sg_kernel.specs.Passes.{pass_of}
+use Rattle.sg_kernel.specs.Known.{first_core}
+use Rattle.sg_script.specs.declared.fault.ScriptFault.{ScriptFault}
+use Rattle.sg_script.specs.declared.fault.ScriptFault.TheVariants as fault
+use Rattle.sg_script.specs.Stands.{one_more}
+use Rattle.sg_engine.specs.declared.ended.Ended.{Ended}
+use Rattle.sg_engine.specs.declared.ended.Ended.TheVariants as ended
+
+-- what the script answers to an Ask of an actor that so many of its Asks came before
+abbrev pub Answering : Type 0
+Answering = ℕ → ℕ → Result (Option Action) ScriptFault
+
+-- what a stretch of a run leads to: the world, the records that it made, and how the run ended, if it did
+pub record Progress : Type 0 where
+  pub world : World
+  pub made : List Record
+  pub ended : Option Ended
+
+-- nothing was made, and the run goes on or has ended so
+abbrev pub at_world : Option Ended → World → Progress
+at_world how world = record { world = world; made = []; ended = how }
+
+abbrev pub with_front : List Record → Progress → Progress
+with_front front progress = record progress { made = front ++ progress.made }
+
+abbrev pub and_then_by : Option Ended → Progress → (World → Progress) → Progress
+and_then_by None first next = with_front first.made (next first.world)
+and_then_by (Some how) first next = first
+
+-- one stretch, and then the next where the first didn't end the run
+abbrev pub and_then : Progress → (World → Progress) → Progress
+and_then first next = and_then_by first.ended first next
+
+abbrev pub ended_by : Stop → Ended
+ended_by stop.Budget = ended.Budget
+ended_by stop.Deadlock = ended.Deadlock
+ended_by stop.Starved = ended.Starved
+
+-- a step of the kernel, in the world
+abbrev pub in_world : World → Step → Progress
+in_world world step = record { world = record world { core = step.core }; made = step.made; ended = option_map ended_by step.stop }
+
+-- ---- a round
+abbrev pub zip_with : {X Y Z : Type 0} → (X → Y → Z) → List X → List Y → List Z
+zip_with f [] ys = []
+zip_with f (x ∷ xs) [] = []
+zip_with f (x ∷ xs) (y ∷ ys) = f x y ∷ zip_with f xs ys
+
+-- the answer of each actor that is ready
+abbrev pub inboxes : Core → List (Option Answer)
+inboxes core = map inbox_of core.actors
+
+-- who has an answer takes its turn; the others keep their minds
+abbrev pub mind_after : Mind → Option Answer → Mind
+mind_after mind None = mind
+mind_after mind (Some answer) = (turn mind answer).mind
+
+abbrev pub call_after : Mind → Option Answer → Option Call
+call_after mind None = None
+call_after mind (Some answer) = Some (turn mind answer).call
+
+-- how a bad line or a read fault ends the run
+abbrev pub ended_at : ScriptFault → Ended
+ended_at (fault.Line number kind) = ended.Script number kind
+ended_at fault.Read = ended.ReadFault
+ended_at fault.Memory = ended.Memory
+
+abbrev pub tells : Setup → ℕ → Result (Option Action) ScriptFault → World → Progress
+tells setup actor (Ok action) world = in_world world (told setup world.core actor action)
+tells setup actor (Err why) world = at_world (Some (ended_at why)) world
+
+-- An Ask has the script's answer, or ends the run; an event is next, so that the budget is tested first.
+abbrev pub ask : Setup → Answering → ℕ → World → Progress
+ask setup answers actor world =
+    if world.core.events == setup.budget then at_world (Some ended.Budget) world
+    else tells setup actor (answers actor (world.asks actor)) (record world { asks = one_more actor world.asks })
+
+abbrev pub is_ask : Call → Bool
+is_ask call.Ask = true
+is_ask (call.Compute flops) = false
+is_ask (call.Sleep ns) = false
+is_ask call.Exit = false
+
+-- the script answers an Ask, and the kernel any other call
+abbrev pub one_call : Setup → Answering → ℕ → Call → World → Progress
+one_call setup answers actor what world = if is_ask what then ask setup answers actor world else in_world world (answered setup world.core actor what)
+
+abbrev pub if_call : Setup → Answering → ℕ → Option Call → World → Progress
+if_call setup answers actor None world = at_world None world
+if_call setup answers actor (Some what) world = one_call setup answers actor what world
+
+-- the calls are answered in rising id, from this actor on
+unfoldable pub calls_from : Setup → Answering → ℕ → List (Option Call) → World → Progress
+calls_from setup answers actor [] world = at_world None world
+calls_from setup answers actor (what ∷ rest) world = and_then (if_call setup answers actor what world) (calls_from setup answers (actor + 1) rest)
+
+-- all ready actors take their turn on the answers that stand, and then their calls are answered
+abbrev pub round : Setup → Answering → World → Progress
+round setup answers world =
+    calls_from setup answers 1 (zip_with call_after world.minds (inboxes world.core)) (record world { minds = zip_with mind_after world.minds (inboxes world.core) })
+
+-- ---- rounds and passes
+abbrev pub round_or_pass : Setup → Answering → World → Progress
+round_or_pass setup answers world =
+    if list_any is_ready world.core.actors then round setup answers world
+    else in_world world (pass_of setup world.core)
+
+-- So many rounds and passes. Each has an event at least or ends the run, so that one more than the budget is enough.
+unfoldable pub run_from : ℕ → Setup → Answering → World → Progress
+run_from zero setup answers world = at_world (Some ended.Budget) world
+run_from (suc n) setup answers world =
+    if list_all is_ended world.core.actors then at_world (Some ended.Completed) world
+    else and_then (round_or_pass setup answers world) (run_from n setup answers)
+
+-- ---- the whole run
+abbrev pub minds_from : ℕ → ℕ → List Mind
+minds_from me zero = []
+minds_from me (suc n) = replay_mind me ∷ minds_from (me + 1) n
+
+-- at first all actors are ready with the answer Start
+abbrev pub first_world : ℕ → World
+first_world actors = record { minds = minds_from 1 actors; asks = λ _. 0; core = first_core actors }
+
+abbrev pub run_of : Setup → Answering → Progress
+run_of setup answers = run_from (setup.budget + 1) setup answers (first_world (length setup.homes))

@@ -1,0 +1,44 @@
+//! How a run ends.
+ghost use Rattle.std.specs.Prelude.{◌≡◌, ◌≢◌, false, Option, option_map};
+ghost use Rattle.sg_kernel.specs.declared.states.Stop.{Stop};
+ghost use Rattle.sg_kernel.specs.Calls.{result_of};
+ghost use Rattle.sg_engine.specs.Gains.{cuts};
+ghost use Rattle.sg_engine.specs.Run.{ended_by};
+
+use sg_kernel::Stop;
+use sg_script::LineFault;
+
+/// How a run ended. The first line of each says when.
+#[derive(Clone, Copy, Debug, PartialEq, Eq)]
+pub enum Ended {
+    /// All actors have ended.
+    Completed,
+    /// Nobody was ready, and nothing was under way.
+    Deadlock,
+    /// Nobody was ready, and nothing that was under way would ever be over.
+    Starved,
+    /// An event was next, and the budget was used up.
+    Budget,
+    /// An Ask met the bad line of this number.
+    Script(u64, LineFault),
+    /// An Ask met the end of a script that could not be read further.
+    ReadFault,
+    /// A write failed. What was written is a prefix.
+    WriteFault,
+    /// There was no memory left. What was written is a prefix.
+    Memory,
+}
+
+/// The end of the run that a stop of the kernel is.
+pub fn end_of(stopped: Result<(), Stop>) -> Option<Ended>
+    ensures is { (stop : Option Stop) → stopped ≡ result_of stop → result ≡ option_map ended_by stop }
+    ensures uncut { cuts result ≡ false }
+    ensures no_fault { result ≢ Some Ended.ReadFault }
+{
+    match stopped {
+        Ok(()) => None,
+        Err(Stop::Budget) => Some(Ended::Budget),
+        Err(Stop::Deadlock) => Some(Ended::Deadlock),
+        Err(Stop::Starved) => Some(Ended::Starved),
+    }
+}

@@ -1,0 +1,146 @@
+//! The lines on Out.
+ghost use Rattle.std.specs.Prelude.{◌≡◌, ◌≤◌, ◌++◌, [], length, OnOk};
+ghost use Rattle.sg_kernel.specs.Records.{AreRecords, IsRecord};
+ghost use Rattle.sg_kernel.specs.World.{IsActor, state_of};
+ghost use Rattle.sg_trace.specs.Ending.{IsLastOf, ending_of};
+ghost use Rattle.sg_trace.specs.Line.{line_of};
+ghost use Rattle.sg_engine.specs.Gains.{Writes, Puts};
+ghost use Rattle.sg_engine.specs.Output.{trace_of, blocked_line, blocked_lines};
+
+use crate::buffer::Buffer;
+use crate::setup::Setup;
+use sg_base::{ActorId, Record};
+use sg_edge::{Failed, Sinks, Stream, write_all};
+use sg_kernel::Kernel;
+use sg_trace::{Last, ending_line, line};
+
+// Puts the trace line of a record into the buffer.
+fn put_record<O: Sinks>(
+    setup: &Setup,
+    answered: &Record,
+    buffer: &mut Buffer,
+    out: &mut O,
+) -> Result<(), Failed>
+    requires answered { IsRecord (length setup.now.deployment.actors) answered.now }
+    requires sound { O.faults out.old ≡ 0 }
+    ensures { Puts (buffer.old ++ line_of answered.now setup.now.platform setup.now.deployment) buffer.new result (O.held out.old) (O.held out.new) (O.faults out.new) }
+{
+    let text = line(answered, &setup.platform, &setup.deployment);
+    buffer.put(text.as_bytes(), out)
+}
+
+/// Writes a trace line for each record, in one write where the stream takes it.
+pub fn print_records<O: Sinks>(
+    setup: &Setup,
+    records: &[Record],
+    buffer: &mut Buffer,
+    out: &mut O,
+) -> Result<(), Failed>
+    requires records { AreRecords (length setup.now.deployment.actors) records.now }
+    requires empty { buffer.old ≡ [] }
+    requires sound { O.faults out.old ≡ 0 }
+    ensures writes { Writes (trace_of setup.now.platform setup.now.deployment records.now) result (O.held out.old) (O.held out.new) (O.faults out.new) }
+    ensures empty { OnOk result (buffer.new ≡ []) }
+{
+    for answered in records {
+        match put_record(setup, answered, buffer, out) {
+            Ok(()) => {}
+            Err(Failed) => return Err(Failed),
+        }
+    }
+    buffer.flush(out)
+}
+
+/// Writes a last line.
+pub fn print_last<O: Sinks>(setup: &Setup, last: Last, out: &mut O) -> Result<(), Failed>
+    requires last { IsLastOf setup.now.deployment last }
+    requires sound { O.faults out.old ≡ 0 }
+    ensures { Writes (ending_of last setup.now.platform setup.now.deployment) result (O.held out.old) (O.held out.new) (O.faults out.new) }
+{
+    let text = ending_line(&last, &setup.platform, &setup.deployment);
+    match write_all(out, Stream::Out, text.as_bytes()) {
+        Ok(()) => Ok(()),
+        Err(Failed) => Err(Failed),
+    }
+}
+
+// Puts a last line into the buffer.
+fn put_last<O: Sinks>(
+    setup: &Setup,
+    last: Last,
+    buffer: &mut Buffer,
+    out: &mut O,
+) -> Result<(), Failed>
+    requires last { IsLastOf setup.now.deployment last }
+    requires sound { O.faults out.old ≡ 0 }
+    ensures { Puts (buffer.old ++ ending_of last setup.now.platform setup.now.deployment) buffer.new result (O.held out.old) (O.held out.new) (O.faults out.new) }
+{
+    let text = ending_line(&last, &setup.platform, &setup.deployment);
+    buffer.put(text.as_bytes(), out)
+}
+
+// Puts the line of an actor into the buffer, if it is blocked.
+fn put_blocked<O: Sinks>(
+    setup: &Setup,
+    kernel: &Kernel,
+    actor: ActorId,
+    buffer: &mut Buffer,
+    out: &mut O,
+) -> Result<(), Failed>
+    requires actor { IsActor kernel.now.core actor.0 }
+    requires number { length kernel.now.core.actors ≡ length setup.now.deployment.actors }
+    requires sound { O.faults out.old ≡ 0 }
+    ensures { Puts (buffer.old ++ blocked_line setup.now.platform setup.now.deployment actor.0 (state_of kernel.now.core actor.0)) buffer.new result (O.held out.old) (O.held out.new) (O.faults out.new) }
+{
+    match kernel.blocked(actor) {
+        Some(call) => put_last(setup, Last::Blocked(actor, call), buffer, out),
+        None => Ok(()),
+    }
+}
+
+// Puts a line for each blocked actor into the buffer, in rising id.
+fn put_all_blocked<O: Sinks>(
+    setup: &Setup,
+    kernel: &Kernel,
+    buffer: &mut Buffer,
+    out: &mut O,
+) -> Result<(), Failed>
+    requires number { length kernel.now.core.actors ≡ length setup.now.deployment.actors }
+    requires few { length kernel.now.core.actors ≤ 65536 }
+    requires sound { O.faults out.old ≡ 0 }
+    ensures { Puts (buffer.old ++ blocked_lines setup.now.platform setup.now.deployment 1 kernel.now.core.actors) buffer.new result (O.held out.old) (O.held out.new) (O.faults out.new) }
+{
+    for i in 0..kernel.actors() {
+        match put_blocked(setup, kernel, ActorId(i as u32 + 1), buffer, out) {
+            Ok(()) => {}
+            Err(Failed) => return Err(Failed),
+        }
+    }
+    Ok(())
+}
+
+/// Writes a last line, and behind it one for each blocked actor, in rising id.
+pub fn print_stuck<O: Sinks>(
+    setup: &Setup,
+    kernel: &Kernel,
+    last: Last,
+    buffer: &mut Buffer,
+    out: &mut O,
+) -> Result<(), Failed>
+    requires last { IsLastOf setup.now.deployment last }
+    requires number { length kernel.now.core.actors ≡ length setup.now.deployment.actors }
+    requires few { length kernel.now.core.actors ≤ 65536 }
+    requires empty { buffer.old ≡ [] }
+    requires sound { O.faults out.old ≡ 0 }
+    ensures { Writes (ending_of last setup.now.platform setup.now.deployment ++ blocked_lines setup.now.platform setup.now.deployment 1 kernel.now.core.actors) result (O.held out.old) (O.held out.new) (O.faults out.new) }
+{
+    match put_last(setup, last, buffer, out) {
+        Ok(()) => {}
+        Err(Failed) => return Err(Failed),
+    }
+    match put_all_blocked(setup, kernel, buffer, out) {
+        Ok(()) => {}
+        Err(Failed) => return Err(Failed),
+    }
+    buffer.flush(out)
+}

@@ -1,0 +1,153 @@
+//! The second half of a round: the calls are answered in rising id.
+ghost use Rattle.std.specs.Prelude.{IfOk, false, ◌≡◌, ◌≢◌, ◌+◌, ◌<◌, ◌≤◌, ℕ, List, length, Some, Option, IfSome, MatchResult, slice_index_or};
+ghost use Rattle.sg_base.specs.Limits.{IsCall};
+ghost use Rattle.sg_base.specs.Mind as base;
+ghost use Rattle.sg_base.specs.declared.call.Call.{Call};
+ghost use Rattle.sg_edge.specs.Files.{Only};
+ghost use Rattle.sg_edge.specs.declared.files.Stage.TheVariants.{Broken};
+ghost use Rattle.sg_kernel.specs.World.{World, MayCall};
+ghost use Rattle.sg_script.specs.Known.{known_in};
+ghost use Rattle.sg_script.specs.Stands.{kept_of};
+ghost use Rattle.sg_engine.specs.Gains.{cuts};
+ghost use Rattle.sg_engine.specs.Reached.{moment, Fits, LeavesFree, StandsFor, Reached, CutOff, ending};
+ghost use Rattle.sg_engine.specs.Run.{is_ask as is_ask_spec, ask, one_call, if_call, calls_from};
+
+use crate::ended::{Ended, end_of};
+use sg_base::{ActorId, Call, Memory};
+use sg_edge::{Files, Part};
+use sg_kernel::Kernel;
+use sg_platform::Deployment;
+use sg_script::{Script, ScriptFault};
+
+// Answers an Ask: with the actor's next line, or by the end of the run.
+fn answer_ask<F: Files>(
+    kernel: &mut Kernel,
+    script: &mut Script,
+    deployment: &Deployment,
+    files: &mut F,
+    actor: ActorId,
+) -> Result<Option<Ended>, Memory>
+    requires caller { MayCall kernel.old.core actor.0 }
+    requires room { 0 < kernel.old.room }
+    requires fits { Fits (length deployment.now.actors) (moment (F.shows files.old Part.Script) (kept_of script.old) kernel.old) }
+    ensures step { (taken : List ℕ) (minds : List base.Mind) (world : World) → StandsFor (known_in deployment.now) taken minds (moment (F.shows files.old Part.Script) (kept_of script.old) kernel.old) world → MatchResult result
+        (λ how. Reached (known_in deployment.now) (λ answers. ask kernel.old.setup answers actor.0 world) (ending how) taken minds (moment (F.shows files.old Part.Script) (kept_of script.old) kernel.old) (moment (F.shows files.new Part.Script) (kept_of script.new) kernel.new))
+        (λ _. CutOff (F.shows files.old Part.Script) (F.shows files.new Part.Script)) }
+    ensures fits { Fits (length deployment.now.actors) (moment (F.shows files.new Part.Script) (kept_of script.new) kernel.new) }
+    ensures uncut { IfOk result (λ how. cuts how ≡ false) }
+    ensures read { result ≡ Ok (Some Ended.ReadFault) → (F.shows files.new Part.Script).stage ≡ Broken }
+    ensures others { Only Part.Script (F.shows files.old) (F.shows files.new) }
+    ensures setup { kernel.new.setup ≡ kernel.old.setup }
+    ensures room { kernel.old.room ≤ kernel.new.room + 1 }
+    ensures free { LeavesFree actor.0 kernel.old.core kernel.new.core }
+{
+    if kernel.is_used_up() {
+        return Ok(Some(Ended::Budget));
+    }
+    match script.next_of(actor, deployment, files) {
+        Ok(action) => Ok(end_of(kernel.tell(actor, action))),
+        Err(ScriptFault::Line(number, kind)) => Ok(Some(Ended::Script(number, kind))),
+        Err(ScriptFault::Read) => Ok(Some(Ended::ReadFault)),
+        Err(ScriptFault::Memory) => Err(Memory),
+    }
+}
+
+fn is_ask(call: Call) -> bool
+    ensures { result ≡ is_ask_spec call }
+{
+    match call {
+        Call::Ask => true,
+        Call::Compute(_) | Call::Sleep(_) | Call::Exit => false,
+    }
+}
+
+// Answers a call.
+fn answer_one<F: Files>(
+    kernel: &mut Kernel,
+    script: &mut Script,
+    deployment: &Deployment,
+    files: &mut F,
+    actor: ActorId,
+    call: Call,
+) -> Result<Option<Ended>, Memory>
+    requires caller { MayCall kernel.old.core actor.0 }
+    requires call { IsCall call }
+    requires room { 0 < kernel.old.room }
+    requires fits { Fits (length deployment.now.actors) (moment (F.shows files.old Part.Script) (kept_of script.old) kernel.old) }
+    ensures step { (taken : List ℕ) (minds : List base.Mind) (world : World) → StandsFor (known_in deployment.now) taken minds (moment (F.shows files.old Part.Script) (kept_of script.old) kernel.old) world → MatchResult result
+        (λ how. Reached (known_in deployment.now) (λ answers. one_call kernel.old.setup answers actor.0 call world) (ending how) taken minds (moment (F.shows files.old Part.Script) (kept_of script.old) kernel.old) (moment (F.shows files.new Part.Script) (kept_of script.new) kernel.new))
+        (λ _. CutOff (F.shows files.old Part.Script) (F.shows files.new Part.Script)) }
+    ensures fits { Fits (length deployment.now.actors) (moment (F.shows files.new Part.Script) (kept_of script.new) kernel.new) }
+    ensures uncut { IfOk result (λ how. cuts how ≡ false) }
+    ensures read { result ≡ Ok (Some Ended.ReadFault) → (F.shows files.new Part.Script).stage ≡ Broken }
+    ensures others { Only Part.Script (F.shows files.old) (F.shows files.new) }
+    ensures setup { kernel.new.setup ≡ kernel.old.setup }
+    ensures room { kernel.old.room ≤ kernel.new.room + 1 }
+    ensures free { LeavesFree actor.0 kernel.old.core kernel.new.core }
+{
+    if is_ask(call) {
+        answer_ask(kernel, script, deployment, files, actor)
+    } else {
+        Ok(end_of(kernel.answer(actor, call)))
+    }
+}
+
+// Answers one call, where there is one.
+fn answer_call<F: Files>(
+    kernel: &mut Kernel,
+    script: &mut Script,
+    deployment: &Deployment,
+    files: &mut F,
+    actor: ActorId,
+    call: Option<Call>,
+) -> Result<Option<Ended>, Memory>
+    requires caller { IfSome call (λ what. MayCall kernel.old.core actor.0 × IsCall what) }
+    requires room { 0 < kernel.old.room }
+    requires fits { Fits (length deployment.now.actors) (moment (F.shows files.old Part.Script) (kept_of script.old) kernel.old) }
+    ensures step { (taken : List ℕ) (minds : List base.Mind) (world : World) → StandsFor (known_in deployment.now) taken minds (moment (F.shows files.old Part.Script) (kept_of script.old) kernel.old) world → MatchResult result
+        (λ how. Reached (known_in deployment.now) (λ answers. if_call kernel.old.setup answers actor.0 call world) (ending how) taken minds (moment (F.shows files.old Part.Script) (kept_of script.old) kernel.old) (moment (F.shows files.new Part.Script) (kept_of script.new) kernel.new))
+        (λ _. CutOff (F.shows files.old Part.Script) (F.shows files.new Part.Script)) }
+    ensures fits { Fits (length deployment.now.actors) (moment (F.shows files.new Part.Script) (kept_of script.new) kernel.new) }
+    ensures uncut { IfOk result (λ how. cuts how ≡ false) }
+    ensures read { result ≡ Ok (Some Ended.ReadFault) → (F.shows files.new Part.Script).stage ≡ Broken }
+    ensures others { Only Part.Script (F.shows files.old) (F.shows files.new) }
+    ensures setup { kernel.new.setup ≡ kernel.old.setup }
+    ensures room { kernel.old.room ≤ kernel.new.room + 1 }
+    ensures free { LeavesFree actor.0 kernel.old.core kernel.new.core }
+{
+    match call {
+        Some(call) => answer_one(kernel, script, deployment, files, actor, call),
+        None => Ok(None),
+    }
+}
+
+/// Answers the calls in rising id.
+pub fn answer_calls<F: Files>(
+    kernel: &mut Kernel,
+    script: &mut Script,
+    deployment: &Deployment,
+    files: &mut F,
+    calls: &[Option<Call>],
+) -> Result<Option<Ended>, Memory>
+    requires callers { (i : ℕ) (what : Call) → slice_index_or calls.now i None ≡ Some what → MayCall kernel.old.core (i + 1) × IsCall what }
+    requires room { length calls.now ≤ kernel.old.room }
+    requires few { length calls.now ≤ 65536 }
+    requires fits { Fits (length deployment.now.actors) (moment (F.shows files.old Part.Script) (kept_of script.old) kernel.old) }
+    ensures step { (taken : List ℕ) (minds : List base.Mind) (world : World) → StandsFor (known_in deployment.now) taken minds (moment (F.shows files.old Part.Script) (kept_of script.old) kernel.old) world → MatchResult result
+        (λ how. Reached (known_in deployment.now) (λ answers. calls_from kernel.old.setup answers 1 calls.now world) (ending how) taken minds (moment (F.shows files.old Part.Script) (kept_of script.old) kernel.old) (moment (F.shows files.new Part.Script) (kept_of script.new) kernel.new))
+        (λ _. CutOff (F.shows files.old Part.Script) (F.shows files.new Part.Script)) }
+    ensures fits { Fits (length deployment.now.actors) (moment (F.shows files.new Part.Script) (kept_of script.new) kernel.new) }
+    ensures setup { kernel.new.setup ≡ kernel.old.setup }
+    ensures uncut { IfOk result (λ how. cuts how ≡ false) }
+    ensures read { result ≡ Ok (Some Ended.ReadFault) → (F.shows files.new Part.Script).stage ≡ Broken }
+    ensures others { Only Part.Script (F.shows files.old) (F.shows files.new) }
+{
+    for i in 0..calls.len() {
+        match answer_call(kernel, script, deployment, files, ActorId(i as u32 + 1), calls[i]) {
+            Ok(None) => {}
+            Ok(Some(how)) => return Ok(Some(how)),
+            Err(Memory) => return Err(Memory),
+        }
+    }
+    Ok(None)
+}
