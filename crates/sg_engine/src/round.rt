@@ -143,7 +143,14 @@ pub fn answer_calls<F: Files>(
     ensures others { Only Part.Script (F.shows files.old) (F.shows files.new) }
 {
     for i in 0..calls.len() {
-        match answer_call(kernel, script, deployment, files, ActorId(i as u32 + 1), calls[i]) {
+        match answer_call(
+            kernel,
+            script,
+            deployment,
+            files,
+            ActorId(i as u32 + 1),
+            calls[i],
+        ) {
             Ok(None) => {}
             Ok(Some(how)) => return Ok(Some(how)),
             Err(Memory) => return Err(Memory),

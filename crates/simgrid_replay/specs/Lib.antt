@@ -1,0 +1,5 @@
+pub mod Faults
+pub mod Outcome
+pub mod Parts
+pub mod RealFiles
+pub mod Words

@@ -1,0 +1,91 @@
+//! The platform and the deployment, each begun, read whole and judged.
+ghost use Rattle.std.specs.Prelude.{◌≡◌, ◌≢◌, IfOk, IfErr, IsOk};
+ghost use Rattle.sg_edge.specs.declared.files.Stage.TheVariants.{Fresh, Broken};
+ghost use Rattle.sg_edge.specs.Files.{Only, KeepsTelling};
+ghost use Rattle.sg_edge.specs.Given.{Source, Gives};
+ghost use Rattle.sg_platform.specs.Deployment.{IsDeployedOn};
+ghost use Rattle.simgrid_replay.specs.Parts.{platform_given, deployment_given, or_platform_fault, or_deployment_fault, IsReadFault, Breaks};
+ghost use Rattle.sg_platform.specs.PlatformOf.{platform_of as platform_of_text};
+ghost use Rattle.sg_platform.specs.DeploymentOf.{deployment_of as deployment_of_text};
+
+use crate::refusal::Refusal;
+use sg_edge::{Files, Loaded, Part, load};
+use sg_platform::{
+    Deployment, DeploymentFault, Place, PlatformFault, PlatformText, read_deployment, read_platform,
+};
+use std::alloc::Global;
+
+/// The greatest platform or deployment, in bytes.
+const GREATEST_TEXT: usize = 16_777_216;
+
+/// Where a text as a whole is refused.
+const WHOLE_TEXT: Place = Place {
+    table: 0,
+    row: 0,
+    key: 0,
+};
+
+fn platform_of(alloc: Global, text: &[u8]) -> Result<PlatformText, Refusal>
+    ensures { result ≢ Err Refusal.Memory → result ≡ or_platform_fault (platform_of_text text.now) }
+{
+    match read_platform(alloc, text) {
+        Ok(platform) => Ok(platform),
+        Err(PlatformFault::Memory) => Err(Refusal::Memory),
+        Err(fault) => Err(Refusal::Platform(fault)),
+    }
+}
+
+fn deployment_of(alloc: Global, text: &[u8], platform: &PlatformText) -> Result<Deployment, Refusal>
+    ensures given { result ≢ Err Refusal.Memory → result ≡ or_deployment_fault (deployment_of_text text.now platform.now) }
+    ensures deployed { IfOk result (IsDeployedOn platform.now) }
+{
+    match read_deployment(alloc, text, platform) {
+        Ok(deployment) => Ok(deployment),
+        Err(DeploymentFault::Memory) => Err(Refusal::Memory),
+        Err(fault) => Err(Refusal::Deployment(fault)),
+    }
+}
+
+/// The platform.
+pub fn load_platform<F: Files>(
+    alloc: Global,
+    files: &mut F,
+    name: &str,
+) -> Result<PlatformText, Refusal>
+    requires { (F.shows files.old Part.Platform).stage ≡ Fresh }
+    ensures given { (source : Source) → Gives (F.shows files.old Part.Platform) (F.shows files.new Part.Platform) source → result ≢ Err Refusal.Memory → result ≡ platform_given source }
+    ensures cause { IfErr result (λ why. IsReadFault why → Breaks (F.shows files.old Part.Platform) (F.shows files.new Part.Platform)) }
+    ensures whole { IsOk result → (F.shows files.new Part.Platform).stage ≢ Broken }
+    ensures telling { KeepsTelling (F.shows files.old Part.Platform) (F.shows files.new Part.Platform) }
+    ensures others { Only Part.Platform (F.shows files.old) (F.shows files.new) }
+{
+    match load(alloc, files, Part::Platform, name, GREATEST_TEXT) {
+        Loaded::Whole(text) => platform_of(alloc, &text),
+        Loaded::TooLong => Err(Refusal::Platform(PlatformFault::Limit(WHOLE_TEXT))),
+        Loaded::Fault => Err(Refusal::ReadPlatform),
+        Loaded::Memory => Err(Refusal::Memory),
+    }
+}
+
+/// The deployment, on this platform.
+pub fn load_deployment<F: Files>(
+    alloc: Global,
+    files: &mut F,
+    name: &str,
+    platform: &PlatformText,
+) -> Result<Deployment, Refusal>
+    requires { (F.shows files.old Part.Deployment).stage ≡ Fresh }
+    ensures given { (source : Source) → Gives (F.shows files.old Part.Deployment) (F.shows files.new Part.Deployment) source → result ≢ Err Refusal.Memory → result ≡ deployment_given platform.now source }
+    ensures deployed { IfOk result (IsDeployedOn platform.now) }
+    ensures cause { IfErr result (λ why. IsReadFault why → Breaks (F.shows files.old Part.Deployment) (F.shows files.new Part.Deployment)) }
+    ensures whole { IsOk result → (F.shows files.new Part.Deployment).stage ≢ Broken }
+    ensures telling { KeepsTelling (F.shows files.old Part.Deployment) (F.shows files.new Part.Deployment) }
+    ensures others { Only Part.Deployment (F.shows files.old) (F.shows files.new) }
+{
+    match load(alloc, files, Part::Deployment, name, GREATEST_TEXT) {
+        Loaded::Whole(text) => deployment_of(alloc, &text, platform),
+        Loaded::TooLong => Err(Refusal::Deployment(DeploymentFault::Limit(WHOLE_TEXT))),
+        Loaded::Fault => Err(Refusal::ReadDeployment),
+        Loaded::Memory => Err(Refusal::Memory),
+    }
+}

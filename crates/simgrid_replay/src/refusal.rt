@@ -1,0 +1,132 @@
+//! Why a platform or a deployment isn't there, and the lines that tell it.
+ghost use Rattle.std.specs.Prelude.{◌≡◌, IfOk, codes, string_bytes};
+ghost use Rattle.simgrid_replay.specs.Faults.{fault_line as fault_line_spec, platform_words, platform_place, deployment_words, deployment_place};
+
+use sg_base::Memory;
+use sg_platform::{DeploymentFault, Place, PlatformFault};
+use std::alloc::Global;
+
+/// Why a platform or a deployment isn't there.
+#[derive(Debug, Drop)]
+pub enum Refusal {
+    /// The platform's text is none.
+    Platform(PlatformFault),
+    /// The deployment's text is none, or it doesn't fit the platform.
+    Deployment(DeploymentFault),
+    /// The platform could not be begun or read.
+    ReadPlatform,
+    /// The deployment could not be begun or read.
+    ReadDeployment,
+    /// There was no memory for it.
+    Memory,
+}
+
+fn words_of_platform(fault: &PlatformFault) -> &'static str
+    ensures { result.now ≡ platform_words fault.now }
+{
+    match fault {
+        PlatformFault::BadToml => "not TOML",
+        PlatformFault::MissingKey(_) => "missing key",
+        PlatformFault::WrongType(_) => "wrong type",
+        PlatformFault::BadValue(_) => "bad value",
+        PlatformFault::BadName(_) => "bad name",
+        PlatformFault::Duplicate(_) => "duplicate",
+        PlatformFault::Unknown(_) => "unknown name",
+        PlatformFault::Limit(_) => "over a limit",
+        PlatformFault::Memory => "",
+    }
+}
+
+fn place_of_platform(fault: &PlatformFault) -> Option<Place>
+    ensures { result ≡ platform_place fault.now }
+{
+    match fault {
+        PlatformFault::BadToml | PlatformFault::Memory => None,
+        PlatformFault::MissingKey(place)
+        | PlatformFault::WrongType(place)
+        | PlatformFault::BadValue(place)
+        | PlatformFault::BadName(place)
+        | PlatformFault::Duplicate(place)
+        | PlatformFault::Unknown(place)
+        | PlatformFault::Limit(place) => Some(*place),
+    }
+}
+
+fn words_of_deployment(fault: &DeploymentFault) -> &'static str
+    ensures { result.now ≡ deployment_words fault.now }
+{
+    match fault {
+        DeploymentFault::BadToml => "not TOML",
+        DeploymentFault::MissingKey(_) => "missing key",
+        DeploymentFault::WrongType(_) => "wrong type",
+        DeploymentFault::BadValue(_) => "bad value",
+        DeploymentFault::BadName(_) => "bad name",
+        DeploymentFault::Duplicate(_) => "duplicate",
+        DeploymentFault::Unknown(_) => "unknown name",
+        DeploymentFault::Limit(_) => "over a limit",
+        DeploymentFault::Function(_) => "unknown function",
+        DeploymentFault::Arguments(_) => "bad arguments",
+        DeploymentFault::Memory => "",
+    }
+}
+
+fn place_of_deployment(fault: &DeploymentFault) -> Option<Place>
+    ensures { result ≡ deployment_place fault.now }
+{
+    match fault {
+        DeploymentFault::BadToml | DeploymentFault::Memory => None,
+        DeploymentFault::MissingKey(place)
+        | DeploymentFault::WrongType(place)
+        | DeploymentFault::BadValue(place)
+        | DeploymentFault::BadName(place)
+        | DeploymentFault::Duplicate(place)
+        | DeploymentFault::Unknown(place)
+        | DeploymentFault::Limit(place)
+        | DeploymentFault::Function(place)
+        | DeploymentFault::Arguments(place) => Some(*place),
+    }
+}
+
+fn fault_line(
+    alloc: Global,
+    part: &str,
+    words: &str,
+    place: Option<Place>,
+) -> Result<String, Memory>
+    ensures { IfOk result (λ line. string_bytes line ≡ fault_line_spec part.now words.now place) }
+{
+    let line = match place {
+        Some(Place { table, row, key }) => {
+            format!(in alloc; "{part}: {words} (table {table}, row {row}, key {key})\n")
+        }
+        None => format!(in alloc; "{part}: {words}\n"),
+    };
+    match line {
+        Ok(line) => Ok(line),
+        Err(_) => Err(Memory),
+    }
+}
+
+/// The line that tells a platform's fault, with its newline.
+pub fn platform_line(alloc: Global, fault: &PlatformFault) -> Result<String, Memory>
+    ensures { IfOk result (λ line. string_bytes line ≡ fault_line_spec (codes "platform") (platform_words fault.now) (platform_place fault.now)) }
+{
+    fault_line(
+        alloc,
+        "platform",
+        words_of_platform(fault),
+        place_of_platform(fault),
+    )
+}
+
+/// The line that tells a deployment's fault, with its newline.
+pub fn deployment_line(alloc: Global, fault: &DeploymentFault) -> Result<String, Memory>
+    ensures { IfOk result (λ line. string_bytes line ≡ fault_line_spec (codes "deployment") (deployment_words fault.now) (deployment_place fault.now)) }
+{
+    fault_line(
+        alloc,
+        "deployment",
+        words_of_deployment(fault),
+        place_of_deployment(fault),
+    )
+}

@@ -1,0 +1,380 @@
+//! What no clause says: that memory suffices, and what whole calls write.
+ghost use Rattle.std.specs.Prelude.{◌≡◌, ◌<◌};
+ghost use Rattle.sg_edge.specs.declared.files.Part.{Part};
+ghost use Rattle.sg_edge.specs.declared.files.Stage.TheVariants.{Fresh};
+
+use crate::top::simgrid;
+use sg_base::{Memory, Steps};
+use sg_edge::{Files, MemFiles, MemSinks, Sinks, Stream, SureFiles, SureSinks};
+use std::alloc::Global;
+use std::marker::Brand;
+use std::sync::ledger::{Blank, Ledger};
+use std::test::Fail;
+
+/// Two hosts of 10^9 flops a second.
+const FAST: &str = "zone = [{id = 'z', routing = 'Full'}]
+host = [{id = 'h1', zone = 'z', speed = '1Gf'}, {id = 'h2', zone = 'z', speed = '1Gf'}]
+";
+
+/// One host of 10 flops a second.
+const SLOW: &str = "zone = [{id = 'z', routing = 'Full'}]
+host = [{id = 'h1', zone = 'z', speed = '10f'}]
+";
+
+const REPLAY: &str = "simgrid_replay replay p d s";
+
+/// The words of a command line.
+fn words(alloc: Global, line: &str) -> Result<Vec<String>, Memory> {
+    let mut words = Vec::new(alloc);
+    for word in line.split_whitespace() {
+        words.push(String::from_str(alloc, word)?)?;
+    }
+    Ok(words)
+}
+
+/// A deployment that has actors `p0`, `p1` and so on, on these hosts.
+fn on_hosts(alloc: Global, hosts: &[&str]) -> Result<String, Memory> {
+    let mut text = String::new(alloc);
+    for (n, host) in hosts.iter().enumerate() {
+        let row = format!(in alloc;
+            "[[actor]]\nname = 'p{n}'\nhost = '{host}'\nfunction = 'replay'\n"
+        )?;
+        text.push_str(row.as_str())?;
+    }
+    Ok(text)
+}
+
+/// The exit status of a call, which counts its own steps.
+fn code_of<F: Files, O: Sinks, L: Ledger>(
+    alloc: Global,
+    words: &[String],
+    files: &mut F,
+    out: &mut O,
+    blank: Blank,
+) -> u8
+    requires fresh { (part : Part) → (F.shows files.old part).stage ≡ Fresh }
+    requires sound { O.faults out.old ≡ 0 }
+    requires name { blank.name ≡ L.name }
+    requires parts { blank.parts ≡ L.parts }
+    requires some { 0 < blank.parts }
+{
+    let mut steps = Steps::<L>::new(blank);
+    simgrid(alloc, words, files, out, &mut steps).code()
+}
+
+/// The exit status of a call with these words over these three texts, and what it wrote. Calls and writes of these
+/// numbers fail.
+fn call(
+    alloc: Global,
+    line: &str,
+    texts: (&str, &str, &[u8]),
+    calls: &[u64],
+    writes: &[u64],
+) -> Result<(u8, MemSinks), Memory> {
+    let (platform, deployment, script) = texts;
+    let words = words(alloc, line)?;
+    let mut files = MemFiles::new(
+        alloc,
+        Some(platform.as_bytes()),
+        Some(deployment.as_bytes()),
+        Some(script),
+        calls,
+    )?;
+    let mut out = MemSinks::new(alloc, 1000, 1000, writes, 7)?;
+    let code = code_of::<MemFiles, MemSinks, Brand>(
+        alloc,
+        &words,
+        &mut files,
+        &mut out,
+        Blank::new(1),
+    );
+    Ok((code, out))
+}
+
+/// The same of a replay.
+fn replay(
+    alloc: Global,
+    texts: (&str, &str, &[u8]),
+    calls: &[u64],
+    writes: &[u64],
+) -> Result<(u8, MemSinks), Memory> {
+    call(alloc, REPLAY, texts, calls, writes)
+}
+
+#[test]
+fn one_actor_replays_its_lines(rt: HostRuntime) -> Result<(), Fail> {
+    let alloc = rt.alloc();
+    let done =
+        "[h1:p0:(1) 1.000000000] compute 1000000000 1.000000000\nSimulation time 1.000000000\n";
+    let none = "[h1:p0:(1) 0.000000000] compute 0 0.000000000\nSimulation time 0.000000000\n";
+    let slept = "[h1:p0:(1) 1.000000000] sleep 1.000000000\nSimulation time 1.000000000\n";
+    let cases = [
+        ("p0 compute 1e9\n", done),
+        ("# head\r\n\r\np0 compute 1e9", done),
+        ("p0 compute 0\n", none),
+        ("p0 sleep 1\n", slept),
+        ("", "Simulation time 0.000000000\n"),
+    ];
+    let deployment = on_hosts(alloc, &["h1"])?;
+    for (script, want) in cases {
+        let (status, out) = replay(
+            alloc,
+            (FAST, deployment.as_str(), script.as_bytes()),
+            &[],
+            &[],
+        )?;
+        assert_eq!(rt; out.held(Stream::Out), want.as_bytes(), "for {script}");
+        assert_eq!(rt;
+            (status, out.held(Stream::Err).len()),
+            (0, 0),
+            "for {script}"
+        );
+    }
+    Ok(())
+}
+
+#[test]
+fn actors_share_a_host(rt: HostRuntime) -> Result<(), Fail> {
+    let alloc = rt.alloc();
+    let halves = "[h1:p0:(1) 2.000000000] compute 1000000000 2.000000000
+[h1:p1:(2) 2.000000000] compute 1000000000 2.000000000
+Simulation time 2.000000000
+";
+    let thirds = "[h1:p0:(1) 3.333333334] compute 10 3.333333334
+[h1:p1:(2) 3.333333334] compute 10 3.333333334
+[h1:p2:(3) 3.333333334] compute 10 3.333333334
+Simulation time 3.333333334
+";
+    let then_halves = "[h1:p2:(3) 0.333333334] compute 1 0.333333334
+[h1:p0:(1) 2.133333334] compute 10 2.133333334
+[h1:p1:(2) 2.133333334] compute 10 2.133333334
+Simulation time 2.133333334
+";
+    let two = on_hosts(alloc, &["h1", "h1"])?;
+    let three = on_hosts(alloc, &["h1", "h1", "h1"])?;
+    let cases = [
+        (
+            FAST,
+            two.as_str(),
+            "p0 compute 1e9\np1 compute 1e9\n",
+            halves,
+        ),
+        (
+            SLOW,
+            three.as_str(),
+            "p0 compute 10\np1 compute 10\np2 compute 10\n",
+            thirds,
+        ),
+        (
+            SLOW,
+            three.as_str(),
+            "p0 compute 10\np1 compute 10\np2 compute 1\n",
+            then_halves,
+        ),
+    ];
+    for (platform, deployment, script, want) in cases {
+        let (status, out) = replay(alloc, (platform, deployment, script.as_bytes()), &[], &[])?;
+        assert_eq!(rt; out.held(Stream::Out), want.as_bytes(), "for {script}");
+        assert_eq!(rt; status, 0, "for {script}");
+    }
+    Ok(())
+}
+
+#[test]
+fn a_bad_line_ends_the_run_when_it_is_met(rt: HostRuntime) -> Result<(), Fail> {
+    let alloc = rt.alloc();
+    let deployment = on_hosts(alloc, &["h1", "h2"])?;
+    let script = b"p0 compute 1e9\np1 compute 5e8\np0 jump 5\n";
+    let (status, out) = replay(
+        alloc,
+        (FAST, deployment.as_str(), script.as_slice()),
+        &[],
+        &[],
+    )?;
+    assert_eq!(rt;
+        out.held(Stream::Out),
+        b"[h2:p1:(2) 0.500000000] compute 500000000 0.500000000\n".as_slice()
+    );
+    assert_eq!(rt;
+        out.held(Stream::Err),
+        b"script line 3: unknown action\n".as_slice()
+    );
+    assert_eq!(rt; status, 5);
+    Ok(())
+}
+
+#[test]
+fn a_line_has_4096_bytes_at_most(rt: HostRuntime) -> Result<(), Fail> {
+    let alloc = rt.alloc();
+    let cases = [(4096, 0, ""), (4097, 5, "script line 1: line too long\n")];
+    let deployment = on_hosts(alloc, &["h1"])?;
+    for (bytes, want, told) in cases {
+        let mut script = Vec::from_slice(alloc, b"p0 compute 1")?;
+        script.resize(bytes, b' ')?;
+        script.push(b'\n')?;
+        let (status, out) = replay(alloc, (FAST, deployment.as_str(), &script), &[], &[])?;
+        assert_eq!(rt; status, want, "for {bytes}");
+        assert_eq!(rt; out.held(Stream::Err), told.as_bytes(), "for {bytes}");
+    }
+    Ok(())
+}
+
+#[test]
+fn a_failed_read_is_told_by_the_ask_that_meets_it(rt: HostRuntime) -> Result<(), Fail> {
+    let alloc = rt.alloc();
+    let one = on_hosts(alloc, &["h1"])?;
+    let cases = [
+        // The call that fails, and what stands in the script before it.
+        (
+            one.as_str(),
+            9,
+            "p0 compute 1e9\np0 comp",
+            "[h1:p0:(1) 1.000000000] compute 1000000000 1.000000000\n",
+            10,
+        ),
+        (one.as_str(), 9, "p0 comp", "", 10),
+        (one.as_str(), 7, "p0 compute 1e9\n", "", 10),
+        // The script can't be begun, and nobody asks.
+        (
+            "",
+            6,
+            "p0 compute 1e9\n",
+            "Simulation time 0.000000000\n",
+            0,
+        ),
+    ];
+    for (deployment, call, script, want, code) in cases {
+        let (status, out) = replay(alloc, (FAST, deployment, script.as_bytes()), &[call], &[])?;
+        let told = if code == 10 {
+            "cannot read the script\n"
+        } else {
+            ""
+        };
+        assert_eq!(rt;
+            out.held(Stream::Out),
+            want.as_bytes(),
+            "at call {call} for {script}"
+        );
+        assert_eq!(rt;
+            out.held(Stream::Err),
+            told.as_bytes(),
+            "at call {call} for {script}"
+        );
+        assert_eq!(rt; status, code, "at call {call} for {script}");
+    }
+    Ok(())
+}
+
+#[test]
+fn shares_below_one_flop_a_second_starve(rt: HostRuntime) -> Result<(), Fail> {
+    let alloc = rt.alloc();
+    let deployment = on_hosts(alloc, &["h1"; 11])?;
+    let mut script = String::new(alloc);
+    let mut want = String::from_str(alloc, "starved at 0.000000000\n")?;
+    for n in 0..11u32 {
+        let line = format!(in alloc; "p{n} compute 1\n")?;
+        script.push_str(line.as_str())?;
+        let id = n + 1;
+        let blocked = format!(in alloc; "blocked [h1:p{n}:({id})] compute 1\n")?;
+        want.push_str(blocked.as_str())?;
+    }
+    let (status, out) = replay(
+        alloc,
+        (SLOW, deployment.as_str(), script.as_bytes()),
+        &[],
+        &[],
+    )?;
+    assert_eq!(rt; out.held(Stream::Out), want.as_bytes());
+    assert_eq!(rt; status, 7);
+    Ok(())
+}
+
+#[test]
+fn tells_the_first_fault(rt: HostRuntime) -> Result<(), Fail> {
+    let alloc = rt.alloc();
+    let twice = "zone = [{id = 'z', routing = 'Full'}]
+host = [{id = 'h1', zone = 'z', speed = '1Gf'}, {id = 'h1', zone = 'z', speed = '1Gf', core = 0}]
+";
+    let one = on_hosts(alloc, &["h1"])?;
+    let elsewhere = on_hosts(alloc, &["h3"])?;
+    let cases = [
+        (
+            twice,
+            one.as_str(),
+            "platform: duplicate (table 2, row 2, key 1)\n",
+            3,
+        ),
+        ("host = [", one.as_str(), "platform: not TOML\n", 3),
+        ("host = [", "actor = [", "platform: not TOML\n", 3),
+        (FAST, "actor = [", "deployment: not TOML\n", 4),
+        (
+            FAST,
+            elsewhere.as_str(),
+            "deployment: unknown name (table 1, row 1, key 2)\n",
+            4,
+        ),
+    ];
+    for (platform, deployment, want, code) in cases {
+        let (status, out) = replay(
+            alloc,
+            (platform, deployment, b"p0 compute 1e9\n".as_slice()),
+            &[],
+            &[],
+        )?;
+        assert_eq!(rt; out.held(Stream::Err), want.as_bytes());
+        assert_eq!(rt; (status, out.held(Stream::Out).len()), (code, 0), "{want}");
+    }
+    Ok(())
+}
+
+#[test]
+fn refuses_other_words(rt: HostRuntime) -> Result<(), Fail> {
+    let cases = [
+        "",
+        "simgrid_replay replay p d",
+        "simgrid_replay replay p d s t",
+        "simgrid_replay run p d s",
+    ];
+    for line in cases {
+        let texts = (FAST, "", b"".as_slice());
+        let (status, out) = call(rt.alloc(), line, texts, &[], &[])?;
+        assert_eq!(rt; (status, out.held(Stream::Out).len()), (2, 0), "for {line}");
+        assert_eq!(rt;
+            out.held(Stream::Err),
+            b"usage: simgrid_replay replay PLATFORM DEPLOYMENT SCRIPT\n".as_slice()
+        );
+    }
+    Ok(())
+}
+
+#[test]
+fn a_failed_write_cuts_the_run_off(rt: HostRuntime) -> Result<(), Fail> {
+    let alloc = rt.alloc();
+    let deployment = on_hosts(alloc, &["h1"])?;
+    let (status, out) = replay(
+        alloc,
+        (FAST, deployment.as_str(), b"p0 compute 1e9\n".as_slice()),
+        &[],
+        &[3],
+    )?;
+    // Each write takes 7 bytes at most.
+    assert_eq!(rt; out.held(Stream::Out), b"[h1:p0:(1) 1.0".as_slice());
+    assert_eq!(rt; (status, out.held(Stream::Err).len()), (11, 0));
+    Ok(())
+}
+
+/// The exit status of the same run over parts and streams that never fail.
+fn over_sure_parts(alloc: Global) -> Result<u8, Memory> {
+    let words = words(alloc, REPLAY)?;
+    let deployment = on_hosts(alloc, &["h1"])?;
+    let script = b"p0 compute 1e9\n";
+    let mut files = SureFiles::new(alloc, FAST.as_bytes(), deployment.as_bytes(), script)?;
+    let mut out = SureSinks::new();
+    Ok(code_of::<SureFiles, SureSinks, Brand>(alloc, &words, &mut files, &mut out, Blank::new(1)))
+}
+
+#[test]
+fn completes_over_parts_and_streams_that_never_fail(rt: HostRuntime) -> Result<(), Fail> {
+    assert_eq!(rt; over_sure_parts(rt.alloc())?, 0);
+    Ok(())
+}
