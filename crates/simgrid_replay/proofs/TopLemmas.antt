@@ -1,26 +1,15 @@
 -- How the steps of the whole call come together.
 use Rattle.std.proofs.Common.{◌≡◌, ◌≢◌, ◌<◌, ◌≤◌, ◌∙◌, ◌⊎◌, inl, inr, sym, ap, refl, ℕ, List, [], ◌∷◌, ◌++◌, length, get_or, Bool, true, false, Option, None, Some, Result, Ok, arith, rules}
 use Rattle.std.proofs.Common as C
-use Rattle.std.specs.Prelude.{codes, String, OnOk, OnErr}
-use Rattle.std.specs.declared.alloc.Global.{Global}
-use Rattle.std.specs.String.{string_bytes}
 use Rattle.sg_base.specs.declared.status.Status.{Status}
 use Rattle.sg_base.specs.declared.status.Status.TheVariants as S
-use Rattle.sg_edge.specs.declared.files.Failed.{Failed}
-use Rattle.sg_edge.specs.declared.files.Stage.TheVariants.{Fresh, Begun, Broken}
 use Rattle.sg_edge.specs.declared.sinks.Stream.{Stream}
 use Rattle.sg_edge.specs.declared.sinks.Stream.TheVariants.{Out, Err}
 use Rattle.sg_edge.specs.Sinks.{gain}
-use Rattle.sg_edge.specs.Files.{PartView, Begins, Breaks}
-use Rattle.sg_edge.specs.Given.{Source, Gives}
-use Rattle.sg_engine.specs.Gains.{Ends, GainsAll, GainsFronts, IsBroken}
-use Rattle.sg_engine.specs.Output.{Output}
-use Rattle.sg_engine.specs.declared.ended.Ended.{Ended}
-use Rattle.sg_engine.specs.declared.ended.Ended.TheVariants as E
+use Rattle.sg_engine.specs.Gains.{GainsFronts}
 use Rattle.simgrid_replay.specs.declared.refusal.Refusal.{Refusal}
 use Rattle.simgrid_replay.specs.declared.refusal.Refusal.TheVariants as R
-use Rattle.simgrid_replay.specs.Outcome.{Outcome, Prints, of_run, status_of, refused, refusal_outcome}
-use Rattle.simgrid_replay.specs.Words.{AsksReplay}
+use Rattle.simgrid_replay.specs.Outcome.{Outcome, Prints, refused, refusal_outcome}
 
 -- fronts of nothing are fronts of anything
 fronts_nothing : (out err : List ℕ) (old new : Stream → Option (List ℕ)) → GainsFronts [] [] old new → GainsFronts out err old new

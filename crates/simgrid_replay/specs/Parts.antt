@@ -1,5 +1,5 @@
 -- What the platform and the deployment are, by what their parts gave.
-use Rattle.std.specs.Prelude.{◌≡◌, ◌≢◌, ◌<◌, ℕ, List, length, Result, Ok, Err, if◌then◌else◌, nat_lt}
+use Rattle.std.specs.Prelude.{◌≡◌, ◌<◌, length, Result, Ok, Err, if◌then◌else◌, nat_lt}
 use Rattle.sg_edge.specs.declared.files.Stage.TheVariants.{Broken}
 use Rattle.sg_edge.specs.Files.{PartView}
 use Rattle.sg_edge.specs.Given.{Source}

@@ -1,4 +1,4 @@
-use Rattle.std.proofs.Common.{◌≡◌, ◌∙◌, ap}
+use Rattle.std.proofs.Common.{◌∙◌, ap}
 use Rattle.sg_platform.specs.DeploymentOf.{deployment_of}
 use Rattle.simgrid_replay.specs.Parts.{or_deployment_fault}
 use Rattle.simgrid_replay.proofs.PartLemmas.{deployment_whole, deployment_too_long}

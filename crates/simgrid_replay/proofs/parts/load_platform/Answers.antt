@@ -1,4 +1,4 @@
-use Rattle.std.proofs.Common.{◌≡◌, ◌∙◌, ap}
+use Rattle.std.proofs.Common.{◌∙◌, ap}
 use Rattle.sg_platform.specs.PlatformOf.{platform_of}
 use Rattle.simgrid_replay.specs.Parts.{or_platform_fault}
 use Rattle.simgrid_replay.proofs.PartLemmas.{platform_whole, platform_too_long}

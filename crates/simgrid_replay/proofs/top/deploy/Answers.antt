@@ -1,4 +1,4 @@
-use Rattle.std.proofs.Common.{◌≡◌, refl}
+use Rattle.std.proofs.Common.{refl}
 use Rattle.simgrid_replay.specs.Outcome.{run_on}
 use Rattle.simgrid_replay.specs.Parts.{deployment_given}
 use Rattle.simgrid_replay.proofs.TopLemmas.{refusal_prints}
