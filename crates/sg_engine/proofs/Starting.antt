@@ -6,7 +6,7 @@ use Rattle.std.proofs.lemmas.List.Elements.{All-map}
 use Rattle.sg_activity.specs.Hosts.{IsHost}
 use Rattle.sg_base.specs.declared.ids.PointId.{PointId}
 use Rattle.sg_kernel.specs.Known.{point_number}
-use Rattle.sg_platform.specs.Platform.{IsHostRow}
+use Rattle.sg_platform.specs.Platform.{Counts, IsHostRow}
 use Rattle.sg_platform.specs.declared.rows.ActorRow.{ActorRow}
 use Rattle.sg_platform.specs.declared.rows.HostRow.{HostRow}
 use Rattle.std.proofs.lemmas.List.{length-map, length-replicate}
@@ -39,8 +39,8 @@ pub minds_from-suc : (me n : ℕ) → minds_from me (n + 1) ≡ minds_from me n 
 minds_from-suc me n = let next : n + 1 ≡ suc n = omega arith in ap (minds_from me) next ∙ minds_next me n
 
 -- ---- what the kernel asks
-pub hosts_kept : (zones : ℕ) (hosts : List HostRow) → All (IsHostRow zones) hosts → All IsHost (map cap_of hosts)
-hosts_kept zones hosts kept = All-map IsHost cap_of hosts (λ k d within. let host = kept k d within in (host.speed, host.cores))
+pub hosts_kept : (counts : Counts) (hosts : List HostRow) → All (IsHostRow counts) hosts → All IsHost (map cap_of hosts)
+hosts_kept counts hosts kept = All-map IsHost cap_of hosts (λ k d within. let host = kept k d within in (host.speed, host.cores))
 
 pub homes_kept : (number : ℕ) (actors : List ActorRow) → All (λ actor. actor.host.0 < number) actors → All (λ (home : PointId). home.0 < number) (map point_of actors)
 homes_kept number actors kept = All-map (λ (home : PointId). home.0 < number) point_of actors kept

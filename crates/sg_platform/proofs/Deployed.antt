@@ -1,26 +1,40 @@
 -- The rows of a tree that has no fault are a deployment on its platform.
-use Rattle.std.proofs.Common.{◌≡◌, ℕ, ◌<◌, ◌≤◌, [], map, length, codes, None, refl, subst, arith}
+use Rattle.std.proofs.Common.{◌≡◌, ℕ, ◌<◌, ◌≤◌, [], length, codes, None, refl, subst, arith}
 use Rattle.std.proofs.lemmas.List.{length-map}
 use Rattle.std.proofs.lemmas.List.Elements.{All-map}
-use Rattle.sg_platform.proofs.KeptRows.{actor_kept}
-use Rattle.sg_platform.specs.Build.{actor_row}
-use Rattle.sg_platform.specs.Deployment.{IsActorRow, IsDeployedOn, IsDeployment}
+use Rattle.sg_platform.proofs.KeptRows.{actor_kept, mutex_kept, semaphore_kept}
+use Rattle.sg_platform.specs.Build.{actor_row, mutex_row, semaphore_row}
+use Rattle.sg_platform.specs.Deployment.{IsActorRow, IsDeployedOn, IsDeployment, IsSemaphoreRow}
 use Rattle.sg_platform.specs.DeploymentOf.{rows_of}
 use Rattle.sg_platform.specs.Platform.{Platform}
 use Rattle.sg_rules.proofs.Kept.{rows_few, rows_kept}
 use Rattle.sg_rules.specs.Faults.{faults_of, table_faults}
 use Rattle.sg_rules.specs.Names.{AreSmall, FitsIn32, Known, deployment_known}
 use Rattle.sg_rules.specs.Tables.{deployment_tables}
-use Rattle.sg_rules.specs.declared.tables.Table.TheVariants.{Actor}
+use Rattle.sg_rules.specs.declared.tables.Table.TheVariants.{Actor, Mutex, Semaphore}
 use Rattle.sg_tree.proofs.Kept.{empty_left, empty_right, none_empty}
 use Rattle.sg_tree.specs.Along.{first}
 use Rattle.sg_tree.specs.Names.{Finds}
 use Rattle.sg_tree.specs.Tree.{rows_at}
 use Rattle.toml.specs.Data.{Members}
 
-no_faults : (names : Known) (tree : Members) → first (faults_of names deployment_tables tree) ≡ None → table_faults names tree Actor ≡ []
+-- no table has a fault
+record NoFaults (names : Known) (tree : Members) : Type 0 where
+  pub actors : table_faults names tree Actor ≡ []
+  pub mutexes : table_faults names tree Mutex ≡ []
+  pub semaphores : table_faults names tree Semaphore ≡ []
+
+no_faults : (names : Known) (tree : Members) → first (faults_of names deployment_tables tree) ≡ None → NoFaults names tree
 unfolding faults_of
-no_faults names tree none = empty_left _ _ (empty_right _ _ (none_empty _ none))
+no_faults names tree none =
+    let actors = empty_right _ _ (none_empty _ none) in
+    let mutexes = empty_right _ _ actors in
+    let semaphores = empty_right _ _ mutexes in
+    record {
+      actors = empty_left _ _ actors;
+      mutexes = empty_left _ _ mutexes;
+      semaphores = empty_left _ _ semaphores;
+    }
 
 pub known_hosts : (hosts : ℕ) (points : Finds) (tree : Members) → (deployment_known hosts points tree).hosts ≡ hosts
 unfolding deployment_known
@@ -30,6 +44,7 @@ pub deployment_small : (hosts : ℕ) (points : Finds) (tree : Members) → FitsI
 unfolding deployment_known
 deployment_small hosts points tree fits = record {
   points = fits;
+  links = λ q. tt;
 }
 
 pub deployment_without_faults : (names : Known) (tree : Members) → first (faults_of names deployment_tables tree) ≡ None → IsDeployment (rows_of names tree)
@@ -37,9 +52,15 @@ unfolding rows_of
 deployment_without_faults names tree none =
     let kept = no_faults names tree none in
     let actors = rows_at (codes "actor") tree in
+    let mutexes = rows_at (codes "mutex") tree in
+    let semaphores = rows_at (codes "semaphore") tree in
     record {
-      few_actors = omega (arith, length-map actors (actor_row names), rows_few names tree Actor kept);
-      actors = All-map IsActorRow (actor_row names) actors (rows_kept names tree Actor (λ row. IsActorRow (actor_row names row)) (λ number row fine. (actor_kept names number row fine).row) kept);
+      few_actors = omega (arith, length-map actors (actor_row names), rows_few names tree Actor kept.actors);
+      few_mutexes = omega (arith, length-map mutexes mutex_row, rows_few names tree Mutex kept.mutexes);
+      few_semaphores = omega (arith, length-map semaphores semaphore_row, rows_few names tree Semaphore kept.semaphores);
+      actors = All-map IsActorRow (actor_row names) actors (rows_kept names tree Actor (λ row. IsActorRow (actor_row names row)) (λ number row fine. (actor_kept names number row fine).row) kept.actors);
+      mutexes = All-map (λ mutex. length mutex.id ≤ 64) mutex_row mutexes (rows_kept names tree Mutex (λ row. length (mutex_row row).id ≤ 64) (λ number row fine. mutex_kept names number row fine) kept.mutexes);
+      semaphores = All-map IsSemaphoreRow semaphore_row semaphores (rows_kept names tree Semaphore (λ row. IsSemaphoreRow (semaphore_row row)) (λ number row fine. semaphore_kept names number row fine) kept.semaphores);
     }
 
 pub deployed_without_faults : (names : Known) (tree : Members) (platform : Platform) → names.hosts ≡ length platform.hosts → first (faults_of names deployment_tables tree) ≡ None → IsDeployedOn platform (rows_of names tree)
@@ -48,4 +69,4 @@ deployed_without_faults names tree platform same none =
     let kept = no_faults names tree none in
     let actors = rows_at (codes "actor") tree in
     All-map (λ actor. actor.host.0 < length platform.hosts) (actor_row names) actors
-    (rows_kept names tree Actor (λ row. (actor_row names row).host.0 < length platform.hosts) (λ number row fine. subst (λ n. (actor_row names row).host.0 < n) same (actor_kept names number row fine).host) kept)
+    (rows_kept names tree Actor (λ row. (actor_row names row).host.0 < length platform.hosts) (λ number row fine. subst (λ n. (actor_row names row).host.0 < n) same (actor_kept names number row fine).host) kept.actors)

@@ -1,35 +1,110 @@
 -- What holds of a row that breaks no rule.
-use Rattle.std.proofs.Common.{◌≡◌, ℕ, ◌+◌, ◌-◌, ◌<◌, ◌≤◌, ◌&&◌, Bool, true, false, cond, nat_le, ℤ, pos, negsuc, List, [], Option, Some, None, IfSome, option_and_then, option_map, codes, refl, inl, inr, arith}
+use Rattle.std.proofs.Common.{◌≡◌, ℕ, ◌+◌, ◌-◌, ◌<◌, ◌≤◌, ◌&&◌, false, cond, not, nat_le, nat_lt, ℤ, pos, negsuc, List, [], length, Option, Some, None, IfSome, option_and_then, option_map, unwrap_or, codes, refl, inl, inr, arith}
 use Rattle.std.proofs.lemmas.Bool.{cases_Bool}
 use Rattle.std.proofs.lemmas.Bool.Decides.{nat_tests}
-use Rattle.sg_platform.specs.Build.{actor_row, core_or_one, host_row, zone_id, zone_row}
-use Rattle.sg_platform.specs.Deployment.{IsActorRow}
-use Rattle.sg_platform.specs.Platform.{IsHostRow, IsZoneRow}
+use Rattle.sg_base.specs.declared.ids.Child.TheVariants.{Point as PointChild, Zone as ZoneChild}
+use Rattle.sg_platform.proofs.EndsBelow.{way_back_kept}
+use Rattle.sg_platform.proofs.LinkLists.{required_links, value_link_list}
+use Rattle.sg_platform.specs.Build.{actor_row, capacity_or_zero, child_of, core_or_one, gateway, host_row, latency_or_zero, link_row, links_at, links_or_back, mutex_row, point_id, route_row, router_row, semaphore_row, spoke_row, zone_id, zone_route_row, zone_row}
+use Rattle.sg_platform.specs.Deployment.{IsActorRow, IsSemaphoreRow}
+use Rattle.sg_platform.specs.Ends.{link_ends}
+use Rattle.sg_platform.specs.Platform.{Counts, IsChild, IsHostRow, IsLinkList, IsLinkRow, IsRouteRow, IsRouterRow, IsSpokeRow, IsZoneRouteRow, IsZoneRow}
 use Rattle.sg_platform.specs.declared.rows.ActorRow.{ActorRow}
-use Rattle.sg_rules.proofs.Greatest.{speed_within}
-use Rattle.sg_rules.proofs.Kept.{KeysKept, host_there, name_short, optional_text, rate_there, required_text, zone_there}
+use Rattle.sg_platform.specs.declared.rows.LinkRow.{LinkRow}
+use Rattle.sg_rules.proofs.Greatest.{bandwidth_within, latency_within, speed_within}
+use Rattle.sg_rules.proofs.Kept.{KeysKept, child_end, end_there, host_there, latency_there, link_name_short, name_short, optional_text, point_there, rate_there, required_text, route_end_point, unbroken, zone_route_end_end, zone_there}
+use Rattle.sg_rules.specs.LinkNames.{is_split}
 use Rattle.sg_rules.specs.Names.{Known}
-use Rattle.sg_rules.specs.Rules.{zone_kinds}
-use Rattle.sg_rules.specs.Tables.{keys_of}
-use Rattle.sg_rules.specs.Units.{speed_value}
+use Rattle.sg_rules.specs.Rules.{end_kinds, key_kinds, kinds_at, latency_kinds, names_zone, point_kinds, value_kinds, whole_kinds, zone_kinds}
+use Rattle.sg_rules.specs.Tables.{key, keys_of, word_text}
+use Rattle.sg_rules.specs.Units.{bandwidth_value, latency_value, speed_value}
+use Rattle.sg_rules.specs.declared.tables.Need.TheVariants.{Required, Optional, IfZone}
 use Rattle.sg_rules.specs.declared.tables.Rule.TheVariants as rule
-use Rattle.sg_rules.specs.declared.tables.Table.TheVariants.{Zone, Host, Actor}
+use Rattle.sg_rules.specs.declared.tables.Table.TheVariants.{Zone, Host, Router, Link, Route, ZoneRoute, Spoke, Actor, Mutex, Semaphore}
+use Rattle.sg_rules.specs.declared.tables.Word.{Word}
 use Rattle.sg_rules.specs.declared.tables.Word.TheVariants as word
-use Rattle.toml.specs.Data.{Data, as_integer, get}
+use Rattle.sg_tree.specs.Faults.{of_type}
+use Rattle.sg_tree.specs.Tree.{text_at, text_or_empty}
+use Rattle.toml.specs.Data.{Data, as_integer, as_str, get}
 
-parent_below : (names : Known) (o : Option (List ℕ)) → ((name : List ℕ) → o ≡ Some name → zone_kinds names name ≡ []) → IfSome (option_map (zone_id names) o) (λ parent. parent.0 < names.zones)
-parent_below names None kept = tt
-parent_below names (Some name) kept =
-    let there = zone_there names name (kept name refl) in
-    rw there.1 there.3
+-- the numbers of names stay below the counts
+pub record IsCounted (names : Known) (counts : Counts) : Type 0 where
+  pub zones : names.zones ≡ counts.zones
+  pub points : (q : List ℕ) → IfSome (names.points q) (λ n. n < names.zones + counts.points)
+  pub links : (q : List ℕ) → IfSome (names.links q) (λ n. n < counts.links)
 
-pub zone_kept : (names : Known) (number : ℕ) (row : Data) → KeysKept names number row (keys_of Zone) → IsZoneRow names.zones (zone_row names row)
+zone_below : (names : Known) (counts : Counts) → IsCounted names counts → (name : List ℕ) → zone_kinds names name ≡ [] → (zone_id names name).0 < counts.zones
+zone_below names counts counted name empty =
+    let there = zone_there names name empty in
+    rw there.1 (omega (arith, there.3, counted.zones))
+
+point_under : (zones points n : ℕ) → zones ≤ n → n < zones + points → n - zones < points
+point_under zones points n low high = omega (arith, low, high)
+
+point_below : (names : Known) (counts : Counts) → IsCounted names counts → (name : List ℕ) → point_kinds names name ≡ [] → (point_id names name).0 < counts.points
+point_below names counts counted name empty =
+    let there = point_there names name empty in
+    let below = rw there.1 at (counted.points name) in
+    rw there.1 (point_under names.zones counts.points there.0 there.2 below)
+
+child_at : (zones points n : ℕ) (counts : Counts) → zones ≡ counts.zones → points ≡ counts.points → n < zones + points
+    → IsChild counts (cond (nat_lt n zones) (ZoneChild (record { 0 = n })) (PointChild (record { 0 = n - zones })))
+child_at zones points n counts same_zones same_points below =
+    elim (cases_Bool (nat_lt n zones)) [
+      | inl is_zone ↦ rw is_zone (let h : n < zones = grind (arith, nat_tests) in omega (arith, h, same_zones))
+      | inr is_point ↦ rw is_point (let h : zones ≤ n = grind (arith, nat_tests) in omega (arith, point_under zones points n h below, same_points))
+    ]
+
+child_below : (names : Known) (counts : Counts) → IsCounted names counts → (name : List ℕ) → end_kinds names name ≡ [] → IsChild counts (child_of names name)
+child_below names counts counted name empty =
+    let there = end_there names name empty in
+    let below = rw there.1 at (counted.points name) in
+    rw there.1 (child_at names.zones counts.points there.0 counts counted.zones refl below)
+
+-- where a gateway may be left out, its end is a point
+absent_gateway : (names : Known) (counts : Counts) → IsCounted names counts → (end : List ℕ) → end_kinds names end ≡ [] → names_zone names (Some end) ≡ false → (point_id names end).0 < counts.points
+absent_gateway names counts counted end empty no_zone =
+    let there = end_there names end empty in
+    let below = rw there.1 at (counted.points end) in
+    let other = rw there.1 at no_zone in
+    rw there.1 (point_under names.zones counts.points there.0 (from there.0 other) below)
+  where
+    from : (n : ℕ) → (nat_le 0 n && nat_lt n names.zones) ≡ false → names.zones ≤ n
+    from n other = grind (arith, nat_tests)
+
+value_at_point : (names : Known) (number : ℕ) (row : Data) (d : Data) → value_kinds names number row rule.PointName d ≡ [] → of_type (point_kinds names) (as_str d) ≡ []
+unfolding value_kinds
+value_at_point names number row d empty = empty
+
+gateway_text : (names : Known) (counts : Counts) → IsCounted names counts → (number : ℕ) (row : Data) (found : Option (List ℕ)) (other : List ℕ) → of_type (point_kinds names) found ≡ []
+    → (point_id names (unwrap_or found other)).0 < counts.points
+gateway_text names counts counted number row None other empty = cc
+gateway_text names counts counted number row (Some text) other empty = point_below names counts counted text empty
+
+gateway_at : (names : Known) (counts : Counts) → IsCounted names counts → (number : ℕ) (row : Data) (w : Word) (end_word : Word) (end : List ℕ) → text_at (word_text end_word) row ≡ Some end → end_kinds names end ≡ []
+    → (d : Option Data) → kinds_at names number row (key w (IfZone end_word) rule.PointName) d ≡ []
+    → (point_id names (unwrap_or (option_and_then as_str d) (text_or_empty (word_text end_word) row))).0 < counts.points
+gateway_at names counts counted number row w end_word end found fine None empty =
+    let no_zone = rw found at (unbroken _ _ empty) in
+    rw found (absent_gateway names counts counted end fine no_zone)
+gateway_at names counts counted number row w end_word end found fine (Some d) empty = gateway_text names counts counted number row (as_str d) (text_or_empty (word_text end_word) row) (value_at_point names number row d empty)
+
+gateway_below : (names : Known) (counts : Counts) → IsCounted names counts → (number : ℕ) (row : Data) (w : Word) (end_word : Word) (end : List ℕ) → text_at (word_text end_word) row ≡ Some end → end_kinds names end ≡ []
+    → key_kinds names number row (key w (IfZone end_word) rule.PointName) ≡ [] → (gateway names row (word_text w) (word_text end_word)).0 < counts.points
+unfolding key_kinds
+gateway_below names counts counted number row w end_word end found fine empty = gateway_at names counts counted number row w end_word end found fine (get (word_text w) row) empty
+
+parent_below : (names : Known) (counts : Counts) → IsCounted names counts → (o : Option (List ℕ)) → ((name : List ℕ) → o ≡ Some name → zone_kinds names name ≡ []) → IfSome (option_map (zone_id names) o) (λ parent. parent.0 < counts.zones)
+parent_below names counts counted None kept = tt
+parent_below names counts counted (Some name) kept = zone_below names counts counted name (kept name refl)
+
+pub zone_kept : (names : Known) (counts : Counts) → IsCounted names counts → (number : ℕ) (row : Data) → KeysKept names number row (keys_of Zone) → IsZoneRow counts (zone_row names row)
 unfolding zone_row
-zone_kept names number row kept =
+zone_kept names counts counted number row kept =
     let id = required_text names number row word.Id rule.NewPoint refl kept.0 in
     record {
       id = rw id.1 (name_short names.points number id.0 id.2);
-      parent = parent_below names _ (optional_text names number row word.Parent rule.ZoneName refl kept.1.0);
+      parent = parent_below names counts counted _ (optional_text names number row word.Parent rule.ZoneName refl kept.1.0);
     }
 
 core_bounds : (o : Option ℤ) → (1 ≤ core_or_one o) × (core_or_one o ≤ 1024)
@@ -41,31 +116,109 @@ core_bounds (Some (pos n)) =
       | inr other ↦ rw other (omega arith, omega arith)
     ]
 
-pub host_kept : (names : Known) (number : ℕ) (row : Data) → KeysKept names number row (keys_of Host) → IsHostRow names.zones (host_row names row)
+pub host_kept : (names : Known) (counts : Counts) → IsCounted names counts → (number : ℕ) (row : Data) → KeysKept names number row (keys_of Host) → IsHostRow counts (host_row names row)
 unfolding host_row
-host_kept names number row kept =
+host_kept names counts counted number row kept =
     let id = required_text names number row word.Id rule.NewPoint refl kept.0 in
     let zone = required_text names number row word.Zone rule.ZoneName refl kept.1.0 in
     let speed = required_text names number row word.Speed rule.SpeedText refl kept.1.1.0 in
-    let there = zone_there names zone.0 zone.2 in
     let rate = rate_there (speed_value speed.0) speed.2 in
     let cores = core_bounds (option_and_then as_integer (get (codes "core") row)) in
     record {
       id = rw id.1 (name_short names.points number id.0 id.2);
-      zone = rw (zone.1, there.1) there.3;
+      zone = rw zone.1 (zone_below names counts counted zone.0 zone.2);
       some_speed = rw (speed.1, rate.1) rate.2;
       speed = rw (speed.1, rate.1) (speed_within speed.0 rate.0 rate.1);
       some_cores = cores.0;
       cores = cores.1;
     }
 
+pub router_kept : (names : Known) (counts : Counts) → IsCounted names counts → (number : ℕ) (row : Data) → KeysKept names number row (keys_of Router) → IsRouterRow counts (router_row names row)
+unfolding router_row
+router_kept names counts counted number row kept =
+    let id = required_text names number row word.Id rule.NewPoint refl kept.0 in
+    let zone = required_text names number row word.Zone rule.ZoneName refl kept.1.0 in
+    record {
+      id = rw id.1 (name_short names.points number id.0 id.2);
+      zone = rw zone.1 (zone_below names counts counted zone.0 zone.2);
+    }
+
+latency_bound : (o : Option (List ℕ)) → ((text : List ℕ) → o ≡ Some text → latency_kinds (latency_value text) ≡ []) → latency_or_zero o ≤ 1000000000000000
+latency_bound None kept = omega arith
+latency_bound (Some text) kept =
+    let there = latency_there (latency_value text) (kept text refl) in
+    rw there.1 (latency_within text there.0 there.1)
+
+pub link_kept : (names : Known) (number : ℕ) (row : Data) → KeysKept names number row (keys_of Link) → IsLinkRow (link_row row)
+unfolding link_row
+link_kept names number row kept =
+    let id = required_text names number row word.Id rule.NewLink refl kept.0 in
+    let bandwidth = required_text names number row word.Bandwidth rule.BandwidthText refl kept.1.0 in
+    let rate = rate_there (bandwidth_value bandwidth.0) bandwidth.2 in
+    record {
+      id = rw id.1 (link_name_short names.taken number (is_split row) id.0 id.2);
+      some_bandwidth = rw (bandwidth.1, rate.1) rate.2;
+      bandwidth = rw (bandwidth.1, rate.1) (bandwidth_within bandwidth.0 rate.0 rate.1);
+      latency = latency_bound (text_at (codes "latency") row) (optional_text names number row word.Latency rule.LatencyText refl kept.1.1.0);
+    }
+
+pub route_kept : (names : Known) (counts : Counts) → IsCounted names counts → (number : ℕ) (row : Data) → KeysKept names number row (keys_of Route) → IsRouteRow counts (route_row names row)
+unfolding route_row
+route_kept names counts counted number row kept =
+    let src = required_text names number row word.Src rule.PointName refl kept.0 in
+    let dst = required_text names number row word.Dst rule.RouteEnd refl kept.1.0 in
+    record {
+      src = rw src.1 (point_below names counts counted src.0 src.2);
+      dst = rw dst.1 (point_below names counts counted dst.0 (route_end_point names number row dst.0 dst.2));
+      links = required_links names counts counted.links number row word.Links kept.1.1.0;
+    }
+
+pub zone_route_kept : (names : Known) (counts : Counts) → IsCounted names counts → (number : ℕ) (row : Data) → KeysKept names number row (keys_of ZoneRoute) → IsZoneRouteRow counts (zone_route_row names row)
+unfolding zone_route_row
+zone_route_kept names counts counted number row kept =
+    let src = required_text names number row word.Src rule.EndName refl kept.0 in
+    let dst = required_text names number row word.Dst rule.ZoneRouteEnd refl kept.1.0 in
+    let end = zone_route_end_end names number row dst.0 dst.2 in
+    record {
+      src = rw src.1 (child_below names counts counted src.0 src.2);
+      dst = rw dst.1 (child_below names counts counted dst.0 end);
+      gw_src = gateway_below names counts counted number row word.GwSrc word.Src src.0 src.1 src.2 kept.1.1.0;
+      gw_dst = gateway_below names counts counted number row word.GwDst word.Dst dst.0 dst.1 end kept.1.1.1.0;
+      links = required_links names counts counted.links number row word.Links kept.1.1.1.1.0;
+    }
+
+down_at : (names : Known) (counts : Counts) → IsCounted names counts → (rows : List LinkRow) → counts.links ≡ length (link_ends rows) → (number : ℕ) (row : Data)
+    → IsLinkList counts (links_at names (codes "up") row) → (d : Option Data) → get (codes "down") row ≡ d → kinds_at names number row (key word.Down Optional rule.LinkList) d ≡ []
+    → IsLinkList counts (links_or_back names (link_ends rows) row (links_at names (codes "up") row) d)
+down_at names counts counted rows same number row up None there empty = way_back_kept counts rows (links_at names (codes "up") row) same up
+down_at names counts counted rows same number row up (Some d) there empty = rw there (value_link_list names counts counted.links number row d empty)
+
+down_kept : (names : Known) (counts : Counts) → IsCounted names counts → (rows : List LinkRow) → counts.links ≡ length (link_ends rows) → (number : ℕ) (row : Data)
+    → IsLinkList counts (links_at names (codes "up") row) → key_kinds names number row (key word.Down Optional rule.LinkList) ≡ []
+    → IsLinkList counts (links_or_back names (link_ends rows) row (links_at names (codes "up") row) (get (codes "down") row))
+unfolding key_kinds
+down_kept names counts counted rows same number row up empty = down_at names counts counted rows same number row up (get (codes "down") row) refl empty
+
+pub spoke_kept : (names : Known) (counts : Counts) → IsCounted names counts → (rows : List LinkRow) → counts.links ≡ length (link_ends rows) → (number : ℕ) (row : Data) → KeysKept names number row (keys_of Spoke)
+    → IsSpokeRow counts (spoke_row names (link_ends rows) row)
+unfolding spoke_row
+spoke_kept names counts counted rows same number row kept =
+    let zone = required_text names number row word.Zone rule.ZoneName refl kept.0 in
+    let child = required_text names number row word.Child rule.SpokeChild refl kept.1.0 in
+    let end = child_end names number child.0 child.2 in
+    let up = required_links names counts counted.links number row word.Up kept.1.1.1.0 in
+    record {
+      zone = rw zone.1 (zone_below names counts counted zone.0 zone.2);
+      child = rw child.1 (child_below names counts counted child.0 end);
+      gateway = gateway_below names counts counted number row word.Gateway word.Child child.0 child.1 end kept.1.1.0;
+      up = up;
+      down = down_kept names counts counted rows same number row up kept.1.1.1.1.0;
+    }
+
 -- an actor on a platform of so many hosts
 pub record IsActorOn (hosts : ℕ) (actor : ActorRow) : Type 0 where
   pub row : IsActorRow actor
   pub host : actor.host.0 < hosts
-
-point_below : (zones hosts n : ℕ) → zones ≤ n → n < zones + hosts → n - zones < hosts
-point_below zones hosts n low high = omega (arith, low, high)
 
 pub actor_kept : (names : Known) (number : ℕ) (row : Data) → KeysKept names number row (keys_of Actor) → IsActorOn names.hosts (actor_row names row)
 unfolding actor_row
@@ -75,5 +228,37 @@ actor_kept names number row kept =
     let there = host_there names host.0 host.2 in
     record {
       row = rw name.1 (name_short names.actors number name.0 name.2);
-      host = rw (host.1, there.1) (point_below names.zones names.hosts there.0 there.2 there.3);
+      host = rw (host.1, there.1) (point_under names.zones names.hosts there.0 there.2 there.3);
+    }
+
+pub mutex_kept : (names : Known) (number : ℕ) (row : Data) → KeysKept names number row (keys_of Mutex) → length (mutex_row row).id ≤ 64
+unfolding mutex_row
+mutex_kept names number row kept =
+    let id = required_text names number row word.Id rule.NewMutex refl kept.0 in
+    rw id.1 (name_short names.mutexes number id.0 id.2)
+
+capacity_within : (o : Option ℤ) → of_type (whole_kinds rule.CapacityCount) o ≡ [] → capacity_or_zero o ≤ 1000000000
+capacity_within None empty = cc
+capacity_within (Some (negsuc n)) empty = omega arith
+capacity_within (Some (pos n)) empty = within n (unbroken _ _ empty)
+  where
+    within : (n : ℕ) → not (nat_le n 1000000000) ≡ false → n ≤ 1000000000
+    within n fits = grind (arith, nat_tests)
+
+capacity_at : (names : Known) (number : ℕ) (row : Data) (d : Option Data) → kinds_at names number row (key word.Capacity Required rule.CapacityCount) d ≡ [] → capacity_or_zero (option_and_then as_integer d) ≤ 1000000000
+unfolding value_kinds
+capacity_at names number row None empty = cc
+capacity_at names number row (Some d) empty = capacity_within (as_integer d) empty
+
+capacity_kept : (names : Known) (number : ℕ) (row : Data) → key_kinds names number row (key word.Capacity Required rule.CapacityCount) ≡ [] → capacity_or_zero (option_and_then as_integer (get (codes "capacity") row)) ≤ 1000000000
+unfolding key_kinds
+capacity_kept names number row empty = capacity_at names number row (get (codes "capacity") row) empty
+
+pub semaphore_kept : (names : Known) (number : ℕ) (row : Data) → KeysKept names number row (keys_of Semaphore) → IsSemaphoreRow (semaphore_row row)
+unfolding semaphore_row
+semaphore_kept names number row kept =
+    let id = required_text names number row word.Id rule.NewSemaphore refl kept.0 in
+    record {
+      id = rw id.1 (name_short names.semaphores number id.0 id.2);
+      capacity = capacity_kept names number row kept.1.0;
     }

@@ -1,4 +1,8 @@
+pub mod BadTomls
 pub mod Deployed
-pub mod Hosts
+pub mod EndsBelow
 pub mod KeptRows
+pub mod LinkLists
+pub mod Numbers
+pub mod WayBack
 pub mod Whole

@@ -1,20 +1,34 @@
 -- The rows that a tree gives, where it has no fault. A value that is missing or unfit stands for its default here.
-use Rattle.std.specs.Prelude.{ℕ, ◌-◌, ◌&&◌, ℤ, pos, negsuc, nat_le, List, if◌then◌else◌, Option, Some, None, option_map, option_and_then, unwrap_or, codes}
+use Rattle.std.specs.Prelude.{ℕ, ◌-◌, ◌&&◌, true, ℤ, pos, negsuc, nat_le, nat_lt, List, [], map, if◌then◌else◌, Option, Some, None, option_map, option_and_then, unwrap_or, codes}
 use Rattle.std.specs.Str.{bytes_eq}
+use Rattle.sg_base.specs.declared.ids.Child.{Child}
+use Rattle.sg_base.specs.declared.ids.Child.TheVariants.{Point as PointChild, Zone as ZoneChild}
+use Rattle.sg_base.specs.declared.ids.LinkId.{LinkId}
 use Rattle.sg_base.specs.declared.ids.PointId.{PointId}
 use Rattle.sg_base.specs.declared.ids.ZoneId.{ZoneId}
+use Rattle.sg_platform.specs.Ends.{way_back}
+use Rattle.sg_platform.specs.declared.ends.LinkEnd.{LinkEnd}
 use Rattle.sg_platform.specs.declared.rows.ActorRow.{ActorRow}
-use Rattle.sg_platform.specs.declared.rows.Function.{Function}
 use Rattle.sg_platform.specs.declared.rows.Function.TheVariants.{Replay}
 use Rattle.sg_platform.specs.declared.rows.HostRow.{HostRow}
+use Rattle.sg_platform.specs.declared.rows.LinkRow.{LinkRow}
+use Rattle.sg_platform.specs.declared.rows.MutexRow.{MutexRow}
+use Rattle.sg_platform.specs.declared.rows.Policy.{Policy}
+use Rattle.sg_platform.specs.declared.rows.Policy.TheVariants.{Shared, Fatpipe, SplitDuplex}
+use Rattle.sg_platform.specs.declared.rows.RouteRow.{RouteRow}
+use Rattle.sg_platform.specs.declared.rows.RouterRow.{RouterRow}
 use Rattle.sg_platform.specs.declared.rows.Routing.{Routing}
 use Rattle.sg_platform.specs.declared.rows.Routing.TheVariants.{Full, Star}
+use Rattle.sg_platform.specs.declared.rows.SemaphoreRow.{SemaphoreRow}
+use Rattle.sg_platform.specs.declared.rows.SpokeRow.{SpokeRow}
+use Rattle.sg_platform.specs.declared.rows.ZoneRouteRow.{ZoneRouteRow}
 use Rattle.sg_platform.specs.declared.rows.ZoneRow.{ZoneRow}
+use Rattle.sg_rules.specs.Pairs.{truth_or}
 use Rattle.sg_rules.specs.Names.{Known}
-use Rattle.sg_rules.specs.Units.{speed_value}
+use Rattle.sg_rules.specs.Units.{bandwidth_value, latency_value, speed_value}
 use Rattle.sg_tree.specs.Names.{Finds}
-use Rattle.sg_tree.specs.Tree.{text_at, text_or_empty}
-use Rattle.toml.specs.Data.{Data, get, as_integer}
+use Rattle.sg_tree.specs.Tree.{items_or_none, text_at, text_or_empty}
+use Rattle.toml.specs.Data.{Data, get, as_array, as_integer, as_str}
 
 abbrev pub number_of : Finds → List ℕ → ℕ
 number_of numbers name = unwrap_or (numbers name) 0
@@ -40,6 +54,54 @@ core_or_one (Some (negsuc n)) = 1
 abbrev pub core_count : Data → ℕ
 core_count row = core_or_one (option_and_then as_integer (get (codes "core") row))
 
+abbrev pub link_id : Known → List ℕ → LinkId
+link_id names name = record { 0 = number_of names.links name }
+
+abbrev pub child_of : Known → List ℕ → Child
+child_of names name =
+    let number = number_of names.points name in
+    if nat_lt number names.zones then ZoneChild (record { 0 = number }) else PointChild (record { 0 = number - names.zones })
+
+-- the point that a key names; where it is absent, the end is its own gateway
+abbrev pub gateway : Known → Data → List ℕ → List ℕ → PointId
+gateway names row key end = point_id names (unwrap_or (text_at key row) (text_or_empty end row))
+
+abbrev pub bandwidth_of : List ℕ → ℕ
+bandwidth_of text = unwrap_or (bandwidth_value text) 0
+
+abbrev pub latency_or_zero : Option (List ℕ) → ℕ
+latency_or_zero None = 0
+latency_or_zero (Some text) = unwrap_or (latency_value text) 0
+
+abbrev pub latency_of : Data → ℕ
+latency_of row = latency_or_zero (text_at (codes "latency") row)
+
+abbrev pub policy_of : List ℕ → Policy
+policy_of text = if bytes_eq text (codes "SPLITDUPLEX") then SplitDuplex else if bytes_eq text (codes "FATPIPE") then Fatpipe else Shared
+
+abbrev pub capacity_or_zero : Option ℤ → ℕ
+capacity_or_zero None = 0
+capacity_or_zero (Some (pos n)) = n
+capacity_or_zero (Some (negsuc n)) = 0
+
+abbrev pub capacity_of : Data → ℕ
+capacity_of row = capacity_or_zero (option_and_then as_integer (get (codes "capacity") row))
+
+abbrev pub link_of : Known → Data → LinkId
+link_of names d = link_id names (unwrap_or (as_str d) [])
+
+-- the links that a list at a key names
+abbrev pub links_at : Known → List ℕ → Data → List LinkId
+links_at names key row = map (link_of names) (items_or_none (option_and_then as_array (get key row)))
+
+-- the links down to a child: by default the way back of those up
+abbrev pub links_or_back : Known → List LinkEnd → Data → List LinkId → Option Data → List LinkId
+links_or_back names ends row up None = way_back ends up
+links_or_back names ends row up (Some d) = links_at names (codes "down") row
+
+abbrev pub down_links : Known → List LinkEnd → Data → List LinkId → List LinkId
+down_links names ends row up = links_or_back names ends row up (get (codes "down") row)
+
 unfoldable pub zone_row : Known → Data → ZoneRow
 zone_row names row = record {
   id = text_or_empty (codes "id") row;
@@ -54,6 +116,50 @@ host_row names row = record {
   speed = speed_of (text_or_empty (codes "speed") row);
   cores = core_count row;
 }
+
+unfoldable pub router_row : Known → Data → RouterRow
+router_row names row = record { id = text_or_empty (codes "id") row; zone = zone_id names (text_or_empty (codes "zone") row) }
+
+unfoldable pub link_row : Data → LinkRow
+link_row row = record {
+  id = text_or_empty (codes "id") row;
+  bandwidth = bandwidth_of (text_or_empty (codes "bandwidth") row);
+  latency = latency_of row;
+  policy = policy_of (text_or_empty (codes "sharing_policy") row);
+}
+
+unfoldable pub route_row : Known → Data → RouteRow
+route_row names row = record {
+  src = point_id names (text_or_empty (codes "src") row);
+  dst = point_id names (text_or_empty (codes "dst") row);
+  links = links_at names (codes "links") row;
+  symmetrical = truth_or true (get (codes "symmetrical") row);
+}
+
+unfoldable pub zone_route_row : Known → Data → ZoneRouteRow
+zone_route_row names row = record {
+  src = child_of names (text_or_empty (codes "src") row);
+  dst = child_of names (text_or_empty (codes "dst") row);
+  gw_src = gateway names row (codes "gw_src") (codes "src");
+  gw_dst = gateway names row (codes "gw_dst") (codes "dst");
+  links = links_at names (codes "links") row;
+  symmetrical = truth_or true (get (codes "symmetrical") row);
+}
+
+unfoldable pub spoke_row : Known → List LinkEnd → Data → SpokeRow
+spoke_row names ends row = record {
+  zone = zone_id names (text_or_empty (codes "zone") row);
+  child = child_of names (text_or_empty (codes "child") row);
+  gateway = gateway names row (codes "gateway") (codes "child");
+  up = links_at names (codes "up") row;
+  down = down_links names ends row (links_at names (codes "up") row);
+}
+
+unfoldable pub mutex_row : Data → MutexRow
+mutex_row row = record { id = text_or_empty (codes "id") row }
+
+unfoldable pub semaphore_row : Data → SemaphoreRow
+semaphore_row row = record { id = text_or_empty (codes "id") row; capacity = capacity_of row }
 
 unfoldable pub actor_row : Known → Data → ActorRow
 actor_row names row = record {

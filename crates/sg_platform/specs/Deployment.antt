@@ -2,19 +2,31 @@
 use Rattle.std.specs.Prelude.{ℕ, ◌+◌, ◌<◌, ◌≤◌, List, Option, length, option_map}
 use Rattle.std.specs.List.{All}
 use Rattle.sg_base.specs.declared.ids.ActorId.{ActorId}
-use Rattle.sg_platform.specs.Index.{replay_number}
+use Rattle.sg_platform.specs.Index.{mutex_number, replay_number, semaphore_number}
 use Rattle.sg_platform.specs.Platform.{Platform}
 use Rattle.sg_platform.specs.declared.rows.ActorRow.{ActorRow}
+use Rattle.sg_platform.specs.declared.rows.MutexRow.{MutexRow}
+use Rattle.sg_platform.specs.declared.rows.SemaphoreRow.{SemaphoreRow}
 
 pub record Deployed : Type 0 where
   pub actors : List ActorRow
+  pub mutexes : List MutexRow
+  pub semaphores : List SemaphoreRow
 
 abbrev pub IsActorRow : ActorRow → Type 0
 IsActorRow actor = length actor.name ≤ 64
 
+pub record IsSemaphoreRow (semaphore : SemaphoreRow) : Type 0 where
+  pub id : length semaphore.id ≤ 64
+  pub capacity : semaphore.capacity ≤ 1000000000
+
 pub record IsDeployment (deployed : Deployed) : Type 0 where
   pub few_actors : length deployed.actors ≤ 65536
+  pub few_mutexes : length deployed.mutexes ≤ 65536
+  pub few_semaphores : length deployed.semaphores ≤ 65536
   pub actors : All IsActorRow deployed.actors
+  pub mutexes : All (λ mutex. length mutex.id ≤ 64) deployed.mutexes
+  pub semaphores : All IsSemaphoreRow deployed.semaphores
 
 -- each actor is on a host of the platform
 abbrev pub IsDeployedOn : Platform → Deployed → Type 0
@@ -23,3 +35,10 @@ IsDeployedOn platform deployed = All (λ actor. actor.host.0 < length platform.h
 -- the actor of a name, if it replays; the first actor of the deployment has the identifier 1
 abbrev pub replay_actor_named : Deployed → List ℕ → Option ActorId
 replay_actor_named deployed name = option_map (λ row. record { 0 = row + 1 }) (replay_number deployed.actors name)
+
+-- the number of the mutex of a name, and of the semaphore of a name, from 0 on
+abbrev pub mutex_named : Deployed → List ℕ → Option ℕ
+mutex_named deployed name = mutex_number deployed.mutexes name
+
+abbrev pub semaphore_named : Deployed → List ℕ → Option ℕ
+semaphore_named deployed name = semaphore_number deployed.semaphores name

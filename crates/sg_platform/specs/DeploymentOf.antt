@@ -1,6 +1,6 @@
 -- The deployment that a text describes on a platform, or its fault of least place, and there of least kind.
 use Rattle.std.specs.Prelude.{ℕ, List, map, length, codes, if◌then◌else◌, nat_lt, Option, Some, None, Result, Ok, Err}
-use Rattle.sg_platform.specs.Build.{actor_row}
+use Rattle.sg_platform.specs.Build.{actor_row, mutex_row, semaphore_row}
 use Rattle.sg_platform.specs.Deployment.{Deployed}
 use Rattle.sg_platform.specs.Index.{host_number}
 use Rattle.sg_platform.specs.Platform.{Platform}
@@ -37,6 +37,8 @@ names_on platform tree = deployment_known (length platform.hosts) (host_number p
 unfoldable pub rows_of : Known → Members → Deployed
 rows_of names tree = record {
   actors = map (actor_row names) (rows_at (codes "actor") tree);
+  mutexes = map mutex_row (rows_at (codes "mutex") tree);
+  semaphores = map semaphore_row (rows_at (codes "semaphore") tree);
 }
 
 abbrev pub rows_unless : Known → Members → Option Fault → Result Deployed DeploymentFault

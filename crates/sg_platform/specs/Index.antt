@@ -1,5 +1,6 @@
 -- Rows by their names.
-use Rattle.std.specs.Prelude.{ℕ, Bool, List, [], ◌∷◌, Option}
+use Rattle.std.specs.Prelude.{◌≡◌, ℕ, Bool, List, [], ◌∷◌}
+use Rattle.std.specs.HashMap.{HashMap, get_by}
 use Rattle.std.specs.Map.{lookup}
 use Rattle.std.specs.Str.{bytes_eq}
 use Rattle.std.specs.Global.{Vec}
@@ -7,12 +8,18 @@ use Rattle.sg_platform.specs.declared.rows.ActorRow.{ActorRow}
 use Rattle.sg_platform.specs.declared.rows.Function.{Function}
 use Rattle.sg_platform.specs.declared.rows.Function.TheVariants.{Replay}
 use Rattle.sg_platform.specs.declared.rows.HostRow.{HostRow}
+use Rattle.sg_platform.specs.declared.rows.MutexRow.{MutexRow}
+use Rattle.sg_platform.specs.declared.rows.SemaphoreRow.{SemaphoreRow}
 use Rattle.sg_tree.specs.Along.{along}
 use Rattle.sg_tree.specs.Names.{Finds, numbered}
 
 -- the key is these bytes
 abbrev pub by_bytes : List ℕ → Vec ℕ → Bool
 by_bytes bytes key = bytes_eq bytes key.items
+
+-- the map finds the same
+abbrev pub FindsAs : {S : Type 0} → HashMap (Vec ℕ) ℕ S → Finds → Type 0
+FindsAs map finds = (q : List ℕ) → get_by (by_bytes q) map ≡ finds q
 
 -- the row of the first host of a name
 abbrev pub host_names : ℕ → HostRow → List (List ℕ × ℕ)
@@ -30,3 +37,16 @@ replay_names i actor = numbered i (names_if_replay actor.function actor.name)
 
 abbrev pub replay_number : List ActorRow → Finds
 replay_number actors name = lookup (bytes_eq name) (along replay_names 0 actors)
+
+-- the row of the first mutex, or semaphore, of a name
+abbrev pub mutex_names : ℕ → MutexRow → List (List ℕ × ℕ)
+mutex_names i mutex = numbered i (mutex.id ∷ [])
+
+abbrev pub mutex_number : List MutexRow → Finds
+mutex_number mutexes name = lookup (bytes_eq name) (along mutex_names 0 mutexes)
+
+abbrev pub semaphore_names : ℕ → SemaphoreRow → List (List ℕ × ℕ)
+semaphore_names i semaphore = numbered i (semaphore.id ∷ [])
+
+abbrev pub semaphore_number : List SemaphoreRow → Finds
+semaphore_number semaphores name = lookup (bytes_eq name) (along semaphore_names 0 semaphores)

@@ -1,9 +1,11 @@
 -- The platform that a text describes, or its fault of least place, and there of least kind.
 use Rattle.std.specs.Prelude.{ℕ, List, map, length, codes, if◌then◌else◌, nat_lt, Option, Some, None, Result, Ok, Err}
-use Rattle.sg_platform.specs.Build.{host_row, zone_row}
+use Rattle.sg_platform.specs.Build.{host_row, link_row, route_row, router_row, spoke_row, zone_route_row, zone_row}
+use Rattle.sg_platform.specs.Ends.{link_ends}
 use Rattle.sg_platform.specs.Platform.{Platform}
 use Rattle.sg_platform.specs.declared.platform.PlatformFault.{PlatformFault}
 use Rattle.sg_platform.specs.declared.platform.PlatformFault.TheVariants.{BadToml, MissingKey, WrongType, BadValue, BadName, Duplicate, Unknown, Limit}
+use Rattle.sg_platform.specs.declared.rows.LinkRow.{LinkRow}
 use Rattle.sg_rules.specs.Faults.{faults_of}
 use Rattle.sg_rules.specs.Names.{Known, platform_known}
 use Rattle.sg_rules.specs.Tables.{platform_tables}
@@ -27,11 +29,19 @@ fault_of place kind.Limit = Limit place
 fault_of place kind.Function = BadValue place
 fault_of place kind.Arguments = BadValue place
 
+abbrev pub links_of : Members → List LinkRow
+links_of tree = map link_row (rows_at (codes "link") tree)
+
 -- the rows of a tree that has no fault
 unfoldable pub rows_of : Known → Members → Platform
 rows_of names tree = record {
   zones = map (zone_row names) (rows_at (codes "zone") tree);
   hosts = map (host_row names) (rows_at (codes "host") tree);
+  routers = map (router_row names) (rows_at (codes "router") tree);
+  links = links_of tree;
+  routes = map (route_row names) (rows_at (codes "route") tree);
+  zone_routes = map (zone_route_row names) (rows_at (codes "zone_route") tree);
+  spokes = map (spoke_row names (link_ends (links_of tree))) (rows_at (codes "spoke") tree);
 }
 
 abbrev pub rows_unless : Known → Members → Option Fault → Result Platform PlatformFault

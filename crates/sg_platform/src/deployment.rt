@@ -1,15 +1,15 @@
 //! Deployments, and their reader.
 ghost use Rattle.std.specs.Prelude.{◌≡◌, ◌≢◌, ◌+◌, ◌≤◌, Err, IfOk};
-ghost use Rattle.sg_platform.specs.Deployment.{IsDeployedOn, IsDeployment, replay_actor_named};
+ghost use Rattle.sg_platform.specs.Deployment.{IsDeployedOn, IsDeployment, mutex_named, replay_actor_named, semaphore_named};
 ghost use Rattle.sg_platform.specs.DeploymentOf.{deployment_of, fault_of, names_on, rows_of, tree_deployment};
 ghost use Rattle.sg_platform.specs.declared.deployment.DeploymentFault.TheVariants.{Memory};
 ghost use Rattle.sg_rules.specs.Names.{AreSmall, names_view};
 ghost use Rattle.toml.specs.View.{table_view};
 
-use crate::build::actor_rows;
-use crate::index::{hosts_by_name, replay_by_name};
+use crate::build::{actor_rows, mutex_rows, semaphore_rows};
+use crate::index::{hosts_by_name, mutexes_by_name, replay_by_name, semaphores_by_name};
 use crate::platform::PlatformText;
-use crate::rows::ActorRow;
+use crate::rows::{ActorRow, MutexRow, SemaphoreRow};
 use indexmap::IndexMap;
 use sg_base::ActorId;
 use sg_rules::{DEPLOYMENT, Names, deployment_names, first_fault};
@@ -57,20 +57,25 @@ impl From<sg_base::Memory> for DeploymentFault {
 #[derive(Drop)]
 pub struct Deployment {
     actors: Vec<ActorRow>,
+    mutexes: Vec<MutexRow>,
+    semaphores: Vec<SemaphoreRow>,
     replay: IndexMap<Vec<u8>, usize>,
+    named_mutexes: IndexMap<Vec<u8>, usize>,
+    named_semaphores: IndexMap<Vec<u8>, usize>,
 }
 
 impl Model for Deployment {
-    ghost use Rattle.std.specs.HashMap.{get_by};
-    ghost use Rattle.std.specs.Prelude.{◌≡◌, ℕ, List};
     ghost use Rattle.sg_platform.specs.Deployment.{Deployed, IsDeployment};
-    ghost use Rattle.sg_platform.specs.Index.{by_bytes, replay_number};
+    ghost use Rattle.sg_platform.specs.Index.{FindsAs, mutex_number, replay_number, semaphore_number};
 
     ghost Value = { Deployed };
 
-    ghost view = { λ d. record { actors = d.actors.items } };
+    ghost view = { λ d. record { actors = d.actors.items; mutexes = d.mutexes.items; semaphores = d.semaphores.items } };
 
-    ghost invariant = { λ d. ((q : List ℕ) → get_by (by_bytes q) d.replay ≡ replay_number d.actors.items q) × IsDeployment (record { actors = d.actors.items }) };
+    ghost invariant = { λ d. FindsAs d.replay (replay_number d.actors.items)
+        × FindsAs d.named_mutexes (mutex_number d.mutexes.items)
+        × FindsAs d.named_semaphores (semaphore_number d.semaphores.items)
+        × IsDeployment (record { actors = d.actors.items; mutexes = d.mutexes.items; semaphores = d.semaphores.items }) };
 }
 
 impl Deployment {
@@ -80,6 +85,42 @@ impl Deployment {
         ensures kept { IsDeployment self.now }
     {
         self.actors.as_slice()
+    }
+
+    /// The mutexes, in declared order from 0 on.
+    pub fn mutexes(&self) -> &[MutexRow]
+        ensures rows { result.now ≡ self.now.mutexes }
+        ensures kept { IsDeployment self.now }
+    {
+        self.mutexes.as_slice()
+    }
+
+    /// The semaphores, in declared order from 0 on.
+    pub fn semaphores(&self) -> &[SemaphoreRow]
+        ensures rows { result.now ≡ self.now.semaphores }
+        ensures kept { IsDeployment self.now }
+    {
+        self.semaphores.as_slice()
+    }
+
+    /// The number of the mutex of this name, from 0 on.
+    pub fn mutex_named(&self, name: &[u8]) -> Option<u32>
+        ensures { result ≡ mutex_named self.now name.now }
+    {
+        match self.named_mutexes.get(name) {
+            Some(row) => Some(*row as u32),
+            None => None,
+        }
+    }
+
+    /// The number of the semaphore of this name, from 0 on.
+    pub fn semaphore_named(&self, name: &[u8]) -> Option<u32>
+        ensures { result ≡ semaphore_named self.now name.now }
+    {
+        match self.named_semaphores.get(name) {
+            Some(row) => Some(*row as u32),
+            None => None,
+        }
     }
 
     /// The actor of this name, if it replays.
@@ -117,8 +158,19 @@ fn rows_of(alloc: Global, names: &Names, tree: &toml::Table) -> Result<Deploymen
     ensures { IfOk result (λ d. d ≡ rows_of (names_view names.now) (table_view tree.now)) }
 {
     let actors = actor_rows(alloc, names, rows_at(tree, "actor"))?;
+    let mutexes = mutex_rows(alloc, rows_at(tree, "mutex"))?;
+    let semaphores = semaphore_rows(alloc, rows_at(tree, "semaphore"))?;
     let replay = replay_by_name(alloc, actors.as_slice())?;
-    Ok(Deployment { actors, replay })
+    let named_mutexes = mutexes_by_name(alloc, mutexes.as_slice())?;
+    let named_semaphores = semaphores_by_name(alloc, semaphores.as_slice())?;
+    Ok(Deployment {
+        actors,
+        mutexes,
+        semaphores,
+        replay,
+        named_mutexes,
+        named_semaphores,
+    })
 }
 
 /// The names that stand beside a platform.
@@ -136,7 +188,26 @@ fn names_on(
     Ok(names)
 }
 
+/// The deployment of a tree whose names on the platform these are.
 #[tactic(auto, unfolding(crate::specs::DeploymentOf::tree_deployment))]
+fn deployment_in(
+    alloc: Global,
+    names: &Names,
+    tree: &toml::Table,
+    platform: &PlatformText,
+) -> Result<Deployment, DeploymentFault>
+    requires known { names_view names.now ≡ names_on platform.now (table_view tree.now) }
+    requires small { AreSmall (names_view names.now) }
+    requires few { names.now.zones + names.now.hosts ≤ 16384 }
+    ensures value { result ≢ Err Memory → result ≡ tree_deployment platform.now (table_view tree.now) }
+    ensures deployed { IfOk result (IsDeployedOn platform.now) }
+{
+    match first_fault(names, &DEPLOYMENT, tree) {
+        Some(fault) => Err(fault_of(fault)),
+        None => Ok(rows_of(alloc, names, tree)?),
+    }
+}
+
 fn tree_deployment(
     alloc: Global,
     tree: &toml::Table,
@@ -146,10 +217,7 @@ fn tree_deployment(
     ensures deployed { IfOk result (IsDeployedOn platform.now) }
 {
     let names = names_on(alloc, tree, platform)?;
-    match first_fault(&names, &DEPLOYMENT, tree) {
-        Some(fault) => Err(fault_of(fault)),
-        None => Ok(rows_of(alloc, &names, tree)?),
-    }
+    deployment_in(alloc, &names, tree, platform)
 }
 
 /// The greatest text that is read, in bytes.

@@ -3,11 +3,11 @@ ghost use Rattle.std.specs.Prelude.{◌≡◌, ◌<◌, ◌^◌, ℕ, List, Some
 ghost use Rattle.std.specs.HashMap.{get_by, get_by_text};
 ghost use Rattle.std.specs.Map.{lookup};
 ghost use Rattle.std.specs.Str.{bytes_eq};
-ghost use Rattle.sg_platform.specs.Index.{by_bytes, host_names, host_number, replay_names, replay_number};
+ghost use Rattle.sg_platform.specs.Index.{by_bytes, host_names, host_number, mutex_names, mutex_number, replay_names, replay_number, semaphore_names, semaphore_number};
 ghost use Rattle.sg_tree.specs.Along.{along};
 ghost use Rattle.sg_tree.specs.Names.{or_else};
 
-use crate::rows::{ActorRow, Function, HostRow};
+use crate::rows::{ActorRow, Function, HostRow, MutexRow, SemaphoreRow};
 use indexmap::IndexMap;
 use sg_base::Memory;
 use sg_tree::add_name;
@@ -91,5 +91,59 @@ pub fn replay_by_name(
 {
     let mut made = IndexMap::new(alloc);
     add_actors(alloc, &mut made, actors)?;
+    Ok(made)
+}
+
+/// Gives the names of mutexes the numbers of their rows.
+#[tactic(auto, using(sg_tree::proofs::NameLemmas::along_turn))]
+fn add_mutexes(
+    alloc: Global,
+    space: &mut IndexMap<Vec<u8>, usize>,
+    mutexes: &[MutexRow],
+) -> Result<(), Memory>
+    ensures { OnOk result ((q : List ℕ) → get_by (by_bytes q) space.new ≡ or_else (get_by (by_bytes q) space.old) (lookup (bytes_eq q) (along mutex_names 0 mutexes.now))) }
+{
+    for (i, mutex) in mutexes.iter().enumerate() {
+        add_bytes(alloc, space, mutex.id.as_str().as_bytes(), i)?;
+    }
+    Ok(())
+}
+
+/// The mutexes, by their names.
+pub fn mutexes_by_name(
+    alloc: Global,
+    mutexes: &[MutexRow],
+) -> Result<IndexMap<Vec<u8>, usize>, Memory>
+    ensures { IfOk result (λ made. (q : List ℕ) → get_by (by_bytes q) made ≡ mutex_number mutexes.now q) }
+{
+    let mut made = IndexMap::new(alloc);
+    add_mutexes(alloc, &mut made, mutexes)?;
+    Ok(made)
+}
+
+/// Gives the names of semaphores the numbers of their rows.
+#[tactic(auto, using(sg_tree::proofs::NameLemmas::along_turn))]
+fn add_semaphores(
+    alloc: Global,
+    space: &mut IndexMap<Vec<u8>, usize>,
+    semaphores: &[SemaphoreRow],
+) -> Result<(), Memory>
+    ensures { OnOk result ((q : List ℕ) → get_by (by_bytes q) space.new ≡ or_else (get_by (by_bytes q) space.old) (lookup (bytes_eq q) (along semaphore_names 0 semaphores.now))) }
+{
+    for (i, semaphore) in semaphores.iter().enumerate() {
+        add_bytes(alloc, space, semaphore.id.as_str().as_bytes(), i)?;
+    }
+    Ok(())
+}
+
+/// The semaphores, by their names.
+pub fn semaphores_by_name(
+    alloc: Global,
+    semaphores: &[SemaphoreRow],
+) -> Result<IndexMap<Vec<u8>, usize>, Memory>
+    ensures { IfOk result (λ made. (q : List ℕ) → get_by (by_bytes q) made ≡ semaphore_number semaphores.now q) }
+{
+    let mut made = IndexMap::new(alloc);
+    add_semaphores(alloc, &mut made, semaphores)?;
     Ok(made)
 }

@@ -4,13 +4,20 @@
 
 mod build;
 mod deployment;
+mod ends;
 mod index;
+mod laws;
 mod platform;
 mod rows;
 #[cfg(test)]
 mod tests;
 
 pub use deployment::{Deployment, DeploymentFault, read_deployment};
+pub use ends::{LinkEnd, link_ends, way_back};
+pub use laws::bad_toml_exactly;
 pub use platform::{PlatformFault, PlatformText, read_platform};
-pub use rows::{ActorRow, Function, HostRow, Routing, ZoneRow};
+pub use rows::{
+    ActorRow, Function, HostRow, LinkRow, MutexRow, Policy, RouteRow, RouterRow, Routing,
+    SemaphoreRow, SpokeRow, ZoneRouteRow, ZoneRow,
+};
 pub use sg_tree::Place;

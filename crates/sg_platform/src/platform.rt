@@ -1,13 +1,16 @@
 //! Platforms, and their reader.
-ghost use Rattle.std.specs.Prelude.{◌≡◌, ◌≢◌, Err, IfOk};
+ghost use Rattle.std.specs.Prelude.{◌≡◌, ◌≢◌, ◌+◌, ◌<◌, ◌^◌, Err, IfOk};
 ghost use Rattle.sg_platform.specs.Platform.{IsPlatform};
 ghost use Rattle.sg_platform.specs.PlatformOf.{fault_of, platform_of, rows_of, tree_platform};
 ghost use Rattle.sg_platform.specs.declared.platform.PlatformFault.TheVariants.{Memory};
-ghost use Rattle.sg_rules.specs.Names.{AreSmall, names_view};
+ghost use Rattle.sg_rules.specs.Names.{AreSmall, names_view, platform_known};
 ghost use Rattle.toml.specs.View.{table_view};
 
-use crate::build::{host_rows, zone_rows};
-use crate::rows::{HostRow, ZoneRow};
+use crate::build::{
+    host_rows, link_rows, route_rows, router_rows, spoke_rows, zone_route_rows, zone_rows,
+};
+use crate::ends::link_ends;
+use crate::rows::{HostRow, LinkRow, RouteRow, RouterRow, SpokeRow, ZoneRouteRow, ZoneRow};
 use sg_rules::{Names, PLATFORM, first_fault, platform_names};
 use sg_tree::{Fault, Kind, NoTree, Place, read_tree, rows_at};
 use std::alloc::Global;
@@ -50,6 +53,11 @@ impl From<sg_base::Memory> for PlatformFault {
 pub struct PlatformText {
     zones: Vec<ZoneRow>,
     hosts: Vec<HostRow>,
+    routers: Vec<RouterRow>,
+    links: Vec<LinkRow>,
+    routes: Vec<RouteRow>,
+    zone_routes: Vec<ZoneRouteRow>,
+    spokes: Vec<SpokeRow>,
 }
 
 impl Model for PlatformText {
@@ -57,9 +65,25 @@ impl Model for PlatformText {
 
     ghost Value = { Platform };
 
-    ghost view = { λ p. record { zones = p.zones.items; hosts = p.hosts.items } };
+    ghost view = { λ p. record {
+      zones = p.zones.items;
+      hosts = p.hosts.items;
+      routers = p.routers.items;
+      links = p.links.items;
+      routes = p.routes.items;
+      zone_routes = p.zone_routes.items;
+      spokes = p.spokes.items;
+    } };
 
-    ghost invariant = { λ p. IsPlatform (record { zones = p.zones.items; hosts = p.hosts.items }) };
+    ghost invariant = { λ p. IsPlatform (record {
+      zones = p.zones.items;
+      hosts = p.hosts.items;
+      routers = p.routers.items;
+      links = p.links.items;
+      routes = p.routes.items;
+      zone_routes = p.zone_routes.items;
+      spokes = p.spokes.items;
+    }) };
 }
 
 impl PlatformText {
@@ -77,6 +101,46 @@ impl PlatformText {
         ensures kept { IsPlatform self.now }
     {
         self.hosts.as_slice()
+    }
+
+    /// The routers, in declared order. They are points after the hosts.
+    pub fn routers(&self) -> &[RouterRow]
+        ensures rows { result.now ≡ self.now.routers }
+        ensures kept { IsPlatform self.now }
+    {
+        self.routers.as_slice()
+    }
+
+    /// The links, in declared order.
+    pub fn links(&self) -> &[LinkRow]
+        ensures rows { result.now ≡ self.now.links }
+        ensures kept { IsPlatform self.now }
+    {
+        self.links.as_slice()
+    }
+
+    /// The routes between points.
+    pub fn routes(&self) -> &[RouteRow]
+        ensures rows { result.now ≡ self.now.routes }
+        ensures kept { IsPlatform self.now }
+    {
+        self.routes.as_slice()
+    }
+
+    /// The routes between children of a zone, of which at least one is a zone.
+    pub fn zone_routes(&self) -> &[ZoneRouteRow]
+        ensures rows { result.now ≡ self.now.zone_routes }
+        ensures kept { IsPlatform self.now }
+    {
+        self.zone_routes.as_slice()
+    }
+
+    /// The spokes of Star zones.
+    pub fn spokes(&self) -> &[SpokeRow]
+        ensures rows { result.now ≡ self.now.spokes }
+        ensures kept { IsPlatform self.now }
+    {
+        self.spokes.as_slice()
     }
 }
 
@@ -108,18 +172,45 @@ fn rows_of(
 {
     let zones = zone_rows(alloc, names, rows_at(tree, "zone"))?;
     let hosts = host_rows(alloc, names, rows_at(tree, "host"))?;
-    Ok(PlatformText { zones, hosts })
+    let routers = router_rows(alloc, names, rows_at(tree, "router"))?;
+    let links = link_rows(alloc, rows_at(tree, "link"))?;
+    let ends = link_ends(alloc, links.as_slice())?;
+    let routes = route_rows(alloc, names, rows_at(tree, "route"))?;
+    let zone_routes = zone_route_rows(alloc, names, rows_at(tree, "zone_route"))?;
+    let spokes = spoke_rows(alloc, names, ends.as_slice(), rows_at(tree, "spoke"))?;
+    Ok(PlatformText {
+        zones,
+        hosts,
+        routers,
+        links,
+        routes,
+        zone_routes,
+        spokes,
+    })
 }
 
+/// The platform of a tree whose names these are.
 #[tactic(auto, unfolding(crate::specs::PlatformOf::tree_platform))]
+fn platform_in(
+    alloc: Global,
+    names: &Names,
+    tree: &toml::Table,
+) -> Result<PlatformText, PlatformFault>
+    requires known { names_view names.now ≡ platform_known (table_view tree.now) }
+    requires few { names.now.zones + names.now.hosts < 2 ^ 63 }
+    ensures { result ≢ Err Memory → result ≡ tree_platform (table_view tree.now) }
+{
+    match first_fault(names, &PLATFORM, tree) {
+        Some(fault) => Err(fault_of(fault)),
+        None => Ok(rows_of(alloc, names, tree)?),
+    }
+}
+
 fn tree_platform(alloc: Global, tree: &toml::Table) -> Result<PlatformText, PlatformFault>
     ensures { result ≢ Err Memory → result ≡ tree_platform (table_view tree.now) }
 {
     let names = platform_names(alloc, tree)?;
-    match first_fault(&names, &PLATFORM, tree) {
-        Some(fault) => Err(fault_of(fault)),
-        None => Ok(rows_of(alloc, &names, tree)?),
-    }
+    platform_in(alloc, &names, tree)
 }
 
 /// The greatest text that is read, in bytes.

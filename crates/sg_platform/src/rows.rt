@@ -1,5 +1,5 @@
 //! The rows of platforms and deployments, with resolved names.
-use sg_base::{PointId, Text, ZoneId};
+use sg_base::{Child, Links, PointId, Text, ZoneId};
 
 /// How a zone finds the routes between its children.
 #[derive(Clone, Copy, Debug, PartialEq, Eq)]
@@ -29,6 +29,70 @@ pub struct HostRow {
     pub cores: u32,
 }
 
+/// A router: a point that no actor is on.
+#[derive(Debug, Drop)]
+pub struct RouterRow {
+    pub id: Text,
+    pub zone: ZoneId,
+}
+
+/// How flows share a link.
+#[derive(Clone, Copy, Debug, PartialEq, Eq)]
+pub enum Policy {
+    /// All flows together get at most the bandwidth.
+    Shared,
+    /// Each flow gets at most the bandwidth.
+    Fatpipe,
+    /// Two shared links, `id_UP` and `id_DOWN`.
+    SplitDuplex,
+}
+
+/// A link, or the two of a SPLITDUPLEX row.
+#[derive(Debug, Drop)]
+pub struct LinkRow {
+    pub id: Text,
+    /// In bytes per second.
+    pub bandwidth: u64,
+    /// In nanoseconds.
+    pub latency: u64,
+    pub policy: Policy,
+}
+
+/// A route between two points.
+#[derive(Debug, Drop)]
+pub struct RouteRow {
+    pub src: PointId,
+    pub dst: PointId,
+    pub links: Links,
+    /// Whether it also serves the way back.
+    pub symmetrical: bool,
+}
+
+/// A route between two children of a zone, at least one of them a zone.
+#[derive(Debug, Drop)]
+pub struct ZoneRouteRow {
+    pub src: Child,
+    pub dst: Child,
+    /// Where the route begins: a point of `src`, or `src` itself.
+    pub gw_src: PointId,
+    /// Where it ends: a point of `dst`, or `dst` itself.
+    pub gw_dst: PointId,
+    pub links: Links,
+    /// Whether it also serves the way back.
+    pub symmetrical: bool,
+}
+
+/// What joins a child of a Star zone to its centre.
+#[derive(Debug, Drop)]
+pub struct SpokeRow {
+    pub zone: ZoneId,
+    pub child: Child,
+    /// Where the spoke begins: a point of the child, or the child itself.
+    pub gateway: PointId,
+    pub up: Links,
+    pub down: Links,
+}
+
 /// What an actor does.
 #[derive(Debug, Drop)]
 pub enum Function {
@@ -42,4 +106,18 @@ pub struct ActorRow {
     pub name: Text,
     pub host: PointId,
     pub function: Function,
+}
+
+/// A mutex.
+#[derive(Debug, Drop)]
+pub struct MutexRow {
+    pub id: Text,
+}
+
+/// A semaphore.
+#[derive(Debug, Drop)]
+pub struct SemaphoreRow {
+    pub id: Text,
+    /// How many may acquire it at once.
+    pub capacity: u64,
 }

@@ -2,10 +2,10 @@
 use Rattle.std.proofs.Common.{◌≡◌, ℕ, ◌≤◌, ◌==◌, Bool, true, false, cond, nat_le, List, length, Option, Some, None, Result, Ok, Err, IfOk, inl, inr, arith}
 use Rattle.std.proofs.lemmas.Bool.{cases_Bool}
 use Rattle.std.proofs.lemmas.Bool.Decides.{nat_tests}
-use Rattle.sg_rules.specs.Units.{value_of, speed_value}
-use Rattle.sg_units.specs.Amount.{up_to, sized, read_by, speed_of, is_short, value_of as amount}
+use Rattle.sg_rules.specs.Units.{bandwidth_value, if_latency, latency_value, speed_value, value_of}
+use Rattle.sg_units.specs.Amount.{up_to, sized, bandwidth_of, read_by, speed_of, time_of, is_short, value_of as amount}
 use Rattle.sg_units.specs.Number.{Number, number_of}
-use Rattle.sg_units.specs.Units.{Units, size_of, speed_units}
+use Rattle.sg_units.specs.Units.{Units, bandwidth_units, size_of, speed_units}
 use Rattle.sg_units.specs.declared.fault.AmountFault.{AmountFault}
 use Rattle.sg_units.specs.declared.fault.AmountFault.TheVariants.{NotANumber, TooLarge}
 use Rattle.sg_units.specs.declared.units.Ratio.{Ratio}
@@ -40,3 +40,23 @@ value_within greatest (Err fault) n within same = cc
 pub speed_within : (text : List ℕ) (n : ℕ) → speed_value text ≡ Some n → n ≤ 1000000000000000
 unfolding speed_value
 speed_within text n same = value_within 1000000000000000 (speed_of text) n (within_read speed_units 1000000000000000 text) same
+
+pub bandwidth_within : (text : List ℕ) (n : ℕ) → bandwidth_value text ≡ Some n → n ≤ 1000000000000000
+unfolding bandwidth_value
+bandwidth_within text n same = value_within 1000000000000000 (bandwidth_of text) n (within_read bandwidth_units 1000000000000000 text) same
+
+latency_at_most : (o : Option ℕ) (n : ℕ) → if_latency o ≡ Some n → n ≤ 1000000000000000
+latency_at_most None n same = cc
+latency_at_most (Some ns) n same =
+    elim (cases_Bool (nat_le ns 1000000000000000)) [
+      | inl fits ↦
+          let at : Some ns ≡ Some n = rw fits at same in
+          let e : ns ≡ n = cc in
+          let le : ns ≤ 1000000000000000 = grind (arith, nat_tests) in
+          omega (arith, e, le)
+      | inr over ↦ let none : None ≡ Some n = rw over at same in cc
+    ]
+
+pub latency_within : (text : List ℕ) (n : ℕ) → latency_value text ≡ Some n → n ≤ 1000000000000000
+unfolding latency_value
+latency_within text n same = latency_at_most (value_of (time_of text)) n same

@@ -1,11 +1,11 @@
 -- What holds of the rows of a tree that has no fault.
-use Rattle.std.proofs.Common.{◌≡◌, ℕ, ◌+◌, ◌<◌, ◌≤◌, ◌==◌, Bool, true, false, not, nat_le, ◌&&◌, List, [], ◌∷◌, length, Option, Some, None, option_and_then, refl, sym, arith}
+use Rattle.std.proofs.Common.{◌≡◌, ℕ, ◌+◌, ◌<◌, ◌≤◌, ◌==◌, Bool, true, false, not, nat_le, nat_lt, ◌&&◌, ◌||◌, is_none, List, [], ◌∷◌, length, Option, Some, None, option_and_then, refl, sym, arith}
 use Rattle.std.proofs.lemmas.Bool.Decides.{nat_tests}
 use Rattle.std.specs.List.{All, AllByRecursion, list_all}
 use Rattle.sg_rules.proofs.TableLemmas.{few_rows}
 use Rattle.sg_rules.specs.Faults.{key_faults, row_faults, row_faults_at, rows_before, table_faults, table_kinds}
 use Rattle.sg_rules.specs.Names.{Known}
-use Rattle.sg_rules.specs.Rules.{host_kinds, id_kinds, is_between, is_name, is_name_byte, is_positive, key_kinds, kinds_at, rate_kinds, text_kinds, value_kinds, zone_kinds}
+use Rattle.sg_rules.specs.Rules.{child_kinds, end_kinds, host_kinds, id_kinds, is_between, is_from, is_name, is_name_byte, is_positive, key_kinds, kinds_at, latency_kinds, link_id_kinds, point_kinds, rate_kinds, route_end_kinds, text_kinds, value_kinds, zone_kinds, zone_route_end_kinds}
 use Rattle.sg_rules.specs.Tables.{key, keys_of, row_limit, shape_of, table_number, table_text, word_text}
 use Rattle.sg_rules.specs.declared.tables.Key.{Key}
 use Rattle.sg_rules.specs.declared.tables.Need.TheVariants.{Required, Optional}
@@ -124,3 +124,43 @@ rate_there value empty = above value (not_false _ (unbroken _ _ empty))
     above : (o : Option ℕ) → is_positive o ≡ true → (n : ℕ) × (o ≡ Some n) × (1 ≤ n)
     above None positive = cc
     above (Some n) positive = (n, refl, (let le : 1 ≤ n = grind (arith, nat_tests) in le))
+
+-- a new name of a link has at most 64 bytes
+pub link_name_short : (taken : Finds) (number : ℕ) (split : Bool) (id : List ℕ) → link_id_kinds taken number split id ≡ [] → length id ≤ 64
+unfolding link_id_kinds is_name
+link_name_short taken number split id empty = short (length id) (list_all is_name_byte id) (split && nat_lt 59 (length id)) (unbroken _ _ (empty_left _ _ empty))
+  where
+    short : (n : ℕ) (b c : Bool) → not ((not (n == 0) && nat_le n 64) && b) || c ≡ false → n ≤ 64
+    short n b c named = grind (arith, nat_tests)
+
+from_there : (least : ℕ) (found : Option ℕ) → is_from least found ≡ true → (n : ℕ) × (found ≡ Some n) × (least ≤ n)
+from_there least None from = cc
+from_there least (Some n) from = (n, refl, (let low : least ≤ n = grind (arith, nat_tests) in low))
+
+pub point_there : (names : Known) (name : List ℕ) → point_kinds names name ≡ [] → (n : ℕ) × (names.points name ≡ Some n) × (names.zones ≤ n)
+unfolding point_kinds
+point_there names name empty = from_there names.zones (names.points name) (not_false _ (unbroken _ _ empty))
+
+some_there : (found : Option ℕ) → is_none found ≡ false → (n : ℕ) × (found ≡ Some n)
+some_there None absent = cc
+some_there (Some n) absent = (n, refl)
+
+pub end_there : (names : Known) (name : List ℕ) → end_kinds names name ≡ [] → (n : ℕ) × (names.points name ≡ Some n)
+unfolding end_kinds
+end_there names name empty = some_there (names.points name) (unbroken _ _ empty)
+
+pub route_end_point : (names : Known) (number : ℕ) (row : Data) (name : List ℕ) → route_end_kinds names number row name ≡ [] → point_kinds names name ≡ []
+unfolding route_end_kinds
+route_end_point names number row name empty = empty_right _ _ empty
+
+pub zone_route_end_end : (names : Known) (number : ℕ) (row : Data) (name : List ℕ) → zone_route_end_kinds names number row name ≡ [] → end_kinds names name ≡ []
+unfolding zone_route_end_kinds
+zone_route_end_end names number row name empty = empty_right _ _ empty
+
+pub child_end : (names : Known) (number : ℕ) (name : List ℕ) → child_kinds names number name ≡ [] → end_kinds names name ≡ []
+unfolding child_kinds
+child_end names number name empty = empty_right _ _ empty
+
+pub latency_there : (value : Option ℕ) → latency_kinds value ≡ [] → (n : ℕ) × (value ≡ Some n)
+unfolding latency_kinds
+latency_there value empty = some_there value (unbroken _ _ empty)

@@ -3,3 +3,4 @@ pub mod Kept
 pub mod NameLemmas
 pub mod Small
 pub mod TableLemmas
+pub mod Rising

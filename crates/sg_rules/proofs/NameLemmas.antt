@@ -1,7 +1,39 @@
 -- Lemmas on what is known of names.
-use Rattle.std.proofs.Common.{◌≡◌, ℕ, List}
+use Rattle.std.proofs.Common.{◌≡◌, ℕ, List, Option}
 use Rattle.sg_rules.specs.Names.{Known}
+use Rattle.sg_tree.specs.Names.{Finds, Pair}
 
--- two that find the same are the same
-pub known_same : (a b : Known) → a.zones ≡ b.zones → a.hosts ≡ b.hosts → ((q : List ℕ) → a.points q ≡ b.points q) → ((q : List ℕ) → a.actors q ≡ b.actors q) → a ≡ b
-known_same a b zones hosts points actors = λ i. record { zones = zones i; hosts = hosts i; points = λ q. points q i; actors = λ q. actors q i }
+abbrev SameNames : Finds → Finds → Type 0
+SameNames f g = (q : List ℕ) → f q ≡ g q
+
+abbrev SamePairs : (f g : Pair → Option ℕ) → Type 0
+SamePairs f g = (q : Pair) → f q ≡ g q
+
+-- the two find the same
+pub record FindsSame (a b : Known) : Type 0 where
+  pub zones : a.zones ≡ b.zones
+  pub hosts : a.hosts ≡ b.hosts
+  pub points : SameNames a.points b.points
+  pub taken : SameNames a.taken b.taken
+  pub links : SameNames a.links b.links
+  pub pairs : SamePairs a.pairs b.pairs
+  pub zone_pairs : SamePairs a.zone_pairs b.zone_pairs
+  pub children : SameNames a.children b.children
+  pub actors : SameNames a.actors b.actors
+  pub mutexes : SameNames a.mutexes b.mutexes
+  pub semaphores : SameNames a.semaphores b.semaphores
+
+pub known_same : (a b : Known) → FindsSame a b → a ≡ b
+known_same a b s = λ i. record {
+  zones = s.zones i;
+  hosts = s.hosts i;
+  points = λ q. s.points q i;
+  taken = λ q. s.taken q i;
+  links = λ q. s.links q i;
+  pairs = λ q. s.pairs q i;
+  zone_pairs = λ q. s.zone_pairs q i;
+  children = λ q. s.children q i;
+  actors = λ q. s.actors q i;
+  mutexes = λ q. s.mutexes q i;
+  semaphores = λ q. s.semaphores q i;
+}

@@ -1,12 +1,14 @@
 -- Where no limit is broken, the numbers of names fit 32 bits.
-use Rattle.std.proofs.Common.{◌≡◌, ℕ, ◌+◌, ◌<◌, ◌≤◌, IfSome, List, length, codes, refl, arith}
+use Rattle.std.proofs.Common.{◌≡◌, ℕ, ◌+◌, ◌*◌, ◌<◌, ◌≤◌, Bool, true, false, IfSome, List, [], ◌∷◌, ◌++◌, Option, Some, None, length, codes, refl, length-append, arith}
+use Rattle.std.specs.List.{flat_map}
 use Rattle.std.specs.Map.{lookup}
 use Rattle.std.specs.Str.{bytes_eq}
-use Rattle.sg_rules.specs.Names.{AreSmall, platform_known, point_numbers}
+use Rattle.sg_rules.specs.LinkNames.{declared_numbers, is_split, link_names, names_by, one_name}
+use Rattle.sg_rules.specs.Names.{AreSmall, platform_known, point_numbers, points_in}
 use Rattle.sg_tree.proofs.Bounds.{along_below, below_all, below_or, numbered_below}
 use Rattle.sg_tree.proofs.NameLemmas.{lookup_append}
 use Rattle.sg_tree.specs.Names.{names_from, numbered, texts_at}
-use Rattle.sg_tree.specs.Tree.{rows_at}
+use Rattle.sg_tree.specs.Tree.{rows_at, text_at}
 use Rattle.toml.specs.Data.{Data, Members}
 
 pub names_below : (key : List ℕ) (before : ℕ) (rows : List Data) (q : List ℕ) → IfSome (lookup (bytes_eq q) (names_from key before rows)) (λ n. n < before + length rows)
@@ -14,18 +16,54 @@ names_below key before rows q =
     below_all _ (before + 0 + length rows) (before + length rows) (omega arith)
     (along_below (bytes_eq q) (λ i row. numbered (before + i) (texts_at key row)) before (λ j row. numbered_below (bytes_eq q) (before + j) (texts_at key row)) 0 rows)
 
-points_below : (zones hosts : List Data) (q : List ℕ) → length zones ≤ 1024 → length hosts ≤ 16384 → IfSome (lookup (bytes_eq q) (point_numbers zones hosts)) (λ i. i < 4294967296)
-points_below zones hosts q few many =
-    rw (lookup_append (bytes_eq q) (names_from (codes "id") 0 zones) (names_from (codes "id") (length zones) hosts))
+-- points are numbered below the count of the rows of all three tables
+pub points_below : (zones hosts routers : List Data) (q : List ℕ) → IfSome (lookup (bytes_eq q) (point_numbers zones hosts routers)) (λ i. i < length zones + length hosts + length routers)
+points_below zones hosts routers q =
+    let first = names_from (codes "id") 0 zones in
+    let second = names_from (codes "id") (length zones) hosts in
+    let third = names_from (codes "id") (length zones + length hosts) routers in
+    rw (lookup_append (bytes_eq q) (first ++ second) third, lookup_append (bytes_eq q) first second)
     (below_or _ _ _
-    (below_all _ _ _ (omega arith) (names_below (codes "id") 0 zones q))
-    (below_all _ _ _ (omega arith) (names_below (codes "id") (length zones) hosts q)))
+    (below_or _ _ _ (below_all _ _ _ (omega arith) (names_below (codes "id") 0 zones q)) (below_all _ _ _ (omega arith) (names_below (codes "id") (length zones) hosts q)))
+    (below_all _ _ _ (omega arith) (names_below (codes "id") (length zones + length hosts) routers q)))
 
-known_points : (tree : Members) (q : List ℕ) → (platform_known tree).points q ≡ lookup (bytes_eq q) (point_numbers (rows_at (codes "zone") tree) (rows_at (codes "host") tree))
+-- links are numbered below the count of their names
+pub links_below : (rows : List Data) (q : List ℕ) → IfSome (lookup (bytes_eq q) (declared_numbers rows)) (λ i. i < length (flat_map link_names rows))
+links_below rows q =
+    below_all _ (0 + 0 + length (flat_map link_names rows)) (length (flat_map link_names rows)) (omega arith)
+    (along_below (bytes_eq q) one_name 0 (λ j name. below_all _ (j + 1) (0 + j + 1) (omega arith) (numbered_below (bytes_eq q) j (name ∷ []))) 0 (flat_map link_names rows))
+
+names_two : (split : Bool) (id : Option (List ℕ)) → length (names_by split id) ≤ 2
+names_two split None = omega arith
+names_two true (Some id) = omega arith
+names_two false (Some id) = omega arith
+
+pub two_each : (rows : List Data) → length (flat_map link_names rows) ≤ 2 * length rows
+two_each [] = omega arith
+two_each (row ∷ rows) = omega (arith, length-append (link_names row) (flat_map link_names rows), names_two (is_split row) (text_at (codes "id") row), two_each rows)
+
+-- few rows of each table whose rows have numbers
+pub record FewRows (tree : Members) : Type 0 where
+  pub zones : length (rows_at (codes "zone") tree) ≤ 1024
+  pub hosts : length (rows_at (codes "host") tree) ≤ 16384
+  pub routers : length (rows_at (codes "router") tree) ≤ 16384
+  pub links : length (rows_at (codes "link") tree) ≤ 65536
+
+pub known_points : (tree : Members) (q : List ℕ) → (platform_known tree).points q ≡ points_in tree q
 unfolding platform_known
 known_points tree q = refl
 
-pub platform_small : (tree : Members) → length (rows_at (codes "zone") tree) ≤ 1024 → length (rows_at (codes "host") tree) ≤ 16384 → AreSmall (platform_known tree)
-platform_small tree zones hosts = record {
-  points = λ q. rw (known_points tree q) (points_below _ _ q zones hosts);
-}
+pub known_links : (tree : Members) (q : List ℕ) → (platform_known tree).links q ≡ lookup (bytes_eq q) (declared_numbers (rows_at (codes "link") tree))
+unfolding platform_known
+known_links tree q = refl
+
+pub platform_small : (tree : Members) → FewRows tree → AreSmall (platform_known tree)
+platform_small tree few =
+    let zones = rows_at (codes "zone") tree in
+    let hosts = rows_at (codes "host") tree in
+    let routers = rows_at (codes "router") tree in
+    let links = rows_at (codes "link") tree in
+    record {
+      points = λ q. rw (known_points tree q) (below_all _ (length zones + length hosts + length routers) 4294967296 (omega (arith, few.zones, few.hosts, few.routers)) (points_below zones hosts routers q));
+      links = λ q. rw (known_links tree q) (below_all _ (length (flat_map link_names links)) 4294967296 (omega (arith, few.links, two_each links)) (links_below links q));
+    }

@@ -12,7 +12,7 @@ use Rattle.sg_rules.specs.Faults.{row_faults_at, table_kinds, table_faults, rows
 use Rattle.sg_rules.specs.Tables.{table_text, table_number, keys_of, row_limit}
 use Rattle.sg_tree.specs.declared.fault.Kind.{Kind}
 use Rattle.sg_rules.specs.declared.tables.Table.{Table}
-use Rattle.sg_rules.specs.declared.tables.Table.TheVariants.{Zone, Host, Actor}
+use Rattle.sg_rules.specs.declared.tables.Table.TheVariants.{Zone, Host, Router, Link, Route, ZoneRoute, Spoke, Actor, Mutex, Semaphore}
 use Rattle.sg_tree.proofs.Along.{first_append_none, first_append_some, first_at_none, first_at_some, along_map}
 use Rattle.std.proofs.lemmas.Bool.{cases_Bool}
 use Rattle.std.proofs.lemmas.Bool.Decides.{nat_tests}
@@ -48,7 +48,14 @@ table_rest names tree table rows seen none =
 limit_small : (table : Table) → row_limit table < 1048576
 limit_small Zone = omega arith
 limit_small Host = omega arith
+limit_small Router = omega arith
+limit_small Link = omega arith
+limit_small Route = omega arith
+limit_small ZoneRoute = omega arith
+limit_small Spoke = omega arith
 limit_small Actor = omega arith
+limit_small Mutex = omega arith
+limit_small Semaphore = omega arith
 
 pub few_at : (tree : Members) (table : Table) (rows : List Value) → map view rows ≡ rows_at (table_text table) tree → first (table_kinds table (get_member (table_text table) tree)) ≡ None → length rows < 1048576
 unfolding rows_at

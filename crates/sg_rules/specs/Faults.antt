@@ -5,7 +5,7 @@ use Rattle.sg_rules.specs.Rules.{key_kinds, key_text}
 use Rattle.sg_rules.specs.Tables.{keys_of, row_limit, table_number, table_text}
 use Rattle.sg_rules.specs.declared.tables.Key.{Key}
 use Rattle.sg_rules.specs.declared.tables.Table.{Table}
-use Rattle.sg_rules.specs.declared.tables.Table.TheVariants.{Host}
+use Rattle.sg_rules.specs.declared.tables.Table.TheVariants.{Host, Router}
 use Rattle.sg_tree.specs.Along.{along}
 use Rattle.sg_tree.specs.Faults.{at_place, broken, of_type}
 use Rattle.sg_tree.specs.Tree.{has_only, list_of, rows_at}
@@ -34,6 +34,7 @@ row_faults_at names keys before t i row = row_faults names keys (before + i) t (
 -- how many rows of the same space of names stand before the table
 abbrev pub rows_before : Known → Table → ℕ
 rows_before names Host = names.zones
+rows_before names Router = names.zones + names.hosts
 rows_before names _ = 0
 
 -- a table as a whole

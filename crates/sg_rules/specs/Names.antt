@@ -1,39 +1,61 @@
 -- What is known of the names of a whole tree: under which number each stands first.
-use Rattle.std.specs.Prelude.{ℕ, ◌<◌, ◌^◌, IfSome, List, ◌++◌, None, length, codes}
-use Rattle.std.specs.HashMap.{get_by_text}
+use Rattle.std.specs.Prelude.{ℕ, ◌+◌, ◌<◌, ◌^◌, IfSome, List, ◌++◌, Option, None, length, codes}
+use Rattle.std.specs.HashMap.{get_by, get_by_text}
 use Rattle.std.specs.Map.{lookup}
 use Rattle.std.specs.Str.{bytes_eq}
+use Rattle.sg_rules.specs.LinkNames.{declared_numbers, taken_numbers}
+use Rattle.sg_rules.specs.Pairs.{pair_numbers}
 use Rattle.sg_rules.specs.declared.names.Names.{Names}
-use Rattle.sg_tree.specs.Names.{Finds, names_from}
+use Rattle.sg_tree.specs.Names.{Finds, Pair, names_from, pair_eq}
 use Rattle.sg_tree.specs.Tree.{rows_at}
 use Rattle.toml.specs.Data.{Data, Members}
 
--- Zones, hosts and routers are numbered one after the other; the rows of any other table from 0 on.
+-- Zones, hosts and routers are numbered one after the other, links in declared order; all else by rows from 0 on.
 pub record Known : Type 0 where
   pub zones : ℕ
   pub hosts : ℕ
   pub points : Finds
+  pub taken : Finds
+  pub links : Finds
+  pub pairs : Pair → Option ℕ
+  pub zone_pairs : Pair → Option ℕ
+  pub children : Finds
   pub actors : Finds
+  pub mutexes : Finds
+  pub semaphores : Finds
 
 -- no name is known
 abbrev pub finds_none : Finds
 finds_none = λ q. None
 
--- zones and then hosts, in one space of names
-abbrev pub point_numbers : List Data → List Data → List (List ℕ × ℕ)
-point_numbers zones hosts = names_from (codes "id") 0 zones ++ names_from (codes "id") (length zones) hosts
+abbrev pub pairs_none : Pair → Option ℕ
+pairs_none = λ q. None
+
+-- zones, hosts and routers, in one space of names
+abbrev pub point_numbers : List Data → List Data → List Data → List (List ℕ × ℕ)
+point_numbers zones hosts routers =
+    names_from (codes "id") 0 zones ++ names_from (codes "id") (length zones) hosts ++ names_from (codes "id") (length zones + length hosts) routers
+
+-- the numbers of zones, hosts and routers
+abbrev pub points_in : Members → Finds
+points_in tree =
+    λ q. lookup (bytes_eq q) (point_numbers (rows_at (codes "zone") tree) (rows_at (codes "host") tree) (rows_at (codes "router") tree))
 
 -- the names of a platform text
 unfoldable pub platform_known : Members → Known
-platform_known tree =
-    let zones = rows_at (codes "zone") tree in
-    let hosts = rows_at (codes "host") tree in
-    record {
-      zones = length zones;
-      hosts = length hosts;
-      points = λ q. lookup (bytes_eq q) (point_numbers zones hosts);
-      actors = finds_none;
-    }
+platform_known tree = record {
+  zones = length (rows_at (codes "zone") tree);
+  hosts = length (rows_at (codes "host") tree);
+  points = points_in tree;
+  taken = λ q. lookup (bytes_eq q) (taken_numbers (rows_at (codes "link") tree));
+  links = λ q. lookup (bytes_eq q) (declared_numbers (rows_at (codes "link") tree));
+  pairs = λ q. lookup (pair_eq q) (pair_numbers (points_in tree) (rows_at (codes "route") tree));
+  zone_pairs = λ q. lookup (pair_eq q) (pair_numbers (points_in tree) (rows_at (codes "zone_route") tree));
+  children = λ q. lookup (bytes_eq q) (names_from (codes "child") 0 (rows_at (codes "spoke") tree));
+  actors = finds_none;
+  mutexes = finds_none;
+  semaphores = finds_none;
+}
 
 -- the names of a deployment text, on a platform with so many hosts, of these names
 unfoldable pub deployment_known : ℕ → Finds → Members → Known
@@ -41,7 +63,14 @@ deployment_known hosts points tree = record {
   zones = 0;
   hosts = hosts;
   points = points;
+  taken = finds_none;
+  links = finds_none;
+  pairs = pairs_none;
+  zone_pairs = pairs_none;
+  children = finds_none;
   actors = λ q. lookup (bytes_eq q) (names_from (codes "name") 0 (rows_at (codes "actor") tree));
+  mutexes = λ q. lookup (bytes_eq q) (names_from (codes "id") 0 (rows_at (codes "mutex") tree));
+  semaphores = λ q. lookup (bytes_eq q) (names_from (codes "id") 0 (rows_at (codes "semaphore") tree));
 }
 
 -- what the code has collected
@@ -50,7 +79,14 @@ names_view names = record {
   zones = names.zones;
   hosts = names.hosts;
   points = λ q. get_by_text names.points q;
+  taken = λ q. get_by_text names.taken q;
+  links = λ q. get_by_text names.links q;
+  pairs = λ q. get_by (pair_eq q) names.pairs;
+  zone_pairs = λ q. get_by (pair_eq q) names.zone_pairs;
+  children = λ q. get_by_text names.children q;
   actors = λ q. get_by_text names.actors q;
+  mutexes = λ q. get_by_text names.mutexes q;
+  semaphores = λ q. get_by_text names.semaphores q;
 }
 
 -- each number fits 32 bits
@@ -60,3 +96,4 @@ FitsIn32 found = (name : List ℕ) → IfSome (found name) (λ i. i < 2 ^ 32)
 -- so does each that a row keeps
 pub record AreSmall (names : Known) : Type 0 where
   pub points : FitsIn32 names.points
+  pub links : FitsIn32 names.links

@@ -1,24 +1,26 @@
 -- The rules that the values of keys keep, each asked by itself of the whole tree.
-use Rattle.std.specs.Prelude.{is_some, ℕ, ◌+◌, ◌==◌, ℤ, pos, negsuc, Bool, true, false, not, ◌&&◌, ◌||◌, nat_lt, nat_le, List, [], ◌∷◌, ◌++◌, if◌then◌else◌, Option, Some, None, length, codes, unwrap_or}
+use Rattle.std.specs.Prelude.{is_none, is_some, ℕ, ◌+◌, ◌==◌, ℤ, pos, negsuc, Bool, true, false, not, ◌&&◌, ◌||◌, nat_lt, nat_le, List, [], ◌∷◌, ◌++◌, if◌then◌else◌, Option, Some, None, length, codes, unwrap_or}
 use Rattle.std.specs.Char.{is_ascii_alphanumeric}
 use Rattle.std.specs.List.{list_all, list_any}
 use Rattle.std.specs.Str.{bytes_eq}
+use Rattle.sg_rules.specs.LinkNames.{is_split, taken_by}
 use Rattle.sg_rules.specs.Names.{Known}
+use Rattle.sg_rules.specs.Pairs.{pairs_of}
 use Rattle.sg_rules.specs.Tables.{shape_of, word_text}
-use Rattle.sg_rules.specs.Units.{speed_value}
+use Rattle.sg_rules.specs.Units.{bandwidth_value, latency_value, speed_value}
 use Rattle.sg_rules.specs.declared.tables.Key.{Key}
 use Rattle.sg_rules.specs.declared.tables.Need.{Need}
-use Rattle.sg_rules.specs.declared.tables.Need.TheVariants.{Required, Optional}
+use Rattle.sg_rules.specs.declared.tables.Need.TheVariants.{Required, Optional, IfZone}
 use Rattle.sg_rules.specs.declared.tables.Rule.{Rule}
-use Rattle.sg_rules.specs.declared.tables.Rule.TheVariants.{NewPoint, NewActor, ZoneName, HostName, RoutingWord, FunctionWord, SpeedText, CoreCount, ArgumentList}
+use Rattle.sg_rules.specs.declared.tables.Rule.TheVariants.{NewPoint, NewLink, NewActor, NewMutex, NewSemaphore, ZoneName, PointName, EndName, HostName, RouteEnd, ZoneRouteEnd, SpokeChild, RoutingWord, PolicyWord, FunctionWord, SpeedText, BandwidthText, LatencyText, CoreCount, CapacityCount, TruthValue, LinkList, ArgumentList}
 use Rattle.sg_rules.specs.declared.tables.Shape.{Shape}
-use Rattle.sg_rules.specs.declared.tables.Shape.TheVariants.{Text, Whole, Texts}
+use Rattle.sg_rules.specs.declared.tables.Shape.TheVariants.{Text, Whole, Truth, Texts}
 use Rattle.sg_tree.specs.Faults.{broken, of_type}
-use Rattle.sg_tree.specs.Names.{Finds}
+use Rattle.sg_tree.specs.Names.{Finds, Pair}
 use Rattle.sg_tree.specs.Tree.{list_of, text_at}
 use Rattle.sg_tree.specs.declared.fault.Kind.{Kind}
-use Rattle.sg_tree.specs.declared.fault.Kind.TheVariants.{MissingKey, WrongType, BadValue, BadName, Duplicate, Unknown, Function, Arguments}
-use Rattle.toml.specs.Data.{Data, get, as_str, as_integer, as_array}
+use Rattle.sg_tree.specs.declared.fault.Kind.TheVariants.{MissingKey, WrongType, BadValue, BadName, Duplicate, Unknown, Limit, Function, Arguments}
+use Rattle.toml.specs.Data.{Data, get, as_str, as_integer, as_bool, as_array}
 
 -- a name: 1 to 64 letters, digits, underscores, points and hyphens
 abbrev pub is_name_byte : ℕ → Bool
@@ -40,9 +42,40 @@ is_between least end (Some first) = nat_le least first && nat_lt first end
 unfoldable pub id_kinds : Finds → ℕ → List ℕ → List Kind
 id_kinds numbers number name = broken (not (is_name name)) BadName ++ broken (is_taken (numbers name) number) Duplicate
 
+-- the name of a link, which takes three names where it is SPLITDUPLEX, and then has at most 59 bytes
+unfoldable pub link_id_kinds : Finds → ℕ → Bool → List ℕ → List Kind
+link_id_kinds taken number split id =
+    broken (not (is_name id) || (split && nat_lt 59 (length id))) BadName
+    ++ broken (list_any (λ name. is_taken (taken name) number) (taken_by split (Some id))) Duplicate
+
 -- the name of a zone
 unfoldable pub zone_kinds : Known → List ℕ → List Kind
 zone_kinds names name = broken (not (is_between 0 names.zones (names.points name))) Unknown
+
+-- the name of a point: its number is not that of a zone
+abbrev pub is_from : ℕ → Option ℕ → Bool
+is_from least None = false
+is_from least (Some first) = nat_le least first
+
+unfoldable pub point_kinds : Known → List ℕ → List Kind
+point_kinds names name = broken (not (is_from names.zones (names.points name))) Unknown
+
+-- the name of a zone or a point
+unfoldable pub end_kinds : Known → List ℕ → List Kind
+end_kinds names name = broken (is_none (names.points name)) Unknown
+
+-- a pair that the row gives was given by an earlier row
+unfoldable pub is_pair_taken : (Pair → Option ℕ) → Finds → ℕ → Data → Bool
+is_pair_taken pairs points number row = list_any (λ p. is_taken (pairs p) number) (pairs_of points row)
+
+unfoldable pub route_end_kinds : Known → ℕ → Data → List ℕ → List Kind
+route_end_kinds names number row name = broken (is_pair_taken names.pairs names.points number row) Duplicate ++ point_kinds names name
+
+unfoldable pub zone_route_end_kinds : Known → ℕ → Data → List ℕ → List Kind
+zone_route_end_kinds names number row name = broken (is_pair_taken names.zone_pairs names.points number row) Duplicate ++ end_kinds names name
+
+unfoldable pub child_kinds : Known → ℕ → List ℕ → List Kind
+child_kinds names number name = broken (is_taken (names.children name) number) Duplicate ++ end_kinds names name
 
 -- the name of a host
 unfoldable pub host_kinds : Known → List ℕ → List Kind
@@ -55,6 +88,9 @@ word_kinds words kind text = broken (not (list_any (λ word. bytes_eq text word)
 abbrev pub routings : List (List ℕ)
 routings = codes "Full" ∷ codes "Star" ∷ []
 
+abbrev pub policies : List (List ℕ)
+policies = codes "SHARED" ∷ codes "FATPIPE" ∷ codes "SPLITDUPLEX" ∷ []
+
 abbrev pub functions : List (List ℕ)
 functions = codes "replay" ∷ []
 
@@ -66,25 +102,48 @@ is_positive (Some n) = nat_lt 0 n
 unfoldable pub rate_kinds : Option ℕ → List Kind
 rate_kinds value = broken (not (is_positive value)) BadValue
 
+-- a latency, where its reader takes the text
+unfoldable pub latency_kinds : Option ℕ → List Kind
+latency_kinds value = broken (is_none value) BadValue
+
 -- what is wrong with a text
 abbrev pub text_kinds : Known → ℕ → Data → Rule → List ℕ → List Kind
 text_kinds names number row NewPoint text = id_kinds names.points number text
+text_kinds names number row NewLink text = link_id_kinds names.taken number (is_split row) text
 text_kinds names number row NewActor text = id_kinds names.actors number text
+text_kinds names number row NewMutex text = id_kinds names.mutexes number text
+text_kinds names number row NewSemaphore text = id_kinds names.semaphores number text
 text_kinds names number row ZoneName text = zone_kinds names text
+text_kinds names number row PointName text = point_kinds names text
+text_kinds names number row EndName text = end_kinds names text
 text_kinds names number row HostName text = host_kinds names text
+text_kinds names number row RouteEnd text = route_end_kinds names number row text
+text_kinds names number row ZoneRouteEnd text = zone_route_end_kinds names number row text
+text_kinds names number row SpokeChild text = child_kinds names number text
 text_kinds names number row RoutingWord text = word_kinds routings BadValue text
+text_kinds names number row PolicyWord text = word_kinds policies BadValue text
 text_kinds names number row FunctionWord text = word_kinds functions Function text
 text_kinds names number row SpeedText text = rate_kinds (speed_value text)
+text_kinds names number row BandwidthText text = rate_kinds (bandwidth_value text)
+text_kinds names number row LatencyText text = latency_kinds (latency_value text)
 text_kinds names number row CoreCount text = []
+text_kinds names number row CapacityCount text = []
+text_kinds names number row TruthValue text = []
+text_kinds names number row LinkList text = []
 text_kinds names number row ArgumentList text = []
 
 abbrev pub is_core_count : ℤ → Bool
 is_core_count (pos n) = nat_le 1 n && nat_le n 1024
 is_core_count (negsuc n) = false
 
+abbrev pub is_capacity : ℤ → Bool
+is_capacity (pos n) = nat_le n 1000000000
+is_capacity (negsuc n) = false
+
 -- what is wrong with a whole number
 abbrev pub whole_kinds : Rule → ℤ → List Kind
 whole_kinds CoreCount z = broken (not (is_core_count z)) BadValue
+whole_kinds CapacityCount z = broken (not (is_capacity z)) BadValue
 whole_kinds _ z = []
 
 -- the row of an actor that replays its script lines
@@ -98,8 +157,20 @@ argument_kinds row items = broken (is_replay row && not (length items == 0)) Arg
 abbrev pub is_text : Data → Bool
 is_text d = is_some (as_str d)
 
+-- the names of 1 to 64 links
+abbrev pub is_unknown : Finds → Option (List ℕ) → Bool
+is_unknown numbers None = false
+is_unknown numbers (Some name) = is_none (numbers name)
+
+unfoldable pub link_list_kinds : Finds → List Data → List Kind
+link_list_kinds links items =
+    broken (length items == 0) BadValue
+    ++ broken (list_any (λ d. is_unknown links (as_str d)) items) Unknown
+    ++ broken (nat_lt 64 (length items)) Limit
+
 -- what is wrong with a list of texts
 abbrev pub texts_kinds : Known → Data → Rule → List Data → List Kind
+texts_kinds names row LinkList items = link_list_kinds names.links items
 texts_kinds names row ArgumentList items = argument_kinds row items
 texts_kinds names row _ items = []
 
@@ -110,15 +181,22 @@ list_kinds names row rule items = if list_all is_text items then texts_kinds nam
 abbrev pub shape_kinds : Shape → Known → ℕ → Data → Rule → Data → List Kind
 shape_kinds Text names number row rule d = of_type (text_kinds names number row rule) (as_str d)
 shape_kinds Whole names number row rule d = of_type (whole_kinds rule) (as_integer d)
+shape_kinds Truth names number row rule d = of_type (λ truth. []) (as_bool d)
 shape_kinds Texts names number row rule d = of_type (λ items. list_kinds names row rule (list_of items)) (as_array d)
 
 unfoldable pub value_kinds : Known → ℕ → Data → Rule → Data → List Kind
 value_kinds names number row rule d = shape_kinds (shape_of rule) names number row rule d
 
+-- the text is there, and names a zone
+abbrev pub names_zone : Known → Option (List ℕ) → Bool
+names_zone names None = false
+names_zone names (Some name) = is_between 0 names.zones (names.points name)
+
 -- a key that the row must have
 abbrev pub is_required : Known → Data → Need → Bool
 is_required names row Required = true
 is_required names row Optional = false
+is_required names row (IfZone word) = names_zone names (text_at (word_text word) row)
 
 -- what is wrong at a key of a row, there or not
 abbrev pub kinds_at : Known → ℕ → Data → Key → Option Data → List Kind

@@ -3,13 +3,13 @@
 use Rattle.std.specs.Prelude.{ℕ, List, [], ◌∷◌, codes}
 use Rattle.sg_rules.specs.declared.tables.Key.{Key}
 use Rattle.sg_rules.specs.declared.tables.Need.{Need}
-use Rattle.sg_rules.specs.declared.tables.Need.TheVariants.{Required, Optional}
+use Rattle.sg_rules.specs.declared.tables.Need.TheVariants.{Required, Optional, IfZone}
 use Rattle.sg_rules.specs.declared.tables.Rule.{Rule}
-use Rattle.sg_rules.specs.declared.tables.Rule.TheVariants.{NewPoint, NewActor, ZoneName, HostName, RoutingWord, FunctionWord, SpeedText, CoreCount, ArgumentList}
+use Rattle.sg_rules.specs.declared.tables.Rule.TheVariants.{NewPoint, NewLink, NewActor, NewMutex, NewSemaphore, ZoneName, PointName, EndName, HostName, RouteEnd, ZoneRouteEnd, SpokeChild, RoutingWord, PolicyWord, FunctionWord, SpeedText, BandwidthText, LatencyText, CoreCount, CapacityCount, TruthValue, LinkList, ArgumentList}
 use Rattle.sg_rules.specs.declared.tables.Shape.{Shape}
 use Rattle.sg_rules.specs.declared.tables.Shape.TheVariants as shape
 use Rattle.sg_rules.specs.declared.tables.Table.{Table}
-use Rattle.sg_rules.specs.declared.tables.Table.TheVariants.{Zone, Host, Actor}
+use Rattle.sg_rules.specs.declared.tables.Table.TheVariants.{Zone, Host, Router, Link, Route, ZoneRoute, Spoke, Actor, Mutex, Semaphore}
 use Rattle.sg_rules.specs.declared.tables.Word.{Word}
 use Rattle.sg_rules.specs.declared.tables.Word.TheVariants as word
 
@@ -29,36 +29,95 @@ keys_of Host =
     ∷ key word.Speed Required SpeedText
     ∷ key word.Core Optional CoreCount
     ∷ []
+keys_of Router =
+    key word.Id Required NewPoint
+    ∷ key word.Zone Required ZoneName
+    ∷ []
+keys_of Link =
+    key word.Id Required NewLink
+    ∷ key word.Bandwidth Required BandwidthText
+    ∷ key word.Latency Optional LatencyText
+    ∷ key word.SharingPolicy Optional PolicyWord
+    ∷ []
+keys_of Route =
+    key word.Src Required PointName
+    ∷ key word.Dst Required RouteEnd
+    ∷ key word.Links Required LinkList
+    ∷ key word.Symmetrical Optional TruthValue
+    ∷ []
+keys_of ZoneRoute =
+    key word.Src Required EndName
+    ∷ key word.Dst Required ZoneRouteEnd
+    ∷ key word.GwSrc (IfZone word.Src) PointName
+    ∷ key word.GwDst (IfZone word.Dst) PointName
+    ∷ key word.Links Required LinkList
+    ∷ key word.Symmetrical Optional TruthValue
+    ∷ []
+keys_of Spoke =
+    key word.Zone Required ZoneName
+    ∷ key word.Child Required SpokeChild
+    ∷ key word.Gateway (IfZone word.Child) PointName
+    ∷ key word.Up Required LinkList
+    ∷ key word.Down Optional LinkList
+    ∷ []
 keys_of Actor =
     key word.Name Required NewActor
     ∷ key word.Host Required HostName
     ∷ key word.Function Required FunctionWord
     ∷ key word.Argument Optional ArgumentList
     ∷ []
+keys_of Mutex =
+    key word.Id Required NewMutex
+    ∷ []
+keys_of Semaphore =
+    key word.Id Required NewSemaphore
+    ∷ key word.Capacity Required CapacityCount
+    ∷ []
 
 abbrev pub table_text : Table → List ℕ
 table_text Zone = codes "zone"
 table_text Host = codes "host"
+table_text Router = codes "router"
+table_text Link = codes "link"
+table_text Route = codes "route"
+table_text ZoneRoute = codes "zone_route"
+table_text Spoke = codes "spoke"
 table_text Actor = codes "actor"
+table_text Mutex = codes "mutex"
+table_text Semaphore = codes "semaphore"
 
 -- the number of the table in a place
 abbrev pub table_number : Table → ℕ
 table_number Zone = 1
 table_number Host = 2
+table_number Router = 3
+table_number Link = 4
+table_number Route = 5
+table_number ZoneRoute = 6
+table_number Spoke = 7
 table_number Actor = 1
+table_number Mutex = 2
+table_number Semaphore = 3
 
 -- how many rows it may have
 abbrev pub row_limit : Table → ℕ
 row_limit Zone = 1024
 row_limit Host = 16384
+row_limit Router = 16384
+row_limit Link = 65536
+row_limit Route = 262144
+row_limit ZoneRoute = 262144
+row_limit Spoke = 32768
 row_limit Actor = 65536
+row_limit Mutex = 65536
+row_limit Semaphore = 65536
 
 -- the tables of a platform, and those of a deployment, in order
 abbrev pub platform_tables : List Table
-platform_tables = Zone ∷ Host ∷ []
+platform_tables = Zone ∷ Host ∷ Router ∷ Link ∷ Route ∷ ZoneRoute ∷ Spoke ∷ []
 
 abbrev pub deployment_tables : List Table
-deployment_tables = Actor ∷ []
+deployment_tables = Actor ∷ Mutex ∷ Semaphore ∷ []
 
 -- the key as a text writes it
 abbrev pub word_text : Word → List ℕ
@@ -68,13 +127,30 @@ word_text word.Routing = codes "routing"
 word_text word.Zone = codes "zone"
 word_text word.Speed = codes "speed"
 word_text word.Core = codes "core"
+word_text word.Bandwidth = codes "bandwidth"
+word_text word.Latency = codes "latency"
+word_text word.SharingPolicy = codes "sharing_policy"
+word_text word.Src = codes "src"
+word_text word.Dst = codes "dst"
+word_text word.Links = codes "links"
+word_text word.Symmetrical = codes "symmetrical"
+word_text word.GwSrc = codes "gw_src"
+word_text word.GwDst = codes "gw_dst"
+word_text word.Child = codes "child"
+word_text word.Gateway = codes "gateway"
+word_text word.Up = codes "up"
+word_text word.Down = codes "down"
 word_text word.Name = codes "name"
 word_text word.Host = codes "host"
 word_text word.Function = codes "function"
 word_text word.Argument = codes "argument"
+word_text word.Capacity = codes "capacity"
 
 -- the type of the values that a rule is for
 abbrev pub shape_of : Rule → Shape
 shape_of CoreCount = shape.Whole
+shape_of CapacityCount = shape.Whole
+shape_of TruthValue = shape.Truth
+shape_of LinkList = shape.Texts
 shape_of ArgumentList = shape.Texts
 shape_of _ = shape.Text

@@ -1,6 +1,6 @@
 -- Values with units, where their reader takes the text.
-use Rattle.std.specs.Prelude.{ℕ, List, Option, Some, None, Result, Ok, Err}
-use Rattle.sg_units.specs.Amount.{speed_of}
+use Rattle.std.specs.Prelude.{ℕ, nat_le, List, if◌then◌else◌, Option, Some, None, Result, Ok, Err}
+use Rattle.sg_units.specs.Amount.{bandwidth_of, speed_of, time_of}
 use Rattle.sg_units.specs.declared.fault.AmountFault.{AmountFault}
 
 abbrev pub value_of : Result ℕ AmountFault → Option ℕ
@@ -10,3 +10,19 @@ value_of (Err fault) = None
 -- the speed that a text gives, in flops per second
 unfoldable pub speed_value : List ℕ → Option ℕ
 speed_value text = value_of (speed_of text)
+
+-- the bandwidth that a text gives, in bytes per second
+unfoldable pub bandwidth_value : List ℕ → Option ℕ
+bandwidth_value text = value_of (bandwidth_of text)
+
+-- the greatest latency, in nanoseconds
+abbrev pub greatest_latency : ℕ
+greatest_latency = 1000000000000000
+
+abbrev pub if_latency : Option ℕ → Option ℕ
+if_latency None = None
+if_latency (Some ns) = if nat_le ns greatest_latency then Some ns else None
+
+-- the latency that a text gives, in nanoseconds, if it is not above the greatest
+unfoldable pub latency_value : List ℕ → Option ℕ
+latency_value text = if_latency (value_of (time_of text))

@@ -1,16 +1,24 @@
 //! The first rule that a key of a row breaks.
-ghost use Rattle.std.specs.Prelude.{◌≡◌, map};
-ghost use Rattle.std.specs.HashMap.{get_by_text};
-ghost use Rattle.std.specs.List.{list_all};
+ghost use Rattle.std.specs.Prelude.{◌≡◌, ◌≤◌, ◌+◌, ◌++◌, length, map};
+ghost use Rattle.std.specs.HashMap.{get_by, get_by_text};
+ghost use Rattle.std.specs.List.{list_all, list_any};
 ghost use Rattle.sg_tree.specs.Along.{first};
 ghost use Rattle.sg_tree.specs.declared.fault.Kind.TheVariants as kind;
+ghost use Rattle.sg_rules.specs.LinkNames.{split_names};
 ghost use Rattle.sg_rules.specs.Names.{names_view};
-ghost use Rattle.sg_rules.specs.Rules.{argument_kinds, functions, host_kinds, id_kinds, is_core_count, is_name, is_name_byte, is_replay, is_taken, is_text, key_kinds, list_kinds, rate_kinds, routings, text_kinds, value_kinds, whole_kinds, word_kinds, zone_kinds};
+ghost use Rattle.sg_rules.specs.Pairs.{pairs_of};
+ghost use Rattle.sg_tree.specs.Names.{Pair, pair_eq};
+ghost use Rattle.sg_tree.specs.Tree.{text_at};
+ghost use Rattle.toml.specs.Data.{as_str};
+ghost use Rattle.sg_rules.specs.Rules.{argument_kinds, child_kinds, end_kinds, functions, host_kinds, id_kinds, is_capacity, is_core_count, is_name, is_name_byte, is_pair_taken, is_replay, is_required, is_taken, is_text, is_unknown, key_kinds, latency_kinds, link_id_kinds, link_list_kinds, list_kinds, names_zone, point_kinds, policies, rate_kinds, route_end_kinds, routings, text_kinds, texts_kinds, value_kinds, whole_kinds, word_kinds, zone_kinds, zone_route_end_kinds};
 ghost use Rattle.toml.specs.View.{view};
 
+use crate::links::is_split;
 use crate::names::Names;
+use crate::pairs::{is_symmetrical, point_at};
 use crate::tables::{Key, Need, Rule, Shape};
-use crate::units::speed_value;
+use crate::units::{bandwidth_value, latency_value, speed_value};
+use arrayvec::ArrayString;
 use indexmap::IndexMap;
 use sg_tree::{Kind, text_at};
 use toml::Value;
@@ -59,6 +67,54 @@ fn id_fault(space: &IndexMap<String, usize>, number: usize, name: &str) -> Optio
     }
 }
 
+/// Whether an earlier row than this has the name with an end.
+fn is_end_given(space: &IndexMap<String, usize>, number: usize, name: &str, end: &str) -> bool
+    requires { length name.now + length end.now ≤ 64 }
+    ensures { result ≡ is_taken (get_by_text space.now (name.now ++ end.now)) number }
+{
+    let mut text = ArrayString::<64>::new();
+    text.push_str(name);
+    text.push_str(end);
+    is_given(space, number, text.as_str())
+}
+
+/// Whether an earlier row than this has a name of a direction of the link.
+fn is_split_given(space: &IndexMap<String, usize>, number: usize, id: &str) -> bool
+    requires { length id.now ≤ 59 }
+    ensures { result ≡ list_any (λ name. is_taken (get_by_text space.now name) number) (split_names id.now) }
+{
+    let up = is_end_given(space, number, id, "_UP");
+    let down = is_end_given(space, number, id, "_DOWN");
+    up || down
+}
+
+#[tactic(auto, unfolding(crate::specs::Rules::link_id_kinds))]
+fn link_id_fault(
+    taken: &IndexMap<String, usize>,
+    number: usize,
+    split: bool,
+    id: &str,
+) -> Option<Kind>
+    ensures { result ≡ first (link_id_kinds (λ name. get_by_text taken.now name) number split id.now) }
+{
+    if !is_name(id.as_bytes()) {
+        return Some(Kind::BadName);
+    }
+    if split {
+        if id.len() > 59 {
+            return Some(Kind::BadName);
+        }
+        if is_given(taken, number, id) || is_split_given(taken, number, id) {
+            return Some(Kind::Duplicate);
+        }
+        None
+    } else if is_given(taken, number, id) {
+        Some(Kind::Duplicate)
+    } else {
+        None
+    }
+}
+
 #[tactic(auto, unfolding(crate::specs::Rules::zone_kinds))]
 fn zone_fault(names: &Names, name: &str) -> Option<Kind>
     ensures { result ≡ first (zone_kinds (names_view names.now) name.now) }
@@ -66,6 +122,95 @@ fn zone_fault(names: &Names, name: &str) -> Option<Kind>
     match names.points.get(name) {
         Some(first) if *first < names.zones => None,
         _ => Some(Kind::Unknown),
+    }
+}
+
+#[tactic(auto, unfolding(crate::specs::Rules::point_kinds))]
+fn point_fault(names: &Names, name: &str) -> Option<Kind>
+    ensures { result ≡ first (point_kinds (names_view names.now) name.now) }
+{
+    match names.points.get(name) {
+        Some(first) if *first >= names.zones => None,
+        _ => Some(Kind::Unknown),
+    }
+}
+
+#[tactic(auto, unfolding(crate::specs::Rules::end_kinds))]
+fn end_fault(names: &Names, name: &str) -> Option<Kind>
+    ensures { result ≡ first (end_kinds (names_view names.now) name.now) }
+{
+    match names.points.get(name) {
+        Some(_) => None,
+        None => Some(Kind::Unknown),
+    }
+}
+
+fn is_given_pair(
+    pairs: &IndexMap<(usize, usize), usize>,
+    number: usize,
+    pair: (usize, usize),
+) -> bool
+    ensures { result ≡ is_taken (get_by (pair_eq pair) pairs.now) number }
+{
+    match pairs.get(&pair) {
+        Some(earlier) => *earlier < number,
+        None => false,
+    }
+}
+
+/// Whether an earlier row than this gave a pair that the row gives.
+#[tactic(auto, unfolding(crate::specs::Pairs::pairs_of, crate::specs::Rules::is_pair_taken))]
+fn is_pair_taken(
+    pairs: &IndexMap<(usize, usize), usize>,
+    points: &IndexMap<String, usize>,
+    number: usize,
+    row: &Value,
+) -> bool
+    ensures { result ≡ is_pair_taken (λ p. get_by (pair_eq p) pairs.now) (λ q. get_by_text points.now q) number (view row.now) }
+{
+    match (point_at(points, row, "src"), point_at(points, row, "dst")) {
+        (Some(a), Some(b)) => {
+            let there = is_given_pair(pairs, number, (a, b));
+            if is_symmetrical(row) {
+                there || is_given_pair(pairs, number, (b, a))
+            } else {
+                there
+            }
+        }
+        _ => false,
+    }
+}
+
+#[tactic(auto, unfolding(crate::specs::Rules::route_end_kinds))]
+fn route_end_fault(names: &Names, number: usize, row: &Value, name: &str) -> Option<Kind>
+    ensures { result ≡ first (route_end_kinds (names_view names.now) number (view row.now) name.now) }
+{
+    if is_pair_taken(&names.pairs, &names.points, number, row) {
+        Some(Kind::Duplicate)
+    } else {
+        point_fault(names, name)
+    }
+}
+
+#[tactic(auto, unfolding(crate::specs::Rules::zone_route_end_kinds))]
+fn zone_route_end_fault(names: &Names, number: usize, row: &Value, name: &str) -> Option<Kind>
+    ensures { result ≡ first (zone_route_end_kinds (names_view names.now) number (view row.now) name.now) }
+{
+    if is_pair_taken(&names.zone_pairs, &names.points, number, row) {
+        Some(Kind::Duplicate)
+    } else {
+        end_fault(names, name)
+    }
+}
+
+#[tactic(auto, unfolding(crate::specs::Rules::child_kinds))]
+fn child_fault(names: &Names, number: usize, name: &str) -> Option<Kind>
+    ensures { result ≡ first (child_kinds (names_view names.now) number name.now) }
+{
+    if is_given(&names.children, number, name) {
+        Some(Kind::Duplicate)
+    } else {
+        end_fault(names, name)
     }
 }
 
@@ -99,6 +244,27 @@ fn routing_fault(text: &str) -> Option<Kind>
     }
 }
 
+#[tactic(auto, unfolding(crate::specs::Rules::latency_kinds))]
+fn latency_fault(value: Option<u64>) -> Option<Kind>
+    ensures { result ≡ first (latency_kinds value) }
+{
+    match value {
+        Some(_) => None,
+        None => Some(Kind::BadValue),
+    }
+}
+
+#[tactic(auto, unfolding(crate::specs::Rules::word_kinds))]
+fn policy_fault(text: &str) -> Option<Kind>
+    ensures { result ≡ first (word_kinds policies kind.BadValue text.now) }
+{
+    if text == "SHARED" || text == "FATPIPE" || text == "SPLITDUPLEX" {
+        None
+    } else {
+        Some(Kind::BadValue)
+    }
+}
+
 #[tactic(auto, unfolding(crate::specs::Rules::word_kinds))]
 fn function_fault(text: &str) -> Option<Kind>
     ensures { result ≡ first (word_kinds functions kind.Function text.now) }
@@ -114,13 +280,28 @@ fn text_fault(names: &Names, number: usize, row: &Value, rule: Rule, text: &str)
 {
     match rule {
         Rule::NewPoint => id_fault(&names.points, number, text),
+        Rule::NewLink => link_id_fault(&names.taken, number, is_split(row), text),
         Rule::NewActor => id_fault(&names.actors, number, text),
+        Rule::NewMutex => id_fault(&names.mutexes, number, text),
+        Rule::NewSemaphore => id_fault(&names.semaphores, number, text),
         Rule::ZoneName => zone_fault(names, text),
+        Rule::PointName => point_fault(names, text),
+        Rule::EndName => end_fault(names, text),
         Rule::HostName => host_fault(names, text),
+        Rule::RouteEnd => route_end_fault(names, number, row, text),
+        Rule::ZoneRouteEnd => zone_route_end_fault(names, number, row, text),
+        Rule::SpokeChild => child_fault(names, number, text),
         Rule::RoutingWord => routing_fault(text),
+        Rule::PolicyWord => policy_fault(text),
         Rule::FunctionWord => function_fault(text),
         Rule::SpeedText => rate_fault(speed_value(text.as_bytes())),
-        Rule::CoreCount | Rule::ArgumentList => None,
+        Rule::BandwidthText => rate_fault(bandwidth_value(text.as_bytes())),
+        Rule::LatencyText => latency_fault(latency_value(text.as_bytes())),
+        Rule::CoreCount
+        | Rule::CapacityCount
+        | Rule::TruthValue
+        | Rule::LinkList
+        | Rule::ArgumentList => None,
     }
 }
 
@@ -130,11 +311,18 @@ fn is_core_count(value: i64) -> bool
     value >= 1 && value <= 1024
 }
 
+fn is_capacity(value: i64) -> bool
+    ensures { result ≡ is_capacity value }
+{
+    value >= 0 && value <= 1_000_000_000
+}
+
 fn whole_fault(rule: Rule, value: i64) -> Option<Kind>
     ensures { result ≡ first (whole_kinds rule value) }
 {
     match rule {
         Rule::CoreCount if !is_core_count(value) => Some(Kind::BadValue),
+        Rule::CapacityCount if !is_capacity(value) => Some(Kind::BadValue),
         _ => None,
     }
 }
@@ -171,16 +359,59 @@ fn argument_fault(row: &Value, items: &[Value]) -> Option<Kind>
     }
 }
 
+fn is_unknown(links: &IndexMap<String, usize>, item: &Value) -> bool
+    ensures { result ≡ is_unknown (λ name. get_by_text links.now name) (as_str (view item.now)) }
+{
+    match item.as_str() {
+        Some(name) => !links.contains_key(name),
+        None => false,
+    }
+}
+
+fn has_unknown(links: &IndexMap<String, usize>, items: &[Value]) -> bool
+    ensures { result ≡ list_any (λ d. is_unknown (λ name. get_by_text links.now name) (as_str d)) (map view items.now) }
+{
+    for item in items {
+        if is_unknown(links, item) {
+            return true;
+        }
+    }
+    false
+}
+
+#[tactic(auto, unfolding(crate::specs::Rules::link_list_kinds))]
+fn link_list_fault(links: &IndexMap<String, usize>, items: &[Value]) -> Option<Kind>
+    ensures { result ≡ first (link_list_kinds (λ name. get_by_text links.now name) (map view items.now)) }
+{
+    if items.len() == 0 {
+        Some(Kind::BadValue)
+    } else if has_unknown(links, items) {
+        Some(Kind::Unknown)
+    } else if items.len() > 64 {
+        Some(Kind::Limit)
+    } else {
+        None
+    }
+}
+
+fn texts_fault(names: &Names, row: &Value, rule: Rule, items: &[Value]) -> Option<Kind>
+    ensures { result ≡ first (texts_kinds (names_view names.now) (view row.now) rule (map view items.now)) }
+{
+    match rule {
+        Rule::LinkList => link_list_fault(&names.links, items),
+        Rule::ArgumentList => argument_fault(row, items),
+        _ => None,
+    }
+}
+
 #[tactic(auto, unfolding(crate::specs::Rules::list_kinds))]
 fn list_fault(names: &Names, row: &Value, rule: Rule, items: &[Value]) -> Option<Kind>
     ensures { result ≡ first (list_kinds (names_view names.now) (view row.now) rule (map view items.now)) }
 {
-    if !are_texts(items) {
-        return Some(Kind::WrongType);
-    }
-    match rule {
-        Rule::ArgumentList => argument_fault(row, items),
-        _ => None,
+    if are_texts(items) {
+        texts_fault(names, row, rule, items)
+    } else {
+        Some(Kind::WrongType)
     }
 }
 
@@ -197,10 +428,35 @@ fn value_fault(names: &Names, number: usize, row: &Value, rule: Rule, value: &Va
             None => Some(Kind::WrongType),
             Some(whole) => whole_fault(rule, whole),
         },
+        Shape::Truth => if value.is_bool() {
+            None
+        } else {
+            Some(Kind::WrongType)
+        },
         Shape::Texts => match value.as_array() {
             None => Some(Kind::WrongType),
             Some(items) => list_fault(names, row, rule, items.as_slice()),
         },
+    }
+}
+
+/// Whether a key of the row is there and names a zone.
+fn names_zone(names: &Names, row: &Value, key: &str) -> bool
+    ensures { result ≡ names_zone (names_view names.now) (text_at key.now (view row.now)) }
+{
+    match point_at(&names.points, row, key) {
+        Some(number) => number < names.zones,
+        None => false,
+    }
+}
+
+fn is_required(names: &Names, row: &Value, need: Need) -> bool
+    ensures { result ≡ is_required (names_view names.now) (view row.now) need }
+{
+    match need {
+        Need::Required => true,
+        Need::Optional => false,
+        Need::IfZone(word) => names_zone(names, row, word.text()),
     }
 }
 
@@ -210,9 +466,10 @@ pub fn key_fault(names: &Names, number: usize, row: &Value, key: Key) -> Option<
     ensures { result ≡ first (key_kinds (names_view names.now) number (view row.now) key) }
 {
     match row.get(key.word.text()) {
-        None => match key.need {
-            Need::Required => Some(Kind::MissingKey),
-            Need::Optional => None,
+        None => if is_required(names, row, key.need) {
+            Some(Kind::MissingKey)
+        } else {
+            None
         },
         Some(value) => value_fault(names, number, row, key.rule, value),
     }

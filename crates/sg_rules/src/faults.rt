@@ -150,10 +150,12 @@ fn head_fault(tree: &toml::Table, table: Table) -> Option<Kind>
 }
 
 fn before(names: &Names, table: Table) -> usize
+    requires { names.now.zones + names.now.hosts < 2 ^ 63 }
     ensures { result ≡ rows_before (names_view names.now) table }
 {
     match table {
         Table::Host => names.zones,
+        Table::Router => names.zones + names.hosts,
         _ => 0,
     }
 }

@@ -4,11 +4,17 @@
 
 mod checks;
 mod faults;
+mod laws;
+mod links;
 mod names;
+mod pairs;
 mod tables;
 mod units;
 
 pub use faults::first_fault;
+pub use laws::faults_rise;
+pub use links::is_split;
 pub use names::{Names, deployment_names, platform_names};
+pub use pairs::is_symmetrical;
 pub use tables::{DEPLOYMENT, Key, Need, PLATFORM, Rule, Table, Word};
-pub use units::speed_value;
+pub use units::{bandwidth_value, latency_value, speed_value};

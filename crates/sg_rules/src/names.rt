@@ -6,6 +6,8 @@ ghost use Rattle.std.specs.Str.{bytes_eq};
 ghost use Rattle.sg_rules.specs.Names.{deployment_known, names_view, platform_known, point_numbers};
 ghost use Rattle.toml.specs.View.{view, table_view};
 
+use crate::links::{declared_links, taken_links};
+use crate::pairs::pairs_in;
 use indexmap::IndexMap;
 use sg_base::Memory;
 use sg_tree::{add_names, names_at, rows_at};
@@ -21,18 +23,32 @@ pub struct Names {
     /// How many rows hosts have.
     pub hosts: usize,
     pub points: IndexMap<String, usize>,
+    /// All names that link rows take, by rows.
+    pub taken: IndexMap<String, usize>,
+    /// The names by which lists name links, by links.
+    pub links: IndexMap<String, usize>,
+    /// The ordered pairs of points that route rows give.
+    pub pairs: IndexMap<(usize, usize), usize>,
+    /// The ordered pairs that zone route rows give.
+    pub zone_pairs: IndexMap<(usize, usize), usize>,
+    /// The children of spoke rows.
+    pub children: IndexMap<String, usize>,
     pub actors: IndexMap<String, usize>,
+    pub mutexes: IndexMap<String, usize>,
+    pub semaphores: IndexMap<String, usize>,
 }
 
 fn points_of(
     alloc: Global,
     zones: &[Value],
     hosts: &[Value],
+    routers: &[Value],
 ) -> Result<IndexMap<String, usize>, Memory>
-    ensures { IfOk result (λ made. (q : List ℕ) → get_by_text made q ≡ lookup (bytes_eq q) (point_numbers (map view zones.now) (map view hosts.now))) }
+    ensures { IfOk result (λ made. (q : List ℕ) → get_by_text made q ≡ lookup (bytes_eq q) (point_numbers (map view zones.now) (map view hosts.now) (map view routers.now))) }
 {
     let mut made = names_at(alloc, "id", zones)?;
     add_names(alloc, &mut made, "id", zones.len(), hosts)?;
+    add_names(alloc, &mut made, "id", zones.len() + hosts.len(), routers)?;
     Ok(made)
 }
 
@@ -43,12 +59,25 @@ pub fn platform_names(alloc: Global, tree: &Table) -> Result<Names, Memory>
 {
     let zones = rows_at(tree, "zone");
     let hosts = rows_at(tree, "host");
-    let points = points_of(alloc, zones, hosts)?;
+    let declared = rows_at(tree, "link");
+    let points = points_of(alloc, zones, hosts, rows_at(tree, "router"))?;
+    let taken = taken_links(alloc, declared)?;
+    let links = declared_links(alloc, declared)?;
+    let pairs = pairs_in(alloc, &points, rows_at(tree, "route"))?;
+    let zone_pairs = pairs_in(alloc, &points, rows_at(tree, "zone_route"))?;
+    let children = names_at(alloc, "child", rows_at(tree, "spoke"))?;
     Ok(Names {
         zones: zones.len(),
         hosts: hosts.len(),
         points,
+        taken,
+        links,
+        pairs,
+        zone_pairs,
+        children,
         actors: IndexMap::new(alloc),
+        mutexes: IndexMap::new(alloc),
+        semaphores: IndexMap::new(alloc),
     })
 }
 
@@ -63,10 +92,19 @@ pub fn deployment_names(
     ensures few { IfOk result (λ names. names.zones + names.hosts ≡ hosts) }
 {
     let actors = names_at(alloc, "name", rows_at(tree, "actor"))?;
+    let mutexes = names_at(alloc, "id", rows_at(tree, "mutex"))?;
+    let semaphores = names_at(alloc, "id", rows_at(tree, "semaphore"))?;
     Ok(Names {
         zones: 0,
         hosts,
         points,
+        taken: IndexMap::new(alloc),
+        links: IndexMap::new(alloc),
+        pairs: IndexMap::new(alloc),
+        zone_pairs: IndexMap::new(alloc),
+        children: IndexMap::new(alloc),
         actors,
+        mutexes,
+        semaphores,
     })
 }

@@ -11,10 +11,24 @@ pub enum Word {
     Zone,
     Speed,
     Core,
+    Bandwidth,
+    Latency,
+    SharingPolicy,
+    Src,
+    Dst,
+    Links,
+    Symmetrical,
+    GwSrc,
+    GwDst,
+    Child,
+    Gateway,
+    Up,
+    Down,
     Name,
     Host,
     Function,
     Argument,
+    Capacity,
 }
 
 /// Whether a row must have a key.
@@ -22,6 +36,8 @@ pub enum Word {
 pub enum Need {
     Required,
     Optional,
+    /// Required where this other key of the row names a zone.
+    IfZone(Word),
 }
 
 /// What the value of a key must be.
@@ -29,20 +45,48 @@ pub enum Need {
 pub enum Rule {
     /// A new name among zones, hosts and routers.
     NewPoint,
+    /// A new name among links; a SPLITDUPLEX link takes three.
+    NewLink,
     /// A new name among actors.
     NewActor,
+    /// A new name among mutexes.
+    NewMutex,
+    /// A new name among semaphores.
+    NewSemaphore,
     /// The name of a zone.
     ZoneName,
+    /// The name of a host or a router.
+    PointName,
+    /// The name of a zone, a host or a router.
+    EndName,
     /// The name of a host.
     HostName,
+    /// The name of a point, where no earlier route row gave the pair.
+    RouteEnd,
+    /// The name of a zone or point, where no earlier zone route row gave the pair.
+    ZoneRouteEnd,
+    /// The name of a zone or point that no earlier spoke row has.
+    SpokeChild,
     /// `Full` or `Star`.
     RoutingWord,
+    /// `SHARED`, `FATPIPE` or `SPLITDUPLEX`.
+    PolicyWord,
     /// What an actor does.
     FunctionWord,
     /// A speed above zero.
     SpeedText,
+    /// A bandwidth above zero.
+    BandwidthText,
+    /// A latency up to 10^15 nanoseconds.
+    LatencyText,
     /// A whole number from 1 to 1,024.
     CoreCount,
+    /// A whole number from 0 to 10^9.
+    CapacityCount,
+    /// `true` or `false`.
+    TruthValue,
+    /// The names of 1 to 64 links.
+    LinkList,
     /// The texts that an actor is given.
     ArgumentList,
 }
@@ -52,6 +96,7 @@ pub enum Rule {
 pub enum Shape {
     Text,
     Whole,
+    Truth,
     Texts,
 }
 
@@ -68,14 +113,29 @@ pub struct Key {
 pub enum Table {
     Zone,
     Host,
+    Router,
+    Link,
+    Route,
+    ZoneRoute,
+    Spoke,
     Actor,
+    Mutex,
+    Semaphore,
 }
 
 /// The tables of a platform text, in order.
-pub const PLATFORM: [Table; 2] = [Table::Zone, Table::Host];
+pub const PLATFORM: [Table; 7] = [
+    Table::Zone,
+    Table::Host,
+    Table::Router,
+    Table::Link,
+    Table::Route,
+    Table::ZoneRoute,
+    Table::Spoke,
+];
 
 /// The tables of a deployment text, in order.
-pub const DEPLOYMENT: [Table; 1] = [Table::Actor];
+pub const DEPLOYMENT: [Table; 3] = [Table::Actor, Table::Mutex, Table::Semaphore];
 
 impl Word {
     /// The key as a text writes it.
@@ -89,10 +149,24 @@ impl Word {
             Word::Zone => "zone",
             Word::Speed => "speed",
             Word::Core => "core",
+            Word::Bandwidth => "bandwidth",
+            Word::Latency => "latency",
+            Word::SharingPolicy => "sharing_policy",
+            Word::Src => "src",
+            Word::Dst => "dst",
+            Word::Links => "links",
+            Word::Symmetrical => "symmetrical",
+            Word::GwSrc => "gw_src",
+            Word::GwDst => "gw_dst",
+            Word::Child => "child",
+            Word::Gateway => "gateway",
+            Word::Up => "up",
+            Word::Down => "down",
             Word::Name => "name",
             Word::Host => "host",
             Word::Function => "function",
             Word::Argument => "argument",
+            Word::Capacity => "capacity",
         }
     }
 }
@@ -103,14 +177,18 @@ impl Rule {
         ensures { result ≡ shape_of self }
     {
         match self {
-            Rule::CoreCount => Shape::Whole,
-            Rule::ArgumentList => Shape::Texts,
+            Rule::CoreCount | Rule::CapacityCount => Shape::Whole,
+            Rule::TruthValue => Shape::Truth,
+            Rule::LinkList | Rule::ArgumentList => Shape::Texts,
             _ => Shape::Text,
         }
     }
 }
 
 macro_rules! key {
+    ($word:ident, IfZone($end:ident), $rule:ident) => {
+        Key { word: Word::$word, need: Need::IfZone(Word::$end), rule: Rule::$rule }
+    };
     ($word:ident, $need:ident, $rule:ident) => {
         Key { word: Word::$word, need: Need::$need, rule: Rule::$rule }
     };
@@ -124,7 +202,14 @@ impl Table {
         match self {
             Table::Zone => "zone",
             Table::Host => "host",
+            Table::Router => "router",
+            Table::Link => "link",
+            Table::Route => "route",
+            Table::ZoneRoute => "zone_route",
+            Table::Spoke => "spoke",
             Table::Actor => "actor",
+            Table::Mutex => "mutex",
+            Table::Semaphore => "semaphore",
         }
     }
 
@@ -133,9 +218,13 @@ impl Table {
         ensures { result ≡ table_number self }
     {
         match self {
-            Table::Zone => 1,
-            Table::Host => 2,
-            Table::Actor => 1,
+            Table::Zone | Table::Actor => 1,
+            Table::Host | Table::Mutex => 2,
+            Table::Router | Table::Semaphore => 3,
+            Table::Link => 4,
+            Table::Route => 5,
+            Table::ZoneRoute => 6,
+            Table::Spoke => 7,
         }
     }
 
@@ -145,8 +234,10 @@ impl Table {
     {
         match self {
             Table::Zone => 1024,
-            Table::Host => 16384,
-            Table::Actor => 65536,
+            Table::Host | Table::Router => 16384,
+            Table::Spoke => 32768,
+            Table::Link | Table::Actor | Table::Mutex | Table::Semaphore => 65536,
+            Table::Route | Table::ZoneRoute => 262144,
         }
     }
 
@@ -166,11 +257,44 @@ impl Table {
                 key!(Speed, Required, SpeedText),
                 key!(Core, Optional, CoreCount),
             ],
+            Table::Router => &[key!(Id, Required, NewPoint), key!(Zone, Required, ZoneName)],
+            Table::Link => &[
+                key!(Id, Required, NewLink),
+                key!(Bandwidth, Required, BandwidthText),
+                key!(Latency, Optional, LatencyText),
+                key!(SharingPolicy, Optional, PolicyWord),
+            ],
+            Table::Route => &[
+                key!(Src, Required, PointName),
+                key!(Dst, Required, RouteEnd),
+                key!(Links, Required, LinkList),
+                key!(Symmetrical, Optional, TruthValue),
+            ],
+            Table::ZoneRoute => &[
+                key!(Src, Required, EndName),
+                key!(Dst, Required, ZoneRouteEnd),
+                key!(GwSrc, IfZone(Src), PointName),
+                key!(GwDst, IfZone(Dst), PointName),
+                key!(Links, Required, LinkList),
+                key!(Symmetrical, Optional, TruthValue),
+            ],
+            Table::Spoke => &[
+                key!(Zone, Required, ZoneName),
+                key!(Child, Required, SpokeChild),
+                key!(Gateway, IfZone(Child), PointName),
+                key!(Up, Required, LinkList),
+                key!(Down, Optional, LinkList),
+            ],
             Table::Actor => &[
                 key!(Name, Required, NewActor),
                 key!(Host, Required, HostName),
                 key!(Function, Required, FunctionWord),
                 key!(Argument, Optional, ArgumentList),
+            ],
+            Table::Mutex => &[key!(Id, Required, NewMutex)],
+            Table::Semaphore => &[
+                key!(Id, Required, NewSemaphore),
+                key!(Capacity, Required, CapacityCount),
             ],
         }
     }

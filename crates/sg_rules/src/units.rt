@@ -1,8 +1,11 @@
 //! Values with units, where their reader takes the text.
 ghost use Rattle.std.specs.Prelude.{◌≡◌};
-ghost use Rattle.sg_rules.specs.Units.{speed_value};
+ghost use Rattle.sg_rules.specs.Units.{bandwidth_value, latency_value, speed_value};
 
-use sg_units::read_speed;
+use sg_units::{read_bandwidth, read_speed, read_time};
+
+/// The greatest latency, in nanoseconds.
+const GREATEST_LATENCY: u64 = 1_000_000_000_000_000;
 
 /// The speed that a text gives, in flops per second.
 #[tactic(auto, unfolding(crate::specs::Units::speed_value))]
@@ -12,5 +15,27 @@ pub fn speed_value(text: &[u8]) -> Option<u64>
     match read_speed(text) {
         Ok(speed) => Some(speed),
         Err(_) => None,
+    }
+}
+
+/// The bandwidth that a text gives, in bytes per second.
+#[tactic(auto, unfolding(crate::specs::Units::bandwidth_value))]
+pub fn bandwidth_value(text: &[u8]) -> Option<u64>
+    ensures { result ≡ bandwidth_value text.now }
+{
+    match read_bandwidth(text) {
+        Ok(bandwidth) => Some(bandwidth),
+        Err(_) => None,
+    }
+}
+
+/// The latency that a text gives, in nanoseconds, if it is not above the greatest.
+#[tactic(auto, unfolding(crate::specs::Units::latency_value))]
+pub fn latency_value(text: &[u8]) -> Option<u64>
+    ensures { result ≡ latency_value text.now }
+{
+    match read_time(text) {
+        Ok(latency) if latency <= GREATEST_LATENCY => Some(latency),
+        _ => None,
     }
 }

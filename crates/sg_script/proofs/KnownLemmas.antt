@@ -2,7 +2,7 @@
 use Rattle.std.proofs.Common.{◌≡◌, ◌<◌, ◌≤◌, ◌+◌, refl, ℕ, List, Option, None, Some, arith}
 use Rattle.std.specs.Prelude.{IfSome, option_map}
 use Rattle.sg_base.specs.declared.ids.ActorId.{ActorId}
-use Rattle.sg_platform.proofs.Hosts.{replay_below}
+use Rattle.sg_platform.proofs.Numbers.{replay_below}
 use Rattle.sg_platform.specs.Deployment.{Deployed, replay_actor_named}
 use Rattle.sg_platform.specs.Index.{replay_number}
 use Rattle.sg_script.specs.Known.{actors_in}

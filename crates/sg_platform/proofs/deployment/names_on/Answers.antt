@@ -1,7 +1,7 @@
-use Rattle.std.proofs.Common.{List, ℕ, ◌≡◌, length, subst, sym}
+use Rattle.std.proofs.Common.{subst, sym}
 use Rattle.std.specs.HashMap.{get_by_text}
 use Rattle.sg_platform.proofs.Deployed.{deployment_small}
-use Rattle.sg_platform.proofs.Hosts.{hosts_small}
+use Rattle.sg_platform.proofs.Numbers.{hosts_small}
 use Rattle.sg_rules.specs.Names.{AreSmall, FitsIn32}
 use Rattle.sg_tree.specs.Names.{Finds}
 use Rattle.toml.specs.View.{table_view}

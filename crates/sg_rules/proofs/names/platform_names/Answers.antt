@@ -1,14 +1,45 @@
-use Rattle.std.proofs.Common.{◌≡◌, None, sym}
+use Rattle.std.proofs.Common.{◌≡◌, ◌∙◌, List, ℕ, None, length, map, sym, ap, codes}
 use Rattle.std.proofs.lemmas.List.{length-map}
 use Rattle.std.specs.HashMap.{get_by_text}
+use Rattle.std.specs.Map.{lookup}
+use Rattle.std.specs.Str.{bytes_eq}
 use Rattle.sg_rules.proofs.NameLemmas.{known_same}
-use Rattle.sg_rules.specs.Names.{platform_known}
-use Rattle.toml.specs.View.{view}
+use Rattle.sg_rules.specs.LinkNames.{declared_numbers, taken_numbers}
+use Rattle.sg_rules.specs.Names.{platform_known, point_numbers, points_in}
+use Rattle.sg_rules.specs.Pairs.{pair_numbers}
+use Rattle.sg_tree.specs.Names.{Finds, Pair, names_from, pair_eq}
+use Rattle.sg_tree.specs.Tree.{rows_at}
+use Rattle.toml.specs.View.{table_view, view}
 use Rattle.sg_rules.proofs.names.platform_names.Goals as goal
 
 pub returns-clause-known : goal.returns-clause-known
 unfolding platform_known
 returns-clause-known c =
-    rw (← c.rows_at-zones.ensures, ← c.rows_at-hosts.ensures)
-    (known_same _ _ (sym (length-map c.rows_at-zones.result.now view)) (sym (length-map c.rows_at-hosts.result.now view)) c.in_ok-points.ensures
-    (λ q. let empty : get_by_text c.new.result q ≡ None = rw c.new.ensures.empty in empty))
+    let tree = table_view c.args.tree.now in
+    let zones = c.rows_at-zones.result.now in
+    let hosts = c.rows_at-hosts.result.now in
+    let routers = c.rows_at.result.now in
+    let routes = c.rows_at-2.result.now in
+    let zone_routes = c.rows_at-3.result.now in
+    let found : Finds = λ q. get_by_text c.in_ok-points.points q in
+    let moved : (q : List ℕ) → lookup (bytes_eq q) (point_numbers (map view zones) (map view hosts) (map view routers)) ≡ points_in tree q
+    = λ q i. lookup (bytes_eq q) (point_numbers (c.rows_at-zones.ensures i) (c.rows_at-hosts.ensures i) (c.rows_at.ensures i)) in
+    let points : (q : List ℕ) → found q ≡ points_in tree q = λ q. c.in_ok-points.ensures q ∙ moved q in
+    let same : found ≡ points_in tree = λ i q. points q i in
+    let pairs : (q : Pair) → lookup (pair_eq q) (pair_numbers found (map view routes)) ≡ lookup (pair_eq q) (pair_numbers (points_in tree) (rows_at (codes "route") tree))
+    = λ q i. lookup (pair_eq q) (pair_numbers (same i) (c.rows_at-2.ensures i)) in
+    let zone_pairs : (q : Pair) → lookup (pair_eq q) (pair_numbers found (map view zone_routes)) ≡ lookup (pair_eq q) (pair_numbers (points_in tree) (rows_at (codes "zone_route") tree))
+    = λ q i. lookup (pair_eq q) (pair_numbers (same i) (c.rows_at-3.ensures i)) in
+    known_same _ _ (record {
+      zones = sym (length-map zones view) ∙ ap length c.rows_at-zones.ensures;
+      hosts = sym (length-map hosts view) ∙ ap length c.rows_at-hosts.ensures;
+      points = points;
+      taken = λ q. c.in_ok-taken.ensures q ∙ ap (λ rows. lookup (bytes_eq q) (taken_numbers rows)) c.rows_at-declared.ensures;
+      links = λ q. c.in_ok-links.ensures q ∙ ap (λ rows. lookup (bytes_eq q) (declared_numbers rows)) c.rows_at-declared.ensures;
+      pairs = λ q. c.in_ok-pairs.ensures q ∙ pairs q;
+      zone_pairs = λ q. c.in_ok-zone_pairs.ensures q ∙ zone_pairs q;
+      children = λ q. c.in_ok-children.ensures q ∙ ap (λ rows. lookup (bytes_eq q) (names_from (codes "child") 0 rows)) c.rows_at-4.ensures;
+      actors = λ q. let empty : get_by_text c.new.result q ≡ None = rw c.new.ensures.empty in empty;
+      mutexes = λ q. let empty : get_by_text c.new-2.result q ≡ None = rw c.new-2.ensures.empty in empty;
+      semaphores = λ q. let empty : get_by_text c.new-3.result q ≡ None = rw c.new-3.ensures.empty in empty;
+    })

@@ -1,0 +1,103 @@
+-- A list of link names that breaks no rule gives 1 to 64 links.
+use Rattle.std.proofs.Common.{◌≡◌, ℕ, ◌<◌, ◌≤◌, ◌==◌, ◌&&◌, ◌||◌, Bool, true, false, nat_lt, is_some, is_none, List, [], ◌∷◌, map, length, Option, Some, None, IfSome, option_and_then, unwrap_or, refl, sym, inl, inr, arith}
+use Rattle.std.proofs.lemmas.Bool.{cases_Bool, false≢true}
+use Rattle.std.proofs.lemmas.Bool.Decides.{nat_tests}
+use Rattle.std.proofs.lemmas.List.{length-map}
+use Rattle.std.proofs.lemmas.List.Elements.{All-cons, All-nil}
+use Rattle.std.specs.List.{All, list_all, list_any}
+use Rattle.sg_base.specs.declared.ids.LinkId.{LinkId}
+use Rattle.sg_platform.specs.Build.{link_id, link_of, links_at}
+use Rattle.sg_platform.specs.Platform.{Counts, IsLinkList}
+use Rattle.sg_rules.proofs.Kept.{unbroken}
+use Rattle.sg_rules.specs.Names.{Known}
+use Rattle.sg_rules.specs.Rules.{is_text, is_unknown, key_kinds, kinds_at, link_list_kinds, list_kinds, value_kinds}
+use Rattle.sg_rules.specs.Tables.{key, word_text}
+use Rattle.sg_rules.specs.declared.tables.Need.TheVariants.{Required}
+use Rattle.sg_rules.specs.declared.tables.Rule.TheVariants.{LinkList}
+use Rattle.sg_rules.specs.declared.tables.Word.{Word}
+use Rattle.sg_tree.proofs.Kept.{empty_left, empty_right}
+use Rattle.sg_tree.specs.Faults.{of_type}
+use Rattle.sg_tree.specs.Tree.{items_or_none, list_of}
+use Rattle.toml.specs.Data.{Data, Items, get, as_array, as_str}
+
+abbrev LinksBelow : Known → Counts → Type 0
+LinksBelow names counts = (q : List ℕ) → IfSome (names.links q) (λ n. n < counts.links)
+
+and_left : (a b : Bool) → (a && b) ≡ true → a ≡ true
+and_left true b h = refl
+and_left false b h = h
+
+and_right : (a b : Bool) → (a && b) ≡ true → b ≡ true
+and_right true b h = h
+and_right false b h = absurd (false≢true h)
+
+or_left : (a b : Bool) → (a || b) ≡ false → a ≡ false
+or_left true b h = h
+or_left false b h = refl
+
+or_right : (a b : Bool) → (a || b) ≡ false → b ≡ false
+or_right true b h = absurd (false≢true (sym h))
+or_right false b h = h
+
+number_below : (found : Option ℕ) (n : ℕ) → is_none found ≡ false → IfSome found (λ i. i < n) → unwrap_or found 0 < n
+number_below None n there below = absurd (false≢true (sym there))
+number_below (Some i) n there below = below
+
+name_below : (names : Known) (counts : Counts) → LinksBelow names counts → (found : Option (List ℕ)) → is_some found ≡ true → is_unknown names.links found ≡ false
+    → (link_id names (unwrap_or found [])).0 < counts.links
+name_below names counts below None text known = absurd (false≢true text)
+name_below names counts below (Some name) text known = number_below (names.links name) counts.links known (below name)
+
+all_below : (names : Known) (counts : Counts) → LinksBelow names counts → (items : List Data) → list_all is_text items ≡ true → list_any (λ d. is_unknown names.links (as_str d)) items ≡ false
+    → All (λ link. link.0 < counts.links) (map (link_of names) items)
+all_below names counts below [] texts known = All-nil (λ (link : LinkId). link.0 < counts.links)
+all_below names counts below (d ∷ items) texts known =
+    All-cons (λ (link : LinkId). link.0 < counts.links) (link_of names d) (map (link_of names) items)
+    (name_below names counts below (as_str d) (and_left _ _ texts) (or_left _ _ known))
+    (all_below names counts below items (and_right _ _ texts) (or_right _ _ known))
+
+some_items : (n : ℕ) → (n == 0) ≡ false → 1 ≤ n
+some_items n other = grind (arith, nat_tests)
+
+few_items : (n : ℕ) → nat_lt 64 n ≡ false → n ≤ 64
+few_items n within = grind (arith, nat_tests)
+
+texts_link_list : (names : Known) (counts : Counts) → LinksBelow names counts → (items : List Data) → list_all is_text items ≡ true → link_list_kinds names.links items ≡ [] → IsLinkList counts (map (link_of names) items)
+unfolding link_list_kinds
+texts_link_list names counts below items texts empty =
+    let front = empty_left _ _ empty in
+    let n = length-map items (link_of names) in
+    record {
+      some = omega (arith, n, some_items (length items) (unbroken _ _ (empty_left _ _ front)));
+      few = omega (arith, n, few_items (length items) (unbroken _ _ (empty_right _ _ empty)));
+      each = all_below names counts below items texts (unbroken _ _ (empty_right _ _ front));
+    }
+
+pub items_link_list : (names : Known) (counts : Counts) → LinksBelow names counts → (row : Data) (items : List Data) → list_kinds names row LinkList items ≡ [] → IsLinkList counts (map (link_of names) items)
+unfolding list_kinds
+items_link_list names counts below row items empty =
+    elim (cases_Bool (list_all is_text items)) [
+      | inl texts ↦ texts_link_list names counts below items texts (let kept : link_list_kinds names.links items ≡ [] = rw texts at empty in kept)
+      | inr other ↦ let wrong = rw other at empty in cc
+    ]
+
+typed_link_list : (names : Known) (counts : Counts) → LinksBelow names counts → (row : Data) (found : Option Items) → of_type (λ items. list_kinds names row LinkList (list_of items)) found ≡ []
+    → IsLinkList counts (map (link_of names) (items_or_none found))
+typed_link_list names counts below row None empty = cc
+typed_link_list names counts below row (Some items) empty = items_link_list names counts below row (list_of items) empty
+
+pub value_link_list : (names : Known) (counts : Counts) → LinksBelow names counts → (number : ℕ) (row : Data) (d : Data) → value_kinds names number row LinkList d ≡ []
+    → IsLinkList counts (map (link_of names) (items_or_none (as_array d)))
+unfolding value_kinds
+value_link_list names counts below number row d empty = typed_link_list names counts below row (as_array d) empty
+
+required_at : (names : Known) (counts : Counts) → LinksBelow names counts → (number : ℕ) (row : Data) (word : Word) (d : Option Data) → kinds_at names number row (key word Required LinkList) d ≡ []
+    → IsLinkList counts (map (link_of names) (items_or_none (option_and_then as_array d)))
+required_at names counts below number row word None empty = cc
+required_at names counts below number row word (Some d) empty = value_link_list names counts below number row d empty
+
+-- a required list
+pub required_links : (names : Known) (counts : Counts) → LinksBelow names counts → (number : ℕ) (row : Data) (word : Word) → key_kinds names number row (key word Required LinkList) ≡ []
+    → IsLinkList counts (links_at names (word_text word) row)
+unfolding key_kinds
+required_links names counts below number row word empty = required_at names counts below number row word (get (word_text word) row) empty

@@ -1,0 +1,231 @@
+-- The faults of a tree rise.
+use Rattle.std.proofs.Common.{◌≡◌, ℕ, ◌+◌, ◌<◌, ◌≤◌, Bool, true, false, cond, ℤ, List, [], ◌∷◌, ◌++◌, Option, Some, None, refl, sym, ◌∙◌, inl, inr, arith}
+use Rattle.std.specs.List.{AllByRecursion, list_all}
+use Rattle.sg_rules.specs.Faults.{faults_of, key_faults, row_faults, row_faults_at, row_kinds, rows_before, table_faults, table_kinds, top_kinds}
+use Rattle.sg_rules.specs.Names.{Known}
+use Rattle.sg_rules.specs.Rising.{FaultsRise, IsBefore, IsRising}
+use Rattle.sg_rules.specs.Rules.{argument_kinds, child_kinds, end_kinds, host_kinds, id_kinds, is_text, key_kinds, kinds_at, latency_kinds, link_id_kinds, link_list_kinds, list_kinds, point_kinds, rate_kinds, route_end_kinds, shape_kinds, text_kinds, texts_kinds, value_kinds, whole_kinds, word_kinds, zone_kinds, zone_route_end_kinds}
+use Rattle.sg_rules.specs.Tables.{deployment_tables, keys_of, platform_tables, shape_of, table_number, table_text}
+use Rattle.sg_rules.specs.declared.tables.Key.{Key}
+use Rattle.sg_rules.specs.declared.tables.Rule.{Rule}
+use Rattle.sg_rules.specs.declared.tables.Rule.TheVariants as rule
+use Rattle.sg_rules.specs.declared.tables.Shape.{Shape}
+use Rattle.sg_rules.specs.declared.tables.Shape.TheVariants as shape
+use Rattle.sg_rules.specs.declared.tables.Table.{Table}
+use Rattle.sg_tree.specs.Along.{along}
+use Rattle.sg_tree.specs.Faults.{at_place, broken, kind_number, of_type}
+use Rattle.sg_tree.specs.Tree.{rows_at}
+use Rattle.sg_tree.specs.declared.fault.Fault.{Fault}
+use Rattle.sg_tree.specs.declared.fault.Kind.{Kind}
+use Rattle.sg_tree.specs.declared.fault.Kind.TheVariants.{MissingKey, WrongType, BadValue, BadName, Duplicate, Unknown, Limit, Function, Arguments}
+use Rattle.toml.specs.Data.{Data, Members, get_member, as_str, as_table, as_array, as_bool, as_integer}
+
+abbrev Each : {A : Type 0} → (A → Type 0) → List A → Type 0
+Each P xs = AllByRecursion P xs
+
+each_append : {A : Type 0} (P : A → Type 0) (xs ys : List A) → Each P xs → Each P ys → Each P (xs ++ ys)
+each_append P [] ys p q = q
+each_append P (x ∷ xs) ys p q = (p.0, each_append P xs ys p.1 q)
+
+each_mono : {A : Type 0} (P Q : A → Type 0) → ((x : A) → P x → Q x) → (xs : List A) → Each P xs → Each Q xs
+each_mono P Q h [] p = tt
+each_mono P Q h (x ∷ xs) p = (h x p.0, each_mono P Q h xs p.1)
+
+each_cross : {A : Type 0} (R : A → A → Type 0) (P Q : A → Type 0) → ((a b : A) → P a → Q b → R a b) → (xs ys : List A) → Each P xs → Each Q ys → Each (λ x. Each (R x) ys) xs
+each_cross R P Q h [] ys p q = tt
+each_cross R P Q h (x ∷ xs) ys p q = (each_mono Q (R x) (λ y k. h x y p.0 k) ys q, each_cross R P Q h xs ys p.1 q)
+
+rising_append : (xs ys : List Fault) → IsRising xs → IsRising ys → Each (λ x. Each (IsBefore x) ys) xs → IsRising (xs ++ ys)
+rising_append [] ys p q cross = q
+rising_append (x ∷ xs) ys p q cross = (each_append (IsBefore x) xs ys p.0 cross.0, rising_append xs ys p.1 q cross.1)
+
+-- the kinds at one place rise
+abbrev KindsRise : List Kind → Type 0
+KindsRise [] = Unit {0}
+KindsRise (k ∷ ks) = Each (λ j. kind_number k < kind_number j) ks × KindsRise ks
+
+one : (b : Bool) (k : Kind) → KindsRise (broken b k)
+one true k = (tt, tt)
+one false k = tt
+
+two : (b c : Bool) (k j : Kind) → kind_number k < kind_number j → KindsRise (broken b k ++ broken c j)
+two true true k j h = ((h, tt), (tt, tt))
+two true false k j h = (tt, tt)
+two false c k j h = one c j
+
+three : (b c d : Bool) (k j m : Kind) → kind_number k < kind_number j → kind_number j < kind_number m → KindsRise (broken b k ++ broken c j ++ broken d m)
+three true true true k j m h i = ((h, (omega arith, tt)), ((i, tt), (tt, tt)))
+three true true false k j m h i = ((h, tt), (tt, tt))
+three true false true k j m h i = ((omega arith, tt), (tt, tt))
+three true false false k j m h i = (tt, tt)
+three false c d k j m h i = two c d j m i
+
+typed : {A : Type 0} (kinds : A → List Kind) (o : Option A) → ((x : A) → KindsRise (kinds x)) → KindsRise (of_type kinds o)
+typed kinds None h = (tt, tt)
+typed kinds (Some x) h = h x
+
+text_rise : (names : Known) (number : ℕ) (row : Data) (r : Rule) (text : List ℕ) → KindsRise (text_kinds names number row r text)
+unfolding child_kinds end_kinds host_kinds id_kinds latency_kinds link_id_kinds point_kinds rate_kinds route_end_kinds word_kinds zone_kinds zone_route_end_kinds
+text_rise names number row rule.NewPoint text = two _ _ BadName Duplicate (omega arith)
+text_rise names number row rule.NewLink text = two _ _ BadName Duplicate (omega arith)
+text_rise names number row rule.NewActor text = two _ _ BadName Duplicate (omega arith)
+text_rise names number row rule.NewMutex text = two _ _ BadName Duplicate (omega arith)
+text_rise names number row rule.NewSemaphore text = two _ _ BadName Duplicate (omega arith)
+text_rise names number row rule.ZoneName text = one _ Unknown
+text_rise names number row rule.PointName text = one _ Unknown
+text_rise names number row rule.EndName text = one _ Unknown
+text_rise names number row rule.HostName text = one _ Unknown
+text_rise names number row rule.RouteEnd text = two _ _ Duplicate Unknown (omega arith)
+text_rise names number row rule.ZoneRouteEnd text = two _ _ Duplicate Unknown (omega arith)
+text_rise names number row rule.SpokeChild text = two _ _ Duplicate Unknown (omega arith)
+text_rise names number row rule.RoutingWord text = one _ BadValue
+text_rise names number row rule.PolicyWord text = one _ BadValue
+text_rise names number row rule.FunctionWord text = one _ Function
+text_rise names number row rule.SpeedText text = one _ BadValue
+text_rise names number row rule.BandwidthText text = one _ BadValue
+text_rise names number row rule.LatencyText text = one _ BadValue
+text_rise names number row rule.CoreCount text = tt
+text_rise names number row rule.CapacityCount text = tt
+text_rise names number row rule.TruthValue text = tt
+text_rise names number row rule.LinkList text = tt
+text_rise names number row rule.ArgumentList text = tt
+
+whole_rise : (r : Rule) (z : ℤ) → KindsRise (whole_kinds r z)
+whole_rise rule.CoreCount z = one _ BadValue
+whole_rise rule.CapacityCount z = one _ BadValue
+whole_rise _ z = tt
+
+texts_rise : (names : Known) (row : Data) (r : Rule) (items : List Data) → KindsRise (texts_kinds names row r items)
+unfolding argument_kinds link_list_kinds
+texts_rise names row rule.LinkList items = three _ _ _ BadValue Unknown Limit (omega arith) (omega arith)
+texts_rise names row rule.ArgumentList items = one _ Arguments
+texts_rise names row _ items = tt
+
+list_rise : (names : Known) (row : Data) (r : Rule) (items : List Data) → KindsRise (list_kinds names row r items)
+unfolding list_kinds
+list_rise names row r items = chosen (list_all is_text items) _ (texts_rise names row r items)
+  where
+    chosen : (b : Bool) (kinds : List Kind) → KindsRise kinds → KindsRise (cond b kinds (WrongType ∷ []))
+    chosen true kinds h = h
+    chosen false kinds h = (tt, tt)
+
+shape_rise : (s : Shape) (names : Known) (number : ℕ) (row : Data) (r : Rule) (d : Data) → KindsRise (shape_kinds s names number row r d)
+shape_rise shape.Text names number row r d = typed _ (as_str d) (text_rise names number row r)
+shape_rise shape.Whole names number row r d = typed _ (as_integer d) (whole_rise r)
+shape_rise shape.Truth names number row r d = typed _ (as_bool d) (λ b. tt)
+shape_rise shape.Texts names number row r d = typed _ (as_array d) (λ items. list_rise names row r _)
+
+key_rise : (names : Known) (number : ℕ) (row : Data) (k : Key) (o : Option Data) → KindsRise (kinds_at names number row k o)
+unfolding value_kinds
+key_rise names number row k None = one _ MissingKey
+key_rise names number row k (Some d) = shape_rise (shape_of k.rule) names number row k.rule d
+
+-- the faults at one place
+abbrev IsAt : ℕ → ℕ → ℕ → Fault → Type 0
+IsAt t r k f = (f.place.table ≡ t) × (f.place.row ≡ r) × (f.place.key ≡ k)
+
+all_at : (t r k : ℕ) (kinds : List Kind) → Each (IsAt t r k) (at_place t r k kinds)
+all_at t r k [] = tt
+all_at t r k (kind ∷ kinds) = ((refl, refl, refl), all_at t r k kinds)
+
+place_rise : (t r k : ℕ) (kinds : List Kind) → KindsRise kinds → IsRising (at_place t r k kinds)
+place_rise t r k [] h = tt
+place_rise t r k (kind ∷ kinds) h = (behind kinds h.0, place_rise t r k kinds h.1)
+  where
+    behind : (js : List Kind) → Each (λ j. kind_number kind < kind_number j) js → Each (IsBefore (record { place = record { table = t; row = r; key = k }; kind = kind })) (at_place t r k js)
+    behind [] h = tt
+    behind (j ∷ js) h = (inr (refl, inr (refl, inr (refl, inl h.0))), behind js h.1)
+
+-- what is made along a list rises, where each part does and stays at its level
+rising_along : {A : Type 0} (level : Fault → ℕ) (Same : Fault → Type 0) (f : ℕ → A → List Fault)
+    → ((i : ℕ) (x : A) → IsRising (f i x)) → ((i : ℕ) (x : A) → Each (λ g. (level g ≡ i + 1) × Same g) (f i x))
+    → ((a b : Fault) → Same a → Same b → level a < level b → IsBefore a b)
+    → (i : ℕ) (xs : List A) → IsRising (along f i xs) × Each (λ g. (i + 1 ≤ level g) × Same g) (along f i xs)
+rising_along level Same f rise here cross i [] = (tt, tt)
+rising_along level Same f rise here cross i (x ∷ xs) =
+    let rest = rising_along level Same f rise here cross (i + 1) xs in
+    let before = each_cross IsBefore (λ g. (level g ≡ i + 1) × Same g) (λ g. (i + 1 + 1 ≤ level g) × Same g) (λ a b p q. cross a b p.1 q.1 (omega (arith, p.0, q.0))) (f i x) (along f (i + 1) xs) (here i x) rest.1 in (
+      rising_append (f i x) (along f (i + 1) xs) (rise i x) rest.0 before,
+      each_append (λ g. (i + 1 ≤ level g) × Same g) (f i x) (along f (i + 1) xs)
+          (each_mono (λ g. (level g ≡ i + 1) × Same g) (λ g. (i + 1 ≤ level g) × Same g) (λ g p. (omega (arith, p.0), p.1)) (f i x) (here i x))
+          (each_mono (λ g. (i + 1 + 1 ≤ level g) × Same g) (λ g. (i + 1 ≤ level g) × Same g) (λ g p. (omega (arith, p.0), p.1)) (along f (i + 1) xs) rest.1),
+    )
+
+-- faults of one row
+abbrev IsInRow : ℕ → ℕ → Fault → Type 0
+IsInRow t r f = (f.place.table ≡ t) × (f.place.row ≡ r)
+
+row_rise : (names : Known) (keys : List Key) (number t r : ℕ) (row : Data) → IsRising (row_faults names keys number t r row) × Each (IsInRow t r) (row_faults names keys number t r row)
+unfolding row_faults key_kinds
+row_rise names keys number t r row =
+    let f = key_faults names number t r row in
+    let head = at_place t r 0 (row_kinds keys row) in
+    let rest = rising_along (λ g. g.place.key) (IsInRow t r) f
+    (λ i k. place_rise t r (i + 1) _ (key_rise names number row k _))
+    (λ i k. each_mono (IsAt t r (i + 1)) (λ g. (g.place.key ≡ i + 1) × IsInRow t r g) (λ g p. (p.2, (p.0, p.1))) _ (all_at t r (i + 1) _))
+    (λ a b p q h. inr (p.0 ∙ sym q.0, inr (p.1 ∙ sym q.1, inl h))) 0 keys in
+    let before = each_cross IsBefore (IsAt t r 0) (λ g. (0 + 1 ≤ g.place.key) × IsInRow t r g) (λ a b p q. inr (p.0 ∙ sym q.1.0, inr (p.1 ∙ sym q.1.1, inl (omega (arith, p.2, q.0))))) head (along f 0 keys) (all_at t r 0 _) rest.1 in (
+      rising_append head (along f 0 keys) (place_rise t r 0 _ (typed _ (as_table row) (λ ms. one _ Unknown))) rest.0 before,
+      each_append (IsInRow t r) head (along f 0 keys)
+          (each_mono (IsAt t r 0) (IsInRow t r) (λ g p. (p.0, p.1)) head (all_at t r 0 _))
+          (each_mono (λ g. (0 + 1 ≤ g.place.key) × IsInRow t r g) (IsInRow t r) (λ g p. p.1) (along f 0 keys) rest.1),
+    )
+
+abbrev IsInTable : ℕ → Fault → Type 0
+IsInTable t f = f.place.table ≡ t
+
+head_rise : (table : Table) (o : Option Data) → KindsRise (table_kinds table o)
+head_rise table None = tt
+head_rise table (Some d) = typed _ (as_array d) (λ items. one _ Limit)
+
+table_rise : (names : Known) (tree : Members) (table : Table) → IsRising (table_faults names tree table) × Each (IsInTable (table_number table)) (table_faults names tree table)
+unfolding table_faults
+table_rise names tree table =
+    let t = table_number table in
+    let f = row_faults_at names (keys_of table) (rows_before names table) t in
+    let rows = rows_at (table_text table) tree in
+    let head = at_place t 0 0 (table_kinds table (get_member (table_text table) tree)) in
+    let rest = rising_along (λ g. g.place.row) (IsInTable t) f
+    (λ i row. (row_rise names (keys_of table) (rows_before names table + i) t (i + 1) row).0)
+    (λ i row. each_mono (IsInRow t (i + 1)) (λ g. (g.place.row ≡ i + 1) × IsInTable t g) (λ g p. (p.1, p.0)) _ (row_rise names (keys_of table) (rows_before names table + i) t (i + 1) row).1)
+    (λ a b p q h. inr (p ∙ sym q, inl h)) 0 rows in
+    let before = each_cross IsBefore (IsAt t 0 0) (λ g. (0 + 1 ≤ g.place.row) × IsInTable t g) (λ a b p q. inr (p.0 ∙ sym q.1, inl (omega (arith, p.1, q.0)))) head (along f 0 rows) (all_at t 0 0 _) rest.1 in (
+      rising_append head (along f 0 rows) (place_rise t 0 0 _ (head_rise table _)) rest.0 before,
+      each_append (IsInTable t) head (along f 0 rows)
+          (each_mono (IsAt t 0 0) (IsInTable t) (λ g p. p.0) head (all_at t 0 0 _))
+          (each_mono (λ g. (0 + 1 ≤ g.place.row) × IsInTable t g) (IsInTable t) (λ g p. p.1) (along f 0 rows) rest.1),
+    )
+
+-- the tables from one on, where their numbers rise
+abbrev NumbersRise : ℕ → List Table → Type 0
+NumbersRise n [] = Unit {0}
+NumbersRise n (t ∷ ts) = (n < table_number t) × NumbersRise (table_number t) ts
+
+tables_rise : (names : Known) (tree : Members) (n i : ℕ) (ts : List Table) → NumbersRise n ts
+    → IsRising (along (λ j t. table_faults names tree t) i ts) × Each (λ g. n < g.place.table) (along (λ j t. table_faults names tree t) i ts)
+tables_rise names tree n i [] h = (tt, tt)
+tables_rise names tree n i (t ∷ ts) h =
+    let m = table_number t in
+    let here = table_rise names tree t in
+    let rest = tables_rise names tree m (i + 1) ts h.1 in
+    let more = along (λ j u. table_faults names tree u) (i + 1) ts in (
+      rising_append (table_faults names tree t) more here.0 rest.0
+          (each_cross IsBefore (IsInTable m) (λ g. m < g.place.table) (λ a b p q. inl (omega (arith, p, q))) (table_faults names tree t) more here.1 rest.1),
+      each_append (λ g. n < g.place.table) (table_faults names tree t) more
+          (each_mono (IsInTable m) (λ g. n < g.place.table) (λ g p. omega (arith, p, h.0)) (table_faults names tree t) here.1)
+          (each_mono (λ g. m < g.place.table) (λ g. n < g.place.table) (λ g p. omega (arith, p, h.0)) more rest.1),
+    )
+
+-- a text as a whole, and then its tables
+text_faults_rise : (names : Known) (tree : Members) (tables : List Table) → NumbersRise 0 tables → IsRising (faults_of names tables tree)
+unfolding faults_of
+text_faults_rise names tree tables h =
+    let rest = tables_rise names tree 0 0 tables h in
+    rising_append (at_place 0 0 0 (top_kinds tables tree)) _ (place_rise 0 0 0 _ (one _ Unknown)) rest.0
+    (each_cross IsBefore (IsAt 0 0 0) (λ g. 0 < g.place.table) (λ a b p q. inl (omega (arith, p.0, q))) _ _ (all_at 0 0 0 _) rest.1)
+
+pub faults_rise : FaultsRise
+faults_rise = record {
+  platform = λ names tree. text_faults_rise names tree platform_tables (omega arith, (omega arith, (omega arith, (omega arith, (omega arith, (omega arith, (omega arith, tt)))))));
+  deployment = λ names tree. text_faults_rise names tree deployment_tables (omega arith, (omega arith, (omega arith, tt)));
+}

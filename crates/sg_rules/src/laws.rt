@@ -1,0 +1,9 @@
+//! Laws of the rules.
+ghost use Rattle.sg_rules.specs.Rising.{FaultsRise};
+
+/// The lists of faults rise, by table, row, key and kind: so the first fault is that of least place, and there of least
+/// kind.
+#[tactic(auto, using(crate::proofs::Rising::faults_rise))]
+pub fn faults_rise()
+    ensures { FaultsRise }
+{}
