@@ -1,15 +1,22 @@
 -- How the steps of the whole call come together.
-use Rattle.std.proofs.Common.{◌≡◌, ◌≢◌, ◌<◌, ◌≤◌, ◌∙◌, ◌⊎◌, inl, inr, sym, ap, refl, ℕ, List, [], ◌∷◌, ◌++◌, length, get_or, Bool, true, false, Option, None, Some, Result, Ok, arith, rules}
+use Rattle.std.proofs.Common.{◌≡◌, ◌≢◌, ◌<◌, ◌≤◌, ◌∙◌, ◌⊎◌, inl, inr, sym, ap, subst, refl, ℕ, List, [], ◌∷◌, ◌++◌, length, get_or, Bool, true, false, Option, None, Some, Result, Ok, arith, rules}
 use Rattle.std.proofs.Common as C
+use Rattle.std.specs.Prelude.{OnOk, OnErr}
 use Rattle.sg_base.specs.declared.status.Status.{Status}
 use Rattle.sg_base.specs.declared.status.Status.TheVariants as S
 use Rattle.sg_edge.specs.declared.sinks.Stream.{Stream}
 use Rattle.sg_edge.specs.declared.sinks.Stream.TheVariants.{Out, Err}
 use Rattle.sg_edge.specs.Sinks.{gain}
-use Rattle.sg_engine.specs.Gains.{GainsFronts}
+use Rattle.sg_edge.specs.declared.files.Failed.{Failed}
+use Rattle.sg_edge.specs.Files.{PartView, Begins, Breaks}
+use Rattle.sg_edge.specs.Given.{Source, Gives}
+use Rattle.sg_engine.specs.declared.ended.Ended.{Ended}
+use Rattle.sg_engine.specs.declared.ended.Ended.TheVariants as E
+use Rattle.sg_engine.specs.Gains.{GainsFronts, Ends}
+use Rattle.sg_engine.specs.Output.{Output}
 use Rattle.simgrid_replay.specs.declared.refusal.Refusal.{Refusal}
 use Rattle.simgrid_replay.specs.declared.refusal.Refusal.TheVariants as R
-use Rattle.simgrid_replay.specs.Outcome.{Outcome, Prints, refused, refusal_outcome}
+use Rattle.simgrid_replay.specs.Outcome.{Outcome, Prints, of_run, status_of, refused, refusal_outcome}
 
 -- fronts of nothing are fronts of anything
 fronts_nothing : (out err : List ℕ) (old new : Stream → Option (List ℕ)) → GainsFronts [] [] old new → GainsFronts out err old new
@@ -49,3 +56,25 @@ refusal_prints after given (R.Platform fault) how old new is known p = rw (sym (
 refusal_prints after given (R.Deployment fault) how old new is known p = rw (sym (known (λ e. cc)), is (R.Deployment fault)) p
 refusal_prints after given R.ReadPlatform how old new is known p = rw (sym (known (λ e. cc)), is R.ReadPlatform) p
 refusal_prints after given R.ReadDeployment how old new is known p = rw (sym (known (λ e. cc)), is R.ReadDeployment) p
+
+-- a part gives the same from its begin on, since the begin takes nothing
+pub begun_gives : (old mid new : PartView) (source : Source) → mid.left ≡ old.left → Gives old new source → Gives mid new source
+begun_gives old mid new source same gives = record { all = gives.all; rest = gives.rest; told_old = same ∙ gives.told_old; told_new = gives.told_new; bytes = gives.bytes; broken = gives.broken }
+
+pub begin_takes_nothing : (result : Result (Unit {0}) Failed) (old mid : PartView) → OnOk result (Begins old mid) → OnErr result (Breaks old mid) → mid.left ≡ old.left
+begin_takes_nothing (Ok done) old mid begun failed = begun.left
+begin_takes_nothing (C.Err why) old mid begun failed = failed.left
+
+ended_prints : (run : Output) (how : Ended) (old new : Stream → Option (List ℕ)) → Ends run.out run.err run.ended how old new → Prints (of_run run) (status_of how) old new
+ended_prints run E.Completed old new ends = (ap status_of ends.0, ends.1)
+ended_prints run E.Deadlock old new ends = (ap status_of ends.0, ends.1)
+ended_prints run E.Starved old new ends = (ap status_of ends.0, ends.1)
+ended_prints run E.Budget old new ends = (ap status_of ends.0, ends.1)
+ended_prints run (E.Script number kind) old new ends = (ap status_of ends.0, ends.1)
+ended_prints run E.ReadFault old new ends = (ap status_of ends.0, ends.1)
+ended_prints run E.WriteFault old new ends = ends
+ended_prints run E.Memory old new ends = ends
+
+-- what a run has written is what the call prints
+pub run_prints : (run : Output) (how : Ended) (code : Status) (old new : Stream → Option (List ℕ)) → code ≡ status_of how → Ends run.out run.err run.ended how old new → Prints (of_run run) code old new
+run_prints run how code old new is ends = subst (λ (s : Status). Prints (of_run run) s old new) (sym is) (ended_prints run how old new ends)
