@@ -4,7 +4,7 @@ use Rattle.std.specs.Option.{unwrap_or}
 use Rattle.std.proofs.lemmas.List.Sums.{sum_by-cons, count_by-le-length}
 use Rattle.sg_maxmin.specs.declared.flow_row.FlowRow.{FlowRow}
 use Rattle.sg_maxmin.specs.declared.uses.Use.{Use}
-use Rattle.sg_maxmin.specs.Fill.{Flow, Fixed, is_on, taken, waiting, level, limits, least, lowest, step, steps_from, unfixed, level_of, share_of}
+use Rattle.sg_maxmin.specs.Fill.{Flow, Fixed, is_on, taken, waiting, level, limits, least, lowest, step, steps_from, unfixed, share_of}
 use Rattle.sg_maxmin.specs.Laws.{HaveLimits}
 use Rattle.sg_maxmin.specs.Sharing.{Sharing, HasLimit, held, flow_at}
 use Rattle.sg_maxmin.specs.Uses.{IsChain, resources, flow_of, flows_of, share_in, AreRows}
@@ -15,9 +15,9 @@ use Rattle.sg_maxmin.specs.Counting.{rows_held, taken_on, waiting_on, AreCounted
 use Rattle.sg_maxmin.proofs.Members.{In, In-map, In-map_back, In-from_contains, contains_from_In, In-filter, In-flat_map}
 use Rattle.sg_maxmin.proofs.Sums.{sum_by_same}
 use Rattle.sg_maxmin.proofs.OneStep.{least_le, least_in, lowest_le, step_fixed, step_at, was, gets, waits, step_cases}
-use Rattle.sg_maxmin.proofs.Leveled.{all_fixed, stays_fixed}
+use Rattle.sg_maxmin.proofs.Leveled.{all_fixed}
 use Rattle.sg_maxmin.proofs.Counts.{row_facts}
-use Rattle.sg_maxmin.proofs.Proved.{limited_from}
+use Rattle.sg_maxmin.proofs.Proved.{limited_from, share_fixed}
 
 -- ---- the flows of the rows
 pub held_flows : (rows : List (Option FlowRow)) (uses : List (Option Use)) → held (flows_of rows uses) ≡ map (flow_of uses) (rows_held rows)
@@ -179,27 +179,6 @@ step_is caps old new uses left waiting' fixed low sound are counted least' steps
     one key row e (Some before) there h = row_steps caps old uses left waiting' fixed low sound are counted least' key row before there (subst (λ o. RowSteps low (row_limits left waiting' uses) o (Some row)) there h)
 
 -- ---- the end
-steps-add : (n d : ℕ) (caps : List ℕ) (flows : List Flow) (a : Fixed) → steps_from (n + d) caps flows a ≡ steps_from d caps flows (steps_from n caps flows a)
-unfolding steps_from
-steps-add zero d caps flows a = ap (λ k. steps_from k caps flows a) (zero_plus d)
-  where
-    zero_plus : (m : ℕ) → 0 + m ≡ m
-    zero_plus m = omega arith
-steps-add (suc n) d caps flows a = ap (λ k. steps_from k caps flows a) (suc_plus n d) ∙ steps-add n d caps flows (step caps flows a)
-  where
-    suc_plus : (m k : ℕ) → suc m + k ≡ suc (m + k)
-    suc_plus m k = omega arith
-
--- a flow that is fixed after so many steps has that share
-pub share_fixed : (n : ℕ) (caps : List ℕ) (flows : List Flow) (f : Flow) (x : ℕ) → n ≤ length flows → steps_from n caps flows unfixed f ≡ Some x → share_of caps flows f ≡ x
-unfolding level_of
-share_fixed n caps flows f x few e =
-    let d = length flows - n in
-    let whole : n + d ≡ length flows = omega (arith, few) in
-    let later : steps_from (length flows) caps flows unfixed f ≡ Some x =
-    ap (λ k. steps_from k caps flows unfixed f) (sym whole) ∙ ap (λ s. s f) (steps-add n d caps flows unfixed) ∙ stays_fixed d caps flows (steps_from n caps flows unfixed) f x e in
-    ap (λ o. unwrap_or o 0) later
-
 fixed_cases : {X : Type 0} (o : Option X) → (o ≡ None) ⊎ ((x : X) × (o ≡ Some x))
 fixed_cases None = inl refl
 fixed_cases (Some x) = inr (x, refl)
@@ -258,10 +237,6 @@ length-held (Some row ∷ rows) uses = ap suc (length-held rows uses) ∙ suc_is
   where
     suc_is : (m : ℕ) → suc m ≡ 1 + m
     suc_is m = omega arith
-
-pub steps-next : (n : ℕ) (caps : List ℕ) (flows : List Flow) (a : Fixed) → steps_from (n + 1) caps flows a ≡ step caps flows (steps_from n caps flows a)
-unfolding steps_from
-steps-next n caps flows a = steps-add n 1 caps flows a
 
 pub same_trans : (a b c : List (Option FlowRow)) → SameRows a b → SameRows b c → SameRows a c
 same_trans a b c g h = λ key. h key ∙ g key

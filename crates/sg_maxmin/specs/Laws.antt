@@ -28,6 +28,10 @@ KeepsBound = (capacities : List ℕ) (flows : List Flow) (flow : Flow) (bound : 
 abbrev pub FixesAll : Type 0
 FixesAll = (capacities : List ℕ) (flows : List Flow) (flow : Flow) → HaveLimits flows → Contains flows flow → IsSome (steps_from (length flows) capacities flows unfixed flow)
 
+-- A flow has one share: in whichever step it is fixed, it is fixed at that.
+abbrev pub FixesOnce : Type 0
+FixesOnce = (capacities : List ℕ) (flows : List Flow) (n : ℕ) (flow : Flow) (share : ℕ) → HaveLimits flows → Contains flows flow → steps_from n capacities flows unfixed flow ≡ Some share → share ≡ share_of capacities flows flow
+
 -- The lowest level rises strictly from step to step, as long as a flow is left to be fixed.
 abbrev pub LevelRises : Type 0
 LevelRises = (capacities : List ℕ) (flows : List Flow) (n : ℕ) (flow : Flow) → HaveLimits flows → Contains flows flow → steps_from (n + 1) capacities flows unfixed flow ≡ None

@@ -2,7 +2,7 @@
 ghost use Rattle.std.specs.Prelude.{◌≡◌, ◌-◌, [], ◌∷◌, Some, None};
 ghost use Rattle.sg_maxmin.specs.Fill.{fill, flow};
 ghost use Rattle.sg_maxmin.specs.Relisted.{AreRelisted, FillsInAnyOrder};
-ghost use Rattle.sg_maxmin.specs.Laws.{FillsApart, FillsFairly, FixesAll, IsHeld, KeepsBound, KeepsShare, LevelRises, SharesSame, SumsChange};
+ghost use Rattle.sg_maxmin.specs.Laws.{FillsApart, FillsFairly, FixesAll, FixesOnce, IsHeld, KeepsBound, KeepsShare, LevelRises, SharesSame, SumsChange};
 
 /// Progressive filling is max-min fair in whole units: on each resource the shares add up to at most its capacity,
 /// and each flow has its bound as its share, or uses a resource on which its share is the greatest and on which
@@ -19,6 +19,11 @@ pub fn keeps_bound()
 /// Filling ends: after as many steps as there are flows each flow is fixed.
 pub fn fixes_all()
     ensures { FixesAll }
+{}
+
+/// A flow has one share: in whichever step it is fixed, it is fixed at that.
+pub fn fixes_once()
+    ensures { FixesOnce }
 {}
 
 /// The lowest level rises strictly from step to step.

@@ -5,7 +5,8 @@ use Rattle.sg_maxmin.specs.Sharing.{held}
 use Rattle.sg_maxmin.specs.Uses.{flows_of}
 use Rattle.sg_maxmin.specs.Counting.{AreFixed, IsLeast, all_limits, count_of}
 use Rattle.sg_maxmin.proofs.Counts.{rows_same}
-use Rattle.sg_maxmin.proofs.Filled.{same_flows, unfix_same, unfix_fixed, length-held, shares_early, shares_end, step_is, steps-next, same_trans, count_same, count_none}
+use Rattle.sg_maxmin.proofs.Filled.{same_flows, unfix_same, unfix_fixed, length-held, shares_early, shares_end, step_is, same_trans, count_same, count_none}
+use Rattle.sg_maxmin.proofs.Proved.{steps-next}
 use Rattle.sg_maxmin.proofs.filling.fill.Goals as goal
 
 pub loop-n-init : goal.loop-n-init
