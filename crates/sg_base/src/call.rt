@@ -13,6 +13,17 @@ pub enum Call {
     Exit,
 }
 
+/// What a communication brings beside its bytes.
+#[derive(Clone, Copy, Debug, PartialEq, Eq)]
+pub enum Msg {
+    /// Nothing: scripts send bytes alone.
+    Empty,
+    /// To compute so many flops.
+    Task(u64),
+    /// That there is no more work.
+    Stop,
+}
+
 /// A script line, without the name of its actor.
 #[derive(Clone, Copy, Debug, PartialEq, Eq)]
 pub enum Action {

@@ -1,7 +1,7 @@
 //! Identifiers: each is a place in the order in which its kind was declared.
 
 /// An actor: the first actor of the deployment has the number 1.
-#[derive(Clone, Copy, Debug, PartialEq, Eq)]
+#[derive(Clone, Copy, Debug, PartialEq, Eq, Hash)]
 pub struct ActorId(pub u32);
 
 /// A point of the platform: the hosts in declared order from 0 on, then the routers.
@@ -27,3 +27,12 @@ pub enum Child {
 /// The serial of an activity, counted up from 1 over the whole run.
 #[derive(Clone, Copy, Debug, PartialEq, Eq)]
 pub struct Serial(pub u64);
+
+/// A mailbox, where a send and a receive meet.
+#[derive(Clone, Copy, Debug, PartialEq, Eq, Hash)]
+pub enum BoxId {
+    /// The one for what the first actor sends to the second.
+    Pair(ActorId, ActorId),
+    /// The one under the name of an actor, whoever sends to it.
+    Named(ActorId),
+}

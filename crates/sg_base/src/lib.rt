@@ -12,8 +12,8 @@ mod steps;
 mod text;
 mod trace_record;
 
-pub use call::{Action, Answer, Call};
-pub use ids::{ActorId, Child, LinkId, PointId, Serial, ZoneId};
+pub use call::{Action, Answer, Call, Msg};
+pub use ids::{ActorId, BoxId, Child, LinkId, PointId, Serial, ZoneId};
 pub use laws::turns_keep_limits;
 pub use links::Links;
 pub use memory::Memory;

@@ -1,0 +1,12 @@
+//! Mailboxes: sends and receives that wait for each other.
+#![tactic(auto)]
+
+mod boxes;
+mod kept;
+mod sides;
+
+pub use boxes::Boxes;
+pub use sides::{Meeting, Side};
+
+#[cfg(test)]
+mod tests;
