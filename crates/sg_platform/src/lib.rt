@@ -11,6 +11,10 @@ mod platform;
 mod rows;
 #[cfg(test)]
 mod tests;
+#[cfg(test)]
+mod tests_deployment;
+#[cfg(test)]
+mod tests_platform;
 
 pub use deployment::{Deployment, DeploymentFault, read_deployment};
 pub use ends::{LinkEnd, link_ends, way_back};

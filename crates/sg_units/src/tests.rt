@@ -47,6 +47,137 @@ fn times_are_in_nanoseconds(rt: HostRuntime) {
 }
 
 #[test]
+fn each_unit_has_its_size(rt: HostRuntime) {
+    let speeds = [
+        ("7", 7),
+        ("7f", 7),
+        ("7kf", 7_000),
+        ("7Mf", 7_000_000),
+        ("7Gf", 7_000_000_000),
+        ("7Tf", 7_000_000_000_000),
+        ("0.7Pf", 700_000_000_000_000),
+    ];
+    for (text, want) in speeds {
+        assert_eq!(rt; read_speed(text.as_bytes()), Ok(want), "for {text}");
+    }
+    let bandwidths = [
+        ("7", 7),
+        ("7Bps", 7),
+        ("7kBps", 7_000),
+        ("7MBps", 7_000_000),
+        ("7GBps", 7_000_000_000),
+        ("7TBps", 7_000_000_000_000),
+        ("7KiBps", 7_168),
+        ("7MiBps", 7_340_032),
+        ("7GiBps", 7_516_192_768),
+        ("7bps", 0),
+        ("8bps", 1),
+        ("7kbps", 875),
+        ("7Mbps", 875_000),
+        ("7Gbps", 875_000_000),
+    ];
+    for (text, want) in bandwidths {
+        assert_eq!(rt; read_bandwidth(text.as_bytes()), Ok(want), "for {text}");
+    }
+    let times = [
+        ("7ns", 7),
+        ("7us", 7_000),
+        ("7ms", 7_000_000),
+        ("7", 7_000_000_000),
+        ("7s", 7_000_000_000),
+        ("7m", 420_000_000_000),
+        ("7h", 25_200_000_000_000),
+        ("7d", 604_800_000_000_000),
+        ("7w", 4_233_600_000_000_000),
+    ];
+    for (text, want) in times {
+        assert_eq!(rt; read_time(text.as_bytes()), Ok(want), "for {text}");
+    }
+}
+
+#[test]
+fn each_reader_has_its_faults(rt: HostRuntime) {
+    let cases = [
+        // What an amount, a speed, a bandwidth and a time say to it.
+        (
+            ".5",
+            [
+                Err(NotANumber),
+                Err(NotANumber),
+                Err(NotANumber),
+                Err(NotANumber),
+            ],
+        ),
+        (
+            "1f",
+            [Err(UnknownUnit), Ok(1), Err(UnknownUnit), Err(UnknownUnit)],
+        ),
+        (
+            "1Bps",
+            [Err(UnknownUnit), Err(UnknownUnit), Ok(1), Err(UnknownUnit)],
+        ),
+        (
+            "1ns",
+            [Err(UnknownUnit), Err(UnknownUnit), Err(UnknownUnit), Ok(1)],
+        ),
+        (
+            "1e6 ",
+            [
+                Err(UnknownUnit),
+                Err(UnknownUnit),
+                Err(UnknownUnit),
+                Err(UnknownUnit),
+            ],
+        ),
+        (
+            "1e0001",
+            [Err(TooLarge), Err(TooLarge), Err(TooLarge), Err(TooLarge)],
+        ),
+        (
+            "1e9",
+            [
+                Ok(1_000_000_000),
+                Ok(1_000_000_000),
+                Ok(1_000_000_000),
+                Ok(1_000_000_000_000_000_000),
+            ],
+        ),
+        (
+            "1000000001",
+            [
+                Ok(1_000_000_001),
+                Ok(1_000_000_001),
+                Ok(1_000_000_001),
+                Err(TooLarge),
+            ],
+        ),
+        (
+            "1e15",
+            [
+                Ok(1_000_000_000_000_000),
+                Ok(1_000_000_000_000_000),
+                Ok(1_000_000_000_000_000),
+                Err(TooLarge),
+            ],
+        ),
+        (
+            "1000000000000001",
+            [Err(TooLarge), Err(TooLarge), Err(TooLarge), Err(TooLarge)],
+        ),
+    ];
+    for (text, want) in cases {
+        let bytes = text.as_bytes();
+        let told = [
+            read_amount(bytes),
+            read_speed(bytes),
+            read_bandwidth(bytes),
+            read_time(bytes),
+        ];
+        assert_eq!(rt; told, want, "for {text}");
+    }
+}
+
+#[test]
 fn dates_have_nine_places(rt: HostRuntime) {
     assert_eq!(rt; date_text(0).as_str(), "0.000000000");
     assert_eq!(rt; date_text(1).as_str(), "0.000000001");

@@ -295,9 +295,17 @@ fn tells_the_first_fault(rt: HostRuntime) -> Result<(), Fail> {
     let twice = "zone = [{id = 'z', routing = 'Full'}]
 host = [{id = 'h1', zone = 'z', speed = '1Gf'}, {id = 'h1', zone = 'z', speed = '1Gf', core = 0}]
 ";
+    let no_link = format!(in alloc; "{FAST}route = [{{src = 'h1', dst = 'h2', links = ['q']}}]")?;
+    let router = format!(in alloc; "{FAST}router = [{{id = 'r1', zone = 'z'}}]")?;
     let one = on_hosts(alloc, &["h1"])?;
-    let elsewhere = on_hosts(alloc, &["h3"])?;
+    let elsewhere = on_hosts(alloc, &["r1"])?;
     let cases = [
+        (
+            no_link.as_str(),
+            one.as_str(),
+            "platform: unknown name (table 5, row 1, key 3)\n",
+            3,
+        ),
         (
             twice,
             one.as_str(),
@@ -308,7 +316,7 @@ host = [{id = 'h1', zone = 'z', speed = '1Gf'}, {id = 'h1', zone = 'z', speed = 
         ("host = [", "actor = [", "platform: not TOML\n", 3),
         (FAST, "actor = [", "deployment: not TOML\n", 4),
         (
-            FAST,
+            router.as_str(),
             elsewhere.as_str(),
             "deployment: unknown name (table 1, row 1, key 2)\n",
             4,

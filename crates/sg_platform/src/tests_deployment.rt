@@ -1,0 +1,154 @@
+use crate::deployment::{DeploymentFault, read_deployment};
+use crate::platform::{PlatformText, read_platform};
+use sg_tree::Place;
+use std::alloc::{AllocError, Global};
+use std::test::Fail;
+
+const PLATFORM: &str = "zone = [{id = 'z', routing = 'Full'}]
+host = [{id = 'h', zone = 'z', speed = '1Gf'}, {id = 'g', zone = 'z', speed = '1Gf'}]
+router = [{id = 'r', zone = 'z'}]
+";
+
+/// Table, row, key and kind of the fault of each table: each kind at each place where it can stand.
+const FAULTS: &str = "\
+0 0 0 unknown name | thing = 1
+0 0 0 unknown name | host = []
+1 0 0 wrong type | actor = 'p'
+1 1 0 wrong type | actor = [1]
+1 1 0 unknown name | actor = [{name = 'p', host = 'h', function = 'replay', id = 'p'}]
+1 1 1 missing key | actor = [{host = 'h', function = 'replay'}]
+1 1 1 wrong type | actor = [{name = 1, host = 'h', function = 'replay'}]
+1 1 1 bad name | actor = [{name = '', host = 'h', function = 'replay'}]
+1 1 1 bad name | actor = [{name = 'p 0', host = 'h', function = 'replay'}]
+1 2 1 duplicate | actor = [{name = 'p', host = 'h', function = 'replay'}, {name = 'p', host = 'g', function = 'replay'}]
+1 1 2 missing key | actor = [{name = 'p', function = 'replay'}]
+1 1 2 wrong type | actor = [{name = 'p', host = ['h'], function = 'replay'}]
+1 1 2 unknown name | actor = [{name = 'p', host = 'q', function = 'replay'}]
+1 1 2 unknown name | actor = [{name = 'p', host = 'r', function = 'replay'}]
+1 1 2 unknown name | actor = [{name = 'p', host = 'z', function = 'replay'}]
+1 1 3 missing key | actor = [{name = 'p', host = 'h'}]
+1 1 3 wrong type | actor = [{name = 'p', host = 'h', function = 1}]
+1 1 3 unknown function | actor = [{name = 'p', host = 'h', function = 'jump'}]
+1 1 3 unknown function | actor = [{name = 'p', host = 'h', function = 'Replay', argument = ['1']}]
+1 1 4 wrong type | actor = [{name = 'p', host = 'h', function = 'replay', argument = 'x'}]
+1 1 4 wrong type | actor = [{name = 'p', host = 'h', function = 'replay', argument = ['1', 2]}]
+1 1 4 bad arguments | actor = [{name = 'p', host = 'h', function = 'replay', argument = ['1']}]
+2 0 0 wrong type | mutex = {}
+2 1 0 wrong type | mutex = ['m']
+2 1 0 unknown name | mutex = [{id = 'm', name = 'm'}]
+2 1 1 missing key | mutex = [{}]
+2 1 1 wrong type | mutex = [{id = 1}]
+2 1 1 bad name | mutex = [{id = 'm#'}]
+2 2 1 duplicate | mutex = [{id = 'm'}, {id = 'm'}]
+3 0 0 wrong type | semaphore = 3
+3 1 0 wrong type | semaphore = [[]]
+3 1 0 unknown name | semaphore = [{id = 's', capacity = 1, count = 1}]
+3 1 1 missing key | semaphore = [{capacity = 1}]
+3 1 1 wrong type | semaphore = [{id = true, capacity = 1}]
+3 1 1 bad name | semaphore = [{id = 's,', capacity = 1}]
+3 2 1 duplicate | semaphore = [{id = 's', capacity = 1}, {id = 's', capacity = 2}]
+3 1 2 missing key | semaphore = [{id = 's'}]
+3 1 2 wrong type | semaphore = [{id = 's', capacity = '1'}]
+3 1 2 wrong type | semaphore = [{id = 's', capacity = 1.0}]
+3 1 2 wrong type | semaphore = [{id = 's', capacity = 1979-05-27T07:32:00Z}]
+3 1 2 bad value | semaphore = [{id = 's', capacity = -1}]
+3 1 2 bad value | semaphore = [{id = 's', capacity = 1000000001}]
+";
+
+fn place_of(fault: &DeploymentFault) -> Option<Place> {
+    match fault {
+        DeploymentFault::BadToml | DeploymentFault::Memory => None,
+        DeploymentFault::MissingKey(place)
+        | DeploymentFault::WrongType(place)
+        | DeploymentFault::BadValue(place)
+        | DeploymentFault::BadName(place)
+        | DeploymentFault::Duplicate(place)
+        | DeploymentFault::Unknown(place)
+        | DeploymentFault::Limit(place)
+        | DeploymentFault::Function(place)
+        | DeploymentFault::Arguments(place) => Some(*place),
+    }
+}
+
+/// What is told of a deployment text.
+fn told(alloc: Global, text: &[u8], platform: &PlatformText) -> Result<String, AllocError> {
+    match read_deployment(alloc, text, platform) {
+        Ok(_) => String::from_str(alloc, "fine"),
+        Err(fault) => match place_of(&fault) {
+            Some(Place { table, row, key }) => { format!(in alloc; "{table} {row} {key} {fault}") }
+            None => format!(in alloc; "{fault}"),
+        },
+    }
+}
+
+#[test]
+fn tells_each_fault_of_a_deployment_at_its_place(rt: HostRuntime) -> Result<(), Fail> {
+    let platform = read_platform(rt.alloc(), PLATFORM.as_bytes())?;
+    for case in FAULTS.lines() {
+        let (want, text) = case.split_once(" | ").unwrap_or(("no case", case));
+        let told = told(rt.alloc(), text.as_bytes(), &platform)?;
+        assert_eq!(rt; told.as_str(), want, "for {text}");
+    }
+    Ok(())
+}
+
+#[test]
+fn tells_the_least_of_several_faults(rt: HostRuntime) -> Result<(), Fail> {
+    let platform = read_platform(rt.alloc(), PLATFORM.as_bytes())?;
+    let cases = [
+        ("", "fine"),
+        (
+            "mutex = [{id = 'a'}]\nsemaphore = [{id = 'a', capacity = 1000000000}]\nactor = [{name = 'a', host = 'h', function = 'replay', argument = []}]",
+            "fine",
+        ),
+        ("host = 1\nactor = 1", "0 0 0 unknown name"),
+        ("mutex = 1\nactor = [{name = 'p'}]", "1 1 2 missing key"),
+        (
+            "actor = [{name = 'p', host = 'h', function = 1, argument = 1}, 1]",
+            "1 1 3 wrong type",
+        ),
+        (
+            "semaphore = [{}]\nmutex = [{id = 'm'}, {id = 'm'}]",
+            "2 2 1 duplicate",
+        ),
+        ("actor = [", "not TOML"),
+        ("semaphore = [{capacity = 9223372036854775808}]", "not TOML"),
+    ];
+    for (text, want) in cases {
+        let told = told(rt.alloc(), text.as_bytes(), &platform)?;
+        assert_eq!(rt; told.as_str(), want, "for {text}");
+    }
+    Ok(())
+}
+
+#[test]
+fn each_table_has_its_limit_of_rows(rt: HostRuntime) -> Result<(), Fail> {
+    let platform = read_platform(rt.alloc(), PLATFORM.as_bytes())?;
+    for (number, table) in [(1, "actor"), (2, "mutex"), (3, "semaphore")] {
+        let mut text = format!(in rt.alloc(); "{table} = [0")?;
+        for _ in 1..65_536 {
+            text.push_str(",0")?;
+        }
+        let most = format!(in rt.alloc(); "{text}]")?;
+        let want = format!(in rt.alloc(); "{number} 1 0 wrong type")?;
+        assert_eq!(rt; told(rt.alloc(), most.as_bytes(), &platform)?, want);
+        text.push_str(",0]")?;
+        let want = format!(in rt.alloc(); "{number} 0 0 over a limit")?;
+        assert_eq!(rt; told(rt.alloc(), text.as_bytes(), &platform)?, want);
+    }
+    Ok(())
+}
+
+#[test]
+fn a_text_has_at_most_16_mib(rt: HostRuntime) -> Result<(), Fail> {
+    let platform = read_platform(rt.alloc(), PLATFORM.as_bytes())?;
+    let mut text = Vec::from_slice(rt.alloc(), b"actor = [ #")?;
+    text.resize(16_777_216, b'.')?;
+    assert_eq!(rt; told(rt.alloc(), &text, &platform)?.as_str(), "not TOML");
+    text.push(b'.')?;
+    assert_eq!(rt;
+        told(rt.alloc(), &text, &platform)?.as_str(),
+        "0 0 0 over a limit"
+    );
+    Ok(())
+}
