@@ -1,6 +1,7 @@
 use crate::deployment::read_deployment;
 use crate::platform::read_platform;
 use sg_base::{ActorId, LinkId, PointId, ZoneId};
+use std::alloc::{AllocError, Global};
 use std::test::Fail;
 
 const PLATFORM: &str = "zone = [{id = 'z', routing = 'Full'}]
@@ -8,28 +9,56 @@ host = [{id = 'h1', zone = 'z', speed = '1Gf'}, {id = 'h2', zone = 'z', speed = 
 router = [{id = 'r', zone = 'z'}]
 ";
 
+const DEPLOYMENT: &str =
+    "actor = [{name = 'p0', host = 'h1', function = 'replay'}, {name = 'p1', host = 'h2', function = 'replay'}]
+mutex = [{id = 'm1'}, {id = 'm2'}]
+semaphore = [{id = 's1', capacity = 3}]
+";
+
+/// A text in which something is repeated so often.
+pub fn repeated(
+    alloc: Global,
+    head: &str,
+    item: &str,
+    count: usize,
+    tail: &str,
+) -> Result<String, AllocError> {
+    let mut text = String::from_str(alloc, head)?;
+    for _ in 0..count {
+        text.push_str(item)?;
+    }
+    text.push_str(tail)?;
+    Ok(text)
+}
+
 #[test]
-fn reads_a_platform_and_a_deployment(rt: HostRuntime) -> Result<(), Fail> {
+fn reads_a_platform(rt: HostRuntime) -> Result<(), Fail> {
     let platform = read_platform(rt.alloc(), PLATFORM.as_bytes())?;
     let hosts = platform.hosts();
     assert_eq!(rt; hosts.len(), 2);
     assert_eq!(rt; hosts[1].id.as_str(), "h2");
-    assert_eq!(rt; hosts[1].speed, 98_095_000);
-    assert_eq!(rt; hosts[1].cores, 4);
-    assert_eq!(rt; hosts[0].cores, 1);
-    assert_eq!(rt; hosts[0].zone, ZoneId(0));
-    let text =
-        "actor = [{name = 'p0', host = 'h1', function = 'replay'}, {name = 'p1', host = 'h2', function = 'replay'}]
-mutex = [{id = 'm1'}, {id = 'm2'}]
-semaphore = [{id = 's1', capacity = 3}]";
-    let deployment = read_deployment(rt.alloc(), text.as_bytes(), &platform)?;
+    assert_eq!(rt; (hosts[0].zone, hosts[0].cores), (ZoneId(0), 1));
+    assert_eq!(rt; (hosts[1].speed, hosts[1].cores), (98_095_000, 4));
+    Ok(())
+}
+
+#[test]
+fn reads_a_deployment(rt: HostRuntime) -> Result<(), Fail> {
+    let platform = read_platform(rt.alloc(), PLATFORM.as_bytes())?;
+    let deployment = read_deployment(rt.alloc(), DEPLOYMENT.as_bytes(), &platform)?;
     let actors = deployment.actors();
     assert_eq!(rt; actors.len(), 2);
     assert_eq!(rt; actors[1].host, PointId(1));
-    assert_eq!(rt; deployment.replay_actor(b"p1"), Some(ActorId(2)));
-    assert_eq!(rt; deployment.replay_actor(b"\xff"), None);
-    assert_eq!(rt; deployment.mutex_named(b"m2"), Some(1));
-    assert_eq!(rt; deployment.semaphore_named(b"s1"), Some(0));
+    let p1 = (
+        deployment.replay_actor(b"p1"),
+        deployment.replay_actor(b"\xff"),
+    );
+    assert_eq!(rt; p1, (Some(ActorId(2)), None));
+    let named = (
+        deployment.mutex_named(b"m2"),
+        deployment.semaphore_named(b"s1"),
+    );
+    assert_eq!(rt; named, (Some(1), Some(0)));
     assert_eq!(rt; deployment.semaphores().len(), 1);
     Ok(())
 }

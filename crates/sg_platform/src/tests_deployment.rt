@@ -1,5 +1,6 @@
 use crate::deployment::{DeploymentFault, read_deployment};
 use crate::platform::{PlatformText, read_platform};
+use crate::tests::repeated;
 use sg_tree::Place;
 use std::alloc::{AllocError, Global};
 use std::test::Fail;
@@ -55,6 +56,40 @@ const FAULTS: &str = "\
 3 1 2 bad value | semaphore = [{id = 's', capacity = 1000000001}]
 ";
 
+/// Whole texts, and what is told of each.
+const TEXTS: [(&str, &str); 8] = [
+    ("", "fine"),
+    (
+        "mutex = [{id = 'a'}]\nsemaphore = [{id = 'a', capacity = 1000000000}]\nactor = [{name = 'a', host = 'h', function = 'replay', argument = []}]",
+        "fine",
+    ),
+    ("actor = [", "not TOML"),
+    ("semaphore = [{capacity = 9223372036854775808}]", "not TOML"),
+    // Of several faults the least is told.
+    ("host = 1\nactor = 1", "0 0 0 unknown name"),
+    ("mutex = 1\nactor = [{name = 'p'}]", "1 1 2 missing key"),
+    (
+        "actor = [{name = 'p', host = 'h', function = 1, argument = 1}, 1]",
+        "1 1 3 wrong type",
+    ),
+    (
+        "semaphore = [{}]\nmutex = [{id = 'm'}, {id = 'm'}]",
+        "2 2 1 duplicate",
+    ),
+];
+
+/// What begins a text, what is repeated in it, how often, and what is told: the limits of rows and of bytes.
+const LIMITS: [(&str, &str, usize, &str); 8] = [
+    ("actor = [", "0,", 65_536, "1 1 0 wrong type"),
+    ("actor = [", "0,", 65_537, "1 0 0 over a limit"),
+    ("mutex = [", "0,", 65_536, "2 1 0 wrong type"),
+    ("mutex = [", "0,", 65_537, "2 0 0 over a limit"),
+    ("semaphore = [", "0,", 65_536, "3 1 0 wrong type"),
+    ("semaphore = [", "0,", 65_537, "3 0 0 over a limit"),
+    ("actor = [", " ", 16_777_206, "fine"),
+    ("actor = [", " ", 16_777_207, "0 0 0 over a limit"),
+];
+
 fn place_of(fault: &DeploymentFault) -> Option<Place> {
     match fault {
         DeploymentFault::BadToml | DeploymentFault::Memory => None,
@@ -93,28 +128,9 @@ fn tells_each_fault_of_a_deployment_at_its_place(rt: HostRuntime) -> Result<(), 
 }
 
 #[test]
-fn tells_the_least_of_several_faults(rt: HostRuntime) -> Result<(), Fail> {
+fn tells_the_least_fault_of_a_text(rt: HostRuntime) -> Result<(), Fail> {
     let platform = read_platform(rt.alloc(), PLATFORM.as_bytes())?;
-    let cases = [
-        ("", "fine"),
-        (
-            "mutex = [{id = 'a'}]\nsemaphore = [{id = 'a', capacity = 1000000000}]\nactor = [{name = 'a', host = 'h', function = 'replay', argument = []}]",
-            "fine",
-        ),
-        ("host = 1\nactor = 1", "0 0 0 unknown name"),
-        ("mutex = 1\nactor = [{name = 'p'}]", "1 1 2 missing key"),
-        (
-            "actor = [{name = 'p', host = 'h', function = 1, argument = 1}, 1]",
-            "1 1 3 wrong type",
-        ),
-        (
-            "semaphore = [{}]\nmutex = [{id = 'm'}, {id = 'm'}]",
-            "2 2 1 duplicate",
-        ),
-        ("actor = [", "not TOML"),
-        ("semaphore = [{capacity = 9223372036854775808}]", "not TOML"),
-    ];
-    for (text, want) in cases {
+    for (text, want) in TEXTS {
         let told = told(rt.alloc(), text.as_bytes(), &platform)?;
         assert_eq!(rt; told.as_str(), want, "for {text}");
     }
@@ -122,33 +138,12 @@ fn tells_the_least_of_several_faults(rt: HostRuntime) -> Result<(), Fail> {
 }
 
 #[test]
-fn each_table_has_its_limit_of_rows(rt: HostRuntime) -> Result<(), Fail> {
+fn texts_and_tables_have_their_limits(rt: HostRuntime) -> Result<(), Fail> {
     let platform = read_platform(rt.alloc(), PLATFORM.as_bytes())?;
-    for (number, table) in [(1, "actor"), (2, "mutex"), (3, "semaphore")] {
-        let mut text = format!(in rt.alloc(); "{table} = [0")?;
-        for _ in 1..65_536 {
-            text.push_str(",0")?;
-        }
-        let most = format!(in rt.alloc(); "{text}]")?;
-        let want = format!(in rt.alloc(); "{number} 1 0 wrong type")?;
-        assert_eq!(rt; told(rt.alloc(), most.as_bytes(), &platform)?, want);
-        text.push_str(",0]")?;
-        let want = format!(in rt.alloc(); "{number} 0 0 over a limit")?;
-        assert_eq!(rt; told(rt.alloc(), text.as_bytes(), &platform)?, want);
+    for (head, item, count, want) in LIMITS {
+        let text = repeated(rt.alloc(), head, item, count, "]")?;
+        let told = told(rt.alloc(), text.as_bytes(), &platform)?;
+        assert_eq!(rt; told.as_str(), want, "for {count} in {head}");
     }
-    Ok(())
-}
-
-#[test]
-fn a_text_has_at_most_16_mib(rt: HostRuntime) -> Result<(), Fail> {
-    let platform = read_platform(rt.alloc(), PLATFORM.as_bytes())?;
-    let mut text = Vec::from_slice(rt.alloc(), b"actor = [ #")?;
-    text.resize(16_777_216, b'.')?;
-    assert_eq!(rt; told(rt.alloc(), &text, &platform)?.as_str(), "not TOML");
-    text.push(b'.')?;
-    assert_eq!(rt;
-        told(rt.alloc(), &text, &platform)?.as_str(),
-        "0 0 0 over a limit"
-    );
     Ok(())
 }

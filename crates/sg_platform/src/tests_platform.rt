@@ -1,4 +1,5 @@
 use crate::platform::{PlatformFault, read_platform};
+use crate::tests::repeated;
 use sg_tree::Place;
 use std::alloc::{AllocError, Global};
 use std::test::Fail;
@@ -186,6 +187,147 @@ const ACCEPTED: &str = "\
 7 | spoke = [{zone = 'y', child = 'r', up = ['s_UP'], down = ['l']}, {zone = 'y', child = 'z', gateway = 'h', up = ['l', 'l']}]
 ";
 
+/// Whole texts, and what is told of each.
+const TEXTS: [(&str, &str); 21] = [
+    ("", "fine"),
+    ("\u{feff}zone = []", "fine"),
+    ("# nothing\r\nhost = []\r\nzone = []", "fine"),
+    (
+        "[[zone]]\nid = 'z'\nrouting = \"Full\"\n[[host]]\nid = 'h'\nzone = 'z'\nspeed = '1'\ncore = 0b10",
+        "fine",
+    ),
+    ("[zone]\nid = 'z'", "1 0 0 wrong type"),
+    ("host.h = 1", "2 0 0 wrong type"),
+    ("[[zone]]\nid = 'z'\nrouting.x = 'Full'", "1 1 3 wrong type"),
+    (
+        "[[zone]]\nid = 'z'\nrouting = 'Full'\n[zone.deep]",
+        "1 1 0 unknown name",
+    ),
+    ("host = [", "not TOML"),
+    ("host", "not TOML"),
+    ("zone = []\nzone = []", "not TOML"),
+    ("zone = []\n[[zone]]", "not TOML"),
+    ("host = [{core = 9223372036854775808}]", "not TOML"),
+    ("host = [{id = 'h', id = 'g'}]", "not TOML"),
+    // Of several faults the least is told.
+    ("thing = 1\nzone = 1", "0 0 0 unknown name"),
+    ("zone = [{id = 'z'}]\nhost = 1", "1 1 3 missing key"),
+    (
+        "host = [{id = 'h', zone = 'z', speed = 'x'}, 1]\nzone = [{id = 'z', routing = 'Full'}]",
+        "2 1 3 bad value",
+    ),
+    (
+        "host = [{id = '', zone = 'q', speed = 'x', core = 0}]",
+        "2 1 1 bad name",
+    ),
+    ("host = [{zone = 'q', cores = 0}, {}]", "2 1 0 unknown name"),
+    (
+        "route = [1]\nlink = [{id = 'l', bandwidth = '1'}, {}]",
+        "4 2 1 missing key",
+    ),
+    (
+        "spoke = 1\nzone_route = [{src = 1, dst = 2}]",
+        "6 1 1 wrong type",
+    ),
+];
+
+/// What begins a list, its item, how many it has, and what is told beside the tables above.
+const LISTS: [(&str, &str, usize, &str); 12] = [
+    (
+        "route = [{src = 'h', dst = 'g', links = [",
+        "'l',",
+        64,
+        "fine",
+    ),
+    (
+        "route = [{src = 'h', dst = 'g', links = [",
+        "'l',",
+        65,
+        "5 1 3 over a limit",
+    ),
+    // The earlier kind is told.
+    (
+        "route = [{src = 'h', dst = 'g', links = [",
+        "'q',",
+        65,
+        "5 1 3 unknown name",
+    ),
+    (
+        "zone_route = [{src = 'h', dst = 'g', links = [",
+        "'l',",
+        64,
+        "fine",
+    ),
+    (
+        "zone_route = [{src = 'h', dst = 'g', links = [",
+        "'l',",
+        65,
+        "6 1 5 over a limit",
+    ),
+    (
+        "zone_route = [{src = 'h', dst = 'g', links = [",
+        "'q',",
+        65,
+        "6 1 5 unknown name",
+    ),
+    (
+        "spoke = [{zone = 'y', child = 'r', up = [",
+        "'l',",
+        64,
+        "fine",
+    ),
+    (
+        "spoke = [{zone = 'y', child = 'r', up = [",
+        "'l',",
+        65,
+        "7 1 4 over a limit",
+    ),
+    (
+        "spoke = [{zone = 'y', child = 'r', up = [",
+        "'q',",
+        65,
+        "7 1 4 unknown name",
+    ),
+    (
+        "spoke = [{zone = 'y', child = 'r', up = ['l'], down = [",
+        "'l',",
+        64,
+        "fine",
+    ),
+    (
+        "spoke = [{zone = 'y', child = 'r', up = ['l'], down = [",
+        "'l',",
+        65,
+        "7 1 5 over a limit",
+    ),
+    (
+        "spoke = [{zone = 'y', child = 'r', up = ['l'], down = [",
+        "'q',",
+        65,
+        "7 1 5 unknown name",
+    ),
+];
+
+/// What begins a text, what is repeated in it, how often, and what is told: the limits of rows and of bytes.
+const LIMITS: [(&str, &str, usize, &str); 16] = [
+    ("zone = [", "0,", 1_024, "1 1 0 wrong type"),
+    ("zone = [", "0,", 1_025, "1 0 0 over a limit"),
+    ("host = [", "0,", 16_384, "2 1 0 wrong type"),
+    ("host = [", "0,", 16_385, "2 0 0 over a limit"),
+    ("router = [", "0,", 16_384, "3 1 0 wrong type"),
+    ("router = [", "0,", 16_385, "3 0 0 over a limit"),
+    ("link = [", "0,", 65_536, "4 1 0 wrong type"),
+    ("link = [", "0,", 65_537, "4 0 0 over a limit"),
+    ("route = [", "0,", 262_144, "5 1 0 wrong type"),
+    ("route = [", "0,", 262_145, "5 0 0 over a limit"),
+    ("zone_route = [", "0,", 262_144, "6 1 0 wrong type"),
+    ("zone_route = [", "0,", 262_145, "6 0 0 over a limit"),
+    ("spoke = [", "0,", 32_768, "7 1 0 wrong type"),
+    ("spoke = [", "0,", 32_769, "7 0 0 over a limit"),
+    ("host = [", " ", 16_777_207, "fine"),
+    ("host = [", " ", 16_777_208, "0 0 0 over a limit"),
+];
+
 fn place_of(fault: &PlatformFault) -> Option<Place> {
     match fault {
         PlatformFault::BadToml | PlatformFault::Memory => None,
@@ -222,17 +364,6 @@ fn told_beside(alloc: Global, line: &str, table: &str) -> Result<String, AllocEr
     told(alloc, text.as_bytes())
 }
 
-/// A list with so many items.
-fn list(alloc: Global, item: &str, count: usize) -> Result<String, AllocError> {
-    let mut text = String::from_str(alloc, "[")?;
-    for _ in 0..count {
-        text.push_str(item)?;
-        text.push_str(",")?;
-    }
-    text.push_str("]")?;
-    Ok(text)
-}
-
 #[test]
 fn tells_each_fault_of_a_platform_at_its_place(rt: HostRuntime) -> Result<(), Fail> {
     for cases in [FAULTS, NAME_FAULTS] {
@@ -256,128 +387,30 @@ fn accepts_what_no_rule_refuses(rt: HostRuntime) -> Result<(), Fail> {
 }
 
 #[test]
-fn tells_the_least_of_several_faults(rt: HostRuntime) -> Result<(), Fail> {
-    let cases = [
-        ("thing = 1\nzone = 1", "0 0 0 unknown name"),
-        ("zone = [{id = 'z'}]\nhost = 1", "1 1 3 missing key"),
-        (
-            "host = [{id = 'h', zone = 'z', speed = 'x'}, 1]\nzone = [{id = 'z', routing = 'Full'}]",
-            "2 1 3 bad value",
-        ),
-        (
-            "host = [{id = '', zone = 'q', speed = 'x', core = 0}]",
-            "2 1 1 bad name",
-        ),
-        ("host = [{zone = 'q', cores = 0}, {}]", "2 1 0 unknown name"),
-        (
-            "route = [1]\nlink = [{id = 'l', bandwidth = '1'}, {}]",
-            "4 2 1 missing key",
-        ),
-        (
-            "spoke = 1\nzone_route = [{src = 1, dst = 2}]",
-            "6 1 1 wrong type",
-        ),
-    ];
-    for (text, want) in cases {
+fn tells_the_least_fault_of_a_text(rt: HostRuntime) -> Result<(), Fail> {
+    for (text, want) in TEXTS {
         let told = told(rt.alloc(), text.as_bytes())?;
         assert_eq!(rt; told.as_str(), want, "for {text}");
     }
-    Ok(())
-}
-
-#[test]
-fn takes_each_form_of_toml(rt: HostRuntime) -> Result<(), Fail> {
-    let cases = [
-        ("", "fine"),
-        ("\u{feff}zone = []", "fine"),
-        ("# nothing\r\nhost = []\r\nzone = []", "fine"),
-        (
-            "[[zone]]\nid = 'z'\nrouting = \"Full\"\n[[host]]\nid = 'h'\nzone = 'z'\nspeed = '1'\ncore = 0b10",
-            "fine",
-        ),
-        ("[zone]\nid = 'z'", "1 0 0 wrong type"),
-        ("host.h = 1", "2 0 0 wrong type"),
-        ("[[zone]]\nid = 'z'\nrouting.x = 'Full'", "1 1 3 wrong type"),
-        (
-            "[[zone]]\nid = 'z'\nrouting = 'Full'\n[zone.deep]",
-            "1 1 0 unknown name",
-        ),
-        ("host = [", "not TOML"),
-        ("host", "not TOML"),
-        ("zone = []\nzone = []", "not TOML"),
-        ("zone = []\n[[zone]]", "not TOML"),
-        ("host = [{core = 9223372036854775808}]", "not TOML"),
-        ("host = [{id = 'h', id = 'g'}]", "not TOML"),
-    ];
-    for (text, want) in cases {
-        let told = told(rt.alloc(), text.as_bytes())?;
-        assert_eq!(rt; told.as_str(), want, "for {text}");
-    }
-    assert_eq!(rt; told(rt.alloc(), b"zone = [] # \xff")?.as_str(), "not TOML");
     Ok(())
 }
 
 #[test]
 fn a_list_has_at_most_64_links(rt: HostRuntime) -> Result<(), Fail> {
-    let cases = [
-        ("5 1 3", "route = [{src = 'h', dst = 'g', links = "),
-        ("6 1 5", "zone_route = [{src = 'h', dst = 'g', links = "),
-        ("7 1 4", "spoke = [{zone = 'y', child = 'r', up = "),
-        (
-            "7 1 5",
-            "spoke = [{zone = 'y', child = 'r', up = ['l'], down = ",
-        ),
-    ];
-    let lists = [
-        (list(rt.alloc(), "'l'", 64)?, "fine"),
-        (list(rt.alloc(), "'l'", 65)?, "over a limit"),
-        // The earlier kind is told.
-        (list(rt.alloc(), "'q'", 65)?, "unknown name"),
-    ];
-    for (place, head) in cases {
-        for (links, kind) in &lists {
-            let text = format!(in rt.alloc(); "{head}{links}}}]")?;
-            let told = told_beside(rt.alloc(), place, text.as_str())?;
-            let want = format!(in rt.alloc(); "{place} {kind}")?;
-            assert!(rt;
-                told == want || *kind == "fine" && told.as_str() == "fine",
-                "{told} for {want}"
-            );
-        }
+    for (head, item, count, want) in LISTS {
+        let table = repeated(rt.alloc(), head, item, count, "]}]")?;
+        let told = told_beside(rt.alloc(), "", table.as_str())?;
+        assert_eq!(rt; told.as_str(), want, "for {count} in {head}");
     }
     Ok(())
 }
 
 #[test]
-fn each_table_has_its_limit_of_rows(rt: HostRuntime) -> Result<(), Fail> {
-    let limits = [
-        (1, "zone", 1_024),
-        (2, "host", 16_384),
-        (3, "router", 16_384),
-        (4, "link", 65_536),
-        (5, "route", 262_144),
-        (6, "zone_route", 262_144),
-        (7, "spoke", 32_768),
-    ];
-    for (number, table, limit) in limits {
-        let most = list(rt.alloc(), "0", limit)?;
-        let text = format!(in rt.alloc(); "{table} = {most}")?;
-        let want = format!(in rt.alloc(); "{number} 1 0 wrong type")?;
-        assert_eq!(rt; told(rt.alloc(), text.as_bytes())?, want);
-        let more = list(rt.alloc(), "0", limit + 1)?;
-        let text = format!(in rt.alloc(); "{table} = {more}")?;
-        let want = format!(in rt.alloc(); "{number} 0 0 over a limit")?;
-        assert_eq!(rt; told(rt.alloc(), text.as_bytes())?, want);
+fn texts_and_tables_have_their_limits(rt: HostRuntime) -> Result<(), Fail> {
+    for (head, item, count, want) in LIMITS {
+        let text = repeated(rt.alloc(), head, item, count, "]")?;
+        let told = told(rt.alloc(), text.as_bytes())?;
+        assert_eq!(rt; told.as_str(), want, "for {count} in {head}");
     }
-    Ok(())
-}
-
-#[test]
-fn a_text_has_at_most_16_mib(rt: HostRuntime) -> Result<(), Fail> {
-    let mut text = Vec::from_slice(rt.alloc(), b"host = [ #")?;
-    text.resize(16_777_216, b'.')?;
-    assert_eq!(rt; told(rt.alloc(), &text)?.as_str(), "not TOML");
-    text.push(b'.')?;
-    assert_eq!(rt; told(rt.alloc(), &text)?.as_str(), "0 0 0 over a limit");
     Ok(())
 }
