@@ -14,7 +14,7 @@ use Rattle.sg_platform.specs.Platform.{Platform}
 use Rattle.sg_script.specs.Asked.{asked}
 use Rattle.sg_script.specs.Known.{known_in}
 use Rattle.sg_script.specs.Stands.{Reads}
-use Rattle.sg_script.proofs.Whole.{GoesOn}
+use Rattle.sg_script.specs.Rest.{GoesOn}
 use Rattle.sg_engine.specs.declared.ended.Ended.{Ended}
 use Rattle.sg_engine.specs.Gains.{is_cut, Ends, GainsAll, GainsFronts, IsBroken}
 use Rattle.sg_engine.specs.Output.{trace_of, last_lines, fault_line, written_of, run_output, kernel_setup}

@@ -10,7 +10,7 @@ use Rattle.sg_kernel.specs.World.{Core, World}
 use Rattle.sg_script.specs.Asked.{asked}
 use Rattle.sg_script.specs.Known.{Known as Names}
 use Rattle.sg_script.specs.Stands.{Reads}
-use Rattle.sg_script.proofs.Whole.{GoesOn}
+use Rattle.sg_script.specs.Rest.{GoesOn}
 use Rattle.sg_engine.specs.declared.ended.Ended.{Ended}
 use Rattle.sg_engine.specs.Gains.{is_cut}
 use Rattle.sg_engine.specs.Run.{Answering, Progress}
