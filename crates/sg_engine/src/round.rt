@@ -116,14 +116,7 @@ pub fn answer_calls<F: Files>(
     ensures others { Only Part.Script (F.shows files.old) (F.shows files.new) }
 {
     for made in calls {
-        match answer_one(
-            kernel,
-            script,
-            deployment,
-            files,
-            made.actor,
-            made.call,
-        ) {
+        match answer_one(kernel, script, deployment, files, made.actor, made.call) {
             Ok(None) => {}
             Ok(Some(how)) => return Ok(Some(how)),
             Err(Memory) => return Err(Memory),

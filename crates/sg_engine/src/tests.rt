@@ -17,6 +17,7 @@ host = [{id = 'h1', zone = 'z', speed = '1Gf'}]
 
 /// One actor, and a second one.
 const FIRST: &str = "[[actor]]\nname = 'p0'\nhost = 'h1'\nfunction = 'replay'\n";
+
 const SECOND: &str = "[[actor]]\nname = 'p1'\nhost = 'h1'\nfunction = 'replay'\n";
 
 /// A setup of these actors.
@@ -88,13 +89,7 @@ fn stops_at_the_budget(rt: HostRuntime) -> Result<(), Fail> {
         ),
     ];
     for (budget, how, trace, last) in cases {
-        let (ended, out) = ends::<Brand>(
-            alloc,
-            &setup,
-            "p0 compute 1e9\n",
-            budget,
-            Blank::new(1),
-        )?;
+        let (ended, out) = ends::<Brand>(alloc, &setup, "p0 compute 1e9\n", budget, Blank::new(1))?;
         let want = format!(in alloc; "{trace}{last}")?;
         assert_eq!(rt; ended, how, "for {budget}");
         assert_eq!(rt; out.held(Stream::Out), want.as_bytes(), "for {budget}");
@@ -108,14 +103,9 @@ fn stops_between_two_ends_of_a_date(rt: HostRuntime) -> Result<(), Fail> {
     let alloc = rt.alloc();
     let both = format!(in alloc; "{FIRST}{SECOND}")?;
     let setup = setup(alloc, both.as_str())?;
-    let (ended, out) = ends::<Brand>(
-        alloc,
-        &setup,
-        "p0 sleep 1\np1 sleep 1\n",
-        5,
-        Blank::new(1),
-    )?;
-    let want = "[h1:p0:(1) 1.000000000] sleep 1.000000000\nbudget of 5 events used at 1.000000000\n";
+    let (ended, out) = ends::<Brand>(alloc, &setup, "p0 sleep 1\np1 sleep 1\n", 5, Blank::new(1))?;
+    let want =
+        "[h1:p0:(1) 1.000000000] sleep 1.000000000\nbudget of 5 events used at 1.000000000\n";
     assert_eq!(rt; ended, Ended::Budget);
     assert_eq!(rt; out.held(Stream::Out), want.as_bytes());
     Ok(())

@@ -34,16 +34,16 @@ keep-requires c =
     let done = last_id queue k in
     let here = c.run_queue-queue.ensures.ids k (record { 0 = 0 }) c.loop-actor-test.true in
     omega (
-    arith,
-    ap length inv.calls,
-    listed_short 1 (zip_with call_after (take done had) (take done answers)),
-    turned_short had answers done,
-    last_before c.args.kernel.now.core.actors queue k c.run_queue-queue.ensures c.loop-actor-test.true,
-    here.0,
-    here.1,
-    c.requires.minds,
-    c.requires.room,
-    inv.room
+      arith,
+      ap length inv.calls,
+      listed_short 1 (zip_with call_after (take done had) (take done answers)),
+      turned_short had answers done,
+      last_before c.args.kernel.now.core.actors queue k c.run_queue-queue.ensures c.loop-actor-test.true,
+      here.0,
+      here.1,
+      c.requires.minds,
+      c.requires.room,
+      inv.room,
     )
 
 pub loop-actor-preserved : goal.loop-actor-preserved
