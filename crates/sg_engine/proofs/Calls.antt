@@ -1,32 +1,25 @@
 -- Calls that are answered one after another.
-use Rattle.std.proofs.Common.{◌≡◌, ◌≢◌, ◌∙◌, sym, ap, ap₂, subst, refl, ℕ, ◌+◌, ◌-◌, ◌==◌, ◌<◌, ◌≤◌, Bool, true, false, cond, List, [], ◌++◌, length, set, get_or, drop, Option, None, Some, Result, Ok, Err, IsTrue, arith, append_assoc}
+use Rattle.std.proofs.Common.{◌≡◌, ◌≢◌, ◌∙◌, sym, ap, ap₂, subst, refl, ℕ, ◌+◌, ◌==◌, ◌<◌, ◌≤◌, Bool, true, false, cond, List, [], ◌++◌, length, get_or, drop, Option, None, Some, Result, Ok}
 use Rattle.std.specs.Prelude.{option_map}
-use Rattle.std.proofs.lemmas.List.{append-nil, get_or-set_other, length-set, at_drop_more, at_drop_all}
+use Rattle.std.proofs.lemmas.List.{append-nil, at_drop_more, at_drop_all}
 use Rattle.sg_base.specs.declared.call.Action.{Action}
-use Rattle.sg_base.specs.declared.call.Call.{Call}
-use Rattle.sg_base.specs.declared.call.Call.TheVariants as call
 use Rattle.sg_base.specs.declared.trace_record.Record.{Record}
 use Rattle.sg_base.specs.Mind.{Mind}
 use Rattle.sg_edge.specs.Files.{PartView}
-use Rattle.sg_edge.specs.Given.{Source}
 use Rattle.sg_edge.specs.declared.files.Stage.TheVariants.{Fresh}
-use Rattle.sg_kernel.specs.declared.states.State.{State}
-use Rattle.sg_kernel.specs.declared.states.State.TheVariants.{Ended as HasEnded}
-use Rattle.sg_kernel.specs.World.{Setup, Core, World, MayCall, is_ready}
-use Rattle.sg_kernel.specs.Calls.{Step, answered, answered_call, told, stops}
-use Rattle.sg_kernel.specs.Known.{Known, after}
-use Rattle.sg_kernel.specs.declared.states.Stop.TheVariants.{Budget}
+use Rattle.sg_kernel.specs.World.{Setup, Core, World}
+use Rattle.sg_kernel.specs.Calls.{Step, told}
+use Rattle.sg_kernel.specs.Known.{Known}
 use Rattle.sg_script.specs.Asked.{asked}
 use Rattle.sg_script.specs.Known.{Known as Names}
 use Rattle.sg_script.specs.Stands.{Kept, IsAsked, Reads, one_more}
 use Rattle.sg_script.specs.declared.fault.ScriptFault.{ScriptFault}
 use Rattle.sg_script.proofs.Chains.{reads_none, reads_then}
-use Rattle.sg_script.specs.Rest.{GoesOn}
 use Rattle.sg_engine.specs.declared.actor_call.ActorCall.{ActorCall}
 use Rattle.sg_engine.specs.declared.ended.Ended.{Ended}
 use Rattle.sg_engine.specs.declared.ended.Ended.TheVariants as ended
 use Rattle.sg_engine.specs.Listed.{calls_of}
-use Rattle.sg_engine.specs.Run.{Answering, Progress, at_world, with_front, and_then, ended_by, in_world, ask, tells, one_call}
+use Rattle.sg_engine.specs.Run.{Answering, Progress, at_world, and_then, ended_by, in_world, ask, tells, one_call}
 use Rattle.sg_engine.specs.Reached.{Moment, moment, StandsFor, Reached, CutOff, ending}
 use Rattle.sg_engine.proofs.Reaching.{reached_then, reached_as, rest_as, goes_on_to, ends_at, stands_as}
 

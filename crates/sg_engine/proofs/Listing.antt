@@ -1,5 +1,5 @@
 -- The calls of a round, with those that weren't made and without.
-use Rattle.std.proofs.Common.{◌≡◌, ◌≢◌, ◌∙◌, sym, ap, ap₂, subst, refl, ℕ, zero, suc, ◌+◌, ◌-◌, ◌<◌, ◌≤◌, List, [], ◌∷◌, ◌++◌, length, get_or, take, drop, Option, None, Some, IsTrue, Bool, true, false, true≢false, inl, inr, arith}
+use Rattle.std.proofs.Common.{◌≡◌, ◌≢◌, ◌∙◌, sym, ap, ap₂, subst, refl, ℕ, zero, suc, ◌+◌, ◌-◌, ◌<◌, ◌≤◌, List, [], ◌∷◌, ◌++◌, length, get_or, take, drop, Option, None, Some, IsTrue, inl, inr, arith}
 use Rattle.std.specs.Prelude.{All, AllPairs, IfSome, map}
 use Rattle.std.proofs.lemmas.Bool.{cases_lt}
 use Rattle.std.proofs.lemmas.List.{append-nil, get_or_default, take_all, drop_all}
@@ -18,7 +18,7 @@ use Rattle.sg_kernel.specs.World.{Setup, Core, World, MayCall, inbox_of, is_read
 use Rattle.sg_engine.specs.declared.actor_call.ActorCall.{ActorCall}
 use Rattle.sg_engine.specs.declared.ended.Ended.{Ended as Ending}
 use Rattle.sg_engine.specs.Listed.{listed_one, listed, calls_of}
-use Rattle.sg_engine.specs.Run.{Answering, Progress, at_world, with_front, and_then, and_then_by, one_call, if_call, calls_from, zip_with, call_after, mind_after, inboxes}
+use Rattle.sg_engine.specs.Run.{Answering, Progress, with_front, and_then, and_then_by, one_call, if_call, calls_from, zip_with, call_after, mind_after, inboxes}
 use Rattle.sg_engine.proofs.Turning.{call_may}
 
 -- ---- what isn't there is answered by nothing

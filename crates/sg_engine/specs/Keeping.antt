@@ -2,8 +2,6 @@
 use Rattle.std.specs.Prelude.{◌≡◌, ◌≤◌, ℕ, List, [], length, map, Option, MatchBool, vec_capacity}
 use Rattle.sg_base.specs.Mind.{Mind}
 use Rattle.sg_edge.specs.Files.{PartView}
-use Rattle.sg_kernel.specs.Known.{Known, first_core}
-use Rattle.sg_kernel.specs.World.{World}
 use Rattle.sg_platform.specs.Deployment.{Deployed}
 use Rattle.sg_platform.specs.Platform.{Platform}
 use Rattle.sg_script.specs.Known.{Known as Names, known_in}

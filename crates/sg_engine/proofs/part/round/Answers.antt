@@ -1,4 +1,4 @@
-use Rattle.std.proofs.Common.{◌≡◌, ◌≤◌, ◌<◌, ◌∙◌, sym, ap, ap₂, subst, arith, List, map, length}
+use Rattle.std.proofs.Common.{◌≡◌, ◌<◌, ◌∙◌, sym, ap, ap₂, subst, arith, List, map, length}
 use Rattle.std.proofs.lemmas.List.{length-map}
 use Rattle.sg_base.specs.Limits.{IsCall}
 use Rattle.std.specs.Prelude.{All, AllPairs}
@@ -10,7 +10,6 @@ use Rattle.sg_engine.specs.Minds.{shown}
 use Rattle.sg_engine.specs.Run.{Answering, zip_with, mind_after, call_after, inboxes, calls_from}
 use Rattle.sg_engine.proofs.Listing.{calls_listed, listed_may, listed_rises, listed_short, row_short}
 use Rattle.sg_engine.proofs.Reaching.{matched_as}
-use Rattle.sg_engine.proofs.Turning.{length-zip_with}
 use Rattle.sg_engine.proofs.part.round.Goals as goal
 
 pub answer_calls-requires-clause-callers : goal.answer_calls-requires-clause-callers

@@ -1,4 +1,4 @@
-use Rattle.std.proofs.Common.{◌≡◌, ◌≢◌, ◌+◌, ◌∙◌, sym, ap, refl, arith, get_or, None, Some}
+use Rattle.std.proofs.Common.{◌∙◌, refl, arith, get_or}
 use Rattle.sg_script.proofs.Chains.{reads_none}
 use Rattle.sg_engine.proofs.Reaching.{reached_none}
 use Rattle.sg_engine.proofs.Calls.{rest_from, one_more_call, last_call, all_called, cut_later}

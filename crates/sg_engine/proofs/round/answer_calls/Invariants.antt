@@ -1,6 +1,5 @@
 use Rattle.std.proofs.Common.{◌≡◌, ◌+◌, ◌<◌, ◌≤◌, ℕ, List, length, get_or}
 use Rattle.sg_base.specs.Mind.{Mind}
-use Rattle.sg_base.specs.Limits.{IsCall}
 use Rattle.sg_edge.specs.declared.files.Part.TheVariants.{Script}
 use Rattle.sg_edge.specs.Files.{Only}
 use Rattle.sg_kernel.specs.World.{World, MayCall}

@@ -1,13 +1,8 @@
-use Rattle.std.proofs.Common.{◌≡◌, ◌+◌, ◌-◌, ◌<◌, ◌≤◌, ◌++◌, ◌∙◌, ℕ, [], List, None, length, map, get_or, take, drop, sym, ap, refl, arith}
-use Rattle.std.specs.Prelude.{All}
+use Rattle.std.proofs.Common.{◌≡◌, ◌+◌, ◌-◌, ◌<◌, ◌≤◌, ◌++◌, ◌∙◌, ℕ, None, length, map, get_or, take, drop, sym, ap, refl, arith}
 use Rattle.std.proofs.lemmas.List.{length-map}
-use Rattle.std.proofs.lemmas.List.Elements.{All-nil}
 use Rattle.std.proofs.Math.ListN.{get_or-map}
-use Rattle.sg_base.specs.Limits.{IsCall}
-use Rattle.sg_base.specs.Mind.{Mind}
 use Rattle.sg_kernel.specs.declared.states.State.TheVariants.{Ended}
 use Rattle.sg_kernel.specs.World.{inbox_of}
-use Rattle.sg_engine.specs.declared.actor_call.ActorCall.{ActorCall}
 use Rattle.sg_engine.specs.Listed.{listed}
 use Rattle.sg_engine.specs.Minds.{shown}
 use Rattle.sg_engine.specs.Run.{zip_with, mind_after, call_after, inboxes}

@@ -1,4 +1,4 @@
-use Rattle.std.proofs.Common.{◌≡◌, ◌≤◌, ◌++◌, length, map, take, drop, vec_capacity}
+use Rattle.std.proofs.Common.{◌≡◌, ◌++◌, map, take, drop, vec_capacity}
 use Rattle.std.specs.Prelude.{All}
 use Rattle.sg_base.specs.Limits.{IsCall}
 use Rattle.sg_engine.specs.declared.actor_call.ActorCall.{ActorCall}
