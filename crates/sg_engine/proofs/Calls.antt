@@ -1,30 +1,25 @@
 -- Calls that are answered one after another.
-use Rattle.std.proofs.Common.{◌≡◌, ◌≢◌, ◌∙◌, sym, ap, ap₂, subst, refl, ℕ, ◌+◌, ◌-◌, ◌==◌, ◌<◌, ◌≤◌, Bool, true, false, cond, List, [], ◌++◌, length, set, get_or, drop, Option, None, Some, Result, Ok, Err, IsTrue, arith, append_assoc}
+use Rattle.std.proofs.Common.{◌≡◌, ◌≢◌, ◌∙◌, sym, ap, ap₂, subst, refl, ℕ, ◌+◌, ◌==◌, ◌<◌, ◌≤◌, Bool, true, false, cond, List, [], ◌++◌, length, get_or, drop, Option, None, Some, Result, Ok}
 use Rattle.std.specs.Prelude.{option_map}
-use Rattle.std.proofs.lemmas.List.{append-nil, get_or-set_other, length-set, at_drop_more, at_drop_all}
+use Rattle.std.proofs.lemmas.List.{append-nil, at_drop_more, at_drop_all}
 use Rattle.sg_base.specs.declared.call.Action.{Action}
-use Rattle.sg_base.specs.declared.call.Call.{Call}
-use Rattle.sg_base.specs.declared.call.Call.TheVariants as call
 use Rattle.sg_base.specs.declared.trace_record.Record.{Record}
 use Rattle.sg_base.specs.Mind.{Mind}
 use Rattle.sg_edge.specs.Files.{PartView}
-use Rattle.sg_edge.specs.Given.{Source}
 use Rattle.sg_edge.specs.declared.files.Stage.TheVariants.{Fresh}
-use Rattle.sg_kernel.specs.declared.states.State.{State}
-use Rattle.sg_kernel.specs.declared.states.State.TheVariants.{Ended as HasEnded}
-use Rattle.sg_kernel.specs.World.{Setup, Core, World, MayCall, is_ready}
-use Rattle.sg_kernel.specs.Calls.{Step, answered, answered_call, told, stops}
-use Rattle.sg_kernel.specs.Known.{Known, after}
-use Rattle.sg_kernel.specs.declared.states.Stop.TheVariants.{Budget}
+use Rattle.sg_kernel.specs.World.{Setup, Core, World}
+use Rattle.sg_kernel.specs.Calls.{Step, told}
+use Rattle.sg_kernel.specs.Known.{Known}
 use Rattle.sg_script.specs.Asked.{asked}
 use Rattle.sg_script.specs.Known.{Known as Names}
 use Rattle.sg_script.specs.Stands.{Kept, IsAsked, Reads, one_more}
 use Rattle.sg_script.specs.declared.fault.ScriptFault.{ScriptFault}
 use Rattle.sg_script.proofs.Chains.{reads_none, reads_then}
-use Rattle.sg_script.proofs.Whole.{GoesOn}
+use Rattle.sg_engine.specs.declared.actor_call.ActorCall.{ActorCall}
 use Rattle.sg_engine.specs.declared.ended.Ended.{Ended}
 use Rattle.sg_engine.specs.declared.ended.Ended.TheVariants as ended
-use Rattle.sg_engine.specs.Run.{Answering, Progress, at_world, with_front, and_then, ended_by, in_world, ask, tells, one_call, if_call, calls_from}
+use Rattle.sg_engine.specs.Listed.{calls_of}
+use Rattle.sg_engine.specs.Run.{Answering, Progress, at_world, and_then, ended_by, in_world, ask, tells, one_call}
 use Rattle.sg_engine.specs.Reached.{Moment, moment, StandsFor, Reached, CutOff, ending}
 use Rattle.sg_engine.proofs.Reaching.{reached_then, reached_as, rest_as, goes_on_to, ends_at, stands_as}
 
@@ -100,43 +95,46 @@ told_to names taken minds part part' kept kept' old new world actor action how s
     (is ∙ ap (λ (c : Core). option_map ended_by (step c).stop) same))
 
 -- ---- calls one after another
-calls_more : (setup : Setup) (answers : Answering) (calls : List (Option Call)) (i : ℕ) (world : World) → i < length calls →
-    calls_from setup answers (i + 1) (drop i calls) world ≡ and_then (if_call setup answers (i + 1) (get_or calls i None) world) (calls_from setup answers (i + 1 + 1) (drop (i + 1) calls))
-unfolding calls_from
-calls_more setup answers calls i world within = at_drop_more (λ l. calls_from setup answers (i + 1) l world) calls i None within
+calls_more : (setup : Setup) (answers : Answering) (calls : List ActorCall) (i : ℕ) (d : ActorCall) (world : World) → i < length calls →
+    calls_of setup answers (drop i calls) world ≡ and_then (one_call setup answers (get_or calls i d).actor.0 (get_or calls i d).call world) (calls_of setup answers (drop (i + 1) calls))
+unfolding calls_of
+calls_more setup answers calls i d world within = at_drop_more (λ l. calls_of setup answers l world) calls i d within
 
-calls_none : (setup : Setup) (answers : Answering) (calls : List (Option Call)) (i : ℕ) (world : World) → length calls ≤ i → calls_from setup answers (i + 1) (drop i calls) world ≡ at_world None world
-unfolding calls_from
-calls_none setup answers calls i world past = at_drop_all (λ l. calls_from setup answers (i + 1) l world) calls i past
+calls_none : (setup : Setup) (answers : Answering) (calls : List ActorCall) (i : ℕ) (world : World) → length calls ≤ i → calls_of setup answers (drop i calls) world ≡ at_world None world
+unfolding calls_of
+calls_none setup answers calls i world past = at_drop_all (λ l. calls_of setup answers l world) calls i past
 
 -- the calls from a place on
-abbrev pub rest_from : Setup → List (Option Call) → ℕ → Answering → World → Progress
-rest_from setup calls i answers world = calls_from setup answers (i + 1) (drop i calls) world
+abbrev pub rest_from : Setup → List ActorCall → ℕ → Answering → World → Progress
+rest_from setup calls i answers world = calls_of setup answers (drop i calls) world
+
+abbrev at_place : Setup → ActorCall → World → Answering → Progress
+at_place setup made world answers = one_call setup answers made.actor.0 made.call world
 
 -- one more call was answered, and the run goes on
-pub one_more_call : (names : Names) (whole : Answering → Progress) (setup : Setup) (calls : List (Option Call)) (i : ℕ) (taken : List ℕ) (minds : List Mind) (old mid new : Moment) → i < length calls → mid.kernel.setup ≡ setup →
-    (first : Reached names whole (rest_from setup calls i) taken minds old mid) → Reached names (λ answers. if_call mid.kernel.setup answers (i + 1) (get_or calls i None) first.world) (ending None) (taken ++ first.piece) minds mid new →
+pub one_more_call : (names : Names) (whole : Answering → Progress) (setup : Setup) (calls : List ActorCall) (i : ℕ) (d : ActorCall) (taken : List ℕ) (minds : List Mind) (old mid new : Moment) → i < length calls → mid.kernel.setup ≡ setup →
+    (first : Reached names whole (rest_from setup calls i) taken minds old mid) → Reached names (λ answers. one_call mid.kernel.setup answers (get_or calls i d).actor.0 (get_or calls i d).call first.world) (ending None) (taken ++ first.piece) minds mid new →
     Reached names whole (rest_from setup calls (i + 1)) taken minds old new
-one_more_call names whole setup calls i taken minds old mid new within same first step =
-    let here : Reached names (λ answers. if_call setup answers (i + 1) (get_or calls i None) first.world) (ending None) (taken ++ first.piece) minds mid new =
-    subst (λ (s : Setup). Reached names (λ answers. if_call s answers (i + 1) (get_or calls i None) first.world) (ending None) (taken ++ first.piece) minds mid new) same step in
+one_more_call names whole setup calls i d taken minds old mid new within same first step =
+    let here : Reached names (at_place setup (get_or calls i d) first.world) (ending None) (taken ++ first.piece) minds mid new =
+    subst (λ (s : Setup). Reached names (at_place s (get_or calls i d) first.world) (ending None) (taken ++ first.piece) minds mid new) same step in
     reached_then names whole (rest_from setup calls i) (rest_from setup calls (i + 1)) taken minds minds old mid new first
-    (reached_as names _ (λ answers. rest_from setup calls i answers first.world) (rest_from setup calls (i + 1)) (taken ++ first.piece) minds mid new (λ answers. calls_more setup answers calls i first.world within)
-    (goes_on_to names (λ answers. if_call setup answers (i + 1) (get_or calls i None) first.world) (rest_from setup calls (i + 1)) (taken ++ first.piece) minds mid new here))
+    (reached_as names _ (λ answers. rest_from setup calls i answers first.world) (rest_from setup calls (i + 1)) (taken ++ first.piece) minds mid new (λ answers. calls_more setup answers calls i d first.world within)
+    (goes_on_to names (at_place setup (get_or calls i d) first.world) (rest_from setup calls (i + 1)) (taken ++ first.piece) minds mid new here))
 
 -- one more call was answered, and the run has ended
-pub last_call : (names : Names) (whole : Answering → Progress) (setup : Setup) (calls : List (Option Call)) (i : ℕ) (how : Ended) (taken : List ℕ) (minds : List Mind) (old mid new : Moment) → i < length calls → mid.kernel.setup ≡ setup →
-    (first : Reached names whole (rest_from setup calls i) taken minds old mid) → Reached names (λ answers. if_call mid.kernel.setup answers (i + 1) (get_or calls i None) first.world) (ending (Some how)) (taken ++ first.piece) minds mid new →
+pub last_call : (names : Names) (whole : Answering → Progress) (setup : Setup) (calls : List ActorCall) (i : ℕ) (d : ActorCall) (how : Ended) (taken : List ℕ) (minds : List Mind) (old mid new : Moment) → i < length calls → mid.kernel.setup ≡ setup →
+    (first : Reached names whole (rest_from setup calls i) taken minds old mid) → Reached names (λ answers. one_call mid.kernel.setup answers (get_or calls i d).actor.0 (get_or calls i d).call first.world) (ending (Some how)) (taken ++ first.piece) minds mid new →
     Reached names whole (ending (Some how)) taken minds old new
-last_call names whole setup calls i how taken minds old mid new within same first step =
-    let here : Reached names (λ answers. if_call setup answers (i + 1) (get_or calls i None) first.world) (ending (Some how)) (taken ++ first.piece) minds mid new =
-    subst (λ (s : Setup). Reached names (λ answers. if_call s answers (i + 1) (get_or calls i None) first.world) (ending (Some how)) (taken ++ first.piece) minds mid new) same step in
+last_call names whole setup calls i d how taken minds old mid new within same first step =
+    let here : Reached names (at_place setup (get_or calls i d) first.world) (ending (Some how)) (taken ++ first.piece) minds mid new =
+    subst (λ (s : Setup). Reached names (at_place s (get_or calls i d) first.world) (ending (Some how)) (taken ++ first.piece) minds mid new) same step in
     reached_then names whole (rest_from setup calls i) (ending (Some how)) taken minds minds old mid new first
-    (reached_as names _ (λ answers. rest_from setup calls i answers first.world) (ending (Some how)) (taken ++ first.piece) minds mid new (λ answers. calls_more setup answers calls i first.world within)
-    (ends_at names (λ answers. if_call setup answers (i + 1) (get_or calls i None) first.world) (rest_from setup calls (i + 1)) how (taken ++ first.piece) minds mid new here))
+    (reached_as names _ (λ answers. rest_from setup calls i answers first.world) (ending (Some how)) (taken ++ first.piece) minds mid new (λ answers. calls_more setup answers calls i d first.world within)
+    (ends_at names (at_place setup (get_or calls i d) first.world) (rest_from setup calls (i + 1)) how (taken ++ first.piece) minds mid new here))
 
 -- no call is left
-pub all_called : (names : Names) (whole : Answering → Progress) (setup : Setup) (calls : List (Option Call)) (i : ℕ) (taken : List ℕ) (minds : List Mind) (old new : Moment) → length calls ≤ i →
+pub all_called : (names : Names) (whole : Answering → Progress) (setup : Setup) (calls : List ActorCall) (i : ℕ) (taken : List ℕ) (minds : List Mind) (old new : Moment) → length calls ≤ i →
     Reached names whole (rest_from setup calls i) taken minds old new → Reached names whole (ending None) taken minds old new
 all_called names whole setup calls i taken minds old new past reached = rest_as names whole (rest_from setup calls i) (ending None) taken minds old new (λ answers world. calls_none setup answers calls i world past) reached
 

@@ -1,20 +1,19 @@
 -- From what a run has come to, to what it has written in all.
-use Rattle.std.proofs.Common.{◌≡◌, ◌∙◌, sym, ap, subst, refl, ℕ, List, [], ◌++◌, Bool, true, false, Option, None, Some, append_assoc}
+use Rattle.std.proofs.Common.{◌≡◌, sym, subst, refl, ℕ, List, [], ◌++◌, Bool, true, false, Option, None, Some}
 use Rattle.std.specs.Prelude.{MatchBool, IsSome}
-use Rattle.sg_base.specs.declared.trace_record.Record.{Record}
 use Rattle.sg_edge.specs.declared.sinks.Stream.{Stream}
 use Rattle.sg_edge.specs.declared.sinks.Stream.TheVariants.{Out, Err}
 use Rattle.sg_edge.specs.declared.files.Stage.TheVariants.{Broken}
 use Rattle.sg_edge.specs.Files.{PartView, before, KeepsTelling}
 use Rattle.sg_edge.specs.Given.{Source}
-use Rattle.sg_edge.specs.Sinks.{gain, GainsFront}
+use Rattle.sg_edge.specs.Sinks.{gain}
 use Rattle.sg_kernel.specs.World.{Core}
 use Rattle.sg_platform.specs.Deployment.{Deployed}
 use Rattle.sg_platform.specs.Platform.{Platform}
 use Rattle.sg_script.specs.Asked.{asked}
 use Rattle.sg_script.specs.Known.{known_in}
 use Rattle.sg_script.specs.Stands.{Reads}
-use Rattle.sg_script.proofs.Whole.{GoesOn}
+use Rattle.sg_script.specs.Rest.{GoesOn}
 use Rattle.sg_engine.specs.declared.ended.Ended.{Ended}
 use Rattle.sg_engine.specs.Gains.{is_cut, Ends, GainsAll, GainsFronts, IsBroken}
 use Rattle.sg_engine.specs.Output.{trace_of, last_lines, fault_line, written_of, run_output, kernel_setup}

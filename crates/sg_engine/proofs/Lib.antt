@@ -1,6 +1,7 @@
 pub mod Calls
 pub mod Endings
 pub mod Fronts
+pub mod Listing
 pub mod PutLines
 pub mod Reaching
 pub mod Simulating

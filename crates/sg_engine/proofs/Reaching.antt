@@ -1,19 +1,19 @@
 -- Stretches of a run, one after another.
-use Rattle.std.proofs.Common.{◌≡◌, ◌∙◌, sym, ap, ap₂, subst, refl, ℕ, List, [], ◌++◌, length, Bool, Option, None, Some, append_assoc}
+use Rattle.std.proofs.Common.{◌≡◌, ◌∙◌, sym, ap, subst, refl, ℕ, List, [], ◌++◌, Option, None, Some, Result, Ok, Err, append_assoc}
+use Rattle.std.specs.Prelude.{MatchResult}
 use Rattle.std.proofs.lemmas.List.{append-nil}
 use Rattle.sg_base.specs.declared.trace_record.Record.{Record}
 use Rattle.sg_base.specs.Mind.{Mind}
 use Rattle.sg_edge.specs.Given.{Source}
-use Rattle.sg_edge.specs.declared.files.Stage.{Stage}
 use Rattle.sg_edge.specs.Files.{PartView}
 use Rattle.sg_kernel.specs.World.{World}
 use Rattle.sg_script.specs.Asked.{asked}
 use Rattle.sg_script.specs.Known.{Known as Names}
-use Rattle.sg_script.specs.Stands.{Kept, Stands, Reads}
-use Rattle.sg_script.proofs.Whole.{GoesOn}
-use Rattle.sg_script.proofs.Chains.{may_back, reads_then, reads_none}
+use Rattle.sg_script.specs.Stands.{Reads}
+use Rattle.sg_script.specs.Rest.{GoesOn}
+use Rattle.sg_script.proofs.Chains.{may_back, reads_then}
 use Rattle.sg_engine.specs.declared.ended.Ended.{Ended}
-use Rattle.sg_engine.specs.Run.{Answering, Progress, at_world, with_front, and_then, and_then_by}
+use Rattle.sg_engine.specs.Run.{Answering, Progress, with_front, and_then}
 use Rattle.sg_engine.specs.Reached.{Moment, StandsFor, Reached, ending}
 
 -- a source that goes on from a later moment goes on from an earlier one
@@ -64,6 +64,11 @@ reached_as names whole other rest taken minds old new same reached = record {
   records = reached.records;
   is = λ source goes. same (asked names source) ∙ reached.is source goes;
 }
+
+pub matched_as : {E : Type 0} (result : Result (Option Ended) E) (names : Names) (whole other : Answering → Progress) (taken : List ℕ) (minds : List Mind) (old new : Moment) (cut : E → Type 0) → ((answers : Answering) → other answers ≡ whole answers) →
+    MatchResult result (λ how. Reached names whole (ending how) taken minds old new) cut → MatchResult result (λ how. Reached names other (ending how) taken minds old new) cut
+matched_as (Ok how) names whole other taken minds old new cut same reached = reached_as names whole other (ending how) taken minds old new same reached
+matched_as (Err why) names whole other taken minds old new cut same step = step
 
 -- the rest in other words
 abbrev pub rest_as : (names : Names) (whole : Answering → Progress) (rest other : Answering → World → Progress) (taken : List ℕ) (minds : List Mind) (old new : Moment) →

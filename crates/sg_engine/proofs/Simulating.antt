@@ -1,22 +1,20 @@
 -- Parts of a run with their lines, one after another.
-use Rattle.std.proofs.Common.{◌≡◌, ◌≢◌, ◌∙◌, sym, ap, ap₂, subst, refl, ℕ, suc, ◌+◌, ◌-◌, ◌<◌, ◌≤◌, List, [], ◌∷◌, ◌++◌, length, Bool, true, false, cond, Option, None, Some, append_assoc, arith}
+use Rattle.std.proofs.Common.{◌≡◌, ◌≢◌, ◌∙◌, sym, ap, ap₂, subst, refl, ℕ, suc, List, [], ◌++◌, Bool, true, false, cond, Option, None, Some, append_assoc}
 use Rattle.std.specs.Prelude.{MatchBool}
 use Rattle.std.specs.List.{list_all}
 use Rattle.std.proofs.lemmas.List.{append-nil}
 use Rattle.sg_base.specs.declared.trace_record.Record.{Record}
 use Rattle.sg_base.specs.Mind.{Mind}
 use Rattle.sg_edge.specs.Files.{PartView}
-use Rattle.sg_edge.specs.Given.{Source}
 use Rattle.sg_edge.specs.declared.files.Stage.TheVariants.{Fresh}
-use Rattle.sg_edge.specs.Sinks.{gain, Written, GainsFront}
+use Rattle.sg_edge.specs.Sinks.{gain, GainsFront}
 use Rattle.sg_edge.proofs.Writing.{gain-gain, gain-nil}
 use Rattle.sg_kernel.specs.Known.{Known}
 use Rattle.sg_kernel.specs.World.{Setup, Core, World, is_ended}
 use Rattle.sg_script.specs.Asked.{asked}
 use Rattle.sg_script.specs.Known.{Known as Names}
-use Rattle.sg_script.specs.Stands.{Kept, Reads}
+use Rattle.sg_script.specs.Stands.{Kept}
 use Rattle.sg_script.proofs.Chains.{reads_then, reads_none}
-use Rattle.sg_script.proofs.Whole.{GoesOn}
 use Rattle.sg_engine.specs.declared.ended.Ended.{Ended}
 use Rattle.sg_engine.specs.declared.ended.Ended.TheVariants as ended
 use Rattle.sg_engine.specs.Reached.{Moment, moment, StandsFor, Reached, CutOff, ending}

@@ -1,7 +1,7 @@
 -- The lists that a run begins with.
 use Rattle.std.proofs.Common.{◌≡◌, ◌≢◌, ◌≤◌, ◌-◌, length, ◌∙◌, sym, ap, ap₂, refl, ℕ, zero, suc, ◌+◌, List, [], ◌∷◌, ◌++◌, arith}
 use Rattle.sg_base.specs.Mind.{Mind, replay_mind}
-use Rattle.std.specs.Prelude.{All, ◌<◌, map}
+use Rattle.std.specs.Prelude.{All, ◌<◌, map, vec_capacity}
 use Rattle.std.proofs.lemmas.List.Elements.{All-map}
 use Rattle.sg_activity.specs.Hosts.{IsHost}
 use Rattle.sg_base.specs.declared.ids.PointId.{PointId}
@@ -71,7 +71,7 @@ length-minds_from me (suc n) = let more = length-minds_from (me + 1) n in omega 
 
 -- the simulation at its beginning
 pub first_kept : (platform : Platform) (deployed : Deployed) (budget : ℕ) (part : PartView) (sim : Simulation) → IsNew platform deployed budget sim.kernel → length (kept_of sim.script).queues - 1 ≡ length deployed.actors → part.stage ≢ Fresh →
-    map shown sim.minds.items ≡ minds_from 1 (length deployed.actors) → length sim.calls.items ≡ length deployed.actors → length deployed.actors ≤ 65536 → sim.buffer ≡ [] → IsKept (length deployed.actors) part sim
+    map shown sim.minds.items ≡ minds_from 1 (length deployed.actors) → length deployed.actors ≤ vec_capacity sim.calls → length deployed.actors ≤ 65536 → sim.buffer ≡ [] → IsKept (length deployed.actors) part sim
 first_kept platform deployed budget part sim new queues begun minds calls few empty = record {
   fits = record { actors = ap (λ (core : Core). length core.actors) new.core ∙ length-replicate (length deployed.actors) (Ready answer.Start); queues = queues; begun = begun };
   homes = ap (λ (s : Setup). length s.homes) new.setup ∙ length-map deployed.actors home_of;

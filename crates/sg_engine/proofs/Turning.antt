@@ -1,10 +1,7 @@
 -- Turns that are taken one after another.
-use Rattle.std.proofs.Common.{◌≡◌, ◌≢◌, ◌∙◌, sym, ap, ap₂, subst, refl, ℕ, zero, suc, ◌+◌, ◌-◌, ◌<◌, ◌≤◌, List, [], ◌∷◌, ◌++◌, map, length, set, get_or, take, drop, Option, None, Some, IsTrue, true, inl, inr, arith}
-use Rattle.std.specs.Prelude.{IfSome}
-use Rattle.std.proofs.lemmas.List.{map-set, length-map, get_or-set_same, get_or-set_other}
-use Rattle.std.proofs.lemmas.Bool.{cases_eq}
+use Rattle.std.proofs.Common.{◌≡◌, ◌∙◌, sym, ap, ap₂, subst, refl, ℕ, zero, suc, ◌+◌, ◌-◌, ◌<◌, ◌≤◌, List, [], ◌∷◌, ◌++◌, map, length, set, get_or, take, drop, Option, None, Some, IsTrue, true, arith}
+use Rattle.std.proofs.lemmas.List.{map-set, length-map}
 use Rattle.std.proofs.Math.ListN.{get_or-map}
-use Rattle.sg_base.specs.Limits.{IsCall}
 use Rattle.sg_base.specs.declared.call.Answer.{Answer}
 use Rattle.sg_engine.specs.declared.minds.Mind.{Mind as Plain}
 use Rattle.sg_engine.specs.Minds.{shown}
@@ -48,7 +45,7 @@ filled_at f (x ∷ xs) (y ∷ ys) zero d within same = refl
 filled_at f (x ∷ xs) (y ∷ ys) (suc i) d within same = let same' : length ys ≡ length xs = omega (arith, same) in filled_at f xs ys i d (omega (arith, within)) same'
 
 -- what the actor had in mind and what it was answered, as the definition has it
-turn_at : (minds now : List Plain) (answers : List (Option Answer)) (i : ℕ) (d : Plain) → i < length minds → length answers ≡ length minds →
+pub turn_at : (minds now : List Plain) (answers : List (Option Answer)) (i : ℕ) (d : Plain) → i < length minds → length answers ≡ length minds →
     map shown now ≡ zip_with mind_after (take i (map shown minds)) (take i answers) ++ drop i (map shown minds) → shown (get_or now i d) ≡ get_or (map shown minds) i (shown d)
 turn_at minds now answers i d within same inv =
     sym (get_or-map shown now i d)
@@ -64,25 +61,29 @@ minds_more minds now answers i turned d answer within same inv has is =
     ∙ filled_more mind_after (map shown minds) answers (map shown minds) (map shown now) i (shown turned) (shown d) None (omega (arith, within, length-map minds shown)) (same ∙ sym (length-map minds shown)) refl inv
     (is ∙ ap₂ mind_after (turn_at minds now answers i d within same inv) has)
 
-pub calls_made : (minds now : List Plain) (answers : List (Option Answer)) (old calls : List (Option Call)) (i : ℕ) (d : Plain) (answer : Option Answer) (call : Option Call) → i < length minds → length answers ≡ length minds → length old ≡ length minds →
-    map shown now ≡ zip_with mind_after (take i (map shown minds)) (take i answers) ++ drop i (map shown minds) → calls ≡ zip_with call_after (take i (map shown minds)) (take i answers) ++ drop i old →
-    answer ≡ get_or answers i None → call ≡ call_after (shown (get_or now i d)) answer →
-    set calls i call ≡ zip_with call_after (take (i + 1) (map shown minds)) (take (i + 1) answers) ++ drop (i + 1) old
-calls_made minds now answers old calls i d answer call within same as_many inv made has is =
-    filled_more call_after (map shown minds) answers old calls i call (shown d) None (omega (arith, within, length-map minds shown)) (same ∙ sym (length-map minds shown)) (as_many ∙ sym (length-map minds shown)) made
-    (is ∙ ap₂ call_after (turn_at minds now answers i d within same inv) has)
+-- ---- who has no answer is passed over
+none_turned : (xs : List Mind) (ys : List (Option Answer)) (c : ℕ) → length ys ≡ length xs → ((j : ℕ) → j < c → get_or ys j None ≡ None) → zip_with mind_after (take c xs) (take c ys) ++ drop c xs ≡ xs
+none_turned [] ys zero same none = refl
+none_turned [] ys (suc c) same none = refl
+none_turned (x ∷ xs) [] c same none = absurd (omega (arith, same))
+none_turned (x ∷ xs) (y ∷ ys) zero same none = refl
+none_turned (x ∷ xs) (y ∷ ys) (suc c) same none =
+    let less : length ys ≡ length xs = omega (arith, same) in
+    ap₂ (λ (m : Mind) (l : List Mind). m ∷ l) (ap (mind_after x) (none 0 (omega arith))) (none_turned xs ys c less (λ j within. none (suc j) (omega (arith, within))))
 
-limited_some : (call : Option Call) (what : Call) → IfSome call IsCall → call ≡ Some what → IsCall what
-limited_some None what limited is = absurd (cc is)
-limited_some (Some call) what limited is = let same : call ≡ what = cc is in subst IsCall same limited
-
-pub limited_more : (calls : List (Option Call)) (i : ℕ) (call : Option Call) → i < length calls → ((j : ℕ) (what : Call) → j < i → get_or calls j None ≡ Some what → IsCall what) → IfSome call IsCall →
-    (j : ℕ) (what : Call) → j < i + 1 → get_or (set calls i call) j None ≡ Some what → IsCall what
-limited_more calls i call within before limited j what below is =
-    elim (cases_eq j i) [
-      | inl same ↦ limited_some call what limited (sym (get_or-set_same calls i call None within) ∙ ap (λ (n : ℕ). get_or (set calls i call) n None) (sym same) ∙ is)
-      | inr apart ↦ before j what (omega (arith, below, apart)) (sym (get_or-set_other calls i j call None apart) ∙ is)
-    ]
+-- the minds stay where nobody between has an answer
+pub skipped_minds : (xs : List Mind) (ys : List (Option Answer)) (b c : ℕ) → b ≤ c → length ys ≡ length xs → ((j : ℕ) → b ≤ j → j < c → get_or ys j None ≡ None) →
+    zip_with mind_after (take b xs) (take b ys) ++ drop b xs ≡ zip_with mind_after (take c xs) (take c ys) ++ drop c xs
+skipped_minds [] ys zero zero le same none = refl
+skipped_minds [] ys zero (suc c) le same none = refl
+skipped_minds [] ys (suc b) zero le same none = absurd (omega (arith, le))
+skipped_minds [] ys (suc b) (suc c) le same none = refl
+skipped_minds (x ∷ xs) [] b c le same none = absurd (omega (arith, same))
+skipped_minds (x ∷ xs) (y ∷ ys) zero c le same none = sym (none_turned (x ∷ xs) (y ∷ ys) c same (λ j within. none j (omega arith) within))
+skipped_minds (x ∷ xs) (y ∷ ys) (suc b) zero le same none = absurd (omega (arith, le))
+skipped_minds (x ∷ xs) (y ∷ ys) (suc b) (suc c) le same none =
+    let less : length ys ≡ length xs = omega (arith, same) in
+    ap (λ (l : List Mind). mind_after x y ∷ l) (skipped_minds xs ys b c (omega (arith, le)) less (λ j from to. none (suc j) (omega (arith, from)) (omega (arith, to))))
 
 -- ---- who has a call was ready
 some_call : (m : Mind) (s : State) (what : Call) → call_after m (inbox_of s) ≡ Some what → is_ready s ≡ true

@@ -1,9 +1,7 @@
 -- What a simulation keeps from one part of a run to the next.
-use Rattle.std.specs.Prelude.{◌≡◌, ◌≤◌, ℕ, List, [], length, map, Option, MatchBool}
+use Rattle.std.specs.Prelude.{◌≡◌, ◌≤◌, ℕ, List, [], length, map, Option, MatchBool, vec_capacity}
 use Rattle.sg_base.specs.Mind.{Mind}
 use Rattle.sg_edge.specs.Files.{PartView}
-use Rattle.sg_kernel.specs.Known.{Known, first_core}
-use Rattle.sg_kernel.specs.World.{World}
 use Rattle.sg_platform.specs.Deployment.{Deployed}
 use Rattle.sg_platform.specs.Platform.{Platform}
 use Rattle.sg_script.specs.Known.{Known as Names, known_in}
@@ -23,12 +21,12 @@ at_moment part sim = moment part (kept_of sim.script) sim.kernel
 abbrev pub minds_of : Simulation → List Mind
 minds_of sim = map shown sim.minds.items
 
--- all lists are of so many actors, and no record and no line waits
+-- all lists are of so many actors, there is room for a call of each, and no record and no line waits
 pub record IsKept (actors : ℕ) (part : PartView) (sim : Simulation) : Type 0 where
   pub fits : Fits actors (at_moment part sim)
   pub homes : length sim.kernel.setup.homes ≡ actors
   pub minds : length sim.minds.items ≡ actors
-  pub calls : length sim.calls.items ≡ actors
+  pub calls : actors ≤ vec_capacity sim.calls
   pub few : actors ≤ 65536
   pub cleared : sim.kernel.records ≡ []
   pub empty : sim.buffer ≡ []

@@ -1,6 +1,7 @@
 pub mod Faults
 pub mod Gains
 pub mod Keeping
+pub mod Listed
 pub mod Minds
 pub mod Output
 pub mod Reached

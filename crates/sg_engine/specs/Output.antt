@@ -1,5 +1,5 @@
 -- What a run writes, and how it ends.
-use Rattle.std.specs.Prelude.{ℕ, ◌+◌, ◌++◌, Option, unwrap_or, List, [], ◌∷◌, map, length, codes}
+use Rattle.std.specs.Prelude.{ℕ, ◌+◌, ◌++◌, unwrap_or, List, [], ◌∷◌, map, codes}
 use Rattle.std.specs.List.{flat_map}
 use Rattle.std.specs.Fmt.{decimal}
 use Rattle.sg_base.specs.declared.trace_record.Record.{Record}

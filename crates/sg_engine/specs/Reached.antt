@@ -8,7 +8,7 @@ use Rattle.sg_edge.specs.declared.files.Stage.TheVariants.{Fresh}
 use Rattle.sg_kernel.specs.Known.{Known}
 use Rattle.sg_kernel.specs.World.{Core, World, MayCall}
 use Rattle.sg_script.specs.Asked.{asked}
-use Rattle.sg_script.proofs.Whole.{GoesOn}
+use Rattle.sg_script.specs.Rest.{GoesOn}
 use Rattle.sg_script.specs.Known.{Known as Names}
 use Rattle.sg_script.specs.Stands.{Kept, Stands, Reads}
 use Rattle.sg_engine.specs.declared.ended.Ended.{Ended}

@@ -1,18 +1,16 @@
 -- What a run has come to: the trace lines that are written, and the end.
-use Rattle.std.specs.Prelude.{◌≡◌, ◌≢◌, ◌≤◌, ◌<◌, ◌⊎◌, ℕ, List, [], ◌++◌, length, Option, Some, Bool, MatchBool}
+use Rattle.std.specs.Prelude.{◌≡◌, ℕ, List, ◌++◌, Option, Some}
 use Rattle.sg_base.specs.declared.trace_record.Record.{Record}
 use Rattle.sg_base.specs.Mind.{Mind}
 use Rattle.sg_edge.specs.Files.{PartView}
 use Rattle.sg_edge.specs.Given.{Source}
 use Rattle.sg_edge.specs.Sinks.{gain, GainsFront}
-use Rattle.sg_kernel.specs.Known.{Known}
 use Rattle.sg_kernel.specs.World.{Core, World}
 use Rattle.sg_script.specs.Asked.{asked}
 use Rattle.sg_script.specs.Known.{Known as Names}
 use Rattle.sg_script.specs.Stands.{Reads}
-use Rattle.sg_script.proofs.Whole.{GoesOn}
+use Rattle.sg_script.specs.Rest.{GoesOn}
 use Rattle.sg_engine.specs.declared.ended.Ended.{Ended}
-use Rattle.sg_engine.specs.Gains.{is_cut}
 use Rattle.sg_engine.specs.Run.{Answering, Progress}
 use Rattle.sg_engine.specs.Reached.{Moment, moment, Reached, ending}
 

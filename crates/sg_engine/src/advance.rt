@@ -42,7 +42,7 @@ pub fn advance<F: Files, O: Sinks, L: Ledger>(
     ensures read { result ≡ Some Ended.ReadFault → (F.shows files.new Part.Script).stage ≡ Broken }
     ensures others { Only Part.Script (F.shows files.old) (F.shows files.new) }
 {
-    match sim.kernel.reserve_round(sim.calls.len()) {
+    match sim.kernel.reserve_round(sim.minds.len()) {
         Ok(()) => {}
         Err(Memory) => return Some(Ended::Memory),
     }

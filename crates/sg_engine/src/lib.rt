@@ -2,6 +2,7 @@
 //! written.
 #![tactic(auto)]
 
+mod actor_call;
 mod advance;
 mod buffer;
 mod ended;
@@ -20,3 +21,6 @@ mod turns;
 pub use ended::Ended;
 pub use running::run;
 pub use setup::Setup;
+
+#[cfg(test)]
+mod tests;

@@ -1,5 +1,5 @@
 //! The parts of a run: rounds, and passes where nobody is ready.
-ghost use Rattle.std.specs.Prelude.{IfOk, ◌≡◌, ◌≢◌, ◌≤◌, ℕ, List, length, map, false, true, MatchResult};
+ghost use Rattle.std.specs.Prelude.{IfOk, ◌≡◌, ◌≢◌, ◌≤◌, ℕ, List, length, map, false, true, MatchResult, vec_capacity};
 ghost use Rattle.std.specs.List.{list_all, list_any};
 ghost use Rattle.sg_edge.specs.Files.{Only};
 ghost use Rattle.sg_edge.specs.declared.files.Stage.TheVariants.{Broken};
@@ -11,11 +11,12 @@ ghost use Rattle.sg_engine.specs.Gains.{cuts};
 ghost use Rattle.sg_engine.specs.Reached.{moment, Fits, StandsFor, Reached, CutOff, ending};
 ghost use Rattle.sg_engine.specs.Run.{round as round_spec, round_or_pass as round_or_pass_spec};
 
+use crate::actor_call::ActorCall;
 use crate::ended::{Ended, end_of};
 use crate::minds::Mind;
 use crate::round::answer_calls;
 use crate::turns::take_turns;
-use sg_base::{Call, Memory, Steps};
+use sg_base::{Memory, Steps};
 use sg_edge::{Files, Part};
 use sg_kernel::Kernel;
 use sg_platform::Deployment;
@@ -29,13 +30,12 @@ fn round<F: Files>(
     deployment: &Deployment,
     files: &mut F,
     minds: &mut [Mind],
-    calls: &mut [Option<Call>],
+    calls: &mut Vec<ActorCall>,
 ) -> Result<Option<Ended>, Memory>
     requires fits { Fits (length deployment.now.actors) (moment (F.shows files.old Part.Script) (kept_of script.old) kernel.old) }
     requires minds { length minds.old ≡ length kernel.old.core.actors }
-    requires calls { length calls.old ≡ length kernel.old.core.actors }
-    requires room { length calls.old ≤ kernel.old.room }
-    requires few { length minds.old ≤ 65536 }
+    requires calls { length minds.old ≤ vec_capacity calls.old }
+    requires room { length minds.old ≤ kernel.old.room }
     ensures step { (taken : List ℕ) (world : World) → StandsFor (known_in deployment.now) taken (map shown minds.old) (moment (F.shows files.old Part.Script) (kept_of script.old) kernel.old) world → MatchResult result
         (λ how. Reached (known_in deployment.now) (λ answers. round_spec kernel.old.setup answers world) (ending how) taken (map shown minds.new) (moment (F.shows files.old Part.Script) (kept_of script.old) kernel.old) (moment (F.shows files.new Part.Script) (kept_of script.new) kernel.new))
         (λ _. CutOff (F.shows files.old Part.Script) (F.shows files.new Part.Script)) }
@@ -44,9 +44,10 @@ fn round<F: Files>(
     ensures uncut { IfOk result (λ how. cuts how ≡ false) }
     ensures read { result ≡ Ok (Some Ended.ReadFault) → (F.shows files.new Part.Script).stage ≡ Broken }
     ensures others { Only Part.Script (F.shows files.old) (F.shows files.new) }
+    ensures calls { vec_capacity calls.new ≡ vec_capacity calls.old }
 {
     take_turns(kernel, minds, calls);
-    answer_calls(kernel, script, deployment, files, calls)
+    answer_calls(kernel, script, deployment, files, calls.as_slice())
 }
 
 /// A round, or a pass where nobody is ready.
@@ -56,14 +57,13 @@ pub fn round_or_pass<F: Files, L: Ledger>(
     deployment: &Deployment,
     files: &mut F,
     minds: &mut [Mind],
-    calls: &mut [Option<Call>],
+    calls: &mut Vec<ActorCall>,
     steps: &mut Steps<L>,
 ) -> Result<Option<Ended>, Memory>
     requires fits { Fits (length deployment.now.actors) (moment (F.shows files.old Part.Script) (kept_of script.old) kernel.old) }
     requires minds { length minds.old ≡ length kernel.old.core.actors }
-    requires calls { length calls.old ≡ length kernel.old.core.actors }
-    requires room { length calls.old ≤ kernel.old.room }
-    requires few { length minds.old ≤ 65536 }
+    requires calls { length minds.old ≤ vec_capacity calls.old }
+    requires room { length minds.old ≤ kernel.old.room }
     requires going { list_all is_ended kernel.old.core.actors ≡ false }
     ensures step { (taken : List ℕ) (world : World) → StandsFor (known_in deployment.now) taken (map shown minds.old) (moment (F.shows files.old Part.Script) (kept_of script.old) kernel.old) world → MatchResult result
         (λ how. Reached (known_in deployment.now) (λ answers. round_or_pass_spec kernel.old.setup answers world) (ending how) taken (map shown minds.new) (moment (F.shows files.old Part.Script) (kept_of script.old) kernel.old) (moment (F.shows files.new Part.Script) (kept_of script.new) kernel.new))
@@ -73,6 +73,7 @@ pub fn round_or_pass<F: Files, L: Ledger>(
     ensures uncut { IfOk result (λ how. cuts how ≡ false) }
     ensures read { result ≡ Ok (Some Ended.ReadFault) → (F.shows files.new Part.Script).stage ≡ Broken }
     ensures others { Only Part.Script (F.shows files.old) (F.shows files.new) }
+    ensures calls { vec_capacity calls.new ≡ vec_capacity calls.old }
 {
     if kernel.any_ready() {
         round(kernel, script, deployment, files, minds, calls)

@@ -1,17 +1,19 @@
 //! The second half of a round: the calls are answered in rising id.
-ghost use Rattle.std.specs.Prelude.{IfOk, false, ◌≡◌, ◌≢◌, ◌+◌, ◌<◌, ◌≤◌, ℕ, List, length, Some, Option, IfSome, MatchResult, slice_index_or};
+ghost use Rattle.std.specs.Prelude.{IfOk, false, ◌≡◌, ◌+◌, ◌<◌, ◌≤◌, ℕ, List, length, MatchResult, All, AllPairs};
 ghost use Rattle.sg_base.specs.Limits.{IsCall};
 ghost use Rattle.sg_base.specs.Mind as base;
-ghost use Rattle.sg_base.specs.declared.call.Call.{Call};
 ghost use Rattle.sg_edge.specs.Files.{Only};
 ghost use Rattle.sg_edge.specs.declared.files.Stage.TheVariants.{Broken};
 ghost use Rattle.sg_kernel.specs.World.{World, MayCall};
 ghost use Rattle.sg_script.specs.Known.{known_in};
 ghost use Rattle.sg_script.specs.Stands.{kept_of};
+ghost use Rattle.sg_engine.specs.declared.actor_call.ActorCall.{ActorCall};
 ghost use Rattle.sg_engine.specs.Gains.{cuts};
+ghost use Rattle.sg_engine.specs.Listed.{calls_of};
 ghost use Rattle.sg_engine.specs.Reached.{moment, Fits, LeavesFree, StandsFor, Reached, CutOff, ending};
-ghost use Rattle.sg_engine.specs.Run.{is_ask as is_ask_spec, ask, one_call, if_call, calls_from};
+ghost use Rattle.sg_engine.specs.Run.{is_ask as is_ask_spec, ask, one_call};
 
+use crate::actor_call::ActorCall;
 use crate::ended::{Ended, end_of};
 use sg_base::{ActorId, Call, Memory};
 use sg_edge::{Files, Part};
@@ -92,49 +94,20 @@ fn answer_one<F: Files>(
     }
 }
 
-// Answers one call, where there is one.
-fn answer_call<F: Files>(
-    kernel: &mut Kernel,
-    script: &mut Script,
-    deployment: &Deployment,
-    files: &mut F,
-    actor: ActorId,
-    call: Option<Call>,
-) -> Result<Option<Ended>, Memory>
-    requires caller { IfSome call (λ what. MayCall kernel.old.core actor.0 × IsCall what) }
-    requires room { 0 < kernel.old.room }
-    requires fits { Fits (length deployment.now.actors) (moment (F.shows files.old Part.Script) (kept_of script.old) kernel.old) }
-    ensures step { (taken : List ℕ) (minds : List base.Mind) (world : World) → StandsFor (known_in deployment.now) taken minds (moment (F.shows files.old Part.Script) (kept_of script.old) kernel.old) world → MatchResult result
-        (λ how. Reached (known_in deployment.now) (λ answers. if_call kernel.old.setup answers actor.0 call world) (ending how) taken minds (moment (F.shows files.old Part.Script) (kept_of script.old) kernel.old) (moment (F.shows files.new Part.Script) (kept_of script.new) kernel.new))
-        (λ _. CutOff (F.shows files.old Part.Script) (F.shows files.new Part.Script)) }
-    ensures fits { Fits (length deployment.now.actors) (moment (F.shows files.new Part.Script) (kept_of script.new) kernel.new) }
-    ensures uncut { IfOk result (λ how. cuts how ≡ false) }
-    ensures read { result ≡ Ok (Some Ended.ReadFault) → (F.shows files.new Part.Script).stage ≡ Broken }
-    ensures others { Only Part.Script (F.shows files.old) (F.shows files.new) }
-    ensures setup { kernel.new.setup ≡ kernel.old.setup }
-    ensures room { kernel.old.room ≤ kernel.new.room + 1 }
-    ensures free { LeavesFree actor.0 kernel.old.core kernel.new.core }
-{
-    match call {
-        Some(call) => answer_one(kernel, script, deployment, files, actor, call),
-        None => Ok(None),
-    }
-}
-
 /// Answers the calls in rising id.
 pub fn answer_calls<F: Files>(
     kernel: &mut Kernel,
     script: &mut Script,
     deployment: &Deployment,
     files: &mut F,
-    calls: &[Option<Call>],
+    calls: &[ActorCall],
 ) -> Result<Option<Ended>, Memory>
-    requires callers { (i : ℕ) (what : Call) → slice_index_or calls.now i None ≡ Some what → MayCall kernel.old.core (i + 1) × IsCall what }
+    requires callers { All (λ (made : ActorCall). MayCall kernel.old.core made.actor.0 × IsCall made.call) calls.now }
+    requires rises { AllPairs (λ (a b : ActorCall). a.actor.0 < b.actor.0) calls.now }
     requires room { length calls.now ≤ kernel.old.room }
-    requires few { length calls.now ≤ 65536 }
     requires fits { Fits (length deployment.now.actors) (moment (F.shows files.old Part.Script) (kept_of script.old) kernel.old) }
     ensures step { (taken : List ℕ) (minds : List base.Mind) (world : World) → StandsFor (known_in deployment.now) taken minds (moment (F.shows files.old Part.Script) (kept_of script.old) kernel.old) world → MatchResult result
-        (λ how. Reached (known_in deployment.now) (λ answers. calls_from kernel.old.setup answers 1 calls.now world) (ending how) taken minds (moment (F.shows files.old Part.Script) (kept_of script.old) kernel.old) (moment (F.shows files.new Part.Script) (kept_of script.new) kernel.new))
+        (λ how. Reached (known_in deployment.now) (λ answers. calls_of kernel.old.setup answers calls.now world) (ending how) taken minds (moment (F.shows files.old Part.Script) (kept_of script.old) kernel.old) (moment (F.shows files.new Part.Script) (kept_of script.new) kernel.new))
         (λ _. CutOff (F.shows files.old Part.Script) (F.shows files.new Part.Script)) }
     ensures fits { Fits (length deployment.now.actors) (moment (F.shows files.new Part.Script) (kept_of script.new) kernel.new) }
     ensures setup { kernel.new.setup ≡ kernel.old.setup }
@@ -142,15 +115,8 @@ pub fn answer_calls<F: Files>(
     ensures read { result ≡ Ok (Some Ended.ReadFault) → (F.shows files.new Part.Script).stage ≡ Broken }
     ensures others { Only Part.Script (F.shows files.old) (F.shows files.new) }
 {
-    for i in 0..calls.len() {
-        match answer_call(
-            kernel,
-            script,
-            deployment,
-            files,
-            ActorId(i as u32 + 1),
-            calls[i],
-        ) {
+    for made in calls {
+        match answer_one(kernel, script, deployment, files, made.actor, made.call) {
             Ok(None) => {}
             Ok(Some(how)) => return Ok(Some(how)),
             Err(Memory) => return Err(Memory),

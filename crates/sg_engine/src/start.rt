@@ -12,7 +12,7 @@ use crate::minds::Mind;
 use crate::setup::Setup;
 use crate::simulation::Simulation;
 use sg_activity::HostCap;
-use sg_base::{ActorId, Call, Memory, PointId};
+use sg_base::{ActorId, Memory, PointId};
 use sg_kernel::Kernel;
 use sg_platform::{ActorRow, HostRow};
 use sg_script::Script;
@@ -51,16 +51,6 @@ fn minds(alloc: Global, actors: u32) -> Result<Vec<Mind>, Memory>
     Ok(minds)
 }
 
-fn no_calls(alloc: Global, actors: u32) -> Result<Vec<Option<Call>>, Memory>
-    ensures { IfOk result (λ calls. length calls.items ≡ actors) }
-{
-    let mut calls = Vec::new(alloc);
-    for _i in 0..actors {
-        calls.push(None)?;
-    }
-    Ok(calls)
-}
-
 /// The simulation of a setup, in which nothing has happened yet.
 pub fn start(alloc: Global, setup: &Setup, budget: u64) -> Result<Simulation, Memory>
     requires { budget ≤ 1000000000 }
@@ -73,7 +63,7 @@ pub fn start(alloc: Global, setup: &Setup, budget: u64) -> Result<Simulation, Me
         kernel: Kernel::new(alloc, &hosts, &homes, budget)?,
         script: Script::new(alloc, actors)?,
         minds: minds(alloc, actors)?,
-        calls: no_calls(alloc, actors)?,
+        calls: Vec::with_capacity(alloc, homes.len())?,
         buffer: Buffer::new(alloc)?,
     })
 }

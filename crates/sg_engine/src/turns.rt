@@ -1,11 +1,12 @@
 //! The first half of a round: the turns.
-ghost use Rattle.std.specs.Prelude.{◌≡◌, ◌≤◌, ℕ, length, map, None, Some, Option, OnSome, slice_index_or, IfSome};
+ghost use Rattle.std.specs.Prelude.{◌≡◌, ◌<◌, ◌≤◌, ◌++◌, [], length, map, IfSome, All, vec_capacity};
 ghost use Rattle.sg_base.specs.Limits.{IsCall, IsAnswer};
-ghost use Rattle.sg_base.specs.Turn.{turn};
-ghost use Rattle.sg_base.specs.declared.call.Call.{Call};
+ghost use Rattle.sg_engine.specs.declared.actor_call.ActorCall.{ActorCall};
+ghost use Rattle.sg_engine.specs.Listed.{listed, listed_one};
 ghost use Rattle.sg_engine.specs.Minds.{shown};
 ghost use Rattle.sg_engine.specs.Run.{zip_with, mind_after, call_after, inboxes};
 
+use crate::actor_call::ActorCall;
 use crate::minds::Mind;
 use sg_base::{ActorId, Answer, Call};
 use sg_kernel::Kernel;
@@ -23,17 +24,33 @@ fn take_turn(mind: &mut Mind, answer: Option<Answer>) -> Option<Call>
     }
 }
 
-/// Each ready actor takes its turn on the answer that it has, and its call stands in its place.
-pub fn take_turns(kernel: &Kernel, minds: &mut [Mind], calls: &mut [Option<Call>])
-    requires minds { length minds.old ≡ length kernel.now.core.actors }
-    requires calls { length calls.old ≡ length kernel.now.core.actors }
-    requires few { length minds.old ≤ 65536 }
-    ensures minds { map shown minds.new ≡ zip_with mind_after (map shown minds.old) (inboxes kernel.now.core) }
-    ensures calls { calls.new ≡ zip_with call_after (map shown minds.old) (inboxes kernel.now.core) }
-    ensures limited { (i : ℕ) (what : Call) → slice_index_or calls.new i None ≡ Some what → IsCall what }
+// Keeps a call, where there is one.
+fn keep(calls: &mut Vec<ActorCall>, actor: ActorId, call: Option<Call>)
+    requires room { length calls.old.items < vec_capacity calls.old }
+    ensures items { calls.new.items ≡ calls.old.items ++ listed_one actor.0 call [] }
+    ensures room { vec_capacity calls.new ≡ vec_capacity calls.old }
 {
-    for i in 0..minds.len() {
-        let answer = kernel.inbox(ActorId(i as u32 + 1));
-        calls[i] = take_turn(&mut minds[i], answer);
+    match call {
+        Some(call) => calls.push_reserved(ActorCall { actor, call }),
+        None => {}
+    }
+}
+
+/// Each ready actor takes its turn on the answer that it has. Their calls take the place of those before, in rising
+/// id. Only who is in the kernel's queue is asked.
+pub fn take_turns(kernel: &Kernel, minds: &mut [Mind], calls: &mut Vec<ActorCall>)
+    requires minds { length minds.old ≡ length kernel.now.core.actors }
+    requires room { length minds.old ≤ vec_capacity calls.old }
+    ensures minds { map shown minds.new ≡ zip_with mind_after (map shown minds.old) (inboxes kernel.now.core) }
+    ensures calls { calls.new.items ≡ listed 1 (zip_with call_after (map shown minds.old) (inboxes kernel.now.core)) }
+    ensures limited { All (λ (made : ActorCall). IsCall made.call) calls.new.items }
+    ensures room { vec_capacity calls.new ≡ vec_capacity calls.old }
+{
+    calls.clear();
+    let queue = kernel.run_queue();
+    for actor in queue {
+        let answer = kernel.inbox(*actor);
+        let call = take_turn(&mut minds[actor.0 as usize - 1], answer);
+        keep(calls, *actor, call);
     }
 }

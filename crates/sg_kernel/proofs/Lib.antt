@@ -1,4 +1,5 @@
 pub mod Counts
 pub mod Ends
 pub mod Passed
+pub mod Queues
 pub mod Tables

@@ -5,3 +5,4 @@ pub mod Known
 pub mod Records
 pub mod Owners
 pub mod Sound
+pub mod Queue

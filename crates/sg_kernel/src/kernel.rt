@@ -10,10 +10,13 @@ ghost use Rattle.sg_kernel.specs.World.{is_ready, is_ended, state_of, with_state
 ghost use Rattle.sg_kernel.specs.Calls.{answered, answered_call, counted, told, result_of};
 ghost use Rattle.sg_kernel.specs.Passes.{pass_of};
 ghost use Rattle.sg_kernel.specs.Known.{after, first_known};
+ghost use Rattle.sg_kernel.specs.Queue.{IsQueue};
 ghost use Rattle.sg_kernel.specs.Records.{IsBlocking, AreRecords};
 
+use crate::answers::{exit, go_on};
 use crate::parts::Parts;
 use crate::passes::{end_due, none_next};
+use crate::queue::sort;
 use crate::starts::{compute, first_parts, reserve, sleep};
 use crate::states::{State, Stop};
 use sg_activity::HostCap;
@@ -43,10 +46,11 @@ impl Model for Kernel {
     ghost Value = { Known };
 
     ghost use Rattle.sg_kernel.specs.Sound.{known_of, IsSound, IsDated, AreLimited};
+    ghost use Rattle.sg_kernel.specs.Queue.{IsQueued};
 
     ghost view = { λ s. known_of s.parts };
 
-    ghost invariant = { λ s. IsSound s.parts × IsDated s.parts × AreLimited s.parts };
+    ghost invariant = { λ s. IsSound s.parts × IsDated s.parts × AreLimited s.parts × IsQueued s.parts };
 }
 
 impl Kernel {
@@ -100,10 +104,10 @@ impl Kernel {
         ensures { self.new ≡ record (after (answered_call self.old.setup self.old.core actor.0 call) self.old) { room = self.old.room - 1 } }
     {
         match call {
-            Call::Ask => self.ready(actor, Answer::Refused),
+            Call::Ask => go_on(&mut self.parts, actor, Answer::Refused),
             Call::Compute(flops) => compute(&mut self.parts, actor, flops),
             Call::Sleep(ns) => sleep(&mut self.parts, actor, ns),
-            Call::Exit => self.exit(actor),
+            Call::Exit => exit(&mut self.parts, actor),
         }
     }
 
@@ -119,36 +123,10 @@ impl Kernel {
             return Err(Stop::Budget);
         }
         match action {
-            Some(action) => self.ready(actor, Answer::Act(action)),
-            None => self.ready(actor, Answer::NoMore),
+            Some(action) => go_on(&mut self.parts, actor, Answer::Act(action)),
+            None => go_on(&mut self.parts, actor, Answer::NoMore),
         }
         Ok(())
-    }
-
-    // The actor goes on with this answer.
-    fn ready(&mut self, actor: ActorId, answer: Answer)
-        requires caller { MayCall self.old.core actor.0 }
-        requires answer { IsAnswer answer }
-        requires room { 0 < self.old.room }
-        requires budget { self.old.core.events ≢ self.old.setup.budget }
-        ensures { self.new ≡ record self.old { core = counted (with_state actor.0 (Ready answer) self.old.core); room = self.old.room - 1 } }
-    {
-        self.parts.states[actor.0 as usize - 1] = State::Ready(answer);
-        self.parts.events += 1;
-        self.parts.room -= 1;
-    }
-
-    fn exit(&mut self, actor: ActorId)
-        requires caller { MayCall self.old.core actor.0 }
-        requires room { 0 < self.old.room }
-        requires budget { self.old.core.events ≢ self.old.setup.budget }
-        ensures { self.new ≡ record self.old { core = counted (with_state actor.0 Ended self.old.core); room = self.old.room - 1 } }
-    {
-        self.parts.states[actor.0 as usize - 1] = State::Ended;
-        self.parts.ready -= 1;
-        self.parts.ended += 1;
-        self.parts.events += 1;
-        self.parts.room -= 1;
     }
 
     /// Moves the date to where the next activities are done, and ends them by rising serial: each answers its actor,
@@ -168,7 +146,10 @@ impl Kernel {
             return Err(Stop::Budget);
         }
         self.parts.doing.advance_to(date);
-        end_due(&mut self.parts)
+        self.parts.queue.clear();
+        let stopped = end_due(&mut self.parts);
+        sort(&mut self.parts.queue);
+        stopped
     }
 
     /// How many actors there are. Their ids count from 1.
@@ -177,6 +158,14 @@ impl Kernel {
         ensures homes { result ≡ length self.now.setup.homes }
     {
         self.parts.states.len()
+    }
+
+    /// Who is to take a turn: by rising id all actors that are ready, and perhaps some that have called since
+    /// `reserve_round`. To tell it costs nothing, and it is no longer than the number of actors that were ready then.
+    pub fn run_queue(&self) -> &[ActorId]
+        ensures { IsQueue self.now.core.actors result.now }
+    {
+        self.parts.queue.as_slice()
     }
 
     /// The answer of a ready actor.

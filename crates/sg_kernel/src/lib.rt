@@ -1,11 +1,13 @@
 //! The kernel of a simulation: it answers the calls of actors, moves the date, and tells when a run has to end.
 #![tactic(auto)]
 
+mod answers;
 mod kernel;
 mod laws;
 mod owners;
 mod parts;
 mod passes;
+mod queue;
 mod starts;
 mod states;
 

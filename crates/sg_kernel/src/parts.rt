@@ -2,7 +2,7 @@
 use crate::owners::Owners;
 use crate::states::State;
 use sg_activity::Activities;
-use sg_base::{PointId, Record};
+use sg_base::{ActorId, PointId, Record};
 
 /// The fields of a kernel.
 #[derive(Drop)]
@@ -16,6 +16,8 @@ pub(crate) struct Parts {
     pub(crate) records: Vec<Record>,
     /// The host of each actor.
     pub(crate) homes: Vec<PointId>,
+    /// By rising id all actors that are ready, and those that have called since the round began.
+    pub(crate) queue: Vec<ActorId>,
     /// How many actors are ready.
     pub(crate) ready: usize,
     /// How many actors have ended.

@@ -6,6 +6,7 @@ ghost use Rattle.sg_kernel.specs.World.{state_of};
 ghost use Rattle.sg_kernel.specs.Calls.{result_of};
 ghost use Rattle.sg_kernel.specs.Passes.{answers_state, answers, ends_phase, ends};
 ghost use Rattle.sg_kernel.specs.Known.{after};
+ghost use Rattle.sg_kernel.specs.Queue.{IsAnswering};
 ghost use Rattle.sg_kernel.specs.Sound.{core_of, known_of, IsSound, AreLimited, IsOwner};
 
 use crate::parts::Parts;
@@ -30,10 +31,12 @@ fn answer_actor(parts: &mut Parts, serial: Serial, actor: ActorId)
     requires to { actor.0 ≤ length parts.old.states.items }
     requires sound { IsSound parts.old }
     requires limited { AreLimited parts.old }
+    requires answering { IsAnswering parts.old }
     requires small { parts.old.doing.date < 10 ^ 33 }
     ensures known { known_of parts.new ≡ after (answers_state serial.0 actor (state_of (core_of parts.old) actor.0) (core_of parts.old)) (known_of parts.old) }
     ensures sound { IsSound parts.new }
     ensures limited { AreLimited parts.new }
+    ensures answering { IsAnswering parts.new }
     ensures doing { parts.new.doing ≡ parts.old.doing }
     ensures events { parts.new.events ≡ parts.old.events }
 {
@@ -49,6 +52,7 @@ fn answer_actor(parts: &mut Parts, serial: Serial, actor: ActorId)
                 took: Some(date.saturating_sub(since)),
             });
             parts.states[i] = State::Ready(Answer::Done);
+            parts.queue.push_reserved(actor);
             parts.ready += 1;
         }
         _ => {}
@@ -60,11 +64,13 @@ fn end_phase(parts: &mut Parts, phase: Phase)
     requires due { IsDue parts.old.doing phase }
     requires sound { IsSound parts.old }
     requires limited { AreLimited parts.old }
+    requires answering { IsAnswering parts.old }
     requires small { parts.old.doing.date < 10 ^ 33 }
     requires budget { parts.old.events ≢ parts.old.budget }
     ensures known { known_of parts.new ≡ after (ends_phase phase.serial.0 (core_of parts.old)) (known_of parts.old) }
     ensures sound { IsSound parts.new }
     ensures limited { AreLimited parts.new }
+    ensures answering { IsAnswering parts.new }
     ensures due { parts.new.doing.due ≡ drop 1 parts.old.doing.due }
     ensures date { parts.new.doing.date ≡ parts.old.doing.date }
     ensures events { parts.new.events ≡ parts.old.events + 1 }
@@ -82,6 +88,7 @@ fn end_phase(parts: &mut Parts, phase: Phase)
 pub(crate) fn end_due(parts: &mut Parts) -> Result<(), Stop>
     requires sound { IsSound parts.old }
     requires limited { AreLimited parts.old }
+    requires answering { IsAnswering parts.old }
     requires small { parts.old.doing.date < 10 ^ 33 }
     requires some { parts.old.doing.due ≢ [] }
     requires budget { parts.old.events ≢ parts.old.budget }
@@ -89,6 +96,7 @@ pub(crate) fn end_due(parts: &mut Parts) -> Result<(), Stop>
     ensures result { result ≡ result_of (ends parts.old.budget parts.old.doing.due (core_of parts.old)).stop }
     ensures sound { IsSound parts.new }
     ensures limited { AreLimited parts.new }
+    ensures answering { IsAnswering parts.new }
     ensures date { parts.new.doing.date ≡ parts.old.doing.date }
     ensures events { parts.old.events < parts.new.events }
 {

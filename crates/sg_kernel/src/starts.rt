@@ -11,9 +11,11 @@ ghost use Rattle.sg_kernel.specs.World.{MayCall, host_of, is_ready, is_ended};
 ghost use Rattle.sg_kernel.specs.Calls.{blocks_on, counted};
 ghost use Rattle.sg_kernel.specs.Known.{first_known};
 ghost use Rattle.sg_kernel.specs.Sound.{core_of, known_of, IsSound, IsDated, AreLimited, KeepsLimits, blocked_count};
+ghost use Rattle.sg_kernel.specs.Queue.{IsQueued};
 
 use crate::owners::Owners;
 use crate::parts::Parts;
+use crate::queue::{all_actors, keep_ready};
 use crate::states::State;
 use sg_activity::{Activities, HostCap};
 use sg_base::{ActorId, Answer, Call, Memory, PointId};
@@ -49,10 +51,12 @@ pub(crate) fn first_parts(
     ensures sound { IfOk result (λ parts. IsSound parts) }
     ensures dated { IfOk result (λ parts. IsDated parts) }
     ensures limited { IfOk result (λ parts. AreLimited parts) }
+    ensures queued { IfOk result (λ parts. IsQueued parts) }
 {
     let doing = Activities::new(alloc, hosts)?;
     let actors = homes.len();
     let states = first_states(alloc, actors)?;
+    let queue = all_actors(alloc, actors)?;
     let homes = Vec::from_slice(alloc, homes)?;
     Ok(Parts {
         doing,
@@ -60,6 +64,7 @@ pub(crate) fn first_parts(
         whose: Owners::new(alloc),
         records: Vec::new(alloc),
         homes,
+        queue,
         ready: actors,
         ended: 0,
         events: 0,
@@ -77,10 +82,12 @@ pub(crate) fn compute(parts: &mut Parts, actor: ActorId, flops: u64)
     requires sound { IsSound parts.old }
     requires dated { IsDated parts.old }
     requires limited { AreLimited parts.old }
+    requires queued { IsQueued parts.old }
     ensures known { known_of parts.new ≡ record (known_of parts.old) { core = counted (blocks_on (exec_of parts.old.doing.hosts (host_of (known_of parts.old).setup actor.0) flops) actor.0 (Call.Compute flops) (core_of parts.old)); room = parts.old.room - 1 } }
     ensures sound { IsSound parts.new }
     ensures dated { IsDated parts.new }
     ensures limited { AreLimited parts.new }
+    ensures queued { IsQueued parts.new }
 {
     let i = actor.0 as usize - 1;
     let date = parts.doing.date();
@@ -101,10 +108,12 @@ pub(crate) fn sleep(parts: &mut Parts, actor: ActorId, ns: u64)
     requires sound { IsSound parts.old }
     requires dated { IsDated parts.old }
     requires limited { AreLimited parts.old }
+    requires queued { IsQueued parts.old }
     ensures known { known_of parts.new ≡ record (known_of parts.old) { core = counted (blocks_on (timer_of ns) actor.0 (Call.Sleep ns) (core_of parts.old)); room = parts.old.room - 1 } }
     ensures sound { IsSound parts.new }
     ensures dated { IsDated parts.new }
     ensures limited { AreLimited parts.new }
+    ensures queued { IsQueued parts.new }
 {
     let i = actor.0 as usize - 1;
     let date = parts.doing.date();
@@ -121,11 +130,13 @@ pub(crate) fn reserve(parts: &mut Parts, n: usize) -> Result<(), Memory>
     requires sound { IsSound parts.old }
     requires dated { IsDated parts.old }
     requires limited { AreLimited parts.old }
+    requires queued { IsQueued parts.old }
     ensures room { OnOk result (n ≤ parts.new.room) }
     ensures known { known_of parts.new ≡ record (known_of parts.old) { room = parts.new.room } }
     ensures sound { IsSound parts.new }
     ensures dated { IsDated parts.new }
     ensures limited { AreLimited parts.new }
+    ensures queued { IsQueued parts.new }
 {
     let n = n.max(parts.room);
     let Some(most) = n.checked_add(parts.states.len()) else {
@@ -134,6 +145,7 @@ pub(crate) fn reserve(parts: &mut Parts, n: usize) -> Result<(), Memory>
     parts.doing.reserve(n)?;
     parts.whose.reserve(n)?;
     parts.records.reserve(most)?;
+    keep_ready(&mut parts.queue, &parts.states);
     parts.room = n;
     Ok(())
 }

@@ -6,13 +6,7 @@ use Rattle.sg_edge.specs.Files.{PartView, before, NoneLeft}
 use Rattle.sg_edge.specs.Given.{Source, Gives, bytes_given, is_broken}
 use Rattle.sg_edge.specs.declared.files.Stage.{Stage}
 use Rattle.sg_edge.specs.declared.files.Stage.TheVariants.{Fresh, Begun, Over, Broken}
-use Rattle.sg_script.specs.Front.{May}
-
--- the source goes on from what was taken, by what may still come
-pub record GoesOn (taken : List ℕ) (stage : Stage) (source : Source) : Type 0 where
-  pub rest : List ℕ
-  pub bytes : source.bytes ≡ taken ++ rest
-  pub may : May stage rest source.broken
+use Rattle.sg_script.specs.Rest.{GoesOn}
 
 front_taken : (taken rest : List ℕ) → take (length (taken ++ rest) - length rest) (taken ++ rest) ≡ taken
 front_taken taken rest =

@@ -5,6 +5,7 @@ pub mod Known
 pub mod Line
 pub mod Needed
 pub mod Queues
+pub mod Rest
 pub mod Stands
 pub mod Steps
 pub mod Verbs

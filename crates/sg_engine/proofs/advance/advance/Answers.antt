@@ -1,4 +1,4 @@
-use Rattle.std.proofs.Common.{◌≡◌, ◌∙◌, sym, ap, refl, subst, List, [], Some, None, map, length}
+use Rattle.std.proofs.Common.{◌≡◌, ◌∙◌, sym, ap, subst, List, [], map}
 use Rattle.std.specs.Vec.{with_items}
 use Rattle.std.proofs.lemmas.List.{with_items_is}
 use Rattle.sg_base.specs.declared.trace_record.Record.{Record}
@@ -7,7 +7,7 @@ use Rattle.sg_edge.specs.declared.files.Part.TheVariants.{Script}
 use Rattle.sg_edge.specs.declared.sinks.Stream.TheVariants.{Out}
 use Rattle.sg_edge.specs.Sinks.{gain, GainsFront}
 use Rattle.sg_kernel.specs.Known.{Known}
-use Rattle.sg_kernel.specs.World.{World, Setup}
+use Rattle.sg_kernel.specs.World.{Setup}
 use Rattle.sg_script.specs.Known.{known_in}
 use Rattle.sg_script.specs.Stands.{kept_of}
 use Rattle.sg_script.proofs.Chains.{reads_none}

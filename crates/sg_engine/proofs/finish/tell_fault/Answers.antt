@@ -1,4 +1,3 @@
-use Rattle.std.proofs.Common.{◌≡◌}
 use Rattle.sg_engine.proofs.Fronts.{fronts_err}
 use Rattle.sg_engine.proofs.finish.tell_fault.Goals as goal
 

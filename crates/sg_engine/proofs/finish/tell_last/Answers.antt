@@ -1,4 +1,4 @@
-use Rattle.std.proofs.Common.{◌≡◌, []}
+use Rattle.std.proofs.Common.{[]}
 use Rattle.sg_engine.proofs.Fronts.{fronts_out}
 use Rattle.sg_engine.proofs.finish.tell_last.Goals as goal
 

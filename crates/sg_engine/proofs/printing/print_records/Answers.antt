@@ -1,4 +1,4 @@
-use Rattle.std.proofs.Common.{◌≡◌, ◌++◌, arith}
+use Rattle.std.proofs.Common.{arith}
 use Rattle.sg_engine.proofs.PutLines.{line_put, line_broke, none_left, put_writes, trace_more, trace_none}
 use Rattle.sg_engine.proofs.printing.print_records.Goals as goal
 

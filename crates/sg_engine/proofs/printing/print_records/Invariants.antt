@@ -1,4 +1,4 @@
-use Rattle.std.proofs.Common.{◌≡◌, ◌++◌, drop}
+use Rattle.std.proofs.Common.{◌++◌, drop}
 use Rattle.sg_engine.specs.Gains.{IsPut}
 use Rattle.sg_engine.specs.Output.{trace_of}
 use Rattle.sg_engine.proofs.printing.print_records.Given as goal

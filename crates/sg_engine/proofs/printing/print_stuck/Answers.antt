@@ -1,4 +1,3 @@
-use Rattle.std.proofs.Common.{◌≡◌, ◌∙◌, sym, ap, [], ◌++◌, Ok, Err}
 use Rattle.sg_engine.proofs.PutLines.{put_broke, put_put, put_writes}
 use Rattle.sg_engine.proofs.printing.print_stuck.Goals as goal
 

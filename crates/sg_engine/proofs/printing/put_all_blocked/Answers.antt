@@ -1,6 +1,4 @@
-use Rattle.std.proofs.Common.{◌≡◌, ◌∙◌, ◌+◌, ◌++◌, sym, arith, length}
-use Rattle.sg_engine.specs.Output.{blocked_lines}
-use Rattle.sg_engine.proofs.Fronts.{put_none}
+use Rattle.std.proofs.Common.{arith}
 use Rattle.sg_engine.proofs.PutLines.{line_put, line_broke, none_left, blocked_more, blocked_none}
 use Rattle.sg_engine.proofs.printing.put_all_blocked.Goals as goal
 

@@ -1,4 +1,4 @@
-use Rattle.std.proofs.Common.{◌≡◌, ◌+◌, ◌++◌, drop}
+use Rattle.std.proofs.Common.{◌+◌, ◌++◌, drop}
 use Rattle.sg_engine.specs.Gains.{IsPut}
 use Rattle.sg_engine.specs.Output.{blocked_lines}
 use Rattle.sg_engine.proofs.printing.put_all_blocked.Given as goal

@@ -1,5 +1,4 @@
-use Rattle.std.proofs.Common.{◌≡◌, ◌∙◌, sym, ap, Option}
-use Rattle.std.specs.Prelude.{option_map}
+use Rattle.std.proofs.Common.{◌∙◌, sym, ap}
 use Rattle.sg_kernel.specs.Known.{Known}
 use Rattle.sg_script.specs.Stands.{IsCut}
 use Rattle.sg_engine.proofs.Calls.{used_up, asked_to, told_to}

@@ -1,48 +1,48 @@
-use Rattle.std.proofs.Common.{◌≡◌, ◌≢◌, ◌+◌, ◌∙◌, sym, ap, refl, arith, None, Some}
+use Rattle.std.proofs.Common.{◌∙◌, refl, arith, get_or}
 use Rattle.sg_script.proofs.Chains.{reads_none}
 use Rattle.sg_engine.proofs.Reaching.{reached_none}
 use Rattle.sg_engine.proofs.Calls.{rest_from, one_more_call, last_call, all_called, cut_later}
+use Rattle.sg_engine.proofs.Listing.{other_actor}
 use Rattle.sg_engine.proofs.round.answer_calls.Goals as goal
 
-pub loop-i-init : goal.loop-i-init
-loop-i-init g c = record {
+pub loop-made-init : goal.loop-made-init
+loop-made-init g c = record {
   reached = λ taken minds world stands. reached_none _ (rest_from c.args.kernel.now.setup c.args.calls.now 0) taken minds _ world (reads_none _ c.requires.fits.begun) stands;
   fits = c.requires.fits;
   others = λ q away. refl;
   setup = refl;
   room = omega (arith, c.requires.room);
-  callers = λ j what from at. c.requires.callers j what at;
+  callers = λ j d from below. (c.requires.callers j d below).0;
 }
 
 pub returns-in-Ok-Some-clause-step : goal.returns-in-Ok-Some-clause-step
 returns-in-Ok-Some-clause-step g c = λ taken minds world stands.
-    let first = c.loop-i.invariant.reached taken minds world stands in
-    last_call _ _ c.args.kernel.now.setup c.args.calls.now c.loop-i.i c.in-Ok-Some.how taken minds _ _ _ c.loop-i-test.true c.loop-i.invariant.setup first
+    let first = c.loop-made.invariant.reached taken minds world stands in
+    last_call _ _ c.args.kernel.now.setup c.args.calls.now c.loop-made.made-index _ c.in-Ok-Some.how taken minds _ _ _ c.loop-made-test.true c.loop-made.invariant.setup first
     (rw c.in-Ok-Some.field-0-is at (c.in-Ok-Some.ensures.step _ minds first.world first.stands))
 
 pub returns-in-Err-clause-step : goal.returns-in-Err-clause-step
 returns-in-Err-clause-step g c = λ taken minds world stands.
-    let first = c.loop-i.invariant.reached taken minds world stands in
+    let first = c.loop-made.invariant.reached taken minds world stands in
     cut_later first.piece _ _ _ first.reads (c.in-Err.ensures.step _ minds first.world first.stands)
 
-pub loop-i-preserved : goal.loop-i-preserved
-loop-i-preserved g c =
-    let inv = c.loop-i.invariant in
+pub loop-made-preserved : goal.loop-made-preserved
+loop-made-preserved g c =
+    let inv = c.loop-made.invariant in
     record {
       reached = λ taken minds world stands.
           let first = inv.reached taken minds world stands in
-          one_more_call _ _ c.args.kernel.now.setup c.args.calls.now c.loop-i.i taken minds _ _ _ c.loop-i-test.true inv.setup first
+          one_more_call _ _ c.args.kernel.now.setup c.args.calls.now c.loop-made.made-index _ taken minds _ _ _ c.loop-made-test.true inv.setup first
           (rw c.in-Ok-None.field-0-is at (c.in-Ok-None.ensures.step _ minds first.world first.stands));
       fits = c.in-Ok-None.ensures.fits;
       others = λ q away. c.in-Ok-None.ensures.others q away ∙ inv.others q away;
       setup = c.in-Ok-None.ensures.setup ∙ inv.setup;
       room = omega (arith, inv.room, c.in-Ok-None.ensures.room);
-      callers = λ j other from at.
-          let may = inv.callers j other (omega (arith, from)) at in
-          let apart : j + 1 ≢ c.loop-i.i + 1 = λ e. absurd (omega (arith, e, from)) in
-          (c.in-Ok-None.ensures.free (j + 1) apart may.0, may.1);
+      callers = λ j d from below.
+          c.in-Ok-None.ensures.free (get_or c.args.calls.now j d).actor.0 (other_actor c.args.calls.now c.loop-made.made-index j d _ c.requires.rises (omega (arith, from)) below)
+          (inv.callers j d (omega (arith, from)) below);
     }
 
 pub returns-clause-step : goal.returns-clause-step
 returns-clause-step g c = λ taken minds world stands.
-    all_called _ _ c.args.kernel.now.setup c.args.calls.now c.loop-i.i taken minds _ _ (omega (arith, c.loop-i-test.false)) (c.loop-i.invariant.reached taken minds world stands)
+    all_called _ _ c.args.kernel.now.setup c.args.calls.now c.loop-made.made-index taken minds _ _ c.loop-made-test.false (c.loop-made.invariant.reached taken minds world stands)

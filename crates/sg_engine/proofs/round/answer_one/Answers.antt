@@ -1,4 +1,4 @@
-use Rattle.std.proofs.Common.{◌≡◌, ◌∙◌, sym, ap, ◌++◌}
+use Rattle.std.proofs.Common.{◌∙◌, sym, ap, ◌++◌}
 use Rattle.std.specs.Prelude.{option_map}
 use Rattle.sg_kernel.specs.Calls.{Step, answered}
 use Rattle.sg_kernel.specs.Known.{Known}

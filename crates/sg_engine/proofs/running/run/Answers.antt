@@ -1,4 +1,4 @@
-use Rattle.std.proofs.Common.{◌≡◌, refl}
+use Rattle.std.proofs.Common.{refl}
 use Rattle.sg_engine.proofs.Fronts.{fronts_none}
 use Rattle.sg_engine.proofs.running.run.Goals as goal
 

@@ -1,14 +1,6 @@
-use Rattle.std.proofs.Common.{◌≡◌, ◌∙◌, sym, ap, refl, [], true, false, length, arith}
-use Rattle.std.specs.Prelude.{MatchBool, ⊤}
+use Rattle.std.proofs.Common.{◌∙◌, sym, arith}
 use Rattle.sg_edge.specs.declared.files.Part.TheVariants.{Script}
-use Rattle.sg_edge.specs.declared.sinks.Stream.TheVariants.{Out}
-use Rattle.sg_script.specs.Known.{known_in}
 use Rattle.sg_script.proofs.Whole.{given_goes_on}
-use Rattle.sg_engine.specs.Gains.{is_cut}
-use Rattle.sg_engine.specs.Keeping.{IsKept}
-use Rattle.sg_engine.specs.Output.{trace_of, kernel_setup}
-use Rattle.sg_engine.specs.Run.{run_of}
-use Rattle.sg_engine.specs.Simulated.{CutsOff, IsOver}
 use Rattle.sg_engine.proofs.Endings.{run_ends, run_cut, goes_on_telling, broken_part, in_cut, in_over}
 use Rattle.sg_engine.proofs.running.run_from.Goals as goal
 

@@ -1,8 +1,6 @@
-use Rattle.std.proofs.Common.{◌≡◌, ◌∙◌, ◌+◌, ◌-◌, suc, sym, ap, refl, arith, [], None, Some, length, map, subst, List, Option}
-use Rattle.std.specs.Prelude.{MatchBool}
+use Rattle.std.proofs.Common.{◌≡◌, ◌∙◌, ◌+◌, ◌-◌, suc, sym, ap, refl, arith, None, Some, length, subst}
 use Rattle.std.proofs.lemmas.List.{length-map}
 use Rattle.std.proofs.lemmas.Grind.{flat_map-append}
-use Rattle.sg_base.specs.declared.trace_record.Record.{Record}
 use Rattle.sg_edge.specs.declared.files.Part.TheVariants.{Script}
 use Rattle.sg_edge.specs.declared.sinks.Stream.TheVariants.{Out}
 use Rattle.sg_kernel.specs.World.{Setup}
@@ -13,7 +11,7 @@ use Rattle.sg_engine.specs.Gains.{is_cut}
 use Rattle.sg_engine.specs.Keeping.{minds_of, at_moment, PartIs}
 use Rattle.sg_engine.specs.Output.{trace_of, kernel_setup, home_of}
 use Rattle.sg_engine.specs.Run.{run_of, run_from, first_world, round_or_pass}
-use Rattle.sg_engine.proofs.Simulating.{rest_of, SoFar, Appends, far_first, far_on, far_ends, completed, used_up}
+use Rattle.sg_engine.proofs.Simulating.{rest_of, far_first, far_on, far_ends, completed, used_up}
 use Rattle.sg_engine.proofs.running.simulate.Goals as goal
 
 pub loop-turn-init : goal.loop-turn-init

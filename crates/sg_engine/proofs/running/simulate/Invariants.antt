@@ -1,14 +1,11 @@
-use Rattle.std.proofs.Common.{◌≡◌, ◌+◌, ◌-◌, ℕ, List, [], length}
-use Rattle.sg_base.specs.declared.trace_record.Record.{Record}
+use Rattle.std.proofs.Common.{◌≡◌, ◌+◌, ◌-◌, length}
 use Rattle.sg_edge.specs.declared.files.Part.TheVariants.{Script}
 use Rattle.sg_edge.specs.declared.sinks.Stream.TheVariants.{Out, Err}
 use Rattle.sg_edge.specs.Files.{Only}
-use Rattle.sg_edge.specs.Sinks.{gain}
 use Rattle.sg_script.specs.Known.{known_in}
 use Rattle.sg_script.specs.Stands.{kept_of}
-use Rattle.sg_engine.specs.Keeping.{at_moment, minds_of, IsKept}
+use Rattle.sg_engine.specs.Keeping.{minds_of, IsKept}
 use Rattle.sg_engine.specs.Output.{trace_of, kernel_setup}
-use Rattle.sg_engine.specs.Reached.{moment, Reached}
 use Rattle.sg_engine.specs.Run.{run_of}
 use Rattle.sg_engine.proofs.Simulating.{rest_of, SoFar}
 use Rattle.sg_engine.proofs.running.simulate.Given as goal

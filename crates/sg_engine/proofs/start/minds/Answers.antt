@@ -2,7 +2,6 @@ use Rattle.std.proofs.Common.{ℕ, ◌≡◌, ◌∙◌, ◌+◌, ◌++◌, ◌�
 use Rattle.std.proofs.lemmas.List.{map-append}
 use Rattle.sg_base.specs.Mind.{Mind, replay_mind}
 use Rattle.sg_engine.specs.Minds.{shown}
-use Rattle.sg_engine.specs.declared.minds.Mind.{Mind as Plain}
 use Rattle.sg_engine.specs.Run.{minds_from}
 use Rattle.sg_engine.proofs.Starting.{minds_from-suc}
 use Rattle.sg_engine.proofs.start.minds.Goals as goal

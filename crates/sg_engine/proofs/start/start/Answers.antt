@@ -1,10 +1,9 @@
-use Rattle.std.proofs.Common.{◌≡◌, ◌<◌, ◌∙◌, sym, ap, subst, List, length, map}
+use Rattle.std.proofs.Common.{◌≡◌, ◌<◌, ◌∙◌, sym, ap, subst, List, length, map, arith}
 use Rattle.std.proofs.lemmas.List.{length-map}
 use Rattle.std.specs.Prelude.{All}
 use Rattle.sg_activity.specs.Hosts.{IsHost}
 use Rattle.sg_activity.specs.declared.kinds.HostCap.{HostCap}
 use Rattle.sg_base.specs.declared.ids.PointId.{PointId}
-use Rattle.sg_platform.specs.declared.rows.ActorRow.{ActorRow}
 use Rattle.sg_engine.specs.declared.simulation.Simulation.{Simulation}
 use Rattle.sg_engine.specs.Output.{cap_of, point_of}
 use Rattle.sg_engine.specs.Run.{minds_from}
@@ -33,9 +32,9 @@ returns c = λ part begun.
     let number : c.len-actors.result ≡ length deployed.actors = c.len-actors.ensures ∙ c.in_ok-homes.homes.ok.0 ∙ ap length (c.in_ok-homes.ensures ∙ ap (map point_of) c.actors.ensures.rows) ∙ length-map deployed.actors point_of in
     let new = is_new platform deployed c.args.budget c.in_ok-new.field-0 c.deref.result.now c.deref-2.result.now c.in_ok-new.ensures hosts_are homes_are in
     let minds = c.in_ok-minds.ensures ∙ ap (minds_from 1) number in
-    let sim : Simulation = record { kernel = c.in_ok-new.field-0; script = c.in_ok-new-2.field-0; minds = c.in_ok-minds.field-0; calls = c.in_ok-no_calls.field-0; buffer = c.in_ok-new-3.field-0 } in
+    let sim : Simulation = record { kernel = c.in_ok-new.field-0; script = c.in_ok-new-2.field-0; minds = c.in_ok-minds.field-0; calls = c.in_ok-with_capacity.field-0; buffer = c.in_ok-new-3.field-0 } in
     record {
-      kept = first_kept platform deployed c.args.budget part sim new (c.in_ok-new-2.ensures.actors ∙ number) begun minds (c.in_ok-no_calls.ensures ∙ number) c.actors.ensures.kept.few_actors c.in_ok-new-3.ensures;
+      kept = first_kept platform deployed c.args.budget part sim new (c.in_ok-new-2.ensures.actors ∙ number) begun minds (omega (arith, c.in_ok-with_capacity.ensures.capacity, number)) c.actors.ensures.kept.few_actors c.in_ok-new-3.ensures;
       setup = new.setup;
       stands = first_stands platform deployed c.args.budget part sim new (c.in_ok-new-2.ensures.stands _ part.stage) minds;
     }

@@ -1,16 +1,21 @@
-use Rattle.std.proofs.Common.{◌≡◌, ◌<◌, ℕ, None, Some, ◌++◌, map, take, drop, get_or}
+use Rattle.std.proofs.Common.{◌≡◌, ◌++◌, map, take, drop, vec_capacity}
+use Rattle.std.specs.Prelude.{All}
 use Rattle.sg_base.specs.Limits.{IsCall}
-use Rattle.sg_base.specs.declared.call.Call.{Call}
+use Rattle.sg_engine.specs.declared.actor_call.ActorCall.{ActorCall}
+use Rattle.sg_engine.specs.Listed.{listed}
 use Rattle.sg_engine.specs.Minds.{shown}
 use Rattle.sg_engine.specs.Run.{zip_with, mind_after, call_after, inboxes}
+use Rattle.sg_engine.proofs.Listing.{last_id}
 use Rattle.sg_engine.proofs.turns.take_turns.Given as goal
 
-abbrev pub invariant-loop-i : goal.invariant-loop-i
-invariant-loop-i l =
+abbrev pub invariant-loop-actor : goal.invariant-loop-actor
+invariant-loop-actor l =
     let had = map shown l.fn.minds in
     let answers = inboxes l.kernel.core in
+    let done = last_id l.queue l.actor-index in
     record {
-      minds : map shown l.minds ≡ zip_with mind_after (take l.i had) (take l.i answers) ++ drop l.i had;
-      calls : l.calls ≡ zip_with call_after (take l.i had) (take l.i answers) ++ drop l.i l.fn.calls;
-      limited : (j : ℕ) (what : Call) → j < l.i → get_or l.calls j None ≡ Some what → IsCall what;
+      minds : map shown l.minds ≡ zip_with mind_after (take done had) (take done answers) ++ drop done had;
+      calls : l.calls.items ≡ listed 1 (zip_with call_after (take done had) (take done answers));
+      limited : All (λ (made : ActorCall). IsCall made.call) l.calls.items;
+      room : vec_capacity l.calls ≡ vec_capacity l.fn.calls;
     }

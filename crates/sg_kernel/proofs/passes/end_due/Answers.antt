@@ -38,6 +38,7 @@ loop-phase-preserved c =
     record {
       sound = made.sound;
       limited = made.limited;
+      answering = made.answering;
       budget = ap (λ (k : Known). k.setup.budget) made.known ∙ inv.budget;
       known =
           ap₂ (λ d k. still budget d k) rest made.known

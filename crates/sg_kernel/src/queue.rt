@@ -1,0 +1,52 @@
+//! Who is to take a turn.
+ghost use Rattle.std.specs.Prelude.{◌≡◌, ◌-◌, ◌≤◌, IfOk, length, filter, replicate, slice_index_or, vec_len, vec_capacity};
+ghost use Rattle.std.specs.List.Sorted.{IsNonDecreasingBy, IsPermutation};
+ghost use Rattle.sg_base.specs.declared.ids.ActorId.{ActorId};
+ghost use Rattle.sg_base.specs.declared.call.Answer.TheVariants as answer;
+ghost use Rattle.sg_kernel.specs.declared.states.State.TheVariants.{Ready};
+ghost use Rattle.sg_kernel.specs.Queue.{is_ready_in as is_ready_in_spec, IsQueue};
+
+use crate::states::State;
+use sg_base::{ActorId, Memory};
+use std::alloc::Global;
+
+/// All of so many actors, each of which is ready.
+pub(crate) fn all_actors(alloc: Global, n: usize) -> Result<Vec<ActorId>, Memory>
+    ensures queue { IfOk result (λ queue. IsQueue (replicate n (Ready answer.Start)) queue.items) }
+    ensures room { IfOk result (λ queue. n ≤ vec_capacity queue) }
+{
+    let mut queue = Vec::with_capacity(alloc, n)?;
+    let Ok(last) = u32::try_from(n) else {
+        return Err(Memory);
+    };
+    for i in 0..last {
+        queue.push_reserved(ActorId(i + 1));
+    }
+    Ok(queue)
+}
+
+fn is_ready_in(states: &[State], actor: ActorId) -> bool
+    ensures { result ≡ is_ready_in_spec states.now actor.0 }
+{
+    match states.get((actor.0 as usize).saturating_sub(1)) {
+        Some(State::Ready(_)) => true,
+        _ => false,
+    }
+}
+
+/// Lets those go that aren't ready.
+pub(crate) fn keep_ready(queue: &mut Vec<ActorId>, states: &[State])
+    ensures items { queue.new.items ≡ filter (λ (actor : ActorId). is_ready_in_spec states.now actor.0) queue.old.items }
+    ensures capacity { vec_capacity queue.new ≡ vec_capacity queue.old }
+{
+    queue.retain(|actor| is_ready_in(states, *actor));
+}
+
+/// Brings them into rising order.
+pub(crate) fn sort(queue: &mut Vec<ActorId>)
+    ensures moves { IsPermutation queue.old.items queue.new.items }
+    ensures rises { IsNonDecreasingBy (λ actor. actor.0) queue.new.items }
+    ensures capacity { vec_capacity queue.new ≡ vec_capacity queue.old }
+{
+    queue.sort_unstable_by_key(|actor| actor.0);
+}
