@@ -50,7 +50,7 @@ pub(crate) fn first_parts(
     ensures dated { IfOk result (λ parts. IsDated parts) }
     ensures limited { IfOk result (λ parts. AreLimited parts) }
 {
-    let doing = Activities::new(alloc, hosts)?;
+    let doing = Activities::new(alloc, hosts, &[])?;
     let actors = homes.len();
     let states = first_states(alloc, actors)?;
     let homes = Vec::from_slice(alloc, homes)?;
@@ -77,7 +77,7 @@ pub(crate) fn compute(parts: &mut Parts, actor: ActorId, flops: u64)
     requires sound { IsSound parts.old }
     requires dated { IsDated parts.old }
     requires limited { AreLimited parts.old }
-    ensures known { known_of parts.new ≡ record (known_of parts.old) { core = counted (blocks_on (exec_of parts.old.doing.hosts (host_of (known_of parts.old).setup actor.0) flops) actor.0 (Call.Compute flops) (core_of parts.old)); room = parts.old.room - 1 } }
+    ensures known { known_of parts.new ≡ record (known_of parts.old) { core = counted (blocks_on (exec_of parts.old.doing.capacities (host_of (known_of parts.old).setup actor.0) flops) actor.0 (Call.Compute flops) (core_of parts.old)); room = parts.old.room - 1 } }
     ensures sound { IsSound parts.new }
     ensures dated { IsDated parts.new }
     ensures limited { AreLimited parts.new }
