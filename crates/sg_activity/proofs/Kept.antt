@@ -1,40 +1,51 @@
--- The rows and the system stay of one mind.
-use Rattle.std.proofs.Common.{◌≡◌, ℕ, zero, suc, ◌⊎◌, inl, inr, Bool, true, false, cond, Option, None, Some, option_map, List, [], ◌∷◌, ◌++◌, length, map, get_or, sum_by, filter_map, slice_index, IsTrue, refl, sym, ap, ap₂, subst, ◌∙◌}
+-- The rows, the system and the routes stay of one mind.
+use Rattle.std.proofs.Common.{◌≡◌, ℕ, zero, suc, ◌⊎◌, inl, inr, Bool, true, false, cond, true≢false, Option, None, Some, option_map, unwrap_or, List, [], ◌∷◌, map, get_or, sum_by, filter_map, slice_index, IsTrue, IsSome, refl, sym, ap, ap₂, subst, ◌∙◌}
 use Rattle.std.specs.List.{cons_option}
 use Rattle.std.proofs.lemmas.Option.{cond_some}
 use Rattle.sg_maxmin.specs.Fill.{Flow, share_of}
 use Rattle.sg_maxmin.specs.Laws.{HaveLimits}
-use Rattle.sg_maxmin.specs.Sharing.{Sharing, HasLimit, held, slot_part}
+use Rattle.sg_maxmin.specs.Sharing.{Sharing, HasLimit, flow_at, held, slot_part}
 use Rattle.sg_maxmin.proofs.Members.{In, In-from_contains}
-use Rattle.sg_activity.specs.declared.kinds.HostCap.{HostCap}
+use Rattle.sg_activity.specs.declared.kinds.PhaseKind.{PhaseKind}
+use Rattle.sg_activity.specs.declared.kinds.PhaseKind.TheVariants as phase
+use Rattle.sg_activity.specs.declared.routes.Route.{Route}
 use Rattle.sg_activity.specs.declared.rows.Row.{Row}
 use Rattle.sg_activity.specs.Task.{Task, is_filled, flow_in, flows, rate, wait, soonest, sooner}
-use Rattle.sg_activity.specs.Hosts.{host_flow, capacities_of}
 use Rattle.sg_activity.specs.Doing.{no_flow}
-use Rattle.sg_activity.specs.Rows.{row_flow, task_of, tasks_of, row_rate, row_wait, AreKept}
+use Rattle.sg_activity.specs.Rows.{in_system, flow_under, row_flow, task_of, tasks_of, row_rate, row_wait, IsHeld, AreKept}
 use Rattle.sg_activity.proofs.Sums.{sum_by-filter_map}
 use Rattle.sg_maxmin.proofs.Shares.{shares_same_lem}
 use Rattle.sg_maxmin.proofs.Held.{is_held_lem}
 
-some_same : {X : Type 0} {x y : X} → Some x ≡ Some y → x ≡ y
+pub some_same : {X : Type 0} {x y : X} → Some x ≡ Some y → x ≡ y
 some_same e = cc e
 
--- what is found behind a list and one more
-pub pushed_cases : {X : Type 0} (xs : List (Option X)) (y : X) (i : ℕ) (x : X) → get_or (xs ++ Some y ∷ []) i None ≡ Some x → ((get_or xs i None ≡ Some x) ⊎ ((i ≡ length xs) × (y ≡ x)))
-pushed_cases [] y zero x e = inr (refl, some_same e)
-pushed_cases [] y (suc i) x e = absurd (cc e)
-pushed_cases (z ∷ xs) y zero x e = inl e
-pushed_cases (z ∷ xs) y (suc i) x e = elim (pushed_cases xs y i x e) [ inl a ↦ inl a | inr r ↦ inr (ap (λ n. suc n) r.0, r.1) ]
+pub is_there : {X : Type 0} (o : Option X) (d : X) → IsSome o → o ≡ Some (unwrap_or o d)
+is_there None d h = absurd (true≢false (sym h))
+is_there (Some x) d h = refl
 
 pub get_or-map_none : {X Y : Type 0} (f : X → Y) (xs : List (Option X)) (k : ℕ) → get_or (map (option_map f) xs) k None ≡ option_map f (get_or xs k None)
 get_or-map_none f [] k = refl
 get_or-map_none f (x ∷ xs) zero = refl
 get_or-map_none f (x ∷ xs) (suc k) = get_or-map_none f xs k
 
--- ---- the flows of the rows
-pub flow_of_row : List HostCap → Option Row → Option Flow
-flow_of_row hosts slot = flow_in (option_map (task_of hosts) slot)
+-- ---- phases whose flow stands in the system
+pub filled_in : (kind : PhaseKind) → IsTrue (is_filled kind) → in_system kind ≡ Some true
+filled_in phase.Latency h = absurd (true≢false (sym h))
+filled_in phase.Flow h = refl
+filled_in phase.Exec h = refl
+filled_in phase.Timer h = absurd (true≢false (sym h))
 
+pub filled_under : (slots : List (Option Flow)) (routes : List (Option Route)) (kind : PhaseKind) (place : ℕ) → IsTrue (is_filled kind) → flow_under slots routes kind place ≡ flow_at slots place
+filled_under slots routes phase.Latency place h = absurd (true≢false (sym h))
+filled_under slots routes phase.Flow place h = refl
+filled_under slots routes phase.Exec place h = refl
+filled_under slots routes phase.Timer place h = absurd (true≢false (sym h))
+
+pub held_at : (capacities : List ℕ) (slots : List (Option Flow)) (routes : List (Option Route)) (row : Row) → IsHeld capacities slots routes row → IsTrue (is_filled row.kind) → flow_at slots row.place ≡ Some (row_flow slots routes row)
+held_at capacities slots routes row is full = sym (filled_under slots routes row.kind row.place full) ∙ is_there (flow_under slots routes row.kind row.place) no_flow is.there
+
+-- ---- the flows of the rows
 pub sums_flows : (h : Flow → ℕ) (tasks : List (Option Task)) → sum_by h (flows tasks) ≡ sum_by (λ t. slot_part h (flow_in t)) tasks
 unfolding flows
 sums_flows h tasks = sum_by-filter_map h flow_in tasks
@@ -45,39 +56,40 @@ in_cons_option (Some x) ys y (inl e) = inl (ap (λ w. Some w) e)
 in_cons_option (Some x) ys y (inr i) = inr i
 
 -- each flow comes from a row
-flow_from : (hosts : List HostCap) (rows : List (Option Row)) (f : Flow) → In f (flows (tasks_of hosts rows)) → (row : Row) × IsTrue (is_filled row.kind) × (row_flow hosts row ≡ f)
+flow_from : (slots : List (Option Flow)) (routes : List (Option Route)) (rows : List (Option Row)) (f : Flow) → In f (flows (tasks_of slots routes rows)) →
+    (i : ℕ) × (row : Row) × (get_or rows i None ≡ Some row) × IsTrue (is_filled row.kind) × (row_flow slots routes row ≡ f)
 unfolding flows
-flow_from hosts [] f i = absurd i
-flow_from hosts (None ∷ rows) f i = flow_from hosts rows f i
-flow_from hosts (Some row ∷ rows) f i =
-    elim (in_cons_option (flow_in (Some (task_of hosts row))) (filter_map flow_in (tasks_of hosts rows)) f i) [
-      | inl e ↦ let both = cond_some (is_filled row.kind) (row_flow hosts row) f e in (row, both.0, both.1)
-      | inr j ↦ flow_from hosts rows f j
+flow_from slots routes [] f i = absurd i
+flow_from slots routes (None ∷ rows) f i = let r = flow_from slots routes rows f i in (suc r.0, r.1, r.2, r.3, r.4)
+flow_from slots routes (Some row ∷ rows) f i =
+    elim (in_cons_option (flow_in (Some (task_of slots routes row))) (filter_map flow_in (tasks_of slots routes rows)) f i) [
+      | inl e ↦ let both = cond_some (is_filled row.kind) (row_flow slots routes row) f e in (0, row, refl, both.0, both.1)
+      | inr j ↦ let r = flow_from slots routes rows f j in (suc r.0, r.1, r.2, r.3, r.4)
     ]
 
-pub limits : (hosts : List HostCap) (rows : List (Option Row)) → HaveLimits (flows (tasks_of hosts rows))
-limits hosts rows f there =
-    let found = flow_from hosts rows f (In-from_contains (flows (tasks_of hosts rows)) f there) in
-    let is : host_flow hosts found.0.host ≡ f = sym (ap (λ b. cond b (host_flow hosts found.0.host) no_flow) found.1) ∙ found.2 in
-    subst HasLimit is (λ e. absurd (cc e))
+pub limits : (capacities : List ℕ) (rows : List (Option Row)) (system : Sharing) (routes : List (Option Route)) (settled : Bool) → AreKept capacities rows system routes settled → HaveLimits (flows (tasks_of system.slots routes rows))
+limits capacities rows system routes settled are f there =
+    let found = flow_from system.slots routes rows f (In-from_contains (flows (tasks_of system.slots routes rows)) f there) in
+    subst HasLimit found.4 ((are.each found.0 found.1 found.2).flow true (filled_in found.1.kind found.3)).limit
 
 -- a row goes at the rate of its task
-pub rate_kept : (hosts : List HostCap) (rows : List (Option Row)) (system : Sharing) → AreKept hosts rows system true → (i : ℕ) (row : Row) → get_or rows i None ≡ Some row →
-    row_rate system row ≡ rate (capacities_of hosts) (tasks_of hosts rows) (task_of hosts row)
+pub rate_kept : (capacities : List ℕ) (rows : List (Option Row)) (system : Sharing) (routes : List (Option Route)) → AreKept capacities rows system routes true → (i : ℕ) (row : Row) → get_or rows i None ≡ Some row →
+    row_rate system row ≡ rate capacities (tasks_of system.slots routes rows) (task_of system.slots routes row)
 unfolding rate
-rate_kept hosts rows system are i row at = cases (is_filled row.kind) refl
+rate_kept capacities rows system routes are i row at = cases (is_filled row.kind) refl
   where
-    cases : (b : Bool) → is_filled row.kind ≡ b → ◌≡◌ {A = ℕ} (cond b (slice_index system.shares row.flow) 1) (cond b (share_of (capacities_of hosts) (flows (tasks_of hosts rows)) (row_flow hosts row)) 1)
+    cases : (b : Bool) → is_filled row.kind ≡ b → ◌≡◌ {A = ℕ} (cond b (slice_index system.shares row.place) 1) (cond b (share_of capacities (flows (tasks_of system.slots routes rows)) (row_flow system.slots routes row)) 1)
     cases true e =
-        let there = are.each i row at e in
-        are.shares refl row.flow (row_flow hosts row) there
-        ∙ ap (λ c. share_of c (held system.slots) (row_flow hosts row)) are.capacities
-        ∙ shares_same_lem (capacities_of hosts) (held system.slots) (flows (tasks_of hosts rows)) (row_flow hosts row) are.sums (limits hosts rows) (is_held_lem system.slots row.flow (row_flow hosts row) there)
+        let flow = row_flow system.slots routes row in
+        let there = held_at capacities system.slots routes row (are.each i row at) e in
+        are.shares refl row.place flow there
+        ∙ ap (λ c. share_of c (held system.slots) flow) are.capacities_are
+        ∙ shares_same_lem capacities (held system.slots) (flows (tasks_of system.slots routes rows)) flow are.sums (limits capacities rows system routes true are) (is_held_lem system.slots row.place flow there)
     cases false e = refl
 
-pub wait_kept : (hosts : List HostCap) (rows : List (Option Row)) (system : Sharing) → AreKept hosts rows system true → (i : ℕ) (row : Row) → get_or rows i None ≡ Some row →
-    row_wait system row ≡ wait (rate (capacities_of hosts) (tasks_of hosts rows) (task_of hosts row)) row.left
-wait_kept hosts rows system are i row at = ap (λ r. wait r row.left) (rate_kept hosts rows system are i row at)
+pub wait_kept : (capacities : List ℕ) (rows : List (Option Row)) (system : Sharing) (routes : List (Option Route)) → AreKept capacities rows system routes true → (i : ℕ) (row : Row) → get_or rows i None ≡ Some row →
+    row_wait system row ≡ wait (rate capacities (tasks_of system.slots routes rows) (task_of system.slots routes row)) row.left
+wait_kept capacities rows system routes are i row at = ap (λ r. wait r row.left) (rate_kept capacities rows system routes are i row at)
 
 -- ---- lists of what may be there
 pub soonest-map : {X Y : Type 0} (f : X → Y) (v : X → Option ℕ) (w : Y → Option ℕ) (xs : List (Option X)) → ((i : ℕ) (x : X) → get_or xs i None ≡ Some x → v x ≡ w (f x)) → soonest v xs ≡ soonest w (map (option_map f) xs)

@@ -3,5 +3,8 @@ pub mod Serials
 pub mod Spread
 pub mod Sums
 pub mod Kept
+pub mod Replaced
 pub mod Keeps
+pub mod Told
+pub mod Routed
 pub mod Due

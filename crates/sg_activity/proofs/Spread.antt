@@ -1,10 +1,10 @@
 -- The rows by serial, as rows come, change and go.
-use Rattle.std.proofs.Common.{◌≡◌, ℕ, zero, suc, ◌+◌, ◌-◌, ◌<◌, ◌≤◌, Bool, true, false, cond, not, ◌||◌, is_some, Option, None, Some, option_map, option_and_then, List, [], ◌∷◌, ◌++◌, replicate, filter, length, map, set, get_or, refl, sym, ap, ap₂, subst, ◌∙◌, arith}
+use Rattle.std.proofs.Common.{◌≡◌, ◌≢◌, ℕ, inl, inr, zero, suc, ◌+◌, ◌-◌, ◌<◌, ◌≤◌, Bool, true, false, cond, not, ◌||◌, is_some, Option, None, Some, option_map, option_and_then, List, [], ◌∷◌, ◌++◌, replicate, insert, filter, length, map, set, get_or, refl, sym, ap, ap₂, subst, ◌∙◌, arith}
 use Rattle.std.specs.List.{list_any}
 use Rattle.std.proofs.lemmas.List.{append_assoc, length-append, length-replicate, replicate-append-replicate, replicate_more, map-append, set-append_right, get_or-append_right}
 use Rattle.sg_activity.specs.declared.rows.Row.{Row}
 use Rattle.sg_activity.specs.Task.{soonest, sooner, serials, passes}
-use Rattle.sg_activity.specs.Rows.{live, spread, AreRising}
+use Rattle.sg_activity.specs.Rows.{live, spread, AreRising, IsPlace, IsPut}
 
 -- ---- the serials
 pub rising_ends : (from to : ℕ) (rows : List Row) → AreRising from to rows → from ≤ to
@@ -204,3 +204,84 @@ spread-filter from to (row ∷ rows) h = cases row.done refl (filter (λ (x : Ro
         ∙ ap₂ (λ n l. replicate n None ++ l) one same
         ∙ ap (λ l. l ++ spread (row.serial + 1) to rows) (sym (replicate_more k None))
         ∙ append_assoc (replicate k None) (None ∷ []) (spread (row.serial + 1) to rows)
+
+-- ---- one serial more is drawn
+pub rising-more : (from to : ℕ) (rows : List Row) → AreRising from to rows → AreRising from (to + 1) rows
+unfolding AreRising
+rising-more from to [] h = omega (arith, h)
+rising-more from to (row ∷ rows) h = (h.0, rising-more (row.serial + 1) to rows h.1)
+
+pub spread-more : (from to : ℕ) (rows : List Row) → AreRising from to rows → spread from (to + 1) rows ≡ spread from to rows ++ None ∷ []
+unfolding spread AreRising
+spread-more from to [] h = let one : to + 1 - from ≡ to - from + 1 = omega (arith, h) in ap (λ n. replicate n None) one ∙ sym (replicate_more (to - from) None)
+spread-more from to (row ∷ rows) h =
+    ap (λ l. replicate (row.serial - from) None ++ live row ∷ l) (spread-more (row.serial + 1) to rows h.1)
+    ∙ sym (append_assoc (replicate (row.serial - from) None) (live row ∷ spread (row.serial + 1) to rows) (None ∷ []))
+
+-- ---- a row is put at its place
+split_none : (from to serial : ℕ) (rows : List Row) → from ≤ serial → AreRising (serial + 1) to rows → spread from to rows ≡ replicate (serial - from) None ++ None ∷ spread (serial + 1) to rows
+split_none from to serial rows le h =
+    let one : serial + 1 - from ≡ serial - from + 1 = omega (arith, le) in
+    spread_gap from (serial + 1) to rows (omega (arith, le)) h
+    ∙ ap (λ n. replicate n None ++ spread (serial + 1) to rows) one
+    ∙ ap (λ l. l ++ spread (serial + 1) to rows) (sym (replicate_more (serial - from) None))
+    ∙ append_assoc (replicate (serial - from) None) (None ∷ []) (spread (serial + 1) to rows)
+
+-- the serials behind a place
+behind : (from to : ℕ) (rows : List Row) (row : Row) → AreRising from to rows → row.serial < to → (0 < length rows → row.serial < (get_or rows 0 row).serial) → AreRising (row.serial + 1) to rows
+unfolding AreRising
+behind from to [] row h lt above = omega (arith, lt)
+behind from to (x ∷ rows) row h lt above = let le : row.serial < x.serial = above (omega arith) in (omega (arith, le), h.1)
+
+-- the serials before a place
+before : (from to : ℕ) (rows : List Row) (i : ℕ) (x row : Row) → AreRising from to (x ∷ rows) → suc i ≤ length (x ∷ rows) → ((k : ℕ) → k + 1 ≡ suc i → (get_or (x ∷ rows) k row).serial < row.serial) → x.serial + 1 ≤ row.serial
+unfolding AreRising
+before from to rows zero x row h within below = let lt : x.serial < row.serial = below 0 refl in omega (arith, lt)
+before from to rows (suc i) x row h within below =
+    let at = rising_at (x.serial + 1) to rows i row h.1 (omega (arith, within)) in
+    let lt : (get_or rows i row).serial < row.serial = below (suc i) (omega arith) in
+    omega (arith, at.0, lt)
+
+pub rising-insert : (from to : ℕ) (rows : List Row) (i : ℕ) (row : Row) → AreRising from to rows → i ≤ length rows → from ≤ row.serial → row.serial < to → ((k : ℕ) → k + 1 ≡ i → (get_or rows k row).serial < row.serial) → (i < length rows → row.serial < (get_or rows i row).serial) → AreRising from to (insert rows i row)
+unfolding AreRising
+rising-insert from to rows zero row h within le lt below above = (le, behind from to rows row h lt above)
+rising-insert from to [] (suc i) row h within le lt below above = absurd (omega (arith, within))
+rising-insert from to (x ∷ rows) (suc i) row h within le lt below above =
+    (h.0, rising-insert (x.serial + 1) to rows i row h.1 (omega (arith, within)) (before from to rows i x row h within below) lt (λ k e. below (suc k) (omega (arith, e))) (λ less. above (omega (arith, less))))
+
+pub spread-insert : (from to : ℕ) (rows : List Row) (i : ℕ) (row : Row) → AreRising from to rows → i ≤ length rows → from ≤ row.serial → row.serial < to → ((k : ℕ) → k + 1 ≡ i → (get_or rows k row).serial < row.serial) → (i < length rows → row.serial < (get_or rows i row).serial) →
+    spread from to (insert rows i row) ≡ set (spread from to rows) (row.serial - from) (live row)
+unfolding spread AreRising
+spread-insert from to rows zero row h within le lt below above =
+    let k = row.serial - from in
+    let rest = spread (row.serial + 1) to rows in
+    let same : k - k ≡ 0 = omega arith in
+    sym (
+    ap (λ l. set l k (live row)) (split_none from to row.serial rows le (behind from to rows row h lt above))
+    ∙ set-append_right (replicate k None) (None ∷ rest) k k (live row) (length-replicate k None) (omega arith)
+    ∙ ap (λ n. replicate k None ++ set (None ∷ rest) n (live row)) same
+    )
+spread-insert from to [] (suc i) row h within le lt below above = absurd (omega (arith, within))
+spread-insert from to (x ∷ rows) (suc i) row h within le lt below above =
+    let k = x.serial - from in
+    let past = before from to rows i x row h within below in
+    let step : row.serial - from - k ≡ suc (row.serial - (x.serial + 1)) = omega (arith, h.0, past) in
+    ap (λ l. replicate k None ++ live x ∷ l)
+    (spread-insert (x.serial + 1) to rows i row h.1 (omega (arith, within)) past lt (λ j e. below (suc j) (omega (arith, e))) (λ less. above (omega (arith, less))))
+    ∙ sym (
+    set-append_right (replicate k None) (live x ∷ spread (x.serial + 1) to rows) k (row.serial - from) (live row) (length-replicate k None) (omega (arith, h.0, past))
+    ∙ ap (λ n. replicate k None ++ set (live x ∷ spread (x.serial + 1) to rows) n (live row)) step
+    )
+
+less_from : (a b : ℕ) → a ≤ b → b ≢ a → a < b
+less_from a b le other = grind (arith, le, other)
+
+pub rising-put : (to : ℕ) (rows new : List Row) (row : Row) (i : ℕ) → AreRising 1 to rows → 0 < row.serial → row.serial < to → IsPlace rows row.serial i → IsPut rows row i new → AreRising 1 to new
+rising-put to rows new row i h from lt place (inl p) = subst (AreRising 1 to) (sym p.2) (rising-set 1 to rows i row row (sym p.1) p.0 h)
+rising-put to rows new row i h from lt place (inr p) =
+    subst (AreRising 1 to) (sym p.1) (rising-insert 1 to rows i row h place.within (omega (arith, from)) lt (place.below row) (λ less. less_from row.serial (get_or rows i row).serial (place.above row less) (p.0 less)))
+
+pub spread-put : (to : ℕ) (rows new : List Row) (row : Row) (i : ℕ) → AreRising 1 to rows → 0 < row.serial → row.serial < to → IsPlace rows row.serial i → IsPut rows row i new → spread 1 to new ≡ set (spread 1 to rows) (row.serial - 1) (live row)
+spread-put to rows new row i h from lt place (inl p) = ap (spread 1 to) p.2 ∙ spread-set 1 to rows i row row h p.0 (sym p.1)
+spread-put to rows new row i h from lt place (inr p) =
+    ap (spread 1 to) p.1 ∙ spread-insert 1 to rows i row h place.within (omega (arith, from)) lt (place.below row) (λ less. less_from row.serial (get_or rows i row).serial (place.above row less) (p.0 less))

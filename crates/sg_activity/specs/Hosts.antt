@@ -8,8 +8,8 @@ abbrev pub IsHost : HostCap → Type 0
 IsHost host = (host.speed ≤ 10 ^ 15) × (host.cores ≤ 1024)
 
 -- what each host offers in all
-abbrev pub capacities_of : List HostCap → List ℕ
-capacities_of hosts = map (λ host. host.speed * host.cores) hosts
+abbrev pub offers_of : List HostCap → List ℕ
+offers_of hosts = map (λ host. host.speed * host.cores) hosts
 
 abbrev pub speed_of : List HostCap → ℕ → ℕ
 speed_of hosts host = slice_index (map (λ h. h.speed) hosts) host

@@ -5,22 +5,36 @@ use Rattle.sg_maxmin.specs.Fill.{Flow, share_of}
 use Rattle.sg_activity.specs.declared.kinds.PhaseKind.{PhaseKind}
 use Rattle.sg_activity.specs.declared.kinds.PhaseKind.TheVariants as phase
 
--- what goes on, how much of it is left (unit-nanoseconds of an execution, nanoseconds of a sleep), and what it uses
+-- What goes on, and how much of it is left: unit-nanoseconds of an execution or a flow, nanoseconds of a sleep or a latency. What it uses, a latency only once it has passed. How many bytes a communication has.
 pub record Task : Type 0 where
   pub kind : PhaseKind
   pub left : ℕ
   pub flow : Flow
+  pub bytes : ℕ
 
 -- whether the phase takes a share of resources
 abbrev pub is_filled : PhaseKind → Bool
+is_filled phase.Latency = false
+is_filled phase.Flow = true
 is_filled phase.Exec = true
 is_filled phase.Timer = false
+
+-- What follows once a phase is over: after a latency the bytes flow, and after any other phase the activity is done.
+abbrev pub next_phase : PhaseKind → Task → Option Task
+next_phase phase.Latency task = Some (record task { kind = phase.Flow; left = task.bytes * 1000000000 })
+next_phase phase.Flow task = None
+next_phase phase.Exec task = None
+next_phase phase.Timer task = None
+
+abbrev pub phase_after : Option Task → Option Task
+phase_after None = None
+phase_after (Some task) = next_phase task.kind task
 
 abbrev pub flow_in : Option Task → Option Flow
 flow_in None = None
 flow_in (Some task) = if is_filled task.kind then Some task.flow else None
 
--- what the executions that run ask for
+-- what the executions and flows that run ask for
 unfoldable pub flows : List (Option Task) → List Flow
 flows tasks = filter_map flow_in tasks
 
@@ -32,7 +46,7 @@ rate capacities tasks task = if is_filled task.kind then share_of capacities (fl
 abbrev pub wait : ℕ → ℕ → Option ℕ
 wait rate left = if left == 0 then Some 0 else if rate == 0 then None else Some (div_ceil left rate)
 
--- the less of two times, of which none is never
+-- the less of two numbers, where none is without end
 abbrev pub sooner : Option ℕ → Option ℕ → Option ℕ
 sooner None b = b
 sooner (Some a) None = Some a

@@ -1,9 +1,13 @@
 //! What activities are made of.
 use sg_base::Serial;
 
-/// What an activity does.
+/// What an activity does in one of its phases.
 #[derive(Clone, Copy, Debug, PartialEq, Eq)]
 pub enum PhaseKind {
+    /// A communication lets the latency of its route pass.
+    Latency,
+    /// The bytes of a communication flow over its route.
+    Flow,
     /// It computes on its host.
     Exec,
     /// It lets a time pass.
@@ -23,4 +27,12 @@ pub struct Phase {
 pub struct HostCap {
     pub speed: u64,
     pub cores: u32,
+}
+
+/// What a link offers, in bytes a second: the flows over a link get together at most its bandwidth, and on a FATPIPE
+/// link each flow gets at most the bandwidth, whatever the others get.
+#[derive(Clone, Copy, Debug, PartialEq, Eq)]
+pub struct LinkCap {
+    pub bandwidth: u64,
+    pub fatpipe: bool,
 }

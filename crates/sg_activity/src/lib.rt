@@ -1,9 +1,13 @@
-//! Activities under way: executions and sleeps, what is left of each, and when the next one is over.
+//! Activities under way: executions, sleeps and communications, what is left of each, and when the next phase is over.
 #![tactic(auto)]
 
 mod activities;
 mod kinds;
+mod phases;
+mod routes;
 mod rows;
+#[cfg(test)]
+mod tests;
 
 pub use activities::Activities;
-pub use kinds::{HostCap, Phase, PhaseKind};
+pub use kinds::{HostCap, LinkCap, Phase, PhaseKind};

@@ -2,13 +2,13 @@
 
 ghost use Rattle.std.specs.Prelude.{◌≡◌, ◌+◌, ◌-◌, ◌*◌, ◌<◌, ◌≤◌, ◌^◌, ℕ, Bool, Some, None, IsTrue, false, true, IsSome, map, option_map, option_and_then, MatchOption, [], is_some, filter, take, length, not, vec_len, vec_capacity};
 ghost use Rattle.std.specs.List.{list_any};
-ghost use Rattle.sg_maxmin.specs.Sharing.{flow_at, Changes};
+ghost use Rattle.sg_maxmin.specs.Sharing.{flow_at};
 ghost use Rattle.sg_activity.specs.Task.{is_filled, wait as wait_spec, sooner as sooner_spec, soonest as soonest_spec, passes};
 ghost use Rattle.sg_activity.specs.declared.rows.Row.{Row};
-ghost use Rattle.sg_activity.specs.Rows.{live as live_spec, row_rate, row_wait, row_later, later_row as later_row_spec, is_row_due, is_due, HaveFlows, IsFirst};
+ghost use Rattle.sg_activity.specs.Rows.{live as live_spec, row_rate, row_wait, row_later, later_row as later_row_spec, is_row_due, is_due, HaveFlows, IsFirst, IsPlace, IsPut};
 
 use crate::kinds::PhaseKind;
-use sg_maxmin::{FlowId, System};
+use sg_maxmin::System;
 
 /// An activity under way, as it is kept, or one that was done not long ago.
 #[derive(Clone, Copy)]
@@ -16,9 +16,10 @@ pub(crate) struct Row {
     pub(crate) serial: u64,
     pub(crate) kind: PhaseKind,
     pub(crate) left: u128,
-    /// The host of an execution, and its flow there.
-    pub(crate) host: usize,
-    pub(crate) flow: FlowId,
+    /// The bytes of a communication.
+    pub(crate) bytes: u64,
+    /// The flow's number in the system; while a latency passes, the route's key; 0 of a sleep.
+    pub(crate) place: usize,
     pub(crate) due: bool,
     pub(crate) done: bool,
 }
@@ -34,17 +35,17 @@ pub(crate) fn fills(kind: PhaseKind) -> bool
     ensures { result ≡ is_filled kind }
 {
     match kind {
-        PhaseKind::Exec => true,
-        PhaseKind::Timer => false,
+        PhaseKind::Flow | PhaseKind::Exec => true,
+        PhaseKind::Latency | PhaseKind::Timer => false,
     }
 }
 
 fn rate_of(row: &Row, system: &System) -> u64
-    requires { IsTrue (is_filled row.now.kind) → IsSome (flow_at system.now.slots row.now.flow) }
+    requires { IsTrue (is_filled row.now.kind) → IsSome (flow_at system.now.slots row.now.place) }
     ensures { result ≡ row_rate system.now row.now }
 {
     if fills(row.kind) {
-        system.share(row.flow)
+        system.share(row.place)
     } else {
         1
     }
@@ -75,7 +76,7 @@ fn sooner(a: Option<u128>, b: Option<u128>) -> Option<u128>
 }
 
 fn wait_of(slot: Option<Row>, system: &System) -> Option<u128>
-    requires { (row : Row) → slot ≡ Some row → IsTrue (is_filled row.kind) → IsSome (flow_at system.now.slots row.flow) }
+    requires { (row : Row) → slot ≡ Some row → IsTrue (is_filled row.kind) → IsSome (flow_at system.now.slots row.place) }
     ensures { result ≡ option_and_then (row_wait system.now) slot }
 {
     match slot {
@@ -98,7 +99,7 @@ pub(crate) fn soonest(rows: &[Row], system: &System) -> Option<u128>
 
 // The row, so many nanoseconds later.
 fn later(row: &Row, system: &System, span: u128) -> Row
-    requires { IsTrue (is_filled row.now.kind) → IsSome (flow_at system.now.slots row.now.flow) }
+    requires { IsTrue (is_filled row.now.kind) → IsSome (flow_at system.now.slots row.now.place) }
     ensures { result ≡ row_later system.now span row.now }
 {
     let rate = rate_of(row, system);
@@ -116,7 +117,7 @@ fn later(row: &Row, system: &System, span: u128) -> Row
 }
 
 fn later_row(row: Row, system: &System, span: u128) -> Row
-    requires { (other : Row) → live_spec row ≡ Some other → IsTrue (is_filled other.kind) → IsSome (flow_at system.now.slots other.flow) }
+    requires { (other : Row) → live_spec row ≡ Some other → IsTrue (is_filled other.kind) → IsSome (flow_at system.now.slots other.place) }
     ensures { result ≡ later_row_spec system.now span row }
 {
     if row.done {
@@ -168,22 +169,38 @@ pub(crate) fn clear_done(rows: &mut Vec<Row>)
     rows.retain(|row| !row.done);
 }
 
-/// Takes the row's flow away, where it has one.
-pub(crate) fn release(system: &mut System, row: &Row)
-    requires { IsTrue (is_filled row.now.kind) → IsSome (flow_at system.old.slots row.now.flow) }
-    ensures capacities { system.new.capacities ≡ system.old.capacities }
-    ensures taken { IsTrue (is_filled row.now.kind) → Changes system.old.slots system.new.slots row.now.flow None }
-    ensures left { is_filled row.now.kind ≡ false → system.new.slots ≡ system.old.slots }
-    ensures room { (system.old.flow_room ≤ system.new.flow_room) × (system.old.use_room ≤ system.new.use_room) }
-{
-    if fills(row.kind) {
-        system.remove(row.flow);
-    }
-}
-
 /// Whether an activity is under way.
 pub(crate) fn is_any(rows: &[Row]) -> bool
     ensures { result ≡ list_any (λ row. is_some (live_spec row)) rows.now }
 {
     rows.iter().any(|row| live(row).is_some())
+}
+
+// How many rows stand before the place of the serial. It looks from the end, where the young serials stand.
+fn place_of(rows: &[Row], serial: u64) -> usize
+    ensures { IsPlace rows.now serial result }
+{
+    let mut i = rows.len();
+    while i > 0 && rows[i - 1].serial >= serial {
+        i -= 1;
+    }
+    i
+}
+
+/// Puts a row at the place of its serial. A row that stands there, whose activity is done, makes way.
+pub(crate) fn put(rows: &mut Vec<Row>, row: Row)
+    requires room { vec_len rows.old < vec_capacity rows.old }
+    ensures place { (i : ℕ) × IsPlace rows.old.items row.serial i × IsPut rows.old.items row i rows.new.items }
+    ensures len { vec_len rows.new ≤ vec_len rows.old + 1 }
+    ensures capacity { vec_capacity rows.new ≡ vec_capacity rows.old }
+{
+    let place = place_of(rows, row.serial);
+    if place < rows.len() && rows[place].serial == row.serial {
+        rows[place] = row;
+        return;
+    }
+    match rows.insert(place, row) {
+        Ok(()) => {}
+        Err(_) => unreachable!(),
+    }
 }

@@ -60,7 +60,7 @@ pub is_new : (platform : Platform) (deployed : Deployed) (budget : ℕ) (kernel 
 is_new platform deployed budget kernel hosts homes is hosts_are homes_are =
     let all : kernel ≡ first_known (map cap_of platform.hosts) (map point_of deployed.actors) budget = is ∙ ap₂ (λ (h : List HostCap) (p : List PointId). first_known h p budget) hosts_are homes_are in
     record {
-      setup = ap (λ (k : Known). k.setup) all ∙ ap (λ (n : List ℕ). record { hosts = map cap_of platform.hosts; homes = n; budget = budget }) (home_numbers deployed.actors);
+      setup = ap (λ (k : Known). k.setup) all ∙ ap (λ (n : List ℕ). record { capacities = record { hosts = map cap_of platform.hosts; links = [] }; homes = n; budget = budget }) (home_numbers deployed.actors);
       core = ap (λ (k : Known). k.core) all ∙ ap first_core (length-map deployed.actors point_of);
       records = ap (λ (k : Known). k.records) all;
     }

@@ -34,7 +34,7 @@ home_of actor = actor.host.0
 
 -- what the kernel simulates: the hosts, the host of each actor, and how many events there may be
 abbrev pub kernel_setup : Platform → Deployed → ℕ → Setup
-kernel_setup platform deployed budget = record { hosts = map cap_of platform.hosts; homes = map home_of deployed.actors; budget = budget }
+kernel_setup platform deployed budget = record { capacities = record { hosts = map cap_of platform.hosts; links = [] }; homes = map home_of deployed.actors; budget = budget }
 
 -- a trace line for each record
 abbrev pub trace_of : Platform → Deployed → List Record → List ℕ

@@ -3,6 +3,7 @@ use Rattle.std.proofs.Common.{◌≡◌, ◌≢◌, ℕ, ◌==◌, Bool, true, f
 use Rattle.std.proofs.lemmas.List.{append-nil}
 use Rattle.sg_base.specs.declared.ids.ActorId.{ActorId}
 use Rattle.sg_base.specs.declared.trace_record.Record.{Record}
+use Rattle.sg_activity.specs.Task.{Task, phase_after, task_at}
 use Rattle.sg_kernel.specs.declared.states.State.{State}
 use Rattle.sg_kernel.specs.declared.states.State.TheVariants.{Ready, Blocked, Ended}
 use Rattle.sg_kernel.specs.declared.states.Whose.{Whose}
@@ -11,7 +12,7 @@ use Rattle.sg_kernel.specs.declared.states.Stop.{Stop}
 use Rattle.sg_kernel.specs.declared.states.Stop.TheVariants.{Budget}
 use Rattle.sg_kernel.specs.World.{Core, state_of}
 use Rattle.sg_kernel.specs.Calls.{Step, stops, counted, unless_used}
-use Rattle.sg_kernel.specs.Passes.{answers_state, answers, whose_at, ends_phase, follows, and_then, ends}
+use Rattle.sg_kernel.specs.Passes.{answers_state, answers, whose_at, ends_in, ends_phase, follows, and_then, ends}
 use Rattle.sg_kernel.specs.Known.{Known, after}
 
 pub eq_no : (a b : ℕ) → a ≢ b → (a == b) ≡ false
@@ -34,8 +35,12 @@ answers_goes : (serial : ℕ) (whose : Whose) (core : Core) → (answers serial 
 answers_goes serial Gone core = refl
 answers_goes serial (Alone actor) core = answers_state_goes serial actor (state_of core actor.0) core
 
+ends_goes_in : (serial : ℕ) (after : Option Task) (core : Core) → (ends_in serial after core).stop ≡ None
+ends_goes_in serial None core = answers_goes serial (whose_at core serial) (counted (record core { tasks = set core.tasks (serial - 1) None; whose = set core.whose (serial - 1) Gone }))
+ends_goes_in serial (Some next) core = refl
+
 ends_goes : (serial : ℕ) (core : Core) → (ends_phase serial core).stop ≡ None
-ends_goes serial core = answers_goes serial (whose_at core serial) (counted (record core { tasks = set core.tasks (serial - 1) None; whose = set core.whose (serial - 1) Gone }))
+ends_goes serial core = ends_goes_in serial (phase_after (task_at core.tasks serial)) core
 
 -- ---- one phase end, and then the others
 abbrev with_made : List Record → Step → Step

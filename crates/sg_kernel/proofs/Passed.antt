@@ -14,29 +14,29 @@ use Rattle.sg_kernel.specs.Sound.{core_of, known_of, IsSound, IsDated}
 use Rattle.sg_activity.specs.Task.{soonest}
 
 -- with room in the budget a pass ends what is due at the next date
-pub pass_goes : (setup : Setup) (core : Core) (span : ℕ) → next_in setup.hosts core.tasks ≡ Some span → core.events ≢ setup.budget → pass_of setup core ≡ ends setup.budget (due_in setup.hosts span core.tasks) (later setup span core)
+pub pass_goes : (setup : Setup) (core : Core) (span : ℕ) → next_in setup.capacities core.tasks ≡ Some span → core.events ≢ setup.budget → pass_of setup core ≡ ends setup.budget (due_in setup.capacities span core.tasks) (later setup span core)
 pass_goes setup core span next go =
     ap (pass_at setup core) next
-    ∙ ap (λ b. cond b (stops core [] Budget) (ends setup.budget (due_in setup.hosts span core.tasks) (later setup span core))) (eq_no core.events setup.budget go)
+    ∙ ap (λ b. cond b (stops core [] Budget) (ends setup.budget (due_in setup.capacities span core.tasks) (later setup span core))) (eq_no core.events setup.budget go)
 
 abbrev pub moved_to : Parts → ℕ → Parts
 moved_to parts span = record parts { doing = doing.later span (record parts.doing { settled = true }) }
 
-pub settled_next : (parts : Parts) (settled : Doing) (date : ℕ) → settled ≡ record parts.doing { settled = true } → IsNext settled date → next_in parts.doing.hosts parts.doing.tasks ≡ Some (date - parts.doing.date)
+pub settled_next : (parts : Parts) (settled : Doing) (date : ℕ) → settled ≡ record parts.doing { settled = true } → IsNext settled date → next_in parts.doing.capacities parts.doing.tasks ≡ Some (date - parts.doing.date)
 settled_next parts settled date is next =
-    sym (ap (λ (d : Doing). next_in d.hosts d.tasks) is) ∙ next.in_time ∙ ap (λ (d : Doing). Some (date - d.date)) is
+    sym (ap (λ (d : Doing). next_in d.capacities d.tasks) is) ∙ next.in_time ∙ ap (λ (d : Doing). Some (date - d.date)) is
 
 pub moved_is : (parts : Parts) (settled moved : Doing) (date : ℕ) → settled ≡ record parts.doing { settled = true } → moved ≡ doing.later (date - settled.date) settled → record parts { doing = moved } ≡ moved_to parts (date - parts.doing.date)
 moved_is parts settled moved date is to =
     ap (λ d. record parts { doing = d }) (to ∙ ap (λ (d : Doing). doing.later (date - d.date) d) is)
 
 -- what stands after the move, and what is due then, is what the definition says
-pub pass_step : (parts : Parts) (span : ℕ) → next_in parts.doing.hosts parts.doing.tasks ≡ Some span → parts.events ≢ parts.budget →
+pub pass_step : (parts : Parts) (span : ℕ) → next_in parts.doing.capacities parts.doing.tasks ≡ Some span → parts.events ≢ parts.budget →
     ends parts.budget (moved_to parts span).doing.due (core_of (moved_to parts span)) ≡ pass_of (known_of parts).setup (core_of parts)
 pass_step parts span next go = sym (pass_goes (known_of parts).setup (core_of parts) span next go)
 
-pub some_moved : (parts : Parts) (span : ℕ) → next_in parts.doing.hosts parts.doing.tasks ≡ Some span → (moved_to parts span).doing.due ≡ [] → ⊥
-some_moved parts span next none = some_due (wait_in parts.doing.hosts parts.doing.tasks) span 1 parts.doing.tasks next none
+pub some_moved : (parts : Parts) (span : ℕ) → next_in parts.doing.capacities parts.doing.tasks ≡ Some span → (moved_to parts span).doing.due ≡ [] → ⊥
+some_moved parts span next none = some_due (wait_in parts.doing.capacities parts.doing.tasks) span 1 parts.doing.tasks next none
 
 some_tasks : {X : Type 0} (waits : X → Option ℕ) (n : ℕ) (xs : List (Option X)) → soonest waits xs ≡ Some n → 0 < length xs
 unfolding soonest
@@ -48,5 +48,5 @@ pub moved_dated : (parts : Parts) (settled moved : Doing) (date : ℕ) → IsSou
 moved_dated parts settled moved date sound dated is next to =
     let at : moved.date ≡ parts.doing.date + (date - parts.doing.date) = ap (λ (p : Parts). p.doing.date) (moved_is parts settled moved date is to) in
     let was : settled.date ≡ parts.doing.date = ap (λ (d : Doing). d.date) is in
-    let some = some_tasks (wait_in parts.doing.hosts parts.doing.tasks) (date - parts.doing.date) parts.doing.tasks (settled_next parts settled date is next) in
+    let some = some_tasks (wait_in parts.doing.capacities parts.doing.tasks) (date - parts.doing.date) parts.doing.tasks (settled_next parts settled date is next) in
     omega (arith, at, was, some, next.from, next.soon, sound.few, dated)

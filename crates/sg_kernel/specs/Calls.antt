@@ -46,7 +46,7 @@ blocks_on task actor what core =
 -- the answer to a call; an Ask is refused where nobody tells the actor its next line
 abbrev pub answered_call : Setup → Core → ℕ → Call → Step
 answered_call setup core actor call.Ask = goes_on (counted (with_state actor (Ready answer.Refused) core)) []
-answered_call setup core actor (call.Compute flops) = goes_on (counted (blocks_on (exec_of setup.hosts (host_of setup actor) flops) actor (call.Compute flops) core)) []
+answered_call setup core actor (call.Compute flops) = goes_on (counted (blocks_on (exec_of setup.capacities (host_of setup actor) flops) actor (call.Compute flops) core)) []
 answered_call setup core actor (call.Sleep ns) = goes_on (counted (blocks_on (timer_of ns) actor (call.Sleep ns) core)) []
 answered_call setup core actor call.Exit = goes_on (counted (with_state actor Ended core)) []
 

@@ -26,7 +26,7 @@ abbrev pub point_number : PointId → ℕ
 point_number point = point.0
 
 abbrev pub first_known : List HostCap → List PointId → ℕ → Known
-first_known hosts homes budget = record { setup = record { hosts = hosts; homes = map point_number homes; budget = budget }; core = first_core (length homes); records = []; room = 0 }
+first_known hosts homes budget = record { setup = record { capacities = record { hosts = hosts; links = [] }; homes = map point_number homes; budget = budget }; core = first_core (length homes); records = []; room = 0 }
 
 -- The kernel stands for each world with this core: it keeps no minds, no numbers of Asks and no records once they are cleared.
 abbrev pub Stands : Known → World → Type 0

@@ -4,6 +4,7 @@ use Rattle.std.specs.List.{list_any}
 use Rattle.sg_base.specs.declared.ids.ActorId.{ActorId}
 use Rattle.sg_base.specs.declared.call.Answer.TheVariants as answer
 use Rattle.sg_activity.specs.Dates.{next_in, tasks_later, due_in}
+use Rattle.sg_activity.specs.Task.{Task, phase_after, task_at}
 use Rattle.sg_kernel.specs.declared.states.State.{State}
 use Rattle.sg_kernel.specs.declared.states.State.TheVariants.{Ready, Blocked, Ended}
 use Rattle.sg_kernel.specs.declared.states.Whose.{Whose}
@@ -28,10 +29,15 @@ answers serial (Alone actor) core = answers_state serial actor (state_of core ac
 abbrev pub whose_at : Core → ℕ → Whose
 whose_at core serial = slice_index_or core.whose (serial - 1) Gone
 
--- the phase of this serial ends: the activity is done, and whose it was is answered
-abbrev pub ends_phase : ℕ → Core → Step
-ends_phase serial core =
+-- after the phase of this serial the activity is done, and whose it was is answered; or another phase follows
+abbrev pub ends_in : ℕ → Option Task → Core → Step
+ends_in serial None core =
     answers serial (whose_at core serial) (counted (record core { tasks = slice_set core.tasks (serial - 1) None; whose = slice_set core.whose (serial - 1) Gone }))
+ends_in serial (Some next) core = goes_on (counted (record core { tasks = slice_set core.tasks (serial - 1) (Some next) })) []
+
+-- the phase of this serial ends
+abbrev pub ends_phase : ℕ → Core → Step
+ends_phase serial core = ends_in serial (phase_after (task_at core.tasks serial)) core
 
 -- one step, and where it didn't stop, the next one after it
 abbrev pub follows : Option Stop → Step → Step → Step
@@ -48,12 +54,12 @@ ends budget (serial ∷ more) core = and_then (unless_used budget core (ends_pha
 
 -- so many nanoseconds later every amount has fallen
 abbrev pub later : Setup → ℕ → Core → Core
-later setup span core = record core { date = core.date + span; tasks = tasks_later setup.hosts span core.tasks }
+later setup span core = record core { date = core.date + span; tasks = tasks_later setup.capacities span core.tasks }
 
 abbrev pub pass_at : Setup → Core → Option ℕ → Step
 pass_at setup core None = stops core [] (if list_any is_some core.tasks then Starved else Deadlock)
-pass_at setup core (Some span) = unless_used setup.budget core (ends setup.budget (due_in setup.hosts span core.tasks) (later setup span core))
+pass_at setup core (Some span) = unless_used setup.budget core (ends setup.budget (due_in setup.capacities span core.tasks) (later setup span core))
 
 -- a pass
 abbrev pub pass_of : Setup → Core → Step
-pass_of setup core = pass_at setup core (next_in setup.hosts core.tasks)
+pass_of setup core = pass_at setup core (next_in setup.capacities core.tasks)

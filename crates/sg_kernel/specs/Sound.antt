@@ -16,7 +16,7 @@ core_of parts = record { date = parts.doing.date; actors = parts.states.items; t
 
 abbrev pub known_of : Parts → Known
 known_of parts = record {
-  setup = record { hosts = parts.doing.hosts; homes = map point_number parts.homes.items; budget = parts.budget };
+  setup = record { capacities = parts.doing.capacities; homes = map point_number parts.homes.items; budget = parts.budget };
   core = core_of parts;
   records = parts.records.items;
   room = parts.room;
@@ -37,7 +37,7 @@ pub record IsSound (parts : Parts) : Type 0 where
   pub within : parts.events ≤ parts.budget
   pub budgeted : parts.budget ≤ 10 ^ 9
   pub homes_known : length parts.homes.items ≡ length parts.states.items
-  pub hosts_known : All (λ (home : PointId). home.0 < length parts.doing.hosts) parts.homes.items
+  pub hosts_known : All (λ (home : PointId). home.0 < length parts.doing.capacities.hosts) parts.homes.items
   pub owners : All (IsOwner (length parts.states.items)) parts.whose.whose
   pub ready_count : parts.ready ≡ count_by is_ready parts.states.items
   pub ended_count : parts.ended ≡ count_by is_ended parts.states.items

@@ -3,15 +3,15 @@ use Rattle.std.specs.Prelude.{ℕ, ◌-◌, ◌≤◌, ◌<◌, Option, None, So
 use Rattle.sg_base.specs.declared.call.Answer.{Answer}
 use Rattle.sg_base.specs.declared.call.Call.{Call}
 use Rattle.sg_base.specs.Mind.{Mind}
-use Rattle.sg_activity.specs.declared.kinds.HostCap.{HostCap}
+use Rattle.sg_activity.specs.Links.{Capacities}
 use Rattle.sg_activity.specs.Task.{Task}
 use Rattle.sg_kernel.specs.declared.states.State.{State}
 use Rattle.sg_kernel.specs.declared.states.State.TheVariants.{Ready, Blocked, Ended}
 use Rattle.sg_kernel.specs.declared.states.Whose.{Whose}
 
--- what stays: the hosts, the host of each actor, and how many events there may be
+-- what stays: the hosts and links, the host of each actor, and how many events there may be
 pub record Setup : Type 0 where
-  pub hosts : List HostCap
+  pub capacities : Capacities
   pub homes : List ℕ
   pub budget : ℕ
 

@@ -1,6 +1,7 @@
 //! Ends of phases.
 
 ghost use Rattle.std.specs.Prelude.{◌≡◌, ◌≢◌, ◌+◌, ◌-◌, ◌*◌, ◌^◌, ◌<◌, ◌≤◌, ◌++◌, [], ◌∷◌, length, drop, is_some, false, if◌then◌else◌, Some};
+ghost use Rattle.sg_activity.specs.declared.kinds.PhaseKind.TheVariants as phase_kind;
 ghost use Rattle.sg_activity.specs.Doing.{IsDue, is_running};
 ghost use Rattle.sg_kernel.specs.World.{state_of};
 ghost use Rattle.sg_kernel.specs.Calls.{result_of};
@@ -11,7 +12,7 @@ ghost use Rattle.sg_kernel.specs.Sound.{core_of, known_of, IsSound, AreLimited, 
 
 use crate::parts::Parts;
 use crate::states::{State, Stop, Whose};
-use sg_activity::{Activities, Phase};
+use sg_activity::{Activities, Phase, PhaseKind};
 use sg_base::{ActorId, Answer, Record, Serial};
 
 /// Why there is no next date.
@@ -59,9 +60,28 @@ fn answer_actor(parts: &mut Parts, serial: Serial, actor: ActorId)
     }
 }
 
-// Ends the first phase that is due: its activity is done, and whose it was is answered.
-fn end_phase(parts: &mut Parts, phase: Phase)
+// A latency that is due has passed, and its flow begins.
+fn begin_flow(parts: &mut Parts, phase: Phase)
     requires due { IsDue parts.old.doing phase }
+    requires latency { phase.kind ≡ phase_kind.Latency }
+    requires sound { IsSound parts.old }
+    requires limited { AreLimited parts.old }
+    requires budget { parts.old.events ≢ parts.old.budget }
+    ensures known { known_of parts.new ≡ after (ends_phase phase.serial.0 (core_of parts.old)) (known_of parts.old) }
+    ensures sound { IsSound parts.new }
+    ensures limited { AreLimited parts.new }
+    ensures due { parts.new.doing.due ≡ drop 1 parts.old.doing.due }
+    ensures date { parts.new.doing.date ≡ parts.old.doing.date }
+    ensures events { parts.new.events ≡ parts.old.events + 1 }
+{
+    parts.doing.finish();
+    parts.events += 1;
+}
+
+// The last phase of an activity that is due ends: it is done, and whose it was is answered.
+fn end_activity(parts: &mut Parts, phase: Phase)
+    requires due { IsDue parts.old.doing phase }
+    requires last { phase.kind ≢ phase_kind.Latency }
     requires sound { IsSound parts.old }
     requires limited { AreLimited parts.old }
     requires answering { IsAnswering parts.old }
@@ -81,6 +101,26 @@ fn end_phase(parts: &mut Parts, phase: Phase)
     match whose {
         Whose::Alone(actor) => answer_actor(parts, phase.serial, actor),
         Whose::Gone => {}
+    }
+}
+
+// Ends the first phase that is due.
+fn end_phase(parts: &mut Parts, phase: Phase)
+    requires due { IsDue parts.old.doing phase }
+    requires sound { IsSound parts.old }
+    requires limited { AreLimited parts.old }
+    requires small { parts.old.doing.date < 10 ^ 33 }
+    requires budget { parts.old.events ≢ parts.old.budget }
+    ensures known { known_of parts.new ≡ after (ends_phase phase.serial.0 (core_of parts.old)) (known_of parts.old) }
+    ensures sound { IsSound parts.new }
+    ensures limited { AreLimited parts.new }
+    ensures due { parts.new.doing.due ≡ drop 1 parts.old.doing.due }
+    ensures date { parts.new.doing.date ≡ parts.old.doing.date }
+    ensures events { parts.new.events ≡ parts.old.events + 1 }
+{
+    match phase.kind {
+        PhaseKind::Latency => begin_flow(parts, phase),
+        _ => end_activity(parts, phase),
     }
 }
 

@@ -53,7 +53,7 @@ pub(crate) fn first_parts(
     ensures limited { IfOk result (λ parts. AreLimited parts) }
     ensures queued { IfOk result (λ parts. IsQueued parts) }
 {
-    let doing = Activities::new(alloc, hosts)?;
+    let doing = Activities::new(alloc, hosts, &[])?;
     let actors = homes.len();
     let states = first_states(alloc, actors)?;
     let queue = all_actors(alloc, actors)?;
@@ -83,7 +83,7 @@ pub(crate) fn compute(parts: &mut Parts, actor: ActorId, flops: u64)
     requires dated { IsDated parts.old }
     requires limited { AreLimited parts.old }
     requires queued { IsQueued parts.old }
-    ensures known { known_of parts.new ≡ record (known_of parts.old) { core = counted (blocks_on (exec_of parts.old.doing.hosts (host_of (known_of parts.old).setup actor.0) flops) actor.0 (Call.Compute flops) (core_of parts.old)); room = parts.old.room - 1 } }
+    ensures known { known_of parts.new ≡ record (known_of parts.old) { core = counted (blocks_on (exec_of parts.old.doing.capacities (host_of (known_of parts.old).setup actor.0) flops) actor.0 (Call.Compute flops) (core_of parts.old)); room = parts.old.room - 1 } }
     ensures sound { IsSound parts.new }
     ensures dated { IsDated parts.new }
     ensures limited { AreLimited parts.new }

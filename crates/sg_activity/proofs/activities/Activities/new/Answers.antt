@@ -1,26 +1,33 @@
-use Rattle.std.proofs.Common.{false, sym, ap, subst, ◌∙◌, refl, arith}
-use Rattle.sg_activity.specs.Hosts.{capacities_of}
+use Rattle.std.proofs.Common.{false, ◌++◌, is_some, count_by, sym, ap, ap₂, subst, ◌∙◌, refl, arith}
+use Rattle.sg_activity.specs.Hosts.{offers_of}
+use Rattle.sg_activity.specs.Links.{Capacities, capacities_of, bandwidths_of}
 use Rattle.sg_activity.specs.Doing.{nothing_on}
 use Rattle.sg_activity.specs.Rows.{AreKept, AreRising, slots_of, doing_of}
-use Rattle.sg_activity.proofs.Keeps.{kept_first, first_told, rising_first}
+use Rattle.sg_activity.proofs.Keeps.{kept_first, rising_first}
+use Rattle.sg_activity.proofs.Told.{first_told}
 use Rattle.sg_activity.proofs.activities.Activities.new.Goals as goal
 
 pub invariant_of-result : goal.invariant_of-result
 invariant_of-result c =
-    let hosts = c.in_ok-from_slice.field-0.items in
-    let capacities = c.in_ok-new.ensures.capacities ∙ c.deref.ensures.value ∙ c.in_ok-capacities.ensures ∙ ap capacities_of (sym c.in_ok-from_slice.ensures.items) in (
-      subst (λ l. AreKept hosts (slots_of 0 l) c.in_ok-new.field-0 false) (sym c.new-2.ensures.items) (kept_first hosts c.in_ok-new.field-0 capacities c.in_ok-new.ensures.empty),
-      subst (AreRising 1 1) (sym c.new-2.ensures.items) rising_first,
+    let capacities : Capacities = record { hosts = c.in_ok-from_slice.field-0.items; links = c.in_ok-from_slice-2.field-0.items } in
+    let system = c.in_ok-new.field-0 in
+    let are =
+    c.in_ok-new.ensures.capacities ∙ c.deref.ensures.value ∙ c.in_ok-add_bandwidths.ensures
+    ∙ ap₂ (λ o l. o ++ bandwidths_of l) (c.in_ok-capacities.ensures ∙ ap offers_of (sym c.in_ok-from_slice.ensures.items)) (sym c.in_ok-from_slice-2.ensures.items) in
+    let none = ap (count_by is_some) c.new-2.ensures.empty in (
+      subst (λ l. AreKept (capacities_of capacities) (slots_of 0 l) system c.new-2.result.slots false) (sym c.new-3.ensures.items) (kept_first (capacities_of capacities) system c.new-2.result.slots are c.in_ok-new.ensures.empty),
+      subst (AreRising 1 1) (sym c.new-3.ensures.items) rising_first,
       omega arith,
       refl,
-      omega (arith, c.new-2.ensures.len, c.new-2.ensures.capacity),
-      omega arith,
-      omega arith,
+      omega (arith, c.new-3.ensures.len, c.new-3.ensures.capacity),
+      omega (arith, none),
+      omega (arith, none),
+      omega (arith, none),
       omega arith,
     )
 
 pub returns : goal.returns
 returns c =
-    ap (λ l. doing_of c.in_ok-from_slice.field-0.items 0 (slots_of 0 l) false 0) c.new-2.ensures.items
-    ∙ first_told c.in_ok-from_slice.field-0.items
-    ∙ ap nothing_on c.in_ok-from_slice.ensures.items
+    ap (λ l. doing_of (record { hosts = c.in_ok-from_slice.field-0.items; links = c.in_ok-from_slice-2.field-0.items }) 0 c.in_ok-new.field-0.slots c.new-2.result.slots (slots_of 0 l) false 0) c.new-3.ensures.items
+    ∙ first_told c.in_ok-from_slice.field-0.items c.in_ok-from_slice-2.field-0.items c.in_ok-new.field-0.slots c.new-2.result.slots
+    ∙ ap₂ nothing_on c.in_ok-from_slice.ensures.items c.in_ok-from_slice-2.ensures.items
