@@ -1,0 +1,13 @@
+//! The zone tree of a platform, and what its rows may not say of it. Such a fault is told after those of the
+//! platform's text: that of the least kind, and there of the least place.
+#![tactic(auto)]
+
+mod fault;
+mod gateways;
+mod paths;
+mod routing;
+mod tree;
+mod zones;
+
+pub use fault::ZoneFault;
+pub use zones::Zones;
