@@ -1,5 +1,6 @@
 -- The way from a zone up to the root, and the zones from the root down to it.
 use Rattle.std.specs.Prelude.{ℕ, suc, zero, Option, Some, List, [], ◌∷◌, ◌++◌, length, map, slice_get, option_and_then}
+use Rattle.std.specs.List.{range_with_len}
 use Rattle.std.specs.Option.{option_map_or}
 use Rattle.sg_base.specs.declared.ids.ZoneId.{ZoneId}
 use Rattle.sg_platform.specs.declared.rows.ZoneRow.{ZoneRow}
@@ -18,13 +19,9 @@ unfoldable pub path : ℕ → List ZoneRow → ZoneId → List ZoneId
 path zero zones zone = []
 path (suc levels) zones zone = option_map_or (path levels zones) (parent zones zone) [] ++ zone ∷ []
 
-abbrev pub upto : ℕ → List ℕ
-upto zero = []
-upto (suc n) = upto n ++ n ∷ []
-
 -- what this gives of each zone
 abbrev pub of_zones : {X : Type 0} → (ZoneId → X) → List ZoneRow → List X
-of_zones f zones = map (λ i. f (record { 0 = i })) (upto (length zones))
+of_zones f zones = map (λ i. f (record { 0 = i })) (range_with_len 0 (length zones))
 
 abbrev pub ancestors_of : ℕ → List ZoneRow → List (Option ZoneId)
 ancestors_of steps zones = of_zones (ancestor steps zones) zones

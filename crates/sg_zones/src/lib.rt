@@ -4,10 +4,14 @@
 
 mod fault;
 mod gateways;
+mod laws;
 mod paths;
 mod routing;
+#[cfg(test)]
+mod tests;
 mod tree;
 mod zones;
 
 pub use fault::ZoneFault;
+pub use laws::cycles_never_end;
 pub use zones::Zones;
