@@ -1,0 +1,30 @@
+-- The way from a zone up to the root, and the zones from the root down to it.
+use Rattle.std.specs.Prelude.{ℕ, suc, zero, Option, Some, List, [], ◌∷◌, ◌++◌, length, map, slice_get, option_and_then}
+use Rattle.std.specs.List.{range_with_len}
+use Rattle.std.specs.Option.{option_map_or}
+use Rattle.sg_base.specs.declared.ids.ZoneId.{ZoneId}
+use Rattle.sg_platform.specs.declared.rows.ZoneRow.{ZoneRow}
+
+-- the zone above this one; the root has none
+abbrev pub parent : List ZoneRow → ZoneId → Option ZoneId
+parent zones zone = option_and_then (λ row. row.parent) (slice_get zones zone.0)
+
+-- the zone so many steps up, where the way up is so long
+unfoldable pub ancestor : ℕ → List ZoneRow → ZoneId → Option ZoneId
+ancestor zero zones zone = Some zone
+ancestor (suc steps) zones zone = option_and_then (ancestor steps zones) (parent zones zone)
+
+-- the zones from the root down to this one, of which there are so many at most
+unfoldable pub path : ℕ → List ZoneRow → ZoneId → List ZoneId
+path zero zones zone = []
+path (suc levels) zones zone = option_map_or (path levels zones) (parent zones zone) [] ++ zone ∷ []
+
+-- what this gives of each zone
+abbrev pub of_zones : {X : Type 0} → (ZoneId → X) → List ZoneRow → List X
+of_zones f zones = map (λ i. f (record { 0 = i })) (range_with_len 0 (length zones))
+
+abbrev pub ancestors_of : ℕ → List ZoneRow → List (Option ZoneId)
+ancestors_of steps zones = of_zones (ancestor steps zones) zones
+
+abbrev pub paths_of : List ZoneRow → List (List ZoneId)
+paths_of zones = of_zones (path 16 zones) zones

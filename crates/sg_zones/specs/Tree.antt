@@ -1,0 +1,46 @@
+-- The zone tree.
+use Rattle.std.specs.Prelude.{◌==◌, ℕ, Bool, Option, None, List, [], ◌++◌, length, map, slice_index_or}
+use Rattle.std.specs.List.{list_any}
+use Rattle.sg_base.specs.declared.ids.PointId.{PointId}
+use Rattle.sg_base.specs.declared.ids.ZoneId.{ZoneId}
+use Rattle.sg_platform.specs.Platform.{Platform}
+use Rattle.sg_platform.specs.declared.rows.Routing.{Routing}
+use Rattle.sg_platform.specs.declared.rows.Routing.TheVariants.{Full}
+use Rattle.sg_zones.specs.Paths.{paths_of}
+
+-- of each zone its parent, its routing and the path down to it, and of each point its zone
+pub record Tree : Type 0 where
+  pub parents : List (Option ZoneId)
+  pub routings : List Routing
+  pub paths : List (List ZoneId)
+  pub homes : List ZoneId
+
+abbrev pub tree_of : Platform → Tree
+tree_of p = record {
+  parents = map (λ row. row.parent) p.zones;
+  routings = map (λ row. row.routing) p.zones;
+  paths = paths_of p.zones;
+  homes = map (λ row. row.zone) p.hosts ++ map (λ row. row.zone) p.routers;
+}
+
+-- a zone that isn't there has no parent, an empty path and routing Full; a point that isn't there stands in the first zone
+abbrev pub parent_in : Tree → ZoneId → Option ZoneId
+parent_in t zone = slice_index_or t.parents zone.0 None
+
+abbrev pub routing_in : Tree → ZoneId → Routing
+routing_in t zone = slice_index_or t.routings zone.0 Full
+
+abbrev pub path_in : Tree → ZoneId → List ZoneId
+path_in t zone = slice_index_or t.paths zone.0 []
+
+-- the root has depth 1
+abbrev pub depth : Tree → ZoneId → ℕ
+depth t zone = length (path_in t zone)
+
+-- the zone that a point stands in
+abbrev pub home : Tree → PointId → ZoneId
+home t point = slice_index_or t.homes point.0 (record { 0 = 0 })
+
+-- the zone is on the path down to the point's own
+abbrev pub holds : Tree → ZoneId → PointId → Bool
+holds t zone point = list_any (λ z. z.0 == zone.0) (path_in t (home t point))

@@ -1,0 +1,17 @@
+//! The zone tree of a platform, and what its rows may not say of it. Such a fault is told after those of the
+//! platform's text: that of the least kind, and there of the least place.
+#![tactic(auto)]
+
+mod fault;
+mod gateways;
+mod laws;
+mod paths;
+mod routing;
+#[cfg(test)]
+mod tests;
+mod tree;
+mod zones;
+
+pub use fault::ZoneFault;
+pub use laws::cycles_never_end;
+pub use zones::Zones;

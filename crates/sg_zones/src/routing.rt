@@ -1,0 +1,90 @@
+//! That rows stand in zones whose routing has such rows.
+ghost use Rattle.std.specs.Prelude.{◌≡◌, ◌≤◌, ◌<◌, length};
+ghost use Rattle.sg_zones.specs.Faults.{first_along, route_at, zone_route_at, spoke_at, is_point};
+
+use crate::fault::{ZoneFault, place};
+use crate::zones::Zones;
+use sg_base::Child;
+use sg_platform::{RouteRow, SpokeRow, ZoneRouteRow};
+
+fn is_point(child: Child) -> bool
+    ensures { result ≡ is_point child }
+{
+    match child {
+        Child::Point(_) => true,
+        Child::Zone(_) => false,
+    }
+}
+
+/// That the ends of a route don't stand in one Full zone.
+fn route_at(zones: &Zones, i: usize, row: &RouteRow) -> Option<ZoneFault>
+    requires { i < 262144 }
+    ensures { result ≡ route_at zones.now i row.now }
+{
+    if zones.in_one_full(Some(zones.home(row.src)), Some(zones.home(row.dst))) {
+        return None;
+    }
+    Some(ZoneFault::WrongRouting(place(5, i, 1)))
+}
+
+/// That the ends of a zone_route are no children of one Full zone, or both points.
+fn zone_route_at(zones: &Zones, i: usize, row: &ZoneRouteRow) -> Option<ZoneFault>
+    requires { i < 262144 }
+    ensures { result ≡ zone_route_at zones.now i row.now }
+{
+    let one_full = zones.in_one_full(zones.zone_above(row.src), zones.zone_above(row.dst));
+    if !one_full || is_point(row.src) && is_point(row.dst) {
+        return Some(ZoneFault::WrongRouting(place(6, i, 1)));
+    }
+    None
+}
+
+/// That the zone of a spoke isn't Star, or the child isn't its child.
+fn spoke_at(zones: &Zones, i: usize, row: &SpokeRow) -> Option<ZoneFault>
+    requires { i < 262144 }
+    ensures { result ≡ spoke_at zones.now i row.now }
+{
+    if zones.is_full(row.zone) || !zones.is_child_of(row.zone, row.child) {
+        return Some(ZoneFault::WrongRouting(place(7, i, 1)));
+    }
+    None
+}
+
+/// The first route in no Full zone.
+pub(crate) fn first_route(zones: &Zones, rows: &[RouteRow]) -> Option<ZoneFault>
+    requires { length rows.now ≤ 262144 }
+    ensures { result ≡ first_along (route_at zones.now) 0 rows.now }
+{
+    for (i, row) in rows.iter().enumerate() {
+        if let Some(fault) = route_at(zones, i, row) {
+            return Some(fault);
+        }
+    }
+    None
+}
+
+/// The first zone_route in no Full zone.
+pub(crate) fn first_zone_route(zones: &Zones, rows: &[ZoneRouteRow]) -> Option<ZoneFault>
+    requires { length rows.now ≤ 262144 }
+    ensures { result ≡ first_along (zone_route_at zones.now) 0 rows.now }
+{
+    for (i, row) in rows.iter().enumerate() {
+        if let Some(fault) = zone_route_at(zones, i, row) {
+            return Some(fault);
+        }
+    }
+    None
+}
+
+/// The first spoke in no Star zone.
+pub(crate) fn first_spoke(zones: &Zones, rows: &[SpokeRow]) -> Option<ZoneFault>
+    requires { length rows.now ≤ 262144 }
+    ensures { result ≡ first_along (spoke_at zones.now) 0 rows.now }
+{
+    for (i, row) in rows.iter().enumerate() {
+        if let Some(fault) = spoke_at(zones, i, row) {
+            return Some(fault);
+        }
+    }
+    None
+}
