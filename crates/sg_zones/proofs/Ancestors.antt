@@ -1,9 +1,10 @@
 -- The zone above, and the ancestor of an ancestor.
-use Rattle.std.proofs.Common.{◌≡◌, ◌+◌, ◌*◌, ◌<◌, ◌≤◌, ◌⊎◌, inl, inr, ℕ, zero, suc, List, [], ◌∷◌, length, map, get_or, Option, None, Some, arith, refl, sym, ◌∙◌, ap}
+use Rattle.std.proofs.Common.{◌≡◌, ◌+◌, ◌^◌, ◌<◌, ◌≤◌, ◌⊎◌, inl, inr, ℕ, zero, suc, List, [], ◌∷◌, length, map, get_or, Option, None, Some, arith, refl, sym, ◌∙◌, ap, pow-suc}
 use Rattle.std.specs.List.{range_with_len}
 use Rattle.std.specs.Prelude.{option_and_then, slice_get, slice_index_or}
 use Rattle.std.proofs.lemmas.List.{ext_get_or, get_or-map, get_or_past, length-map}
 use Rattle.std.proofs.lemmas.List.FromFn.{get_or-map-range_with_len, length-map-range_with_len}
+use Rattle.std.proofs.lemmas.Nat.{pow_pos}
 use Rattle.std.proofs.lemmas.Option.{slice_get_past, slice_get-get_or}
 use Rattle.std.proofs.lemmas.Simd.{map-map}
 use Rattle.sg_base.specs.declared.ids.ZoneId.{ZoneId}
@@ -14,13 +15,15 @@ use Rattle.sg_zones.specs.Paths.{ancestor, ancestors_of, of_zones, parent}
 -- so many steps up, and then so many more
 pub ancestor_sum : (a b : ℕ) (zones : List ZoneRow) (zone : ZoneId) → ancestor (a + b) zones zone ≡ option_and_then (ancestor b zones) (ancestor a zones zone)
 unfolding ancestor
-ancestor_sum zero b zones zone = refl
+ancestor_sum zero b zones zone =
+    let e : 0 + b ≡ b = omega arith in
+    ap (λ n. ancestor n zones zone) e
 ancestor_sum (suc a) b zones zone =
     let e : suc a + b ≡ suc (a + b) = omega arith in
     ap (λ n. ancestor n zones zone) e ∙ go (parent zones zone) (λ above. ancestor_sum a b zones above)
   where
     go : (o : Option ZoneId) → ((above : ZoneId) → ancestor (a + b) zones above ≡ option_and_then (ancestor b zones) (ancestor a zones above))
-      → option_and_then (ancestor (a + b) zones) o ≡ option_and_then (ancestor b zones) (option_and_then (ancestor a zones) o)
+        → option_and_then (ancestor (a + b) zones) o ≡ option_and_then (ancestor b zones) (option_and_then (ancestor a zones) o)
     go None more = refl
     go (Some above) more = more above
 
@@ -46,12 +49,12 @@ look_is steps zones zone some = go (split_at zone.0 (length zones))
     go : ((zone.0 < length zones) ⊎ (length zones ≤ zone.0)) → slice_index_or (ancestors_of steps zones) zone.0 None ≡ ancestor steps zones zone
     go (inl inside) = get_or-map-range_with_len (λ i. ancestor steps zones (record { 0 = i })) 0 (length zones) zone.0 zone.0 None inside (omega arith)
     go (inr far) =
-      get_or_past (ancestors_of steps zones) zone.0 None (omega (arith, length-map-range_with_len (λ i. ancestor steps zones (record { 0 = i })) 0 (length zones)))
-      ∙ sym (past steps zones zone some far)
+        get_or_past (ancestors_of steps zones) zone.0 None (omega (arith, length-map-range_with_len (λ i. ancestor steps zones (record { 0 = i })) 0 (length zones)))
+        ∙ sym (past steps zones zone some far)
 
 map_same : {X Y : Type 0} (f g : X → Y) (xs : List X) → ((x : X) → f x ≡ g x) → map f xs ≡ map g xs
 map_same f g [] same = refl
-map_same f g (x ∷ xs) same = cc
+map_same f g (x ∷ xs) same = ap (λ y. y ∷ map f xs) (same x) ∙ ap (λ ys. g x ∷ ys) (map_same f g xs same)
 
 -- the ancestors of the ancestors
 pub twice_is : (steps : ℕ) (zones : List ZoneRow) → 0 < steps
@@ -81,9 +84,24 @@ parents_are zones =
   where
     d : ZoneRow
     d = record { id = []; parent = None; routing = Full }
+
     here : (i : ℕ) → i < length zones → get_or (map (λ row. row.parent) zones) i None ≡ get_or (ancestors_of 1 zones) i None
     here i few =
-      get_or-map (λ row. row.parent) zones i d None few
-      ∙ sym (ap (λ o. option_and_then (λ row. row.parent) o) (slice_get-get_or zones i d few))
-      ∙ sym (one_up zones (record { 0 = i }))
-      ∙ sym (get_or-map-range_with_len (λ i. ancestor 1 zones (record { 0 = i })) 0 (length zones) i i None few (omega arith))
+        get_or-map (λ row. row.parent) zones i d None few
+        ∙ sym (ap (λ o. option_and_then (λ row. row.parent) o) (slice_get-get_or zones i d few))
+        ∙ sym (one_up zones (record { 0 = i }))
+        ∙ sym (get_or-map-range_with_len (λ i. ancestor 1 zones (record { 0 = i })) 0 (length zones) i i None few (omega arith))
+
+-- the ancestors after twice as many steps
+pub doubled_is : (doublings : ℕ) (zones : List ZoneRow) (ancestors : List (Option ZoneId)) → ancestors ≡ ancestors_of (2 ^ doublings) zones
+    → map (λ ancestor. option_and_then (λ zone. slice_index_or ancestors zone.0 None) ancestor) ancestors ≡ ancestors_of (2 ^ (doublings + 1)) zones
+doubled_is doublings zones ancestors is =
+    let some : 0 < 2 ^ doublings = pow_pos doublings in
+    let next : doublings + 1 ≡ suc doublings = omega arith in
+    let more : 2 ^ doublings + 2 ^ doublings ≡ 2 ^ (doublings + 1) = omega (arith, pow-suc 2 doublings, ap (λ k. 2 ^ k) next) in
+    ap (λ xs. map (λ ancestor. option_and_then (λ zone. slice_index_or xs zone.0 None) ancestor) xs) is
+    ∙ twice_is (2 ^ doublings) zones some ∙ ap (λ n. ancestors_of n zones) more
+
+-- there is one for each zone
+pub ancestors_many : (steps : ℕ) (zones : List ZoneRow) → length (ancestors_of steps zones) ≡ length zones
+ancestors_many steps zones = length-map-range_with_len (λ i. ancestor steps zones (record { 0 = i })) 0 (length zones)

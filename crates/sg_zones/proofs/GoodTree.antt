@@ -1,6 +1,6 @@
 -- What the absence of zone faults says of the tree.
 use Rattle.std.proofs.Common.{◌≡◌, ◌≢◌, ◌+◌, ◌<◌, ◌≤◌, ◌⊎◌, inl, inr, ℕ, zero, suc, Bool, true, false, cond, List, [], ◌∷◌, ◌++◌, length, length-append, take, get_or, Option, None, Some, arith, refl, sym, ◌∙◌, ap, subst}
-use Rattle.std.specs.Prelude.{not, is_none, is_some, ◌==◌, ◌||◌,  slice_get, option_and_then, All, map}
+use Rattle.std.specs.Prelude.{not, is_none, is_some, ◌==◌, ◌||◌, slice_get, option_and_then, All, map}
 use Rattle.std.specs.List.{list_any}
 use Rattle.std.specs.Option.{option_or, option_map_or, ForSome}
 use Rattle.std.proofs.lemmas.Bool.Decides.{nat_tests}
@@ -119,12 +119,12 @@ unfolding path
 exists_inner d k zones zone x parents is few at more = go (parent zones zone) refl is at more (λ above i. path_length d zones above i)
   where
     go : (o : Option ZoneId) → parent zones zone ≡ o → AboveIs (IsDepth d zones) d o → get_or (option_map_or (path d zones) o [] ++ zone ∷ []) k x ≡ x
-      → ((above : ZoneId) → above.0 < length zones → IsDepth d zones above → get_or (path d zones above) k x ≡ x → x.0 < length zones)
-      → ((above : ZoneId) → IsDepth d zones above → length (path d zones above) ≡ d) → x.0 < length zones
+        → ((above : ZoneId) → above.0 < length zones → IsDepth d zones above → get_or (path d zones above) k x ≡ x → x.0 < length zones)
+        → ((above : ZoneId) → IsDepth d zones above → length (path d zones above) ≡ d) → x.0 < length zones
     go None up h at more len = absurd (omega arith)
     go (Some above) up h at more len =
-      let l = len above h in
-      more above (parents zone above up) h (sym (inner_of (path d zones above) zone x k (omega arith)) ∙ at)
+        let l = len above h in
+        more above (parents zone above up) h (sym (inner_of (path d zones above) zone x k (omega arith)) ∙ at)
 
 -- each zone on a path exists
 pub exists_on : (d k : ℕ) (zones : List ZoneRow) (zone x : ZoneId) → HasParents zones → zone.0 < length zones → IsDepth d zones zone → k < d → get_or (path d zones zone) k x ≡ x → x.0 < length zones
@@ -133,9 +133,9 @@ exists_on (suc d) k zones zone x parents inside is few at = go (split k d few) (
   where
     go : ((k ≡ d) ⊎ (k < d)) → ((above : ZoneId) → above.0 < length zones → IsDepth d zones above → k < d → get_or (path d zones above) k x ≡ x → x.0 < length zones) → x.0 < length zones
     go (inl e) more =
-      let same : zone ≡ x = sym (path_last d zones zone x is) ∙ ap (λ i. get_or (path (suc d) zones zone) i x) (sym e) ∙ at in
-      let P : ZoneId → Type 0 = λ z. z.0 < length zones in
-      subst P same inside
+        let same : zone ≡ x = sym (path_last d zones zone x is) ∙ ap (λ i. get_or (path (suc d) zones zone) i x) (sym e) ∙ at in
+        let P : ZoneId → Type 0 = λ z. z.0 < length zones in
+        subst P same inside
     go (inr lower) more = exists_inner d k zones zone x parents is lower at (λ above i h q. more above i h lower q)
 
 -- a zone that is among others stands at some place
@@ -144,11 +144,11 @@ any_at [] x h = absurd (cc)
 any_at (y ∷ ys) x h = go (y.0 == x.0) refl h (λ k. any_at ys x k)
   where
     go : (b : Bool) → (y.0 == x.0) ≡ b → (b || list_any (λ z. z.0 == x.0) ys) ≡ true → (list_any (λ z. z.0 == x.0) ys ≡ true → (k : ℕ) × (k < length ys) × (get_or ys k x ≡ x))
-      → (k : ℕ) × (k < length (y ∷ ys)) × (get_or (y ∷ ys) k x ≡ x)
+        → (k : ℕ) × (k < length (y ∷ ys)) × (get_or (y ∷ ys) k x ≡ x)
     go true e h more =
-      let n : y.0 ≡ x.0 = grind (arith, nat_tests) in
-      let make : ℕ → ZoneId = λ n. record { 0 = n } in
-      (0, omega arith, ap make n)
+        let n : y.0 ≡ x.0 = grind (arith, nat_tests) in
+        let make : ℕ → ZoneId = λ n. record { 0 = n } in
+        (0, omega arith, ap make n)
     go false e h more = let r = more h in (suc r.0, omega (arith, r.1), r.2)
 
 -- the first zone of a path has no zone above it

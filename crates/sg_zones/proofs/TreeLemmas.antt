@@ -23,7 +23,7 @@ depth_found zero zones zone h = absurd (cc)
 depth_found (suc steps) zones zone h = go (parent zones zone) h (λ above k. depth_found steps zones above k)
   where
     go : (o : Option ZoneId) → option_and_then (ancestor steps zones) o ≡ None → ((above : ZoneId) → ancestor steps zones above ≡ None → (d : ℕ) × (d < steps) × IsDepth (suc d) zones above)
-      → (d : ℕ) × (d < suc steps) × AboveIs (IsDepth d zones) d o
+        → (d : ℕ) × (d < suc steps) × AboveIs (IsDepth d zones) d o
     go None h more = (0, omega arith, refl)
     go (Some above) h more = let r = more above h in (suc r.0, omega (arith, r.1), r.2)
 
@@ -35,7 +35,7 @@ path_deep (suc d) zero zones zone h few = absurd (omega arith)
 path_deep (suc d) (suc levels) zones zone h few = go (parent zones zone) h (λ above k. path_deep d levels zones above k (omega arith))
   where
     go : (o : Option ZoneId) → AboveIs (IsDepth d zones) d o → ((above : ZoneId) → IsDepth d zones above → path levels zones above ≡ path d zones above)
-      → option_map_or (path levels zones) o [] ++ zone ∷ [] ≡ option_map_or (path d zones) o [] ++ zone ∷ []
+        → option_map_or (path levels zones) o [] ++ zone ∷ [] ≡ option_map_or (path d zones) o [] ++ zone ∷ []
     go None h more = refl
     go (Some above) h more = ap (λ xs. xs ++ zone ∷ []) (more above h)
 
@@ -45,7 +45,7 @@ path_length zero zones zone h = absurd h
 path_length (suc d) zones zone h = go (parent zones zone) h (λ above k. path_length d zones above k)
   where
     go : (o : Option ZoneId) → AboveIs (IsDepth d zones) d o → ((above : ZoneId) → IsDepth d zones above → length (path d zones above) ≡ d)
-      → length (option_map_or (path d zones) o [] ++ zone ∷ []) ≡ suc d
+        → length (option_map_or (path d zones) o [] ++ zone ∷ []) ≡ suc d
     go None h more = omega arith
     go (Some above) h more = rw length-append (omega (arith, more above h))
 
@@ -91,7 +91,7 @@ unfolding path
 path_last d zones zone x h = go (parent zones zone) h (λ above k. path_length d zones above k)
   where
     go : (o : Option ZoneId) → AboveIs (IsDepth d zones) d o → ((above : ZoneId) → IsDepth d zones above → length (path d zones above) ≡ d)
-      → get_or (option_map_or (path d zones) o [] ++ zone ∷ []) d x ≡ zone
+        → get_or (option_map_or (path d zones) o [] ++ zone ∷ []) d x ≡ zone
     go None e more = last_of [] zone x d e
     go (Some above) k more = last_of (path d zones above) zone x d (sym (more above k))
 
@@ -111,21 +111,21 @@ unfolding path
 front_inner d k zones zone x h few at more = go (parent zones zone) h at more (λ above i. path_length d zones above i)
   where
     go : (o : Option ZoneId) → AboveIs (IsDepth d zones) d o → get_or (option_map_or (path d zones) o [] ++ zone ∷ []) k x ≡ x
-      → ((above : ZoneId) → IsDepth d zones above → get_or (path d zones above) k x ≡ x → IsFront k zones x (path d zones above))
-      → ((above : ZoneId) → IsDepth d zones above → length (path d zones above) ≡ d)
-      → IsFront k zones x (option_map_or (path d zones) o [] ++ zone ∷ [])
+        → ((above : ZoneId) → IsDepth d zones above → get_or (path d zones above) k x ≡ x → IsFront k zones x (path d zones above))
+        → ((above : ZoneId) → IsDepth d zones above → length (path d zones above) ≡ d)
+        → IsFront k zones x (option_map_or (path d zones) o [] ++ zone ∷ [])
     go None e at more len = absurd (omega arith)
     go (Some above) i at more len =
-      let l = len above i in
-      let f = more above i (sym (inner_of (path d zones above) zone x k (omega arith)) ∙ at) in
-      record { depth = f.depth; front = f.front ∙ sym (take_inner (path d zones above) zone (suc k) (omega arith)) }
+        let l = len above i in
+        let f = more above i (sym (inner_of (path d zones above) zone x k (omega arith)) ∙ at) in
+        record { depth = f.depth; front = f.front ∙ sym (take_inner (path d zones above) zone (suc k) (omega arith)) }
 
 pub path_front : (d k : ℕ) (zones : List ZoneRow) (zone x : ZoneId) → IsDepth d zones zone → k < d → get_or (path d zones zone) k x ≡ x → IsFront k zones x (path d zones zone)
 path_front zero k zones zone x h few at = absurd h
 path_front (suc d) k zones zone x h few at = go (split k d few) (λ above i inside there. path_front d k zones above x i inside there)
   where
     go : ((k ≡ d) ⊎ (k < d)) → ((above : ZoneId) → IsDepth d zones above → k < d → get_or (path d zones above) k x ≡ x → IsFront k zones x (path d zones above))
-      → IsFront k zones x (path (suc d) zones zone)
+        → IsFront k zones x (path (suc d) zones zone)
     go (inl e) more = front_whole d k zones zone x h e at
     go (inr inside) more = front_inner d k zones zone x h inside at (λ above i there. more above i inside there)
 

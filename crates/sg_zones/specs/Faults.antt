@@ -64,7 +64,7 @@ child_holds t (Zone zone) point = holds t zone point
 abbrev pub gateways_at : Tree → ℕ → ZoneRouteRow → Option ZoneFault
 gateways_at t row r =
     option_or (told_if (not (child_holds t r.src r.gw_src)) (GatewayOutside (place 6 (row + 1) 3)))
-      (told_if (not (child_holds t r.dst r.gw_dst)) (GatewayOutside (place 6 (row + 1) 4)))
+    (told_if (not (child_holds t r.dst r.gw_dst)) (GatewayOutside (place 6 (row + 1) 4)))
 
 abbrev pub gateway_at : Tree → ℕ → SpokeRow → Option ZoneFault
 gateway_at t row s = told_if (not (child_holds t s.child s.gateway)) (GatewayOutside (place 7 (row + 1) 3))
@@ -102,7 +102,7 @@ route_at t row r = told_if (not (in_one_full t (Some (home t r.src)) (Some (home
 abbrev pub zone_route_at : Tree → ℕ → ZoneRouteRow → Option ZoneFault
 zone_route_at t row r =
     told_if (not (in_one_full t (zone_above t r.src) (zone_above t r.dst)) || is_point r.src && is_point r.dst)
-      (WrongRouting (place 6 (row + 1) 1))
+    (WrongRouting (place 6 (row + 1) 1))
 
 -- the zone of a spoke is Star, and the child is its child
 abbrev pub spoke_at : Tree → ℕ → SpokeRow → Option ZoneFault

@@ -20,7 +20,8 @@ tree_of p = record {
   parents = map (λ row. row.parent) p.zones;
   routings = map (λ row. row.routing) p.zones;
   paths = paths_of p.zones;
-  homes = map (λ row. row.zone) p.hosts ++ map (λ row. row.zone) p.routers }
+  homes = map (λ row. row.zone) p.hosts ++ map (λ row. row.zone) p.routers;
+}
 
 -- a zone that isn't there has no parent, an empty path and routing Full; a point that isn't there stands in the first zone
 abbrev pub parent_in : Tree → ZoneId → Option ZoneId

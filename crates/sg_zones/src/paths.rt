@@ -88,6 +88,7 @@ fn twice(alloc: Global, ancestors: &[Option<ZoneId>]) -> Result<Vec<Option<ZoneI
 }
 
 /// Of each zone its ancestor after `2 ^ doublings` steps up.
+#[tactic(auto, using(crate::proofs::Ancestors::parents_are))]
 pub(crate) fn ancestors_of(
     alloc: Global,
     zones: &[ZoneRow],

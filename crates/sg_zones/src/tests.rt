@@ -48,7 +48,9 @@ fn chain(alloc: Global, zones: usize) -> Result<String, AllocError> {
     let mut text = String::from_str(alloc, "[[zone]]\nid = 'z1'\nrouting = 'Full'\n")?;
     for i in 2..zones + 1 {
         let above = i - 1;
-        let row = format!(in alloc; "[[zone]]\nid = 'z{i}'\nparent = 'z{above}'\nrouting = 'Full'\n")?;
+        let row = format!(in alloc;
+            "[[zone]]\nid = 'z{i}'\nparent = 'z{above}'\nrouting = 'Full'\n"
+        )?;
         text.push_str(row.as_str())?;
     }
     Ok(text)
@@ -59,13 +61,17 @@ fn takes_a_chain_of_sixteen_zones_and_no_longer_one(rt: HostRuntime) -> Result<(
     let sixteen = chain(rt.alloc(), 16)?;
     assert_eq!(rt; zone_fault(rt.alloc(), sixteen.as_str())?.as_str(), "fine");
     let seventeen = chain(rt.alloc(), 17)?;
-    assert_eq!(rt; zone_fault(rt.alloc(), seventeen.as_str())?.as_str(), "TooDeep(Place { table: 1, row: 17, key: 2 })");
+    assert_eq!(rt;
+        zone_fault(rt.alloc(), seventeen.as_str())?.as_str(),
+        "TooDeep(Place { table: 1, row: 17, key: 2 })"
+    );
     Ok(())
 }
 
 #[test]
 fn tells_the_faults_of_rows(rt: HostRuntime) -> Result<(), Fail> {
-    let head = "zone = [{id = 'z', routing = 'Full'}, {id = 'y', parent = 'z', routing = 'Star'}, {id = 'x', parent = 'z', routing = 'Full'}]
+    let head =
+        "zone = [{id = 'z', routing = 'Full'}, {id = 'y', parent = 'z', routing = 'Star'}, {id = 'x', parent = 'z', routing = 'Full'}]
 host = [{id = 'h', zone = 'z', speed = '1f'}, {id = 'g', zone = 'x', speed = '1f'}, {id = 'f', zone = 'x', speed = '1f'}]
 router = [{id = 'r', zone = 'y'}]
 link = [{id = 'l', bandwidth = '1Bps'}]
