@@ -1,0 +1,11 @@
+//! Routes between any two points of a platform.
+#![tactic(auto)]
+
+mod build;
+mod kept;
+mod leg;
+mod locals;
+mod router;
+mod spokes;
+
+pub use router::{RouteFault, Router};
