@@ -1,0 +1,10 @@
+pub mod Each
+pub mod Nested
+pub mod Parting
+pub mod Levels
+pub mod Good
+pub mod Lowest
+pub mod Links
+pub mod StarWays
+pub mod Backs
+pub mod Complete

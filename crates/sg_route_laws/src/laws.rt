@@ -1,0 +1,54 @@
+//! What holds of routes on a platform, and where said, on one without zone faults.
+ghost use Rattle.std.specs.Prelude.{◌≡◌, None};
+ghost use Rattle.sg_route.specs.Roads.{roads_of};
+ghost use Rattle.sg_route_laws.specs.Laws.{FollowsLowestZone, HasRoutes, LegsAreLowest, LinksAreGood, StarGoesUpAndDown, WayBackReturns};
+ghost use Rattle.sg_zones.specs.Faults.{zone_fault};
+
+use sg_platform::PlatformText;
+
+/// A route is the local route of the lowest zone that holds both points, with the way to its first gateway in front
+/// and that from its second gateway behind. No count of levels is in this.
+pub fn follows_lowest_zone(platform: &PlatformText)
+    requires { zone_fault platform.now ≡ None }
+    ensures { FollowsLowestZone (roads_of platform.now) }
+{
+    let _zones = platform.zones();
+}
+
+/// Where the paths of two points part is the lowest zone that holds both.
+pub fn legs_are_lowest(platform: &PlatformText)
+    requires { zone_fault platform.now ≡ None }
+    ensures { LegsAreLowest platform.now }
+{
+    let _zones = platform.zones();
+}
+
+/// A route has a link, and all its links exist.
+pub fn links_are_good(platform: &PlatformText)
+    ensures { LinksAreGood platform.now }
+{
+    let _zones = platform.zones();
+}
+
+/// Between two points of one Star zone a route goes up from the one and down to the other.
+pub fn star_goes_up_and_down(platform: &PlatformText)
+    requires { zone_fault platform.now ≡ None }
+    ensures { StarGoesUpAndDown platform.now }
+{
+    let _zones = platform.zones();
+}
+
+/// The way back of a way back is the way itself.
+pub fn way_back_returns(platform: &PlatformText)
+    ensures { WayBackReturns platform.now }
+{
+    let _zones = platform.zones();
+}
+
+/// Where no local route is missing, no route is.
+pub fn complete_has_routes(platform: &PlatformText)
+    requires { zone_fault platform.now ≡ None }
+    ensures { HasRoutes platform.now }
+{
+    let _zones = platform.zones();
+}
