@@ -67,3 +67,10 @@ pub routed_kept : (m : Roads) (a b : PointId) (old new : Kept) → old ≡ recor
     → Routed (route_of m a b) (Ok (sum_by (latency_of m) new.links)) new.links
 unfolding route_of
 routed_kept m a b old new start h over = (kept_of (whole m a b) old new m start h).1 over
+
+-- a refusal leaves no link
+pub refused : (route : Result Route RouteFault) (fault : RouteFault) (result : Result ℕ RouteFault) (links : List LinkId) → Routed route (Err fault) [] → result ≡ Err fault → links ≡ [] → Routed route result links
+refused route fault result links is told none =
+    let P : Result ℕ RouteFault → Type 0 = λ r. Routed route r links in
+    let Q : List LinkId → Type 0 = λ xs. Routed route (Err fault) xs in
+    subst P (sym told) (subst Q (sym none) is)

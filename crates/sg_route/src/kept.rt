@@ -1,8 +1,9 @@
 //! The links of a route, each once.
-ghost use Rattle.std.specs.Prelude.{◌≡◌};
+ghost use Rattle.std.specs.Prelude.{◌≡◌, [], Err};
 ghost use Rattle.sg_route.specs.Firsts.{is_among};
 ghost use Rattle.sg_route.specs.Kept.{keep_one, keep_all};
 
+use crate::router::RouteFault;
 use arrayvec::ArrayVec;
 use sg_base::LinkId;
 
@@ -33,4 +34,16 @@ pub(crate) fn keep_all(links: &mut ArrayVec<LinkId, 64>, over: &mut bool, more: 
     for link in more {
         keep_one(links, over, *link);
     }
+}
+
+/// The answer where there is no route: no link is left.
+pub(crate) fn refuse(
+    links: &mut ArrayVec<LinkId, 64>,
+    fault: RouteFault,
+) -> Result<u128, RouteFault>
+    ensures fault { result ≡ Err fault }
+    ensures none { links.new.items ≡ [] }
+{
+    links.clear();
+    Err(fault)
 }

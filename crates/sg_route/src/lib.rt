@@ -7,5 +7,7 @@ mod leg;
 mod locals;
 mod router;
 mod spokes;
+#[cfg(test)]
+mod tests;
 
 pub use router::{RouteFault, Router};

@@ -6,7 +6,7 @@ ghost use Rattle.sg_route.specs.Route.{latency_of, leg, loopback, passage_on, ro
 ghost use Rattle.sg_route.specs.Walked.{Routed, Walked};
 ghost use Rattle.sg_zones.specs.Tree.{home, routing_in};
 
-use crate::kept::keep_all;
+use crate::kept::{keep_all, refuse};
 use crate::leg::{Leg, parting};
 use crate::locals::{Locals, Pair};
 use crate::spokes::Spokes;
@@ -216,17 +216,16 @@ impl Router {
         let mut over = false;
         match self.keep_whole(a, b, links, &mut over) {
             Err(leg) => {
-                links.clear();
-                Err(RouteFault::NoRoute {
+                let fault = RouteFault::NoRoute {
                     zone: leg.zone,
                     from: leg.from,
                     to: leg.to,
-                })
+                };
+                refuse(links, fault)
             }
             Ok(()) => {
                 if over {
-                    links.clear();
-                    return Err(RouteFault::TooLong);
+                    return refuse(links, RouteFault::TooLong);
                 }
                 Ok(self.latency(links.as_slice()))
             }
