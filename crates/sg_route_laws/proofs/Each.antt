@@ -35,3 +35,8 @@ pub each_all : {X : Type 0} (P : X → Type 0) (xs : List X) → Each P xs → A
 each_all P [] h k d few = absurd (omega arith)
 each_all P (x ∷ xs) h zero d few = h.0
 each_all P (x ∷ xs) h (suc k) d few = each_all P xs h.1 k d (omega arith)
+
+pub each_at : {X : Type 0} (P : X → Type 0) (xs : List X) (d : X) → Each P xs → P d → (k : ℕ) → P (get_or xs k d)
+each_at P [] d each h k = h
+each_at P (x ∷ xs) d each h zero = each.0
+each_at P (x ∷ xs) d each h (suc k) = each_at P xs d each.1 h k

@@ -1,5 +1,5 @@
 -- A route has a link, and all its links exist.
-use Rattle.std.proofs.Common.{◌≡◌, ◌<◌, ℕ, zero, suc, Bool, true, false, cond, List, [], ◌∷◌, ◌++◌, length, length-append, get_or, Option, None, Some, Ok, Err, arith, refl, subst}
+use Rattle.std.proofs.Common.{◌≡◌, ◌<◌, ◌≤◌, ℕ, zero, suc, Bool, true, false, cond, List, [], ◌∷◌, ◌++◌, length, length-append, get_or, Option, None, Some, Ok, Err, arith, refl, subst}
 use Rattle.std.specs.Prelude.{◌==◌, nat_lt, sum_by}
 use Rattle.sg_base.specs.declared.ids.Child.{Child}
 use Rattle.sg_base.specs.declared.ids.Child.TheVariants.{Point}
@@ -24,13 +24,14 @@ use Rattle.sg_route.specs.declared.locals.Pair.{Pair}
 use Rattle.sg_route.specs.declared.router.RouteFault.TheVariants.{TooLong}
 use Rattle.sg_route_laws.proofs.Each.{Each, each_all, each_append, each_flat, each_found, each_from}
 use Rattle.sg_route_laws.proofs.Nested.{home, routing}
-use Rattle.sg_route_laws.specs.Laws.{LinksAreGood}
+use Rattle.sg_route_laws.proofs.Latency.{route_quick}
+use Rattle.sg_route_laws.specs.Laws.{RoutesAreGood}
 
 abbrev Exists : Platform → LinkId → Type 0
 Exists p link = link.0 < length (link_ends p.links)
 
 record Good (p : Platform) (links : List LinkId) : Type 0 where
-  some : 0 < length links
+  some : 1 ≤ length links
   each : Each (Exists p) links
 
 from_list : (p : Platform) (links : List LinkId) → IsLinkList (counts_of p) links → Good p links
@@ -187,8 +188,8 @@ route_good : (p : Platform) → IsPlatform p → (a b : PointId) (r : Route) →
 unfolding route_of
 route_good p kept a b r is = judged_good p (roads_of p) (whole (roads_of p) a b) r (whole_good p kept a b) is
 
-pub links_are_good : (p : Platform) → IsPlatform p → LinksAreGood p
-links_are_good p kept = record {
-  some = λ a b r is. (route_good p kept a b r is).some;
-  exist = λ a b r is. each_all (Exists p) r.links (route_good p kept a b r is).each;
-}
+pub routes_are_good : (p : Platform) → IsPlatform p → RoutesAreGood p
+routes_are_good p kept a b r is =
+    let good = route_good p kept a b r is in
+    let quick = route_quick p kept a b r is in
+    record { some = good.some; few = quick.few; exist = each_all (Exists p) r.links good.each; latency = quick.latency }

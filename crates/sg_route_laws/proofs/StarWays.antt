@@ -66,7 +66,7 @@ there w a b same = go (a.0 == b.0) (grind (arith, nat_tests))
     go t e = rw e refl
 
 -- a local route from a point to another, whose gateways they are themselves
-direct : (w : PointId → PointId → Way) (a b : PointId) (l : Leg) (q : Passage) → a.0 ≡ q.start.0 → q.end.0 ≡ b.0 → by_passage w a b l (Some q) ≡ Ok q.links
+pub direct : (w : PointId → PointId → Way) (a b : PointId) (l : Leg) (q : Passage) → a.0 ≡ q.start.0 → q.end.0 ≡ b.0 → by_passage w a b l (Some q) ≡ Ok q.links
 direct w a b l q e f = go (unless_there w a q.start) (unless_there w q.end b) (there w a q.start e) (there w q.end b f)
   where
     go : (x y : Way) → x ≡ Ok [] → y ≡ Ok [] → joined x q.links y ≡ Ok q.links
@@ -81,7 +81,7 @@ own_gateway p good a s found =
     let held : (a.0 == s.gateway.0) ≡ true = subst P (sym same) r.0.held in
     grind (arith, nat_tests)
 
-one_step : (m : Roads) (a b : PointId) → way 16 m a b ≡ by_passage (way 15 m) a b (leg m a b) (passage_on m (leg m a b))
+pub one_step : (m : Roads) (a b : PointId) → way 16 m a b ≡ by_passage (way 15 m) a b (leg m a b) (passage_on m (leg m a b))
 unfolding way
 one_step m a b = refl
 

@@ -1,7 +1,7 @@
 //! What holds of routes on a platform, and where said, on one without zone faults.
 ghost use Rattle.std.specs.Prelude.{◌≡◌, None};
 ghost use Rattle.sg_route.specs.Roads.{roads_of};
-ghost use Rattle.sg_route_laws.specs.Laws.{FollowsLowestZone, HasRoutes, LegsAreLowest, LinksAreGood, StarGoesUpAndDown, WayBackReturns};
+ghost use Rattle.sg_route_laws.specs.Laws.{FollowsLowestZone, HasRoutes, LegsAreLowest, RoutesAreGood, StarGoesUpAndDown, StarJoinsGateways, WayBackReturns};
 ghost use Rattle.sg_zones.specs.Faults.{zone_fault};
 
 use sg_platform::PlatformText;
@@ -23,9 +23,9 @@ pub fn legs_are_lowest(platform: &PlatformText)
     let _zones = platform.zones();
 }
 
-/// A route has a link, and all its links exist.
-pub fn links_are_good(platform: &PlatformText)
-    ensures { LinksAreGood platform.now }
+/// A route has 1 to 64 links, all of them exist, and its latency is at most 64 times the greatest of a link.
+pub fn routes_are_good(platform: &PlatformText)
+    ensures { RoutesAreGood platform.now }
 {
     let _zones = platform.zones();
 }
@@ -34,6 +34,14 @@ pub fn links_are_good(platform: &PlatformText)
 pub fn star_goes_up_and_down(platform: &PlatformText)
     requires { zone_fault platform.now ≡ None }
     ensures { StarGoesUpAndDown platform.now }
+{
+    let _zones = platform.zones();
+}
+
+/// Between the gateways of two children of one Star zone, points or zones, a route goes up and down as well.
+pub fn star_joins_gateways(platform: &PlatformText)
+    requires { zone_fault platform.now ≡ None }
+    ensures { StarJoinsGateways platform.now }
 {
     let _zones = platform.zones();
 }
