@@ -5,20 +5,20 @@
 pub struct ActorId(pub u32);
 
 /// A point of the platform: the hosts in declared order from 0 on, then the routers.
-#[derive(Clone, Copy, Debug, PartialEq, Eq)]
+#[derive(Clone, Copy, Debug, PartialEq, Eq, PartialOrd, Ord)]
 pub struct PointId(pub u32);
 
 /// A link, from 0 on in declared order. A SPLITDUPLEX row gives two, up and then down; the last one of all is
 /// the loopback.
-#[derive(Clone, Copy, Debug, PartialEq, Eq)]
+#[derive(Clone, Copy, Debug, Default, PartialEq, Eq)]
 pub struct LinkId(pub u32);
 
 /// A zone, from 0 on in declared order.
-#[derive(Clone, Copy, Debug, PartialEq, Eq)]
+#[derive(Clone, Copy, Debug, PartialEq, Eq, PartialOrd, Ord)]
 pub struct ZoneId(pub u32);
 
 /// A child of a zone.
-#[derive(Clone, Copy, Debug, PartialEq, Eq)]
+#[derive(Clone, Copy, Debug, PartialEq, Eq, PartialOrd, Ord)]
 pub enum Child {
     Point(PointId),
     Zone(ZoneId),

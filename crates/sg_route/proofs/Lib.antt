@@ -1,0 +1,6 @@
+pub mod IndexLemmas
+pub mod KeptLemmas
+pub mod WalkLemmas
+pub mod RouteLemmas
+pub mod FirstsLemmas
+pub mod EndsLemmas

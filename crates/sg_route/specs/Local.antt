@@ -1,0 +1,47 @@
+-- Local routes: those that rows declare, and their ways back.
+use Rattle.std.specs.Prelude.{Bool, true, false, Option, List, [], ◌∷◌, ◌++◌, find}
+use Rattle.std.specs.List.{flat_map}
+use Rattle.sg_base.specs.declared.ids.Child.{Child}
+use Rattle.sg_base.specs.declared.ids.Child.TheVariants.{Point}
+use Rattle.sg_platform.specs.Ends.{way_back}
+use Rattle.sg_platform.specs.declared.ends.LinkEnd.{LinkEnd}
+use Rattle.sg_platform.specs.declared.rows.RouteRow.{RouteRow}
+use Rattle.sg_platform.specs.declared.rows.SpokeRow.{SpokeRow}
+use Rattle.sg_platform.specs.declared.rows.ZoneRouteRow.{ZoneRouteRow}
+use Rattle.sg_route.specs.declared.locals.Local.{Local}
+use Rattle.sg_route.specs.declared.locals.Pair.{Pair}
+use Rattle.sg_route.specs.Equal.{child_eq, pair_eq}
+
+-- what a row declares
+abbrev pub route_local : RouteRow → Local
+route_local row = record { pair = record { from = Point row.src; to = Point row.dst }; start = row.src; end = row.dst; links = row.links }
+
+abbrev pub zone_route_local : ZoneRouteRow → Local
+zone_route_local row = record { pair = record { from = row.src; to = row.dst }; start = row.gw_src; end = row.gw_dst; links = row.links }
+
+-- the way back of a local route: its ends exchanged, its gateways exchanged, and the way back over its links
+abbrev pub turned : List LinkEnd → Local → Local
+turned ends l = record { pair = record { from = l.pair.to; to = l.pair.from }; start = l.end; end = l.start; links = way_back ends l.links }
+
+-- a local route, and behind it its way back where it is symmetrical
+abbrev pub declared : List LinkEnd → Bool → Local → List Local
+declared ends false l = l ∷ []
+declared ends true l = l ∷ (turned ends l ∷ [])
+
+abbrev pub routes_declared : List LinkEnd → List RouteRow → List Local
+routes_declared ends rows = flat_map (λ row. declared ends row.symmetrical (route_local row)) rows
+
+abbrev pub zone_routes_declared : List LinkEnd → List ZoneRouteRow → List Local
+zone_routes_declared ends rows = flat_map (λ row. declared ends row.symmetrical (zone_route_local row)) rows
+
+-- all local routes that rows declare, in the order of the rows
+abbrev pub locals_of : List LinkEnd → List RouteRow → List ZoneRouteRow → List Local
+locals_of ends routes zone_routes = routes_declared ends routes ++ zone_routes_declared ends zone_routes
+
+-- the first local route of a pair
+abbrev pub declared_route : List Local → Pair → Option Local
+declared_route locals pair = find (λ l. pair_eq pair l.pair) locals
+
+-- the first spoke of a child
+abbrev pub spoke_at : List SpokeRow → Child → Option SpokeRow
+spoke_at spokes child = find (λ s. child_eq child s.child) spokes

@@ -1,0 +1,116 @@
+-- The route between two points.
+use Rattle.std.specs.Prelude.{◌==◌, ℕ, suc, zero, ◌-◌, if◌then◌else◌, nat_lt, Option, None, Some, option_map, Result, Ok, Err, List, [], ◌∷◌, ◌++◌, length, slice_index_or, sum_by}
+use Rattle.sg_base.specs.declared.ids.LinkId.{LinkId}
+use Rattle.sg_base.specs.declared.ids.PointId.{PointId}
+use Rattle.sg_base.specs.declared.ids.Child.{Child}
+use Rattle.sg_base.specs.declared.ids.Child.TheVariants.{Point}
+use Rattle.sg_platform.specs.declared.rows.Routing.{Routing}
+use Rattle.sg_platform.specs.declared.rows.Routing.TheVariants.{Full, Star}
+use Rattle.sg_platform.specs.declared.rows.SpokeRow.{SpokeRow}
+use Rattle.sg_platform.specs.Ends.{link_end}
+use Rattle.sg_route.specs.declared.locals.Local.{Local}
+use Rattle.sg_route.specs.declared.leg.Leg.{Leg}
+use Rattle.sg_route.specs.declared.router.RouteFault.{RouteFault}
+use Rattle.sg_route.specs.declared.router.RouteFault.TheVariants.{NoRoute, TooLong}
+use Rattle.sg_route.specs.Firsts.{firsts}
+use Rattle.sg_route.specs.Leg.{parting}
+use Rattle.sg_route.specs.Local.{declared_route, spoke_at}
+use Rattle.sg_route.specs.Roads.{Roads}
+use Rattle.sg_zones.specs.Tree.{home, path_in, routing_in}
+
+-- ---- the local route from one child of a zone to another
+
+-- the gateways at which a local route begins and ends, and its links
+pub record Passage : Type 0 where
+  pub start : PointId
+  pub end : PointId
+  pub links : List LinkId
+
+abbrev pub by_declared : Option Local → Option Passage
+by_declared local = option_map (λ l. record { start = l.start; end = l.end; links = l.links }) local
+
+-- up from the one child and down to the other
+abbrev pub by_spokes : Option SpokeRow → Option SpokeRow → Option Passage
+by_spokes None to = None
+by_spokes (Some from) None = None
+by_spokes (Some from) (Some to) = Some (record { start = from.gateway; end = to.gateway; links = from.up ++ to.down })
+
+abbrev pub passage : Roads → Routing → Child → Child → Option Passage
+passage m Full from to = by_declared (declared_route m.locals (record { from = from; to = to }))
+passage m Star from to = by_spokes (spoke_at m.spokes from) (spoke_at m.spokes to)
+
+-- ---- whole routes
+
+-- the lowest zone that holds both points, and its children that hold them
+abbrev pub leg : Roads → PointId → PointId → Leg
+leg m a b = parting (home m.tree a) a b (path_in m.tree (home m.tree a)) (path_in m.tree (home m.tree b))
+
+abbrev pub passage_on : Roads → Leg → Option Passage
+passage_on m l = passage m (routing_in m.tree l.zone) l.from l.to
+
+-- the links of a whole route, or the leg whose local route is missing
+abbrev pub Way : Type 0
+Way = Result (List LinkId) Leg
+
+-- in front, the local route, behind: what is missing in front is told before what is missing behind
+abbrev pub joined : Way → List LinkId → Way → Way
+joined (Err missing) links behind = Err missing
+joined (Ok front) links (Err missing) = Err missing
+joined (Ok front) links (Ok behind) = Ok (front ++ links ++ behind)
+
+-- no links from a point to itself
+abbrev pub unless_there : (PointId → PointId → Way) → PointId → PointId → Way
+unless_there way a b = if a.0 == b.0 then Ok [] else way a b
+
+-- the zone's own local route, where it is missing, is told before all others
+abbrev pub by_passage : (PointId → PointId → Way) → PointId → PointId → Leg → Option Passage → Way
+by_passage way a b l None = Err l
+by_passage way a b l (Some p) = joined (unless_there way a p.start) p.links (unless_there way p.end b)
+
+-- The route from a to another point b: the local route of the lowest zone that holds both, between its children that
+-- hold them; in front of it the way from a to its first gateway, and behind it the way from its second gateway to b.
+abbrev pub through_lowest : (PointId → PointId → Way) → Roads → PointId → PointId → Way
+through_lowest way m a b = by_passage way a b (leg m a b) (passage_on m (leg m a b))
+
+-- such a route through so many levels of zones
+unfoldable pub way : ℕ → Roads → PointId → PointId → Way
+way zero m a b = Ok []
+way (suc levels) m a b = through_lowest (way levels m) m a b
+
+-- ---- from a host to itself
+
+-- the loopback is the last link
+abbrev pub loopback : Roads → LinkId
+loopback m = record { 0 = length m.ends - 1 }
+
+abbrev pub or_loopback : Roads → Option Local → List LinkId
+or_loopback m None = loopback m ∷ []
+or_loopback m (Some local) = local.links
+
+-- the route that a Full zone declares for it, else the loopback
+abbrev pub to_itself : Roads → Routing → PointId → List LinkId
+to_itself m Star a = loopback m ∷ []
+to_itself m Full a = or_loopback m (declared_route m.locals (record { from = Point a; to = Point a }))
+
+-- ---- what is answered
+
+abbrev pub latency_of : Roads → LinkId → ℕ
+latency_of m link = (slice_index_or m.ends link.0 (link_end 0 0)).latency
+
+pub record Route : Type 0 where
+  pub links : List LinkId
+  pub latency : ℕ
+
+-- each link counts once, at its first place; a route that misses nothing and has over 64 links is too long
+abbrev pub judged : Roads → Way → Result Route RouteFault
+judged m (Err missing) = Err (NoRoute missing.zone missing.from missing.to)
+judged m (Ok links) =
+    if nat_lt 64 (length (firsts [] links)) then Err TooLong
+    else Ok (record { links = firsts [] links; latency = sum_by (latency_of m) (firsts [] links) })
+
+-- the links from a point to another, or from a host to itself; zones are at most 16 deep
+unfoldable pub whole : Roads → PointId → PointId → Way
+whole m a b = if a.0 == b.0 then Ok (to_itself m (routing_in m.tree (home m.tree a)) a) else way 16 m a b
+
+unfoldable pub route_of : Roads → PointId → PointId → Result Route RouteFault
+route_of m a b = judged m (whole m a b)

@@ -1,0 +1,166 @@
+//! A router from the rows of a platform.
+ghost use Rattle.std.specs.Prelude.{◌≡◌, ◌++◌, IfOk, OnOk};
+ghost use Rattle.sg_route.specs.Local.{turned, declared, routes_declared, zone_routes_declared, locals_of};
+ghost use Rattle.sg_route.specs.Roads.{roads_of};
+ghost use Rattle.sg_zones.specs.Tree.{tree_of};
+
+use crate::locals::{Local, Locals, Pair};
+use crate::router::Router;
+use crate::spokes::Spokes;
+use sg_base::{Child, LinkId, Links, Memory};
+use sg_platform::{LinkEnd, PlatformText, RouteRow, SpokeRow, ZoneRouteRow, link_ends, way_back};
+use sg_zones::Zones;
+use std::alloc::Global;
+
+/// A copy of these links.
+fn copy_of(alloc: Global, links: &Links) -> Result<Links, Memory>
+    ensures { IfOk result (λ copy. copy ≡ links.now) }
+{
+    Ok(Links::from_vec(Vec::from_slice(alloc, links.as_slice())?))
+}
+
+/// The way back of a local route.
+fn turned(alloc: Global, ends: &[LinkEnd], local: &Local) -> Result<Local, Memory>
+    ensures { IfOk result (λ back. back ≡ turned ends.now local.now) }
+{
+    Ok(Local {
+        pair: Pair {
+            from: local.pair.to,
+            to: local.pair.from,
+        },
+        start: local.end,
+        end: local.start,
+        links: way_back(alloc, ends, local.links.as_slice())?,
+    })
+}
+
+/// Adds a local route, and where it is symmetrical its way back.
+fn add_declared(
+    alloc: Global,
+    ends: &[LinkEnd],
+    symmetrical: bool,
+    local: Local,
+    locals: &mut Vec<Local>,
+) -> Result<(), Memory>
+    ensures { OnOk result (locals.new.items ≡ locals.old.items ++ declared ends.now symmetrical local) }
+{
+    if symmetrical {
+        let back = turned(alloc, ends, &local)?;
+        locals.push(local)?;
+        locals.push(back)?;
+        return Ok(());
+    }
+    locals.push(local)?;
+    Ok(())
+}
+
+/// Adds what routes between points declare.
+fn add_routes(
+    alloc: Global,
+    ends: &[LinkEnd],
+    rows: &[RouteRow],
+    locals: &mut Vec<Local>,
+) -> Result<(), Memory>
+    ensures { OnOk result (locals.new.items ≡ locals.old.items ++ routes_declared ends.now rows.now) }
+{
+    for row in rows {
+        let local = Local {
+            pair: Pair {
+                from: Child::Point(row.src),
+                to: Child::Point(row.dst),
+            },
+            start: row.src,
+            end: row.dst,
+            links: copy_of(alloc, &row.links)?,
+        };
+        add_declared(alloc, ends, row.symmetrical, local, locals)?;
+    }
+    Ok(())
+}
+
+/// Adds what routes between zones declare.
+fn add_zone_routes(
+    alloc: Global,
+    ends: &[LinkEnd],
+    rows: &[ZoneRouteRow],
+    locals: &mut Vec<Local>,
+) -> Result<(), Memory>
+    ensures { OnOk result (locals.new.items ≡ locals.old.items ++ zone_routes_declared ends.now rows.now) }
+{
+    for row in rows {
+        let local = Local {
+            pair: Pair {
+                from: row.src,
+                to: row.dst,
+            },
+            start: row.gw_src,
+            end: row.gw_dst,
+            links: copy_of(alloc, &row.links)?,
+        };
+        add_declared(alloc, ends, row.symmetrical, local, locals)?;
+    }
+    Ok(())
+}
+
+/// All local routes that rows declare.
+fn locals_of(
+    alloc: Global,
+    ends: &[LinkEnd],
+    routes: &[RouteRow],
+    zone_routes: &[ZoneRouteRow],
+) -> Result<Vec<Local>, Memory>
+    ensures { IfOk result (λ locals. locals.items ≡ locals_of ends.now routes.now zone_routes.now) }
+{
+    let mut locals = Vec::new(alloc);
+    add_routes(alloc, ends, routes, &mut locals)?;
+    add_zone_routes(alloc, ends, zone_routes, &mut locals)?;
+    Ok(locals)
+}
+
+/// A copy of these spokes.
+fn copies_of(alloc: Global, rows: &[SpokeRow]) -> Result<Vec<SpokeRow>, Memory>
+    ensures { IfOk result (λ copies. copies.items ≡ rows.now) }
+{
+    let mut copies = Vec::new(alloc);
+    for row in rows {
+        copies.push(SpokeRow {
+            zone: row.zone,
+            child: row.child,
+            gateway: row.gateway,
+            up: copy_of(alloc, &row.up)?,
+            down: copy_of(alloc, &row.down)?,
+        })?;
+    }
+    Ok(copies)
+}
+
+impl Router {
+    /// The router of a platform, with the zones that were made from it.
+    ///
+    /// # Errors
+    ///
+    /// Want of memory.
+    pub fn build(alloc: Global, platform: &PlatformText, zones: &Zones) -> Result<Router, Memory>
+        requires { zones.now ≡ tree_of platform.now }
+        ensures { IfOk result (λ router. router ≡ roads_of platform.now) }
+    {
+        let ends = link_ends(alloc, platform.links())?;
+        let loopback = LinkId(ends.len() as u32 - 1);
+        let rows = locals_of(
+            alloc,
+            ends.as_slice(),
+            platform.routes(),
+            platform.zone_routes(),
+        )?;
+        let locals = Locals::from_rows(alloc, rows)?;
+        let spokes = Spokes::from_rows(alloc, copies_of(alloc, platform.spokes())?)?;
+        let zones = zones.copy(alloc)?;
+        Ok(Router {
+            zones,
+            locals,
+            spokes,
+            ends,
+            loopback,
+        })
+    }
+}

@@ -1,0 +1,112 @@
+-- The paths part at the lowest zone that holds both points.
+use Rattle.std.proofs.Common.{◌≡◌, ◌<◌, ◌≤◌, ℕ, zero, suc, Bool, true, false, cond, List, [], ◌∷◌, length, get_or, arith, refl, sym, ◌∙◌, ap}
+use Rattle.std.specs.Prelude.{◌==◌, ◌||◌}
+use Rattle.std.specs.List.{list_any}
+use Rattle.std.proofs.lemmas.Bool.Decides.{nat_tests}
+use Rattle.sg_base.specs.declared.ids.ZoneId.{ZoneId}
+use Rattle.sg_base.specs.declared.ids.PointId.{PointId}
+use Rattle.sg_base.specs.declared.ids.Child.TheVariants.{Zone}
+use Rattle.sg_platform.specs.Platform.{Platform}
+use Rattle.sg_zones.specs.Paths.{path}
+use Rattle.sg_zones.specs.Tree.{tree_of, depth}
+use Rattle.sg_zones.proofs.TreeLemmas.{path_deep, path_length, path_front}
+use Rattle.sg_zones.proofs.GoodTree.{depth_here, exists_on, any_at, path_at}
+use Rattle.sg_route.specs.Roads.{roads_of}
+use Rattle.sg_route.specs.Leg.{parting}
+use Rattle.sg_route.specs.Route.{leg}
+use Rattle.sg_route_laws.specs.Laws.{IsPoint, LegsAreLowest}
+use Rattle.sg_route_laws.proofs.Nested.{depth_of_both, home, path_to, shared}
+use Rattle.sg_route_laws.proofs.Good.{IsGood, common_front, got, home_exists, path_of, root_shared, parents_from, shared_short}
+
+parted_zone : (last : ZoneId) (a b : PointId) (xs ys : List ZoneId) → (parting last a b xs ys).zone ≡ get_or (last ∷ xs) (shared xs ys) last
+parted_zone last a b [] ys = refl
+parted_zone last a b (x ∷ xs) [] = refl
+parted_zone last a b (x ∷ xs) (y ∷ ys) = go (x.0 == y.0) (parted_zone x a b xs ys) (shared_short xs ys)
+  where
+    go : (t : Bool) → (parting x a b xs ys).zone ≡ get_or (x ∷ xs) (shared xs ys) x → shared xs ys ≤ length xs
+        → (cond t (parting x a b xs ys) (record { zone = last; from = Zone x; to = Zone y })).zone ≡ get_or (last ∷ (x ∷ xs)) (cond t (suc (shared xs ys)) 0) last
+    go true h short = h ∙ got (x ∷ xs) (shared xs ys) x last (omega arith)
+    go false h short = refl
+
+other_short : (xs ys : List ZoneId) → shared xs ys ≤ length ys
+other_short [] ys = omega arith
+other_short (x ∷ xs) [] = omega arith
+other_short (x ∷ xs) (y ∷ ys) = go (x.0 == y.0) (other_short xs ys)
+  where
+    go : (t : Bool) → shared xs ys ≤ length ys → cond t (suc (shared xs ys)) 0 ≤ length (y ∷ ys)
+    go true h = omega arith
+    go false h = omega arith
+
+-- shared zones are the same on both paths
+same_at : (xs ys : List ZoneId) (k : ℕ) (d : ZoneId) → k < shared xs ys → get_or xs k d ≡ get_or ys k d
+same_at [] ys k d few = absurd (omega arith)
+same_at (x ∷ xs) [] k d few = absurd (omega arith)
+same_at (x ∷ xs) (y ∷ ys) k d few = go (x.0 == y.0) refl few (λ j more. same_at xs ys j d more) k refl
+  where
+    go : (t : Bool) → (x.0 == y.0) ≡ t → k < cond t (suc (shared xs ys)) 0 → ((j : ℕ) → j < shared xs ys → get_or xs j d ≡ get_or ys j d) → (i : ℕ) → i ≡ k → get_or (x ∷ xs) i d ≡ get_or (y ∷ ys) i d
+    go true e few more zero f =
+        let n : x.0 ≡ y.0 = grind (arith, nat_tests) in
+        let make : ℕ → ZoneId = λ q. record { 0 = q } in
+        ap make n
+    go true e few more (suc i) f = more i (omega arith)
+    go false e few more i f = absurd (omega arith)
+
+among_at : (xs : List ZoneId) (k : ℕ) (z : ZoneId) → k < length xs → get_or xs k z ≡ z → list_any (λ x. x.0 == z.0) xs ≡ true
+among_at [] k z few at = absurd (omega arith)
+among_at (x ∷ xs) zero z few at = let n : x.0 ≡ z.0 = ap (λ q. q.0) at in go (x.0 == z.0) (grind (arith, nat_tests))
+  where
+    go : (t : Bool) → t ≡ true → (t || list_any (λ y. y.0 == z.0) xs) ≡ true
+    go true e = refl
+    go false e = absurd (cc)
+among_at (x ∷ xs) (suc k) z few at = go (x.0 == z.0) (among_at xs k z (omega arith) at)
+  where
+    go : (t : Bool) → list_any (λ y. y.0 == z.0) xs ≡ true → (t || list_any (λ y. y.0 == z.0) xs) ≡ true
+    go true h = refl
+    go false h = h
+
+-- a zone on a point's path has its place there as its depth
+depth_at : (p : Platform) → IsGood p → (a : PointId) → IsPoint (roads_of p) a → (z : ZoneId) (k : ℕ) → k < length (path_to (roads_of p) a) → get_or (path_to (roads_of p) a) k z ≡ z
+    → depth (tree_of p) z ≡ suc k
+depth_at p good a there z k inside at =
+    let za : ZoneId = home (roads_of p) a in
+    let d = depth_here p.zones za good.tree (home_exists p good a there) in
+    let e = path_of p good a there d in
+    let n : length (path_to (roads_of p) a) ≡ suc d.depth = ap length e ∙ path_length (suc d.depth) p.zones za d.is in
+    let on : get_or (path (suc d.depth) p.zones za) k z ≡ z = ap (λ q. get_or q k z) (sym e) ∙ at in
+    let s = d.shallow in
+    let f = path_front (suc d.depth) k p.zones za z d.is (omega arith) on in
+    let x = exists_on (suc d.depth) k p.zones za z (parents_from p good.kept) (home_exists p good a there) d.is (omega arith) on in
+    ap length (path_at p.zones z x ∙ path_deep (suc k) 16 p.zones z f.depth (omega arith)) ∙ path_length (suc k) p.zones z f.depth
+
+prev : (n : ℕ) → 1 ≤ n → (k : ℕ) × (n ≡ suc k)
+prev zero h = absurd (omega arith)
+prev (suc k) h = (k, refl)
+
+pub legs_are_lowest : (p : Platform) → IsGood p → LegsAreLowest p
+legs_are_lowest p good a b there here =
+    let m = roads_of p in
+    let za : ZoneId = home m a in
+    let zb : ZoneId = home m b in
+    let xs = path_to m a in
+    let ys = path_to m b in
+    let r = prev (depth_of_both m a b) (root_shared p good a b there here) in
+    let sa = shared_short xs ys in
+    let sb = other_short xs ys in
+    let n = r.1 in
+    let z : ZoneId = (leg m a b).zone in
+    let f : z ≡ get_or xs r.0 za = parted_zone za a b xs ys ∙ ap (λ i. get_or (za ∷ xs) i za) n in
+    let at : get_or xs r.0 z ≡ z = got xs r.0 z za (omega arith) ∙ sym f in
+    let on : get_or ys r.0 z ≡ z = sym (same_at xs ys r.0 z (omega arith)) ∙ at in
+    let da = depth_here p.zones za good.tree (home_exists p good a there) in
+    let db = depth_here p.zones zb good.tree (home_exists p good b here) in
+    record {
+      holds_a = among_at xs r.0 z (omega arith) at;
+      holds_b = among_at ys r.0 z (omega arith) on;
+      lowest = λ other ha hb.
+          let i = any_at xs other ha in
+          let j = any_at ys other hb in
+          let c = common_front p.zones za zb other da db xs ys i.0 j.0 (path_of p good a there da) (path_of p good b here db) i.1 i.2 j.1 j.2 in
+          let dz = depth_at p good a there z r.0 (omega arith) at in
+          let deep = depth_at p good a there other i.0 i.1 i.2 in
+          omega arith;
+    }

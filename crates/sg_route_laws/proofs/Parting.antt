@@ -1,0 +1,77 @@
+-- Where two paths part.
+use Rattle.std.proofs.Common.{◌≡◌, ◌<◌, ◌≤◌, ℕ, zero, suc, Bool, true, false, cond, List, [], ◌∷◌, length, take, get_or, arith, ap}
+use Rattle.std.specs.Prelude.{◌==◌}
+use Rattle.std.proofs.lemmas.Bool.Decides.{nat_tests}
+use Rattle.sg_base.specs.declared.ids.ZoneId.{ZoneId}
+use Rattle.sg_base.specs.declared.ids.PointId.{PointId}
+use Rattle.sg_base.specs.declared.ids.Child.TheVariants.{Point, Zone}
+use Rattle.sg_route.specs.Leg.{parting}
+use Rattle.sg_route_laws.proofs.Nested.{shared}
+
+-- the zone x stands right behind the part of the path that is shared
+pub record Parts (x : ZoneId) (own : List ZoneId) (common : ℕ) : Type 0 where
+  pub inside : common < length own
+  pub at : get_or own common x ≡ x
+
+zone_is : (x y : ZoneId) → Zone x ≡ Zone y → x ≡ y
+zone_is x y h = cc
+
+pub from_parts : (last : ZoneId) (a b : PointId) (xs ys : List ZoneId) (x : ZoneId) → (parting last a b xs ys).from ≡ Zone x → Parts x xs (shared xs ys)
+from_parts last a b [] ys x h = absurd (cc)
+from_parts last a b (u ∷ us) [] x h = record { inside = omega arith; at = zone_is u x h }
+from_parts last a b (u ∷ us) (v ∷ vs) x h = go (u.0 == v.0) h (λ k. from_parts u a b us vs x k)
+  where
+    go : (t : Bool) → (cond t (parting u a b us vs) (record { zone = last; from = Zone u; to = Zone v })).from ≡ Zone x
+        → ((parting u a b us vs).from ≡ Zone x → Parts x us (shared us vs)) → Parts x (u ∷ us) (cond t (suc (shared us vs)) 0)
+    go true h more = let r = more h in let i = r.inside in record { inside = omega arith; at = r.at }
+    go false h more = record { inside = omega arith; at = zone_is u x h }
+
+pub to_parts : (last : ZoneId) (a b : PointId) (xs ys : List ZoneId) (x : ZoneId) → (parting last a b xs ys).to ≡ Zone x → Parts x ys (shared xs ys)
+to_parts last a b [] [] x h = absurd (cc)
+to_parts last a b [] (v ∷ vs) x h = record { inside = omega arith; at = zone_is v x h }
+to_parts last a b (u ∷ us) [] x h = absurd (cc)
+to_parts last a b (u ∷ us) (v ∷ vs) x h = go (u.0 == v.0) h (λ k. to_parts u a b us vs x k)
+  where
+    go : (t : Bool) → (cond t (parting u a b us vs) (record { zone = last; from = Zone u; to = Zone v })).to ≡ Zone x
+        → ((parting u a b us vs).to ≡ Zone x → Parts x vs (shared us vs)) → Parts x (v ∷ vs) (cond t (suc (shared us vs)) 0)
+    go true h more = let r = more h in let i = r.inside in record { inside = omega arith; at = r.at }
+    go false h more = record { inside = omega arith; at = zone_is v x h }
+
+point_is : (p q : PointId) → Point p ≡ Point q → p ≡ q
+point_is p q h = cc
+
+pub from_point : (last : ZoneId) (a b : PointId) (xs ys : List ZoneId) (q : PointId) → (parting last a b xs ys).from ≡ Point q → a ≡ q
+from_point last a b [] ys q h = point_is a q h
+from_point last a b (u ∷ us) [] q h = absurd (cc)
+from_point last a b (u ∷ us) (v ∷ vs) q h = go (u.0 == v.0) h (λ k. from_point u a b us vs q k)
+  where
+    go : (t : Bool) → (cond t (parting u a b us vs) (record { zone = last; from = Zone u; to = Zone v })).from ≡ Point q
+        → ((parting u a b us vs).from ≡ Point q → a ≡ q) → a ≡ q
+    go true h more = more h
+    go false h more = absurd (cc)
+
+pub to_point : (last : ZoneId) (a b : PointId) (xs ys : List ZoneId) (q : PointId) → (parting last a b xs ys).to ≡ Point q → b ≡ q
+to_point last a b [] [] q h = point_is b q h
+to_point last a b [] (v ∷ vs) q h = absurd (cc)
+to_point last a b (u ∷ us) [] q h = point_is b q h
+to_point last a b (u ∷ us) (v ∷ vs) q h = go (u.0 == v.0) h (λ k. to_point u a b us vs q k)
+  where
+    go : (t : Bool) → (cond t (parting u a b us vs) (record { zone = last; from = Zone u; to = Zone v })).to ≡ Point q
+        → ((parting u a b us vs).to ≡ Point q → b ≡ q) → b ≡ q
+    go true h more = more h
+    go false h more = absurd (cc)
+
+-- paths with the same front share it
+pub shared_front : (n : ℕ) (xs ys : List ZoneId) → take n xs ≡ take n ys → n ≤ length xs → n ≤ length ys → n ≤ shared xs ys
+shared_front zero xs ys e few more = omega arith
+shared_front (suc n) [] ys e few more = absurd (omega arith)
+shared_front (suc n) (x ∷ xs) [] e few more = absurd (omega arith)
+shared_front (suc n) (x ∷ xs) (y ∷ ys) e few more =
+    let head : x ≡ y = cc in
+    let rest : take n xs ≡ take n ys = cc in
+    let same : x.0 ≡ y.0 = ap (λ z. z.0) head in
+    go (x.0 == y.0) (grind (arith, nat_tests)) (shared_front n xs ys rest (omega arith) (omega arith))
+  where
+    go : (t : Bool) → t ≡ true → n ≤ shared xs ys → suc n ≤ cond t (suc (shared xs ys)) 0
+    go true e h = omega arith
+    go false e h = absurd (cc)
