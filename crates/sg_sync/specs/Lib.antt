@@ -1,0 +1,4 @@
+pub mod Queues
+pub mod Links
+pub mod Objects
+pub mod Kept

@@ -1,0 +1,80 @@
+-- Mutexes, semaphores and the barrier: who owns, what is free, who waits, and what each call does.
+use Rattle.std.specs.Prelude.{◌≡◌, ℕ, ◌+◌, ◌-◌, ◌<◌, ◌==◌, nat_lt, Bool, if◌then◌else◌, List, [], ◌∷◌, ◌++◌, length, Option, None, Some, slice_index_or, slice_set}
+use Rattle.std.specs.Option.{option_to_list}
+use Rattle.sg_base.specs.declared.ids.ActorId.{ActorId}
+use Rattle.sg_sync.specs.declared.outcome.Outcome.{Outcome}
+use Rattle.sg_sync.specs.declared.outcome.Outcome.TheVariants.{GoesOn, Waits, Refused}
+use Rattle.sg_sync.specs.Queues.{queue_at, front, joined, shortened, times, waits}
+
+-- the owner of each mutex and who waits for it; the count of each semaphore and who waits there; who has arrived at the barrier, in order, and how many members it has; and who else went on by the last call
+pub record Objects : Type 0 where
+  pub actors : ℕ
+  pub owners : List (Option ActorId)
+  pub locking : List (List ActorId)
+  pub counts : List ℕ
+  pub acquiring : List (List ActorId)
+  pub members : ℕ
+  pub arrived : List ActorId
+  pub others : List ActorId
+
+abbrev pub owner_of : Objects → ℕ → Option ActorId
+owner_of o mutex = slice_index_or o.owners mutex None
+
+abbrev pub count_of : Objects → ℕ → ℕ
+count_of o semaphore = slice_index_or o.counts semaphore 0
+
+-- how often an actor waits in all queues together
+abbrev pub waiting : Objects → ActorId → ℕ
+waiting o actor = waits actor o.locking + waits actor o.acquiring + times actor o.arrived
+
+-- what a call does: its answer, and the objects after it
+pub record Done : Type 0 where
+  pub outcome : Outcome
+  pub after : Objects
+
+-- a free mutex gets its owner; else the actor waits, its owner too
+abbrev pub locked_by : Option ActorId → ActorId → ℕ → Objects → Done
+locked_by None actor mutex o = record { outcome = GoesOn; after = record o { owners = slice_set o.owners mutex (Some actor); others = [] } }
+locked_by (Some owner) actor mutex o = record { outcome = Waits; after = record o { locking = joined o.locking mutex actor; others = [] } }
+
+abbrev pub locked : ActorId → ℕ → Objects → Done
+locked actor mutex o = locked_by (owner_of o mutex) actor mutex o
+
+abbrev pub refused : Objects → Done
+refused o = record { outcome = Refused; after = record o { others = [] } }
+
+-- the first that waits owns the mutex and goes on, or nobody owns it
+abbrev pub passed_on : ℕ → Objects → Done
+passed_on mutex o =
+    let first = front (queue_at o.locking mutex) in
+    record { outcome = GoesOn; after = record o { owners = slice_set o.owners mutex first; locking = shortened o.locking mutex; others = option_to_list first } }
+
+-- by its owner alone
+abbrev pub unlocked_by : Option ActorId → ActorId → ℕ → Objects → Done
+unlocked_by None actor mutex o = refused o
+unlocked_by (Some owner) actor mutex o = if owner.0 == actor.0 then passed_on mutex o else refused o
+
+abbrev pub unlocked : ActorId → ℕ → Objects → Done
+unlocked actor mutex o = unlocked_by (owner_of o mutex) actor mutex o
+
+-- a count above 0 falls by one; else the actor waits
+abbrev pub acquired : ActorId → ℕ → Objects → Done
+acquired actor semaphore o =
+    if nat_lt 0 (count_of o semaphore)
+    then record { outcome = GoesOn; after = record o { counts = slice_set o.counts semaphore (count_of o semaphore - 1); others = [] } }
+    else record { outcome = Waits; after = record o { acquiring = joined o.acquiring semaphore actor; others = [] } }
+
+-- the first that waits goes on, or the count rises by one
+abbrev pub released_to : Option ActorId → ℕ → Objects → Done
+released_to None semaphore o = record { outcome = GoesOn; after = record o { counts = slice_set o.counts semaphore (count_of o semaphore + 1); others = [] } }
+released_to (Some first) semaphore o = record { outcome = GoesOn; after = record o { acquiring = shortened o.acquiring semaphore; others = first ∷ [] } }
+
+abbrev pub released : ℕ → Objects → Done
+released semaphore o = released_to (front (queue_at o.acquiring semaphore)) semaphore o
+
+-- who isn't the last of the members waits; the last one lets all go on, in order of arrival, and the barrier begins anew
+abbrev pub arrived : ActorId → Objects → Done
+arrived actor o =
+    if nat_lt (length o.arrived + 1) o.members
+    then record { outcome = Waits; after = record o { arrived = o.arrived ++ actor ∷ []; others = [] } }
+    else record { outcome = GoesOn; after = record o { arrived = []; others = o.arrived } }

@@ -1,0 +1,39 @@
+-- First-in-first-out queues of actors.
+use Rattle.std.specs.Prelude.{ℕ, ◌+◌, ◌<◌, ◌≤◌, ◌==◌, Bool, cond, List, [], ◌∷◌, ◌++◌, Option, None, Some, slice_index_or, slice_set}
+use Rattle.std.specs.List.{sum_by, count_by}
+use Rattle.sg_base.specs.declared.ids.ActorId.{ActorId}
+
+-- so many actors, and who waits in each queue, the first in front
+pub record Waiting : Type 0 where
+  pub actors : ℕ
+  pub queues : List (List ActorId)
+
+abbrev pub IsActor : ℕ → ActorId → Type 0
+IsActor actors actor = (0 < actor.0) × (actor.0 ≤ actors)
+
+abbrev pub queue_at : List (List ActorId) → ℕ → List ActorId
+queue_at queues at = slice_index_or queues at []
+
+-- who is first in a queue, and who waits behind
+abbrev pub front : List ActorId → Option ActorId
+front [] = None
+front (actor ∷ rest) = Some actor
+
+abbrev pub behind : List ActorId → List ActorId
+behind [] = []
+behind (actor ∷ rest) = rest
+
+-- an actor goes to the end of a queue
+abbrev pub joined : List (List ActorId) → ℕ → ActorId → List (List ActorId)
+joined queues at actor = slice_set queues at (queue_at queues at ++ actor ∷ [])
+
+-- the first leaves a queue, if anybody waits there
+abbrev pub shortened : List (List ActorId) → ℕ → List (List ActorId)
+shortened queues at = slice_set queues at (behind (queue_at queues at))
+
+-- how often an actor waits in a queue, and in all
+abbrev pub times : ActorId → List ActorId → ℕ
+times actor queue = count_by (λ (other : ActorId). other.0 == actor.0) queue
+
+abbrev pub waits : ActorId → List (List ActorId) → ℕ
+waits actor queues = sum_by (times actor) queues

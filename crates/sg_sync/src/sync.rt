@@ -1,0 +1,199 @@
+//! The objects at which actors wait for one another.
+ghost use Rattle.std.specs.Prelude.{◌≡◌, ◌<◌, ◌≤◌, ◌+◌, ◌∷◌, ◌++◌, ◌^◌, [], None, IfOk, length, replicate};
+ghost use Rattle.std.specs.Vec.{vec_capacity};
+ghost use Rattle.sg_sync.specs.Queues.{IsActor, queue_at};
+ghost use Rattle.sg_sync.specs.Objects.{acquired, arrived, count_of, locked, passed_on, released, unlocked, waiting};
+
+use crate::outcome::Outcome;
+use crate::queues::Queues;
+use sg_base::{ActorId, Memory};
+use std::alloc::Global;
+use std::marker::Model;
+
+/// Mutexes, semaphores and the one barrier.
+///
+/// Who waits goes on by a later call of another, which `others` tells. All queues are first in, first out.
+#[derive(Drop)]
+pub struct Sync {
+    owners: Vec<Option<ActorId>>,
+    locking: Queues,
+    counts: Vec<u64>,
+    acquiring: Queues,
+    members: u32,
+    /// The one queue of those that have arrived at the barrier.
+    arrived: Queues,
+    others: Vec<ActorId>,
+}
+
+impl Model for Sync {
+    ghost use Rattle.std.specs.Prelude.{◌≡◌, ◌≤◌, length};
+    ghost use Rattle.std.specs.Vec.{vec_capacity};
+    ghost use Rattle.sg_sync.specs.Queues.{queue_at};
+    ghost use Rattle.sg_sync.specs.Objects.{Objects};
+    ghost use Rattle.sg_sync.specs.Kept.{IsKept};
+
+    ghost Value = { Objects };
+
+    ghost view = { λ s. record { actors = s.arrived.actors; owners = s.owners.items; locking = s.locking.queues; counts = s.counts.items; acquiring = s.acquiring.queues; members = s.members; arrived = queue_at s.arrived.queues 0; others = s.others.items } };
+
+    ghost invariant = { λ s. IsKept s.locking s.acquiring s.arrived (length s.owners.items) (length s.counts.items) (vec_capacity s.others) };
+}
+
+// Notes one more that goes on.
+fn tell(others: &mut Vec<ActorId>, actor: ActorId)
+    requires { length others.old.items < vec_capacity others.old }
+    ensures more { others.new.items ≡ others.old.items ++ actor ∷ [] }
+    ensures capacity { vec_capacity others.old ≤ vec_capacity others.new }
+{
+    match others.push(actor) {
+        Ok(()) => {}
+        Err(_) => unreachable!(),
+    }
+}
+
+// All leave the first queue, in order.
+fn tell_all(others: &mut Vec<ActorId>, queues: &mut Queues)
+    requires queue { length queues.old.queues ≡ 1 }
+    requires none { others.old.items ≡ [] }
+    requires few { length (queue_at queues.old.queues 0) ≤ queues.old.actors }
+    requires room { queues.old.actors ≤ vec_capacity others.old }
+    ensures all { others.new.items ≡ queue_at queues.old.queues 0 }
+    ensures capacity { vec_capacity others.old ≤ vec_capacity others.new }
+    ensures left { queues.new ≡ record queues.old { queues = [] ∷ [] } }
+{
+    while let Some(actor) = queues.leave(0) {
+        tell(others, actor);
+    }
+}
+
+impl Sync {
+    /// Free mutexes, the semaphores with their capacities, and a barrier of so many members at which nobody is.
+    pub fn new(
+        alloc: Global,
+        actors: u32,
+        mutexes: u32,
+        semaphores: &[u64],
+        members: u32,
+    ) -> Result<Sync, Memory>
+        ensures { IfOk result (λ s. s ≡ record { actors = actors; owners = replicate mutexes None; locking = replicate mutexes []; counts = semaphores.now; acquiring = replicate (length semaphores.now) []; members = members; arrived = []; others = [] }) }
+    {
+        Ok(Sync {
+            owners: vec![in alloc; None; mutexes as usize]?,
+            locking: Queues::new(alloc, actors, mutexes as usize)?,
+            counts: Vec::from_slice(alloc, semaphores)?,
+            acquiring: Queues::new(alloc, actors, semaphores.len())?,
+            members,
+            arrived: Queues::new(alloc, actors, 1)?,
+            others: Vec::with_capacity(alloc, actors as usize)?,
+        })
+    }
+
+    /// A lock: a free mutex gets its owner, and who finds an owner waits, also the owner itself.
+    pub fn lock(&mut self, actor: ActorId, mutex: u32) -> Outcome
+        requires actor { IsActor self.old.actors actor }
+        requires mutex { mutex < length self.old.owners }
+        requires free { waiting self.old actor ≡ 0 }
+        ensures outcome { result ≡ (locked actor mutex self.old).outcome }
+        ensures after { self.new ≡ (locked actor mutex self.old).after }
+    {
+        self.others.clear();
+        match self.owners[mutex as usize] {
+            None => {
+                self.owners[mutex as usize] = Some(actor);
+                Outcome::GoesOn
+            }
+            Some(_) => {
+                self.locking.join(mutex as usize, actor);
+                Outcome::Waits
+            }
+        }
+    }
+
+    /// An unlock by the owner: the first that waits becomes the owner and goes on.
+    pub fn unlock(&mut self, actor: ActorId, mutex: u32) -> Outcome
+        requires mutex { mutex < length self.old.owners }
+        ensures outcome { result ≡ (unlocked actor mutex self.old).outcome }
+        ensures after { self.new ≡ (unlocked actor mutex self.old).after }
+    {
+        self.others.clear();
+        match self.owners[mutex as usize] {
+            Some(owner) if owner == actor => {
+                self.pass_on(mutex);
+                Outcome::GoesOn
+            }
+            _ => Outcome::Refused,
+        }
+    }
+
+    // The mutex goes to the first that waits, or to nobody.
+    fn pass_on(&mut self, mutex: u32)
+        requires mutex { mutex < length self.old.owners }
+        requires none { self.old.others ≡ [] }
+        ensures { self.new ≡ (passed_on mutex self.old).after }
+    {
+        let first = self.locking.leave(mutex as usize);
+        self.owners[mutex as usize] = first;
+        if let Some(first) = first {
+            tell(&mut self.others, first);
+        }
+    }
+
+    /// An acquire: a count above 0 falls by one, else the actor waits.
+    pub fn acquire(&mut self, actor: ActorId, semaphore: u32) -> Outcome
+        requires actor { IsActor self.old.actors actor }
+        requires semaphore { semaphore < length self.old.counts }
+        requires free { waiting self.old actor ≡ 0 }
+        ensures outcome { result ≡ (acquired actor semaphore self.old).outcome }
+        ensures after { self.new ≡ (acquired actor semaphore self.old).after }
+    {
+        self.others.clear();
+        let count = self.counts[semaphore as usize];
+        if count > 0 {
+            self.counts[semaphore as usize] = count - 1;
+            Outcome::GoesOn
+        } else {
+            self.acquiring.join(semaphore as usize, actor);
+            Outcome::Waits
+        }
+    }
+
+    /// A release: the first that waits goes on, or the count rises by one. The count must have room for that.
+    pub fn release(&mut self, semaphore: u32) -> Outcome
+        requires semaphore { semaphore < length self.old.counts }
+        requires room { count_of self.old semaphore + 1 < 2 ^ 64 }
+        ensures outcome { result ≡ (released semaphore self.old).outcome }
+        ensures after { self.new ≡ (released semaphore self.old).after }
+    {
+        self.others.clear();
+        match self.acquiring.leave(semaphore as usize) {
+            Some(first) => tell(&mut self.others, first),
+            None => self.counts[semaphore as usize] += 1,
+        }
+        Outcome::GoesOn
+    }
+
+    /// An arrival at the barrier: where it makes the members complete, all that have arrived go on in the order of
+    /// arrival, this one last. A barrier of no members lets each one through.
+    pub fn arrive(&mut self, actor: ActorId) -> Outcome
+        requires actor { IsActor self.old.actors actor }
+        requires free { waiting self.old actor ≡ 0 }
+        ensures outcome { result ≡ (arrived actor self.old).outcome }
+        ensures after { self.new ≡ (arrived actor self.old).after }
+    {
+        self.others.clear();
+        if self.arrived.len(0) + 1 < self.members as usize {
+            self.arrived.join(0, actor);
+            Outcome::Waits
+        } else {
+            tell_all(&mut self.others, &mut self.arrived);
+            Outcome::GoesOn
+        }
+    }
+
+    /// Who else goes on by the last call, in the order in which they go on: after those of them stands who called.
+    pub fn others(&self) -> &[ActorId]
+        ensures { result.now ≡ self.now.others }
+    {
+        &self.others
+    }
+}
