@@ -66,10 +66,12 @@ fn begin_flow(parts: &mut Parts, phase: Phase)
     requires latency { phase.kind ≡ phase_kind.Latency }
     requires sound { IsSound parts.old }
     requires limited { AreLimited parts.old }
+    requires answering { IsAnswering parts.old }
     requires budget { parts.old.events ≢ parts.old.budget }
     ensures known { known_of parts.new ≡ after (ends_phase phase.serial.0 (core_of parts.old)) (known_of parts.old) }
     ensures sound { IsSound parts.new }
     ensures limited { AreLimited parts.new }
+    ensures answering { IsAnswering parts.new }
     ensures due { parts.new.doing.due ≡ drop 1 parts.old.doing.due }
     ensures date { parts.new.doing.date ≡ parts.old.doing.date }
     ensures events { parts.new.events ≡ parts.old.events + 1 }
@@ -109,11 +111,13 @@ fn end_phase(parts: &mut Parts, phase: Phase)
     requires due { IsDue parts.old.doing phase }
     requires sound { IsSound parts.old }
     requires limited { AreLimited parts.old }
+    requires answering { IsAnswering parts.old }
     requires small { parts.old.doing.date < 10 ^ 33 }
     requires budget { parts.old.events ≢ parts.old.budget }
     ensures known { known_of parts.new ≡ after (ends_phase phase.serial.0 (core_of parts.old)) (known_of parts.old) }
     ensures sound { IsSound parts.new }
     ensures limited { AreLimited parts.new }
+    ensures answering { IsAnswering parts.new }
     ensures due { parts.new.doing.due ≡ drop 1 parts.old.doing.due }
     ensures date { parts.new.doing.date ≡ parts.old.doing.date }
     ensures events { parts.new.events ≡ parts.old.events + 1 }
