@@ -21,6 +21,3 @@ mod turns;
 pub use ended::Ended;
 pub use running::run;
 pub use setup::Setup;
-
-#[cfg(test)]
-mod tests;
