@@ -295,6 +295,8 @@ fn tells_the_first_fault(rt: HostRuntime) -> Result<(), Fail> {
     let twice = "zone = [{id = 'z', routing = 'Full'}]
 host = [{id = 'h1', zone = 'z', speed = '1Gf'}, {id = 'h1', zone = 'z', speed = '1Gf', core = 0}]
 ";
+    let cycle =
+        "zone = [{id = 'a', routing = 'Full'}, {id = 'b', parent = 'b', routing = 'Full'}]\n";
     let no_link = format!(in alloc; "{FAST}route = [{{src = 'h1', dst = 'h2', links = ['q']}}]")?;
     let router = format!(in alloc; "{FAST}router = [{{id = 'r1', zone = 'z'}}]")?;
     let one = on_hosts(alloc, &["h1"])?;
@@ -314,6 +316,12 @@ host = [{id = 'h1', zone = 'z', speed = '1Gf'}, {id = 'h1', zone = 'z', speed = 
         ),
         ("host = [", one.as_str(), "platform: not TOML\n", 3),
         ("host = [", "actor = [", "platform: not TOML\n", 3),
+        (
+            cycle,
+            "actor = [",
+            "platform: zone cycle (table 1, row 2, key 2)\n",
+            3,
+        ),
         (FAST, "actor = [", "deployment: not TOML\n", 4),
         (
             router.as_str(),
