@@ -1,7 +1,7 @@
 -- The zone above, and the ancestor of an ancestor.
 use Rattle.std.proofs.Common.{◌≡◌, ◌+◌, ◌^◌, ◌<◌, ◌≤◌, ◌⊎◌, inl, inr, ℕ, zero, suc, List, [], ◌∷◌, length, map, get_or, Option, None, Some, arith, refl, sym, ◌∙◌, ap, pow-suc}
 use Rattle.std.specs.List.{range_with_len}
-use Rattle.std.specs.Prelude.{option_and_then, slice_get, slice_index_or}
+use Rattle.std.specs.Prelude.{option_and_then, slice_index_or}
 use Rattle.std.proofs.lemmas.List.{ext_get_or, get_or-map, get_or_past, length-map}
 use Rattle.std.proofs.lemmas.List.FromFn.{get_or-map-range_with_len, length-map-range_with_len}
 use Rattle.std.proofs.lemmas.Nat.{pow_pos}
@@ -10,7 +10,7 @@ use Rattle.std.proofs.lemmas.Simd.{map-map}
 use Rattle.sg_base.specs.declared.ids.ZoneId.{ZoneId}
 use Rattle.sg_platform.specs.declared.rows.Routing.TheVariants.{Full}
 use Rattle.sg_platform.specs.declared.rows.ZoneRow.{ZoneRow}
-use Rattle.sg_zones.specs.Paths.{ancestor, ancestors_of, of_zones, parent}
+use Rattle.sg_zones.specs.Paths.{ancestor, ancestors_of, parent}
 
 -- so many steps up, and then so many more
 pub ancestor_sum : (a b : ℕ) (zones : List ZoneRow) (zone : ZoneId) → ancestor (a + b) zones zone ≡ option_and_then (ancestor b zones) (ancestor a zones zone)

@@ -1,16 +1,16 @@
 -- What the absence of zone faults says of the tree.
-use Rattle.std.proofs.Common.{◌≡◌, ◌≢◌, ◌+◌, ◌<◌, ◌≤◌, ◌⊎◌, inl, inr, ℕ, zero, suc, Bool, true, false, cond, List, [], ◌∷◌, ◌++◌, length, length-append, take, get_or, Option, None, Some, arith, refl, sym, ◌∙◌, ap, subst}
-use Rattle.std.specs.Prelude.{not, is_none, is_some, ◌==◌, ◌||◌, slice_get, option_and_then, All, map}
+use Rattle.std.proofs.Common.{◌≡◌, ◌+◌, ◌<◌, ◌⊎◌, inl, inr, ℕ, zero, suc, Bool, true, false, cond, List, [], ◌∷◌, ◌++◌, length, get_or, Option, None, Some, arith, refl, sym, ◌∙◌, ap, subst}
+use Rattle.std.specs.Prelude.{is_none, is_some, ◌==◌, ◌||◌, slice_get, option_and_then}
 use Rattle.std.specs.List.{list_any}
-use Rattle.std.specs.Option.{option_or, option_map_or, ForSome}
+use Rattle.std.specs.Option.{option_or, option_map_or}
 use Rattle.std.proofs.lemmas.Bool.Decides.{nat_tests}
 use Rattle.std.proofs.lemmas.List.FromFn.{get_or-map-range_with_len, length-map-range_with_len}
 use Rattle.sg_platform.specs.declared.rows.ZoneRow.{ZoneRow}
 use Rattle.sg_base.specs.declared.ids.ZoneId.{ZoneId}
 use Rattle.sg_zones.specs.declared.fault.ZoneFault.{ZoneFault}
 use Rattle.sg_zones.specs.Paths.{ancestor, ancestors_of, parent, path, paths_of}
-use Rattle.sg_zones.specs.Faults.{first_along, told_if, roots, root_fault, second_root, cycle_at, deep_at, tree_fault}
-use Rattle.sg_zones.proofs.TreeLemmas.{AboveIs, IsDepth, depth_found, path_length, path_last, path_front, split, inner_of, IsFront}
+use Rattle.sg_zones.specs.Faults.{first_along, told_if, roots, root_fault, cycle_at, deep_at, tree_fault}
+use Rattle.sg_zones.proofs.TreeLemmas.{AboveIs, IsDepth, depth_found, path_length, path_last, split, inner_of}
 
 -- ---- options and rows
 

@@ -88,13 +88,14 @@ fn twice(alloc: Global, ancestors: &[Option<ZoneId>]) -> Result<Vec<Option<ZoneI
 }
 
 /// Of each zone its ancestor after `2 ^ doublings` steps up.
-#[tactic(auto, using(crate::proofs::Ancestors::parents_are))]
+#[tactic(auto, using(crate::proofs::Ancestors::parents_are, crate::proofs::Ancestors::ancestors_many))]
 pub(crate) fn ancestors_of(
     alloc: Global,
     zones: &[ZoneRow],
     doublings: u32,
 ) -> Result<Vec<Option<ZoneId>>, Memory>
-    ensures { IfOk result (λ made. made.items ≡ ancestors_of (2 ^ doublings) zones.now) }
+    ensures ancestors { IfOk result (λ made. made.items ≡ ancestors_of (2 ^ doublings) zones.now) }
+    ensures many { IfOk result (λ made. length made.items ≡ length zones.now) }
 {
     let mut ancestors = parents_of(alloc, zones)?;
     for _ in 0..doublings {

@@ -46,8 +46,8 @@ fn tells_the_faults_of_a_tree(rt: HostRuntime) -> Result<(), Fail> {
 /// A root and below it a chain of zones, of so many zones in all.
 fn chain(alloc: Global, zones: usize) -> Result<String, AllocError> {
     let mut text = String::from_str(alloc, "[[zone]]\nid = 'z1'\nrouting = 'Full'\n")?;
-    for i in 2..zones + 1 {
-        let above = i - 1;
+    for above in 1..zones {
+        let i = above + 1;
         let row = format!(in alloc;
             "[[zone]]\nid = 'z{i}'\nparent = 'z{above}'\nrouting = 'Full'\n"
         )?;

@@ -53,6 +53,7 @@ prints_nothing want S.ReadFault old new p = absurd (let e : S.Memory ≡ S.ReadF
 pub refusal_prints : {X : Type 0} (after : Result X Refusal → Outcome) (given : Result X Refusal) (why : Refusal) (how : Status) (old new : Stream → Option (List ℕ)) → ((r : Refusal) → after (C.Err r) ≡ refusal_outcome r) → (◌≢◌ {A = Result X Refusal} (C.Err why) (C.Err R.Memory) → C.Err why ≡ given) → Prints (refusal_outcome why) how old new → Prints (after given) how old new
 refusal_prints after given R.Memory how old new is known p = prints_nothing (after given) how old new p
 refusal_prints after given (R.Platform fault) how old new is known p = rw (sym (known (λ e. cc)), is (R.Platform fault)) p
+refusal_prints after given (R.Zones fault) how old new is known p = rw (sym (known (λ e. cc)), is (R.Zones fault)) p
 refusal_prints after given (R.Deployment fault) how old new is known p = rw (sym (known (λ e. cc)), is (R.Deployment fault)) p
 refusal_prints after given R.ReadPlatform how old new is known p = rw (sym (known (λ e. cc)), is R.ReadPlatform) p
 refusal_prints after given R.ReadDeployment how old new is known p = rw (sym (known (λ e. cc)), is R.ReadDeployment) p

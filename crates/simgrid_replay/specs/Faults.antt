@@ -5,6 +5,8 @@ use Rattle.sg_platform.specs.declared.platform.PlatformFault.{PlatformFault}
 use Rattle.sg_platform.specs.declared.platform.PlatformFault.TheVariants as platform
 use Rattle.sg_platform.specs.declared.deployment.DeploymentFault.{DeploymentFault}
 use Rattle.sg_platform.specs.declared.deployment.DeploymentFault.TheVariants as deployment
+use Rattle.sg_zones.specs.declared.fault.ZoneFault.{ZoneFault}
+use Rattle.sg_zones.specs.declared.fault.ZoneFault.TheVariants as zone
 
 abbrev pub platform_words : PlatformFault → List ℕ
 platform_words platform.BadToml = codes "not TOML"
@@ -27,6 +29,24 @@ platform_place (platform.Duplicate place) = Some place
 platform_place (platform.Unknown place) = Some place
 platform_place (platform.Limit place) = Some place
 platform_place platform.Memory = None
+
+abbrev pub zone_words : ZoneFault → List ℕ
+zone_words (zone.NoRoot place) = codes "no root zone"
+zone_words (zone.TwoRoots place) = codes "two root zones"
+zone_words (zone.ParentCycle place) = codes "zone cycle"
+zone_words (zone.TooDeep place) = codes "zones too deep"
+zone_words (zone.GatewayOutside place) = codes "gateway outside"
+zone_words (zone.WrongRouting place) = codes "wrong routing"
+zone_words zone.Memory = []
+
+abbrev pub zone_place : ZoneFault → Option Place
+zone_place (zone.NoRoot place) = Some place
+zone_place (zone.TwoRoots place) = Some place
+zone_place (zone.ParentCycle place) = Some place
+zone_place (zone.TooDeep place) = Some place
+zone_place (zone.GatewayOutside place) = Some place
+zone_place (zone.WrongRouting place) = Some place
+zone_place zone.Memory = None
 
 abbrev pub deployment_words : DeploymentFault → List ℕ
 deployment_words deployment.BadToml = codes "not TOML"

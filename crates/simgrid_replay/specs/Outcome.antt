@@ -14,7 +14,7 @@ use Rattle.sg_engine.specs.Gains.{GainsAll, GainsFronts}
 use Rattle.sg_engine.specs.Output.{Output, run_output}
 use Rattle.sg_platform.specs.Deployment.{Deployed}
 use Rattle.sg_platform.specs.Platform.{Platform}
-use Rattle.simgrid_replay.specs.Faults.{fault_line, platform_words, platform_place, deployment_words, deployment_place}
+use Rattle.simgrid_replay.specs.Faults.{fault_line, platform_words, platform_place, zone_words, zone_place, deployment_words, deployment_place}
 use Rattle.simgrid_replay.specs.Parts.{platform_given, deployment_given}
 use Rattle.simgrid_replay.specs.declared.refusal.Refusal.{Refusal}
 use Rattle.simgrid_replay.specs.declared.refusal.Refusal.TheVariants as refusal
@@ -43,6 +43,7 @@ usage = refused (codes "usage: simgrid_replay replay PLATFORM DEPLOYMENT SCRIPT\
 
 abbrev pub refusal_outcome : Refusal → Outcome
 refusal_outcome (refusal.Platform fault) = refused (fault_line (codes "platform") (platform_words fault) (platform_place fault)) status.Platform
+refusal_outcome (refusal.Zones fault) = refused (fault_line (codes "platform") (zone_words fault) (zone_place fault)) status.Platform
 refusal_outcome (refusal.Deployment fault) = refused (fault_line (codes "deployment") (deployment_words fault) (deployment_place fault)) status.Deployment
 refusal_outcome refusal.ReadPlatform = refused (codes "cannot read the platform\n") status.ReadFault
 refusal_outcome refusal.ReadDeployment = refused (codes "cannot read the deployment\n") status.ReadFault

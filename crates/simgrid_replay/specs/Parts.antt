@@ -9,11 +9,20 @@ use Rattle.sg_platform.specs.Platform.{Platform}
 use Rattle.sg_platform.specs.PlatformOf.{platform_of, greatest_text}
 use Rattle.sg_platform.specs.declared.deployment.DeploymentFault.{DeploymentFault}
 use Rattle.sg_platform.specs.declared.platform.PlatformFault.{PlatformFault}
+use Rattle.sg_zones.specs.Faults.{zones_of}
+use Rattle.sg_zones.specs.Tree.{Tree}
+use Rattle.sg_zones.specs.declared.fault.ZoneFault.{ZoneFault}
 use Rattle.simgrid_replay.specs.declared.refusal.Refusal.{Refusal}
 use Rattle.simgrid_replay.specs.declared.refusal.Refusal.TheVariants as refusal
 
+-- a platform stands where its zones have no fault
+abbrev pub or_zone_fault : Platform → Result Tree ZoneFault → Result Platform Refusal
+or_zone_fault platform (Ok tree) = Ok platform
+or_zone_fault platform (Err fault) = Err (refusal.Zones fault)
+
+-- the faults of the zones are told after those of the text
 abbrev pub or_platform_fault : Result Platform PlatformFault → Result Platform Refusal
-or_platform_fault (Ok platform) = Ok platform
+or_platform_fault (Ok platform) = or_zone_fault platform (zones_of platform)
 or_platform_fault (Err fault) = Err (refusal.Platform fault)
 
 abbrev pub or_deployment_fault : Result Deployed DeploymentFault → Result Deployed Refusal
@@ -36,6 +45,7 @@ deployment_given platform source =
 -- a failed read, told for its part
 abbrev pub IsReadFault : Refusal → Type 0
 IsReadFault (refusal.Platform fault) = ⊥
+IsReadFault (refusal.Zones fault) = ⊥
 IsReadFault (refusal.Deployment fault) = ⊥
 IsReadFault refusal.ReadPlatform = Unit {0}
 IsReadFault refusal.ReadDeployment = Unit {0}

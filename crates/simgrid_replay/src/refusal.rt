@@ -1,9 +1,10 @@
 //! Why a platform or a deployment isn't there, and the lines that tell it.
 ghost use Rattle.std.specs.Prelude.{◌≡◌, IfOk, codes, string_bytes};
-ghost use Rattle.simgrid_replay.specs.Faults.{fault_line as fault_line_spec, platform_words, platform_place, deployment_words, deployment_place};
+ghost use Rattle.simgrid_replay.specs.Faults.{fault_line as fault_line_spec, platform_words, platform_place, zone_words, zone_place, deployment_words, deployment_place};
 
 use sg_base::Memory;
 use sg_platform::{DeploymentFault, Place, PlatformFault};
+use sg_zones::ZoneFault;
 use std::alloc::Global;
 
 /// Why a platform or a deployment isn't there.
@@ -11,6 +12,8 @@ use std::alloc::Global;
 pub enum Refusal {
     /// The platform's text is none.
     Platform(PlatformFault),
+    /// The platform's zones are no tree, or its rows don't fit it.
+    Zones(ZoneFault),
     /// The deployment's text is none, or it doesn't fit the platform.
     Deployment(DeploymentFault),
     /// The platform could not be begun or read.
@@ -49,6 +52,34 @@ fn place_of_platform(fault: &PlatformFault) -> Option<Place>
         | PlatformFault::Duplicate(place)
         | PlatformFault::Unknown(place)
         | PlatformFault::Limit(place) => Some(*place),
+    }
+}
+
+fn words_of_zones(fault: &ZoneFault) -> &'static str
+    ensures { result.now ≡ zone_words fault.now }
+{
+    match fault {
+        ZoneFault::NoRoot(_) => "no root zone",
+        ZoneFault::TwoRoots(_) => "two root zones",
+        ZoneFault::ParentCycle(_) => "zone cycle",
+        ZoneFault::TooDeep(_) => "zones too deep",
+        ZoneFault::GatewayOutside(_) => "gateway outside",
+        ZoneFault::WrongRouting(_) => "wrong routing",
+        ZoneFault::Memory => "",
+    }
+}
+
+fn place_of_zones(fault: &ZoneFault) -> Option<Place>
+    ensures { result ≡ zone_place fault.now }
+{
+    match fault {
+        ZoneFault::Memory => None,
+        ZoneFault::NoRoot(place)
+        | ZoneFault::TwoRoots(place)
+        | ZoneFault::ParentCycle(place)
+        | ZoneFault::TooDeep(place)
+        | ZoneFault::GatewayOutside(place)
+        | ZoneFault::WrongRouting(place) => Some(*place),
     }
 }
 
@@ -116,6 +147,18 @@ pub fn platform_line(alloc: Global, fault: &PlatformFault) -> Result<String, Mem
         "platform",
         words_of_platform(fault),
         place_of_platform(fault),
+    )
+}
+
+/// The line that tells a fault of a platform's zones, with its newline.
+pub fn zone_line(alloc: Global, fault: &ZoneFault) -> Result<String, Memory>
+    ensures { IfOk result (λ line. string_bytes line ≡ fault_line_spec (codes "platform") (zone_words fault.now) (zone_place fault.now)) }
+{
+    fault_line(
+        alloc,
+        "platform",
+        words_of_zones(fault),
+        place_of_zones(fault),
     )
 }
 

@@ -3,7 +3,7 @@ ghost use Rattle.std.specs.Prelude.{◌≡◌, ◌≢◌, ◌<◌, [], false};
 ghost use Rattle.simgrid_replay.specs.Outcome.{refused, refusal_outcome, status_of, is_cut, Prints};
 ghost use Rattle.simgrid_replay.specs.Parts.{IsReadFault};
 
-use crate::refusal::{Refusal, deployment_line, platform_line};
+use crate::refusal::{Refusal, deployment_line, platform_line, zone_line};
 use sg_base::Status;
 use sg_edge::{Failed, Sinks, Stream, write_all};
 use sg_engine::Ended;
@@ -34,6 +34,10 @@ pub fn refuse<O: Sinks>(alloc: Global, refusal: Refusal, out: &mut O) -> Status
 {
     match refusal {
         Refusal::Platform(fault) => match platform_line(alloc, &fault) {
+            Ok(line) => say(line.as_str(), Status::Platform, out),
+            Err(_) => Status::Memory,
+        },
+        Refusal::Zones(fault) => match zone_line(alloc, &fault) {
             Ok(line) => say(line.as_str(), Status::Platform, out),
             Err(_) => Status::Memory,
         },

@@ -295,6 +295,8 @@ fn tells_the_first_fault(rt: HostRuntime) -> Result<(), Fail> {
     let twice = "zone = [{id = 'z', routing = 'Full'}]
 host = [{id = 'h1', zone = 'z', speed = '1Gf'}, {id = 'h1', zone = 'z', speed = '1Gf', core = 0}]
 ";
+    let cycle =
+        "zone = [{id = 'a', routing = 'Full'}, {id = 'b', parent = 'b', routing = 'Full'}]\n";
     let one = on_hosts(alloc, &["h1"])?;
     let elsewhere = on_hosts(alloc, &["h3"])?;
     let cases = [
@@ -306,6 +308,12 @@ host = [{id = 'h1', zone = 'z', speed = '1Gf'}, {id = 'h1', zone = 'z', speed = 
         ),
         ("host = [", one.as_str(), "platform: not TOML\n", 3),
         ("host = [", "actor = [", "platform: not TOML\n", 3),
+        (
+            cycle,
+            "actor = [",
+            "platform: zone cycle (table 1, row 2, key 2)\n",
+            3,
+        ),
         (FAST, "actor = [", "deployment: not TOML\n", 4),
         (
             FAST,

@@ -1,5 +1,5 @@
 -- One path more.
-use Rattle.std.proofs.Common.{◌≡◌, ◌++◌, ◌∷◌, [], arith, sym, ◌∙◌, ap}
+use Rattle.std.proofs.Common.{arith}
 use Rattle.std.proofs.lemmas.List.FromFn.{map-range_with_len_more}
 use Rattle.sg_zones.specs.Paths.{path}
 use Rattle.sg_zones.proofs.paths.paths_of.Goals as goal
