@@ -3,7 +3,7 @@ use Rattle.std.proofs.Common.{◌≡◌, ◌+◌, ◌-◌, ◌<◌, ◌≤◌, �
 use Rattle.std.proofs.lemmas.List.{get_or_append_left, get_or-append_right, map-append, reverse-append, reverse-reverse}
 use Rattle.std.specs.Prelude.{map, reverse, All}
 use Rattle.sg_base.specs.declared.ids.LinkId.{LinkId}
-use Rattle.sg_platform.specs.Ends.{back_of, ends_from, ends_of, link_end, link_ends, way_back}
+use Rattle.sg_platform.specs.Ends.{back_of, ends_from, ends_of, link_end, link_ends}
 use Rattle.sg_platform.specs.Platform.{Platform}
 use Rattle.sg_platform.specs.declared.ends.LinkEnd.{LinkEnd}
 use Rattle.sg_platform.specs.declared.rows.LinkRow.{LinkRow}

@@ -1,8 +1,7 @@
 -- A platform without zone faults has nested routes.
 use Rattle.std.proofs.Common.{◌≡◌, ◌≢◌, ◌+◌, ◌<◌, ◌≤◌, ℕ, zero, suc, Bool, true, false, cond, List, [], ◌∷◌, length, length-append, take, get_or, Option, None, Some, arith, refl, sym, ◌∙◌, ap, subst}
-use Rattle.std.specs.Prelude.{◌==◌, ◌&&◌, IfSome, map, not, slice_get, option_and_then, option_map}
+use Rattle.std.specs.Prelude.{◌==◌, ◌&&◌, IfSome, map, not, slice_get, option_and_then}
 use Rattle.std.specs.Option.{option_or}
-use Rattle.std.specs.List.{flat_map}
 use Rattle.std.proofs.lemmas.Bool.Decides.{nat_tests}
 use Rattle.std.proofs.lemmas.List.{length-map}
 use Rattle.std.proofs.lemmas.Option.{get_or_from_slice_get, slice_get_within}
@@ -11,15 +10,11 @@ use Rattle.sg_base.specs.declared.ids.Child.TheVariants.{Point, Zone}
 use Rattle.sg_base.specs.declared.ids.PointId.{PointId}
 use Rattle.sg_base.specs.declared.ids.ZoneId.{ZoneId}
 use Rattle.sg_platform.specs.Ends.{link_ends}
-use Rattle.sg_platform.specs.Platform.{IsPlatform, Platform, counts_of}
+use Rattle.sg_platform.specs.Platform.{IsPlatform, Platform}
 use Rattle.sg_platform.specs.declared.ends.LinkEnd.{LinkEnd}
-use Rattle.sg_platform.specs.declared.rows.HostRow.{HostRow}
-use Rattle.sg_platform.specs.declared.rows.RouteRow.{RouteRow}
-use Rattle.sg_platform.specs.declared.rows.RouterRow.{RouterRow}
 use Rattle.sg_platform.specs.declared.rows.Routing.{Routing}
 use Rattle.sg_platform.specs.declared.rows.Routing.TheVariants.{Full, Star}
 use Rattle.sg_platform.specs.declared.rows.SpokeRow.{SpokeRow}
-use Rattle.sg_platform.specs.declared.rows.ZoneRouteRow.{ZoneRouteRow}
 use Rattle.sg_platform.specs.declared.rows.ZoneRow.{ZoneRow}
 use Rattle.sg_route.specs.Equal.{child_eq, pair_eq}
 use Rattle.sg_route.specs.Local as local

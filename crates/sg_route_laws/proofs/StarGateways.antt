@@ -1,5 +1,5 @@
 -- The route between the gateways of two children of one Star zone.
-use Rattle.std.proofs.Common.{◌≡◌, ◌≢◌, ◌<◌, ℕ, zero, suc, Bool, true, false, cond, List, [], ◌∷◌, ◌++◌, length, take, drop, get_or, append_assoc, Option, None, Some, Ok, arith, refl, sym, ◌∙◌, ap, subst}
+use Rattle.std.proofs.Common.{◌≡◌, ◌≢◌, ℕ, zero, suc, Bool, true, false, cond, List, [], ◌∷◌, ◌++◌, length, take, drop, get_or, append_assoc, Option, None, Some, arith, refl, sym, ◌∙◌, ap, subst}
 use Rattle.std.proofs.lemmas.Bool.Decides.{nat_tests}
 use Rattle.std.proofs.lemmas.List.{append_cancel_left, append-nil, take-append-drop}
 use Rattle.std.specs.Option.{option_map_or}
@@ -9,7 +9,6 @@ use Rattle.sg_base.specs.declared.ids.Child.TheVariants.{Point, Zone}
 use Rattle.sg_base.specs.declared.ids.PointId.{PointId}
 use Rattle.sg_base.specs.declared.ids.ZoneId.{ZoneId}
 use Rattle.sg_platform.specs.Platform.{Platform}
-use Rattle.sg_platform.specs.declared.rows.SpokeRow.{SpokeRow}
 use Rattle.sg_platform.specs.declared.rows.ZoneRow.{ZoneRow}
 use Rattle.sg_route.specs.Equal.{child_eq}
 use Rattle.sg_route.specs.Leg.{next, parting}
@@ -17,7 +16,7 @@ use Rattle.sg_route.specs.Local.{spoke_at}
 use Rattle.sg_route.specs.Roads.{Roads, roads_of}
 use Rattle.sg_route.specs.Route.{Passage, by_passage, by_spokes, leg, passage, passage_on, way, whole}
 use Rattle.sg_route.specs.declared.leg.Leg.{Leg}
-use Rattle.sg_route_laws.specs.Laws.{IsPoint, StarJoinsGateways}
+use Rattle.sg_route_laws.specs.Laws.{StarJoinsGateways}
 use Rattle.sg_route_laws.proofs.Each.{each_found}
 use Rattle.sg_route_laws.proofs.Good.{GoodSpoke, IsGood, Stands, got, home_exists, path_of}
 use Rattle.sg_route_laws.proofs.Levels.{whole_apart}
@@ -27,7 +26,6 @@ use Rattle.sg_zones.proofs.GoodTree.{any_at, depth_here}
 use Rattle.sg_zones.proofs.TreeLemmas.{AboveIs, IsDepth, depth_once, path_front, path_last, path_length}
 use Rattle.sg_zones.specs.Faults.{zone_above}
 use Rattle.sg_zones.specs.Paths.{parent, path}
-use Rattle.sg_zones.specs.Tree as tree
 use Rattle.sg_zones.specs.Tree.{tree_of}
 
 -- ---- where two paths part behind what they share

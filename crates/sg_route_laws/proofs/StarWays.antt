@@ -1,32 +1,28 @@
 -- The route between two points of one Star zone.
-use Rattle.std.proofs.Common.{◌≡◌, ◌≢◌, ◌<◌, ℕ, zero, suc, Bool, true, false, cond, List, [], ◌∷◌, ◌++◌, length, get_or, Option, None, Some, Ok, Err, arith, refl, sym, ◌∙◌, ap, subst}
+use Rattle.std.proofs.Common.{◌≡◌, ℕ, suc, Bool, true, false, cond, List, [], ◌∷◌, ◌++◌, length, get_or, Some, Ok, arith, refl, sym, ◌∙◌, ap, subst}
 use Rattle.std.proofs.lemmas.Bool.Decides.{nat_tests}
 use Rattle.std.proofs.lemmas.List.{append-nil}
 use Rattle.std.specs.Prelude.{◌==◌}
 use Rattle.sg_base.specs.declared.ids.Child.{Child}
 use Rattle.sg_base.specs.declared.ids.Child.TheVariants.{Point, Zone}
-use Rattle.sg_base.specs.declared.ids.LinkId.{LinkId}
 use Rattle.sg_base.specs.declared.ids.PointId.{PointId}
 use Rattle.sg_base.specs.declared.ids.ZoneId.{ZoneId}
 use Rattle.sg_platform.specs.Platform.{Platform}
-use Rattle.sg_platform.specs.declared.rows.Routing.{Routing}
-use Rattle.sg_platform.specs.declared.rows.Routing.TheVariants.{Star}
 use Rattle.sg_platform.specs.declared.rows.SpokeRow.{SpokeRow}
 use Rattle.sg_route.specs.Equal.{child_eq}
 use Rattle.sg_route.specs.Leg.{parting}
 use Rattle.sg_route.specs.Local.{spoke_at}
 use Rattle.sg_route.specs.Roads.{Roads, roads_of}
-use Rattle.sg_route.specs.Route.{Passage, Way, by_passage, by_spokes, joined, leg, passage, passage_on, through_lowest, unless_there, way, whole}
+use Rattle.sg_route.specs.Route.{Passage, Way, by_passage, by_spokes, joined, leg, passage, passage_on, unless_there, way}
 use Rattle.sg_route.specs.declared.leg.Leg.{Leg}
 use Rattle.sg_route_laws.specs.Laws.{IsPoint, StarGoesUpAndDown}
 use Rattle.sg_route_laws.proofs.Each.{each_found}
 use Rattle.sg_route_laws.proofs.Good.{GoodSpoke, IsGood, child_eq_true, got, home_exists, path_of}
 use Rattle.sg_route_laws.proofs.Levels.{whole_apart}
-use Rattle.sg_route_laws.proofs.Nested.{home, path_to, routing}
+use Rattle.sg_route_laws.proofs.Nested.{home, path_to}
 use Rattle.sg_zones.proofs.GoodTree.{depth_here}
 use Rattle.sg_zones.proofs.TreeLemmas.{path_last, path_length}
 use Rattle.sg_zones.specs.Faults.{child_holds}
-use Rattle.sg_zones.specs.Paths.{path}
 use Rattle.sg_zones.specs.Tree as tree
 use Rattle.sg_zones.specs.Tree.{tree_of}
 

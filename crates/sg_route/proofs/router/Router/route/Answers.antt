@@ -1,6 +1,5 @@
 -- The route, its missing part, or too many links.
-use Rattle.std.proofs.Common.{◌≡◌, ℕ, false, [], List, Ok, Err, sym, ◌∙◌, ap, subst}
-use Rattle.sg_base.specs.declared.ids.LinkId.{LinkId}
+use Rattle.std.proofs.Common.{◌≡◌, ℕ, false, [], Ok, sym, ◌∙◌, ap, subst}
 use Rattle.sg_route.specs.declared.router.RouteFault.TheVariants.{NoRoute, TooLong}
 use Rattle.sg_route.specs.Route.{route_of, latency_of}
 use Rattle.std.specs.Prelude.{sum_by}

@@ -1,0 +1,69 @@
+//! Asks for routes between hosts of a platform: `bench_routes PLATFORM COUNT`. The hosts are drawn by a linear
+//! congruential sequence. It prints how many routes there were, and how many links they had in all.
+#![tactic(auto)]
+
+ghost use Rattle.std.specs.Prelude.{◌<◌};
+
+use anyhow::{Context, bail};
+use arrayvec::ArrayVec;
+use sg_base::{LinkId, PointId};
+use sg_platform::read_platform;
+use sg_route::Router;
+use sg_zones::Zones;
+use std::{env, fs};
+
+/// The number behind this one in the sequence.
+fn next(x: u64) -> u64 {
+    x.wrapping_mul(6_364_136_223_846_793_005)
+        .wrapping_add(1_442_695_040_888_963_407)
+}
+
+/// A host, by a number of the sequence.
+fn host(x: u64, hosts: u64) -> PointId
+    requires { 0 < hosts }
+{
+    PointId(((x >> 33) % hosts) as u32)
+}
+
+/// How many of so many routes there are, and how many links they have in all.
+fn ask(router: &Router, hosts: u64, count: u64) -> (u64, u64)
+    requires { 0 < hosts }
+{
+    let mut links: ArrayVec<LinkId, 64> = ArrayVec::new();
+    let mut routes: u64 = 0;
+    let mut all: u64 = 0;
+    let mut from: u64 = 1;
+    for _ in 0..count {
+        let to = next(from);
+        if router
+            .route(host(from, hosts), host(to, hosts), &mut links)
+            .is_ok()
+        {
+            routes = routes.wrapping_add(1);
+            all = all.wrapping_add(links.len() as u64);
+        }
+        from = next(to);
+    }
+    (routes, all)
+}
+
+fn main(rt: HostRuntime) -> anyhow::Result<()> {
+    let alloc = rt.alloc();
+    let mut words = env::args(&rt)?.skip(1);
+    let path = words.next().context("no platform")?;
+    let count = words.next().context("no count")?;
+    let count: u64 = count.as_str().parse()?;
+    let text = fs::read_to_string(&rt, path.as_str())?;
+    let platform = read_platform(alloc, text.as_bytes())?;
+    let zones = Zones::build(alloc, &platform)?;
+    let Ok(router) = Router::build(alloc, &platform, &zones) else {
+        bail!("out of memory");
+    };
+    let hosts = platform.hosts().len() as u64;
+    if hosts == 0 {
+        bail!("no host");
+    }
+    let (routes, all) = ask(&router, hosts, count);
+    println!(rt; "{routes} routes, {all} links")?;
+    Ok(())
+}
