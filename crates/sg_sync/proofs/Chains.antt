@@ -1,5 +1,5 @@
 -- How the links of queues change.
-use Rattle.std.proofs.Common.{◌≡◌, ◌≢◌, ◌<◌, ◌≤◌, ◌+◌, ◌-◌, ◌∙◌, sym, ap, refl, ℕ, zero, suc, Bool, true, false, List, [], ◌∷◌, ◌++◌, length, get_or, eqb, Option, None, Some, inl, inr, ◌⊎◌, arith}
+use Rattle.std.proofs.Common.{◌≡◌, ◌≢◌, ◌<◌, ◌≤◌, ◌+◌, ◌-◌, ◌∙◌, sym, ap, refl, ℕ, zero, suc, List, [], ◌∷◌, ◌++◌, length, get_or, eqb, Some, inl, inr, arith}
 use Rattle.std.specs.Prelude.{slice_set, map, replicate}
 use Rattle.std.proofs.lemmas.List.{length-set, length-map, map-set, get_or-map, get_or-set_same, get_or-set_other, get_or_default, get_or-replicate, length-replicate, set-get_or}
 use Rattle.sg_base.specs.declared.ids.ActorId.{ActorId}
@@ -8,7 +8,7 @@ use Rattle.std.proofs.lemmas.Bool.{cases_Bool}
 use Rattle.std.proofs.lemmas.Bool.Decides.{nat_tests}
 use Rattle.sg_sync.specs.Queues.{Waiting, IsActor, queue_at, behind, front, joined, shortened, times, waits}
 use Rattle.sg_sync.specs.Links.{actors_of, chain, queue_of, queues_of, EndsIn, IsLinked}
-use Rattle.sg_sync.proofs.Counts.{one, one_same, one_other, times_cons, waits_at, waits_apart, waits_joined, waits_shortened, queue_few, joined_once, joined_actors, nobody_waits}
+use Rattle.sg_sync.proofs.Counts.{one, one_same, times_cons, waits_at, waits_apart, waits_shortened, queue_few, joined_once, joined_actors, nobody_waits}
 
 pub chain_length : (next : List ActorId) (n : ℕ) (at : ActorId) → length (chain next n at) ≡ n
 chain_length next zero at = refl

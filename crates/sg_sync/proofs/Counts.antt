@@ -1,5 +1,5 @@
 -- How often an actor waits, as queues change.
-use Rattle.std.proofs.Common.{◌≡◌, ◌≢◌, ◌<◌, ◌≤◌, ◌+◌, ◌∙◌, sym, ap, refl, ℕ, zero, suc, Bool, true, false, cond, eqb, List, [], ◌∷◌, ◌++◌, length, get_or, Option, None, Some, inl, inr, ◌⊎◌, arith}
+use Rattle.std.proofs.Common.{◌≡◌, ◌≢◌, ◌<◌, ◌≤◌, ◌+◌, ap, refl, ℕ, zero, suc, true, false, cond, eqb, List, [], ◌∷◌, ◌++◌, length, Some, inl, inr, ◌⊎◌, arith}
 use Rattle.std.specs.Prelude.{slice_set, map, replicate}
 use Rattle.std.specs.List.{AllByRecursion, IsDistinct, list_any}
 use Rattle.std.proofs.lemmas.Bool.{cases_Bool, or_cases}
@@ -8,6 +8,7 @@ use Rattle.std.proofs.lemmas.List.{length-set, length-map, get_or-set_other}
 use Rattle.std.proofs.lemmas.List.Sums.{sum_by-cons, sum_by-append, sum_by-set, get_or-le-sum_by}
 use Rattle.std.proofs.lemmas.List.Folds.{sum_by-replicate}
 use Rattle.std.proofs.lemmas.Map.Steps.{length-le_from_distinct_below}
+use Rattle.std.specs.Option.{option_to_list}
 use Rattle.sg_base.specs.declared.ids.ActorId.{ActorId}
 use Rattle.sg_sync.specs.Queues.{IsActor, queue_at, front, behind, joined, shortened, times, waits}
 
@@ -126,3 +127,11 @@ joined_actors n a queues q below actor actors b some = elim (cases_Bool (eqb a.0
 pub front_some : (queue : List ActorId) (a : ActorId) → Some a ≡ front queue → 0 < length queue
 front_some [] a is = absurd (cc)
 front_some (b ∷ queue) a is = omega arith
+
+-- who leaves a queue waits there no more
+times_front : (a : ActorId) (queue : List ActorId) → times a (behind queue) + times a (option_to_list (front queue)) ≡ times a queue
+times_front a [] = refl
+times_front a (b ∷ queue) = omega (arith, times_cons a b queue, times_cons a b [])
+
+pub waits_left : (a : ActorId) (queues : List (List ActorId)) (q : ℕ) → q < length queues → waits a (shortened queues q) + times a (option_to_list (front (queue_at queues q))) ≡ waits a queues
+waits_left a queues q below = omega (arith, sum_by-set (times a) queues q (behind (queue_at queues q)) [] below, times_front a (queue_at queues q))

@@ -2,3 +2,4 @@ pub mod Queues
 pub mod Links
 pub mod Objects
 pub mod Kept
+pub mod Laws

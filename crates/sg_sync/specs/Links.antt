@@ -1,8 +1,8 @@
 -- How queues are kept: each actor that waits leads to the one behind it.
-use Rattle.std.specs.Prelude.{◌≡◌, ℕ, zero, suc, ◌-◌, ◌<◌, ◌≤◌, List, [], ◌∷◌, length, map, All, slice_index_or}
+use Rattle.std.specs.Prelude.{◌≡◌, ℕ, zero, suc, ◌-◌, ◌<◌, ◌≤◌, List, [], ◌∷◌, length, map, slice_index_or}
 use Rattle.sg_base.specs.declared.ids.ActorId.{ActorId}
 use Rattle.sg_sync.specs.declared.queues.Ends.{Ends}
-use Rattle.sg_sync.specs.Queues.{Waiting, IsActor, waits}
+use Rattle.sg_sync.specs.Queues.{IsActor, waits}
 
 -- so many that wait, from this one on
 abbrev pub chain : List ActorId → ℕ → ActorId → List ActorId

@@ -1,5 +1,5 @@
 -- First-in-first-out queues of actors.
-use Rattle.std.specs.Prelude.{ℕ, ◌+◌, ◌<◌, ◌≤◌, ◌==◌, Bool, cond, List, [], ◌∷◌, ◌++◌, Option, None, Some, slice_index_or, slice_set}
+use Rattle.std.specs.Prelude.{ℕ, ◌<◌, ◌≤◌, ◌==◌, List, [], ◌∷◌, ◌++◌, Option, None, Some, slice_index_or, slice_set}
 use Rattle.std.specs.List.{sum_by, count_by}
 use Rattle.sg_base.specs.declared.ids.ActorId.{ActorId}
 

@@ -10,9 +10,10 @@ use sg_base::{ActorId, Memory};
 use std::alloc::Global;
 use std::marker::Model;
 
-/// Mutexes, semaphores and the one barrier.
+/// Mutexes and semaphores, each by its place in declared order from 0 on, and the one barrier.
 ///
-/// Who waits goes on by a later call of another, which `others` tells. All queues are first in, first out.
+/// An actor that waits goes on by a later call of another: `others` tells who does. All queues are first in, first
+/// out. An actor that waits makes no call; so it waits in one queue at most, and no call takes memory.
 #[derive(Drop)]
 pub struct Sync {
     owners: Vec<Option<ActorId>>,
@@ -20,7 +21,7 @@ pub struct Sync {
     counts: Vec<u64>,
     acquiring: Queues,
     members: u32,
-    /// The one queue of those that have arrived at the barrier.
+    /// One queue: those that have arrived at the barrier.
     arrived: Queues,
     others: Vec<ActorId>,
 }
@@ -67,7 +68,7 @@ fn tell_all(others: &mut Vec<ActorId>, queues: &mut Queues)
 }
 
 impl Sync {
-    /// Free mutexes, the semaphores with their capacities, and a barrier of so many members at which nobody is.
+    /// Free mutexes, semaphores with these capacities, and a barrier of so many members.
     pub fn new(
         alloc: Global,
         actors: u32,
@@ -157,7 +158,7 @@ impl Sync {
         }
     }
 
-    /// A release: the first that waits goes on, or the count rises by one. The count must have room for that.
+    /// A release: the first that waits goes on, or the count rises by one.
     pub fn release(&mut self, semaphore: u32) -> Outcome
         requires semaphore { semaphore < length self.old.counts }
         requires room { count_of self.old semaphore + 1 < 2 ^ 64 }
@@ -190,7 +191,8 @@ impl Sync {
         }
     }
 
-    /// Who else goes on by the last call, in the order in which they go on: after those of them stands who called.
+    /// Who goes on by the last call beside the one that made it, in order. That one goes on before them at a mutex and
+    /// a semaphore, and after them at the barrier.
     pub fn others(&self) -> &[ActorId]
         ensures { result.now ≡ self.now.others }
     {

@@ -1,8 +1,6 @@
 use Rattle.std.proofs.Common.{◌≡◌, ◌<◌, ◌∙◌, ap, sym, refl, length, arith, []}
-use Rattle.std.proofs.lemmas.List.{set-get_or}
 use Rattle.sg_sync.specs.Queues.{Waiting, queue_at, front, shortened}
-use Rattle.sg_sync.specs.Links.{queues_of}
-use Rattle.sg_sync.proofs.Chains.{few_at, first_inside, queue_is, nobody_left, left_front, left_shortened, left_linked, place_inside, view_after, few_now, none_shortened}
+use Rattle.sg_sync.proofs.Chains.{first_inside, nobody_left, left_front, left_shortened, left_linked, place_inside, view_after, few_now, none_shortened}
 use Rattle.sg_sync.proofs.queues.Queues.leave.Goals as goal
 
 pub returns-then-ends-eq0-clause-first : goal.returns-then-ends-eq0-clause-first

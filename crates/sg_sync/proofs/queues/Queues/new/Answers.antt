@@ -1,9 +1,8 @@
-use Rattle.std.proofs.Common.{◌≡◌, ◌<◌, ◌+◌, ◌∙◌, ap, refl, length, arith}
-use Rattle.std.specs.Prelude.{replicate}
+use Rattle.std.proofs.Common.{◌≡◌, ◌+◌, ap, refl, length, arith}
 use Rattle.std.proofs.lemmas.List.{length-replicate}
 use Rattle.sg_base.specs.declared.ids.ActorId.{ActorId}
 use Rattle.sg_sync.specs.declared.queues.Ends.{Ends}
-use Rattle.sg_sync.specs.Links.{actors_of, queues_of}
+use Rattle.sg_sync.specs.Links.{actors_of}
 use Rattle.sg_sync.proofs.Chains.{all_empty, new_linked}
 use Rattle.sg_sync.proofs.queues.Queues.new.Goals as goal
 
