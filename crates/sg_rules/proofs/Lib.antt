@@ -4,3 +4,4 @@ pub mod NameLemmas
 pub mod Small
 pub mod TableLemmas
 pub mod Rising
+pub mod PlatformKinds

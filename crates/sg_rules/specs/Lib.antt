@@ -6,3 +6,4 @@ pub mod Names
 pub mod Rules
 pub mod Faults
 pub mod Rising
+pub mod PlatformKinds

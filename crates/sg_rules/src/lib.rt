@@ -12,7 +12,7 @@ mod tables;
 mod units;
 
 pub use faults::first_fault;
-pub use laws::faults_rise;
+pub use laws::{faults_rise, platform_kinds};
 pub use links::is_split;
 pub use names::{Names, deployment_names, platform_names};
 pub use pairs::is_symmetrical;

@@ -1,8 +1,11 @@
 //! The names that the rows of a tree give.
 ghost use Rattle.std.specs.Prelude.{◌≡◌, ◌+◌, ◌<◌, ◌^◌, ℕ, List, IfOk, map};
-ghost use Rattle.std.specs.HashMap.{get_by_text};
+ghost use Rattle.std.specs.HashMap.{get_by, get_by_text};
 ghost use Rattle.std.specs.Map.{lookup};
 ghost use Rattle.std.specs.Str.{bytes_eq};
+ghost use Rattle.sg_rules.specs.LinkNames.{declared_numbers, taken_numbers};
+ghost use Rattle.sg_rules.specs.Pairs.{pair_numbers};
+ghost use Rattle.sg_tree.specs.Names.{Pair, pair_eq};
 ghost use Rattle.sg_rules.specs.Names.{deployment_known, names_view, platform_known, point_numbers};
 ghost use Rattle.toml.specs.View.{view, table_view};
 
@@ -52,6 +55,40 @@ fn points_of(
     Ok(made)
 }
 
+/// The names that link rows take, and those by which lists name links.
+fn link_names(
+    alloc: Global,
+    rows: &[Value],
+) -> Result<(IndexMap<String, usize>, IndexMap<String, usize>), Memory>
+    ensures taken { IfOk result (λ made. (q : List ℕ) → get_by_text made.0 q ≡ lookup (bytes_eq q) (taken_numbers (map view rows.now))) }
+    ensures declared { IfOk result (λ made. (q : List ℕ) → get_by_text made.1 q ≡ lookup (bytes_eq q) (declared_numbers (map view rows.now))) }
+{
+    let taken = taken_links(alloc, rows)?;
+    let declared = declared_links(alloc, rows)?;
+    Ok((taken, declared))
+}
+
+/// The pairs that route rows and zone route rows give.
+fn route_pairs(
+    alloc: Global,
+    points: &IndexMap<String, usize>,
+    routes: &[Value],
+    zone_routes: &[Value],
+) -> Result<
+    (
+        IndexMap<(usize, usize), usize>,
+        IndexMap<(usize, usize), usize>,
+    ),
+    Memory,
+>
+    ensures pairs { IfOk result (λ made. (q : Pair) → get_by (pair_eq q) made.0 ≡ lookup (pair_eq q) (pair_numbers (λ q. get_by_text points.now q) (map view routes.now))) }
+    ensures zone_pairs { IfOk result (λ made. (q : Pair) → get_by (pair_eq q) made.1 ≡ lookup (pair_eq q) (pair_numbers (λ q. get_by_text points.now q) (map view zone_routes.now))) }
+{
+    let pairs = pairs_in(alloc, points, routes)?;
+    let zone_pairs = pairs_in(alloc, points, zone_routes)?;
+    Ok((pairs, zone_pairs))
+}
+
 /// The names of a platform text.
 pub fn platform_names(alloc: Global, tree: &Table) -> Result<Names, Memory>
     ensures known { IfOk result (λ names. names_view names ≡ platform_known (table_view tree.now)) }
@@ -59,21 +96,20 @@ pub fn platform_names(alloc: Global, tree: &Table) -> Result<Names, Memory>
 {
     let zones = rows_at(tree, "zone");
     let hosts = rows_at(tree, "host");
-    let declared = rows_at(tree, "link");
+    let routes = rows_at(tree, "route");
+    let zone_routes = rows_at(tree, "zone_route");
     let points = points_of(alloc, zones, hosts, rows_at(tree, "router"))?;
-    let taken = taken_links(alloc, declared)?;
-    let links = declared_links(alloc, declared)?;
-    let pairs = pairs_in(alloc, &points, rows_at(tree, "route"))?;
-    let zone_pairs = pairs_in(alloc, &points, rows_at(tree, "zone_route"))?;
+    let links = link_names(alloc, rows_at(tree, "link"))?;
+    let pairs = route_pairs(alloc, &points, routes, zone_routes)?;
     let children = names_at(alloc, "child", rows_at(tree, "spoke"))?;
     Ok(Names {
         zones: zones.len(),
         hosts: hosts.len(),
         points,
-        taken,
-        links,
-        pairs,
-        zone_pairs,
+        taken: links.0,
+        links: links.1,
+        pairs: pairs.0,
+        zone_pairs: pairs.1,
         children,
         actors: IndexMap::new(alloc),
         mutexes: IndexMap::new(alloc),
