@@ -21,3 +21,6 @@ mod turns;
 pub use ended::Ended;
 pub use running::run;
 pub use setup::Setup;
+
+#[cfg(test)]
+mod tests;
