@@ -1,11 +1,16 @@
--- The limits of amounts and times.
-use Rattle.std.specs.Prelude.{ℕ, ◌≤◌}
+-- The limits of amounts and times, and which numbers stand for something that exists.
+use Rattle.std.specs.Prelude.{ℕ, ◌<◌, ◌≤◌}
+use Rattle.sg_base.specs.declared.ids.ActorId.{ActorId}
+use Rattle.sg_base.specs.declared.ids.BoxId.{BoxId}
+use Rattle.sg_base.specs.declared.ids.BoxId.TheVariants as box
 use Rattle.sg_base.specs.declared.call.Action.{Action}
 use Rattle.sg_base.specs.declared.call.Action.TheVariants as action
 use Rattle.sg_base.specs.declared.call.Answer.{Answer}
 use Rattle.sg_base.specs.declared.call.Answer.TheVariants as answer
 use Rattle.sg_base.specs.declared.call.Call.{Call}
 use Rattle.sg_base.specs.declared.call.Call.TheVariants as call
+use Rattle.sg_base.specs.declared.call.Msg.{Msg}
+use Rattle.sg_base.specs.declared.call.Msg.TheVariants as msg
 
 -- flops and bytes
 abbrev pub IsAmount : ℕ → Type 0
@@ -15,20 +20,72 @@ IsAmount n = n ≤ 1000000000000000
 abbrev pub IsTime : ℕ → Type 0
 IsTime n = n ≤ 1000000000000000000
 
--- the amounts and times of an action keep to their limits
-abbrev pub IsAction : Action → Type 0
-IsAction (action.Compute flops) = IsAmount flops
-IsAction (action.Sleep ns) = IsTime ns
+-- how many actors, mutexes and semaphores there are
+pub record Extent : Type 0 where
+  pub actors : ℕ
+  pub mutexes : ℕ
+  pub semaphores : ℕ
 
-abbrev pub IsAnswer : Answer → Type 0
-IsAnswer answer.Start = Unit {0}
-IsAnswer (answer.Act a) = IsAction a
-IsAnswer answer.NoMore = Unit {0}
-IsAnswer answer.Done = Unit {0}
-IsAnswer answer.Refused = Unit {0}
+-- actors are numbered from 1 on
+abbrev pub IsActorNumber : Extent → ℕ → Type 0
+IsActorNumber extent number = (0 < number) × (number ≤ extent.actors)
 
-abbrev pub IsCall : Call → Type 0
-IsCall call.Ask = Unit {0}
-IsCall (call.Compute flops) = IsAmount flops
-IsCall (call.Sleep ns) = IsTime ns
-IsCall call.Exit = Unit {0}
+abbrev pub IsActorIn : Extent → ActorId → Type 0
+IsActorIn extent actor = IsActorNumber extent actor.0
+
+-- mutexes and semaphores are numbered from 0 on
+abbrev pub IsMutexIn : Extent → ℕ → Type 0
+IsMutexIn extent mutex = mutex < extent.mutexes
+
+abbrev pub IsSemaphoreIn : Extent → ℕ → Type 0
+IsSemaphoreIn extent semaphore = semaphore < extent.semaphores
+
+abbrev pub IsBoxIn : Extent → BoxId → Type 0
+IsBoxIn extent (box.Pair from to) = IsActorIn extent from × IsActorIn extent to
+IsBoxIn extent (box.Named actor) = IsActorIn extent actor
+
+abbrev pub IsMsg : Msg → Type 0
+IsMsg msg.Empty = Unit {0}
+IsMsg (msg.Task flops) = IsAmount flops
+IsMsg msg.Stop = Unit {0}
+
+-- the amounts and times of an action keep to their limits, and what it names exists
+abbrev pub IsAction : Extent → Action → Type 0
+IsAction extent (action.Compute flops) = IsAmount flops
+IsAction extent (action.Sleep ns) = IsTime ns
+IsAction extent (action.Send to bytes) = IsActorIn extent to × IsAmount bytes
+IsAction extent (action.Recv from) = IsActorIn extent from
+IsAction extent (action.ISend to bytes) = IsActorIn extent to × IsAmount bytes
+IsAction extent (action.IRecv from) = IsActorIn extent from
+IsAction extent action.Wait = Unit {0}
+IsAction extent (action.Lock mutex) = IsMutexIn extent mutex
+IsAction extent (action.Unlock mutex) = IsMutexIn extent mutex
+IsAction extent (action.Acquire semaphore) = IsSemaphoreIn extent semaphore
+IsAction extent (action.Release semaphore) = IsSemaphoreIn extent semaphore
+IsAction extent action.Barrier = Unit {0}
+IsAction extent action.Yield = Unit {0}
+
+abbrev pub IsAnswer : Extent → Answer → Type 0
+IsAnswer extent answer.Start = Unit {0}
+IsAnswer extent (answer.Act what) = IsAction extent what
+IsAnswer extent answer.NoMore = Unit {0}
+IsAnswer extent answer.Done = Unit {0}
+IsAnswer extent (answer.Got message) = IsMsg message
+IsAnswer extent answer.Refused = Unit {0}
+
+abbrev pub IsCall : Extent → Call → Type 0
+IsCall extent call.Ask = Unit {0}
+IsCall extent (call.Compute flops) = IsAmount flops
+IsCall extent (call.Sleep ns) = IsTime ns
+IsCall extent (call.Send mailbox bytes message) = IsBoxIn extent mailbox × IsAmount bytes × IsMsg message
+IsCall extent (call.Recv mailbox) = IsBoxIn extent mailbox
+IsCall extent (call.ISend mailbox bytes message) = IsBoxIn extent mailbox × IsAmount bytes × IsMsg message
+IsCall extent (call.IRecv mailbox) = IsBoxIn extent mailbox
+IsCall extent call.Wait = Unit {0}
+IsCall extent (call.Lock mutex) = IsMutexIn extent mutex
+IsCall extent (call.Unlock mutex) = IsMutexIn extent mutex
+IsCall extent (call.Acquire semaphore) = IsSemaphoreIn extent semaphore
+IsCall extent (call.Release semaphore) = IsSemaphoreIn extent semaphore
+IsCall extent call.Barrier = Unit {0}
+IsCall extent call.Yield = Unit {0}
+IsCall extent call.Exit = Unit {0}

@@ -1,9 +1,12 @@
 -- What an actor has in mind: a kind, and a list of numbers.
-use Rattle.std.specs.Prelude.{ℕ, List, [], ◌∷◌}
+use Rattle.std.specs.Prelude.{◌≡◌, ℕ, ◌+◌, ◌-◌, ◌<◌, ◌≤◌, List, [], ◌∷◌, length, slice_index}
+use Rattle.sg_base.specs.Limits.{Extent, IsActorNumber, IsAmount}
 
--- what an actor is: it replays its script lines, or it has ended
+-- what an actor is: it replays its script lines; it works for a master, or is one; or it has ended
 pub data Kind : Type 0 where
   replay : Kind
+  worker : Kind
+  master : Kind
   ended : Kind
 
 pub record Mind : Type 0 where
@@ -16,3 +19,28 @@ mind kind numbers = record { kind = kind; numbers = numbers }
 -- the first mind of an actor that replays its script lines: its own number
 abbrev pub replay_mind : ℕ → Mind
 replay_mind me = mind replay (me ∷ [])
+
+-- that of a worker likewise
+abbrev pub worker_mind : ℕ → Mind
+worker_mind me = mind worker (me ∷ [])
+
+-- That of a master: how many tasks it hands out, the flops and the bytes of each, how many messages it has sent,
+-- and its workers. Behind the tasks each worker is told once that there are no more.
+abbrev pub master_mind : ℕ → ℕ → ℕ → List ℕ → Mind
+master_mind tasks flops bytes workers = mind master (tasks ∷ flops ∷ bytes ∷ 0 ∷ workers)
+
+-- each number from this place on is an actor's
+abbrev pub ActorsFrom : Extent → ℕ → List ℕ → Type 0
+ActorsFrom extent at numbers = (k : ℕ) → at ≤ k → k < length numbers → IsActorNumber extent (slice_index numbers k)
+
+-- the numbers that a mind of this kind has
+abbrev pub IsShaped : Extent → Kind → List ℕ → Type 0
+IsShaped extent replay numbers = (length numbers ≡ 1) × ActorsFrom extent 0 numbers
+IsShaped extent worker numbers = (length numbers ≡ 1) × ActorsFrom extent 0 numbers
+IsShaped extent master numbers =
+    (4 < length numbers) × (slice_index numbers 3 ≤ slice_index numbers 0 + (length numbers - 4))
+    × IsAmount (slice_index numbers 1) × IsAmount (slice_index numbers 2) × ActorsFrom extent 4 numbers
+IsShaped extent ended numbers = Unit {0}
+
+abbrev pub IsMind : Extent → Mind → Type 0
+IsMind extent m = IsShaped extent m.kind m.numbers

@@ -12,6 +12,7 @@ status_code status.Script = 5
 status_code status.Deadlock = 6
 status_code status.Starved = 7
 status_code status.Budget = 8
+status_code status.Route = 9
 status_code status.ReadFault = 10
 status_code status.WriteFault = 11
 status_code status.Memory = 12

@@ -1,12 +1,16 @@
 -- The turn of an actor: from its mind and the answer that it has, its new mind and its call.
-use Rattle.std.specs.Prelude.{ℕ, List}
+use Rattle.std.specs.Prelude.{ℕ, ◌+◌, ◌-◌, ◌%◌, nat_lt, if◌then◌else◌, List, length, slice_index, slice_set}
+use Rattle.sg_base.specs.declared.ids.ActorId.{ActorId}
+use Rattle.sg_base.specs.declared.ids.BoxId.TheVariants as box
 use Rattle.sg_base.specs.declared.call.Action.{Action}
 use Rattle.sg_base.specs.declared.call.Action.TheVariants as action
 use Rattle.sg_base.specs.declared.call.Answer.{Answer}
 use Rattle.sg_base.specs.declared.call.Answer.TheVariants as answer
+use Rattle.sg_base.specs.declared.call.Msg.{Msg}
+use Rattle.sg_base.specs.declared.call.Msg.TheVariants as msg
 use Rattle.sg_base.specs.declared.call.Call.{Call}
 use Rattle.sg_base.specs.declared.call.Call.TheVariants as call
-use Rattle.sg_base.specs.Mind.{Kind, Mind, mind, replay, ended}
+use Rattle.sg_base.specs.Mind.{Kind, Mind, mind, replay, worker, master, ended}
 
 pub record Turn : Type 0 where
   pub mind : Mind
@@ -19,22 +23,72 @@ turned kind numbers call = record { mind = mind kind numbers; call = call }
 abbrev pub leaves : List ℕ → Turn
 leaves numbers = turned ended numbers call.Exit
 
--- the call by which an actor does an action
-abbrev pub call_of : Action → Call
-call_of (action.Compute flops) = call.Compute flops
-call_of (action.Sleep ns) = call.Sleep ns
+abbrev pub actor_of : ℕ → ActorId
+actor_of number = record { 0 = number }
+
+-- the call by which an actor does an action: what it sends to another, and receives from it, has a mailbox of its own
+abbrev pub call_of : ActorId → Action → Call
+call_of me (action.Compute flops) = call.Compute flops
+call_of me (action.Sleep ns) = call.Sleep ns
+call_of me (action.Send to bytes) = call.Send (box.Pair me to) bytes msg.Empty
+call_of me (action.Recv from) = call.Recv (box.Pair from me)
+call_of me (action.ISend to bytes) = call.ISend (box.Pair me to) bytes msg.Empty
+call_of me (action.IRecv from) = call.IRecv (box.Pair from me)
+call_of me action.Wait = call.Wait
+call_of me (action.Lock mutex) = call.Lock mutex
+call_of me (action.Unlock mutex) = call.Unlock mutex
+call_of me (action.Acquire semaphore) = call.Acquire semaphore
+call_of me (action.Release semaphore) = call.Release semaphore
+call_of me action.Barrier = call.Barrier
+call_of me action.Yield = call.Yield
 
 -- an actor that replays does the line that it was given, ends when there is none, and else asks for the next
 abbrev pub replay_turn : List ℕ → Answer → Turn
-replay_turn numbers (answer.Act a) = turned replay numbers (call_of a)
+replay_turn numbers (answer.Act what) = turned replay numbers (call_of (actor_of (slice_index numbers 0)) what)
 replay_turn numbers answer.NoMore = leaves numbers
 replay_turn numbers answer.Start = turned replay numbers call.Ask
 replay_turn numbers answer.Done = turned replay numbers call.Ask
+replay_turn numbers (answer.Got message) = turned replay numbers call.Ask
 replay_turn numbers answer.Refused = turned replay numbers call.Ask
+
+-- a worker receives from the mailbox under its name
+abbrev pub receives : List ℕ → Turn
+receives numbers = turned worker numbers (call.Recv (box.Named (actor_of (slice_index numbers 0))))
+
+abbrev pub worker_got : List ℕ → Msg → Turn
+worker_got numbers (msg.Task flops) = turned worker numbers (call.Compute flops)
+worker_got numbers msg.Stop = leaves numbers
+worker_got numbers msg.Empty = receives numbers
+
+-- it does the task that it got, ends when it is told to, and else receives
+abbrev pub worker_turn : List ℕ → Answer → Turn
+worker_turn numbers (answer.Got message) = worker_got numbers message
+worker_turn numbers (answer.Act what) = receives numbers
+worker_turn numbers answer.NoMore = receives numbers
+worker_turn numbers answer.Start = receives numbers
+worker_turn numbers answer.Done = receives numbers
+worker_turn numbers answer.Refused = receives numbers
+
+-- what a master sends to its worker of this place
+abbrev pub sends : List ℕ → ℕ → ℕ → Msg → Turn
+sends numbers place bytes message =
+    turned master (slice_set numbers 3 (slice_index numbers 3 + 1)) (call.Send (box.Named (actor_of (slice_index numbers (4 + place)))) bytes message)
+
+-- a master hands its tasks to its workers in turn, then tells each of them to stop, and ends
+abbrev pub master_turn : List ℕ → Turn
+master_turn numbers =
+    let tasks = slice_index numbers 0 in
+    let next = slice_index numbers 3 in
+    let workers = length numbers - 4 in
+    if nat_lt next tasks then sends numbers (next % workers) (slice_index numbers 2) (msg.Task (slice_index numbers 1))
+    else if nat_lt next (tasks + workers) then sends numbers (next - tasks) 0 msg.Stop
+    else leaves numbers
 
 -- an actor that has ended gives Exit for every answer
 abbrev pub turn_of : Kind → List ℕ → Answer → Turn
 turn_of replay numbers answer = replay_turn numbers answer
+turn_of worker numbers answer = worker_turn numbers answer
+turn_of master numbers answer = master_turn numbers
 turn_of ended numbers answer = leaves numbers
 
 abbrev pub turn : Mind → Answer → Turn

@@ -1,5 +1,7 @@
 //! What actors ask for, and what they are answered.
 
+use crate::ids::{ActorId, BoxId};
+
 /// What an actor asks of the simulator. An actor makes one call a turn.
 #[derive(Clone, Copy, Debug, PartialEq, Eq)]
 pub enum Call {
@@ -9,6 +11,28 @@ pub enum Call {
     Compute(u64),
     /// To sleep for so many nanoseconds.
     Sleep(u64),
+    /// To send so many bytes and a message into a mailbox, and go on when they have arrived.
+    Send(BoxId, u64, Msg),
+    /// To receive from a mailbox, and go on when the bytes have arrived.
+    Recv(BoxId),
+    /// To send without waiting: the communication becomes its newest request.
+    ISend(BoxId, u64, Msg),
+    /// To receive without waiting: the communication becomes its newest request.
+    IRecv(BoxId),
+    /// To wait until the communication of its oldest request is done.
+    Wait,
+    /// To own a mutex, and go on when it does. Mutexes are numbered from 0 on in declared order.
+    Lock(u32),
+    /// To give a mutex up.
+    Unlock(u32),
+    /// To take one from the count of a semaphore, and go on when it did. They are numbered from 0 on.
+    Acquire(u32),
+    /// To let the first that waits for a semaphore go on, or to add one to its count.
+    Release(u32),
+    /// To wait at the barrier until all members have arrived.
+    Barrier,
+    /// To let the others take their turns.
+    Yield,
     /// To end.
     Exit,
 }
@@ -29,6 +53,17 @@ pub enum Msg {
 pub enum Action {
     Compute(u64),
     Sleep(u64),
+    Send(ActorId, u64),
+    Recv(ActorId),
+    ISend(ActorId, u64),
+    IRecv(ActorId),
+    Wait,
+    Lock(u32),
+    Unlock(u32),
+    Acquire(u32),
+    Release(u32),
+    Barrier,
+    Yield,
 }
 
 /// What an actor is answered.
@@ -42,6 +77,8 @@ pub enum Answer {
     NoMore,
     /// What it asked for is done.
     Done,
+    /// What it received brought this message.
+    Got(Msg),
     /// What it asked for isn't possible.
     Refused,
 }

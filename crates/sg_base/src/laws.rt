@@ -1,10 +1,12 @@
 //! Laws of turns.
 ghost use Rattle.sg_base.specs.declared.call.Answer.{Answer};
-ghost use Rattle.sg_base.specs.Limits.{IsAnswer, IsCall};
-ghost use Rattle.sg_base.specs.Mind.{Mind};
+ghost use Rattle.sg_base.specs.Limits.{Extent, IsAnswer, IsCall};
+ghost use Rattle.sg_base.specs.Mind.{Mind, IsMind};
 ghost use Rattle.sg_base.specs.Turn.{turn};
 
-/// Where the amounts of an answer keep to their limits, so do those of the call that follows it.
+/// A mind keeps its shape. Where the amounts of an answer keep to their limits and what it names exists, the same
+/// holds of the call that follows it.
 pub fn turns_keep_limits()
-    ensures { (mind : Mind) (answer : Answer) → IsAnswer answer → IsCall (turn mind answer).call }
+    ensures mind { (extent : Extent) (mind : Mind) (answer : Answer) → IsMind extent mind → IsMind extent (turn mind answer).mind }
+    ensures call { (extent : Extent) (mind : Mind) (answer : Answer) → IsMind extent mind → IsAnswer extent answer → IsCall extent (turn mind answer).call }
 {}

@@ -2,6 +2,7 @@
 //! program ends, texts, lists, and the counter of steps.
 #![tactic(auto)]
 
+mod actors;
 mod call;
 mod ids;
 mod laws;
@@ -12,6 +13,7 @@ mod steps;
 mod text;
 mod trace_record;
 
+pub use actors::Ids;
 pub use call::{Action, Answer, Call, Msg};
 pub use ids::{ActorId, BoxId, Child, LinkId, PointId, Serial, ZoneId};
 pub use laws::turns_keep_limits;

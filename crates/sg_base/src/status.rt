@@ -19,6 +19,8 @@ pub enum Status {
     Starved,
     /// An event was next, and the budget of events was used up.
     Budget,
+    /// There was no route between two hosts, or it was too long.
+    Route,
     /// A part could not be read.
     ReadFault,
     /// A write failed.
@@ -44,6 +46,7 @@ impl Status {
             Status::Deadlock => 6,
             Status::Starved => 7,
             Status::Budget => 8,
+            Status::Route => 9,
             Status::ReadFault => 10,
             Status::WriteFault => 11,
             Status::Memory => 12,

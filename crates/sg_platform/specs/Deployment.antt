@@ -2,6 +2,7 @@
 use Rattle.std.specs.Prelude.{ℕ, ◌+◌, ◌<◌, ◌≤◌, List, Option, length, option_map}
 use Rattle.std.specs.List.{All}
 use Rattle.sg_base.specs.declared.ids.ActorId.{ActorId}
+use Rattle.sg_base.specs.Limits.{Extent}
 use Rattle.sg_platform.specs.Index.{mutex_number, replay_number, semaphore_number}
 use Rattle.sg_platform.specs.Platform.{Platform}
 use Rattle.sg_platform.specs.declared.rows.ActorRow.{ActorRow}
@@ -12,6 +13,10 @@ pub record Deployed : Type 0 where
   pub actors : List ActorRow
   pub mutexes : List MutexRow
   pub semaphores : List SemaphoreRow
+
+-- how many actors, mutexes and semaphores there are
+abbrev pub extent_of : Deployed → Extent
+extent_of deployed = record { actors = length deployed.actors; mutexes = length deployed.mutexes; semaphores = length deployed.semaphores }
 
 abbrev pub IsActorRow : ActorRow → Type 0
 IsActorRow actor = length actor.name ≤ 64
