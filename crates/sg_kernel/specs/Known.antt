@@ -1,12 +1,9 @@
 -- What contracts see of a `Kernel`, and for which worlds it stands.
-use Rattle.std.specs.Prelude.{◌≡◌, ℕ, List, [], ◌++◌, map, length, replicate}
-use Rattle.sg_base.specs.declared.ids.PointId.{PointId}
-use Rattle.sg_base.specs.declared.call.Answer.TheVariants as answer
+use Rattle.std.specs.Prelude.{◌≡◌, ℕ, List, [], ◌++◌}
 use Rattle.sg_base.specs.declared.trace_record.Record.{Record}
-use Rattle.sg_activity.specs.declared.kinds.HostCap.{HostCap}
-use Rattle.sg_kernel.specs.declared.states.State.TheVariants.{Ready}
 use Rattle.sg_kernel.specs.World.{Setup, Core, World}
-use Rattle.sg_kernel.specs.Calls.{Step}
+use Rattle.sg_kernel.specs.Start.{first_core}
+use Rattle.sg_kernel.specs.Steps.{Step}
 
 -- the setup, the core, the records that aren't cleared, and room for so many calls
 pub record Known : Type 0 where
@@ -18,15 +15,8 @@ pub record Known : Type 0 where
 abbrev pub after : Step → Known → Known
 after step known = record known { core = step.core; records = known.records ++ step.made }
 
--- the first world: all actors are ready with the answer Start
-abbrev pub first_core : ℕ → Core
-first_core actors = record { date = 0; actors = replicate actors (Ready answer.Start); tasks = []; whose = []; events = 0 }
-
-abbrev pub point_number : PointId → ℕ
-point_number point = point.0
-
-abbrev pub first_known : List HostCap → List PointId → ℕ → Known
-first_known hosts homes budget = record { setup = record { capacities = record { hosts = hosts; links = [] }; homes = map point_number homes; budget = budget }; core = first_core (length homes); records = []; room = 0 }
+abbrev pub first_known : Setup → Known
+first_known setup = record { setup = setup; core = first_core setup; records = []; room = 0 }
 
 -- The kernel stands for each world with this core: it keeps no minds, no numbers of Asks and no records once they are cleared.
 abbrev pub Stands : Known → World → Type 0
@@ -38,7 +28,7 @@ led step world = record world { core = step.core }
 
 -- A new kernel stands for the first world.
 abbrev pub StandsAtFirst : Type 0
-StandsAtFirst = (hosts : List HostCap) (homes : List PointId) (budget : ℕ) (world : World) → world.core ≡ first_core (length homes) → Stands (first_known hosts homes budget) world
+StandsAtFirst = (setup : Setup) (world : World) → world.core ≡ first_core setup → Stands (first_known setup) world
 
 -- Each step leads from every world for which the kernel stood to the step's world, for which it then stands.
 abbrev pub StepsLead : Type 0

@@ -1,7 +1,12 @@
 pub mod World
+pub mod Steps
+pub mod Meetings
+pub mod Locks
 pub mod Calls
 pub mod Passes
+pub mod Start
 pub mod Known
+pub mod Roads
 pub mod Records
 pub mod Owners
 pub mod Sound

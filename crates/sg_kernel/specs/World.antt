@@ -2,25 +2,38 @@
 use Rattle.std.specs.Prelude.{ℕ, ◌-◌, ◌≤◌, ◌<◌, Option, None, Some, List, length, slice_index, slice_index_or, slice_set, Bool, true, false, IsTrue}
 use Rattle.sg_base.specs.declared.call.Answer.{Answer}
 use Rattle.sg_base.specs.declared.call.Call.{Call}
+use Rattle.sg_base.specs.Limits.{Extent}
 use Rattle.sg_base.specs.Mind.{Mind}
 use Rattle.sg_activity.specs.Links.{Capacities}
 use Rattle.sg_activity.specs.Task.{Task}
+use Rattle.sg_requests.specs.declared.request.Await.{Await}
+use Rattle.sg_sync.specs.Objects.{Objects}
 use Rattle.sg_kernel.specs.declared.states.State.{State}
 use Rattle.sg_kernel.specs.declared.states.State.TheVariants.{Ready, Blocked, Ended}
 use Rattle.sg_kernel.specs.declared.states.Whose.{Whose}
+use Rattle.sg_kernel.specs.declared.states.Whose.TheVariants.{Gone}
 
--- what stays: the hosts and links, the host of each actor, and how many events there may be
+-- what stays: the hosts and links, the host of each actor, how many mutexes there are, the capacity of each semaphore, how many members the barrier has, and how many events there may be
 pub record Setup : Type 0 where
   pub capacities : Capacities
   pub homes : List ℕ
+  pub mutexes : ℕ
+  pub semaphores : List ℕ
+  pub members : ℕ
   pub budget : ℕ
 
--- The part of the world that calls and passes change: the date; what each actor does, by id from 1 on; of each activity ever made, by serial from 1 on, the phase that is under way, if any, and whose it is; the count of events.
+-- what calls may name
+abbrev pub extent : Setup → Extent
+extent setup = record { actors = length setup.homes; mutexes = setup.mutexes; semaphores = length setup.semaphores }
+
+-- The part of the world that calls and passes change: the date; what each actor does, by id from 1 on; of each activity ever made, by serial from 1 on, the phase that is under way, if any, and whose it is; the requests of each actor, oldest first; the mutexes, the semaphores and the barrier; the count of events.
 pub record Core : Type 0 where
   pub date : ℕ
   pub actors : List State
   pub tasks : List (Option Task)
   pub whose : List Whose
+  pub requests : List (List Await)
+  pub objects : Objects
   pub events : ℕ
 
 -- The world: the core, and of each actor its mind and how many Asks it has made. The records are what its steps make, one after another.
@@ -37,6 +50,10 @@ state_of core actor = slice_index_or core.actors (actor - 1) Ended
 
 abbrev pub with_state : ℕ → State → Core → Core
 with_state actor state core = record core { actors = slice_set core.actors (actor - 1) state }
+
+-- whose the activity of a serial is
+abbrev pub whose_at : Core → ℕ → Whose
+whose_at core serial = slice_index_or core.whose (serial - 1) Gone
 
 abbrev pub is_ready : State → Bool
 is_ready (Ready answer) = true

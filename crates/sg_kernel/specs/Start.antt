@@ -1,0 +1,83 @@
+-- Where a simulation begins: from a platform and a deployment.
+use Rattle.std.specs.Prelude.{ℕ, Bool, true, false, None, List, [], ◌∷◌, ◌++◌, length, map, replicate}
+use Rattle.std.specs.List.{count_by, flat_map}
+use Rattle.sg_base.specs.declared.call.Answer.TheVariants as answer
+use Rattle.sg_activity.specs.declared.kinds.HostCap.{HostCap}
+use Rattle.sg_activity.specs.declared.kinds.LinkCap.{LinkCap}
+use Rattle.sg_platform.specs.declared.rows.ActorRow.{ActorRow}
+use Rattle.sg_platform.specs.declared.rows.Function.{Function}
+use Rattle.sg_platform.specs.declared.rows.Function.TheVariants.{Replay}
+use Rattle.sg_platform.specs.declared.rows.HostRow.{HostRow}
+use Rattle.sg_platform.specs.declared.rows.LinkRow.{LinkRow}
+use Rattle.sg_platform.specs.declared.rows.Policy.{Policy}
+use Rattle.sg_platform.specs.declared.rows.Policy.TheVariants.{Shared, Fatpipe, SplitDuplex}
+use Rattle.sg_platform.specs.declared.rows.SemaphoreRow.{SemaphoreRow}
+use Rattle.sg_platform.specs.Deployment.{Deployed}
+use Rattle.sg_platform.specs.Platform.{Platform}
+use Rattle.sg_sync.specs.Objects.{Objects}
+use Rattle.sg_kernel.specs.declared.states.State.TheVariants.{Ready}
+use Rattle.sg_kernel.specs.World.{Setup, Core}
+
+abbrev pub host_cap : HostRow → HostCap
+host_cap host = record { speed = host.speed; cores = host.cores }
+
+abbrev pub link_cap : ℕ → Bool → LinkCap
+link_cap bandwidth fatpipe = record { bandwidth = bandwidth; fatpipe = fatpipe }
+
+-- the links of one row: SPLITDUPLEX gives two, up and then down
+abbrev pub caps_of : Policy → ℕ → List LinkCap
+caps_of Shared bandwidth = link_cap bandwidth false ∷ []
+caps_of Fatpipe bandwidth = link_cap bandwidth true ∷ []
+caps_of SplitDuplex bandwidth = link_cap bandwidth false ∷ link_cap bandwidth false ∷ []
+
+-- the links of all rows, and last the loopback, a FATPIPE link of 498,000,000 bytes a second
+abbrev pub link_caps : List LinkRow → List LinkCap
+link_caps rows = flat_map (λ row. caps_of row.policy row.bandwidth) rows ++ link_cap 498000000 true ∷ []
+
+abbrev pub home_of : ActorRow → ℕ
+home_of actor = actor.host.0
+
+abbrev pub is_replay : Function → Bool
+is_replay Replay = true
+
+abbrev pub replays : ActorRow → Bool
+replays actor = is_replay actor.function
+
+abbrev pub capacity_of : SemaphoreRow → ℕ
+capacity_of semaphore = semaphore.capacity
+
+-- what is simulated; the barrier has as many members as there are replay actors
+abbrev pub setup_of : Platform → Deployed → ℕ → Setup
+setup_of platform deployed budget = record {
+  capacities = record { hosts = map host_cap platform.hosts; links = link_caps platform.links };
+  homes = map home_of deployed.actors;
+  mutexes = length deployed.mutexes;
+  semaphores = map capacity_of deployed.semaphores;
+  members = count_by replays deployed.actors;
+  budget = budget;
+}
+
+-- mutexes are free, semaphores have their capacities, and nobody waits
+abbrev pub first_objects : Setup → Objects
+first_objects setup = record {
+  actors = length setup.homes;
+  owners = replicate setup.mutexes None;
+  locking = replicate setup.mutexes [];
+  counts = setup.semaphores;
+  acquiring = replicate (length setup.semaphores) [];
+  members = setup.members;
+  arrived = [];
+  others = [];
+}
+
+-- all actors are ready with the answer Start
+abbrev pub first_core : Setup → Core
+first_core setup = record {
+  date = 0;
+  actors = replicate (length setup.homes) (Ready answer.Start);
+  tasks = [];
+  whose = [];
+  requests = replicate (length setup.homes) [];
+  objects = first_objects setup;
+  events = 0;
+}
