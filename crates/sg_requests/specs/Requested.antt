@@ -1,0 +1,29 @@
+-- The requests of actors.
+use Rattle.std.specs.Prelude.{ℕ, ◌-◌, Option, None, Some, List, [], ◌∷◌, ◌++◌, slice_index_or, slice_set}
+use Rattle.sg_requests.specs.declared.request.Await.{Await}
+
+-- what each actor may wait for, by actor from 1 on, oldest first; how many requests were made in all; and room for so many more
+pub record Requested : Type 0 where
+  pub queues : List (List Await)
+  pub asked : ℕ
+  pub room : ℕ
+
+-- what the actor of this number may wait for
+abbrev pub queue_at : List (List Await) → ℕ → List Await
+queue_at queues actor = slice_index_or queues (actor - 1) []
+
+abbrev pub oldest : List Await → Option Await
+oldest [] = None
+oldest (first ∷ rest) = Some first
+
+abbrev pub rest_of : List Await → List Await
+rest_of [] = []
+rest_of (first ∷ rest) = rest
+
+-- an actor makes a request, which becomes its newest
+abbrev pub queued : List (List Await) → ℕ → Await → List (List Await)
+queued queues actor request = slice_set queues (actor - 1) (queue_at queues actor ++ request ∷ [])
+
+-- the oldest request of an actor is taken away
+abbrev pub taken : List (List Await) → ℕ → List (List Await)
+taken queues actor = slice_set queues (actor - 1) (rest_of (queue_at queues actor))
