@@ -5,7 +5,6 @@ use Rattle.sg_base.specs.declared.call.Call.TheVariants as call
 use Rattle.sg_base.specs.declared.call.Answer.{Answer}
 use Rattle.sg_base.specs.declared.call.Answer.TheVariants as answer
 use Rattle.sg_base.specs.declared.call.Action.{Action}
-use Rattle.sg_base.specs.declared.call.Msg.TheVariants as msg
 use Rattle.sg_base.specs.declared.ids.ActorId.{ActorId}
 use Rattle.sg_activity.specs.Task.{Task}
 use Rattle.sg_activity.specs.Doing.{exec_of, timer_of}
@@ -17,7 +16,7 @@ use Rattle.sg_kernel.specs.declared.states.State.TheVariants.{Ended}
 use Rattle.sg_kernel.specs.declared.states.Whose.TheVariants.{Alone}
 use Rattle.sg_kernel.specs.World.{Setup, Core, host_of, with_state}
 use Rattle.sg_kernel.specs.Steps.{Step, goes_on, counted, unless_used, readied, blocked_by, at_once}
-use Rattle.sg_kernel.specs.Meetings.{side_of, comes, waits}
+use Rattle.sg_kernel.specs.Meetings.{sends_by, receives_by, comes, waits}
 use Rattle.sg_kernel.specs.Locks.{caller_first, caller_last}
 
 abbrev pub actor_of : ℕ → ActorId
@@ -37,14 +36,10 @@ abbrev pub answered_call : Roads → Setup → Core → ℕ → Call → Step
 answered_call roads setup core actor call.Ask = goes_on (counted (readied actor answer.Refused core)) []
 answered_call roads setup core actor (call.Compute flops) = goes_on (counted (blocks_on (exec_of setup.capacities (host_of setup actor) flops) actor (call.Compute flops) core)) []
 answered_call roads setup core actor (call.Sleep ns) = goes_on (counted (blocks_on (timer_of ns) actor (call.Sleep ns) core)) []
-answered_call roads setup core actor (call.Send mailbox bytes message) =
-    comes roads setup (record { what = call.Send mailbox bytes message; mailbox = mailbox; sends = true; waits = true; side = side_of actor bytes message }) core
-answered_call roads setup core actor (call.Recv mailbox) =
-    comes roads setup (record { what = call.Recv mailbox; mailbox = mailbox; sends = false; waits = true; side = side_of actor 0 msg.Empty }) core
-answered_call roads setup core actor (call.ISend mailbox bytes message) =
-    comes roads setup (record { what = call.ISend mailbox bytes message; mailbox = mailbox; sends = true; waits = false; side = side_of actor bytes message }) core
-answered_call roads setup core actor (call.IRecv mailbox) =
-    comes roads setup (record { what = call.IRecv mailbox; mailbox = mailbox; sends = false; waits = false; side = side_of actor 0 msg.Empty }) core
+answered_call roads setup core actor (call.Send mailbox bytes message) = comes roads setup (sends_by actor (call.Send mailbox bytes message) true mailbox bytes message) core
+answered_call roads setup core actor (call.Recv mailbox) = comes roads setup (receives_by actor (call.Recv mailbox) true mailbox) core
+answered_call roads setup core actor (call.ISend mailbox bytes message) = comes roads setup (sends_by actor (call.ISend mailbox bytes message) false mailbox bytes message) core
+answered_call roads setup core actor (call.IRecv mailbox) = comes roads setup (receives_by actor (call.IRecv mailbox) false mailbox) core
 answered_call roads setup core actor call.Wait = waits actor core
 answered_call roads setup core actor (call.Lock mutex) = caller_first (locked (actor_of actor) mutex core.objects) actor (call.Lock mutex) core
 answered_call roads setup core actor (call.Unlock mutex) = caller_first (unlocked (actor_of actor) mutex core.objects) actor (call.Unlock mutex) core

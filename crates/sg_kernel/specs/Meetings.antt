@@ -2,8 +2,10 @@
 use Rattle.std.specs.Prelude.{ℕ, ◌+◌, ◌-◌, Bool, true, false, Option, None, Some, Result, Ok, Err, if◌then◌else◌, List, [], ◌∷◌, ◌++◌, length, slice_set}
 use Rattle.std.specs.Option.{option_to_list}
 use Rattle.sg_base.specs.declared.call.Answer.TheVariants as answer
+use Rattle.sg_base.specs.declared.call.Call.{Call}
 use Rattle.sg_base.specs.declared.call.Call.TheVariants as call
 use Rattle.sg_base.specs.declared.call.Msg.{Msg}
+use Rattle.sg_base.specs.declared.call.Msg.TheVariants as msg
 use Rattle.sg_base.specs.declared.ids.BoxId.{BoxId}
 use Rattle.sg_base.specs.declared.ids.PointId.{PointId}
 use Rattle.sg_activity.specs.Doing.{comm_of}
@@ -63,6 +65,20 @@ takes_part false comer serial core =
     (at_once comer.side.actor.0 comer.what comer.side.bytes core ∷ [])
 
 -- ---- a side comes to a mailbox
+abbrev pub sends_by : ℕ → Call → Bool → BoxId → ℕ → Msg → Comer
+sends_by actor what waits mailbox bytes message = record { what = what; mailbox = mailbox; sends = true; waits = waits; side = side_of actor bytes message }
+
+abbrev pub receives_by : ℕ → Call → Bool → BoxId → Comer
+receives_by actor what waits mailbox = record { what = what; mailbox = mailbox; sends = false; waits = waits; side = side_of actor 0 msg.Empty }
+
+-- the side that comes by a call, where it is one of a communication
+abbrev pub comer_of : ℕ → Call → Option Comer
+comer_of actor (call.Send mailbox bytes message) = Some (sends_by actor (call.Send mailbox bytes message) true mailbox bytes message)
+comer_of actor (call.ISend mailbox bytes message) = Some (sends_by actor (call.ISend mailbox bytes message) false mailbox bytes message)
+comer_of actor (call.Recv mailbox) = Some (receives_by actor (call.Recv mailbox) true mailbox)
+comer_of actor (call.IRecv mailbox) = Some (receives_by actor (call.IRecv mailbox) false mailbox)
+comer_of actor other = None
+
 abbrev pub sender_of : Comer → Side → Side
 sender_of comer other = if comer.sends then comer.side else other
 

@@ -2,25 +2,32 @@
 
 ghost use Rattle.std.specs.Prelude.{◌≡◌, ◌≢◌, [], ◌==◌, ◌+◌, ◌-◌, ◌<◌, ◌≤◌, ◌^◌, ◌++◌, false, IfOk, OnOk, IfSome, All, length, Some, None, is_ok, if◌then◌else◌};
 ghost use Rattle.std.specs.List.{list_all, list_any};
-ghost use Rattle.sg_base.specs.declared.ids.PointId.{PointId};
 ghost use Rattle.sg_base.specs.Limits.{IsCall, IsAction, IsAnswer};
-ghost use Rattle.sg_activity.specs.Hosts.{IsHost};
+ghost use Rattle.sg_platform.specs.Deployment.{IsDeployedOn};
+ghost use Rattle.sg_route.specs.Roads.{Roads};
 ghost use Rattle.sg_kernel.specs.declared.states.State.TheVariants.{Ready, Ended};
-ghost use Rattle.sg_kernel.specs.World.{is_ready, is_ended, state_of, with_state, inbox_of, blocked_of, IsActor, MayCall};
-ghost use Rattle.sg_kernel.specs.Calls.{answered, answered_call, counted, told, result_of};
+ghost use Rattle.sg_kernel.specs.World.{extent, is_ready, is_ended, state_of, inbox_of, blocked_of, IsActor, MayCall};
+ghost use Rattle.sg_kernel.specs.Calls.{answered, answered_call, told};
+ghost use Rattle.sg_kernel.specs.Meetings.{comer_of};
+ghost use Rattle.sg_kernel.specs.Steps.{result_of};
+ghost use Rattle.sg_kernel.specs.Start.{setup_of};
+ghost use Rattle.sg_kernel.specs.Roads.{AreOver};
 ghost use Rattle.sg_kernel.specs.Passes.{pass_of};
 ghost use Rattle.sg_kernel.specs.Known.{after, first_known};
 ghost use Rattle.sg_kernel.specs.Queue.{IsQueue};
-ghost use Rattle.sg_kernel.specs.Records.{IsBlocking, AreRecords};
+ghost use Rattle.sg_kernel.specs.Records.{IsTellable, AreRecords};
 
-use crate::answers::{exit, go_on};
+use crate::answers::{done_at_once, exit, go_on};
+use crate::locks::{acquire, arrive, lock, release, unlock};
+use crate::meetings::{come, comer_of, wait};
 use crate::parts::Parts;
 use crate::passes::{end_due, none_next};
 use crate::queue::sort;
 use crate::starts::{compute, first_parts, reserve, sleep};
 use crate::states::{State, Stop};
-use sg_activity::HostCap;
-use sg_base::{Action, ActorId, Answer, Call, Memory, PointId, Record, Steps};
+use sg_base::{Action, ActorId, Answer, Call, Memory, Record, Steps};
+use sg_platform::{Deployment, PlatformText};
+use sg_route::Router;
 use std::alloc::Global;
 use std::marker::Model;
 use std::sync::ledger::Ledger;
@@ -45,29 +52,28 @@ impl Model for Kernel {
 
     ghost Value = { Known };
 
-    ghost use Rattle.sg_kernel.specs.Sound.{known_of, IsSound, IsDated, AreLimited};
+    ghost use Rattle.sg_kernel.specs.Sound.{known_of, IsSound, IsDated, AreLimited, AreMeeting, AreHeld};
     ghost use Rattle.sg_kernel.specs.Queue.{IsQueued};
 
     ghost view = { λ s. known_of s.parts };
 
-    ghost invariant = { λ s. IsSound s.parts × IsDated s.parts × AreLimited s.parts × IsQueued s.parts };
+    ghost invariant = { λ s. IsSound s.parts × IsDated s.parts × AreLimited s.parts × IsQueued s.parts × AreMeeting s.parts × AreHeld s.parts };
 }
 
 impl Kernel {
-    /// A kernel in which nothing has happened yet: each actor stands on its home, a host, and is ready with the
-    /// answer Start. `budget` is the most events that there may be.
+    /// A kernel in which nothing has happened yet: each actor is ready with the answer Start, mutexes are free, and
+    /// semaphores have their capacities. `budget` is the most events that there may be.
     pub fn new(
         alloc: Global,
-        hosts: &[HostCap],
-        homes: &[PointId],
+        platform: &PlatformText,
+        deployment: &Deployment,
         budget: u64,
     ) -> Result<Kernel, Memory>
-        requires hosts { All IsHost hosts.now }
-        requires homes { All (λ (home : PointId). home.0 < length hosts.now) homes.now }
+        requires deployed { IsDeployedOn platform.now deployment.now }
         requires budget { budget ≤ 10 ^ 9 }
-        ensures { IfOk result (λ kernel. kernel ≡ first_known hosts.now homes.now budget) }
+        ensures { IfOk result (λ kernel. kernel ≡ first_known (setup_of platform.now deployment.now budget)) }
     {
-        let parts = first_parts(alloc, hosts, homes, budget)?;
+        let parts = first_parts(alloc, platform, deployment, budget)?;
         Ok(Kernel { parts })
     }
 
@@ -80,41 +86,58 @@ impl Kernel {
         reserve(&mut self.parts, n)
     }
 
-    /// Answers a call of a ready actor. An Ask is refused: `tell` is its answer where there is a script.
-    pub fn answer(&mut self, actor: ActorId, call: Call) -> Result<(), Stop>
+    /// Answers a call of a ready actor. An Ask is refused: `tell` is its answer where there is a script. `router` has
+    /// the routes of the kernel's platform.
+    pub fn answer(&mut self, actor: ActorId, call: Call, router: &Router) -> Result<(), Stop>
         requires caller { MayCall self.old.core actor.0 }
-        requires call { IsCall call }
+        requires call { IsCall (extent self.old.setup) call }
         requires room { 0 < self.old.room }
-        ensures step { self.new ≡ record (after (answered self.old.setup self.old.core actor.0 call) self.old) { room = self.old.room - (if is_ok result then 1 else 0) } }
-        ensures result { result ≡ result_of (answered self.old.setup self.old.core actor.0 call).stop }
+        requires roads { AreOver (length self.old.setup.capacities.links) router.now }
+        ensures step { self.new ≡ record (after (answered router.now self.old.setup self.old.core actor.0 call) self.old) { room = self.old.room - (if is_ok result then 1 else 0) } }
+        ensures result { result ≡ result_of (answered router.now self.old.setup self.old.core actor.0 call).stop }
     {
         if self.parts.events == self.parts.budget {
             return Err(Stop::Budget);
         }
-        self.answer_call(actor, call);
-        Ok(())
+        match comer_of(actor, call) {
+            Some(comer) => come(&mut self.parts, router, comer),
+            None => {
+                self.answer_alone(actor, call);
+                Ok(())
+            }
+        }
     }
 
-    // Answers a call, where the budget isn't used up.
-    fn answer_call(&mut self, actor: ActorId, call: Call)
+    // Answers a call that is no side of a communication, where the budget isn't used up.
+    fn answer_alone(&mut self, actor: ActorId, call: Call)
         requires caller { MayCall self.old.core actor.0 }
-        requires call { IsCall call }
+        requires call { IsCall (extent self.old.setup) call }
+        requires alone { comer_of actor.0 call ≡ None }
         requires room { 0 < self.old.room }
         requires budget { self.old.core.events ≢ self.old.setup.budget }
-        ensures { self.new ≡ record (after (answered_call self.old.setup self.old.core actor.0 call) self.old) { room = self.old.room - 1 } }
+        ensures { (roads : Roads) → self.new ≡ record (after (answered_call roads self.old.setup self.old.core actor.0 call) self.old) { room = self.old.room - 1 } }
     {
+        let parts = &mut self.parts;
         match call {
-            Call::Ask => go_on(&mut self.parts, actor, Answer::Refused),
-            Call::Compute(flops) => compute(&mut self.parts, actor, flops),
-            Call::Sleep(ns) => sleep(&mut self.parts, actor, ns),
-            Call::Exit => exit(&mut self.parts, actor),
+            Call::Ask => go_on(parts, actor, Answer::Refused),
+            Call::Compute(flops) => compute(parts, actor, flops),
+            Call::Sleep(ns) => sleep(parts, actor, ns),
+            Call::Wait => wait(parts, actor),
+            Call::Lock(mutex) => lock(parts, actor, mutex),
+            Call::Unlock(mutex) => unlock(parts, actor, mutex),
+            Call::Acquire(semaphore) => acquire(parts, actor, semaphore),
+            Call::Release(semaphore) => release(parts, actor, semaphore),
+            Call::Barrier => arrive(parts, actor),
+            Call::Yield => done_at_once(parts, actor, Call::Yield, 0),
+            Call::Exit => exit(parts, actor),
+            Call::Send(..) | Call::Recv(_) | Call::ISend(..) | Call::IRecv(_) => unreachable!(),
         }
     }
 
     /// Tells an actor that asked its next line, or that there is none.
     pub fn tell(&mut self, actor: ActorId, action: Option<Action>) -> Result<(), Stop>
         requires caller { MayCall self.old.core actor.0 }
-        requires action { IfSome action IsAction }
+        requires action { IfSome action (IsAction (extent self.old.setup)) }
         requires room { 0 < self.old.room }
         ensures step { self.new ≡ record (after (told self.old.setup self.old.core actor.0 action) self.old) { room = self.old.room - (if is_ok result then 1 else 0) } }
         ensures result { result ≡ result_of (told self.old.setup self.old.core actor.0 action).stop }
@@ -172,7 +195,7 @@ impl Kernel {
     pub fn inbox(&self, actor: ActorId) -> Option<Answer>
         requires { IsActor self.now.core actor.0 }
         ensures is { result ≡ inbox_of (state_of self.now.core actor.0) }
-        ensures limited { IfSome result IsAnswer }
+        ensures limited { IfSome result (IsAnswer (extent self.now.setup)) }
     {
         match self.parts.states[actor.0 as usize - 1] {
             State::Ready(answer) => Some(answer),
@@ -184,7 +207,7 @@ impl Kernel {
     pub fn blocked(&self, actor: ActorId) -> Option<Call>
         requires { IsActor self.now.core actor.0 }
         ensures is { result ≡ blocked_of (state_of self.now.core actor.0) }
-        ensures limited { IfSome result IsBlocking }
+        ensures limited { IfSome result (IsTellable (extent self.now.setup)) }
     {
         match self.parts.states[actor.0 as usize - 1] {
             State::Blocked(what, _, _) => Some(what),
@@ -232,7 +255,7 @@ impl Kernel {
     /// The records that aren't cleared, in the order in which they were made.
     pub fn records(&self) -> &[Record]
         ensures are { result.now ≡ self.now.records }
-        ensures limited { AreRecords (length self.now.setup.homes) self.now.records }
+        ensures limited { AreRecords (extent self.now.setup) self.now.records }
     {
         self.parts.records.as_slice()
     }

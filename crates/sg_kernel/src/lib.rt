@@ -4,16 +4,16 @@
 mod answers;
 mod kernel;
 mod laws;
+mod locks;
+mod meetings;
 mod owners;
 mod parts;
 mod passes;
 mod queue;
+mod setup;
 mod starts;
 mod states;
 
 pub use kernel::Kernel;
 pub use laws::{stands_at_first, steps_lead};
 pub use states::{State, Stop, Whose};
-
-#[cfg(test)]
-mod tests;

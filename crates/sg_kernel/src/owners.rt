@@ -1,10 +1,10 @@
 //! Whose each activity is.
 ghost use Rattle.std.specs.Prelude.{◌≡◌, ◌+◌, ◌-◌, ◌<◌, ◌≤◌, ◌^◌, ◌++◌, ◌∷◌, [], length, slice_index_or, slice_set, OnOk};
-ghost use Rattle.sg_kernel.specs.declared.states.Whose.TheVariants.{Gone, Alone};
+ghost use Rattle.sg_kernel.specs.declared.states.Whose.TheVariants.{Gone};
 ghost use Rattle.sg_kernel.specs.Owners.{whose_of as whose_of_spec};
 
 use crate::states::Whose;
-use sg_base::{ActorId, Memory, Serial};
+use sg_base::{Memory, Serial};
 use std::alloc::Global;
 use std::collections::HashMap;
 use std::marker::Model;
@@ -12,7 +12,7 @@ use std::marker::Model;
 /// Whose each activity is. It keeps nothing of one that is nobody's, and contracts see a list by serial.
 #[derive(Drop)]
 pub(crate) struct Owners {
-    owners: HashMap<u64, ActorId>,
+    owners: HashMap<u64, Whose>,
     drawn: u64,
     room: usize,
 }
@@ -29,11 +29,11 @@ impl Model for Owners {
     ghost invariant = { λ s. s.room ≤ hash.spare s.owners };
 }
 
-fn whose_of(owner: Option<ActorId>) -> Whose
+fn whose_of(owner: Option<Whose>) -> Whose
     ensures { result ≡ whose_of_spec owner }
 {
     match owner {
-        Some(actor) => Whose::Alone(actor),
+        Some(whose) => whose,
         None => Whose::Gone,
     }
 }
@@ -62,17 +62,40 @@ impl Owners {
         Ok(())
     }
 
-    /// The activity of the next serial is this actor's.
-    pub(crate) fn push(&mut self, actor: ActorId)
+    /// Whose the activity of the next serial is.
+    pub(crate) fn push(&mut self, whose: Whose)
         requires few { length self.old.whose < 10 ^ 9 }
         requires room { 0 < self.old.room }
-        ensures { self.new ≡ record { whose = self.old.whose ++ Alone actor ∷ []; room = self.old.room - 1 } }
+        ensures { self.new ≡ record { whose = self.old.whose ++ whose ∷ []; room = self.old.room - 1 } }
     {
-        match self.owners.insert(self.drawn + 1, actor) {
+        match self.owners.insert(self.drawn + 1, whose) {
             Ok(_) => {}
             Err(_) => unreachable!(),
         }
         self.drawn += 1;
+        self.room -= 1;
+    }
+
+    /// Whose the activity of this serial is.
+    pub(crate) fn of(&self, serial: Serial) -> Whose
+        requires from { 0 < serial.0 }
+        requires to { serial.0 ≤ length self.now.whose }
+        ensures { result ≡ slice_index_or self.now.whose (serial.0 - 1) Gone }
+    {
+        whose_of(self.owners.get(&serial.0).copied())
+    }
+
+    /// The activity of this serial is this one's now.
+    pub(crate) fn put(&mut self, serial: Serial, whose: Whose)
+        requires from { 0 < serial.0 }
+        requires to { serial.0 ≤ length self.old.whose }
+        requires room { 0 < self.old.room }
+        ensures { self.new ≡ record { whose = slice_set self.old.whose (serial.0 - 1) whose; room = self.old.room - 1 } }
+    {
+        match self.owners.insert(serial.0, whose) {
+            Ok(_) => {}
+            Err(_) => unreachable!(),
+        }
         self.room -= 1;
     }
 

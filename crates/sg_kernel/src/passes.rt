@@ -3,17 +3,21 @@
 ghost use Rattle.std.specs.Prelude.{◌≡◌, ◌≢◌, ◌+◌, ◌-◌, ◌*◌, ◌^◌, ◌<◌, ◌≤◌, ◌++◌, [], ◌∷◌, length, drop, is_some, false, if◌then◌else◌, Some};
 ghost use Rattle.sg_activity.specs.declared.kinds.PhaseKind.TheVariants as phase_kind;
 ghost use Rattle.sg_activity.specs.Doing.{IsDue, is_running};
-ghost use Rattle.sg_kernel.specs.World.{state_of};
-ghost use Rattle.sg_kernel.specs.Calls.{result_of};
-ghost use Rattle.sg_kernel.specs.Passes.{answers_state, answers, ends_phase, ends};
+ghost use Rattle.sg_base.specs.declared.call.Msg.TheVariants as msg;
+ghost use Rattle.sg_kernel.specs.World.{extent};
+ghost use Rattle.sg_kernel.specs.Steps.{result_of};
+ghost use Rattle.sg_kernel.specs.Meetings.{side_of};
+ghost use Rattle.sg_kernel.specs.Passes.{answer_to, answers, answers_side, ends, ends_phase, tells_bytes};
 ghost use Rattle.sg_kernel.specs.Known.{after};
 ghost use Rattle.sg_kernel.specs.Queue.{IsAnswering};
-ghost use Rattle.sg_kernel.specs.Sound.{core_of, known_of, IsSound, AreLimited, IsOwner};
+ghost use Rattle.sg_kernel.specs.Sound.{core_of, known_of, setup_in, IsSide, IsSound, AreLimited, AreMeeting, AreHeld, IsOwner};
 
 use crate::parts::Parts;
 use crate::states::{State, Stop, Whose};
 use sg_activity::{Activities, Phase, PhaseKind};
-use sg_base::{ActorId, Answer, Record, Serial};
+use sg_base::{ActorId, Answer, Call, Msg, Record, Serial};
+use sg_mailbox::Side;
+use sg_requests::End;
 
 /// Why there is no next date.
 pub(crate) fn none_next(doing: &Activities) -> Stop
@@ -26,37 +30,100 @@ pub(crate) fn none_next(doing: &Activities) -> Stop
     }
 }
 
-// Answers an actor, where it is blocked on this activity.
-fn answer_actor(parts: &mut Parts, serial: Serial, actor: ActorId)
-    requires from { 0 < actor.0 }
-    requires to { actor.0 ≤ length parts.old.states.items }
+fn tells_bytes(what: Call) -> bool
+    ensures { result ≡ tells_bytes what }
+{
+    match what {
+        Call::Send(..) | Call::Recv(_) => true,
+        _ => false,
+    }
+}
+
+fn answer_to(what: Call, msg: Msg) -> Answer
+    ensures { result ≡ answer_to what msg }
+{
+    match what {
+        Call::Recv(_) => Answer::Got(msg),
+        _ => Answer::Done,
+    }
+}
+
+// Answers the actor of a side, where it is blocked on this side of this activity: with what the side gives.
+fn answer_side(parts: &mut Parts, serial: Serial, end: End, given: Side)
+    requires given { IsSide (extent (setup_in parts.old)) given }
     requires sound { IsSound parts.old }
     requires limited { AreLimited parts.old }
     requires answering { IsAnswering parts.old }
+    requires meeting { AreMeeting parts.old }
+    requires held { AreHeld parts.old }
     requires small { parts.old.doing.date < 10 ^ 33 }
-    ensures known { known_of parts.new ≡ after (answers_state serial.0 actor (state_of (core_of parts.old) actor.0) (core_of parts.old)) (known_of parts.old) }
+    ensures known { known_of parts.new ≡ after (answers_side serial.0 end given (core_of parts.old)) (known_of parts.old) }
     ensures sound { IsSound parts.new }
     ensures limited { AreLimited parts.new }
     ensures answering { IsAnswering parts.new }
+    ensures meeting { AreMeeting parts.new }
+    ensures held { AreHeld parts.new }
     ensures doing { parts.new.doing ≡ parts.old.doing }
     ensures events { parts.new.events ≡ parts.old.events }
 {
-    let i = actor.0 as usize - 1;
-    match parts.states[i] {
-        State::Blocked(what, since, on) if on.0 == serial.0 => {
+    let place = given.actor.0 as usize - 1;
+    match parts.states[place] {
+        State::Blocked(what, since, Some(on)) if on.serial.0 == serial.0 && on.end == end => {
             let date = parts.doing.date();
             parts.records.push_reserved(Record {
-                actor,
+                actor: given.actor,
                 date,
                 what,
-                bytes: 0,
+                bytes: if tells_bytes(what) { given.bytes } else { 0 },
                 took: Some(date.saturating_sub(since)),
             });
-            parts.states[i] = State::Ready(Answer::Done);
-            parts.queue.push_reserved(actor);
+            parts.states[place] = State::Ready(answer_to(what, given.msg));
+            parts.queue.push_reserved(given.actor);
             parts.ready += 1;
         }
         _ => {}
+    }
+}
+
+fn side_of(actor: ActorId) -> Side
+    ensures { result ≡ side_of actor.0 0 msg.Empty }
+{
+    Side {
+        actor,
+        bytes: 0,
+        msg: Msg::Empty,
+    }
+}
+
+// Answers those whose activity is done: the sender, and then the receiver.
+fn answer_owners(parts: &mut Parts, serial: Serial, whose: Whose)
+    requires whose { IsOwner (extent (setup_in parts.old)) whose }
+    requires sound { IsSound parts.old }
+    requires limited { AreLimited parts.old }
+    requires answering { IsAnswering parts.old }
+    requires meeting { AreMeeting parts.old }
+    requires held { AreHeld parts.old }
+    requires small { parts.old.doing.date < 10 ^ 33 }
+    ensures known { known_of parts.new ≡ after (answers serial.0 whose (core_of parts.old)) (known_of parts.old) }
+    ensures sound { IsSound parts.new }
+    ensures limited { AreLimited parts.new }
+    ensures answering { IsAnswering parts.new }
+    ensures meeting { AreMeeting parts.new }
+    ensures held { AreHeld parts.new }
+    ensures doing { parts.new.doing ≡ parts.old.doing }
+    ensures events { parts.new.events ≡ parts.old.events }
+{
+    match whose {
+        Whose::Alone(actor) => answer_side(parts, serial, End::Alone, side_of(actor)),
+        Whose::Pair(sender, receiver) => {
+            answer_side(parts, serial, End::Sender, sender);
+            let given = Side {
+                actor: receiver.actor,
+                ..sender
+            };
+            answer_side(parts, serial, End::Receiver, given);
+        }
+        Whose::Gone | Whose::Posted(..) => {}
     }
 }
 
@@ -67,11 +134,15 @@ fn begin_flow(parts: &mut Parts, phase: Phase)
     requires sound { IsSound parts.old }
     requires limited { AreLimited parts.old }
     requires answering { IsAnswering parts.old }
+    requires meeting { AreMeeting parts.old }
+    requires held { AreHeld parts.old }
     requires budget { parts.old.events ≢ parts.old.budget }
     ensures known { known_of parts.new ≡ after (ends_phase phase.serial.0 (core_of parts.old)) (known_of parts.old) }
     ensures sound { IsSound parts.new }
     ensures limited { AreLimited parts.new }
     ensures answering { IsAnswering parts.new }
+    ensures meeting { AreMeeting parts.new }
+    ensures held { AreHeld parts.new }
     ensures due { parts.new.doing.due ≡ drop 1 parts.old.doing.due }
     ensures date { parts.new.doing.date ≡ parts.old.doing.date }
     ensures events { parts.new.events ≡ parts.old.events + 1 }
@@ -87,12 +158,16 @@ fn end_activity(parts: &mut Parts, phase: Phase)
     requires sound { IsSound parts.old }
     requires limited { AreLimited parts.old }
     requires answering { IsAnswering parts.old }
+    requires meeting { AreMeeting parts.old }
+    requires held { AreHeld parts.old }
     requires small { parts.old.doing.date < 10 ^ 33 }
     requires budget { parts.old.events ≢ parts.old.budget }
     ensures known { known_of parts.new ≡ after (ends_phase phase.serial.0 (core_of parts.old)) (known_of parts.old) }
     ensures sound { IsSound parts.new }
     ensures limited { AreLimited parts.new }
     ensures answering { IsAnswering parts.new }
+    ensures meeting { AreMeeting parts.new }
+    ensures held { AreHeld parts.new }
     ensures due { parts.new.doing.due ≡ drop 1 parts.old.doing.due }
     ensures date { parts.new.doing.date ≡ parts.old.doing.date }
     ensures events { parts.new.events ≡ parts.old.events + 1 }
@@ -100,10 +175,7 @@ fn end_activity(parts: &mut Parts, phase: Phase)
     let whose = parts.whose.take(phase.serial);
     parts.doing.finish();
     parts.events += 1;
-    match whose {
-        Whose::Alone(actor) => answer_actor(parts, phase.serial, actor),
-        Whose::Gone => {}
-    }
+    answer_owners(parts, phase.serial, whose);
 }
 
 // Ends the first phase that is due.
@@ -112,12 +184,16 @@ fn end_phase(parts: &mut Parts, phase: Phase)
     requires sound { IsSound parts.old }
     requires limited { AreLimited parts.old }
     requires answering { IsAnswering parts.old }
+    requires meeting { AreMeeting parts.old }
+    requires held { AreHeld parts.old }
     requires small { parts.old.doing.date < 10 ^ 33 }
     requires budget { parts.old.events ≢ parts.old.budget }
     ensures known { known_of parts.new ≡ after (ends_phase phase.serial.0 (core_of parts.old)) (known_of parts.old) }
     ensures sound { IsSound parts.new }
     ensures limited { AreLimited parts.new }
     ensures answering { IsAnswering parts.new }
+    ensures meeting { AreMeeting parts.new }
+    ensures held { AreHeld parts.new }
     ensures due { parts.new.doing.due ≡ drop 1 parts.old.doing.due }
     ensures date { parts.new.doing.date ≡ parts.old.doing.date }
     ensures events { parts.new.events ≡ parts.old.events + 1 }
@@ -133,6 +209,8 @@ pub(crate) fn end_due(parts: &mut Parts) -> Result<(), Stop>
     requires sound { IsSound parts.old }
     requires limited { AreLimited parts.old }
     requires answering { IsAnswering parts.old }
+    requires meeting { AreMeeting parts.old }
+    requires held { AreHeld parts.old }
     requires small { parts.old.doing.date < 10 ^ 33 }
     requires some { parts.old.doing.due ≢ [] }
     requires budget { parts.old.events ≢ parts.old.budget }
@@ -141,6 +219,8 @@ pub(crate) fn end_due(parts: &mut Parts) -> Result<(), Stop>
     ensures sound { IsSound parts.new }
     ensures limited { AreLimited parts.new }
     ensures answering { IsAnswering parts.new }
+    ensures meeting { AreMeeting parts.new }
+    ensures held { AreHeld parts.new }
     ensures date { parts.new.doing.date ≡ parts.old.doing.date }
     ensures events { parts.old.events < parts.new.events }
 {

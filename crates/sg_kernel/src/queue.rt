@@ -50,3 +50,17 @@ pub(crate) fn sort(queue: &mut Vec<ActorId>)
 {
     queue.sort_unstable_by_key(|actor| actor.0);
 }
+
+/// One more actor joins, at its place in rising order, where it isn't there.
+pub(crate) fn join_in_order(queue: &mut Vec<ActorId>, actor: ActorId) {
+    let place = queue.partition_point(|other| other.0 < actor.0);
+    if place < queue.len() && queue[place] == actor {
+        return;
+    }
+    queue.push_reserved(actor);
+    let mut at = queue.len() - 1;
+    while at > place {
+        queue.swap(at - 1, at);
+        at -= 1;
+    }
+}

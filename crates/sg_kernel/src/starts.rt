@@ -1,31 +1,39 @@
 //! A simulation begins, and executions and sleeps begin in it.
 
 ghost use Rattle.std.specs.Prelude.{◌≡◌, ◌≢◌, ◌+◌, ◌-◌, ◌<◌, ◌≤◌, ◌^◌, OnOk, IfOk, All, length, count_by, replicate};
-ghost use Rattle.sg_base.specs.declared.ids.PointId.{PointId};
+ghost use Rattle.sg_base.specs.Limits.{Extent};
 ghost use Rattle.sg_base.specs.declared.call.Answer.TheVariants as answer;
 ghost use Rattle.sg_base.specs.Limits.{IsAmount, IsTime};
-ghost use Rattle.sg_activity.specs.Hosts.{IsHost};
 ghost use Rattle.sg_activity.specs.Doing.{exec_of, timer_of};
 ghost use Rattle.sg_kernel.specs.declared.states.State.TheVariants.{Ready};
 ghost use Rattle.sg_kernel.specs.World.{MayCall, host_of, is_ready, is_ended};
-ghost use Rattle.sg_kernel.specs.Calls.{blocks_on, counted};
+ghost use Rattle.sg_platform.specs.Deployment.{IsDeployedOn};
+ghost use Rattle.sg_kernel.specs.Calls.{alone, blocks_on};
+ghost use Rattle.sg_kernel.specs.Steps.{counted};
+ghost use Rattle.sg_kernel.specs.Start.{setup_of};
 ghost use Rattle.sg_kernel.specs.Known.{first_known};
-ghost use Rattle.sg_kernel.specs.Sound.{core_of, known_of, IsSound, IsDated, AreLimited, KeepsLimits, blocked_count};
+ghost use Rattle.sg_kernel.specs.Sound.{core_of, known_of, IsSound, IsDated, AreLimited, AreMeeting, AreHeld, KeepsLimits, blocked_count};
 ghost use Rattle.sg_kernel.specs.Queue.{IsQueued};
 
+use crate::answers::block;
 use crate::owners::Owners;
 use crate::parts::Parts;
 use crate::queue::{all_actors, keep_ready};
-use crate::states::State;
-use sg_activity::{Activities, HostCap};
-use sg_base::{ActorId, Answer, Call, Memory, PointId};
+use crate::setup::{capacities, homes, hosts, links, members};
+use crate::states::{State, Whose};
+use sg_activity::Activities;
+use sg_base::{ActorId, Answer, Call, Memory, Serial};
+use sg_mailbox::Boxes;
+use sg_platform::{Deployment, PlatformText};
+use sg_requests::{Await, End, Requests};
+use sg_sync::Sync;
 use std::alloc::Global;
 
 // All actors are ready with the answer Start.
 fn first_states(alloc: Global, n: usize) -> Result<Vec<State>, Memory>
     ensures are { IfOk result (λ states. states.items ≡ replicate n (Ready answer.Start)) }
     ensures counts { IfOk result (λ states. (count_by is_ready states.items ≡ n) × (count_by is_ended states.items ≡ 0) × (blocked_count states.items ≡ 0)) }
-    ensures limited { IfOk result (λ states. All KeepsLimits states.items) }
+    ensures limited { IfOk result (λ states. (extent : Extent) → All (KeepsLimits extent) states.items) }
 {
     let mut states = Vec::new(alloc);
     for _i in 0..n {
@@ -40,37 +48,54 @@ fn first_states(alloc: Global, n: usize) -> Result<Vec<State>, Memory>
 /// Where a simulation begins.
 pub(crate) fn first_parts(
     alloc: Global,
-    hosts: &[HostCap],
-    homes: &[PointId],
+    platform: &PlatformText,
+    deployment: &Deployment,
     budget: u64,
 ) -> Result<Parts, Memory>
-    requires hosts { All IsHost hosts.now }
-    requires homes { All (λ (home : PointId). home.0 < length hosts.now) homes.now }
+    requires deployed { IsDeployedOn platform.now deployment.now }
     requires budget { budget ≤ 10 ^ 9 }
-    ensures known { IfOk result (λ parts. known_of parts ≡ first_known hosts.now homes.now budget) }
+    ensures known { IfOk result (λ parts. known_of parts ≡ first_known (setup_of platform.now deployment.now budget)) }
     ensures sound { IfOk result (λ parts. IsSound parts) }
     ensures dated { IfOk result (λ parts. IsDated parts) }
     ensures limited { IfOk result (λ parts. AreLimited parts) }
     ensures queued { IfOk result (λ parts. IsQueued parts) }
+    ensures meeting { IfOk result (λ parts. AreMeeting parts) }
+    ensures held { IfOk result (λ parts. AreHeld parts) }
 {
-    let doing = Activities::new(alloc, hosts, &[])?;
-    let actors = homes.len();
-    let states = first_states(alloc, actors)?;
-    let queue = all_actors(alloc, actors)?;
-    let homes = Vec::from_slice(alloc, homes)?;
+    let hosts = hosts(alloc, platform.hosts())?;
+    let links = links(alloc, platform.links())?;
+    let semaphores = capacities(alloc, deployment.semaphores())?;
+    let mutexes = deployment.mutexes().len();
+    let actors = deployment.actors().len();
+    let members = members(deployment.actors());
     Ok(Parts {
-        doing,
-        states,
+        doing: Activities::new(alloc, &hosts, &links)?,
+        states: first_states(alloc, actors)?,
         whose: Owners::new(alloc),
+        boxes: Boxes::new(alloc),
+        requests: Requests::new(alloc, actors)?,
+        objects: Sync::new(alloc, actors as u32, mutexes as u32, &semaphores, members)?,
         records: Vec::new(alloc),
-        homes,
-        queue,
+        homes: homes(alloc, deployment.actors())?,
+        mutexes,
+        semaphores,
+        members,
+        queue: all_actors(alloc, actors)?,
         ready: actors,
         ended: 0,
         events: 0,
         budget,
         room: 0,
     })
+}
+
+fn alone(serial: Serial) -> Await
+    ensures { result ≡ alone serial.0 }
+{
+    Await {
+        serial,
+        end: End::Alone,
+    }
 }
 
 /// The actor computes.
@@ -83,20 +108,20 @@ pub(crate) fn compute(parts: &mut Parts, actor: ActorId, flops: u64)
     requires dated { IsDated parts.old }
     requires limited { AreLimited parts.old }
     requires queued { IsQueued parts.old }
+    requires meeting { AreMeeting parts.old }
+    requires held { AreHeld parts.old }
     ensures known { known_of parts.new ≡ record (known_of parts.old) { core = counted (blocks_on (exec_of parts.old.doing.capacities (host_of (known_of parts.old).setup actor.0) flops) actor.0 (Call.Compute flops) (core_of parts.old)); room = parts.old.room - 1 } }
     ensures sound { IsSound parts.new }
     ensures dated { IsDated parts.new }
     ensures limited { AreLimited parts.new }
     ensures queued { IsQueued parts.new }
+    ensures meeting { AreMeeting parts.new }
+    ensures held { AreHeld parts.new }
 {
-    let i = actor.0 as usize - 1;
-    let date = parts.doing.date();
-    let serial = parts.doing.start_exec(parts.homes[i], flops);
-    parts.whose.push(actor);
-    parts.states[i] = State::Blocked(Call::Compute(flops), date, serial);
-    parts.ready -= 1;
-    parts.events += 1;
-    parts.room -= 1;
+    let host = parts.homes[actor.0 as usize - 1];
+    let serial = parts.doing.start_exec(host, flops);
+    parts.whose.push(Whose::Alone(actor));
+    block(parts, actor, Call::Compute(flops), alone(serial));
 }
 
 /// The actor sleeps.
@@ -109,20 +134,19 @@ pub(crate) fn sleep(parts: &mut Parts, actor: ActorId, ns: u64)
     requires dated { IsDated parts.old }
     requires limited { AreLimited parts.old }
     requires queued { IsQueued parts.old }
+    requires meeting { AreMeeting parts.old }
+    requires held { AreHeld parts.old }
     ensures known { known_of parts.new ≡ record (known_of parts.old) { core = counted (blocks_on (timer_of ns) actor.0 (Call.Sleep ns) (core_of parts.old)); room = parts.old.room - 1 } }
     ensures sound { IsSound parts.new }
     ensures dated { IsDated parts.new }
     ensures limited { AreLimited parts.new }
     ensures queued { IsQueued parts.new }
+    ensures meeting { AreMeeting parts.new }
+    ensures held { AreHeld parts.new }
 {
-    let i = actor.0 as usize - 1;
-    let date = parts.doing.date();
     let serial = parts.doing.start_timer(ns);
-    parts.whose.push(actor);
-    parts.states[i] = State::Blocked(Call::Sleep(ns), date, serial);
-    parts.ready -= 1;
-    parts.events += 1;
-    parts.room -= 1;
+    parts.whose.push(Whose::Alone(actor));
+    block(parts, actor, Call::Sleep(ns), alone(serial));
 }
 
 /// Makes room for so many calls, and for what the passes after them make.
@@ -131,12 +155,16 @@ pub(crate) fn reserve(parts: &mut Parts, n: usize) -> Result<(), Memory>
     requires dated { IsDated parts.old }
     requires limited { AreLimited parts.old }
     requires queued { IsQueued parts.old }
+    requires meeting { AreMeeting parts.old }
+    requires held { AreHeld parts.old }
     ensures room { OnOk result (n ≤ parts.new.room) }
     ensures known { known_of parts.new ≡ record (known_of parts.old) { room = parts.new.room } }
     ensures sound { IsSound parts.new }
     ensures dated { IsDated parts.new }
     ensures limited { AreLimited parts.new }
     ensures queued { IsQueued parts.new }
+    ensures meeting { AreMeeting parts.new }
+    ensures held { AreHeld parts.new }
 {
     let n = n.max(parts.room);
     let Some(most) = n.checked_add(parts.states.len()) else {
@@ -144,6 +172,8 @@ pub(crate) fn reserve(parts: &mut Parts, n: usize) -> Result<(), Memory>
     };
     parts.doing.reserve(n)?;
     parts.whose.reserve(n)?;
+    parts.boxes.reserve(n)?;
+    parts.requests.reserve(n)?;
     parts.records.reserve(most)?;
     keep_ready(&mut parts.queue, &parts.states);
     parts.room = n;

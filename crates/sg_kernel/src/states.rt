@@ -1,13 +1,16 @@
 //! What the kernel knows of actors and activities, and why it stops.
-use sg_base::{ActorId, Answer, Call, Serial};
+use sg_base::{ActorId, Answer, BoxId, Call, Child, PointId, ZoneId};
+use sg_mailbox::Side;
+use sg_requests::Await;
 
 /// What an actor does.
 #[derive(Clone, Copy, Debug, PartialEq, Eq)]
 pub enum State {
     /// It is to take a turn, with this answer.
     Ready(Answer),
-    /// It is blocked by this call since this date, until the activity of this serial is done.
-    Blocked(Call, u128, Serial),
+    /// It is blocked by this call since this date: until its side of an activity is done, or, with none, until the
+    /// call of another lets it go on.
+    Blocked(Call, u128, Option<Await>),
     /// It has made its last call.
     Ended,
 }
@@ -19,6 +22,10 @@ pub enum Whose {
     Gone,
     /// It is what this actor computes or sleeps.
     Alone(ActorId),
+    /// It is a communication of which one side is there, in this mailbox, and whether that one sends.
+    Posted(BoxId, bool, Side),
+    /// It is a communication of a sender and a receiver.
+    Pair(Side, Side),
 }
 
 /// Why a run stops before all actors have ended.
@@ -26,6 +33,11 @@ pub enum Whose {
 pub enum Stop {
     /// An event is next, and as many as there may be were counted.
     Budget,
+    /// A communication between these two hosts has no route: in this zone there is none from the one of its children
+    /// to the other.
+    NoRoute(PointId, PointId, ZoneId, Child, Child),
+    /// The route of a communication between these two hosts has more than 64 links.
+    TooLong(PointId, PointId),
     /// Nobody is ready, and nothing is under way.
     Deadlock,
     /// Nobody is ready, and nothing that is under way will ever be over.

@@ -1,0 +1,91 @@
+//! What a platform and a deployment give to a simulation.
+ghost use Rattle.std.specs.Prelude.{◌≡◌, ◌≤◌, IfOk, length, map};
+ghost use Rattle.std.specs.List.{count_by};
+ghost use Rattle.sg_kernel.specs.Start.{capacity_of, host_cap, is_replay, link_cap, link_caps, replays};
+
+use sg_activity::{HostCap, LinkCap};
+use sg_base::{Memory, PointId};
+use sg_platform::{ActorRow, Function, HostRow, LinkRow, Policy, SemaphoreRow};
+use std::alloc::Global;
+
+/// The bandwidth of the loopback, in bytes a second.
+const LOOPBACK_BANDWIDTH: u64 = 498_000_000;
+
+pub(crate) fn hosts(alloc: Global, rows: &[HostRow]) -> Result<Vec<HostCap>, Memory>
+    ensures { IfOk result (λ hosts. hosts.items ≡ map host_cap rows.now) }
+{
+    let mut hosts = Vec::new(alloc);
+    for row in rows {
+        hosts.push(HostCap {
+            speed: row.speed,
+            cores: row.cores,
+        })?;
+    }
+    Ok(hosts)
+}
+
+fn link(bandwidth: u64, fatpipe: bool) -> LinkCap
+    ensures { result ≡ link_cap bandwidth fatpipe }
+{
+    LinkCap { bandwidth, fatpipe }
+}
+
+/// The links in declared order, and last the loopback.
+pub(crate) fn links(alloc: Global, rows: &[LinkRow]) -> Result<Vec<LinkCap>, Memory>
+    ensures { IfOk result (λ links. links.items ≡ link_caps rows.now) }
+{
+    let mut links = Vec::new(alloc);
+    for row in rows {
+        match row.policy {
+            Policy::Shared => links.push(link(row.bandwidth, false))?,
+            Policy::Fatpipe => links.push(link(row.bandwidth, true))?,
+            Policy::SplitDuplex => {
+                links.push(link(row.bandwidth, false))?;
+                links.push(link(row.bandwidth, false))?;
+            }
+        }
+    }
+    links.push(link(LOOPBACK_BANDWIDTH, true))?;
+    Ok(links)
+}
+
+/// The host of each actor.
+pub(crate) fn homes(alloc: Global, actors: &[ActorRow]) -> Result<Vec<PointId>, Memory>
+    ensures { IfOk result (λ homes. homes.items ≡ map (λ actor. actor.host) actors.now) }
+{
+    let mut homes = Vec::new(alloc);
+    for actor in actors {
+        homes.push(actor.host)?;
+    }
+    Ok(homes)
+}
+
+/// The capacity of each semaphore.
+pub(crate) fn capacities(alloc: Global, rows: &[SemaphoreRow]) -> Result<Vec<u64>, Memory>
+    ensures { IfOk result (λ capacities. capacities.items ≡ map capacity_of rows.now) }
+{
+    let mut capacities = Vec::new(alloc);
+    for row in rows {
+        capacities.push(row.capacity)?;
+    }
+    Ok(capacities)
+}
+
+fn is_replay(function: &Function) -> bool
+    ensures { result ≡ is_replay function.now }
+{
+    match function {
+        Function::Replay => true,
+    }
+}
+
+/// How many actors replay.
+pub(crate) fn members(actors: &[ActorRow]) -> u32
+    requires { length actors.now ≤ 65536 }
+    ensures { result ≡ count_by replays actors.now }
+{
+    actors
+        .iter()
+        .filter(|actor| is_replay(&actor.function))
+        .count() as u32
+}
