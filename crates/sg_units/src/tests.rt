@@ -1,4 +1,4 @@
-use crate::fault::AmountFault::{NotANumber, TooLarge, UnknownUnit};
+use crate::fault::AmountFault::{self, NotANumber, TooLarge, UnknownUnit};
 use crate::{date_text, read_amount, read_bandwidth, read_speed, read_time};
 
 #[test]
@@ -95,77 +95,78 @@ fn each_unit_has_its_size(rt: HostRuntime) {
     }
 }
 
+/// What an amount, a speed, a bandwidth and a time say to a text.
+const FAULTS: [(&str, [Result<u64, AmountFault>; 4]); 10] = [
+    (
+        ".5",
+        [
+            Err(NotANumber),
+            Err(NotANumber),
+            Err(NotANumber),
+            Err(NotANumber),
+        ],
+    ),
+    (
+        "1f",
+        [Err(UnknownUnit), Ok(1), Err(UnknownUnit), Err(UnknownUnit)],
+    ),
+    (
+        "1Bps",
+        [Err(UnknownUnit), Err(UnknownUnit), Ok(1), Err(UnknownUnit)],
+    ),
+    (
+        "1ns",
+        [Err(UnknownUnit), Err(UnknownUnit), Err(UnknownUnit), Ok(1)],
+    ),
+    (
+        "1e6 ",
+        [
+            Err(UnknownUnit),
+            Err(UnknownUnit),
+            Err(UnknownUnit),
+            Err(UnknownUnit),
+        ],
+    ),
+    (
+        "1e0001",
+        [Err(TooLarge), Err(TooLarge), Err(TooLarge), Err(TooLarge)],
+    ),
+    (
+        "1e9",
+        [
+            Ok(1_000_000_000),
+            Ok(1_000_000_000),
+            Ok(1_000_000_000),
+            Ok(1_000_000_000_000_000_000),
+        ],
+    ),
+    (
+        "1000000001",
+        [
+            Ok(1_000_000_001),
+            Ok(1_000_000_001),
+            Ok(1_000_000_001),
+            Err(TooLarge),
+        ],
+    ),
+    (
+        "1e15",
+        [
+            Ok(1_000_000_000_000_000),
+            Ok(1_000_000_000_000_000),
+            Ok(1_000_000_000_000_000),
+            Err(TooLarge),
+        ],
+    ),
+    (
+        "1000000000000001",
+        [Err(TooLarge), Err(TooLarge), Err(TooLarge), Err(TooLarge)],
+    ),
+];
+
 #[test]
 fn each_reader_has_its_faults(rt: HostRuntime) {
-    let cases = [
-        // What an amount, a speed, a bandwidth and a time say to it.
-        (
-            ".5",
-            [
-                Err(NotANumber),
-                Err(NotANumber),
-                Err(NotANumber),
-                Err(NotANumber),
-            ],
-        ),
-        (
-            "1f",
-            [Err(UnknownUnit), Ok(1), Err(UnknownUnit), Err(UnknownUnit)],
-        ),
-        (
-            "1Bps",
-            [Err(UnknownUnit), Err(UnknownUnit), Ok(1), Err(UnknownUnit)],
-        ),
-        (
-            "1ns",
-            [Err(UnknownUnit), Err(UnknownUnit), Err(UnknownUnit), Ok(1)],
-        ),
-        (
-            "1e6 ",
-            [
-                Err(UnknownUnit),
-                Err(UnknownUnit),
-                Err(UnknownUnit),
-                Err(UnknownUnit),
-            ],
-        ),
-        (
-            "1e0001",
-            [Err(TooLarge), Err(TooLarge), Err(TooLarge), Err(TooLarge)],
-        ),
-        (
-            "1e9",
-            [
-                Ok(1_000_000_000),
-                Ok(1_000_000_000),
-                Ok(1_000_000_000),
-                Ok(1_000_000_000_000_000_000),
-            ],
-        ),
-        (
-            "1000000001",
-            [
-                Ok(1_000_000_001),
-                Ok(1_000_000_001),
-                Ok(1_000_000_001),
-                Err(TooLarge),
-            ],
-        ),
-        (
-            "1e15",
-            [
-                Ok(1_000_000_000_000_000),
-                Ok(1_000_000_000_000_000),
-                Ok(1_000_000_000_000_000),
-                Err(TooLarge),
-            ],
-        ),
-        (
-            "1000000000000001",
-            [Err(TooLarge), Err(TooLarge), Err(TooLarge), Err(TooLarge)],
-        ),
-    ];
-    for (text, want) in cases {
+    for (text, want) in FAULTS {
         let bytes = text.as_bytes();
         let told = [
             read_amount(bytes),
