@@ -1,4 +1,4 @@
-pub mod Actor
 pub mod Call
 pub mod Ending
 pub mod Line
+pub mod Names

@@ -2,11 +2,12 @@
 use Rattle.std.specs.Prelude.{ℕ, ◌<◌, ◌^◌, List, ◌++◌, codes, Option, Some, None}
 use Rattle.std.specs.Option.{ForSome}
 use Rattle.sg_base.specs.declared.trace_record.Record.{Record}
-use Rattle.sg_platform.specs.Deployment.{Deployed}
+use Rattle.sg_base.specs.Limits.{IsActorIn, IsCall}
+use Rattle.sg_platform.specs.Deployment.{Deployed, extent_of}
 use Rattle.sg_platform.specs.Platform.{Platform}
 use Rattle.sg_units.specs.Date.{date_of}
-use Rattle.sg_trace.specs.Actor.{HasActor, actor_label}
 use Rattle.sg_trace.specs.Call.{HasLine, call_text}
+use Rattle.sg_trace.specs.Names.{actor_label}
 
 -- the duration, or that the call was refused
 abbrev pub took_text : Option ℕ → List ℕ
@@ -17,15 +18,16 @@ took_text None = codes "refused"
 abbrev pub line_of : Record → Platform → Deployed → List ℕ
 line_of answered platform deployed =
     codes "[" ++ actor_label platform deployed answered.actor ++ codes " " ++ date_of answered.date ++ codes "] "
-    ++ call_text answered.what ++ codes " " ++ took_text answered.took ++ codes "\n"
+    ++ call_text deployed (Some answered.bytes) answered.what ++ codes " " ++ took_text answered.took ++ codes "\n"
 
 -- dates and durations are below 10^33 nanoseconds
 abbrev pub IsDate : ℕ → Type 0
 IsDate ns = ns < 10 ^ 33
 
--- the record is of an actor of the deployment, and of a call that has a line
+-- the record is of an actor of the deployment, and of a call that has a line and keeps to what the deployment has
 pub record IsOfDeployment (deployed : Deployed) (answered : Record) : Type 0 where
-  pub actor : HasActor deployed answered.actor
-  pub call : HasLine answered.what
+  pub actor : IsActorIn (extent_of deployed) answered.actor
+  pub told : HasLine answered.what
+  pub call : IsCall (extent_of deployed) answered.what
   pub date : IsDate answered.date
   pub took : ForSome answered.took IsDate

@@ -14,4 +14,6 @@ pub enum Last {
     Budget(u64, u128),
     /// An actor that was blocked on this call.
     Blocked(ActorId, Call),
+    /// So many actors had so many events.
+    Summary(u64, u64),
 }

@@ -6,8 +6,10 @@ ghost use Rattle.sg_trace.specs.Ending.{IsLastOf, ending_of, last_text};
 ghost use Rattle.sg_trace.specs.Line.{IsDate, IsOfDeployment, line_of};
 ghost use Rattle.sg_units.specs.Date.{date_of};
 
+use crate::calls::push_call;
 use crate::last::Last;
-use crate::pieces::{Line, push_actor, push_call, push_date, push_number, push_took};
+use crate::names::push_actor;
+use crate::pieces::{Line, push_date, push_number, push_took};
 use sg_base::Record;
 use sg_platform::{Deployment, PlatformText};
 
@@ -23,7 +25,7 @@ pub fn line(answered: &Record, platform: &PlatformText, deployment: &Deployment)
     line.push_str(" ");
     push_date(&mut line, answered.date);
     line.push_str("] ");
-    push_call(&mut line, answered.what);
+    push_call(&mut line, deployment, answered.what, Some(answered.bytes));
     line.push_str(" ");
     push_took(&mut line, answered.took);
     line.push_str("\n");
@@ -46,7 +48,7 @@ fn push_last(line: &mut Line, last: Last, platform: &PlatformText, deployment: &
     requires deployed { IsDeployedOn platform.now deployment.now }
     requires room { array_string_len line.old ≤ 200 }
     ensures bytes { line.new.bytes ≡ line.old.bytes ++ last_text last platform.now deployment.now }
-    ensures len { array_string_len line.new ≤ array_string_len line.old + 200 }
+    ensures len { array_string_len line.new ≤ array_string_len line.old + 260 }
 {
     match last {
         Last::Time(date) => push_dated(line, "Simulation time ", date),
@@ -61,7 +63,13 @@ fn push_last(line: &mut Line, last: Last, platform: &PlatformText, deployment: &
             line.push_str("blocked [");
             push_actor(line, platform, deployment, actor);
             line.push_str("] ");
-            push_call(line, call);
+            push_call(line, deployment, call, None);
+        }
+        Last::Summary(actors, events) => {
+            push_number(line, actors);
+            line.push_str(" actors, ");
+            push_number(line, events);
+            line.push_str(" events");
         }
     }
 }

@@ -1,18 +1,15 @@
--- How a line names an actor.
-use Rattle.std.specs.Prelude.{ℕ, ◌-◌, ◌≤◌, List, [], ◌++◌, length, decimal, codes, slice_get}
+-- How a line names an actor, a mutex and a semaphore.
+use Rattle.std.specs.Prelude.{ℕ, ◌-◌, List, [], ◌++◌, decimal, codes, slice_get}
 use Rattle.std.specs.Option.{option_map_or}
 use Rattle.sg_base.specs.declared.ids.ActorId.{ActorId}
 use Rattle.sg_base.specs.declared.ids.PointId.{PointId}
 use Rattle.sg_platform.specs.Deployment.{Deployed}
 use Rattle.sg_platform.specs.Platform.{Platform}
 
--- the first actor of the deployment has the identifier 1
-abbrev pub HasActor : Deployed → ActorId → Type 0
-HasActor deployed actor = (1 ≤ actor.0) × (actor.0 ≤ length deployed.actors)
-
 abbrev pub host_name : Platform → PointId → List ℕ
 host_name platform host = option_map_or (λ row. row.id) (slice_get platform.hosts host.0) []
 
+-- the first actor of the deployment has the identifier 1
 abbrev pub actor_name : Deployed → ActorId → List ℕ
 actor_name deployed actor = option_map_or (λ row. row.name) (slice_get deployed.actors (actor.0 - 1)) []
 
@@ -23,3 +20,9 @@ actor_host platform deployed actor = option_map_or (λ row. host_name platform r
 abbrev pub actor_label : Platform → Deployed → ActorId → List ℕ
 actor_label platform deployed actor =
     actor_host platform deployed actor ++ codes ":" ++ actor_name deployed actor ++ codes ":(" ++ decimal actor.0 ++ codes ")"
+
+abbrev pub mutex_id : Deployed → ℕ → List ℕ
+mutex_id deployed mutex = option_map_or (λ row. row.id) (slice_get deployed.mutexes mutex) []
+
+abbrev pub semaphore_id : Deployed → ℕ → List ℕ
+semaphore_id deployed semaphore = option_map_or (λ row. row.id) (slice_get deployed.semaphores semaphore) []

@@ -1,0 +1,120 @@
+//! The texts of calls.
+ghost use Rattle.std.specs.Prelude.{◌≡◌, ◌≤◌, ◌+◌, ◌++◌, codes, decimal, length};
+ghost use Rattle.arrayvec.specs.ArrayString.{array_string_len};
+ghost use Rattle.sg_base.specs.Limits.{IsBoxIn, IsCall, IsMutexIn, IsSemaphoreIn};
+ghost use Rattle.sg_platform.specs.Deployment.{extent_of};
+ghost use Rattle.sg_trace.specs.Call.{HasLine, brought_text, call_text, receiver_name, sender_name};
+ghost use Rattle.sg_trace.specs.Names.{mutex_id, semaphore_id};
+
+use crate::names::{push_actor_name, push_mutex, push_semaphore};
+use crate::pieces::{Line, push_number};
+use sg_base::{BoxId, Call};
+use sg_platform::Deployment;
+
+fn push_counted(line: &mut Line, word: &str, number: u64)
+    requires word { length word.now ≤ 8 }
+    requires room { array_string_len line.old ≤ 400 }
+    ensures bytes { line.new.bytes ≡ line.old.bytes ++ (word.now ++ decimal number) }
+    ensures len { array_string_len line.new ≤ array_string_len line.old + 28 }
+{
+    line.push_str(word);
+    push_number(line, number);
+}
+
+fn push_sent(line: &mut Line, word: &str, deployment: &Deployment, mailbox: BoxId, bytes: u64)
+    requires mailbox { IsBoxIn (extent_of deployment.now) mailbox }
+    requires word { length word.now ≤ 8 }
+    requires room { array_string_len line.old ≤ 400 }
+    ensures bytes { line.new.bytes ≡ line.old.bytes ++ (word.now ++ receiver_name deployment.now mailbox ++ codes " " ++ decimal bytes) }
+    ensures len { array_string_len line.new ≤ array_string_len line.old + 93 }
+{
+    let receiver = match mailbox {
+        BoxId::Pair(_, to) => to,
+        BoxId::Named(actor) => actor,
+    };
+    line.push_str(word);
+    push_actor_name(line, deployment, receiver);
+    line.push_str(" ");
+    push_number(line, bytes);
+}
+
+fn push_received(line: &mut Line, word: &str, deployment: &Deployment, mailbox: BoxId)
+    requires mailbox { IsBoxIn (extent_of deployment.now) mailbox }
+    requires word { length word.now ≤ 8 }
+    requires room { array_string_len line.old ≤ 400 }
+    ensures bytes { line.new.bytes ≡ line.old.bytes ++ (word.now ++ sender_name deployment.now mailbox) }
+    ensures len { array_string_len line.new ≤ array_string_len line.old + 72 }
+{
+    let sender = match mailbox {
+        BoxId::Pair(from, _) => from,
+        BoxId::Named(actor) => actor,
+    };
+    line.push_str(word);
+    push_actor_name(line, deployment, sender);
+}
+
+/// The bytes that a receive brought, where it is over.
+fn push_brought(line: &mut Line, brought: Option<u64>)
+    requires room { array_string_len line.old ≤ 479 }
+    ensures bytes { line.new.bytes ≡ line.old.bytes ++ brought_text brought }
+    ensures len { array_string_len line.new ≤ array_string_len line.old + 21 }
+{
+    match brought {
+        Some(bytes) => {
+            line.push_str(" ");
+            push_number(line, bytes);
+        }
+        None => {}
+    }
+}
+
+fn push_locked(line: &mut Line, word: &str, deployment: &Deployment, mutex: u32)
+    requires mutex { IsMutexIn (extent_of deployment.now) mutex }
+    requires word { length word.now ≤ 8 }
+    requires room { array_string_len line.old ≤ 400 }
+    ensures bytes { line.new.bytes ≡ line.old.bytes ++ (word.now ++ mutex_id deployment.now mutex) }
+    ensures len { array_string_len line.new ≤ array_string_len line.old + 72 }
+{
+    line.push_str(word);
+    push_mutex(line, deployment, mutex);
+}
+
+fn push_counting(line: &mut Line, word: &str, deployment: &Deployment, semaphore: u32)
+    requires semaphore { IsSemaphoreIn (extent_of deployment.now) semaphore }
+    requires word { length word.now ≤ 8 }
+    requires room { array_string_len line.old ≤ 400 }
+    ensures bytes { line.new.bytes ≡ line.old.bytes ++ (word.now ++ semaphore_id deployment.now semaphore) }
+    ensures len { array_string_len line.new ≤ array_string_len line.old + 72 }
+{
+    line.push_str(word);
+    push_semaphore(line, deployment, semaphore);
+}
+
+/// The text of a call, and of a receive that is over the bytes that it brought.
+pub fn push_call(line: &mut Line, deployment: &Deployment, call: Call, brought: Option<u64>)
+    requires told { HasLine call }
+    requires call { IsCall (extent_of deployment.now) call }
+    requires room { array_string_len line.old ≤ 400 }
+    ensures bytes { line.new.bytes ≡ line.old.bytes ++ call_text deployment.now brought call }
+    ensures len { array_string_len line.new ≤ array_string_len line.old + 93 }
+{
+    match call {
+        Call::Compute(flops) => push_counted(line, "compute ", flops),
+        Call::Sleep(_) => line.push_str("sleep"),
+        Call::Send(mailbox, bytes, _) => push_sent(line, "send ", deployment, mailbox, bytes),
+        Call::Recv(mailbox) => {
+            push_received(line, "recv ", deployment, mailbox);
+            push_brought(line, brought);
+        }
+        Call::ISend(mailbox, bytes, _) => push_sent(line, "isend ", deployment, mailbox, bytes),
+        Call::IRecv(mailbox) => push_received(line, "irecv ", deployment, mailbox),
+        Call::Wait => line.push_str("wait"),
+        Call::Lock(mutex) => push_locked(line, "lock ", deployment, mutex),
+        Call::Unlock(mutex) => push_locked(line, "unlock ", deployment, mutex),
+        Call::Acquire(semaphore) => push_counting(line, "acquire ", deployment, semaphore),
+        Call::Release(semaphore) => push_counting(line, "release ", deployment, semaphore),
+        Call::Barrier => line.push_str("barrier"),
+        Call::Yield => line.push_str("yield"),
+        Call::Ask | Call::Exit => unreachable!(),
+    }
+}
