@@ -1,0 +1,5 @@
+pub mod Fields
+pub mod Places
+pub mod Roles
+pub mod Seen
+pub mod Tape

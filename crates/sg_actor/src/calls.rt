@@ -1,0 +1,48 @@
+//! The calls of those whose numbers never change, which every context makes alike.
+ghost use Rattle.std.specs.Prelude.{◌≡◌, ◌∷◌, []};
+ghost use Rattle.sg_base.specs.Turn.{call_of, replay_turn, worker_turn};
+
+use sg_base::{Action, ActorId, Answer, BoxId, Call, Msg};
+
+/// The call of an actor that replays its lines.
+pub(crate) fn replay_call(me: ActorId, answer: Answer) -> Call
+    ensures { result ≡ (replay_turn (me.0 ∷ []) answer).call }
+{
+    match answer {
+        Answer::Act(action) => action_call(me, action),
+        Answer::NoMore => Call::Exit,
+        _ => Call::Ask,
+    }
+}
+
+// The call by which an actor does an action.
+fn action_call(me: ActorId, action: Action) -> Call
+    ensures { result ≡ call_of me action }
+{
+    match action {
+        Action::Compute(flops) => Call::Compute(flops),
+        Action::Sleep(ns) => Call::Sleep(ns),
+        Action::Send(to, bytes) => Call::Send(BoxId::Pair(me, to), bytes, Msg::Empty),
+        Action::Recv(from) => Call::Recv(BoxId::Pair(from, me)),
+        Action::ISend(to, bytes) => Call::ISend(BoxId::Pair(me, to), bytes, Msg::Empty),
+        Action::IRecv(from) => Call::IRecv(BoxId::Pair(from, me)),
+        Action::Wait => Call::Wait,
+        Action::Lock(mutex) => Call::Lock(mutex),
+        Action::Unlock(mutex) => Call::Unlock(mutex),
+        Action::Acquire(semaphore) => Call::Acquire(semaphore),
+        Action::Release(semaphore) => Call::Release(semaphore),
+        Action::Barrier => Call::Barrier,
+        Action::Yield => Call::Yield,
+    }
+}
+
+/// The call of a worker.
+pub(crate) fn worker_call(me: ActorId, answer: Answer) -> Call
+    ensures { result ≡ (worker_turn (me.0 ∷ []) answer).call }
+{
+    match answer {
+        Answer::Got(Msg::Task(flops)) => Call::Compute(flops),
+        Answer::Got(Msg::Stop) => Call::Exit,
+        _ => Call::Recv(BoxId::Named(me)),
+    }
+}

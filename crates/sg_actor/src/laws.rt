@@ -1,0 +1,20 @@
+//! Laws of roles and rounds.
+ghost use Rattle.sg_base.specs.Limits.{Extent, IsCall};
+ghost use Rattle.sg_base.specs.Mind.{IsMind};
+ghost use Rattle.sg_actor.specs.declared.role.Role.{Role};
+ghost use Rattle.sg_actor.specs.Roles.{mind_of, IsRole};
+ghost use Rattle.sg_actor.specs.Places.{Place, IsPlace, after};
+
+use sg_base::turns_keep_limits;
+
+/// Where a role keeps to the limits, and names actors that exist, so does the mind with which it begins.
+pub fn roles_keep_limits()
+    ensures { (extent : Extent) (role : Role) → IsRole extent role → IsMind extent (mind_of role) }
+{}
+
+/// The same goes on from round to round: a place keeps to the limits behind its turn if its inbox did before.
+pub fn rounds_keep_limits()
+    ensures { (extent : Extent) (place : Place) → IsPlace extent place → IsPlace extent (after place) }
+{
+    turns_keep_limits();
+}

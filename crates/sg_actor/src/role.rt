@@ -1,0 +1,18 @@
+//! The roles of actors.
+use sg_base::{ActorId, Ids};
+
+/// What an actor is to be.
+#[derive(Debug, Drop)]
+pub enum Role {
+    /// This actor replays its lines of the script.
+    Replay(ActorId),
+    /// This actor does the tasks that it is sent.
+    Worker(ActorId),
+    /// It hands so many tasks out, of so many flops and bytes each, to its workers in turn.
+    Master {
+        tasks: u64,
+        flops: u64,
+        bytes: u64,
+        workers: Ids,
+    },
+}

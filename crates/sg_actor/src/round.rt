@@ -1,0 +1,97 @@
+//! Rounds: one turn of each actor that is ready.
+ghost use Rattle.std.specs.Prelude.{◌≡◌, ◌<◌, length, All, map};
+ghost use Rattle.std.specs.Thread.{IsSync, IsSend};
+ghost use Rattle.sg_actor.specs.Places.{after, CanTurn};
+ghost use Rattle.sg_actor.specs.Seen.{seen, all_seen};
+
+use crate::actor::Actor;
+use crate::seat::Seat;
+use std::thread::{Threads, join_mut};
+
+/// Each actor whose seat is ready takes one turn on its inbox, and its call goes into its outbox. Every other seat
+/// stays as it is.
+///
+/// The seats are cut into one chunk for each worker, and each chunk has a thread; which thread has which seats can't be
+/// seen afterwards. It takes no memory.
+pub fn run_round<R: Threads + Sync>(rt: &R, seats: &mut [Seat], workers: u32)
+    requires some { 0 < workers }
+    requires ready { All CanTurn (all_seen (λ b. mind b) seats.old) }
+    ensures { all_seen (λ b. mind b) seats.new ≡ map after (all_seen (λ b. mind b) seats.old) }
+{
+    if seats.is_empty() {
+        return;
+    }
+    let size = seats.len().div_ceil(workers as usize);
+    run_chunks(rt, size, seats);
+}
+
+// The same, in a thread for each chunk of so many seats. The chunks are halved at each step, so the stack grows with the
+// logarithm of their number.
+#[cycle(halves)]
+fn run_chunks<R: Threads + Sync, A: Actor + Send>(rt: &R, size: usize, seats: &mut [Seat<A>])
+    requires size { 0 < size }
+    requires ready { All CanTurn (all_seen A.mind seats.old) }
+    ensures { all_seen A.mind seats.new ≡ map after (all_seen A.mind seats.old) }
+{
+    if seats.len() <= size {
+        run_in_turn(seats);
+        return;
+    }
+    let mid = middle(seats.len(), size);
+    let (front, back) = seats.split_at_mut(mid);
+    run_halves(rt, size, front, back);
+}
+
+// The same of two halves. In a function of its own, so that what the closures ask is what it asks.
+#[cycle(halves)]
+fn run_halves<R: Threads + Sync, A: Actor + Send>(
+    rt: &R,
+    size: usize,
+    front: &mut [Seat<A>],
+    back: &mut [Seat<A>],
+)
+    requires size { 0 < size }
+    requires some { (0 < length front.old) × (0 < length back.old) }
+    requires front { All CanTurn (all_seen A.mind front.old) }
+    requires back { All CanTurn (all_seen A.mind back.old) }
+    ensures front { all_seen A.mind front.new ≡ map after (all_seen A.mind front.old) }
+    ensures back { all_seen A.mind back.new ≡ map after (all_seen A.mind back.old) }
+{
+    let mut first = ||
+        requires { IsSync R.row × IsSend A.row × (0 < size) × All CanTurn (all_seen A.mind front.now) }
+        ensures { all_seen A.mind front.exit.now ≡ map after (all_seen A.mind front.entry.now) }
+    { run_chunks(rt, size, front) };
+    let mut second = ||
+        requires { IsSync R.row × IsSend A.row × (0 < size) × All CanTurn (all_seen A.mind back.now) }
+        ensures { all_seen A.mind back.exit.now ≡ map after (all_seen A.mind back.entry.now) }
+    { run_chunks(rt, size, back) };
+    join_mut(rt, &mut first, &mut second);
+}
+
+// Where the second half of the chunks begins.
+fn middle(len: usize, size: usize) -> usize
+    requires { (0 < size) × (size < len) }
+    ensures { (0 < result) × (result < len) }
+{
+    len.div_ceil(size) / 2 * size
+}
+
+// The same, one after the other.
+fn run_in_turn<A: Actor>(seats: &mut [Seat<A>])
+    requires { All CanTurn (all_seen A.mind seats.old) }
+    ensures { all_seen A.mind seats.new ≡ map after (all_seen A.mind seats.old) }
+{
+    for i in 0..seats.len() {
+        run_seat(&mut seats[i]);
+    }
+}
+
+// One turn of the actor of a seat, where it is ready.
+fn run_seat<A: Actor>(seat: &mut Seat<A>)
+    requires { CanTurn (seen A.mind seat.old) }
+    ensures { seen A.mind seat.new ≡ after (seen A.mind seat.old) }
+{
+    if seat.ready {
+        seat.outbox = seat.actor.turn(seat.inbox);
+    }
+}

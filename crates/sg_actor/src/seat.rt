@@ -1,0 +1,15 @@
+//! The seats of a round.
+use crate::actor::Actor;
+use sg_base::{Answer, Call};
+
+/// Where an actor sits from round to round.
+#[derive(Drop)]
+pub struct Seat<A = Box<dyn Actor + Send>> {
+    pub actor: A,
+    /// The answer for its next turn.
+    pub inbox: Answer,
+    /// The call of its last turn.
+    pub outbox: Call,
+    /// Whether it takes a turn in the next round.
+    pub ready: bool,
+}

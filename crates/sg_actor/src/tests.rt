@@ -1,0 +1,230 @@
+//! Turns of contexts, and rounds of boxed ones beside actors of the tests' own.
+ghost use Rattle.std.specs.Prelude.{◌≡◌, IsSome};
+ghost use Rattle.sg_actor.specs.Roles.{CanCast};
+ghost use Rattle.sg_actor.specs.Seen.{seen};
+
+use crate::{Actor, PlainContext, Role, Seat, TapeContext, run_round};
+use sg_base::{Action, ActorId, Answer, BoxId, Call, Ids, Memory, Msg};
+use std::alloc::Global;
+use std::process::Abort;
+use std::sync::Arc;
+use std::sync::atomic::{AtomicU64, Ordering};
+use std::test::Fail;
+
+const ME: ActorId = ActorId(1);
+
+const FIRST: BoxId = BoxId::Named(ActorId(2));
+
+const SECOND: BoxId = BoxId::Named(ActorId(3));
+
+// The turns of both contexts in a role: each answer, and the call that is wanted.
+fn takes_turns(
+    rt: &impl Abort,
+    alloc: Global,
+    role: &Role,
+    turns: &[(Answer, Call)],
+) -> Result<(), Memory>
+    requires { CanCast role.now }
+{
+    let mut plain = PlainContext::new(alloc);
+    let mut tape = TapeContext::new(alloc);
+    plain.cast(role)?;
+    tape.cast(role)?;
+    for (answer, want) in turns {
+        assert!(rt; !plain.is_blank() && !tape.is_blank());
+        assert_eq!(rt; plain.turn(*answer), *want);
+        assert_eq!(rt; tape.turn(*answer), *want);
+    }
+    Ok(())
+}
+
+#[test]
+fn turns_of_a_master(rt: HostRuntime) -> Result<(), Fail> {
+    let workers = [ActorId(2), ActorId(3)].to_vec(rt.alloc())?;
+    let role = Role::Master {
+        tasks: 3,
+        flops: 5,
+        bytes: 7,
+        workers: Ids::from_vec(workers),
+    };
+    let turns = [
+        (Answer::Start, Call::Send(FIRST, 7, Msg::Task(5))),
+        (Answer::Done, Call::Send(SECOND, 7, Msg::Task(5))),
+        (Answer::Done, Call::Send(FIRST, 7, Msg::Task(5))),
+        (Answer::Done, Call::Send(FIRST, 0, Msg::Stop)),
+        (Answer::Done, Call::Send(SECOND, 0, Msg::Stop)),
+        (Answer::Done, Call::Exit),
+        (Answer::Start, Call::Exit),
+    ];
+    takes_turns(&rt, rt.alloc(), &role, &turns)?;
+    Ok(())
+}
+
+#[test]
+fn turns_of_a_worker(rt: HostRuntime) -> Result<(), Fail> {
+    let mine = Call::Recv(BoxId::Named(ME));
+    let turns = [
+        (Answer::Start, mine),
+        (Answer::Got(Msg::Task(5)), Call::Compute(5)),
+        (Answer::Done, mine),
+        (Answer::Got(Msg::Empty), mine),
+        (Answer::Got(Msg::Stop), Call::Exit),
+        (Answer::Got(Msg::Task(5)), Call::Exit),
+    ];
+    takes_turns(&rt, rt.alloc(), &Role::Worker(ME), &turns)?;
+    Ok(())
+}
+
+#[test]
+fn turns_of_a_replay(rt: HostRuntime) -> Result<(), Fail> {
+    let there = BoxId::Pair(ME, ActorId(2));
+    let back = BoxId::Pair(ActorId(2), ME);
+    let turns = [
+        (Answer::Start, Call::Ask),
+        (
+            Answer::Act(Action::Send(ActorId(2), 7)),
+            Call::Send(there, 7, Msg::Empty),
+        ),
+        (Answer::Done, Call::Ask),
+        (Answer::Act(Action::Recv(ActorId(2))), Call::Recv(back)),
+        (Answer::Got(Msg::Empty), Call::Ask),
+        (Answer::NoMore, Call::Exit),
+        (Answer::Act(Action::Wait), Call::Exit),
+    ];
+    takes_turns(&rt, rt.alloc(), &Role::Replay(ME), &turns)?;
+    Ok(())
+}
+
+/// An actor that counts its turns.
+#[derive(Drop)]
+struct Counter {
+    inner: TapeContext,
+    turns: Arc<AtomicU64>,
+}
+
+impl Actor for Counter {
+    ghost mind = { λ s. s.inner };
+
+    fn is_blank(&self) -> bool {
+        self.inner.is_blank()
+    }
+
+    fn cast(&mut self, role: &Role) -> Result<(), Memory> {
+        self.inner.cast(role)
+    }
+
+    fn turn(&mut self, answer: Answer) -> Call {
+        self.turns.fetch_add(1, Ordering::SeqCst);
+        self.inner.turn(answer)
+    }
+}
+
+// A seat of an actor that was cast, with a call in its outbox that no actor of these roles makes.
+fn seat(rt: &impl Abort, actor: Box<dyn Actor + Send>, ready: bool) -> Seat
+    ensures seen { seen (λ b. mind b) result ≡ record { mind = mind actor; inbox = Answer.Start; outbox = Call.Yield; ready = ready } }
+    ensures cast { IsSome (mind actor) }
+{
+    assert!(rt; !actor.is_blank());
+    Seat {
+        actor,
+        inbox: Answer::Start,
+        outbox: Call::Yield,
+        ready,
+    }
+}
+
+fn plain(alloc: Global) -> Result<PlainContext, Memory> {
+    let mut plain = PlainContext::new(alloc);
+    plain.cast(&Role::Replay(ME))?;
+    Ok(plain)
+}
+
+fn counting(alloc: Global, turns: &Arc<AtomicU64>) -> Result<Counter, Fail> {
+    let mut counter = Counter {
+        inner: TapeContext::new(alloc),
+        turns: Arc::try_clone(turns)?,
+    };
+    counter.cast(&Role::Replay(ME))?;
+    Ok(counter)
+}
+
+#[test]
+fn only_ready_seats_take_a_turn(rt: HostRuntime) -> Result<(), Fail> {
+    let alloc = rt.alloc();
+    let turns = Arc::new(alloc, AtomicU64::new(0))?;
+    let mut seats = [
+        seat(&rt, Box::new(alloc, plain(alloc)?)?, true),
+        seat(&rt, Box::new(alloc, counting(alloc, &turns)?)?, false),
+        seat(&rt, Box::new(alloc, plain(alloc)?)?, false),
+        seat(&rt, Box::new(alloc, counting(alloc, &turns)?)?, true),
+        seat(&rt, Box::new(alloc, counting(alloc, &turns)?)?, true),
+    ];
+    run_round(&rt, &mut seats, 3);
+    let want = [Call::Ask, Call::Yield, Call::Yield, Call::Ask, Call::Ask];
+    for (seat, want) in seats.iter().zip(want) {
+        assert_eq!(rt; seat.outbox, want);
+    }
+    assert_eq!(rt; turns.load(Ordering::SeqCst), 2);
+    Ok(())
+}
+
+/// An actor that sets its flag and looks for another's before its turn.
+#[derive(Drop)]
+struct Looker {
+    inner: PlainContext,
+    mine: Arc<AtomicU64>,
+    other: Arc<AtomicU64>,
+    found: Arc<AtomicU64>,
+}
+
+impl Actor for Looker {
+    ghost mind = { λ s. s.inner };
+
+    fn is_blank(&self) -> bool {
+        self.inner.is_blank()
+    }
+
+    fn cast(&mut self, role: &Role) -> Result<(), Memory> {
+        self.inner.cast(role)
+    }
+
+    fn turn(&mut self, answer: Answer) -> Call {
+        self.mine.store(1, Ordering::SeqCst);
+        for _i in 0..100_000_000u32 {
+            if self.other.load(Ordering::SeqCst) == 1 {
+                self.found.fetch_add(1, Ordering::SeqCst);
+                break;
+            }
+        }
+        self.inner.turn(answer)
+    }
+}
+
+// One that looks for a flag.
+fn looker_for(
+    alloc: Global,
+    mine: &Arc<AtomicU64>,
+    other: &Arc<AtomicU64>,
+    found: &Arc<AtomicU64>,
+) -> Result<Looker, Fail> {
+    Ok(Looker {
+        inner: plain(alloc)?,
+        mine: Arc::try_clone(mine)?,
+        other: Arc::try_clone(other)?,
+        found: Arc::try_clone(found)?,
+    })
+}
+
+#[test]
+fn two_flags(rt: HostRuntime) -> Result<(), Fail> {
+    let alloc = rt.alloc();
+    let a = Arc::new(alloc, AtomicU64::new(0))?;
+    let b = Arc::new(alloc, AtomicU64::new(0))?;
+    let found = Arc::new(alloc, AtomicU64::new(0))?;
+    let first = Box::new(alloc, looker_for(alloc, &a, &b, &found)?)?;
+    let second = Box::new(alloc, looker_for(alloc, &b, &a, &found)?)?;
+    let mut seats = [seat(&rt, first, true), seat(&rt, second, true)];
+    run_round(&rt, &mut seats, 2);
+    assert_eq!(rt; found.load(Ordering::SeqCst), 2);
+    Ok(())
+}
