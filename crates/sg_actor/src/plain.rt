@@ -134,7 +134,7 @@ fn fields_turn(fields: &mut Fields, answer: Answer) -> Call
             bytes,
             next,
             workers,
-        } => { master_call(*tasks, *flops, *bytes, next, workers.as_slice()) }
+        } => master_call(*tasks, *flops, *bytes, next, workers.as_slice()),
     }
 }
 

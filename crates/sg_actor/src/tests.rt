@@ -3,7 +3,7 @@ ghost use Rattle.std.specs.Prelude.{◌≡◌, IsSome};
 ghost use Rattle.sg_actor.specs.Roles.{CanCast};
 ghost use Rattle.sg_actor.specs.Seen.{seen};
 
-use crate::{Actor, PlainContext, Role, Seat, TapeContext, run_round};
+use crate::{Actor, PlainContext, Role, Seat, TapeContext, all_blank, run_round};
 use sg_base::{Action, ActorId, Answer, BoxId, Call, Ids, Memory, Msg};
 use std::alloc::Global;
 use std::process::Abort;
@@ -226,5 +226,19 @@ fn two_flags(rt: HostRuntime) -> Result<(), Fail> {
     let mut seats = [seat(&rt, first, true), seat(&rt, second, true)];
     run_round(&rt, &mut seats, 2);
     assert_eq!(rt; found.load(Ordering::SeqCst), 2);
+    Ok(())
+}
+
+#[test]
+fn crew_is_blank_until_one_is_cast(rt: HostRuntime) -> Result<(), Fail> {
+    let alloc = rt.alloc();
+    let mut crew: [Box<dyn Actor + Send>; 2] = [
+        Box::new(alloc, PlainContext::new(alloc))?,
+        Box::new(alloc, TapeContext::new(alloc))?,
+    ];
+    assert!(rt; all_blank(&crew));
+    assert!(rt; crew[1].is_blank());
+    crew[1].cast(&Role::Worker(ME))?;
+    assert!(rt; !all_blank(&crew));
     Ok(())
 }
