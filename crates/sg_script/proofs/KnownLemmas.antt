@@ -1,18 +1,24 @@
--- The actors of a deployment are numbered from 1.
-use Rattle.std.proofs.Common.{◌≡◌, ◌<◌, ◌≤◌, ◌+◌, refl, ℕ, List, Option, None, Some, arith}
+-- What a name of a deployment stands for exists.
+use Rattle.std.proofs.Common.{◌≡◌, ◌<◌, ◌+◌, refl, ℕ, List, Option, None, Some, arith}
 use Rattle.std.specs.Prelude.{IfSome, option_map}
 use Rattle.sg_base.specs.declared.ids.ActorId.{ActorId}
-use Rattle.sg_platform.proofs.Numbers.{replay_below}
-use Rattle.sg_platform.specs.Deployment.{Deployed, replay_actor_named}
+use Rattle.sg_base.specs.Limits.{Extent, IsActorIn}
+use Rattle.sg_platform.proofs.Numbers.{mutex_below, replay_below, semaphore_below}
+use Rattle.sg_platform.specs.Deployment.{Deployed, extent_of, mutex_named, replay_actor_named, semaphore_named}
 use Rattle.sg_platform.specs.Index.{replay_number}
-use Rattle.sg_script.specs.Known.{actors_in}
 
-abbrev IsUpTo : ℕ → ActorId → Type 0
-IsUpTo n actor = actor.0 ≤ n
+-- the actors of a deployment are numbered from 1
+numbered_from_1 : (extent : Extent) (row : Option ℕ) → ((i : ℕ) → row ≡ Some i → i < extent.actors) → IfSome (option_map (λ i. record { 0 = i + 1 }) row) (IsActorIn extent)
+numbered_from_1 extent None below = tt
+numbered_from_1 extent (Some i) below = let it = below i refl in (omega (arith, it), omega (arith, it))
 
-numbered_from_1 : (n : ℕ) (row : Option ℕ) → ((i : ℕ) → row ≡ Some i → i < n) → IfSome (option_map (λ i. record { 0 = i + 1 }) row) (IsUpTo n)
-numbered_from_1 n None below = tt
-numbered_from_1 n (Some i) below = omega (arith, below i refl)
+pub actor_exists : (deployment : Deployed) (name : List ℕ) (actor : ActorId) → replay_actor_named deployment name ≡ Some actor → IsActorIn (extent_of deployment) actor
+actor_exists deployment name actor is =
+    let it = rw is at (numbered_from_1 (extent_of deployment) (replay_number deployment.actors name) (replay_below deployment.actors name)) in
+    it
 
-pub named_within : (deployment : Deployed) (name : List ℕ) → IfSome (replay_actor_named deployment name) (λ actor. actor.0 ≤ actors_in deployment)
-named_within deployment name = numbered_from_1 (actors_in deployment) (replay_number deployment.actors name) (replay_below deployment.actors name)
+pub mutex_exists : (deployment : Deployed) (name : List ℕ) (number : ℕ) → mutex_named deployment name ≡ Some number → number < (extent_of deployment).mutexes
+mutex_exists deployment name number is = mutex_below deployment.mutexes name number is
+
+pub semaphore_exists : (deployment : Deployed) (name : List ℕ) (number : ℕ) → semaphore_named deployment name ≡ Some number → number < (extent_of deployment).semaphores
+semaphore_exists deployment name number is = semaphore_below deployment.semaphores name number is

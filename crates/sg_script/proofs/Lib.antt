@@ -2,6 +2,7 @@ pub mod Asking
 pub mod Chains
 pub mod FrontLemmas
 pub mod KnownLemmas
+pub mod LimitLemmas
 pub mod Needs
 pub mod QueueLemmas
 pub mod Rows

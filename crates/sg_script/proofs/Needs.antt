@@ -5,7 +5,7 @@ use Rattle.std.proofs.lemmas.Bool.{cases_Bool, cases_lt}
 use Rattle.std.proofs.lemmas.Bool.Decides.{nat_tests}
 use Rattle.std.proofs.lemmas.List.Splits.{slice_split-cons_no, slice_split-cons_yes}
 use Rattle.sg_script.specs.declared.fault.LineFault.{LineFault}
-use Rattle.sg_script.specs.declared.fault.LineFault.TheVariants.{TooLong, NotAscii, UnknownActor, UnknownAction, ArgumentCount, BadAmount, TooManyLines}
+use Rattle.sg_script.specs.declared.fault.LineFault.TheVariants.{TooLong, NotAscii, UnknownActor, UnknownAction, ArgumentCount, BadAmount, TooManyLines, UnknownObject}
 use Rattle.sg_script.specs.Known.{Known}
 use Rattle.sg_script.proofs.Splits.{none_cases}
 use Rattle.sg_script.specs.Asked.{is_newline, is_last_line}
@@ -46,6 +46,7 @@ bad_least UnknownActor m n h long = h
 bad_least UnknownAction m n h long = h
 bad_least ArgumentCount m n h long = h
 bad_least BadAmount m n h long = h
+bad_least UnknownObject m n h long = h
 
 line_least : (j : Judgement) (actor earlier m n : ℕ) (behind : ℕ → ℕ) → m < n → m < 4097 → m < of_line j actor earlier n behind
 line_least (Ok None) actor earlier m n behind h long = omega (arith, h)

@@ -44,8 +44,3 @@ pub no_queue : (n actor : ℕ) → queue_at (replicate n []) actor ≡ []
 no_queue zero actor = refl
 no_queue (suc n) zero = refl
 no_queue (suc n) (suc actor) = no_queue n actor
-
-pub empty_limited : {D : Type 0} (f : D → List Action) (lists : List D) (n : ℕ) → map f lists ≡ replicate n [] → All (λ list. All IsAction (f list)) lists
-empty_limited f lists n are k d below k' d' below' =
-    let none : f (get_or lists k d) ≡ [] = sym (get_or-map f lists k d [] below) ∙ ap (λ (qs : List (List Action)). queue_at qs k) are ∙ no_queue n k in
-    absurd (omega (arith, below', ap length none))

@@ -13,6 +13,8 @@ use Rattle.sg_script.specs.Needed.{needed}
 abbrev two : Known
 two = record {
   actor = λ name. cond (bytes_eq name (codes "p0")) (Some (record { 0 = 1 })) (cond (bytes_eq name (codes "p1")) (Some (record { 0 = 2 })) None);
+  mutex = λ name. None;
+  semaphore = λ name. None;
 }
 
 abbrev bad_third : Source

@@ -1,6 +1,7 @@
 -- What is kept of a script that was read in part, what whole scripts it stands for, and what an Ask does.
 use Rattle.std.specs.Prelude.{◌≡◌, ℕ, Bool, ◌+◌, ◌-◌, ◌++◌, List, [], length, slice_get, Option, Result, ◌≢◌, ◌<◌, ◌⊎◌, suc, Ok, Err, if◌then◌else◌, ◌==◌, ◌≤◌, IfOk, IfSome}
-use Rattle.sg_base.specs.Limits.{IsAction}
+use Rattle.std.specs.List.{All}
+use Rattle.sg_base.specs.Limits.{Extent, IsAction}
 use Rattle.sg_edge.specs.Files.{before, PartView}
 use Rattle.sg_edge.specs.declared.files.Stage.{Stage}
 use Rattle.sg_base.specs.declared.call.Action.{Action}
@@ -87,6 +88,10 @@ pub record Breaking (old new : PartView) : Type 0 where
   pub sound : new.stage ≢ Broken → new.faults ≡ old.faults
   pub begun : new.stage ≢ Fresh
 
--- an action that is answered keeps to the limits of amounts
-abbrev pub IsLimited : Result (Option Action) ScriptFault → Type 0
-IsLimited answer = IfOk answer (λ found. IfSome found IsAction)
+-- an action that is answered keeps to the limits, and what it names exists
+abbrev pub IsLimited : Extent → Result (Option Action) ScriptFault → Type 0
+IsLimited extent answer = IfOk answer (λ found. IfSome found (IsAction extent))
+
+-- so do all actions that wait
+pub record AreLimited (extent : Extent) (kept : Kept) : Type 0 where
+  pub queues : All (λ queue. All (IsAction extent) queue) kept.queues

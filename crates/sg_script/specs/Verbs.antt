@@ -1,11 +1,27 @@
 -- The actions of a script by their words.
-use Rattle.std.specs.Prelude.{ℕ, List, Option, Some, None, if◌then◌else◌, codes}
-use Rattle.std.specs.Str.{bytes_eq}
+use Rattle.std.specs.Prelude.{ℕ, List, [], ◌∷◌, map, codes, bytes_eq, Option, option_map}
+use Rattle.std.specs.Borrow.{Bor}
+use Rattle.std.specs.List.{find}
 use Rattle.sg_script.specs.declared.verbs.Verb.{Verb}
-use Rattle.sg_script.specs.declared.verbs.Verb.TheVariants.{Compute, Sleep}
+use Rattle.sg_script.specs.declared.verbs.Verb.TheVariants.{Compute, Sleep, Send, ISend, Recv, IRecv, Wait, Barrier, Yield, Lock, Unlock, Acquire, Release}
+
+-- actions, each with its word
+abbrev pub VerbTable : Type 0
+VerbTable = List (List ℕ × Verb)
+
+-- the action of this word in a table
+abbrev pub verb_in : VerbTable → List ℕ → Option Verb
+verb_in table word = option_map (λ row. row.1) (find (λ row. bytes_eq row.0 word) table)
+
+-- the rows of a table in the code
+abbrev pub rows : List (Bor (List ℕ) × Verb) → VerbTable
+rows table = map (λ row. (row.0.now, row.1)) table
+
+abbrev pub all_verbs : VerbTable
+all_verbs = (codes "compute", Compute) ∷ (codes "sleep", Sleep) ∷ (codes "send", Send) ∷ (codes "isend", ISend)
+    ∷ (codes "recv", Recv) ∷ (codes "irecv", IRecv) ∷ (codes "wait", Wait) ∷ (codes "barrier", Barrier)
+    ∷ (codes "yield", Yield) ∷ (codes "lock", Lock) ∷ (codes "unlock", Unlock) ∷ (codes "acquire", Acquire)
+    ∷ (codes "release", Release) ∷ []
 
 abbrev pub verb_of : List ℕ → Option Verb
-verb_of word =
-    if bytes_eq word (codes "compute") then Some Compute
-    else if bytes_eq word (codes "sleep") then Some Sleep
-    else None
+verb_of word = verb_in all_verbs word

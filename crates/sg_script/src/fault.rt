@@ -8,7 +8,7 @@ pub enum LineFault {
     TooLong,
     /// It has a byte that is neither a tab nor in 0x20 to 0x7E.
     NotAscii,
-    /// Its first word isn't a replay actor.
+    /// Its first word isn't a replay actor, or an argument that names another actor isn't one.
     UnknownActor,
     /// It has no second word, or one that isn't an action.
     UnknownAction,
@@ -18,6 +18,8 @@ pub enum LineFault {
     BadAmount,
     /// It is line 100,000,001. This is told before all else.
     TooManyLines,
+    /// An argument that isn't the name of a mutex, or of a semaphore.
+    UnknownObject,
 }
 
 /// Why an Ask has no answer.

@@ -1,7 +1,9 @@
 //! The judgement of a line by its number too, and when it answers an Ask.
 ghost use Rattle.std.specs.Prelude.{◌≡◌, ◌≤◌, ◌+◌, IfSome};
+ghost use Rattle.sg_base.specs.Limits.{Extent};
+ghost use Rattle.sg_platform.specs.Deployment.{extent_of};
 ghost use Rattle.sg_script.specs.Asked.{judged};
-ghost use Rattle.sg_script.specs.Known.{known_in, actors_in};
+ghost use Rattle.sg_script.specs.Known.{known_in};
 ghost use Rattle.sg_script.specs.Line.{KeepsLimits};
 ghost use Rattle.sg_script.specs.Stands.{IsLimited};
 ghost use Rattle.sg_script.specs.Steps.{settled};
@@ -18,7 +20,7 @@ pub const MOST_LINES: u64 = 100_000_000;
 pub fn judge(line: &[u8], before: u64, deployment: &Deployment) -> Result<Option<Entry>, LineFault>
     requires { before ≤ 100000000 }
     ensures said { result ≡ judged (known_in deployment.now) (before + 1) line.now }
-    ensures limits { KeepsLimits (actors_in deployment.now) result }
+    ensures limits { KeepsLimits (extent_of deployment.now) result }
 {
     if before >= MOST_LINES {
         return Err(LineFault::TooManyLines);
@@ -31,7 +33,7 @@ pub fn settle(
     taken: Result<Option<Action>, ScriptFault>,
 ) -> Option<Result<Option<Action>, ScriptFault>>
     ensures settled { result ≡ settled taken }
-    ensures limited { IsLimited taken → IfSome result IsLimited }
+    ensures limited { (extent : Extent) → IsLimited extent taken → IfSome result (IsLimited extent) }
 {
     match taken {
         Ok(None) => None,

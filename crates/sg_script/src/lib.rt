@@ -1,6 +1,7 @@
 //! Scripts: what their lines say, and the answers to what actors ask of them, read on demand.
 #![tactic(auto)]
 
+mod arguments;
 mod fault;
 mod front;
 mod judging;

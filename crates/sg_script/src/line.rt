@@ -1,17 +1,18 @@
 //! What one line of a script says.
-ghost use Rattle.std.specs.Prelude.{◌≡◌, ◌≤◌, IfOk, IfSome};
+ghost use Rattle.std.specs.Prelude.{◌≡◌, IfOk};
 ghost use Rattle.std.specs.List.{list_all};
-ghost use Rattle.sg_base.specs.Limits.{IsAction, IsAmount, IsTime};
-ghost use Rattle.sg_script.specs.Known.{known_in, actors_in};
-ghost use Rattle.sg_script.specs.Line.{line_of, text_of, entry_of, action_of, without_return, is_plain, amount_in, time_in, KeepsLimits};
+ghost use Rattle.sg_base.specs.Limits.{IsAction};
+ghost use Rattle.sg_platform.specs.Deployment.{extent_of};
+ghost use Rattle.sg_script.specs.Known.{known_in};
+ghost use Rattle.sg_script.specs.Line.{line_of, text_of, entry_of, action_of, without_return, is_plain, KeepsLimits};
 ghost use Rattle.sg_script.specs.Words.{words};
 
+use crate::arguments::{actor, alone, amount, mutex, receiving, semaphore, sending, time};
 use crate::fault::LineFault;
 use crate::verbs::{Verb, read_verb};
 use crate::words::{next_word, one};
 use sg_base::{Action, ActorId};
 use sg_platform::Deployment;
-use sg_units::{read_amount, read_time};
 
 /// The most bytes of a line, its newline not counted.
 pub const LONGEST_LINE: usize = 4096;
@@ -23,61 +24,47 @@ pub struct Entry {
     pub action: Action,
 }
 
-fn amount(text: &[u8]) -> Result<u64, LineFault>
-    ensures value { result ≡ amount_in text.now }
-    ensures limit { IfOk result IsAmount }
-{
-    match read_amount(text) {
-        Ok(n) => Ok(n),
-        Err(_) => Err(LineFault::BadAmount),
-    }
-}
-
-fn time(text: &[u8]) -> Result<u64, LineFault>
-    ensures value { result ≡ time_in text.now }
-    ensures limit { IfOk result IsTime }
-{
-    match read_time(text) {
-        Ok(n) => Ok(n),
-        Err(_) => Err(LineFault::BadAmount),
-    }
-}
-
 // The action with the arguments that stand in this text.
-fn read_action(verb: Verb, text: &[u8]) -> Result<Action, LineFault>
-    ensures said { result ≡ action_of verb (words text.now) }
-    ensures limit { IfOk result IsAction }
+fn read_action(verb: Verb, text: &[u8], deployment: &Deployment) -> Result<Action, LineFault>
+    ensures said { result ≡ action_of (known_in deployment.now) verb (words text.now) }
+    ensures limits { IfOk result (IsAction (extent_of deployment.now)) }
 {
     match verb {
         Verb::Compute => Ok(Action::Compute(amount(one(text)?)?)),
         Verb::Sleep => Ok(Action::Sleep(time(one(text)?)?)),
+        Verb::Send => {
+            let (to, bytes) = sending(text, deployment)?;
+            Ok(Action::Send(to, bytes))
+        }
+        Verb::ISend => {
+            let (to, bytes) = sending(text, deployment)?;
+            Ok(Action::ISend(to, bytes))
+        }
+        Verb::Recv => Ok(Action::Recv(receiving(text, deployment)?)),
+        Verb::IRecv => Ok(Action::IRecv(receiving(text, deployment)?)),
+        Verb::Wait => alone(Action::Wait, text),
+        Verb::Barrier => alone(Action::Barrier, text),
+        Verb::Yield => alone(Action::Yield, text),
+        Verb::Lock => Ok(Action::Lock(mutex(one(text)?, deployment)?)),
+        Verb::Unlock => Ok(Action::Unlock(mutex(one(text)?, deployment)?)),
+        Verb::Acquire => Ok(Action::Acquire(semaphore(one(text)?, deployment)?)),
+        Verb::Release => Ok(Action::Release(semaphore(one(text)?, deployment)?)),
     }
-}
-
-// The replay actor of that name.
-#[tactic(auto, using(crate::proofs::KnownLemmas::named_within))]
-fn actor_named(deployment: &Deployment, name: &[u8]) -> Option<ActorId>
-    ensures named { result ≡ (known_in deployment.now).actor name.now }
-    ensures within { IfSome result (λ actor. actor.0 ≤ actors_in deployment.now) }
-{
-    deployment.replay_actor(name)
 }
 
 // The entry of a first word and the text behind it.
 fn read_entry(name: &[u8], text: &[u8], deployment: &Deployment) -> Result<Option<Entry>, LineFault>
     ensures said { result ≡ entry_of (known_in deployment.now) name.now (words text.now) }
-    ensures limits { KeepsLimits (actors_in deployment.now) result }
+    ensures limits { KeepsLimits (extent_of deployment.now) result }
 {
-    let Some(actor) = actor_named(deployment, name) else {
-        return Err(LineFault::UnknownActor);
-    };
+    let actor = actor(name, deployment)?;
     let Some((word, rest)) = next_word(text) else {
         return Err(LineFault::UnknownAction);
     };
     let Some(verb) = read_verb(word) else {
         return Err(LineFault::UnknownAction);
     };
-    let action = read_action(verb, rest)?;
+    let action = read_action(verb, rest, deployment)?;
     Ok(Some(Entry { actor, action }))
 }
 
@@ -99,7 +86,7 @@ fn without_end(line: &[u8]) -> &[u8]
 
 fn read_text(text: &[u8], deployment: &Deployment) -> Result<Option<Entry>, LineFault>
     ensures said { result ≡ text_of (known_in deployment.now) text.now }
-    ensures limits { KeepsLimits (actors_in deployment.now) result }
+    ensures limits { KeepsLimits (extent_of deployment.now) result }
 {
     let Some((first, rest)) = next_word(text) else {
         return Ok(None);
@@ -120,7 +107,7 @@ fn read_text(text: &[u8], deployment: &Deployment) -> Result<Option<Entry>, Line
 /// actor, an action and the arguments of the action. It takes no memory.
 pub fn read_line(line: &[u8], deployment: &Deployment) -> Result<Option<Entry>, LineFault>
     ensures said { result ≡ line_of (known_in deployment.now) line.now }
-    ensures limits { KeepsLimits (actors_in deployment.now) result }
+    ensures limits { KeepsLimits (extent_of deployment.now) result }
 {
     if line.len() > LONGEST_LINE {
         return Err(LineFault::TooLong);

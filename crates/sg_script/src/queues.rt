@@ -1,6 +1,5 @@
 //! The actions that wait for each actor, first in, first out.
-ghost use Rattle.std.specs.Prelude.{◌≡◌, ◌<◌, ◌++◌, ◌∷◌, [], length, replicate, slice_set, IfOk, IfSome, IfNone, OnOk, OnErr};
-ghost use Rattle.sg_base.specs.Limits.{IsAction};
+ghost use Rattle.std.specs.Prelude.{◌≡◌, ◌<◌, ◌++◌, ◌∷◌, [], length, replicate, slice_set, IfOk, IfNone, OnOk, OnErr};
 ghost use Rattle.sg_script.specs.Queues.{queue_at, popped};
 
 use sg_base::{Action, ActorId, Memory};
@@ -8,8 +7,7 @@ use std::alloc::Global;
 use std::collections::VecDeque;
 use std::marker::Model;
 
-/// A queue for each actor, at the place of its identifier. No actor has the identifier 0, so that queue is empty. The
-/// amounts of all actions keep to their limits.
+/// A queue for each actor, at the place of its identifier. No actor has the identifier 0, so that queue is empty.
 #[derive(Drop)]
 pub struct Queues {
     lists: Vec<VecDeque<Action>>,
@@ -18,14 +16,10 @@ pub struct Queues {
 impl Model for Queues {
     ghost use Rattle.std.specs.Prelude.{List, map};
     ghost use Rattle.sg_base.specs.declared.call.Action.{Action};
-    ghost use Rattle.std.specs.List.{All};
-    ghost use Rattle.sg_base.specs.Limits.{IsAction};
 
     ghost Value = { List (List Action) };
 
     ghost view = { λ q. map (λ list. list.items) q.lists.items };
-
-    ghost invariant = { λ q. All (λ list. All IsAction list.items) q.lists.items };
 }
 
 impl Queues {
@@ -42,8 +36,7 @@ impl Queues {
 
     /// Puts an action behind those that wait for the actor.
     pub fn push(&mut self, actor: ActorId, action: Action) -> Result<(), Memory>
-        requires actor { actor.0 < length self.old }
-        requires limited { IsAction action }
+        requires { actor.0 < length self.old }
         ensures ok { OnOk result (self.new ≡ slice_set self.old actor.0 (queue_at self.old actor.0 ++ action ∷ [])) }
         ensures err { OnErr result (self.new ≡ self.old) }
     {
@@ -58,7 +51,6 @@ impl Queues {
         requires { actor.0 < length self.old }
         ensures first { queue_at self.old actor.0 ≡ popped result (queue_at self.new actor.0) }
         ensures empty { IfNone result (queue_at self.old actor.0 ≡ []) }
-        ensures limited { IfSome result IsAction }
         ensures others { self.new ≡ slice_set self.old actor.0 (queue_at self.new actor.0) }
     {
         self.lists[actor.0 as usize].pop_front()

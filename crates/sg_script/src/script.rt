@@ -1,8 +1,9 @@
 //! A script of which lines are read when an actor asks for one.
 ghost use Rattle.std.specs.Prelude.{◌≡◌, ◌≢◌, ◌<◌, ◌≤◌, ◌+◌, ℕ, List, [], length, take, drop, IfOk, IfSome, Ok};
-ghost use Rattle.sg_base.specs.Limits.{IsAction};
+ghost use Rattle.sg_base.specs.Limits.{Extent, IsAction};
 ghost use Rattle.sg_edge.specs.declared.files.Stage.TheVariants.{Fresh, Begun};
 ghost use Rattle.sg_edge.specs.Files.{Only};
+ghost use Rattle.sg_platform.specs.Deployment.{extent_of};
 ghost use Rattle.sg_script.specs.Asked.{judged};
 ghost use Rattle.sg_script.specs.Known.{known_in, actors_in};
 
@@ -36,13 +37,15 @@ impl Script {
     ghost use Rattle.sg_script.specs.Frugal.{SpentIs, Frugal};
     ghost use Rattle.sg_script.specs.Known.{Known};
     ghost use Rattle.sg_script.specs.Queues.{queue_at};
-    ghost use Rattle.sg_script.specs.Stands.{IsLimited, AskIs, IsRead, Breaking, actors_of, kept_of, Stands};
+    ghost use Rattle.sg_script.specs.Stands.{AreLimited, IsLimited, AskIs, IsRead, Breaking, actors_of, kept_of, Stands};
     ghost use Rattle.sg_script.specs.Steps.{LineIs, StepIs, Ends, ReadIs};
 
     /// A script of which nothing was read, for so many actors.
+    #[tactic(auto, using(crate::proofs::LimitLemmas::limited_none))]
     pub fn new(alloc: Global, actors: u32) -> Result<Script, Memory>
         ensures actors { IfOk result (λ s. actors_of s ≡ actors) }
         ensures stands { IfOk result (λ s. (known : Known) (stage : Stage) → Stands known [] stage (λ _. 0) (kept_of s)) }
+        ensures waiting { IfOk result (λ s. (extent : Extent) → AreLimited extent (kept_of s)) }
     {
         Ok(Script {
             queues: Queues::new(alloc, actors as usize + 1)?,
@@ -64,6 +67,7 @@ impl Script {
     }
 
     // An action of that actor is the answer, and one of another actor waits for it. Without memory the line stays.
+    #[tactic(auto, using(crate::proofs::LimitLemmas::limited_same, crate::proofs::LimitLemmas::limited_more))]
     fn take_entry(
         &mut self,
         entry: Entry,
@@ -73,9 +77,8 @@ impl Script {
         requires end { end ≤ length self.old.pending }
         requires few { self.old.before < 100000000 }
         requires within { entry.actor.0 < length self.old.queues }
-        requires limited { IsAction entry.action }
         ensures line { LineIs (Ok (Some entry)) actor.0 end result (kept_of self.old) (kept_of self.new) }
-        ensures limited { IsLimited result }
+        ensures waiting { (extent : Extent) → IsAction extent entry.action → AreLimited extent (kept_of self.old) → IsLimited extent result × AreLimited extent (kept_of self.new) }
     {
         if entry.actor.0 == actor.0 {
             self.pass(end);
@@ -91,6 +94,7 @@ impl Script {
     }
 
     // Takes the line at the front, which has `len` bytes and takes `end`.
+    #[tactic(auto, using(crate::proofs::LimitLemmas::limited_same))]
     fn take_line(
         &mut self,
         len: usize,
@@ -101,8 +105,10 @@ impl Script {
         requires len { len ≤ end }
         requires end { end ≤ length self.old.pending }
         requires actors { actors_in deployment.now < length self.old.queues }
+        requires waiting { AreLimited (extent_of deployment.now) (kept_of self.old) }
         ensures line { LineIs (judged (known_in deployment.now) (self.old.before + 1) (take len self.old.pending)) actor.0 end result (kept_of self.old) (kept_of self.new) }
-        ensures limited { IsLimited result }
+        ensures limited { IsLimited (extent_of deployment.now) result }
+        ensures waiting { AreLimited (extent_of deployment.now) (kept_of self.new) }
     {
         match judge(&self.pending.bytes()[..len], self.before, deployment) {
             Err(kind) => Err(ScriptFault::Line(self.before + 1, kind)),
@@ -129,6 +135,7 @@ impl Script {
     }
 
     // Takes a line or reads a piece: the answer, where the actor has it now.
+    #[tactic(auto, using(crate::proofs::LimitLemmas::limited_same))]
     fn step<F: Files>(
         &mut self,
         actor: ActorId,
@@ -138,8 +145,10 @@ impl Script {
         requires begun { (F.shows files.old Part.Script).stage ≢ Fresh }
         requires actors { actors_in deployment.now < length self.old.queues }
         requires empty { queue_at self.old.queues actor.0 ≡ [] }
+        requires waiting { AreLimited (extent_of deployment.now) (kept_of self.old) }
         ensures step { StepIs (known_in deployment.now) actor.0 result (F.shows files.old Part.Script) (F.shows files.new Part.Script) (kept_of self.old) (kept_of self.new) }
-        ensures limited { IfSome result IsLimited }
+        ensures limited { IfSome result (IsLimited (extent_of deployment.now)) }
+        ensures waiting { AreLimited (extent_of deployment.now) (kept_of self.new) }
         ensures spent { SpentIs (known_in deployment.now) actor.0 result (F.shows files.old Part.Script) (F.shows files.new Part.Script) (kept_of self.old) (kept_of self.new) }
         ensures others { Only Part.Script (F.shows files.old) (F.shows files.new) }
     {
@@ -165,8 +174,10 @@ impl Script {
         requires begun { (F.shows files.old Part.Script).stage ≢ Fresh }
         requires actors { actors_in deployment.now < length self.old.queues }
         requires empty { queue_at self.old.queues actor.0 ≡ [] }
+        requires waiting { AreLimited (extent_of deployment.now) (kept_of self.old) }
         ensures ends { Ends (known_in deployment.now) actor.0 result (F.shows files.old Part.Script) (F.shows files.new Part.Script) (kept_of self.old) (kept_of self.new) }
-        ensures limited { IsLimited result }
+        ensures limited { IsLimited (extent_of deployment.now) result }
+        ensures waiting { AreLimited (extent_of deployment.now) (kept_of self.new) }
         ensures frugal { Frugal (known_in deployment.now) actor.0 (F.shows files.old Part.Script) (F.shows files.new Part.Script) (kept_of self.old) }
         ensures read { IsRead result (F.shows files.old Part.Script) (F.shows files.new Part.Script) }
         ensures others { Only Part.Script (F.shows files.old) (F.shows files.new) }
@@ -189,8 +200,10 @@ impl Script {
         requires begun { (F.shows files.old Part.Script).stage ≢ Fresh }
         requires actors { actors_in deployment.now < length self.old.queues }
         requires actor { actor.0 < length self.old.queues }
+        requires waiting { AreLimited (extent_of deployment.now) (kept_of self.old) }
         ensures ends { Ends (known_in deployment.now) actor.0 result (F.shows files.old Part.Script) (F.shows files.new Part.Script) (kept_of self.old) (kept_of self.new) }
-        ensures limited { IsLimited result }
+        ensures limited { IsLimited (extent_of deployment.now) result }
+        ensures waiting { AreLimited (extent_of deployment.now) (kept_of self.new) }
         ensures frugal { Frugal (known_in deployment.now) actor.0 (F.shows files.old Part.Script) (F.shows files.new Part.Script) (kept_of self.old) }
         ensures read { IsRead result (F.shows files.old Part.Script) (F.shows files.new Part.Script) }
         ensures others { Only Part.Script (F.shows files.old) (F.shows files.new) }
@@ -207,7 +220,7 @@ impl Script {
     /// answer isn't there yet. After `Memory` no byte that was taken is lost, and the Ask can be made again. `Line`
     /// and `Read` are told again to each Ask that needs more than what was read.
     ///
-    /// It is to be given the same deployment and files each time.
+    /// It is to be given the same deployment and files each time: the actions that wait are those of that deployment.
     pub fn next_of<F: Files>(
         &mut self,
         actor: ActorId,
@@ -217,9 +230,11 @@ impl Script {
         requires begun { (F.shows files.old Part.Script).stage ≢ Fresh }
         requires actors { actors_in deployment.now ≡ actors_of self.old }
         requires actor { actor.0 ≤ actors_of self.old }
+        requires waiting { AreLimited (extent_of deployment.now) (kept_of self.old) }
         ensures asked { (taken : List ℕ) (asks : ℕ → ℕ) → Stands (known_in deployment.now) taken (F.shows files.old Part.Script).stage asks (kept_of self.old)
             → AskIs (known_in deployment.now) taken asks actor.0 result (F.shows files.old Part.Script) (F.shows files.new Part.Script) (kept_of self.new) }
-        ensures limited { IsLimited result }
+        ensures limited { IsLimited (extent_of deployment.now) result }
+        ensures waiting { AreLimited (extent_of deployment.now) (kept_of self.new) }
         ensures frugal { Frugal (known_in deployment.now) actor.0 (F.shows files.old Part.Script) (F.shows files.new Part.Script) (kept_of self.old) }
         ensures read { IsRead result (F.shows files.old Part.Script) (F.shows files.new Part.Script) }
         ensures part { Breaking (F.shows files.old Part.Script) (F.shows files.new Part.Script) }

@@ -1,4 +1,10 @@
 //! What no clause says: that memory suffices, and Asks of whole scripts.
+ghost use Rattle.std.specs.Prelude.{◌≡◌, ◌≢◌, IfOk};
+ghost use Rattle.sg_edge.specs.declared.files.Stage.TheVariants.{Fresh};
+ghost use Rattle.sg_platform.specs.Deployment.{extent_of};
+ghost use Rattle.sg_script.specs.Known.{actors_in};
+ghost use Rattle.sg_script.specs.Stands.{actors_of, kept_of, AreLimited};
+
 use crate::{Entry, LineFault, Script, ScriptFault, read_line};
 use sg_base::{Action, ActorId};
 use sg_edge::{Files, MemFiles, Part};
@@ -20,14 +26,149 @@ fn two_actors(alloc: Global) -> Result<Deployment, Fail> {
     Ok(read_deployment(alloc, DEPLOYMENT.as_bytes(), &platform)?)
 }
 
+// A script part of this text that was begun, of which the read of that number fails.
+fn begun(alloc: Global, text: &[u8], failing: &[u64]) -> Result<MemFiles, Fail>
+    ensures { IfOk result (λ files. files.script.stage ≢ Fresh) }
+{
+    let mut files = MemFiles::new(alloc, None, None, Some(text), failing)?;
+    match files.begin(Part::Script, "s") {
+        Ok(()) => Ok(files),
+        Err(_) => Err(Fail::new("the script was not begun")),
+    }
+}
+
+// A script of which nothing was read.
+fn unread(alloc: Global, deployment: &Deployment) -> Result<Script, Fail>
+    ensures actors { IfOk result (λ s. actors_of s ≡ actors_in deployment.now) }
+    ensures waiting { IfOk result (λ s. AreLimited (extent_of deployment.now) (kept_of s)) }
+{
+    Ok(Script::new(alloc, deployment.actors().len() as u32)?)
+}
+
+const OBJECTS: &str =
+    "actor = [{name = 'p0', host = 'h1', function = 'replay'}, {name = 'p1', host = 'h1', function = 'replay'}]
+mutex = [{id = 'm'}, {id = 'both'}]
+semaphore = [{id = 'both', capacity = 1}, {id = 's', capacity = 0}]
+";
+
+/// What p1 may ask for.
+const ACTIONS: [(&str, Action); 17] = [
+    ("compute 1e6", Action::Compute(1_000_000)),
+    ("sleep 59.904us", Action::Sleep(59_904)),
+    ("sleep 1.5", Action::Sleep(1_500_000_000)),
+    (
+        "send p0 1e15",
+        Action::Send(ActorId(1), 1_000_000_000_000_000),
+    ),
+    ("isend p1 0", Action::ISend(ActorId(2), 0)),
+    ("recv p0", Action::Recv(ActorId(1))),
+    ("recv p0 1e6", Action::Recv(ActorId(1))),
+    ("irecv p0", Action::IRecv(ActorId(1))),
+    ("irecv p0\t2.5 ", Action::IRecv(ActorId(1))),
+    ("wait", Action::Wait),
+    ("barrier", Action::Barrier),
+    ("yield", Action::Yield),
+    ("lock m", Action::Lock(0)),
+    ("unlock both", Action::Unlock(1)),
+    ("acquire both", Action::Acquire(0)),
+    ("release s", Action::Release(1)),
+    ("compute 0.9", Action::Compute(0)),
+];
+
+/// Bad lines, and what is told of each: their arguments are counted first, and judged from left to right.
+const FAULTS: [(&str, LineFault); 42] = [
+    ("p compute 1", LineFault::UnknownActor),
+    ("m compute 1", LineFault::UnknownActor),
+    ("p0", LineFault::UnknownAction),
+    ("p0 Compute 1", LineFault::UnknownAction),
+    ("p0 waits", LineFault::UnknownAction),
+    ("p2 jump", LineFault::UnknownActor),
+    ("p0 jump \u{7f}", LineFault::NotAscii),
+    ("p0 compute", LineFault::ArgumentCount),
+    ("p0 compute 1 2", LineFault::ArgumentCount),
+    ("p0 compute x", LineFault::BadAmount),
+    ("p0 compute 1000000000000001", LineFault::BadAmount),
+    ("p0 compute 1s", LineFault::BadAmount),
+    ("p0 sleep", LineFault::ArgumentCount),
+    ("p0 sleep 5 s", LineFault::ArgumentCount),
+    ("p0 sleep 5Mf", LineFault::BadAmount),
+    ("p0 send p1", LineFault::ArgumentCount),
+    ("p0 send p1 1 1", LineFault::ArgumentCount),
+    ("p0 send nobody", LineFault::ArgumentCount),
+    ("p0 send m 1", LineFault::UnknownActor),
+    ("p0 send nobody x", LineFault::UnknownActor),
+    ("p0 send p1 x", LineFault::BadAmount),
+    ("p0 isend", LineFault::ArgumentCount),
+    ("p0 isend m x", LineFault::UnknownActor),
+    ("p0 isend p1 -1", LineFault::BadAmount),
+    ("p0 recv", LineFault::ArgumentCount),
+    ("p0 recv p1 1 2", LineFault::ArgumentCount),
+    ("p0 recv both", LineFault::UnknownActor),
+    ("p0 recv P1 x", LineFault::UnknownActor),
+    ("p0 recv p1 x", LineFault::BadAmount),
+    ("p0 irecv", LineFault::ArgumentCount),
+    ("p0 irecv nobody 1", LineFault::UnknownActor),
+    ("p0 irecv p1 .5", LineFault::BadAmount),
+    ("p0 wait 1", LineFault::ArgumentCount),
+    ("p0 barrier all", LineFault::ArgumentCount),
+    ("p0 yield p1", LineFault::ArgumentCount),
+    ("p0 lock", LineFault::ArgumentCount),
+    ("p0 lock m m", LineFault::ArgumentCount),
+    ("p0 lock s", LineFault::UnknownObject),
+    ("p0 unlock p0", LineFault::UnknownObject),
+    ("p0 acquire m", LineFault::UnknownObject),
+    ("p0 acquire nothing at", LineFault::ArgumentCount),
+    ("p0 release m", LineFault::UnknownObject),
+];
+
+#[test]
+fn each_action_with_its_arguments(rt: HostRuntime) -> Result<(), Fail> {
+    let platform = read_platform(rt.alloc(), PLATFORM.as_bytes())?;
+    let deployment = read_deployment(rt.alloc(), OBJECTS.as_bytes(), &platform)?;
+    for (text, action) in ACTIONS {
+        let line = format!(in rt.alloc(); " p1 \t {text}\r")?;
+        let said = read_line(line.as_bytes(), &deployment);
+        let actor = ActorId(2);
+        assert_eq!(rt; said, Ok(Some(Entry { actor, action })), "for {text}");
+    }
+    Ok(())
+}
+
+#[test]
+fn each_fault_of_a_line(rt: HostRuntime) -> Result<(), Fail> {
+    let platform = read_platform(rt.alloc(), PLATFORM.as_bytes())?;
+    let deployment = read_deployment(rt.alloc(), OBJECTS.as_bytes(), &platform)?;
+    for (line, fault) in FAULTS {
+        let said = read_line(line.as_bytes(), &deployment);
+        assert_eq!(rt; said, Err(fault), "for {line}");
+    }
+    Ok(())
+}
+
+#[test]
+fn actions_wait_for_their_actor(rt: HostRuntime) -> Result<(), Fail> {
+    let platform = read_platform(rt.alloc(), PLATFORM.as_bytes())?;
+    let deployment = read_deployment(rt.alloc(), OBJECTS.as_bytes(), &platform)?;
+    assert_eq!(rt; deployment.actors().len(), 2);
+    let text = b"p1 lock both\np1 isend p0 5\np0 recv p1 7\n";
+    let mut files = begun(rt.alloc(), text, &[])?;
+    let mut script = unread(rt.alloc(), &deployment)?;
+    let recv = Ok(Some(Action::Recv(ActorId(2))));
+    let lock = Ok(Some(Action::Lock(1)));
+    let isend = Ok(Some(Action::ISend(ActorId(1), 5)));
+    assert_eq!(rt; script.next_of(ActorId(1), &deployment, &mut files), recv);
+    assert_eq!(rt; script.next_of(ActorId(2), &deployment, &mut files), lock);
+    assert_eq!(rt; script.next_of(ActorId(2), &deployment, &mut files), isend);
+    Ok(())
+}
+
 #[test]
 fn a_bad_line_is_met_when_it_is_needed(rt: HostRuntime) -> Result<(), Fail> {
     let deployment = two_actors(rt.alloc())?;
     assert_eq!(rt; deployment.actors().len(), 2);
     let text = b"p0 compute 1e9\np1 compute 5e8\np0 jump 5\n";
-    let mut files = MemFiles::new(rt.alloc(), None, None, Some(text), &[])?;
-    assert!(rt; files.begin(Part::Script, "s").is_ok());
-    let mut script = Script::new(rt.alloc(), 2)?;
+    let mut files = begun(rt.alloc(), text, &[])?;
+    let mut script = unread(rt.alloc(), &deployment)?;
     let half = Ok(Some(Action::Compute(500_000_000)));
     let whole = Ok(Some(Action::Compute(1_000_000_000)));
     let fault = Err(ScriptFault::Line(3, LineFault::UnknownAction));
@@ -43,9 +184,8 @@ fn comments_and_carriage_returns(rt: HostRuntime) -> Result<(), Fail> {
     let deployment = two_actors(rt.alloc())?;
     assert_eq!(rt; deployment.actors().len(), 2);
     let text = b"# head\r\n\r\n\tp0 sleep 1.5ms";
-    let mut files = MemFiles::new(rt.alloc(), None, None, Some(text), &[])?;
-    assert!(rt; files.begin(Part::Script, "s").is_ok());
-    let mut script = Script::new(rt.alloc(), 2)?;
+    let mut files = begun(rt.alloc(), text, &[])?;
+    let mut script = unread(rt.alloc(), &deployment)?;
     let sleep = Ok(Some(Action::Sleep(1_500_000)));
     assert_eq!(rt; script.next_of(ActorId(1), &deployment, &mut files), sleep);
     assert_eq!(rt;
@@ -59,9 +199,8 @@ fn comments_and_carriage_returns(rt: HostRuntime) -> Result<(), Fail> {
 fn a_read_fails_inside_the_first_line(rt: HostRuntime) -> Result<(), Fail> {
     let deployment = two_actors(rt.alloc())?;
     assert_eq!(rt; deployment.actors().len(), 2);
-    let mut files = MemFiles::new(rt.alloc(), None, None, Some(b"p0 compute 1"), &[3])?;
-    assert!(rt; files.begin(Part::Script, "s").is_ok());
-    let mut script = Script::new(rt.alloc(), 2)?;
+    let mut files = begun(rt.alloc(), b"p0 compute 1", &[3])?;
+    let mut script = unread(rt.alloc(), &deployment)?;
     let fault = Err(ScriptFault::Read);
     assert_eq!(rt; script.next_of(ActorId(1), &deployment, &mut files), fault);
     assert_eq!(rt; script.next_of(ActorId(2), &deployment, &mut files), fault);

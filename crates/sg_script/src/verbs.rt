@@ -1,23 +1,60 @@
 //! The actions of a script by their words.
 ghost use Rattle.std.specs.Prelude.{◌≡◌};
-ghost use Rattle.sg_script.specs.Verbs.{verb_of};
+ghost use Rattle.sg_script.specs.Verbs.{rows, verb_in, verb_of};
 
 /// An action without its arguments.
 #[derive(Clone, Copy, Debug, PartialEq, Eq)]
 pub enum Verb {
     Compute,
     Sleep,
+    Send,
+    ISend,
+    Recv,
+    IRecv,
+    Wait,
+    Barrier,
+    Yield,
+    Lock,
+    Unlock,
+    Acquire,
+    Release,
+}
+
+/// An action and its word.
+type VerbRow = (&'static [u8], Verb);
+
+const VERBS: [VerbRow; 13] = [
+    (b"compute", Verb::Compute),
+    (b"sleep", Verb::Sleep),
+    (b"send", Verb::Send),
+    (b"isend", Verb::ISend),
+    (b"recv", Verb::Recv),
+    (b"irecv", Verb::IRecv),
+    (b"wait", Verb::Wait),
+    (b"barrier", Verb::Barrier),
+    (b"yield", Verb::Yield),
+    (b"lock", Verb::Lock),
+    (b"unlock", Verb::Unlock),
+    (b"acquire", Verb::Acquire),
+    (b"release", Verb::Release),
+];
+
+// The action of that word in a table.
+fn verb_in(mut table: &[VerbRow], word: &[u8]) -> Option<Verb>
+    ensures { result ≡ verb_in (rows table.entry.now) word.now }
+{
+    while let [(name, verb), rest @ ..] = table {
+        if *name == word {
+            return Some(*verb);
+        }
+        table = rest;
+    }
+    None
 }
 
 /// The action of that word.
 pub fn read_verb(word: &[u8]) -> Option<Verb>
     ensures { result ≡ verb_of word.now }
 {
-    if word == b"compute".as_slice() {
-        Some(Verb::Compute)
-    } else if word == b"sleep".as_slice() {
-        Some(Verb::Sleep)
-    } else {
-        None
-    }
+    verb_in(&VERBS, word)
 }

@@ -2,7 +2,7 @@
 ghost use Rattle.std.specs.Prelude.{◌≡◌, ◌∷◌, ◌<◌, [], length, IfSome, MatchOption, MatchResult, Ok, Err};
 ghost use Rattle.std.specs.List.{position, slice_split};
 ghost use Rattle.sg_script.specs.Words.{is_blank, words};
-ghost use Rattle.sg_script.specs.Line.{one_word};
+ghost use Rattle.sg_script.specs.Line.{no_words, one_word, two_words};
 
 use crate::fault::LineFault;
 
@@ -44,6 +44,16 @@ pub fn next_word(text: &[u8]) -> Option<(&[u8], &[u8])>
     }
 }
 
+/// No word.
+pub fn none(text: &[u8]) -> Result<(), LineFault>
+    ensures { result ≡ no_words (words text.now) }
+{
+    match next_word(text) {
+        Some(_) => Err(LineFault::ArgumentCount),
+        None => Ok(()),
+    }
+}
+
 /// The only word.
 pub fn one(text: &[u8]) -> Result<&[u8], LineFault>
     ensures { MatchResult result (λ word. one_word (words text.entry.now) ≡ Ok word.now) (λ e. one_word (words text.entry.now) ≡ Err e) }
@@ -55,4 +65,14 @@ pub fn one(text: &[u8]) -> Result<&[u8], LineFault>
         },
         None => Err(LineFault::ArgumentCount),
     }
+}
+
+/// The only two words.
+pub fn two(text: &[u8]) -> Result<(&[u8], &[u8]), LineFault>
+    ensures { MatchResult result (λ both. two_words (words text.entry.now) ≡ Ok (both.0.now, both.1.now)) (λ e. two_words (words text.entry.now) ≡ Err e) }
+{
+    let Some((first, rest)) = next_word(text) else {
+        return Err(LineFault::ArgumentCount);
+    };
+    Ok((first, one(rest)?))
 }

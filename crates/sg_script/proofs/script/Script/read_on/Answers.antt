@@ -14,6 +14,7 @@ loop-answer-preserved g c = record {
   goes = goes_then (known_in c.args.deployment.now) (g.F.Files.shows c.args.files.now ScriptPart) (g.F.Files.shows c.loop-answer.files ScriptPart) (g.F.Files.shows c.step.new.files ScriptPart) (kept_of c.args.self.now) (kept_of c.loop-answer.self) (kept_of c.step.new.self) c.loop-answer.invariant.goes c.in-None.ensures.step.0;
   spent = spent_then (known_in c.args.deployment.now) c.args.actor.0 (g.F.Files.shows c.args.files.now ScriptPart) (g.F.Files.shows c.loop-answer.files ScriptPart) (g.F.Files.shows c.step.new.files ScriptPart) (kept_of c.args.self.now) (kept_of c.loop-answer.self) (kept_of c.step.new.self) c.loop-answer.invariant.spent c.in-None.ensures.spent;
   empty = c.in-None.ensures.step.1;
+  waiting = c.in-None.ensures.waiting;
   others = λ q isnt. c.step.ensures.others q isnt ∙ c.loop-answer.invariant.others q isnt;
 }
 
