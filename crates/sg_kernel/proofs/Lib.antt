@@ -1,2 +1,5 @@
 pub mod Counts
+pub mod Ends
+pub mod Passed
+pub mod PostsKept
 pub mod Queues
