@@ -1,2 +1,5 @@
 pub mod Counts
+pub mod Limits
+pub mod Postings
 pub mod Queues
+pub mod Tables
