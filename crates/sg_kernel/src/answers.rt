@@ -1,6 +1,6 @@
 //! How the state of an actor changes by its own call. Each of these is one event.
 
-ghost use Rattle.std.specs.Prelude.{◌≡◌, ◌≢◌, ◌-◌, ◌<◌, [], ◌∷◌, Some};
+ghost use Rattle.std.specs.Prelude.{◌≡◌, ◌≢◌, ◌+◌, ◌-◌, ◌<◌, ◌≤◌, [], ◌∷◌, Some, vec_len, vec_capacity};
 ghost use Rattle.sg_base.specs.declared.call.Answer.TheVariants as answer;
 ghost use Rattle.sg_base.specs.Limits.{IsAmount, IsAnswer};
 ghost use Rattle.sg_kernel.specs.declared.states.State.TheVariants.{Ended};
@@ -9,14 +9,14 @@ ghost use Rattle.sg_kernel.specs.Steps.{goes_on, counted, readied, blocked_by, a
 ghost use Rattle.sg_kernel.specs.Known.{after};
 ghost use Rattle.sg_kernel.specs.Queue.{IsQueued};
 ghost use Rattle.sg_kernel.specs.Records.{IsTellable};
-ghost use Rattle.sg_kernel.specs.Sound.{core_of, known_of, setup_in, IsSound, IsDated, AreLimited, AreMeeting, AreHeld};
+ghost use Rattle.sg_kernel.specs.Sound.{core_of, known_of, setup_in, IsSound, IsDated, AreLimited, AreMeeting, AreHeld, blocked_count};
 
 use crate::parts::Parts;
 use crate::states::State;
 use sg_base::{ActorId, Answer, Call, Record};
 use sg_requests::Await;
 
-/// The actor goes on with this answer.
+/// The actor goes on with this answer. There is room for a record of its call.
 pub(crate) fn go_on(parts: &mut Parts, actor: ActorId, answer: Answer)
     requires caller { MayCall (core_of parts.old) actor.0 }
     requires answer { IsAnswer (extent (setup_in parts.old)) answer }
@@ -35,6 +35,7 @@ pub(crate) fn go_on(parts: &mut Parts, actor: ActorId, answer: Answer)
     ensures queued { IsQueued parts.new }
     ensures meeting { AreMeeting parts.new }
     ensures held { AreHeld parts.new }
+    ensures record { vec_len parts.new.records + parts.old.room + blocked_count parts.new.states.items ≤ vec_capacity parts.new.records }
 {
     parts.states[actor.0 as usize - 1] = State::Ready(answer);
     parts.events += 1;
@@ -123,6 +124,8 @@ pub(crate) fn block(parts: &mut Parts, actor: ActorId, what: Call, on: Await)
     ensures queued { IsQueued parts.new }
     ensures meeting { AreMeeting parts.new }
     ensures held { AreHeld parts.new }
+    ensures doing { parts.new.doing ≡ parts.old.doing }
+    ensures whose { parts.new.whose ≡ parts.old.whose }
 {
     let date = parts.doing.date();
     parts.states[actor.0 as usize - 1] = State::Blocked(what, date, Some(on));

@@ -39,6 +39,8 @@ loop-phase-preserved c =
       sound = made.sound;
       limited = made.limited;
       answering = made.answering;
+      meeting = made.meeting;
+      held = made.held;
       budget = ap (λ (k : Known). k.setup.budget) made.known ∙ inv.budget;
       known =
           ap₂ (λ d k. still budget d k) rest made.known

@@ -1,0 +1,1 @@
+-- Who waits in mailboxes, as communications come and begin.
