@@ -1,5 +1,6 @@
 pub mod Counts
 pub mod Limits
+pub mod Meets
 pub mod Postings
 pub mod Queues
 pub mod Tables
