@@ -1,6 +1,7 @@
 pub mod Counts
 pub mod Ends
 pub mod Limits
+pub mod Meets
 pub mod Passed
 pub mod Postings
 pub mod PostsKept
