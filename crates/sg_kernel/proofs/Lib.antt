@@ -1,5 +1,6 @@
 pub mod Counts
 pub mod Ends
+pub mod Firsts
 pub mod Limits
 pub mod Meets
 pub mod Passed

@@ -48,4 +48,23 @@ pub invariant_of-self-2 : goal.invariant_of-self-2
 invariant_of-self-2 g c =
     let parts = c.self.inside.parts in
     let moved = moved_dated parts c.settle.new.self c.advance_to.new.self c.in-Some.date c.self.invariant.0 c.self.invariant.1 c.settle.ensures c.in-Some.ensures c.advance_to.ensures in
-    (search rules, omega (arith, moved, c.end_due-stopped.ensures.date, c.end_due-stopped.ensures.events), search rules, (answered_sorted _ _ _ c.end_due-stopped.ensures.answering.0 c.sort.ensures.moves c.sort.ensures.rises, omega (arith, c.end_due-stopped.ensures.answering.1, c.sort.ensures.capacity)))
+    let done = c.end_due-stopped.ensures in
+    let meeting = done.meeting in
+    let held = done.held in
+    (
+      search rules,
+      omega (arith, moved, done.date, done.events),
+      search rules,
+      (answered_sorted _ _ _ done.answering.0 c.sort.ensures.moves c.sort.ensures.rises, omega (arith, done.answering.1, c.sort.ensures.capacity)),
+      record { posts = meeting.posts; idle = meeting.idle; asked = meeting.asked },
+      record {
+        owners = held.owners;
+        counts = held.counts;
+        actors = held.actors;
+        few = held.few;
+        once = held.once;
+        held = held.held;
+        locking = held.locking;
+        acquiring = held.acquiring;
+      },
+    )
