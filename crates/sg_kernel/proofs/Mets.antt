@@ -1,19 +1,25 @@
 -- Whom a side meets, and what is limited of both sides.
-use Rattle.std.proofs.Common.{◌≡◌, ℕ, ◌+◌, ◌-◌, ◌<◌, ◌≤◌, Bool, true, false, cond, Option, None, Some, List, length, get_or, refl, sym, ap, subst, ◌∙◌, arith}
+use Rattle.std.proofs.Common.{◌≡◌, ℕ, ◌+◌, ◌-◌, ◌<◌, ◌≤◌, Bool, true, false, cond, Option, None, Some, Result, Ok, Err, List, length, get_or, refl, sym, ap, ap₂, subst, ◌∙◌, arith}
 use Rattle.std.specs.List.{find, All}
 use Rattle.std.proofs.lemmas.List.Elements.{All-same}
 use Rattle.sg_base.specs.declared.ids.BoxId.{BoxId}
+use Rattle.sg_base.specs.declared.ids.LinkId.{LinkId}
 use Rattle.sg_base.specs.declared.ids.Serial.{Serial}
 use Rattle.sg_base.specs.Limits.{Extent}
 use Rattle.sg_mailbox.specs.declared.sides.Side.{Side}
 use Rattle.sg_mailbox.specs.Posts.{Post, is_other, waiting, meets, met}
+use Rattle.sg_route.specs.declared.router.RouteFault.{RouteFault}
+use Rattle.sg_route.specs.Roads.{Roads}
+use Rattle.sg_route.specs.Route.{Route, route_of}
+use Rattle.sg_route.specs.Walked.{Routed}
 use Rattle.sg_kernel.specs.declared.meetings.Comer.{Comer}
 use Rattle.sg_kernel.specs.declared.parts.Parts.{Parts}
 use Rattle.sg_kernel.specs.declared.states.Whose.{Whose}
 use Rattle.sg_kernel.specs.declared.states.Whose.TheVariants.{Gone, Posted}
-use Rattle.sg_kernel.specs.Meetings.{posts_from, sender_of, receiver_of}
-use Rattle.sg_kernel.specs.World.{extent}
-use Rattle.sg_kernel.specs.Sound.{setup_in, is_posted, IsSide, IsOwner, IsSound, AreLimited, AreMeeting}
+use Rattle.sg_kernel.specs.Meetings.{posts_from, sender_of, receiver_of, point_of, joins_over, comes, comes_by, takes_part}
+use Rattle.sg_kernel.specs.Steps.{Step}
+use Rattle.sg_kernel.specs.World.{Setup, Core, extent}
+use Rattle.sg_kernel.specs.Sound.{core_of, setup_in, is_posted, IsSide, IsOwner, IsSound, AreLimited, AreMeeting}
 use Rattle.sg_kernel.proofs.Postings.{FoundAt, found_post, posts_below}
 
 -- all that wait have lower serials than the next one
@@ -71,3 +77,29 @@ sides_limited e comer other mine theirs = go comer.sends
     go : (b : Bool) → IsSide e (cond b comer.side other) × IsSide e (cond b other comer.side)
     go true = (mine, theirs)
     go false = (theirs, mine)
+
+-- ---- how both sides join
+pub routed_ok : (r : Result Route RouteFault) (latency : ℕ) (links : List LinkId) → Routed r (Ok latency) links → r ≡ Ok (record { links = links; latency = latency })
+routed_ok (Ok route) latency links is = (let same : route.latency ≡ latency = cc is.0 in ap₂ (λ l n. Ok (record { links = l; latency = n })) (sym is.1) same)
+routed_ok (Err fault) latency links is = absurd (cc is.0)
+
+pub routed_err : (r : Result Route RouteFault) (fault : RouteFault) (links : List LinkId) → Routed r (Err fault) links → r ≡ Err fault
+routed_err (Ok route) fault links is = absurd (cc is.0)
+routed_err (Err why) fault links is = (let same : why ≡ fault = cc is.0 in ap (λ f. Err f) same)
+
+-- nothing stops an actor that takes part
+pub takes_part_on : (waits : Bool) (comer : Comer) (serial : ℕ) (core : Core) → (takes_part waits comer serial core).stop ≡ None
+takes_part_on true comer serial core = refl
+takes_part_on false comer serial core = refl
+
+-- with whom a side meets and the route, it is told what follows
+pub comes_met : (parts : Parts) (roads : Roads) (comer : Comer) (serial : Serial) (other : Side) (m : IsMet parts comer serial other) (r : Result Route RouteFault) → AreMeeting parts
+    → route_of roads (point_of (setup_in parts) (sender_of comer other)) (point_of (setup_in parts) (receiver_of comer other)) ≡ r
+    → comes roads (setup_in parts) comer (core_of parts) ≡ joins_over r (setup_in parts) comer (record { serial = serial; sends = m.post.sends; side = other }) (core_of parts)
+comes_met parts roads comer serial other m r meeting is =
+    let setup = setup_in parts in
+    let core = core_of parts in
+    let found : meets comer.sends (posts_from comer.mailbox 1 parts.whose.whose) ≡ Some m.post = ap (meets comer.sends) (sym (meeting.posts comer.mailbox)) ∙ m.found in
+    let post : m.post ≡ record { serial = serial; sends = m.post.sends; side = other } = ap₂ (λ (s : Serial) (d : Side). record { serial = s; sends = m.post.sends; side = d }) m.serial_is m.side_is in
+    ap (λ o. comes_by o roads setup comer core) (found ∙ ap (λ p. Some p) post)
+    ∙ ap (λ way. joins_over way setup comer (record { serial = serial; sends = m.post.sends; side = other }) core) is
