@@ -3,6 +3,7 @@ pub mod Ends
 pub mod Firsts
 pub mod Limits
 pub mod Meets
+pub mod Mets
 pub mod Passed
 pub mod Postings
 pub mod PostsKept

@@ -2,11 +2,11 @@
 
 ghost use Rattle.std.specs.Prelude.{◌≡◌, ◌≢◌, ◌+◌, ◌-◌, ◌<◌, ◌≤◌, AllPairs, None, Some, is_ok, if◌then◌else◌, length, vec_len, vec_capacity};
 ghost use Rattle.sg_base.specs.declared.ids.BoxId.{BoxId};
-ghost use Rattle.sg_base.specs.Limits.{IsAmount};
+ghost use Rattle.sg_base.specs.Limits.{IsActorIn, IsAmount};
 ghost use Rattle.sg_mailbox.specs.Posts.{meets, met, arrives, waiting, AreBelow};
 ghost use Rattle.sg_kernel.specs.World.{Core, MayCall, extent};
 ghost use Rattle.sg_kernel.specs.Steps.{counted, result_of};
-ghost use Rattle.sg_kernel.specs.Meetings.{comer_of, comes, end_of, joined, posted, receiver_of, sender_of, stop_of, takes_part, waits as waits_spec};
+ghost use Rattle.sg_kernel.specs.Meetings.{comer_of, comes, end_of, joined, point_of, posted, receiver_of, sender_of, stop_of, takes_part, waits as waits_spec};
 ghost use Rattle.sg_kernel.specs.Known.{after};
 ghost use Rattle.sg_kernel.specs.Queue.{IsQueued};
 ghost use Rattle.sg_kernel.specs.Records.{IsTellable};
@@ -193,6 +193,14 @@ fn receiver_of(comer: Comer, other: Side) -> Side
     if comer.sends { other } else { comer.side }
 }
 
+// The host of a side.
+fn point_of(parts: &Parts, side: Side) -> PointId
+    requires { IsActorIn (extent (setup_in parts.now)) side.actor }
+    ensures { result ≡ point_of (setup_in parts.now) side }
+{
+    parts.homes[side.actor.0 as usize - 1]
+}
+
 // Both sides are there, and the communication begins over these links.
 fn begin(
     parts: &mut Parts,
@@ -266,8 +274,8 @@ fn join(
     ensures meeting { AreMeeting parts.new }
     ensures held { AreHeld parts.new }
 {
-    let from = parts.homes[sender_of(comer, other).actor.0 as usize - 1];
-    let to = parts.homes[receiver_of(comer, other).actor.0 as usize - 1];
+    let from = point_of(parts, sender_of(comer, other));
+    let to = point_of(parts, receiver_of(comer, other));
     let mut links: ArrayVec<LinkId, 64> = ArrayVec::new();
     match router.route(from, to, &mut links) {
         Ok(latency) => {
