@@ -154,3 +154,26 @@ place_at queue xs actor i same within found = record {
   below = λ k d less. omega (arith, ltb-true (get_or xs k d).0 actor.0 (found.0 k d (omega arith) less), ap (λ (q : List ActorId). (get_or q k d).0) same);
   above = λ k d from less. omega (arith, ltb-false (get_or xs k d).0 actor.0 (found.1 k d from (omega (arith, less, ap length same))), ap (λ (q : List ActorId). (get_or q k d).0) same);
 }
+
+-- ---- room in the queue
+further : (queue : List ActorId) → AllPairs (λ (a : ActorId) (b : ActorId). a.0 < b.0) queue → (m i j : ℕ) (d : ActorId) → j ≡ i + m → j < length queue → (get_or queue i d).0 + m ≤ (get_or queue j d).0
+further queue rises zero i j d at within =
+    let same : j ≡ i = omega (arith, at) in
+    omega (arith, ap (λ k. (get_or queue k d).0) same)
+further queue rises (suc m) i j d at within =
+    let short : j - 1 ≡ i + m = omega (arith, at) in
+    let before = further queue rises m i (j - 1) d short (omega (arith, within)) in
+    omega (arith, before, rises (j - 1) j d (omega (arith, at)) within)
+
+-- of rising ids without this one there are fewer than actors
+pub queue_room : (states : List State) (queue : List ActorId) (actor : ActorId) → IsQueue states queue → IsIdOf states actor → (Contains queue actor → ⊥) → length queue < length states
+queue_room states queue actor is id none = elim (cases_lt (length queue) (length states)) [
+  | inl less ↦ less
+  | inr many ↦
+      let within : actor.0 - 1 < length queue = omega (arith, many, id.0, id.1) in
+      let low = further queue is.rises (actor.0 - 1) 0 (actor.0 - 1) actor (omega arith) within in
+      let first = is.ids 0 actor (omega (arith, within)) in
+      let high = further queue is.rises (length queue - 1 - (actor.0 - 1)) (actor.0 - 1) (length queue - 1) actor (omega (arith, within)) (omega (arith, within)) in
+      let last = is.ids (length queue - 1) actor (omega (arith, within)) in
+      absurd (none (there queue actor actor (actor.0 - 1) within (omega (arith, low, first.0, high, last.1, many, within, id.0))))
+]

@@ -1,3 +1,4 @@
 pub mod Counts
 pub mod Queues
 pub mod Joins
+pub mod Woken

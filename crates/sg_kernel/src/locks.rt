@@ -101,6 +101,7 @@ fn wake(parts: &mut Parts, actor: ActorId)
     requires meeting { AreMeeting parts.old }
     ensures known { known_of parts.new ≡ after (wakes actor (core_of parts.old)) (known_of parts.old) }
     ensures objects { parts.new.objects ≡ parts.old.objects }
+    ensures actors { length parts.new.states.items ≡ length parts.old.states.items }
     ensures callers { (caller : ActorId) → MayCall (core_of parts.old) caller.0 → MayCall (core_of parts.new) caller.0 }
     ensures waking { (comers others : List ActorId) → AreWaking parts.old comers (actor ∷ others) → AreWaking parts.new comers others }
     ensures spare { HasSpare parts.old → HasSpare parts.new }
