@@ -22,11 +22,11 @@ use Rattle.sg_kernel.specs.declared.states.State.{State}
 use Rattle.sg_kernel.specs.declared.states.State.TheVariants.{Ready, Blocked, Ended}
 use Rattle.sg_kernel.specs.declared.states.Stop.{Stop}
 use Rattle.sg_kernel.specs.World.{Core, IsActor, MayCall, is_ready, extent, state_of}
-use Rattle.sg_kernel.specs.Steps.{Step, and_then, follows}
+use Rattle.sg_kernel.specs.Steps.{Step, and_then, counted, follows}
 use Rattle.sg_kernel.specs.Locks.{all_wake, caller_gets, wakes, wakes_from}
 use Rattle.sg_kernel.specs.Known.{Known, after}
 use Rattle.sg_kernel.specs.Records.{IsTellable, IsRecord, AreRecords}
-use Rattle.sg_kernel.specs.Sound.{core_of, setup_in, point_number, is_held, IsSound, IsDated, AreHeld, AreLimited, KeepsLimits}
+use Rattle.sg_kernel.specs.Sound.{core_of, known_of, setup_in, point_number, is_held, IsSound, IsDated, AreHeld, AreLimited, KeepsLimits}
 use Rattle.sg_kernel.specs.Waking.{AreWaking}
 
 -- ---- records
@@ -246,7 +246,7 @@ once_with o caller actor outcome free once = elim (cases_eq actor.0 caller.0) [
 
 -- the call leaves some that are to go on, and perhaps one that comes to wait
 pub waking_after : (old parts : Parts) (actor : ActorId) (done : Done) → MayCall (core_of old) actor.0 → AreHeld old → KeepsAll actor old.objects done → IsLike old.objects done.after → parts.objects ≡ done.after →
-    parts.mutexes ≡ old.mutexes → parts.semaphores.items ≡ old.semaphores.items → parts.states.items ≡ old.states.items → parts.homes.items ≡ old.homes.items → parts.events ≡ old.events + 1 →
+    parts.mutexes ≡ old.mutexes → parts.semaphores.items ≡ old.semaphores.items → parts.states.items ≡ old.states.items → map point_number parts.homes.items ≡ map point_number old.homes.items → parts.events ≡ old.events + 1 →
     AreWaking parts (comers actor done.outcome) done.after.others
 waking_after old parts actor done may held keeps like is mutexes semaphores states homes events =
     let free = caller_free old actor may held in
@@ -258,7 +258,19 @@ waking_after old parts actor done may held keeps like is mutexes semaphores stat
       once = λ b. omega (arith, keeps b, once_with old.objects actor b done.outcome free (held.once b), ap (λ (o : Objects). waiting o b) is);
       held = λ b some.
           let was = held.held b (omega (arith, some, keeps b, ap (λ (o : Objects). waiting o b) is)) in
-          ((was.0.0, omega (arith, was.0.1, length-map old.homes.items point_number, length-map parts.homes.items point_number, ap length homes)), ap (λ (xs : List State). is_held (get_or xs (b.0 - 1) Ended)) states ∙ was.1);
+          ((was.0.0, omega (arith, was.0.1, ap length homes)), ap (λ (xs : List State). is_held (get_or xs (b.0 - 1) Ended)) states ∙ was.1);
       locking = ap (λ (o : Objects). length o.locking) is ∙ like.locking ∙ held.locking ∙ sym mutexes;
       acquiring = ap (λ (o : Objects). length o.acquiring) is ∙ like.acquiring ∙ held.acquiring ∙ sym (ap length semaphores);
     }
+
+pub waking_called : (old mid : Parts) (objects : Objects) (outcome : Outcome) (actor : ActorId) (done : Objects → Done) → MayCall (core_of old) actor.0 → AreHeld old → KeepsAll actor old.objects (done old.objects) → IsLike old.objects (done old.objects).after →
+    known_of mid ≡ record (known_of old) { core = counted (core_of old); room = old.room - 1 } → outcome ≡ (done mid.objects).outcome → objects ≡ (done mid.objects).after →
+    AreWaking (record mid { objects = objects }) (comers actor outcome) objects.others
+waking_called old mid objects outcome actor done may held keeps like known is_outcome is_after =
+    let same : mid.objects ≡ old.objects = ap (λ (k : Known). k.core.objects) known in
+    let answers : outcome ≡ (done old.objects).outcome = is_outcome ∙ ap (λ (o : Objects). (done o).outcome) same in
+    let leaves : objects ≡ (done old.objects).after = is_after ∙ ap (λ (o : Objects). (done o).after) same in
+    let waking = waking_after old (record mid { objects = objects }) actor (done old.objects) may held keeps like leaves
+      (ap (λ (k : Known). k.setup.mutexes) known) (ap (λ (k : Known). k.setup.semaphores) known) (ap (λ (k : Known). k.core.actors) known) (ap (λ (k : Known). k.setup.homes) known) (ap (λ (k : Known). k.core.events) known) in
+    let first = subst (λ (o : Outcome). AreWaking (record mid { objects = objects }) (comers actor o) (done old.objects).after.others) (sym answers) waking in
+    subst (λ (q : List ActorId). AreWaking (record mid { objects = objects }) (comers actor outcome) q) (sym (ap (λ (o : Objects). o.others) leaves)) first
