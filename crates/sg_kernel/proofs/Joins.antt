@@ -11,13 +11,7 @@ use Rattle.sg_base.specs.declared.ids.ActorId.{ActorId}
 use Rattle.sg_kernel.specs.declared.states.State.{State}
 use Rattle.sg_kernel.specs.declared.states.State.TheVariants.{Ready, Ended}
 use Rattle.sg_kernel.specs.World.{is_ready}
-use Rattle.sg_kernel.specs.Queue.{is_ready_in, IsIdOf, IsQueue}
-
--- those before the place come before the actor, and those from there on don't
-pub record IsPlace (queue : List ActorId) (actor : ActorId) (place : ℕ) : Type 0 where
-  pub within : place ≤ length queue
-  pub below : (k : ℕ) (d : ActorId) → k < place → (get_or queue k d).0 < actor.0
-  pub above : (k : ℕ) (d : ActorId) → place ≤ k → k < length queue → actor.0 ≤ (get_or queue k d).0
+use Rattle.sg_kernel.specs.Queue.{is_ready_in, IsIdOf, IsPlace, IsQueue}
 
 same_id : (a b : ActorId) → a.0 ≡ b.0 → a ≡ b
 same_id a b same = ap (λ (n : ℕ). record { 0 = n }) same
@@ -112,18 +106,7 @@ ids_at states queue actor s place within id old k d less =
         ]
     ]
 
--- an actor of the queue may get any state
-pub queue_with : (states : List State) (queue : List ActorId) (actor : ActorId) (s : State) → Contains queue actor → IsIdOf states actor → IsQueue states queue → IsQueue (set states (actor.0 - 1) s) queue
-queue_with states queue actor s has id old = record {
-  rises = old.rises;
-  ids = λ k d within. let here = old.ids k d within in (here.0, omega (arith, here.1, length-set states (actor.0 - 1) s));
-  has_ready = λ other some ready.
-      elim (cases_eq other.0 actor.0) [
-        | inl same ↦ subst (λ (a : ActorId). Contains queue a) (sym (same_id other actor same)) has
-        | inr apart ↦ old.has_ready other some (sym (ap is_ready (get_or-set_other states (actor.0 - 1) (other.0 - 1) s Ended (λ e. apart (omega (arith, e, id.0, some))))) ∙ ready)
-      ];
-}
-
+-- an actor that joins may get any state
 pub queue_joined : (states : List State) (queue : List ActorId) (actor : ActorId) (s : State) (place : ℕ) → IsPlace queue actor place → (Contains queue actor → ⊥) → IsIdOf states actor → IsQueue states queue → IsQueue (set states (actor.0 - 1) s) (insert queue place actor)
 queue_joined states queue actor s place is none id old = record {
   rises = rises_at queue actor place old.rises is none;
@@ -139,20 +122,17 @@ queue_joined states queue actor s place is none id old = record {
 }
 
 -- what `partition_point` tells
-pub rises_weakly : (queue xs : List ActorId) → xs ≡ queue → AllPairs (λ (a : ActorId) (b : ActorId). a.0 < b.0) queue → IsNonDecreasingBy (λ (a : ActorId). a.0) xs
-rises_weakly queue xs same rises i j d le within = elim (cases_eq i j) [
-  | inl equal ↦ omega (arith, ap (λ k. (get_or xs k d).0) equal)
-  | inr apart ↦
-      let short : j < length queue = omega (arith, within, ap length same) in
-      let less : i < j = omega (arith, le, apart) in
-      omega (arith, rises i j d less short, ap (λ (q : List ActorId). (get_or q i d).0) same, ap (λ (q : List ActorId). (get_or q j d).0) same)
+pub rises_weakly : (queue : List ActorId) → AllPairs (λ (a : ActorId) (b : ActorId). a.0 < b.0) queue → IsNonDecreasingBy (λ (a : ActorId). a.0) queue
+rises_weakly queue rises i j d le within = elim (cases_eq i j) [
+  | inl equal ↦ omega (arith, ap (λ k. (get_or queue k d).0) equal)
+  | inr apart ↦ let less : i < j = omega (arith, le, apart) in omega (arith, rises i j d less within)
 ]
 
-pub place_at : (queue xs : List ActorId) (actor : ActorId) (i : ℕ) → xs ≡ queue → i ≤ length xs → IsPartitionPoint (λ (y : ActorId). nat_lt y.0 actor.0 ≡ true) (λ (y : ActorId). nat_lt y.0 actor.0 ≡ false) xs i → IsPlace queue actor i
-place_at queue xs actor i same within found = record {
-  within = omega (arith, within, ap length same);
-  below = λ k d less. omega (arith, ltb-true (get_or xs k d).0 actor.0 (found.0 k d (omega arith) less), ap (λ (q : List ActorId). (get_or q k d).0) same);
-  above = λ k d from less. omega (arith, ltb-false (get_or xs k d).0 actor.0 (found.1 k d from (omega (arith, less, ap length same))), ap (λ (q : List ActorId). (get_or q k d).0) same);
+pub place_at : (queue : List ActorId) (actor : ActorId) (i : ℕ) → i ≤ length queue → IsPartitionPoint (λ (y : ActorId). nat_lt y.0 actor.0 ≡ true) (λ (y : ActorId). nat_lt y.0 actor.0 ≡ false) queue i → IsPlace queue actor i
+place_at queue actor i within found = record {
+  within = within;
+  below = λ k d less. ltb-true (get_or queue k d).0 actor.0 (found.0 k d (omega arith) less);
+  above = λ k d from less. ltb-false (get_or queue k d).0 actor.0 (found.1 k d from less);
 }
 
 -- ---- room in the queue
