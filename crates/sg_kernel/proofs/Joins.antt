@@ -1,5 +1,5 @@
 -- One more actor joins a queue at its place.
-use Rattle.std.proofs.Common.{◌≡◌, ◌≢◌, ℕ, zero, suc, ◌+◌, ◌-◌, ◌<◌, ◌≤◌, Bool, true, false, true≢false, cond, IsTrue, List, [], ◌∷◌, length, nat_lt, set, get_or, inl, inr, ◌⊎◌, refl, sym, subst, ap, ◌∙◌, arith}
+use Rattle.std.proofs.Common.{◌≡◌, ◌≢◌, ℕ, zero, suc, ◌+◌, ◌-◌, ◌<◌, ◌≤◌, true, false, List, length, nat_lt, set, get_or, inl, inr, sym, subst, ap, ◌∙◌, arith}
 use Rattle.std.specs.Prelude.{AllPairs, Contains}
 use Rattle.std.specs.List.{insert}
 use Rattle.std.specs.List.Sorted.{IsNonDecreasingBy, IsPartitionPoint}
@@ -9,9 +9,9 @@ use borrow.Author.Tests.{ltb-true, ltb-false}
 use Rattle.std.proofs.lemmas.List.Edits.{length-insert, get_or-insert_at, get_or-insert_below, get_or-insert_above}
 use Rattle.sg_base.specs.declared.ids.ActorId.{ActorId}
 use Rattle.sg_kernel.specs.declared.states.State.{State}
-use Rattle.sg_kernel.specs.declared.states.State.TheVariants.{Ready, Ended}
+use Rattle.sg_kernel.specs.declared.states.State.TheVariants.{Ended}
 use Rattle.sg_kernel.specs.World.{is_ready}
-use Rattle.sg_kernel.specs.Queue.{is_ready_in, IsIdOf, IsPlace, IsQueue}
+use Rattle.sg_kernel.specs.Queue.{IsIdOf, IsPlace, IsQueue}
 
 same_id : (a b : ActorId) → a.0 ≡ b.0 → a ≡ b
 same_id a b same = ap (λ (n : ℕ). record { 0 = n }) same
@@ -26,11 +26,11 @@ nowhere queue actor place rises is apart has =
     elim (cases_lt has.0 place) [
       | inl before ↦ omega (arith, here, is.below has.0 actor before)
       | inr past ↦ elim (cases_eq has.0 place) [
-          | inl same ↦ apart actor (omega (arith, same, has.1)) (ap (λ k. (get_or queue k actor).0) (sym same) ∙ here)
-          | inr differs ↦
-              let less : place < has.0 = omega (arith, past, differs) in
-              omega (arith, here, rises place has.0 actor less has.1, is.above place actor (omega arith) (omega (arith, less, has.1)))
-        ]
+        | inl same ↦ apart actor (omega (arith, same, has.1)) (ap (λ k. (get_or queue k actor).0) (sym same) ∙ here)
+        | inr differs ↦
+            let less : place < has.0 = omega (arith, past, differs) in
+            omega (arith, here, rises place has.0 actor less has.1, is.above place actor (omega arith) (omega (arith, less, has.1)))
+      ]
     ]
 
 -- strictly before those behind it
@@ -49,31 +49,31 @@ rises_at queue actor place rises is none i j d less within =
           let at_j = ap (λ (a : ActorId). a.0) (get_or-insert_below queue place actor d j before is.within) in
           omega (arith, at_i, at_j, rises i j d less (omega (arith, before, is.within)))
       | inr past ↦ elim (cases_eq j place) [
-          | inl same ↦
-              let at_i = ap (λ (a : ActorId). a.0) (get_or-insert_below queue place actor d i (omega (arith, less, same)) is.within) in
-              let at_j : (get_or (insert queue place actor) j d).0 ≡ actor.0 = ap (λ k. (get_or (insert queue place actor) k d).0) same ∙ ap (λ (a : ActorId). a.0) (get_or-insert_at queue place actor d is.within) in
-              omega (arith, at_i, at_j, is.below i d (omega (arith, less, same)))
-          | inr apart ↦
-              let shift : j - 1 + 1 ≡ j = omega (arith, past, apart) in
-              let from : place ≤ j - 1 = omega (arith, past, apart) in
-              let short : j - 1 < length queue = omega (arith, shift, within, long) in
-              let at_j : (get_or (insert queue place actor) j d).0 ≡ (get_or queue (j - 1) d).0 = ap (λ k. (get_or (insert queue place actor) k d).0) (sym shift) ∙ ap (λ (a : ActorId). a.0) (get_or-insert_above queue place actor d (j - 1) from is.within) in
-              let last = behind queue actor place is none (j - 1) d from short in
-              elim (cases_lt i place) [
-                | inl before ↦
-                    let at_i = ap (λ (a : ActorId). a.0) (get_or-insert_below queue place actor d i before is.within) in
-                    omega (arith, at_i, at_j, last, is.below i d before)
-                | inr after ↦ elim (cases_eq i place) [
-                    | inl same ↦
-                        let at_i : (get_or (insert queue place actor) i d).0 ≡ actor.0 = ap (λ k. (get_or (insert queue place actor) k d).0) same ∙ ap (λ (a : ActorId). a.0) (get_or-insert_at queue place actor d is.within) in
-                        omega (arith, at_i, at_j, last)
-                    | inr differs ↦
-                        let back : i - 1 + 1 ≡ i = omega (arith, after, differs) in
-                        let at_i : (get_or (insert queue place actor) i d).0 ≡ (get_or queue (i - 1) d).0 = ap (λ k. (get_or (insert queue place actor) k d).0) (sym back) ∙ ap (λ (a : ActorId). a.0) (get_or-insert_above queue place actor d (i - 1) (omega (arith, after, differs)) is.within) in
-                        omega (arith, at_i, at_j, rises (i - 1) (j - 1) d (omega (arith, less, back, shift)) short)
-                  ]
+        | inl same ↦
+            let at_i = ap (λ (a : ActorId). a.0) (get_or-insert_below queue place actor d i (omega (arith, less, same)) is.within) in
+            let at_j : (get_or (insert queue place actor) j d).0 ≡ actor.0 = ap (λ k. (get_or (insert queue place actor) k d).0) same ∙ ap (λ (a : ActorId). a.0) (get_or-insert_at queue place actor d is.within) in
+            omega (arith, at_i, at_j, is.below i d (omega (arith, less, same)))
+        | inr apart ↦
+            let shift : j - 1 + 1 ≡ j = omega (arith, past, apart) in
+            let from : place ≤ j - 1 = omega (arith, past, apart) in
+            let short : j - 1 < length queue = omega (arith, shift, within, long) in
+            let at_j : (get_or (insert queue place actor) j d).0 ≡ (get_or queue (j - 1) d).0 = ap (λ k. (get_or (insert queue place actor) k d).0) (sym shift) ∙ ap (λ (a : ActorId). a.0) (get_or-insert_above queue place actor d (j - 1) from is.within) in
+            let last = behind queue actor place is none (j - 1) d from short in
+            elim (cases_lt i place) [
+              | inl before ↦
+                  let at_i = ap (λ (a : ActorId). a.0) (get_or-insert_below queue place actor d i before is.within) in
+                  omega (arith, at_i, at_j, last, is.below i d before)
+              | inr after ↦ elim (cases_eq i place) [
+                | inl same ↦
+                    let at_i : (get_or (insert queue place actor) i d).0 ≡ actor.0 = ap (λ k. (get_or (insert queue place actor) k d).0) same ∙ ap (λ (a : ActorId). a.0) (get_or-insert_at queue place actor d is.within) in
+                    omega (arith, at_i, at_j, last)
+                | inr differs ↦
+                    let back : i - 1 + 1 ≡ i = omega (arith, after, differs) in
+                    let at_i : (get_or (insert queue place actor) i d).0 ≡ (get_or queue (i - 1) d).0 = ap (λ k. (get_or (insert queue place actor) k d).0) (sym back) ∙ ap (λ (a : ActorId). a.0) (get_or-insert_above queue place actor d (i - 1) (omega (arith, after, differs)) is.within) in
+                    omega (arith, at_i, at_j, rises (i - 1) (j - 1) d (omega (arith, less, back, shift)) short)
               ]
-        ]
+            ]
+      ]
     ]
 
 -- those in the queue stay in it
@@ -95,15 +95,15 @@ ids_at states queue actor s place within id old k d less =
           let here = old.ids k d (omega (arith, before, within)) in
           (omega (arith, at, here.0), omega (arith, at, many, here.1))
       | inr past ↦ elim (cases_eq k place) [
-          | inl same ↦
-              let at : (get_or (insert queue place actor) k d).0 ≡ actor.0 = ap (λ n. (get_or (insert queue place actor) n d).0) same ∙ ap (λ (a : ActorId). a.0) (get_or-insert_at queue place actor d within) in
-              (omega (arith, at, id.0), omega (arith, at, many, id.1))
-          | inr apart ↦
-              let shift : k - 1 + 1 ≡ k = omega (arith, past, apart) in
-              let at : (get_or (insert queue place actor) k d).0 ≡ (get_or queue (k - 1) d).0 = ap (λ n. (get_or (insert queue place actor) n d).0) (sym shift) ∙ ap (λ (a : ActorId). a.0) (get_or-insert_above queue place actor d (k - 1) (omega (arith, past, apart)) within) in
-              let here = old.ids (k - 1) d (omega (arith, shift, less, long)) in
-              (omega (arith, at, here.0), omega (arith, at, many, here.1))
-        ]
+        | inl same ↦
+            let at : (get_or (insert queue place actor) k d).0 ≡ actor.0 = ap (λ n. (get_or (insert queue place actor) n d).0) same ∙ ap (λ (a : ActorId). a.0) (get_or-insert_at queue place actor d within) in
+            (omega (arith, at, id.0), omega (arith, at, many, id.1))
+        | inr apart ↦
+            let shift : k - 1 + 1 ≡ k = omega (arith, past, apart) in
+            let at : (get_or (insert queue place actor) k d).0 ≡ (get_or queue (k - 1) d).0 = ap (λ n. (get_or (insert queue place actor) n d).0) (sym shift) ∙ ap (λ (a : ActorId). a.0) (get_or-insert_above queue place actor d (k - 1) (omega (arith, past, apart)) within) in
+            let here = old.ids (k - 1) d (omega (arith, shift, less, long)) in
+            (omega (arith, at, here.0), omega (arith, at, many, here.1))
+      ]
     ]
 
 -- an actor that joins may get any state

@@ -1,5 +1,5 @@
 -- Between the call on an object and the answers to it.
-use Rattle.std.specs.Prelude.{◌≡◌, ℕ, ◌+◌, ◌^◌, ◌<◌, ◌≤◌, List, length, All, IsTrue, vec_len, vec_capacity}
+use Rattle.std.specs.Prelude.{◌≡◌, ◌+◌, ◌^◌, ◌<◌, ◌≤◌, List, length, All, IsTrue, vec_len, vec_capacity}
 use Rattle.sg_base.specs.declared.ids.ActorId.{ActorId}
 use Rattle.sg_base.specs.Limits.{IsActorNumber}
 use Rattle.sg_sync.specs.Queues.{times}

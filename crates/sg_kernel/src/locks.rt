@@ -77,7 +77,9 @@ fn answer_caller(parts: &mut Parts, outcome: Outcome, actor: ActorId, what: Call
     let date = parts.doing.date();
     match outcome {
         Outcome::GoesOn => {
-            parts.records.push_reserved(record_of(actor, date, what, Some(0)));
+            parts
+                .records
+                .push_reserved(record_of(actor, date, what, Some(0)));
             parts.states[place] = State::Ready(Answer::Done);
         }
         Outcome::Waits => {
@@ -85,7 +87,9 @@ fn answer_caller(parts: &mut Parts, outcome: Outcome, actor: ActorId, what: Call
             parts.ready -= 1;
         }
         Outcome::Refused => {
-            parts.records.push_reserved(record_of(actor, date, what, None));
+            parts
+                .records
+                .push_reserved(record_of(actor, date, what, None));
             parts.states[place] = State::Ready(Answer::Refused);
         }
     }
@@ -115,7 +119,9 @@ fn wake(parts: &mut Parts, actor: ActorId)
     if let State::Blocked(what, since, _) = parts.states[place] {
         let date = parts.doing.date();
         let took = Some(date.saturating_sub(since));
-        parts.records.push_reserved(record_of(actor, date, what, took));
+        parts
+            .records
+            .push_reserved(record_of(actor, date, what, took));
         parts.states[place] = State::Ready(Answer::Done);
         parts.ready += 1;
         join_in_order(&mut parts.queue, actor);

@@ -1,7 +1,7 @@
 use Rattle.std.proofs.Common.{arith}
 use Rattle.sg_sync.specs.Objects.{Objects, acquired}
 use Rattle.sg_sync.proofs.Losses.{acquired_keeps}
-use Rattle.sg_kernel.proofs.Woken.{acquired_like, waking_called}
+use Rattle.sg_kernel.proofs.Waiting.{acquired_like, waking_called}
 use Rattle.sg_kernel.proofs.locks.acquire.Goals as goal
 
 pub answer_first-requires-clause-waking : goal.answer_first-requires-clause-waking

@@ -1,4 +1,4 @@
-use Rattle.std.proofs.Common.{◌≡◌, ◌-◌, ap, arith, rules, None, Some, sym, ◌∙◌}
+use Rattle.std.proofs.Common.{◌-◌, ap, arith, None, Some, ◌∙◌}
 use Rattle.std.proofs.lemmas.List.Elements.{All-set}
 use Rattle.sg_base.specs.declared.call.Answer.TheVariants as answer
 use Rattle.sg_kernel.specs.declared.states.State.TheVariants.{Ready, Blocked}

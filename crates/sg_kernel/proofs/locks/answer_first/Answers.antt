@@ -1,8 +1,8 @@
-use Rattle.std.proofs.Common.{◌≡◌, [], List, sym, ap, subst}
+use Rattle.std.proofs.Common.{[], List, sym, ap, subst}
 use Rattle.sg_base.specs.declared.ids.ActorId.{ActorId}
 use Rattle.sg_sync.specs.Objects.{Objects}
 use Rattle.sg_kernel.specs.Waking.{AreWaking}
-use Rattle.sg_kernel.proofs.Woken.{answered_wakers, held_again}
+use Rattle.sg_kernel.proofs.Waiting.{answered_wakers, held_again}
 use Rattle.sg_kernel.proofs.locks.answer_first.Goals as goal
 
 pub wake_others-requires-clause-wakers : goal.wake_others-requires-clause-wakers

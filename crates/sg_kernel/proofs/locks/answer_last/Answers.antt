@@ -1,7 +1,8 @@
-use Rattle.std.proofs.Common.{◌≡◌, []}
+use Rattle.std.proofs.Common.{[]}
 use Rattle.sg_sync.specs.Laws.{comers}
 use Rattle.sg_kernel.specs.Sound.{known_of}
-use Rattle.sg_kernel.proofs.Woken.{wakers_exist, held_again, then_caller}
+use Rattle.sg_kernel.proofs.Waiting.{wakers_exist, held_again}
+use Rattle.sg_kernel.proofs.Woken.{then_caller}
 use Rattle.sg_kernel.proofs.locks.answer_last.Goals as goal
 
 pub wake_others-requires-clause-wakers : goal.wake_others-requires-clause-wakers

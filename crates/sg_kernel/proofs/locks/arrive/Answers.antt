@@ -1,7 +1,6 @@
-use Rattle.std.proofs.Common.{arith}
 use Rattle.sg_sync.specs.Objects.{Objects, arrived}
 use Rattle.sg_sync.proofs.Losses.{arrived_keeps}
-use Rattle.sg_kernel.proofs.Woken.{arrived_like, waking_called}
+use Rattle.sg_kernel.proofs.Waiting.{arrived_like, waking_called}
 use Rattle.sg_kernel.proofs.locks.arrive.Goals as goal
 
 pub answer_last-requires-clause-waking : goal.answer_last-requires-clause-waking

@@ -1,7 +1,7 @@
 use Rattle.std.proofs.Common.{arith}
 use Rattle.sg_sync.specs.Objects.{Objects, locked}
 use Rattle.sg_sync.proofs.Losses.{locked_keeps}
-use Rattle.sg_kernel.proofs.Woken.{locked_like, waking_called}
+use Rattle.sg_kernel.proofs.Waiting.{locked_like, waking_called}
 use Rattle.sg_kernel.proofs.locks.lock.Goals as goal
 
 pub answer_first-requires-clause-waking : goal.answer_first-requires-clause-waking

@@ -1,7 +1,7 @@
 use Rattle.std.proofs.Common.{arith}
 use Rattle.sg_sync.specs.Objects.{Objects, released}
 use Rattle.sg_sync.proofs.Losses.{released_keeps}
-use Rattle.sg_kernel.proofs.Woken.{released_like, waking_called}
+use Rattle.sg_kernel.proofs.Waiting.{released_like, waking_called}
 use Rattle.sg_kernel.proofs.locks.release.Goals as goal
 
 pub answer_first-requires-clause-waking : goal.answer_first-requires-clause-waking

@@ -1,7 +1,7 @@
 use Rattle.std.proofs.Common.{arith}
 use Rattle.sg_sync.specs.Objects.{Objects, unlocked}
 use Rattle.sg_sync.proofs.Losses.{unlocked_keeps}
-use Rattle.sg_kernel.proofs.Woken.{unlocked_like, waking_called}
+use Rattle.sg_kernel.proofs.Waiting.{unlocked_like, waking_called}
 use Rattle.sg_kernel.proofs.locks.unlock.Goals as goal
 
 pub answer_first-requires-clause-waking : goal.answer_first-requires-clause-waking

@@ -1,14 +1,15 @@
-use Rattle.std.proofs.Common.{◌≡◌, ◌-◌, ◌<◌, ◌≤◌, length, inl, inr, ap, arith, rules, None, Some, sym, ◌∙◌}
+use Rattle.std.proofs.Common.{◌≡◌, ◌-◌, ◌<◌, ◌≤◌, length, inl, inr, ap, arith, Some, sym, ◌∙◌}
 use Rattle.std.proofs.lemmas.Bool.{cases_eq}
 use Rattle.std.proofs.lemmas.List.{get_or_default, length-set}
 use Rattle.std.proofs.lemmas.List.Elements.{All-set}
 use Rattle.sg_base.specs.declared.call.Answer.TheVariants as answer
-use Rattle.sg_sync.proofs.Counts.{times_cons, one_same, one_other}
+use Rattle.sg_sync.proofs.Counts.{times_cons, one_same}
 use Rattle.sg_kernel.specs.declared.states.State.TheVariants.{Ready, Blocked, Ended}
 use Rattle.sg_kernel.specs.World.{extent, state_of}
 use Rattle.sg_kernel.specs.Sound.{core_of, setup_in, KeepsLimits}
 use Rattle.sg_kernel.proofs.Joins.{queue_room}
-use Rattle.sg_kernel.proofs.Woken.{record_more, made_limited, blocked_told, still_held}
+use Rattle.sg_kernel.proofs.Waiting.{still_held}
+use Rattle.sg_kernel.proofs.Woken.{record_more, made_limited, blocked_told}
 use Rattle.sg_kernel.proofs.locks.wake.Goals as goal
 
 pub join_in_order-requires-clause-room : goal.join_in_order-requires-clause-room
@@ -48,7 +49,7 @@ returns-in-Blocked-clause-limited c =
     record {
       states = All-set (KeepsLimits (extent (setup_in parts))) parts.states.items (c.args.actor.0 - 1) (Ready answer.Done) tt c.requires.limited.states;
       owners = c.requires.limited.owners;
-      records = record_more (extent (setup_in parts)) parts.records.items _ c.record_of.result _ c.push_reserved.ensures.items (c.record_of.ensures ∙ ap (λ d. record { actor = c.args.actor; date = d; what = c.in-Blocked.what; bytes = 0; took = Some c.saturating_sub.result }) c.date-date.ensures) made c.requires.limited.records;
+      records = record_more (extent (setup_in parts)) parts.records.items c.push_reserved.new.self.items c.record_of.result (record { actor = c.args.actor; date = parts.doing.date; what = c.in-Blocked.what; bytes = 0; took = Some c.saturating_sub.result }) c.push_reserved.ensures.items (c.record_of.ensures ∙ ap (λ d. record { actor = c.args.actor; date = d; what = c.in-Blocked.what; bytes = 0; took = Some c.saturating_sub.result }) c.date-date.ensures) made c.requires.limited.records;
     }
 
 pub returns-in-Blocked-clause-queued : goal.returns-in-Blocked-clause-queued

@@ -1,10 +1,9 @@
-use Rattle.std.proofs.Common.{rules, ◌≡◌, ◌-◌, ◌+◌, ◌<◌, ◌≤◌, [], ◌∷◌, List, length, drop, get_or, arith, ap, sym, subst, ◌∙◌}
-use Rattle.std.specs.Prelude.{Contains}
+use Rattle.std.proofs.Common.{◌≡◌, ◌+◌, ◌<◌, [], List, length, drop, get_or, arith, ap, sym, subst, ◌∙◌}
 use Rattle.std.proofs.lemmas.List.{get_or_default, drop_all}
 use Rattle.sg_base.specs.declared.ids.ActorId.{ActorId}
 use Rattle.sg_sync.specs.Objects.{Objects}
 use Rattle.sg_kernel.specs.Locks.{all_wake}
-use Rattle.sg_kernel.specs.Known.{Known, after}
+use Rattle.sg_kernel.specs.Known.{after}
 use Rattle.sg_kernel.specs.Sound.{core_of, known_of}
 use Rattle.sg_kernel.specs.Waking.{AreWaking}
 use Rattle.sg_kernel.proofs.Woken.{drop_at, wake_more, wake_none}

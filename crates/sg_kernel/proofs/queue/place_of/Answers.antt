@@ -1,4 +1,4 @@
-use Rattle.std.proofs.Common.{◌≡◌, ◌∙◌, ap, rules, arith, nat_lt}
+use Rattle.std.proofs.Common.{◌∙◌, ap, rules, arith, nat_lt}
 use Rattle.std.proofs.lemmas.List.{get_or_default}
 use Rattle.std.proofs.lemmas.List.Sorted.{IsPartitionPoint-from_clause, IsPartitionedBy-ltb}
 use Rattle.sg_base.specs.declared.ids.ActorId.{ActorId}
