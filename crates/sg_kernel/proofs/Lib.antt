@@ -1,6 +1,7 @@
 pub mod Counts
 pub mod Ends
 pub mod Firsts
+pub mod Joins
 pub mod Limits
 pub mod Meets
 pub mod Mets
@@ -9,3 +10,5 @@ pub mod Postings
 pub mod PostsKept
 pub mod Queues
 pub mod Tables
+pub mod Waiting
+pub mod Woken
