@@ -1,2 +1,14 @@
 pub mod Counts
+pub mod Ends
+pub mod Firsts
+pub mod Joins
+pub mod Limits
+pub mod Meets
+pub mod Mets
+pub mod Passed
+pub mod Postings
+pub mod PostsKept
 pub mod Queues
+pub mod Tables
+pub mod Waiting
+pub mod Woken

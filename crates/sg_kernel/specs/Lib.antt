@@ -11,3 +11,4 @@ pub mod Records
 pub mod Owners
 pub mod Sound
 pub mod Queue
+pub mod Waking

@@ -32,3 +32,9 @@ IsQueued parts = IsQueue parts.states.items parts.queue.items × (length parts.s
 -- The same while a pass answers.
 abbrev pub IsAnswering : Parts → Type 0
 IsAnswering parts = HasAnswered parts.states.items parts.queue.items × (length parts.states.items ≤ vec_capacity parts.queue)
+
+-- those before the place come before the actor, and those from there on don't
+pub record IsPlace (queue : List ActorId) (actor : ActorId) (place : ℕ) : Type 0 where
+  pub within : place ≤ length queue
+  pub below : (k : ℕ) (d : ActorId) → k < place → (slice_index_or queue k d).0 < actor.0
+  pub above : (k : ℕ) (d : ActorId) → place ≤ k → k < length queue → actor.0 ≤ (slice_index_or queue k d).0

@@ -127,3 +127,5 @@ pub record AreHeld (parts : Parts) : Type 0 where
   pub few : All (λ count. count ≤ 10 ^ 9 + parts.events) parts.objects.counts
   pub once : (actor : ActorId) → sync.waiting parts.objects actor ≤ 1
   pub held : (actor : ActorId) → 0 < sync.waiting parts.objects actor → IsActorNumber (extent (setup_in parts)) actor.0 × IsTrue (is_held (state_of (core_of parts) actor.0))
+  pub locking : length parts.objects.locking ≡ parts.mutexes
+  pub acquiring : length parts.objects.acquiring ≡ length parts.semaphores.items

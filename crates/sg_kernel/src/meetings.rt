@@ -1,24 +1,24 @@
 //! Sides of communications come to mailboxes, and actors wait for their requests.
 
-ghost use Rattle.std.specs.Prelude.{◌≡◌, ◌≢◌, ◌-◌, ◌<◌, ◌≤◌, is_ok, if◌then◌else◌, length, Ok, Err, Result};
-ghost use Rattle.sg_base.specs.Limits.{IsBoxIn};
-ghost use Rattle.sg_mailbox.specs.Posts.{meets, met, waiting};
-ghost use Rattle.sg_route.specs.Roads.{Roads};
-ghost use Rattle.sg_kernel.specs.World.{MayCall, extent};
-ghost use Rattle.sg_kernel.specs.Steps.{result_of};
-ghost use Rattle.sg_kernel.specs.Meetings.{comer_of, comes, end_of, joins_over, posted, takes_part, waits as waits_spec};
+ghost use Rattle.std.specs.Prelude.{◌≡◌, ◌≢◌, ◌+◌, ◌-◌, ◌<◌, ◌≤◌, AllPairs, None, Some, is_ok, if◌then◌else◌, length, vec_len, vec_capacity};
+ghost use Rattle.sg_base.specs.declared.ids.BoxId.{BoxId};
+ghost use Rattle.sg_base.specs.Limits.{IsActorIn, IsAmount};
+ghost use Rattle.sg_mailbox.specs.Posts.{meets, met, arrives, waiting, AreBelow};
+ghost use Rattle.sg_kernel.specs.World.{Core, MayCall, extent};
+ghost use Rattle.sg_kernel.specs.Steps.{counted, result_of};
+ghost use Rattle.sg_kernel.specs.Meetings.{comer_of, comes, end_of, joined, point_of, posted, receiver_of, sender_of, stop_of, takes_part, waits as waits_spec};
 ghost use Rattle.sg_kernel.specs.Known.{after};
 ghost use Rattle.sg_kernel.specs.Queue.{IsQueued};
 ghost use Rattle.sg_kernel.specs.Records.{IsTellable};
-ghost use Rattle.sg_kernel.specs.Roads.{AreOver};
-ghost use Rattle.sg_kernel.specs.Sound.{core_of, known_of, setup_in, IsSide, IsSound, IsDated, AreLimited, AreMeeting, AreHeld};
+ghost use Rattle.sg_kernel.specs.Roads.{AreOver, IsOver};
+ghost use Rattle.sg_kernel.specs.Sound.{core_of, known_of, setup_in, IsSide, IsSound, IsDated, AreLimited, AreMeeting, AreHeld, blocked_count};
 
-use crate::answers::{block, done_at_once, refuse};
+use crate::answers::{block, done_at_once, make_blocked, make_done, refuse};
 use crate::parts::Parts;
 use crate::states::{Stop, Whose};
 use arrayvec::ArrayVec;
 use sg_base::{ActorId, BoxId, Call, LinkId, Msg, PointId, Serial};
-use sg_mailbox::Side;
+use sg_mailbox::{Boxes, Side};
 use sg_requests::{Await, End};
 use sg_route::{RouteFault, Router};
 
@@ -74,18 +74,38 @@ fn end_of(sends: bool) -> End
     if sends { End::Sender } else { End::Receiver }
 }
 
-// The actor takes part in the communication of this serial.
-fn take_part(parts: &mut Parts, comer: Comer, serial: Serial) {
+// The actor of a call that is counted takes part in the communication of this serial.
+fn take_part(parts: &mut Parts, comer: Comer, serial: Serial)
+    requires caller { MayCall (core_of parts.old) comer.side.actor.0 }
+    requires what { IsTellable (extent (setup_in parts.old)) comer.what }
+    requires bytes { IsAmount comer.side.bytes }
+    requires serial { (0 < serial.0) × (serial.0 ≤ length parts.old.whose.whose) }
+    requires request { (parts.old.room < parts.old.requests.room) × (parts.old.requests.asked < parts.old.events) }
+    requires record { vec_len parts.old.records + parts.old.room + blocked_count parts.old.states.items < vec_capacity parts.old.records }
+    requires sound { IsSound parts.old }
+    requires dated { IsDated parts.old }
+    requires limited { AreLimited parts.old }
+    requires queued { IsQueued parts.old }
+    requires meeting { AreMeeting parts.old }
+    requires held { AreHeld parts.old }
+    ensures known { (core : Core) → core_of parts.old ≡ counted core → known_of parts.new ≡ after (takes_part comer.waits comer serial.0 core) (known_of parts.old) }
+    ensures sound { IsSound parts.new }
+    ensures dated { IsDated parts.new }
+    ensures limited { AreLimited parts.new }
+    ensures queued { IsQueued parts.new }
+    ensures meeting { AreMeeting parts.new }
+    ensures held { AreHeld parts.new }
+{
     let actor = comer.side.actor;
     let on = Await {
         serial,
         end: end_of(comer.sends),
     };
     if comer.waits {
-        block(parts, actor, comer.what, on);
+        make_blocked(parts, actor, comer.what, on);
     } else {
         parts.requests.push(actor, on);
-        done_at_once(parts, actor, comer.what, comer.side.bytes);
+        make_done(parts, actor, comer.what, comer.side.bytes);
     }
 }
 
@@ -101,25 +121,56 @@ fn whom(parts: &Parts, comer: Comer) -> Option<(Serial, Side)>
 }
 
 // The side goes into its mailbox: it waits there, or takes the one that it meets away.
-fn enter(parts: &mut Parts, comer: Comer, serial: Serial) {
+fn enter(boxes: &mut Boxes, comer: Comer, serial: Serial)
+    requires room { 0 < boxes.old.room }
+    requires serial { 0 < serial.0 }
+    requires above { AreBelow serial (waiting boxes.old comer.mailbox) }
+    ensures there { waiting boxes.new comer.mailbox ≡ arrives comer.sends comer.side serial (waiting boxes.old comer.mailbox) }
+    ensures elsewhere { (other : BoxId) → other ≢ comer.mailbox → waiting boxes.new other ≡ waiting boxes.old other }
+    ensures room { boxes.new.room ≡ boxes.old.room - 1 }
+{
     if comer.sends {
-        parts.boxes.send(comer.mailbox, comer.side, serial);
+        boxes.send(comer.mailbox, comer.side, serial);
     } else {
-        parts.boxes.recv(comer.mailbox, comer.side, serial);
+        boxes.recv(comer.mailbox, comer.side, serial);
     }
 }
 
 // The side is posted, as a communication with the next serial.
-fn post(parts: &mut Parts, comer: Comer) {
+fn post(parts: &mut Parts, comer: Comer)
+    requires caller { MayCall (core_of parts.old) comer.side.actor.0 }
+    requires what { IsTellable (extent (setup_in parts.old)) comer.what }
+    requires side { IsSide (extent (setup_in parts.old)) comer.side }
+    requires alone { meets comer.sends (waiting parts.old.boxes comer.mailbox) ≡ None }
+    requires room { 0 < parts.old.room }
+    requires budget { parts.old.events ≢ parts.old.budget }
+    requires sound { IsSound parts.old }
+    requires dated { IsDated parts.old }
+    requires limited { AreLimited parts.old }
+    requires queued { IsQueued parts.old }
+    requires meeting { AreMeeting parts.old }
+    requires held { AreHeld parts.old }
+    ensures known { known_of parts.new ≡ record (after (takes_part comer.waits comer (length parts.old.doing.tasks + 1) (posted comer (core_of parts.old))) (known_of parts.old)) { room = parts.old.room - 1 } }
+    ensures sound { IsSound parts.new }
+    ensures dated { IsDated parts.new }
+    ensures limited { AreLimited parts.new }
+    ensures queued { IsQueued parts.new }
+    ensures meeting { AreMeeting parts.new }
+    ensures held { AreHeld parts.new }
+{
+    parts.events += 1;
+    parts.room -= 1;
     let serial = parts.doing.take_serial();
     parts
         .whose
         .push(Whose::Posted(comer.mailbox, comer.sends, comer.side));
-    enter(parts, comer, serial);
+    enter(&mut parts.boxes, comer, serial);
     take_part(parts, comer, serial);
 }
 
-fn stop_of(from: PointId, to: PointId, fault: RouteFault) -> Stop {
+fn stop_of(from: PointId, to: PointId, fault: RouteFault) -> Stop
+    ensures { result ≡ stop_of from to fault }
+{
     match fault {
         RouteFault::NoRoute {
             zone,
@@ -130,6 +181,69 @@ fn stop_of(from: PointId, to: PointId, fault: RouteFault) -> Stop {
     }
 }
 
+fn sender_of(comer: Comer, other: Side) -> Side
+    ensures { result ≡ sender_of comer other }
+{
+    if comer.sends { comer.side } else { other }
+}
+
+fn receiver_of(comer: Comer, other: Side) -> Side
+    ensures { result ≡ receiver_of comer other }
+{
+    if comer.sends { other } else { comer.side }
+}
+
+// The host of a side.
+fn point_of(parts: &Parts, side: Side) -> PointId
+    requires { IsActorIn (extent (setup_in parts.now)) side.actor }
+    ensures { result ≡ point_of (setup_in parts.now) side }
+{
+    parts.homes[side.actor.0 as usize - 1]
+}
+
+// Both sides are there, and the communication begins over these links.
+fn begin(
+    parts: &mut Parts,
+    comer: Comer,
+    serial: Serial,
+    other: Side,
+    links: &[LinkId],
+    latency: u128,
+)
+    requires caller { MayCall (core_of parts.old) comer.side.actor.0 }
+    requires what { IsTellable (extent (setup_in parts.old)) comer.what }
+    requires side { IsSide (extent (setup_in parts.old)) comer.side }
+    requires met { met (meets comer.sends (waiting parts.old.boxes comer.mailbox)) ≡ Some (serial, other) }
+    requires route { IsOver (length parts.old.doing.capacities.links) (record { links = links.now; latency = latency }) }
+    requires apart { AllPairs (λ a b. a ≢ b) links.now }
+    requires room { 0 < parts.old.room }
+    requires budget { parts.old.events ≢ parts.old.budget }
+    requires sound { IsSound parts.old }
+    requires dated { IsDated parts.old }
+    requires limited { AreLimited parts.old }
+    requires queued { IsQueued parts.old }
+    requires meeting { AreMeeting parts.old }
+    requires held { AreHeld parts.old }
+    ensures known { known_of parts.new ≡ record (after (takes_part comer.waits comer serial.0 (joined (setup_in parts.old) serial.0 (record { links = links.now; latency = latency }) (sender_of comer other) (receiver_of comer other) (core_of parts.old))) (known_of parts.old)) { room = parts.old.room - 1 } }
+    ensures sound { IsSound parts.new }
+    ensures dated { IsDated parts.new }
+    ensures limited { AreLimited parts.new }
+    ensures queued { IsQueued parts.new }
+    ensures meeting { AreMeeting parts.new }
+    ensures held { AreHeld parts.new }
+{
+    parts.events += 1;
+    parts.room -= 1;
+    let next = parts.doing.next_serial();
+    enter(&mut parts.boxes, comer, next);
+    let sender = sender_of(comer, other);
+    parts.doing.start_comm(serial, links, latency, sender.bytes);
+    parts
+        .whose
+        .put(serial, Whose::Pair(sender, receiver_of(comer, other)));
+    take_part(parts, comer, serial);
+}
+
 // Both sides are there, and the communication begins over its route.
 fn join(
     parts: &mut Parts,
@@ -137,26 +251,39 @@ fn join(
     comer: Comer,
     serial: Serial,
     other: Side,
-) -> Result<(), Stop> {
-    let (sender, receiver) = if comer.sends {
-        (comer.side, other)
-    } else {
-        (other, comer.side)
-    };
-    let from = parts.homes[sender.actor.0 as usize - 1];
-    let to = parts.homes[receiver.actor.0 as usize - 1];
+) -> Result<(), Stop>
+    requires caller { MayCall (core_of parts.old) comer.side.actor.0 }
+    requires what { IsTellable (extent (setup_in parts.old)) comer.what }
+    requires side { IsSide (extent (setup_in parts.old)) comer.side }
+    requires met { met (meets comer.sends (waiting parts.old.boxes comer.mailbox)) ≡ Some (serial, other) }
+    requires roads { AreOver (length parts.old.doing.capacities.links) router.now }
+    requires room { 0 < parts.old.room }
+    requires budget { parts.old.events ≢ parts.old.budget }
+    requires sound { IsSound parts.old }
+    requires dated { IsDated parts.old }
+    requires limited { AreLimited parts.old }
+    requires queued { IsQueued parts.old }
+    requires meeting { AreMeeting parts.old }
+    requires held { AreHeld parts.old }
+    ensures known { known_of parts.new ≡ record (after (comes router.now (setup_in parts.old) comer (core_of parts.old)) (known_of parts.old)) { room = parts.old.room - (if is_ok result then 1 else 0) } }
+    ensures result { result ≡ result_of (comes router.now (setup_in parts.old) comer (core_of parts.old)).stop }
+    ensures sound { IsSound parts.new }
+    ensures dated { IsDated parts.new }
+    ensures limited { AreLimited parts.new }
+    ensures queued { IsQueued parts.new }
+    ensures meeting { AreMeeting parts.new }
+    ensures held { AreHeld parts.new }
+{
+    let from = point_of(parts, sender_of(comer, other));
+    let to = point_of(parts, receiver_of(comer, other));
     let mut links: ArrayVec<LinkId, 64> = ArrayVec::new();
-    let latency = match router.route(from, to, &mut links) {
-        Ok(latency) => latency,
-        Err(fault) => return Err(stop_of(from, to, fault)),
-    };
-    enter(parts, comer, serial);
-    parts
-        .doing
-        .start_comm(serial, links.as_slice(), latency, sender.bytes);
-    parts.whose.put(serial, Whose::Pair(sender, receiver));
-    take_part(parts, comer, serial);
-    Ok(())
+    match router.route(from, to, &mut links) {
+        Ok(latency) => {
+            begin(parts, comer, serial, other, links.as_slice(), latency);
+            Ok(())
+        }
+        Err(fault) => Err(stop_of(from, to, fault)),
+    }
 }
 
 /// A side comes to its mailbox. A missing or too long route stops the run, with all as it was.

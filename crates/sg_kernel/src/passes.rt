@@ -39,6 +39,13 @@ fn tells_bytes(what: Call) -> bool
     }
 }
 
+// How many bytes the record of a call tells, of those that came.
+fn bytes_told(what: Call, bytes: u64) -> u64
+    ensures { result ≡ (if tells_bytes what then bytes else 0) }
+{
+    if tells_bytes(what) { bytes } else { 0 }
+}
+
 fn answer_to(what: Call, msg: Msg) -> Answer
     ensures { result ≡ answer_to what msg }
 {
@@ -74,7 +81,7 @@ fn answer_side(parts: &mut Parts, serial: Serial, end: End, given: Side)
                 actor: given.actor,
                 date,
                 what,
-                bytes: if tells_bytes(what) { given.bytes } else { 0 },
+                bytes: bytes_told(what, given.bytes),
                 took: Some(date.saturating_sub(since)),
             });
             parts.states[place] = State::Ready(answer_to(what, given.msg));

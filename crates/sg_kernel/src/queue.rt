@@ -1,10 +1,11 @@
 //! Who is to take a turn.
-ghost use Rattle.std.specs.Prelude.{◌≡◌, ◌-◌, ◌≤◌, IfOk, length, filter, replicate, slice_index_or, vec_len, vec_capacity};
+ghost use Rattle.std.specs.Prelude.{◌≡◌, ◌-◌, ◌<◌, ◌≤◌, AllPairs, Contains, IfOk, List, MatchOption, length, filter, replicate, slice_index_or, slice_set, vec_len, vec_capacity};
 ghost use Rattle.std.specs.List.Sorted.{IsNonDecreasingBy, IsPermutation};
 ghost use Rattle.sg_base.specs.declared.ids.ActorId.{ActorId};
 ghost use Rattle.sg_base.specs.declared.call.Answer.TheVariants as answer;
+ghost use Rattle.sg_kernel.specs.declared.states.State.{State};
 ghost use Rattle.sg_kernel.specs.declared.states.State.TheVariants.{Ready};
-ghost use Rattle.sg_kernel.specs.Queue.{is_ready_in as is_ready_in_spec, IsQueue};
+ghost use Rattle.sg_kernel.specs.Queue.{is_ready_in as is_ready_in_spec, IsIdOf, IsPlace, IsQueue};
 
 use crate::states::State;
 use sg_base::{ActorId, Memory};
@@ -51,16 +52,29 @@ pub(crate) fn sort(queue: &mut Vec<ActorId>)
     queue.sort_unstable_by_key(|actor| actor.0);
 }
 
-/// One more actor joins, at its place in rising order, where it isn't there.
-pub(crate) fn join_in_order(queue: &mut Vec<ActorId>, actor: ActorId) {
+// The place in rising order of an actor that isn't there; none where it is.
+fn place_of(queue: &[ActorId], actor: ActorId) -> Option<usize>
+    requires { AllPairs (λ a b. a.0 < b.0) queue.now }
+    ensures { MatchOption result (Contains queue.now actor) (λ place. IsPlace queue.now actor place × ¬ Contains queue.now actor) }
+{
     let place = queue.partition_point(|other| other.0 < actor.0);
-    if place < queue.len() && queue[place] == actor {
-        return;
+    if place < queue.len() && queue[place].0 == actor.0 {
+        return None;
     }
-    queue.push_reserved(actor);
-    let mut at = queue.len() - 1;
-    while at > place {
-        queue.swap(at - 1, at);
-        at -= 1;
+    Some(place)
+}
+
+/// One more actor joins, at its place in rising order, where it isn't there.
+pub(crate) fn join_in_order(queue: &mut Vec<ActorId>, actor: ActorId)
+    requires rises { AllPairs (λ a b. a.0 < b.0) queue.old.items }
+    requires room { ¬ Contains queue.old.items actor → vec_len queue.old < vec_capacity queue.old }
+    ensures queue { (states : List State) (state : State) → IsIdOf states actor → IsQueue states queue.old.items → IsQueue (slice_set states (actor.0 - 1) state) queue.new.items }
+    ensures capacity { vec_capacity queue.new ≡ vec_capacity queue.old }
+{
+    if let Some(place) = place_of(queue, actor) {
+        match queue.insert(place, actor) {
+            Ok(()) => {}
+            Err(_) => unreachable!(),
+        }
     }
 }

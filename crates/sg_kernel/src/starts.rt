@@ -119,9 +119,10 @@ pub(crate) fn compute(parts: &mut Parts, actor: ActorId, flops: u64)
     ensures held { AreHeld parts.new }
 {
     let host = parts.homes[actor.0 as usize - 1];
-    let serial = parts.doing.start_exec(host, flops);
-    parts.whose.push(Whose::Alone(actor));
+    let serial = parts.doing.next_serial();
     block(parts, actor, Call::Compute(flops), alone(serial));
+    parts.doing.start_exec(host, flops);
+    parts.whose.push(Whose::Alone(actor));
 }
 
 /// The actor sleeps.
@@ -144,9 +145,10 @@ pub(crate) fn sleep(parts: &mut Parts, actor: ActorId, ns: u64)
     ensures meeting { AreMeeting parts.new }
     ensures held { AreHeld parts.new }
 {
-    let serial = parts.doing.start_timer(ns);
-    parts.whose.push(Whose::Alone(actor));
+    let serial = parts.doing.next_serial();
     block(parts, actor, Call::Sleep(ns), alone(serial));
+    parts.doing.start_timer(ns);
+    parts.whose.push(Whose::Alone(actor));
 }
 
 /// Makes room for so many calls, and for what the passes after them make.

@@ -1,0 +1,16 @@
+use Rattle.std.proofs.Common.{Some}
+use Rattle.std.proofs.lemmas.List.Elements.{All-set}
+use Rattle.sg_kernel.specs.declared.states.State.TheVariants.{Blocked}
+use Rattle.sg_kernel.specs.World.{extent}
+use Rattle.sg_kernel.specs.Sound.{setup_in, KeepsLimits}
+use Rattle.sg_kernel.proofs.answers.block.Goals as goal
+
+pub returns-clause-limited : goal.returns-clause-limited
+returns-clause-limited c =
+    let old = c.args.parts.now in
+    let limited = c.requires.limited in
+    record {
+      states = All-set (KeepsLimits (extent (setup_in old))) old.states.items _ _ c.requires.what limited.states;
+      owners = limited.owners;
+      records = limited.records;
+    }

@@ -1,0 +1,25 @@
+use Rattle.std.proofs.Common.{◌≡◌, ◌<◌, ◌∙◌, ◌++◌, ◌∷◌, [], None, sym, ap, subst, arith, refl, ℕ, List}
+use Rattle.sg_base.specs.declared.trace_record.Record.{Record}
+use Rattle.sg_kernel.specs.World.{extent}
+use Rattle.sg_kernel.specs.Known.{Known}
+use Rattle.sg_kernel.specs.Steps.{at_once}
+use Rattle.sg_kernel.specs.Records.{AreRecords}
+use Rattle.sg_kernel.specs.Sound.{core_of, setup_in}
+use Rattle.sg_kernel.proofs.Limits.{record_limited, records_more}
+use Rattle.sg_kernel.proofs.answers.refuse.Goals as goal
+
+pub returns-clause-limited : goal.returns-clause-limited
+returns-clause-limited c =
+    let old = c.args.parts.now in
+    let new = c.go_on.new.parts in
+    let same : setup_in new ≡ setup_in old = ap (λ (k : Known). k.setup) c.go_on.ensures.known in
+    let date : c.date-date.result ≡ old.doing.date = c.date-date.ensures ∙ ap (λ (k : Known). k.core.date) c.go_on.ensures.known in
+    let r : Record = record { actor = c.args.actor; date = c.date-date.result; what = c.args.what; bytes = 0; took = None } in
+    let limited = c.go_on.ensures.limited in
+    record {
+      states = limited.states;
+      owners = limited.owners;
+      records =
+          subst (AreRecords (extent (setup_in new))) (sym c.push_reserved.ensures.items)
+          (records_more (setup_in old) (setup_in new) new.records.items r same limited.records (record_limited old r c.requires.caller c.requires.what date (omega arith) tt c.requires.sound c.requires.dated));
+    }

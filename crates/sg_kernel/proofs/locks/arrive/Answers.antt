@@ -1,0 +1,13 @@
+use Rattle.sg_sync.specs.Objects.{Objects, arrived}
+use Rattle.sg_sync.proofs.Losses.{arrived_keeps}
+use Rattle.sg_kernel.proofs.Waiting.{arrived_like, waking_called}
+use Rattle.sg_kernel.proofs.locks.arrive.Goals as goal
+
+pub answer_last-requires-clause-waking : goal.answer_last-requires-clause-waking
+answer_last-requires-clause-waking c =
+    let old = c.args.parts.now in
+    let actor = c.args.actor in
+    waking_called old c.count.new.parts c.arrive-outcome.new.self c.arrive-outcome.result actor (λ (o : Objects). arrived actor o) c.requires.caller c.requires.held
+    (arrived_keeps old.objects actor)
+    (arrived_like actor old.objects)
+    c.count.ensures.known c.arrive-outcome.ensures.outcome c.arrive-outcome.ensures.after
