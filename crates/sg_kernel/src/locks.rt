@@ -175,7 +175,7 @@ fn answer_first(parts: &mut Parts, outcome: Outcome, actor: ActorId, what: Call)
     wake_others(parts);
 }
 
-// It is answered after them.
+// The caller is answered after them: so at the barrier.
 fn answer_last(parts: &mut Parts, outcome: Outcome, actor: ActorId, what: Call)
     requires caller { MayCall (core_of parts.old) actor.0 }
     requires what { IsTellable (extent (setup_in parts.old)) what }
