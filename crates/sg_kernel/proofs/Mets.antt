@@ -15,11 +15,9 @@ use Rattle.sg_route.specs.Route.{Route, route_of}
 use Rattle.sg_route.specs.Walked.{Routed}
 use Rattle.sg_kernel.specs.declared.meetings.Comer.{Comer}
 use Rattle.sg_kernel.specs.declared.parts.Parts.{Parts}
-use Rattle.sg_kernel.specs.declared.states.Whose.{Whose}
 use Rattle.sg_kernel.specs.declared.states.Whose.TheVariants.{Gone, Posted}
 use Rattle.sg_kernel.specs.Meetings.{posts_from, sender_of, receiver_of, point_of, joins_over, comes, comes_by, takes_part}
-use Rattle.sg_kernel.specs.Steps.{Step}
-use Rattle.sg_kernel.specs.World.{Setup, Core, extent}
+use Rattle.sg_kernel.specs.World.{Core, extent}
 use Rattle.sg_kernel.specs.Sound.{core_of, setup_in, is_posted, IsSide, IsOwner, IsSound, AreLimited, AreMeeting}
 use Rattle.sg_kernel.proofs.Postings.{FoundAt, found_post, posts_below}
 
@@ -103,9 +101,8 @@ comes_met parts roads comer serial other sender receiver start end r m meeting f
     let core = core_of parts in
     let found : meets comer.sends (posts_from comer.mailbox 1 parts.whose.whose) ≡ Some m.post = ap (meets comer.sends) (sym (meeting.posts comer.mailbox)) ∙ m.found in
     let post : m.post ≡ record { serial = serial; sends = m.post.sends; side = other } = ap₂ (λ (s : Serial) (d : Side). record { serial = s; sends = m.post.sends; side = d }) m.serial_is m.side_is in
-    let way : route_of roads (point_of setup (sender_of comer other)) (point_of setup (receiver_of comer other)) ≡ r = sym (ap₂ (route_of roads) (starts ∙ ap (point_of setup) from) (ends ∙ ap (point_of setup) to)) ∙ is in
-    (
+    let way : route_of roads (point_of setup (sender_of comer other)) (point_of setup (receiver_of comer other)) ≡ r = sym (ap₂ (route_of roads) (starts ∙ ap (point_of setup) from) (ends ∙ ap (point_of setup) to)) ∙ is in (
       m.post.sends,
       ap (λ o. comes_by o roads setup comer core) (found ∙ ap (λ p. Some p) post)
-      ∙ ap (λ w. joins_over w setup comer (record { serial = serial; sends = m.post.sends; side = other }) core) way,
+          ∙ ap (λ w. joins_over w setup comer (record { serial = serial; sends = m.post.sends; side = other }) core) way,
     )
