@@ -1,19 +1,19 @@
 -- What holds of mailboxes, activities and requests, as sides come and actors wait.
-use Rattle.std.proofs.Common.{◌≡◌, ◌≢◌, ℕ, zero, suc, ◌+◌, ◌-◌, ◌<◌, ◌≤◌, ◌⊎◌, inl, inr, Bool, true, false, cond, true≢false, IsTrue, Option, None, Some, List, [], ◌∷◌, ◌++◌, length, set, get_or, refl, sym, ap, ap₂, subst, ◌∙◌, arith}
+use Rattle.std.proofs.Common.{◌≡◌, ◌≢◌, ℕ, zero, suc, ◌+◌, ◌-◌, ◌<◌, ◌≤◌, ◌⊎◌, inl, inr, Bool, true, false, true≢false, IsTrue, Option, None, Some, List, [], ◌∷◌, ◌++◌, length, set, get_or, refl, sym, ap, ap₂, subst, ◌∙◌, arith}
 use Rattle.std.specs.Prelude.{option_to_list}
 use Rattle.std.specs.List.{find, All}
 use Rattle.std.proofs.lemmas.Bool.{cases_eq}
-use Rattle.std.proofs.lemmas.List.{append-nil, get_or-set_same, get_or-set_other, length-set, length-append, get_or_past}
+use Rattle.std.proofs.lemmas.List.{append-nil, get_or-set_same, get_or-set_other}
 use Rattle.std.proofs.lemmas.List.Elements.{All-nil, All-head, All-tail, All-set, All-push, All-weaker}
 use Rattle.sg_base.specs.declared.ids.BoxId.{BoxId}
 use Rattle.sg_base.specs.declared.ids.Serial.{Serial}
 use Rattle.sg_activity.specs.Task.{Task}
 use Rattle.sg_mailbox.specs.declared.sides.Side.{Side}
-use Rattle.sg_mailbox.specs.Posts.{Post, Posts, box_eq, is_other, without, waiting, meets, met, arrives, arrives_by}
+use Rattle.sg_mailbox.specs.Posts.{Post, Posts, box_eq, is_other, without, waiting, meets, arrives, arrives_by}
 use Rattle.sg_requests.specs.declared.request.Await.{Await}
 use Rattle.sg_requests.specs.Requested.{queue_at, oldest, rest_of, queued, taken}
 use Rattle.sg_kernel.specs.declared.states.Whose.{Whose}
-use Rattle.sg_kernel.specs.declared.states.Whose.TheVariants.{Gone, Alone, Posted, Pair}
+use Rattle.sg_kernel.specs.declared.states.Whose.TheVariants.{Gone, Posted}
 use Rattle.sg_kernel.specs.Meetings.{post_in, posts_from}
 use Rattle.sg_kernel.specs.Sound.{is_posted, IsMade}
 use Rattle.sg_kernel.proofs.Postings.{FoundAt, box_found, box_found_same, posts-push, posts-set, posted_elsewhere, posted_here, found_post, not_posted}
@@ -97,13 +97,14 @@ told_posted old new mailbox sends side serial whose next alone there elsewhere a
   where
     p : ℕ → Post
     p n = record { serial = record { 0 = n }; sends = sends; side = side }
+
     cases : (other : BoxId) (b : Bool) → box_eq other mailbox ≡ b → waiting new other ≡ posts_from other 1 (whose ++ Posted mailbox sends side ∷ [])
     cases other true e =
         let here : waiting new mailbox ≡ posts_from mailbox 1 (whose ++ Posted mailbox sends side ∷ []) =
-            there
-            ∙ ap (λ o. arrives_by o sends side serial (waiting old mailbox)) alone
-            ∙ ap₂ (λ l n. l ++ record { serial = record { 0 = n }; sends = sends; side = side } ∷ []) (are mailbox) next
-            ∙ sym (posts-push mailbox 1 whose (Posted mailbox sends side) ∙ ap (λ o. posts_from mailbox 1 whose ++ option_to_list o) (posted_here mailbox (1 + length whose) sends side)) in
+        there
+        ∙ ap (λ o. arrives_by o sends side serial (waiting old mailbox)) alone
+        ∙ ap₂ (λ l n. l ++ record { serial = record { 0 = n }; sends = sends; side = side } ∷ []) (are mailbox) next
+        ∙ sym (posts-push mailbox 1 whose (Posted mailbox sends side) ∙ ap (λ o. posts_from mailbox 1 whose ++ option_to_list o) (posted_here mailbox (1 + length whose) sends side)) in
         subst (λ m. waiting new m ≡ posts_from m 1 (whose ++ Posted mailbox sends side ∷ [])) (sym (box_found other mailbox e)) here
     cases other false e =
         let away : other ≢ mailbox = λ is. absurd (true≢false (sym (box_found_same other mailbox is) ∙ e)) in
@@ -118,13 +119,14 @@ told_met old new mailbox sends side serial whose p w found isnt there elsewhere 
   where
     at : FoundAt (is_other sends) mailbox 1 whose p
     at = found_post (is_other sends) mailbox 1 whose p (ap (find (is_other sends)) (sym (are mailbox)) ∙ found)
+
     cases : (other : BoxId) (b : Bool) → box_eq other mailbox ≡ b → waiting new other ≡ posts_from other 1 (set whose (p.serial.0 - 1) w)
     cases other true e =
         let here : waiting new mailbox ≡ posts_from mailbox 1 (set whose (p.serial.0 - 1) w) =
-            there
-            ∙ ap (λ o. arrives_by o sends side serial (waiting old mailbox)) found
-            ∙ ap (without (is_other sends)) (are mailbox)
-            ∙ at.taken w isnt in
+        there
+        ∙ ap (λ o. arrives_by o sends side serial (waiting old mailbox)) found
+        ∙ ap (without (is_other sends)) (are mailbox)
+        ∙ at.taken w isnt in
         subst (λ m. waiting new m ≡ posts_from m 1 (set whose (p.serial.0 - 1) w)) (sym (box_found other mailbox e)) here
     cases other false e =
         let away : other ≢ mailbox = λ is. absurd (true≢false (sym (box_found_same other mailbox is) ∙ e)) in

@@ -4,6 +4,7 @@ use Rattle.std.specs.List.{find, All}
 use Rattle.std.proofs.lemmas.List.Elements.{All-same}
 use Rattle.sg_base.specs.declared.ids.BoxId.{BoxId}
 use Rattle.sg_base.specs.declared.ids.LinkId.{LinkId}
+use Rattle.sg_base.specs.declared.ids.PointId.{PointId}
 use Rattle.sg_base.specs.declared.ids.Serial.{Serial}
 use Rattle.sg_base.specs.Limits.{Extent}
 use Rattle.sg_mailbox.specs.declared.sides.Side.{Side}
@@ -14,11 +15,9 @@ use Rattle.sg_route.specs.Route.{Route, route_of}
 use Rattle.sg_route.specs.Walked.{Routed}
 use Rattle.sg_kernel.specs.declared.meetings.Comer.{Comer}
 use Rattle.sg_kernel.specs.declared.parts.Parts.{Parts}
-use Rattle.sg_kernel.specs.declared.states.Whose.{Whose}
 use Rattle.sg_kernel.specs.declared.states.Whose.TheVariants.{Gone, Posted}
 use Rattle.sg_kernel.specs.Meetings.{posts_from, sender_of, receiver_of, point_of, joins_over, comes, comes_by, takes_part}
-use Rattle.sg_kernel.specs.Steps.{Step}
-use Rattle.sg_kernel.specs.World.{Setup, Core, extent}
+use Rattle.sg_kernel.specs.World.{Core, extent}
 use Rattle.sg_kernel.specs.Sound.{core_of, setup_in, is_posted, IsSide, IsOwner, IsSound, AreLimited, AreMeeting}
 use Rattle.sg_kernel.proofs.Postings.{FoundAt, found_post, posts_below}
 
@@ -92,14 +91,18 @@ pub takes_part_on : (waits : Bool) (comer : Comer) (serial : ℕ) (core : Core) 
 takes_part_on true comer serial core = refl
 takes_part_on false comer serial core = refl
 
--- with whom a side meets and the route, it is told what follows
-pub comes_met : (parts : Parts) (roads : Roads) (comer : Comer) (serial : Serial) (other : Side) (m : IsMet parts comer serial other) (r : Result Route RouteFault) → AreMeeting parts
-    → route_of roads (point_of (setup_in parts) (sender_of comer other)) (point_of (setup_in parts) (receiver_of comer other)) ≡ r
-    → comes roads (setup_in parts) comer (core_of parts) ≡ joins_over r (setup_in parts) comer (record { serial = serial; sends = m.post.sends; side = other }) (core_of parts)
-comes_met parts roads comer serial other m r meeting is =
+-- with the one that a side meets, the hosts of both and the route between them, it is told what follows
+pub comes_met : (parts : Parts) (roads : Roads) (comer : Comer) (serial : Serial) (other sender receiver : Side) (start end : PointId) (r : Result Route RouteFault)
+    → IsMet parts comer serial other → AreMeeting parts → sender ≡ sender_of comer other → receiver ≡ receiver_of comer other
+    → start ≡ point_of (setup_in parts) sender → end ≡ point_of (setup_in parts) receiver → route_of roads start end ≡ r
+    → (sends : Bool) × (comes roads (setup_in parts) comer (core_of parts) ≡ joins_over r (setup_in parts) comer (record { serial = serial; sends = sends; side = other }) (core_of parts))
+comes_met parts roads comer serial other sender receiver start end r m meeting from to starts ends is =
     let setup = setup_in parts in
     let core = core_of parts in
     let found : meets comer.sends (posts_from comer.mailbox 1 parts.whose.whose) ≡ Some m.post = ap (meets comer.sends) (sym (meeting.posts comer.mailbox)) ∙ m.found in
     let post : m.post ≡ record { serial = serial; sends = m.post.sends; side = other } = ap₂ (λ (s : Serial) (d : Side). record { serial = s; sends = m.post.sends; side = d }) m.serial_is m.side_is in
-    ap (λ o. comes_by o roads setup comer core) (found ∙ ap (λ p. Some p) post)
-    ∙ ap (λ way. joins_over way setup comer (record { serial = serial; sends = m.post.sends; side = other }) core) is
+    let way : route_of roads (point_of setup (sender_of comer other)) (point_of setup (receiver_of comer other)) ≡ r = sym (ap₂ (route_of roads) (starts ∙ ap (point_of setup) from) (ends ∙ ap (point_of setup) to)) ∙ is in (
+      m.post.sends,
+      ap (λ o. comes_by o roads setup comer core) (found ∙ ap (λ p. Some p) post)
+          ∙ ap (λ w. joins_over w setup comer (record { serial = serial; sends = m.post.sends; side = other }) core) way,
+    )

@@ -1,5 +1,5 @@
 -- Who waits in the mailboxes, as communications come and begin.
-use Rattle.std.proofs.Common.{◌≡◌, ◌≢◌, ℕ, zero, suc, ◌+◌, ◌-◌, ◌<◌, ◌≤◌, ◌⊎◌, inl, inr, Bool, true, false, cond, true≢false, IsTrue, Option, None, Some, List, [], ◌∷◌, ◌++◌, length, set, get_or, append_assoc, refl, sym, ap, ap₂, subst, ◌∙◌, arith}
+use Rattle.std.proofs.Common.{◌≡◌, ◌≢◌, ℕ, zero, suc, ◌+◌, ◌-◌, ◌<◌, ◌≤◌, Bool, true, false, cond, true≢false, Option, None, Some, List, [], ◌∷◌, ◌++◌, length, set, get_or, append_assoc, refl, sym, ap, ap₂, subst, ◌∙◌, arith}
 use Rattle.std.specs.Prelude.{option_to_list}
 use Rattle.std.specs.List.{find, All}
 use Rattle.std.proofs.lemmas.Bool.Decides.{nat_tests}
@@ -7,9 +7,8 @@ use Rattle.std.proofs.lemmas.List.{append-nil}
 use Rattle.std.proofs.lemmas.List.Elements.{All-nil, All-cons, All-append}
 use Rattle.sg_base.specs.declared.ids.BoxId.{BoxId}
 use Rattle.sg_base.specs.declared.ids.BoxId.TheVariants as box
-use Rattle.sg_base.specs.declared.ids.Serial.{Serial}
 use Rattle.sg_mailbox.specs.declared.sides.Side.{Side}
-use Rattle.sg_mailbox.specs.Posts.{Post, Posts, box_eq, is_other, without, waiting, meets, arrives, arrives_by, AreBelow}
+use Rattle.sg_mailbox.specs.Posts.{Post, box_eq, without}
 use Rattle.sg_kernel.specs.declared.states.Whose.{Whose}
 use Rattle.sg_kernel.specs.declared.states.Whose.TheVariants.{Gone, Alone, Posted, Pair}
 use Rattle.sg_kernel.specs.Meetings.{post_in, posts_from}
@@ -94,6 +93,7 @@ posts_below mailbox n (x ∷ whose) =
     one : (o : Option Post) → post_in mailbox n x ≡ o → All (λ (p : Post). p.serial.0 < n + suc (length whose)) (option_to_list o)
     one None e = All-nil (λ (p : Post). p.serial.0 < n + suc (length whose))
     one (Some q) e = All-cons (λ (p : Post). p.serial.0 < n + suc (length whose)) q [] (omega (arith, (post_told mailbox n x q e).0)) (All-nil (λ (p : Post). p.serial.0 < n + suc (length whose)))
+
     rest : All (λ (p : Post). p.serial.0 < n + 1 + length whose) (posts_from mailbox (n + 1) whose) → All (λ (p : Post). p.serial.0 < n + suc (length whose)) (posts_from mailbox (n + 1) whose)
     rest below k d lt = let h = below k d lt in omega (arith, h)
 
@@ -146,15 +146,16 @@ found_post test mailbox n (x ∷ whose) p e = cases (post_in mailbox n x) refl e
     tested q false is passes k later =
         let f = later k in
         found_later test mailbox n x whose p f (λ w z.
-          ap (λ o. without test (option_to_list o ++ posts_from mailbox (n + 1) whose)) is
-          ∙ ap (λ b. cond b (posts_from mailbox (n + 1) whose) (q ∷ without test (posts_from mailbox (n + 1) whose))) passes
-          ∙ ap (λ l. q ∷ l) (f.taken w z)
-          ∙ sym (ap (λ o. option_to_list o ++ posts_from mailbox (n + 1) (set whose (p.serial.0 - (n + 1)) w)) is))
+        ap (λ o. without test (option_to_list o ++ posts_from mailbox (n + 1) whose)) is
+        ∙ ap (λ b. cond b (posts_from mailbox (n + 1) whose) (q ∷ without test (posts_from mailbox (n + 1) whose))) passes
+        ∙ ap (λ l. q ∷ l) (f.taken w z)
+        ∙ sym (ap (λ o. option_to_list o ++ posts_from mailbox (n + 1) (set whose (p.serial.0 - (n + 1)) w)) is))
+
     cases : (o : Option Post) → post_in mailbox n x ≡ o → find test (option_to_list o ++ posts_from mailbox (n + 1) whose) ≡ Some p → (find test (posts_from mailbox (n + 1) whose) ≡ Some p → FoundAt test mailbox (n + 1) whose p) → FoundAt test mailbox n (x ∷ whose) p
     cases None is k later =
         let f = later k in
         found_later test mailbox n x whose p f (λ w z.
-          ap (λ o. without test (option_to_list o ++ posts_from mailbox (n + 1) whose)) is
-          ∙ f.taken w z
-          ∙ sym (ap (λ o. option_to_list o ++ posts_from mailbox (n + 1) (set whose (p.serial.0 - (n + 1)) w)) is))
+        ap (λ o. without test (option_to_list o ++ posts_from mailbox (n + 1) whose)) is
+        ∙ f.taken w z
+        ∙ sym (ap (λ o. option_to_list o ++ posts_from mailbox (n + 1) (set whose (p.serial.0 - (n + 1)) w)) is))
     cases (Some q) is k later = tested q (test q) is refl k later

@@ -80,7 +80,7 @@ pub wake_more : (others now : List ActorId) (i : ℕ) (d : ActorId) (known next 
 wake_more others now i d known next same within is =
     wake_step known next (get_or now i d) (drop (i + 1) others) is ∙ ap (λ (q : List ActorId). after (all_wake q known.core) known) (sym (drop_at others now i d same within))
 
-all_on : (others : List ActorId) (core : Core) → (all_wake others core).stop ≡ None
+pub all_on : (others : List ActorId) (core : Core) → (all_wake others core).stop ≡ None
 unfolding all_wake
 all_on [] core = refl
 all_on (actor ∷ rest) core = go (wakes actor core).stop (wakes_on (state_of core actor.0) actor core) (all_on rest (wakes actor core).core)

@@ -63,15 +63,9 @@ pub(crate) fn done_at_once(parts: &mut Parts, actor: ActorId, what: Call, bytes:
     ensures meeting { AreMeeting parts.new }
     ensures held { AreHeld parts.new }
 {
-    go_on(parts, actor, Answer::Done);
-    let date = parts.doing.date();
-    parts.records.push_reserved(Record {
-        actor,
-        date,
-        what,
-        bytes,
-        took: Some(0),
-    });
+    parts.events += 1;
+    parts.room -= 1;
+    make_done(parts, actor, what, bytes);
 }
 
 /// The actor's call is refused.

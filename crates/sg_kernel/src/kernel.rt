@@ -4,11 +4,9 @@ ghost use Rattle.std.specs.Prelude.{◌≡◌, ◌≢◌, [], ◌==◌, ◌+◌,
 ghost use Rattle.std.specs.List.{list_all, list_any};
 ghost use Rattle.sg_base.specs.Limits.{IsCall, IsAction, IsAnswer};
 ghost use Rattle.sg_platform.specs.Deployment.{IsDeployedOn};
-ghost use Rattle.sg_route.specs.Roads.{Roads};
 ghost use Rattle.sg_kernel.specs.declared.states.State.TheVariants.{Ready, Ended};
 ghost use Rattle.sg_kernel.specs.World.{extent, is_ready, is_ended, state_of, inbox_of, blocked_of, IsActor, MayCall};
-ghost use Rattle.sg_kernel.specs.Calls.{answered, answered_call, told};
-ghost use Rattle.sg_kernel.specs.Meetings.{comer_of};
+ghost use Rattle.sg_kernel.specs.Calls.{answered, told};
 ghost use Rattle.sg_kernel.specs.Steps.{result_of};
 ghost use Rattle.sg_kernel.specs.Start.{setup_of};
 ghost use Rattle.sg_kernel.specs.Roads.{AreOver};
@@ -17,13 +15,13 @@ ghost use Rattle.sg_kernel.specs.Known.{after, first_known};
 ghost use Rattle.sg_kernel.specs.Queue.{IsQueue};
 ghost use Rattle.sg_kernel.specs.Records.{IsTellable, AreRecords};
 
-use crate::answers::{done_at_once, exit, go_on};
-use crate::locks::{acquire, arrive, lock, release, unlock};
-use crate::meetings::{come, comer_of, wait};
+use crate::answers::go_on;
+use crate::calls::answer_alone;
+use crate::meetings::{come, comer_of};
 use crate::parts::Parts;
 use crate::passes::{end_due, none_next};
 use crate::queue::sort;
-use crate::starts::{compute, first_parts, reserve, sleep};
+use crate::starts::{first_parts, reserve};
 use crate::states::{State, Stop};
 use sg_base::{Action, ActorId, Answer, Call, Memory, Record, Steps};
 use sg_platform::{Deployment, PlatformText};
@@ -102,35 +100,9 @@ impl Kernel {
         match comer_of(actor, call) {
             Some(comer) => come(&mut self.parts, router, comer),
             None => {
-                self.answer_alone(actor, call);
+                answer_alone(&mut self.parts, actor, call);
                 Ok(())
             }
-        }
-    }
-
-    // Answers a call that is no side of a communication, where the budget isn't used up.
-    fn answer_alone(&mut self, actor: ActorId, call: Call)
-        requires caller { MayCall self.old.core actor.0 }
-        requires call { IsCall (extent self.old.setup) call }
-        requires alone { comer_of actor.0 call ≡ None }
-        requires room { 0 < self.old.room }
-        requires budget { self.old.core.events ≢ self.old.setup.budget }
-        ensures { (roads : Roads) → self.new ≡ record (after (answered_call roads self.old.setup self.old.core actor.0 call) self.old) { room = self.old.room - 1 } }
-    {
-        let parts = &mut self.parts;
-        match call {
-            Call::Ask => go_on(parts, actor, Answer::Refused),
-            Call::Compute(flops) => compute(parts, actor, flops),
-            Call::Sleep(ns) => sleep(parts, actor, ns),
-            Call::Wait => wait(parts, actor),
-            Call::Lock(mutex) => lock(parts, actor, mutex),
-            Call::Unlock(mutex) => unlock(parts, actor, mutex),
-            Call::Acquire(semaphore) => acquire(parts, actor, semaphore),
-            Call::Release(semaphore) => release(parts, actor, semaphore),
-            Call::Barrier => arrive(parts, actor),
-            Call::Yield => done_at_once(parts, actor, Call::Yield, 0),
-            Call::Exit => exit(parts, actor),
-            Call::Send(..) | Call::Recv(_) | Call::ISend(..) | Call::IRecv(_) => unreachable!(),
         }
     }
 

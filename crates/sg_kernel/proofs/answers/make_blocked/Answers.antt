@@ -1,6 +1,4 @@
-use Rattle.std.proofs.Common.{Some}
 use Rattle.std.proofs.lemmas.List.Elements.{All-set}
-use Rattle.sg_kernel.specs.declared.states.State.TheVariants.{Blocked}
 use Rattle.sg_kernel.specs.World.{extent}
 use Rattle.sg_kernel.specs.Sound.{setup_in, KeepsLimits}
 use Rattle.sg_kernel.proofs.answers.make_blocked.Goals as goal

@@ -1,10 +1,9 @@
-use Rattle.std.proofs.Common.{◌≡◌, ◌<◌, ◌∙◌, ◌++◌, ◌∷◌, [], None, sym, ap, subst, arith, refl, ℕ, List}
+use Rattle.std.proofs.Common.{◌≡◌, ◌∙◌, None, sym, ap, subst, arith}
 use Rattle.sg_base.specs.declared.trace_record.Record.{Record}
 use Rattle.sg_kernel.specs.World.{extent}
 use Rattle.sg_kernel.specs.Known.{Known}
-use Rattle.sg_kernel.specs.Steps.{at_once}
 use Rattle.sg_kernel.specs.Records.{AreRecords}
-use Rattle.sg_kernel.specs.Sound.{core_of, setup_in}
+use Rattle.sg_kernel.specs.Sound.{setup_in}
 use Rattle.sg_kernel.proofs.Limits.{record_limited, records_more}
 use Rattle.sg_kernel.proofs.answers.refuse.Goals as goal
 

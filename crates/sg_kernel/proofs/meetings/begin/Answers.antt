@@ -1,18 +1,17 @@
-use Rattle.std.proofs.Common.{◌≡◌, ◌+◌, ◌-◌, ◌<◌, ◌≤◌, ℕ, List, None, Some, Option, length, set, refl, sym, ap, subst, arith, ◌∙◌}
+use Rattle.std.proofs.Common.{◌≡◌, ◌-◌, ◌<◌, ◌≤◌, List, Some, Option, length, set, refl, sym, ap, subst, arith, ◌∙◌}
 use Rattle.std.specs.List.{All}
 use Rattle.std.proofs.lemmas.List.{length-set}
 use Rattle.std.proofs.lemmas.List.Elements.{All-set}
 use Rattle.sg_activity.specs.Doing.{Doing, comm_of}
 use Rattle.sg_activity.specs.Task.{Task}
 use Rattle.sg_base.specs.declared.ids.Serial.{Serial}
-use Rattle.sg_mailbox.specs.declared.sides.Side.{Side}
 use Rattle.sg_kernel.specs.declared.states.Whose.{Whose}
 use Rattle.sg_kernel.specs.declared.states.Whose.TheVariants.{Pair}
 use Rattle.sg_kernel.specs.Owners.{Owned}
 use Rattle.sg_kernel.specs.World.{extent}
 use Rattle.sg_kernel.specs.Sound.{setup_in, IsSide, IsOwner}
-use Rattle.sg_kernel.proofs.Meets.{AreIdle, AreMade, AreTold, idle_put, made_more, told_met}
-use Rattle.sg_kernel.proofs.Mets.{IsMet, is_met, sides_limited, waiting_below}
+use Rattle.sg_kernel.proofs.Meets.{AreIdle, AreTold, idle_put, made_more, told_met}
+use Rattle.sg_kernel.proofs.Mets.{is_met, sides_limited, waiting_below}
 use Rattle.sg_kernel.proofs.meetings.begin.Goals as goal
 
 pub enter-requires-clause-above : goal.enter-requires-clause-above
@@ -77,7 +76,7 @@ take_part-requires-clause-meeting c =
     let tasks : c.start_comm.new.self.tasks ≡ set old.doing.tasks (serial.0 - 1) (Some task) = ap (λ (d : Doing). d.tasks) c.start_comm.ensures in
     let more : length old.whose.whose ≤ length c.put.new.self.whose = omega (arith, ap (λ (l : List Whose). length l) whose, length-set old.whose.whose (serial.0 - 1) w) in
     let told : AreTold c.enter.new.boxes (set old.whose.whose (m.post.serial.0 - 1) w) =
-        told_met old.boxes c.enter.new.boxes comer.mailbox comer.sends comer.side c.next_serial-next.result old.whose.whose m.post w m.found refl entered.there entered.elsewhere meeting.posts in
+    told_met old.boxes c.enter.new.boxes comer.mailbox comer.sends comer.side c.next_serial-next.result old.whose.whose m.post w m.found refl entered.there entered.elsewhere meeting.posts in
     record {
       posts = subst (AreTold c.enter.new.boxes) (ap (λ (s : Serial). set old.whose.whose (s.0 - 1) w) m.serial_is ∙ sym whose) told;
       idle =

@@ -1,4 +1,4 @@
-use Rattle.std.proofs.Common.{◌≡◌, ◌+◌, ◌≤◌, ◌++◌, ◌∷◌, [], ℕ, List, None, Some, Option, length, refl, sym, ap, subst, arith, ◌∙◌}
+use Rattle.std.proofs.Common.{◌≡◌, ◌+◌, ◌≤◌, ◌++◌, ◌∷◌, [], List, None, Option, length, refl, sym, ap, subst, arith}
 use Rattle.std.specs.List.{All}
 use Rattle.std.proofs.lemmas.List.{length-append}
 use Rattle.std.proofs.lemmas.List.Elements.{All-push}
@@ -9,7 +9,7 @@ use Rattle.sg_kernel.specs.declared.states.Whose.TheVariants.{Posted}
 use Rattle.sg_kernel.specs.Owners.{Owned}
 use Rattle.sg_kernel.specs.World.{extent}
 use Rattle.sg_kernel.specs.Sound.{setup_in, IsOwner}
-use Rattle.sg_kernel.proofs.Meets.{AreIdle, AreMade, AreTold, idle_more, made_more, told_posted}
+use Rattle.sg_kernel.proofs.Meets.{AreIdle, AreTold, idle_more, made_more, told_posted}
 use Rattle.sg_kernel.proofs.Mets.{waiting_below}
 use Rattle.sg_kernel.proofs.meetings.post.Goals as goal
 

@@ -1,6 +1,6 @@
-use Rattle.std.proofs.Common.{◌≡◌, length, ap, sym, subst}
-use Rattle.sg_requests.specs.Requested.{Requested, queued}
-use Rattle.sg_kernel.proofs.Meets.{AreMade, made_queued, told_posted, told_met, idle_more, idle_put, made_more}
+use Rattle.std.proofs.Common.{length, ap, sym, subst}
+use Rattle.sg_requests.specs.Requested.{Requested}
+use Rattle.sg_kernel.proofs.Meets.{AreMade, made_queued}
 use Rattle.sg_kernel.proofs.meetings.take_part.Goals as goal
 
 pub make_done-requires-clause-meeting : goal.make_done-requires-clause-meeting

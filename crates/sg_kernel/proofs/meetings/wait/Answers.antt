@@ -1,6 +1,5 @@
-use Rattle.std.proofs.Common.{◌≡◌, ◌∙◌, length, ap, sym, subst, Some}
-use Rattle.sg_requests.specs.Requested.{Requested, queue_at, oldest, taken}
-use Rattle.sg_kernel.specs.Sound.{IsMade}
+use Rattle.std.proofs.Common.{◌∙◌, length, ap, sym, subst}
+use Rattle.sg_requests.specs.Requested.{Requested}
 use Rattle.sg_kernel.proofs.Meets.{AreMade, made_taken, made_oldest}
 use Rattle.sg_kernel.proofs.meetings.wait.Goals as goal
 

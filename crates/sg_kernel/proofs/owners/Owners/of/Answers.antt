@@ -2,7 +2,7 @@ use Rattle.std.proofs.Common.{◌≡◌, ◌+◌, ◌-◌, ◌<◌, ℕ, nat_eq,
 use Rattle.std.specs.HashMap as hash
 use Rattle.sg_kernel.specs.declared.states.Whose.{Whose}
 use Rattle.sg_kernel.specs.declared.states.Whose.TheVariants.{Gone}
-use Rattle.sg_kernel.specs.Owners.{Owned, whose_of, table}
+use Rattle.sg_kernel.specs.Owners.{Owned, whose_of}
 use Rattle.sg_kernel.proofs.Tables.{length-table, table_at}
 use Rattle.sg_kernel.proofs.owners.Owners.of.Goals as goal
 

@@ -1,4 +1,4 @@
-use Rattle.std.proofs.Common.{◌≡◌, ◌≢◌, ◌+◌, ◌-◌, ◌<◌, ℕ, false, true, cond, nat_eq, Option, Some, set, get_or, length, sym, ap, ◌∙◌, arith}
+use Rattle.std.proofs.Common.{◌≡◌, ◌≢◌, ◌-◌, ℕ, false, true, cond, nat_eq, Option, Some, set, ap, ◌∙◌, arith}
 use Rattle.std.specs.HashMap as hash
 use Rattle.sg_kernel.specs.declared.states.Whose.{Whose}
 use Rattle.sg_kernel.specs.Owners.{Owned, whose_of, table}

@@ -1,0 +1,83 @@
+-- Calls that are sides of communications, and others.
+use Rattle.std.proofs.Common.{◌≡◌, ◌≢◌, ℕ, ◌==◌, ◌-◌, Bool, true, false, cond, Option, None, Some, List, [], ◌∷◌, ◌++◌, refl, sym, ap, subst, ◌∙◌, arith}
+use Rattle.sg_base.specs.declared.call.Call.{Call}
+use Rattle.sg_base.specs.declared.call.Call.TheVariants as call
+use Rattle.sg_base.specs.Limits.{Extent, IsActorNumber, IsCall}
+use Rattle.sg_requests.specs.declared.request.Await.{Await}
+use Rattle.sg_requests.specs.Requested.{oldest, queue_at, taken}
+use Rattle.sg_route.specs.Roads.{Roads}
+use Rattle.sg_sync.specs.declared.outcome.Outcome.{Outcome}
+use Rattle.sg_sync.specs.declared.outcome.Outcome.TheVariants.{GoesOn, Waits, Refused}
+use Rattle.sg_sync.specs.Objects.{Done, locked, unlocked, acquired, released, arrived}
+use Rattle.sg_kernel.specs.declared.meetings.Comer.{Comer}
+use Rattle.sg_kernel.specs.declared.states.Stop.{Stop}
+use Rattle.sg_kernel.specs.World.{Setup, Core, whose_at}
+use Rattle.sg_kernel.specs.Steps.{Step, follows, and_then, counted}
+use Rattle.sg_kernel.specs.Meetings.{comer_of, sends_by, receives_by, is_gone, waits_by, waits_until}
+use Rattle.sg_kernel.specs.Locks.{caller_gets, all_wake, caller_first, caller_last, with_objects}
+use Rattle.sg_kernel.specs.Calls.{answered_call, actor_of}
+use Rattle.sg_kernel.specs.Sound.{IsSide}
+use Rattle.sg_kernel.proofs.Woken.{all_on}
+
+-- ---- a side that comes keeps to the limits
+sent : (ex : Extent) (one two : Comer) → Some one ≡ Some two → IsSide ex one.side → IsSide ex two.side
+sent ex one two e is =
+    let same : one ≡ two = cc e in
+    subst (λ (x : Comer). IsSide ex x.side) same is
+
+pub side_limited : (ex : Extent) (actor : ℕ) (what : Call) (comer : Comer) → IsActorNumber ex actor → IsCall ex what → comer_of actor what ≡ Some comer → IsSide ex comer.side
+side_limited ex actor call.Ask comer a h e = absurd (cc e)
+side_limited ex actor (call.Compute n) comer a h e = absurd (cc e)
+side_limited ex actor (call.Sleep n) comer a h e = absurd (cc e)
+side_limited ex actor (call.Send b n m) comer a h e = sent ex (sends_by actor (call.Send b n m) true b n m) comer e (record { actor = a; bytes = h.1; message = h.2 })
+side_limited ex actor (call.Recv b) comer a h e = sent ex (receives_by actor (call.Recv b) true b) comer e (record { actor = a; bytes = omega arith; message = tt })
+side_limited ex actor (call.ISend b n m) comer a h e = sent ex (sends_by actor (call.ISend b n m) false b n m) comer e (record { actor = a; bytes = h.1; message = h.2 })
+side_limited ex actor (call.IRecv b) comer a h e = sent ex (receives_by actor (call.IRecv b) false b) comer e (record { actor = a; bytes = omega arith; message = tt })
+side_limited ex actor call.Wait comer a h e = absurd (cc e)
+side_limited ex actor (call.Lock n) comer a h e = absurd (cc e)
+side_limited ex actor (call.Unlock n) comer a h e = absurd (cc e)
+side_limited ex actor (call.Acquire n) comer a h e = absurd (cc e)
+side_limited ex actor (call.Release n) comer a h e = absurd (cc e)
+side_limited ex actor call.Barrier comer a h e = absurd (cc e)
+side_limited ex actor call.Yield comer a h e = absurd (cc e)
+side_limited ex actor call.Exit comer a h e = absurd (cc e)
+
+-- ---- any other call goes on
+both_go : (first : Step) (next : Core → Step) → first.stop ≡ None → ((core : Core) → (next core).stop ≡ None) → (and_then first next).stop ≡ None
+both_go first next one two = ap (λ o. (follows o first (next first.core)).stop) one ∙ two first.core
+
+caller_goes : (outcome : Outcome) (actor : ℕ) (what : Call) (core : Core) → (caller_gets outcome actor what core).stop ≡ None
+caller_goes GoesOn actor what core = refl
+caller_goes Waits actor what core = refl
+caller_goes Refused actor what core = refl
+
+first_goes : (done : Done) (actor : ℕ) (what : Call) (core : Core) → (caller_first done actor what core).stop ≡ None
+first_goes done actor what core = both_go (caller_gets done.outcome actor what (with_objects done (counted core))) (all_wake done.after.others) (caller_goes done.outcome actor what (with_objects done (counted core))) (all_on done.after.others)
+
+last_goes : (done : Done) (actor : ℕ) (what : Call) (core : Core) → (caller_last done actor what core).stop ≡ None
+last_goes done actor what core = both_go (all_wake done.after.others (with_objects done (counted core))) (caller_gets done.outcome actor what) (all_on done.after.others (with_objects done (counted core))) (caller_goes done.outcome actor what)
+
+waits_goes : (found : Option Await) (actor : ℕ) (core : Core) → (waits_by found actor core).stop ≡ None
+waits_goes None actor core = refl
+waits_goes (Some on) actor core = cases (is_gone (whose_at core on.serial.0))
+  where
+    cases : (b : Bool) → (waits_until b actor on (record core { requests = taken core.requests actor })).stop ≡ None
+    cases true = refl
+    cases false = refl
+
+pub alone_goes : (roads : Roads) (setup : Setup) (core : Core) (actor : ℕ) (what : Call) → comer_of actor what ≡ None → (answered_call roads setup core actor what).stop ≡ None
+alone_goes roads setup core actor call.Ask e = refl
+alone_goes roads setup core actor (call.Compute n) e = refl
+alone_goes roads setup core actor (call.Sleep n) e = refl
+alone_goes roads setup core actor (call.Send b n m) e = absurd (cc e)
+alone_goes roads setup core actor (call.Recv b) e = absurd (cc e)
+alone_goes roads setup core actor (call.ISend b n m) e = absurd (cc e)
+alone_goes roads setup core actor (call.IRecv b) e = absurd (cc e)
+alone_goes roads setup core actor call.Wait e = waits_goes (oldest (queue_at core.requests actor)) actor core
+alone_goes roads setup core actor (call.Lock n) e = first_goes (locked (actor_of actor) n core.objects) actor (call.Lock n) core
+alone_goes roads setup core actor (call.Unlock n) e = first_goes (unlocked (actor_of actor) n core.objects) actor (call.Unlock n) core
+alone_goes roads setup core actor (call.Acquire n) e = first_goes (acquired (actor_of actor) n core.objects) actor (call.Acquire n) core
+alone_goes roads setup core actor (call.Release n) e = first_goes (released n core.objects) actor (call.Release n) core
+alone_goes roads setup core actor call.Barrier e = last_goes (arrived (actor_of actor) core.objects) actor call.Barrier core
+alone_goes roads setup core actor call.Yield e = refl
+alone_goes roads setup core actor call.Exit e = refl
