@@ -13,38 +13,31 @@ fn read(alloc: Global, line: &str) -> Result<Job, WordsFault> {
     read_words(alloc, &words)
 }
 
-/// The job of a command line, or why there is none.
-fn told(alloc: Global, line: &str) -> Result<String, AllocError> {
-    match read(alloc, line) {
-        Ok(
-            Job {
-                command: Command::Replay {
-                    platform,
-                    deployment,
-                    script,
-                },
-                workers,
-                budget,
-                quiet,
-            },
-        ) => {
+fn shown(alloc: Global, job: &Job) -> Result<String, AllocError> {
+    let (workers, budget, quiet) = (job.workers, job.budget, job.quiet);
+    match &job.command {
+        Command::Replay {
+            platform,
+            deployment,
+            script,
+        } => {
             let (p, d, s) = (platform.as_str(), deployment.as_str(), script.as_str());
             format!(in alloc; "replay {p} {d} {s}, {workers} {budget} {quiet}")
         }
-        Ok(
-            Job {
-                command: Command::Run {
-                    platform,
-                    deployment,
-                },
-                workers,
-                budget,
-                quiet,
-            },
-        ) => {
+        Command::Run {
+            platform,
+            deployment,
+        } => {
             let (p, d) = (platform.as_str(), deployment.as_str());
             format!(in alloc; "run {p} {d}, {workers} {budget} {quiet}")
         }
+    }
+}
+
+/// The job of a command line, or why there is none.
+fn told(alloc: Global, line: &str) -> Result<String, AllocError> {
+    match read(alloc, line) {
+        Ok(job) => shown(alloc, &job),
         Err(WordsFault::Help(_)) => String::from_str(alloc, "help"),
         Err(WordsFault::Bad(kind, _)) => format!(in alloc; "{kind:?}"),
         Err(WordsFault::Memory) => String::from_str(alloc, "no memory"),
