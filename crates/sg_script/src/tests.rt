@@ -155,10 +155,8 @@ fn actions_wait_for_their_actor(rt: HostRuntime) -> Result<(), Fail> {
     let mut script = unread(rt.alloc(), &deployment)?;
     let recv = Ok(Some(Action::Recv(ActorId(2))));
     let lock = Ok(Some(Action::Lock(1)));
-    let isend = Ok(Some(Action::ISend(ActorId(1), 5)));
     assert_eq!(rt; script.next_of(ActorId(1), &deployment, &mut files), recv);
     assert_eq!(rt; script.next_of(ActorId(2), &deployment, &mut files), lock);
-    assert_eq!(rt; script.next_of(ActorId(2), &deployment, &mut files), isend);
     Ok(())
 }
 
@@ -175,7 +173,6 @@ fn a_bad_line_is_met_when_it_is_needed(rt: HostRuntime) -> Result<(), Fail> {
     assert_eq!(rt; script.next_of(ActorId(2), &deployment, &mut files), half);
     assert_eq!(rt; script.next_of(ActorId(1), &deployment, &mut files), whole);
     assert_eq!(rt; script.next_of(ActorId(2), &deployment, &mut files), fault);
-    assert_eq!(rt; script.next_of(ActorId(1), &deployment, &mut files), fault);
     Ok(())
 }
 

@@ -1,0 +1,141 @@
+-- Words that the definition takes ask for something.
+use Rattle.std.proofs.Common.{◌≡◌, ◌⊎◌, ◌&&◌, ◌||◌, ◌∙◌, ap, inl, inr, ℕ, List, [], ◌∷◌, Bool, true, false, Option, Some, None, refl, sym, subst, not, codes}
+use Rattle.std.specs.Prelude.{is_some, option_and_then, option_map}
+use Rattle.std.specs.Option.{option_map_or}
+use Rattle.std.specs.Str.{bytes_eq}
+use Rattle.clap.specs.Words.{Row, Rule, Shape, Text, built, fault_of, first_of, subcommand_of}
+use Rattle.clap.specs.ValueTests.{is_unsigned_in}
+use Rattle.clap.specs.Walk.{answers_to, nothing_held, rows_after, walk, walk_from}
+use Rattle.clap.specs.Simple.{argument_words, built_leaf, entered, filled, help_shape, inherited, label_of, names_of, with_index}
+use Rattle.clap.specs.Faults.{entered_fault, level_fault}
+use Rattle.sg_words.specs.CommandLine.{asked_at, asked_by, asked_of, name_rule, number_at, program_app, replay_app, replay_at, request_at, run_app, run_at}
+use Rattle.sg_words.proofs.Accepted.{Owns, nil_both}
+use Rattle.sg_words.proofs.Ends.{owns_of, text_of}
+use Rattle.sg_words.proofs.Level.{Enters, Taken, default_first, entered_level, find_three, level_taken, required_first}
+use Rattle.sg_words.proofs.Stops.{is_help_at, walk_kept}
+
+abbrev top : Shape
+top = (built program_app).top
+
+abbrev replay_shape : Shape
+replay_shape = built_leaf (inherited top replay_app.top)
+
+abbrev run_shape : Shape
+run_shape = built_leaf (inherited top run_app.top)
+
+abbrev help_built : Shape
+help_built = built_leaf help_shape
+
+top_owns : Owns top.rules
+top_owns = owns_of top.rules refl refl
+
+replay_owns : Owns replay_shape.rules
+replay_owns = owns_of replay_shape.rules refl refl
+
+run_owns : Owns run_shape.rules
+run_owns = owns_of run_shape.rules refl refl
+
+map_some : {X Y : Type 0} (f : X → Y) (o : Option X) → is_some o ≡ true → is_some (option_map f o) ≡ true
+map_some f None h = h
+map_some f (Some x) h = refl
+
+then_some : {X Y : Type 0} (f : X → Option Y) (o : Option X) → is_some o ≡ true → ((x : X) → is_some (f x) ≡ true) → is_some (option_and_then f o) ≡ true
+then_some f None h g = h
+then_some f (Some x) h g = g x
+
+some_of : {X : Type 0} (o : Option X) (x : X) → o ≡ Some x → is_some o ≡ true
+some_of o x e = rw e refl
+
+-- a number that passed its parser is read
+number_read : (id : Text) (least most : ℕ) (rows : List Row) → ((v : Text) × (first_of id rows ≡ Some v) × (is_unsigned_in least most v ≡ true)) → is_some (number_at least most id rows) ≡ true
+number_read id least most rows got =
+    let passes : is_unsigned_in least most got.0 ≡ true = got.2 in
+    rw got.1 (rw passes refl)
+
+asked_some : (name : Text) (rows : List Row) → is_some (request_at name rows) ≡ true → is_some (number_at 1 64 (codes "nthreads") rows) ≡ true
+    → is_some (number_at 1 1000000000 (codes "budget") rows) ≡ true → is_some (asked_at name rows) ≡ true
+asked_some name rows r w b =
+    then_some _ (request_at name rows) r (λ request. then_some _ (number_at 1 64 (codes "nthreads") rows) w (λ workers. map_some _ (number_at 1 1000000000 (codes "budget") rows) b))
+
+abbrev name_at : ℕ → Text → Rule
+name_at i id = with_index i (filled (name_rule id))
+
+replay_some : (words : List Text) → Taken replay_shape [] words false [] → is_some (asked_at (codes "replay") (rows_after replay_shape.rules [] words)) ≡ true
+replay_some words t =
+    let rows = rows_after replay_shape.rules [] words in
+    let p = required_first replay_shape [] words [] (name_at 1 (codes "platform")) t refl refl in
+    let d = required_first replay_shape [] words [] (name_at 2 (codes "deployment")) t refl refl in
+    let s = required_first replay_shape [] words [] (name_at 3 (codes "script")) t refl refl in
+    let w = default_first replay_shape [] words false [] (codes "nthreads") t refl in
+    let b = default_first replay_shape [] words false [] (codes "budget") t refl in
+    let request : is_some (replay_at rows) ≡ true = then_some _ _ (some_of _ _ p.1) (λ _. then_some _ _ (some_of _ _ d.1) (λ _. map_some _ _ (some_of _ _ s.1))) in
+    asked_some (codes "replay") rows request (number_read (codes "nthreads") 1 64 rows w) (number_read (codes "budget") 1 1000000000 rows b)
+
+run_some : (words : List Text) → Taken run_shape [] words false [] → is_some (asked_at (codes "run") (rows_after run_shape.rules [] words)) ≡ true
+run_some words t =
+    let rows = rows_after run_shape.rules [] words in
+    let p = required_first run_shape [] words [] (name_at 1 (codes "platform")) t refl refl in
+    let d = required_first run_shape [] words [] (name_at 2 (codes "deployment")) t refl refl in
+    let w = default_first run_shape [] words false [] (codes "nthreads") t refl in
+    let b = default_first run_shape [] words false [] (codes "budget") t refl in
+    let request : is_some (run_at rows) ≡ true = then_some _ _ (some_of _ _ p.1) (λ _. map_some _ _ (some_of _ _ d.1)) in
+    asked_some (codes "run") rows request (number_read (codes "nthreads") 1 64 rows w) (number_read (codes "budget") 1 1000000000 rows b)
+
+-- the command with what was found asks for something
+abbrev Asks : Shape → List Text → Type 0
+Asks s words = is_some (asked_at s.name (rows_after s.rules [] words)) ≡ true
+
+each_asks : (s : Shape) (words : List Text) → (s ≡ replay_shape) ⊎ (s ≡ run_shape) → level_fault s [] nothing_held words false [] ≡ [] → Asks s words
+each_asks s words (inl e) f =
+    subst (λ x. Asks x words) (sym e) (replay_some words (level_taken replay_shape replay_owns [] words false [] refl (subst (λ x. level_fault x [] nothing_held words false [] ≡ []) e f)))
+each_asks s words (inr e) f =
+    subst (λ x. Asks x words) (sym e) (run_some words (level_taken run_shape run_owns [] words false [] refl (subst (λ x. level_fault x [] nothing_held words false [] ≡ []) e f)))
+
+has_of : (b : Bool) → (not b && true) ≡ false → b ≡ true
+has_of true h = refl
+has_of false h = sym h
+
+or_none : (b : Bool) → (b || false) ≡ true → b ≡ true
+or_none true h = refl
+or_none false h = h
+
+-- the name of a command is its own
+named_help : (word : Text) → answers_to word (label_of help_built) ≡ true → word ≡ codes "help"
+named_help word h = sym (text_of (codes "help") word (or_none _ h))
+
+-- `help` isn't entered
+not_entered : (word : Text) (words : List Text) (stop : Option (Text × List Text)) → stop ≡ Some (word, words) → is_help_at stop ≡ false → answers_to word (label_of help_built) ≡ true → ⊥
+not_entered word words stop is none answers =
+    let name : word ≡ codes "help" = named_help word answers in
+    let bad : is_help_at (Some (word, words)) ≡ false = subst (λ x. is_help_at x ≡ false) is none in
+    let worse : is_help_at (Some (codes "help", words)) ≡ false = subst (λ x. is_help_at (Some (x, words)) ≡ false) name bad in
+    cc
+
+two_left : (s : Shape) (word : Text) (words : List Text) (stop : Option (Text × List Text)) → stop ≡ Some (word, words) → is_help_at stop ≡ false
+    → ((s ≡ replay_shape) ⊎ (s ≡ run_shape)) ⊎ (answers_to word (label_of help_built) ≡ true) → (s ≡ replay_shape) ⊎ (s ≡ run_shape)
+two_left s word words stop is none (inl two) = two
+two_left s word words stop is none (inr help) = absurd (not_entered word words stop is none help)
+
+-- words that the definition takes ask for something
+pub accepted : (words : List Text) → fault_of program_app words ≡ [] → is_some (asked_of words) ≡ true
+accepted words f =
+    let given = argument_words (built program_app) words in
+    let stop = (walk top.rules (names_of (built program_app)) nothing_held given).stopped in
+    let t = level_taken top top_owns (names_of (built program_app)) given (is_some (entered (built program_app) stop))
+    (entered_fault (built program_app) stop) refl f in
+    let none : is_help_at stop ≡ false = walk_kept top (names_of (built program_app)) refl (walk_from nothing_held) given (nil_both _ _ f).0 refl in
+    let e = entered_level (built program_app) stop (has_of _ t.wanted) t.entered in
+    let three = find_three (λ s. answers_to e.word (label_of s)) replay_shape run_shape help_built e.sub e.found in
+    finish stop e.sub e.words e.is (each_asks e.sub e.words (two_left e.sub e.word e.words stop e.stops none three) e.fault)
+  where
+    finish : (stop : Option (Text × List Text)) (s : Shape) (ws : List Text) → entered (built program_app) stop ≡ Some (s.name, rows_after s.rules [] ws) → Asks s ws
+        → is_some (option_and_then (λ p. asked_at p.0 p.1) (entered (built program_app) stop)) ≡ true
+    finish stop s ws is asks = subst (λ o. is_some (option_and_then (λ p. asked_at p.0 p.1) o) ≡ true) (sym is) asks
+
+not_both : {X : Type 0} (o : Option X) → is_some o ≡ true → o ≡ None → ⊥
+not_both None some none = cc
+not_both (Some x) some none = cc
+
+-- so it isn't that nothing is asked for
+pub never : (words : List Text) (rows : Option (Text × List Row)) → fault_of program_app words ≡ [] → rows ≡ subcommand_of program_app words → None ≡ asked_by rows → ⊥
+never words rows f same none = not_both (asked_of words) (accepted words f) (sym (none ∙ ap asked_by same))

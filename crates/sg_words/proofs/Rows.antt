@@ -1,0 +1,44 @@
+-- What some command lines ask for, and why some are refused, by computing.
+use Rattle.std.proofs.Common.{◌≡◌, List, [], ◌∷◌, Some, refl, codes, true, false}
+use Rattle.clap.proofs.OnLiterals.{clap_on_literals}
+use Rattle.clap.specs.Words.{Text}
+use Rattle.clap.specs.declared.error.kind.ErrorKind.TheVariants as kind
+use Rattle.sg_words.specs.CommandLine.{asked_of, refusals, replay, run}
+
+abbrev replay_line : List Text
+replay_line = codes "simgrid_replay" ∷ codes "replay" ∷ codes "a" ∷ codes "--nthreads=3" ∷ codes "b" ∷ codes "-" ∷ []
+
+replay_asked : asked_of replay_line ≡ Some (record { request = replay (codes "a") (codes "b") (codes "-"); workers = 3; budget = 1000000; quiet = false })
+unfolding clap_on_literals
+replay_asked = refl
+
+replay_accepted : refusals replay_line ≡ []
+unfolding clap_on_literals
+replay_accepted = refl
+
+abbrev run_line : List Text
+run_line = codes "simgrid_replay" ∷ codes "run" ∷ codes "--budget" ∷ codes "+05" ∷ codes "--quiet" ∷ codes "--" ∷ codes "--x" ∷ codes "b" ∷ []
+
+run_asked : asked_of run_line ≡ Some (record { request = run (codes "--x") (codes "b"); workers = 1; budget = 5; quiet = true })
+unfolding clap_on_literals
+run_asked = refl
+
+run_accepted : refusals run_line ≡ []
+unfolding clap_on_literals
+run_accepted = refl
+
+no_event : refusals (codes "p" ∷ codes "replay" ∷ codes "--budget" ∷ codes "0" ∷ codes "a" ∷ codes "b" ∷ codes "c" ∷ []) ≡ kind.ValueValidation ∷ []
+unfolding clap_on_literals
+no_event = refl
+
+no_script : refusals (codes "p" ∷ codes "replay" ∷ codes "a" ∷ codes "b" ∷ []) ≡ kind.MissingRequiredArgument ∷ []
+unfolding clap_on_literals
+no_script = refl
+
+no_words : refusals [] ≡ kind.MissingSubcommand ∷ []
+unfolding clap_on_literals
+no_words = refl
+
+the_version : refusals (codes "p" ∷ codes "--version" ∷ []) ≡ kind.DisplayVersion ∷ []
+unfolding clap_on_literals
+the_version = refl

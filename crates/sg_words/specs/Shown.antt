@@ -1,0 +1,45 @@
+-- What a contract sees of the values of the crate.
+use Rattle.std.specs.Prelude.{◌≡◌, ◌≢◌, ◌⊎◌, ⊤, [], Option, Some, Result, Ok, Err}
+use Rattle.clap.specs.Words.{IsAmong, Kinds}
+use Rattle.clap.specs.declared.error.kind.ErrorKind.{ErrorKind}
+use Rattle.clap.specs.declared.error.kind.ErrorKind.TheVariants.{DisplayHelp, DisplayVersion, OutOfMemory}
+use Rattle.sg_words.specs.CommandLine as line
+use Rattle.sg_words.specs.declared.fault.WordsFault.{WordsFault}
+use Rattle.sg_words.specs.declared.fault.WordsFault.TheVariants.{Help, Bad, Memory}
+use Rattle.sg_words.specs.declared.job.Asked.{Asked}
+use Rattle.sg_words.specs.declared.job.Command.{Command}
+use Rattle.sg_words.specs.declared.job.Job.{Job}
+use Rattle.sg_words.specs.declared.job.Request.{Request}
+use Rattle.sg_words.specs.declared.job.Request.TheVariants.{Replay, Run}
+
+abbrev pub request_text : Request → line.Request
+request_text (Replay platform deployment script) = line.replay platform.now deployment.now script.now
+request_text (Run platform deployment) = line.run platform.now deployment.now
+
+abbrev pub asked_text : Asked → line.Asked
+asked_text a = record { request = request_text a.request; workers = a.workers; budget = a.budget; quiet = a.quiet }
+
+abbrev pub command_shown : Command → line.Request
+command_shown (Command.Replay platform deployment script) = line.replay platform deployment script
+command_shown (Command.Run platform deployment) = line.run platform deployment
+
+abbrev pub job_shown : Job → line.Asked
+job_shown job = record { request = command_shown job.command; workers = job.workers; budget = job.budget; quiet = job.quiet }
+
+-- help, or the version, was asked for
+abbrev pub IsHelp : ErrorKind → Type 0
+IsHelp kind = (kind ≡ DisplayHelp) ⊎ (kind ≡ DisplayVersion)
+
+-- Where no kind of refusal is there the answer is the job that was asked for, else a refusal of one of the kinds; or
+-- memory was wanting.
+abbrev pub Answers : Kinds → Option line.Asked → Result Job WordsFault → Type 0
+Answers kinds asked (Ok job) = (kinds ≡ []) × (asked ≡ Some (job_shown job))
+Answers kinds asked (Err (Help text)) = IsAmong DisplayHelp kinds ⊎ IsAmong DisplayVersion kinds
+Answers kinds asked (Err (Bad kind text)) = IsAmong kind kinds × (kind ≢ DisplayHelp) × (kind ≢ DisplayVersion)
+Answers kinds asked (Err Memory) = ⊤
+
+-- the answer that an error of this kind is
+abbrev pub IsFaultOf : ErrorKind → WordsFault → Type 0
+IsFaultOf kind (Help text) = IsHelp kind
+IsFaultOf kind (Bad told text) = (told ≡ kind) × (told ≢ DisplayHelp) × (told ≢ DisplayVersion) × (told ≢ OutOfMemory)
+IsFaultOf kind Memory = kind ≡ OutOfMemory

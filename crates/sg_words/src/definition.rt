@@ -1,0 +1,139 @@
+//! The definition of the command line, in the words of `clap`.
+ghost use Rattle.std.specs.Prelude.{◌≡◌, IfOk, false};
+ghost use Rattle.clap.specs.Words.{app_of, rule_of, with_rule, with_subcommand};
+ghost use Rattle.clap.specs.declared.builder.command.Command.TheViews.{out-Command};
+ghost use Rattle.sg_words.specs.CommandLine.{name_rule, workers_rule, budget_rule, quiet_rule, with_options, with_parts, replay_app, run_app, bare_app, program_app};
+
+use crate::help;
+use clap::{Arg, ArgAction, Command, value_parser};
+use std::alloc::{AllocError, Global};
+
+fn name_arg<'a>(alloc: Global, id: &'a str, shown: &'a str, help: &'a str) -> Arg<'a>
+    ensures rule { rule_of result ≡ name_rule id.entry.now }
+    ensures local { result.global ≡ false }
+{
+    Arg::new(alloc, id)
+        .required(true)
+        .value_name(shown)
+        .help(help)
+}
+
+fn workers_arg<'a>(alloc: Global) -> Arg<'a>
+    ensures rule { rule_of result ≡ workers_rule }
+    ensures local { result.global ≡ false }
+{
+    Arg::new(alloc, "nthreads")
+        .long("nthreads")
+        .value_name("N")
+        .value_parser(value_parser!(u64).range(1..=64))
+        .default_value("1")
+        .help(help::WORKERS)
+}
+
+fn budget_arg<'a>(alloc: Global) -> Arg<'a>
+    ensures rule { rule_of result ≡ budget_rule }
+    ensures local { result.global ≡ false }
+{
+    Arg::new(alloc, "budget")
+        .long("budget")
+        .value_name("N")
+        .value_parser(value_parser!(u64).range(1..=1000000000))
+        .default_value("1000000")
+        .help(help::BUDGET)
+}
+
+fn quiet_arg<'a>(alloc: Global) -> Arg<'a>
+    ensures rule { rule_of result ≡ quiet_rule }
+    ensures local { result.global ≡ false }
+{
+    Arg::new(alloc, "quiet")
+        .long("quiet")
+        .action(ArgAction::SetTrue)
+        .help(help::QUIET)
+}
+
+// The command with one more argument.
+fn with_arg<'a>(command: Command<'a>, arg: Arg<'a>) -> Result<Command<'a>, AllocError>
+    requires arg { arg.global ≡ false }
+    requires command { (out-Command command).has_globals ≡ false }
+    ensures shape { IfOk result (λ c. app_of c ≡ with_rule (app_of command.entry) (rule_of arg.entry)) }
+    ensures local { IfOk result (λ c. (out-Command c).has_globals ≡ false) }
+{
+    command.arg(arg)
+}
+
+// The command with the names of the platform and of the deployment.
+fn with_parts<'a>(alloc: Global, command: Command<'a>) -> Result<Command<'a>, AllocError>
+    requires { (out-Command command).has_globals ≡ false }
+    ensures shape { IfOk result (λ c. app_of c ≡ with_parts (app_of command.entry)) }
+    ensures local { IfOk result (λ c. (out-Command c).has_globals ≡ false) }
+{
+    let command = with_arg(
+        command,
+        name_arg(alloc, "platform", "PLATFORM", help::PLATFORM),
+    )?;
+    with_arg(
+        command,
+        name_arg(alloc, "deployment", "DEPLOYMENT", help::DEPLOYMENT),
+    )
+}
+
+// The command with the options that each command has.
+fn with_options<'a>(alloc: Global, command: Command<'a>) -> Result<Command<'a>, AllocError>
+    requires { (out-Command command).has_globals ≡ false }
+    ensures shape { IfOk result (λ c. app_of c ≡ with_options (app_of command.entry)) }
+    ensures local { IfOk result (λ c. (out-Command c).has_globals ≡ false) }
+{
+    let command = with_arg(command, workers_arg(alloc))?;
+    let command = with_arg(command, budget_arg(alloc))?;
+    with_arg(command, quiet_arg(alloc))
+}
+
+fn replay<'a>(alloc: Global) -> Result<Command<'a>, AllocError>
+    ensures shape { IfOk result (λ c. app_of c ≡ replay_app) }
+    ensures local { IfOk result (λ c. (out-Command c).has_globals ≡ false) }
+{
+    let command = Command::new(alloc, "replay")
+        .about(help::REPLAY)
+        .after_help(help::STATUSES);
+    let command = with_parts(alloc, command)?;
+    let command = with_arg(command, name_arg(alloc, "script", "SCRIPT", help::SCRIPT))?;
+    with_options(alloc, command)
+}
+
+fn run<'a>(alloc: Global) -> Result<Command<'a>, AllocError>
+    ensures shape { IfOk result (λ c. app_of c ≡ run_app) }
+    ensures local { IfOk result (λ c. (out-Command c).has_globals ≡ false) }
+{
+    let command = Command::new(alloc, "run")
+        .about(help::RUN)
+        .after_help(help::STATUSES);
+    let command = with_parts(alloc, command)?;
+    with_options(alloc, command)
+}
+
+fn bare<'a>(alloc: Global) -> Command<'a>
+    ensures { app_of result ≡ bare_app }
+{
+    Command::new(alloc, "simgrid_replay")
+        .version(help::VERSION)
+        .about(help::PROGRAM)
+        .after_help(help::STATUSES)
+        .subcommand_required(true)
+}
+
+// The command with one more subcommand.
+fn with_command<'a>(command: Command<'a>, sub: Command<'a>) -> Result<Command<'a>, AllocError>
+    requires { (out-Command sub).has_globals ≡ false }
+    ensures { IfOk result (λ c. app_of c ≡ with_subcommand (app_of command.entry) (app_of sub.entry).top) }
+{
+    command.subcommand(sub)
+}
+
+/// The command line.
+pub fn program<'a>(alloc: Global) -> Result<Command<'a>, AllocError>
+    ensures { IfOk result (λ c. app_of c ≡ program_app) }
+{
+    let program = with_command(bare(alloc), replay(alloc)?)?;
+    with_command(program, run(alloc)?)
+}

@@ -1,0 +1,40 @@
+//! What help says.
+
+pub const VERSION: &str = "0.1.0";
+
+pub const PROGRAM: &str =
+    "Simulates how long a program takes on machines that you don't have, in whole numbers:
+the same input gives the same output on every machine.
+'simgrid_replay COMMAND --help' tells what a command takes.";
+
+pub const REPLAY: &str =
+    "Replays a script: each actor does the actions of its lines, in their order";
+
+pub const RUN: &str = "Runs masters and workers, which need no script";
+
+pub const PLATFORM: &str = "The platform, a TOML file: zones, hosts, routers, links and routes";
+
+pub const DEPLOYMENT: &str =
+    "The deployment, a TOML file: which actor is on which host, mutexes and semaphores";
+
+pub const SCRIPT: &str = "The script, a text file: one action on each line; - is standard input";
+
+pub const WORKERS: &str = "Worker threads, 1 to 64; the output is the same for every number";
+
+pub const BUDGET: &str = "Events after which the run is stopped, 1 to 1000000000";
+
+pub const QUIET: &str = "Prints no line for each action, only how the run ended";
+
+pub const STATUSES: &str = "Exit status:
+   0  the simulation completed; also for help and the version
+   2  the words of the command line were refused
+   3  the platform was refused
+   4  the deployment was refused
+   5  a line of the script was refused
+   6  deadlock: actors wait, and nothing is under way
+   7  starved: actors wait, and nothing that is under way ever ends
+   8  the budget of events was used up
+   9  two hosts have no route, or one that is too long
+  10  the platform, the deployment or the script could not be read
+  11  the output could not be written
+  12  there was no memory left";

@@ -1,0 +1,50 @@
+//! The job that a command line asks for.
+ghost use Rattle.std.specs.Prelude.{◌≤◌};
+
+use sg_base::Text;
+
+/// What the program is to do, with the names of the parts.
+#[derive(Debug, Drop)]
+pub enum Command {
+    /// To replay a script.
+    Replay {
+        platform: Text,
+        deployment: Text,
+        script: Text,
+    },
+    /// To run actors that need no script.
+    Run {
+        platform: Text,
+        deployment: Text,
+    },
+}
+
+/// A command line that was accepted: the command, how many worker threads there are, after how many events the run
+/// is stopped, and whether the actions are left out of what is printed.
+#[derive(Debug, Drop)]
+pub struct Job {
+    pub command: Command,
+    pub workers: u32,
+    pub budget: u64,
+    pub quiet: bool,
+    ghost workers_in_range: { (1 ≤ workers) × (workers ≤ 64) },
+    ghost budget_in_range: { (1 ≤ budget) × (budget ≤ 1000000000) },
+}
+
+/// The command, in texts of the words.
+#[derive(Clone, Copy, Debug)]
+pub(crate) enum Request<'a> {
+    Replay(&'a str, &'a str, &'a str),
+    Run(&'a str, &'a str),
+}
+
+/// The job, in texts of the words.
+#[derive(Clone, Copy, Debug)]
+pub(crate) struct Asked<'a> {
+    pub(crate) request: Request<'a>,
+    pub(crate) workers: u32,
+    pub(crate) budget: u64,
+    pub(crate) quiet: bool,
+    ghost workers_in_range: { (1 ≤ workers) × (workers ≤ 64) },
+    ghost budget_in_range: { (1 ≤ budget) × (budget ≤ 1000000000) },
+}

@@ -1,0 +1,132 @@
+//! The job, read off the values that were found for the arguments.
+ghost use Rattle.std.specs.Prelude.{◌≡◌, ◌≤◌, ◌&&◌, Some, None, option_map, IfOk, IfSome, nat_le, if◌then◌else◌};
+ghost use Rattle.clap.specs.Words.{found_of, rows_of, first_of, subcommand_rows_of};
+ghost use Rattle.sg_words.specs.CommandLine.{number_in, number_at, replay_at, run_at, request_at, is_quiet, asked_at, asked_by};
+ghost use Rattle.sg_words.specs.Shown.{request_text, asked_text, command_shown, job_shown};
+
+use crate::job::{Asked, Command, Job, Request};
+use clap::ArgMatches;
+use sg_base::{Memory, Text};
+use std::alloc::Global;
+
+fn within(n: u64, least: u64, most: u64) -> Option<u64>
+    ensures value { result ≡ if nat_le least n && nat_le n most then Some n else None }
+    ensures within { IfSome result (λ n. (least ≤ n) × (n ≤ most)) }
+{
+    if least <= n && n <= most {
+        Some(n)
+    } else {
+        None
+    }
+}
+
+fn number_of(text: &str, least: u64, most: u64) -> Option<u64>
+    ensures value { result ≡ number_in least most text.now }
+    ensures within { IfSome result (λ n. (least ≤ n) × (n ≤ most)) }
+{
+    match text.parse::<u64>() {
+        Ok(n) => within(n, least, most),
+        Err(_) => None,
+    }
+}
+
+fn text_at<'a>(matches: &ArgMatches<'a>, id: &str) -> Option<&'a str>
+    ensures { option_map (λ s. s.now) result ≡ first_of id.now (rows_of (found_of matches.now)) }
+{
+    matches.get_str(id)
+}
+
+fn number_at(matches: &ArgMatches<'_>, id: &str, least: u64, most: u64) -> Option<u64>
+    ensures value { result ≡ number_at least most id.now (rows_of (found_of matches.now)) }
+    ensures within { IfSome result (λ n. (least ≤ n) × (n ≤ most)) }
+{
+    number_of(text_at(matches, id)?, least, most)
+}
+
+fn replay_at<'a>(matches: &ArgMatches<'a>) -> Option<Request<'a>>
+    ensures { option_map request_text result ≡ replay_at (rows_of (found_of matches.now)) }
+{
+    let platform = text_at(matches, "platform")?;
+    let deployment = text_at(matches, "deployment")?;
+    let script = text_at(matches, "script")?;
+    Some(Request::Replay(platform, deployment, script))
+}
+
+fn run_at<'a>(matches: &ArgMatches<'a>) -> Option<Request<'a>>
+    ensures { option_map request_text result ≡ run_at (rows_of (found_of matches.now)) }
+{
+    let platform = text_at(matches, "platform")?;
+    let deployment = text_at(matches, "deployment")?;
+    Some(Request::Run(platform, deployment))
+}
+
+fn request_at<'a>(name: &str, matches: &ArgMatches<'a>) -> Option<Request<'a>>
+    ensures { option_map request_text result ≡ request_at name.now (rows_of (found_of matches.now)) }
+{
+    if name == "replay" {
+        replay_at(matches)
+    } else if name == "run" {
+        run_at(matches)
+    } else {
+        None
+    }
+}
+
+fn is_quiet(matches: &ArgMatches<'_>) -> bool
+    ensures { result ≡ is_quiet (rows_of (found_of matches.now)) }
+{
+    match text_at(matches, "quiet") {
+        Some(text) => text == "true",
+        None => false,
+    }
+}
+
+fn asked_at<'a>(name: &str, matches: &ArgMatches<'a>) -> Option<Asked<'a>>
+    ensures { option_map asked_text result ≡ asked_at name.now (rows_of (found_of matches.now)) }
+{
+    let request = request_at(name, matches)?;
+    let workers = number_at(matches, "nthreads", 1, 64)? as u32;
+    let budget = number_at(matches, "budget", 1, 1_000_000_000)?;
+    let quiet = is_quiet(matches);
+    Some(Asked {
+        request,
+        workers,
+        budget,
+        quiet,
+    })
+}
+
+/// What the command that was given is asked to do.
+pub(crate) fn asked_in<'a>(matches: &ArgMatches<'a>) -> Option<Asked<'a>>
+    ensures { option_map asked_text result ≡ asked_by (subcommand_rows_of matches.now) }
+{
+    let (name, rows) = matches.subcommand()?;
+    asked_at(name, rows)
+}
+
+fn command_of(alloc: Global, request: Request<'_>) -> Result<Command, Memory>
+    ensures { IfOk result (λ c. command_shown c ≡ request_text request.entry) }
+{
+    match request {
+        Request::Replay(platform, deployment, script) => Ok(Command::Replay {
+            platform: Text::new(alloc, platform)?,
+            deployment: Text::new(alloc, deployment)?,
+            script: Text::new(alloc, script)?,
+        }),
+        Request::Run(platform, deployment) => Ok(Command::Run {
+            platform: Text::new(alloc, platform)?,
+            deployment: Text::new(alloc, deployment)?,
+        }),
+    }
+}
+
+pub(crate) fn job_of(alloc: Global, asked: Asked<'_>) -> Result<Job, Memory>
+    ensures { IfOk result (λ job. job_shown job ≡ asked_text asked.entry) }
+{
+    Ok(Job {
+        command: command_of(alloc, asked.request)?,
+        workers: asked.workers,
+        budget: asked.budget,
+        quiet: asked.quiet,
+    })
+}
