@@ -8,8 +8,10 @@ use Rattle.sg_base.specs.Mind.{Mind}
 use Rattle.sg_edge.specs.Files.{PartView}
 use Rattle.sg_edge.specs.declared.files.Stage.TheVariants.{Fresh}
 use Rattle.sg_kernel.specs.World.{Setup, Core, World}
-use Rattle.sg_kernel.specs.Calls.{Step, told}
-use Rattle.sg_kernel.specs.Known.{Known}
+use Rattle.sg_kernel.specs.Calls.{told}
+use Rattle.sg_kernel.specs.Steps.{Step}
+use Rattle.sg_kernel.specs.Known.{Known, after}
+use Rattle.sg_route.specs.Roads.{Roads}
 use Rattle.sg_script.specs.Asked.{asked}
 use Rattle.sg_script.specs.Known.{Known as Names}
 use Rattle.sg_script.specs.Stands.{Kept, IsAsked, Reads, one_more}
@@ -19,27 +21,31 @@ use Rattle.sg_engine.specs.declared.actor_call.ActorCall.{ActorCall}
 use Rattle.sg_engine.specs.declared.ended.Ended.{Ended}
 use Rattle.sg_engine.specs.declared.ended.Ended.TheVariants as ended
 use Rattle.sg_engine.specs.Listed.{calls_of}
-use Rattle.sg_engine.specs.Run.{Answering, Progress, at_world, and_then, ended_by, in_world, ask, tells, one_call}
+use Rattle.sg_engine.specs.Run.{Scene, scene, Answering, Progress, at_world, and_then, ended_by, in_world, ask, tells, one_call}
 use Rattle.sg_engine.specs.Reached.{Moment, moment, StandsFor, Reached, CutOff, ending}
 use Rattle.sg_engine.proofs.Reaching.{reached_then, reached_as, rest_as, goes_on_to, ends_at, stands_as}
 
 -- ---- one call
 -- a step of the kernel, for which nothing of the script was read
-pub stepped : (names : Names) (taken : List ℕ) (minds : List Mind) (part : PartView) (kept : Kept) (old new : Known) (world : World) (step : Step) (how : Option Ended) →
-    part.stage ≢ Fresh → StandsFor names taken minds (moment part kept old) world → new.core ≡ step.core → new.records ≡ old.records ++ step.made → new.setup ≡ old.setup → how ≡ option_map ended_by step.stop →
-    Reached names (λ answers. in_world world step) (ending how) taken minds (moment part kept old) (moment part kept new)
-stepped names taken minds part kept old new world step how begun stands core records setup is = record {
-  piece = [];
-  reads = reads_none part begun;
-  setup = setup;
-  world = record world { core = step.core };
-  stands = stands_as names taken (taken ++ []) minds (moment part kept new) (record world { core = step.core }) (sym (append-nil taken)) (record { script = stands.script; core = core; minds = stands.minds });
-  made = step.made;
-  records = records;
-  is = λ source goes.
-      let end : List Record → Option Ended → Progress = λ made ended. record { world = record world { core = step.core }; made = made; ended = ended } in
-      ap₂ end (sym (append-nil step.made)) (sym is);
-}
+pub stepped : (names : Names) (taken : List ℕ) (minds : List Mind) (part : PartView) (kept : Kept) (old new : Known) (room : ℕ) (world : World) (step : Core → Step) (how : Option Ended) →
+    part.stage ≢ Fresh → StandsFor names taken minds (moment part kept old) world → new ≡ record (after (step old.core) old) { room = room } → how ≡ option_map ended_by (step old.core).stop →
+    Reached names (λ answers. in_world world (step world.core)) (ending how) taken minds (moment part kept old) (moment part kept new)
+stepped names taken minds part kept old new room world step how begun stands is ends =
+    let led : World = record world { core = (step world.core).core } in
+    let core : new.core ≡ led.core = ap (λ (k : Known). k.core) is ∙ ap (λ (c : Core). (step c).core) stands.core in
+    let ended : how ≡ option_map ended_by (step world.core).stop = ends ∙ ap (λ (c : Core). option_map ended_by (step c).stop) stands.core in
+    record {
+      piece = [];
+      reads = reads_none part begun;
+      setup = ap (λ (k : Known). k.setup) is;
+      world = led;
+      stands = stands_as names taken (taken ++ []) minds (moment part kept new) led (sym (append-nil taken)) (record { script = stands.script; core = core; minds = stands.minds });
+      made = (step world.core).made;
+      records = ap (λ (k : Known). k.records) is ∙ ap (λ (c : Core). old.records ++ (step c).made) stands.core;
+      is = λ source goes.
+          let end : List Record → Option Ended → Progress = λ made why. record { world = led; made = made; ended = why } in
+          ap₂ end (sym (append-nil (step world.core).made)) (sym ended);
+    }
 
 -- the budget is used up: nothing happens
 pub used_up : (names : Names) (taken : List ℕ) (minds : List Mind) (part : PartView) (kept : Kept) (known : Known) (world : World) (actor : ℕ) →
@@ -79,64 +85,59 @@ asked_to names taken minds part part' kept kept' known world actor answer stands
 }
 
 -- and the kernel has told it to the actor
-pub told_to : (names : Names) (taken : List ℕ) (minds : List Mind) (part part' : PartView) (kept kept' : Kept) (old new : Known) (world : World) (actor : ℕ) (action : Option Action) (how : Option Ended) →
+pub told_to : (names : Names) (taken : List ℕ) (minds : List Mind) (part part' : PartView) (kept kept' : Kept) (old new : Known) (room : ℕ) (world : World) (actor : ℕ) (action : Option Action) (how : Option Ended) →
     StandsFor names taken minds (moment part kept old) world → (old.core.events == old.setup.budget) ≡ false → IsAsked names taken world.asks actor (Ok action) part part' kept' →
-    new.core ≡ (told old.setup old.core actor action).core → new.records ≡ old.records ++ (told old.setup old.core actor action).made → new.setup ≡ old.setup → how ≡ option_map ended_by (told old.setup old.core actor action).stop →
+    new ≡ record (after (told old.setup old.core actor action) old) { room = room } → how ≡ option_map ended_by (told old.setup old.core actor action).stop →
     Reached names (λ answers. ask old.setup answers actor world) (ending how) taken minds (moment part kept old) (moment part' kept' new)
-told_to names taken minds part part' kept kept' old new world actor action how stands unused is_asked core records setup is =
+told_to names taken minds part part' kept kept' old new room world actor action how stands unused is_asked is ends =
     let first = asked_to names taken minds part part' kept kept' old world actor (Ok action) stands unused is_asked in
     let step : Core → Step = λ c. told old.setup c actor action in
-    let same : old.core ≡ world.core = stands.core in
     reached_then names (λ answers. ask old.setup answers actor world) (λ answers w. tells old.setup actor (Ok action) w) (ending how) taken minds minds (moment part kept old) (moment part' kept' old) (moment part' kept' new) first
-    (stepped names (taken ++ is_asked.piece) minds part' kept' old new (record world { asks = one_more actor world.asks }) (step world.core) how is_asked.reads.begun first.stands
-    (core ∙ ap (λ (c : Core). (step c).core) same)
-    (records ∙ ap (λ (c : Core). old.records ++ (step c).made) same)
-    setup
-    (is ∙ ap (λ (c : Core). option_map ended_by (step c).stop) same))
+    (stepped names (taken ++ is_asked.piece) minds part' kept' old new room (record world { asks = one_more actor world.asks }) step how is_asked.reads.begun first.stands is ends)
 
 -- ---- calls one after another
-calls_more : (setup : Setup) (answers : Answering) (calls : List ActorCall) (i : ℕ) (d : ActorCall) (world : World) → i < length calls →
-    calls_of setup answers (drop i calls) world ≡ and_then (one_call setup answers (get_or calls i d).actor.0 (get_or calls i d).call world) (calls_of setup answers (drop (i + 1) calls))
+calls_more : (at : Scene) (answers : Answering) (calls : List ActorCall) (i : ℕ) (d : ActorCall) (world : World) → i < length calls →
+    calls_of at answers (drop i calls) world ≡ and_then (one_call at answers (get_or calls i d).actor.0 (get_or calls i d).call world) (calls_of at answers (drop (i + 1) calls))
 unfolding calls_of
-calls_more setup answers calls i d world within = at_drop_more (λ l. calls_of setup answers l world) calls i d within
+calls_more at answers calls i d world within = at_drop_more (λ l. calls_of at answers l world) calls i d within
 
-calls_none : (setup : Setup) (answers : Answering) (calls : List ActorCall) (i : ℕ) (world : World) → length calls ≤ i → calls_of setup answers (drop i calls) world ≡ at_world None world
+calls_none : (at : Scene) (answers : Answering) (calls : List ActorCall) (i : ℕ) (world : World) → length calls ≤ i → calls_of at answers (drop i calls) world ≡ at_world None world
 unfolding calls_of
-calls_none setup answers calls i world past = at_drop_all (λ l. calls_of setup answers l world) calls i past
+calls_none at answers calls i world past = at_drop_all (λ l. calls_of at answers l world) calls i past
 
 -- the calls from a place on
-abbrev pub rest_from : Setup → List ActorCall → ℕ → Answering → World → Progress
-rest_from setup calls i answers world = calls_of setup answers (drop i calls) world
+abbrev pub rest_from : Scene → List ActorCall → ℕ → Answering → World → Progress
+rest_from at calls i answers world = calls_of at answers (drop i calls) world
 
-abbrev at_place : Setup → ActorCall → World → Answering → Progress
-at_place setup made world answers = one_call setup answers made.actor.0 made.call world
+abbrev at_place : Scene → ActorCall → World → Answering → Progress
+at_place at made world answers = one_call at answers made.actor.0 made.call world
 
 -- one more call was answered, and the run goes on
-pub one_more_call : (names : Names) (whole : Answering → Progress) (setup : Setup) (calls : List ActorCall) (i : ℕ) (d : ActorCall) (taken : List ℕ) (minds : List Mind) (old mid new : Moment) → i < length calls → mid.kernel.setup ≡ setup →
-    (first : Reached names whole (rest_from setup calls i) taken minds old mid) → Reached names (λ answers. one_call mid.kernel.setup answers (get_or calls i d).actor.0 (get_or calls i d).call first.world) (ending None) (taken ++ first.piece) minds mid new →
-    Reached names whole (rest_from setup calls (i + 1)) taken minds old new
-one_more_call names whole setup calls i d taken minds old mid new within same first step =
-    let here : Reached names (at_place setup (get_or calls i d) first.world) (ending None) (taken ++ first.piece) minds mid new =
-    subst (λ (s : Setup). Reached names (at_place s (get_or calls i d) first.world) (ending None) (taken ++ first.piece) minds mid new) same step in
-    reached_then names whole (rest_from setup calls i) (rest_from setup calls (i + 1)) taken minds minds old mid new first
-    (reached_as names _ (λ answers. rest_from setup calls i answers first.world) (rest_from setup calls (i + 1)) (taken ++ first.piece) minds mid new (λ answers. calls_more setup answers calls i d first.world within)
-    (goes_on_to names (at_place setup (get_or calls i d) first.world) (rest_from setup calls (i + 1)) (taken ++ first.piece) minds mid new here))
+pub one_more_call : (names : Names) (whole : Answering → Progress) (roads : Roads) (setup : Setup) (calls : List ActorCall) (i : ℕ) (d : ActorCall) (taken : List ℕ) (minds : List Mind) (old mid new : Moment) → i < length calls → mid.kernel.setup ≡ setup →
+    (first : Reached names whole (rest_from (scene roads setup) calls i) taken minds old mid) → Reached names (λ answers. one_call (scene roads mid.kernel.setup) answers (get_or calls i d).actor.0 (get_or calls i d).call first.world) (ending None) (taken ++ first.piece) minds mid new →
+    Reached names whole (rest_from (scene roads setup) calls (i + 1)) taken minds old new
+one_more_call names whole roads setup calls i d taken minds old mid new within same first step =
+    let here : Reached names (at_place (scene roads setup) (get_or calls i d) first.world) (ending None) (taken ++ first.piece) minds mid new =
+    subst (λ (s : Setup). Reached names (at_place (scene roads s) (get_or calls i d) first.world) (ending None) (taken ++ first.piece) minds mid new) same step in
+    reached_then names whole (rest_from (scene roads setup) calls i) (rest_from (scene roads setup) calls (i + 1)) taken minds minds old mid new first
+    (reached_as names _ (λ answers. rest_from (scene roads setup) calls i answers first.world) (rest_from (scene roads setup) calls (i + 1)) (taken ++ first.piece) minds mid new (λ answers. calls_more (scene roads setup) answers calls i d first.world within)
+    (goes_on_to names (at_place (scene roads setup) (get_or calls i d) first.world) (rest_from (scene roads setup) calls (i + 1)) (taken ++ first.piece) minds mid new here))
 
 -- one more call was answered, and the run has ended
-pub last_call : (names : Names) (whole : Answering → Progress) (setup : Setup) (calls : List ActorCall) (i : ℕ) (d : ActorCall) (how : Ended) (taken : List ℕ) (minds : List Mind) (old mid new : Moment) → i < length calls → mid.kernel.setup ≡ setup →
-    (first : Reached names whole (rest_from setup calls i) taken minds old mid) → Reached names (λ answers. one_call mid.kernel.setup answers (get_or calls i d).actor.0 (get_or calls i d).call first.world) (ending (Some how)) (taken ++ first.piece) minds mid new →
+pub last_call : (names : Names) (whole : Answering → Progress) (roads : Roads) (setup : Setup) (calls : List ActorCall) (i : ℕ) (d : ActorCall) (how : Ended) (taken : List ℕ) (minds : List Mind) (old mid new : Moment) → i < length calls → mid.kernel.setup ≡ setup →
+    (first : Reached names whole (rest_from (scene roads setup) calls i) taken minds old mid) → Reached names (λ answers. one_call (scene roads mid.kernel.setup) answers (get_or calls i d).actor.0 (get_or calls i d).call first.world) (ending (Some how)) (taken ++ first.piece) minds mid new →
     Reached names whole (ending (Some how)) taken minds old new
-last_call names whole setup calls i d how taken minds old mid new within same first step =
-    let here : Reached names (at_place setup (get_or calls i d) first.world) (ending (Some how)) (taken ++ first.piece) minds mid new =
-    subst (λ (s : Setup). Reached names (at_place s (get_or calls i d) first.world) (ending (Some how)) (taken ++ first.piece) minds mid new) same step in
-    reached_then names whole (rest_from setup calls i) (ending (Some how)) taken minds minds old mid new first
-    (reached_as names _ (λ answers. rest_from setup calls i answers first.world) (ending (Some how)) (taken ++ first.piece) minds mid new (λ answers. calls_more setup answers calls i d first.world within)
-    (ends_at names (at_place setup (get_or calls i d) first.world) (rest_from setup calls (i + 1)) how (taken ++ first.piece) minds mid new here))
+last_call names whole roads setup calls i d how taken minds old mid new within same first step =
+    let here : Reached names (at_place (scene roads setup) (get_or calls i d) first.world) (ending (Some how)) (taken ++ first.piece) minds mid new =
+    subst (λ (s : Setup). Reached names (at_place (scene roads s) (get_or calls i d) first.world) (ending (Some how)) (taken ++ first.piece) minds mid new) same step in
+    reached_then names whole (rest_from (scene roads setup) calls i) (ending (Some how)) taken minds minds old mid new first
+    (reached_as names _ (λ answers. rest_from (scene roads setup) calls i answers first.world) (ending (Some how)) (taken ++ first.piece) minds mid new (λ answers. calls_more (scene roads setup) answers calls i d first.world within)
+    (ends_at names (at_place (scene roads setup) (get_or calls i d) first.world) (rest_from (scene roads setup) calls (i + 1)) how (taken ++ first.piece) minds mid new here))
 
 -- no call is left
-pub all_called : (names : Names) (whole : Answering → Progress) (setup : Setup) (calls : List ActorCall) (i : ℕ) (taken : List ℕ) (minds : List Mind) (old new : Moment) → length calls ≤ i →
-    Reached names whole (rest_from setup calls i) taken minds old new → Reached names whole (ending None) taken minds old new
-all_called names whole setup calls i taken minds old new past reached = rest_as names whole (rest_from setup calls i) (ending None) taken minds old new (λ answers world. calls_none setup answers calls i world past) reached
+pub all_called : (names : Names) (whole : Answering → Progress) (at : Scene) (calls : List ActorCall) (i : ℕ) (taken : List ℕ) (minds : List Mind) (old new : Moment) → length calls ≤ i →
+    Reached names whole (rest_from at calls i) taken minds old new → Reached names whole (ending None) taken minds old new
+all_called names whole at calls i taken minds old new past reached = rest_as names whole (rest_from at calls i) (ending None) taken minds old new (λ answers world. calls_none at answers calls i world past) reached
 
 -- memory was wanting at a later call
 pub cut_later : (piece : List ℕ) (old mid new : PartView) → Reads piece old mid → CutOff mid new → CutOff old new

@@ -16,7 +16,7 @@ use Rattle.sg_script.specs.Stands.{Reads}
 use Rattle.sg_script.specs.Rest.{GoesOn}
 use Rattle.sg_engine.specs.declared.ended.Ended.{Ended}
 use Rattle.sg_engine.specs.Gains.{is_cut, Ends, GainsAll, GainsFronts, IsBroken}
-use Rattle.sg_engine.specs.Output.{trace_of, last_lines, fault_line, written_of, run_output, kernel_setup}
+use Rattle.sg_engine.specs.Output.{trace_of, last_lines, fault_line, written_of, run_output, scene_of}
 use Rattle.sg_engine.specs.Run.{Progress, run_of}
 use Rattle.sg_engine.specs.Simulated.{CutsOff, IsOver}
 use Rattle.sg_engine.proofs.Fronts.{front_more, fronts_out, fronts_behind, all_behind}
@@ -32,12 +32,12 @@ ends_by true front out err how result old mid new wrote same ends = fronts_behin
 ends_by false front out err how result old mid new wrote same ends = (ends.0, all_behind front out err old mid new wrote same ends.1)
 
 pub run_ends : (platform : Platform) (deployed : Deployed) (budget : ℕ) (how result : Ended) (core : Core) (p0 p1 : PartView) (old mid new : Stream → Option (List ℕ)) (source : Source) → Going p0 p1 source →
-    IsOver (known_in deployed) (trace_of platform deployed) (run_of (kernel_setup platform deployed budget)) how core p0 p1 (old Out) (mid Out) → mid Err ≡ old Err →
-    Ends (last_lines platform deployed budget core how) (fault_line how) how result mid new → let want = run_output platform deployed budget source in Ends want.out want.err want.ended result old new
+    IsOver (known_in deployed) (trace_of platform deployed) (run_of (scene_of platform deployed budget)) how core p0 p1 (old Out) (mid Out) → mid Err ≡ old Err →
+    Ends (last_lines platform deployed budget core how) (fault_line platform how) how result mid new → let want = run_output platform deployed budget source in Ends want.out want.err want.ended result old new
 run_ends platform deployed budget how result core p0 p1 old mid new source going over same ends =
     let trace = trace_of platform deployed over.made in
-    let last : Ends (last_lines platform deployed budget over.world.core how) (fault_line how) how result mid new = subst (λ (c : Core). Ends (last_lines platform deployed budget c how) (fault_line how) how result mid new) over.core_is ends in
-    let all : Ends (trace ++ last_lines platform deployed budget over.world.core how) (fault_line how) how result old new = ends_by (is_cut result) trace (last_lines platform deployed budget over.world.core how) (fault_line how) how result old mid new over.printed same last in
+    let last : Ends (last_lines platform deployed budget over.world.core how) (fault_line platform how) how result mid new = subst (λ (c : Core). Ends (last_lines platform deployed budget c how) (fault_line platform how) how result mid new) over.core_is ends in
+    let all : Ends (trace ++ last_lines platform deployed budget over.world.core how) (fault_line platform how) how result old new = ends_by (is_cut result) trace (last_lines platform deployed budget over.world.core how) (fault_line platform how) how result old mid new over.printed same last in
     let written : Progress → Type 0 = λ p. Ends (written_of platform deployed budget p).out (written_of platform deployed budget p).err (written_of platform deployed budget p).ended result old new in
     subst written (sym (over.is source (going over.piece over.reads))) all
 
@@ -47,10 +47,10 @@ cut_by false out err want how old new is fronts = absurd (cc is)
 
 -- a run that was cut off
 pub run_cut : (platform : Platform) (deployed : Deployed) (budget : ℕ) (how : Ended) (p0 p1 : PartView) (old new : Stream → Option (List ℕ)) (source : Source) → Going p0 p1 source → is_cut how ≡ true →
-    CutsOff (known_in deployed) (trace_of platform deployed) (run_of (kernel_setup platform deployed budget)) [] p0 p1 (old Out) (new Out) → new Err ≡ old Err → let want = run_output platform deployed budget source in Ends want.out want.err want.ended how old new
+    CutsOff (known_in deployed) (trace_of platform deployed) (run_of (scene_of platform deployed budget)) [] p0 p1 (old Out) (new Out) → new Err ≡ old Err → let want = run_output platform deployed budget source in Ends want.out want.err want.ended how old new
 run_cut platform deployed budget how p0 p1 old new source going is cut same =
     let want = run_output platform deployed budget source in
-    let made = (run_of (kernel_setup platform deployed budget) (asked (known_in deployed) source)).made in
+    let made = (run_of (scene_of platform deployed budget) (asked (known_in deployed) source)).made in
     let front = front_more (trace_of platform deployed made) _ (old Out) (new Out) (cut.front source (going cut.piece cut.reads)) in
     cut_by (is_cut how) want.out want.err want.ended how old new is (fronts_out want.out want.err old new front same)
 

@@ -1,7 +1,9 @@
 pub mod Calls
 pub mod Endings
 pub mod Fronts
+pub mod Leaving
 pub mod Listing
+pub mod Over
 pub mod PutLines
 pub mod Reaching
 pub mod Simulating

@@ -4,7 +4,7 @@ use Rattle.std.specs.Prelude.{All, AllPairs, IfSome, map}
 use Rattle.std.proofs.lemmas.Bool.{cases_lt}
 use Rattle.std.proofs.lemmas.List.{append-nil, get_or_default, take_all, drop_all}
 use Rattle.std.proofs.Math.ListN.{get_or-map}
-use Rattle.sg_base.specs.Limits.{IsCall}
+use Rattle.sg_base.specs.Limits.{Extent, IsCall}
 use Rattle.std.proofs.lemmas.List.Elements.{All-nil, All-cons, All-append}
 use Rattle.std.proofs.lemmas.List.Kept.{AllPairs-cons}
 use Rattle.sg_base.specs.Mind.{Mind}
@@ -14,11 +14,11 @@ use Rattle.sg_base.specs.declared.ids.ActorId.{ActorId}
 use Rattle.sg_kernel.specs.declared.states.State.{State}
 use Rattle.sg_kernel.specs.declared.states.State.TheVariants.{Ready, Blocked, Ended}
 use Rattle.sg_kernel.specs.Queue.{IsQueue}
-use Rattle.sg_kernel.specs.World.{Setup, Core, World, MayCall, inbox_of, is_ready}
+use Rattle.sg_kernel.specs.World.{Core, World, MayCall, inbox_of, is_ready}
 use Rattle.sg_engine.specs.declared.actor_call.ActorCall.{ActorCall}
 use Rattle.sg_engine.specs.declared.ended.Ended.{Ended as Ending}
 use Rattle.sg_engine.specs.Listed.{listed_one, listed, calls_of}
-use Rattle.sg_engine.specs.Run.{Answering, Progress, with_front, and_then, and_then_by, one_call, if_call, calls_from, zip_with, call_after, mind_after, inboxes}
+use Rattle.sg_engine.specs.Run.{Scene, Answering, Progress, with_front, and_then, and_then_by, one_call, if_call, calls_from, zip_with, call_after, mind_after, inboxes}
 use Rattle.sg_engine.proofs.Turning.{call_may}
 
 -- ---- what isn't there is answered by nothing
@@ -26,17 +26,17 @@ then_same : (how : Option Ending) (first : Progress) (f g : World → Progress) 
 then_same None first f g same = ap (with_front first.made) (same first.world)
 then_same (Some how) first f g same = refl
 
-listed_call : (setup : Setup) (answers : Answering) (actor : ℕ) (what : Option Call) (rest : List (Option Call)) (world : World) → ((w : World) → calls_of setup answers (listed (actor + 1) rest) w ≡ calls_from setup answers (actor + 1) rest w) →
-    calls_of setup answers (listed_one actor what (listed (actor + 1) rest)) world ≡ and_then (if_call setup answers actor what world) (calls_from setup answers (actor + 1) rest)
+listed_call : (at : Scene) (answers : Answering) (actor : ℕ) (what : Option Call) (rest : List (Option Call)) (world : World) → ((w : World) → calls_of at answers (listed (actor + 1) rest) w ≡ calls_from at answers (actor + 1) rest w) →
+    calls_of at answers (listed_one actor what (listed (actor + 1) rest)) world ≡ and_then (if_call at answers actor what world) (calls_from at answers (actor + 1) rest)
 unfolding calls_of
-listed_call setup answers actor None rest world same = same world
-listed_call setup answers actor (Some what) rest world same =
-    then_same (one_call setup answers actor what world).ended (one_call setup answers actor what world) (calls_of setup answers (listed (actor + 1) rest)) (calls_from setup answers (actor + 1) rest) same
+listed_call at answers actor None rest world same = same world
+listed_call at answers actor (Some what) rest world same =
+    then_same (one_call at answers actor what world).ended (one_call at answers actor what world) (calls_of at answers (listed (actor + 1) rest)) (calls_from at answers (actor + 1) rest) same
 
-pub calls_listed : (setup : Setup) (answers : Answering) (actor : ℕ) (calls : List (Option Call)) (world : World) → calls_of setup answers (listed actor calls) world ≡ calls_from setup answers actor calls world
+pub calls_listed : (at : Scene) (answers : Answering) (actor : ℕ) (calls : List (Option Call)) (world : World) → calls_of at answers (listed actor calls) world ≡ calls_from at answers actor calls world
 unfolding calls_of calls_from listed
-calls_listed setup answers actor [] world = refl
-calls_listed setup answers actor (what ∷ rest) world = listed_call setup answers actor what rest world (λ w. calls_listed setup answers (actor + 1) rest w)
+calls_listed at answers actor [] world = refl
+calls_listed at answers actor (what ∷ rest) world = listed_call at answers actor what rest world (λ w. calls_listed at answers (actor + 1) rest w)
 
 -- ---- what is true of the calls that were made
 all_one : (P : ActorCall → Type 0) (actor : ℕ) (what : Option Call) (rest : List ActorCall) → ((made : Call) → what ≡ Some made → P (record { actor = record { 0 = actor }; call = made })) → All P rest → All P (listed_one actor what rest)
@@ -154,13 +154,13 @@ calls_next had answers items items' i id m d answer call within same before adde
     ∙ ap (λ n. listed 1 (zip_with call_after (take i had) (take i answers)) ++ listed_one n (call_after (get_or had i d) (get_or answers i None)) []) (sym at)
     ∙ sym (listed_more 1 had answers i d within same)
 
-limited_one : (id : ℕ) (call : Option Call) → IfSome call IsCall → All (λ (made : ActorCall). IsCall made.call) (listed_one id call [])
-limited_one id None limited = All-nil (λ (made : ActorCall). IsCall made.call)
-limited_one id (Some made) limited = All-cons (λ (made : ActorCall). IsCall made.call) (record { actor = record { 0 = id }; call = made }) [] limited (All-nil (λ (made : ActorCall). IsCall made.call))
+limited_one : (extent : Extent) (id : ℕ) (call : Option Call) → IfSome call (IsCall extent) → All (λ (made : ActorCall). IsCall extent made.call) (listed_one id call [])
+limited_one extent id None limited = All-nil (λ (made : ActorCall). IsCall extent made.call)
+limited_one extent id (Some made) limited = All-cons (λ (made : ActorCall). IsCall extent made.call) (record { actor = record { 0 = id }; call = made }) [] limited (All-nil (λ (made : ActorCall). IsCall extent made.call))
 
-pub limited_next : (items items' : List ActorCall) (id : ℕ) (call : Option Call) → items' ≡ items ++ listed_one id call [] → IfSome call IsCall → All (λ (made : ActorCall). IsCall made.call) items → All (λ (made : ActorCall). IsCall made.call) items'
-limited_next items items' id call added limited before =
-    subst (All (λ (made : ActorCall). IsCall made.call)) (sym added) (All-append (λ (made : ActorCall). IsCall made.call) items (listed_one id call []) before (limited_one id call limited))
+pub limited_next : (extent : Extent) (items items' : List ActorCall) (id : ℕ) (call : Option Call) → items' ≡ items ++ listed_one id call [] → IfSome call (IsCall extent) → All (λ (made : ActorCall). IsCall extent made.call) items → All (λ (made : ActorCall). IsCall extent made.call) items'
+limited_next extent items items' id call added limited before =
+    subst (All (λ (made : ActorCall). IsCall extent made.call)) (sym added) (All-append (λ (made : ActorCall). IsCall extent made.call) items (listed_one id call []) before (limited_one extent id call limited))
 
 -- ---- between two in the queue nobody is ready
 -- the last id of the first so many

@@ -11,7 +11,7 @@ use Rattle.sg_platform.specs.Platform.{Platform}
 use Rattle.sg_trace.specs.Line.{line_of}
 use Rattle.sg_engine.specs.Gains.{IsPut, Broke, Writes}
 use Rattle.sg_engine.specs.Output.{trace_of, blocked_line, blocked_lines}
-use Rattle.sg_engine.proofs.Fronts.{put_on, put_as, broke_on, wrote_all}
+use Rattle.sg_engine.proofs.Fronts.{put_on, put_as, broke_more, broke_on, wrote_all}
 
 -- ---- one line of several
 -- a line that stands first in what is left was put
@@ -48,6 +48,10 @@ put_broke buffer first second waiting old mid new f f' empty put broke =
       sound = put'.sound;
     } in
     broke_on (first ++ second) (waiting ++ second) [] old mid new f f' (put_as (first ++ second) (waiting ++ second) (waiting ++ second ++ []) old mid f (sym (append-nil (waiting ++ second))) more) broke
+
+-- an empty buffer broke on the first of two texts
+pub first_broke : (buffer first second : List ℕ) (old new : Stream → Option (List ℕ)) (f : ℕ) → buffer ≡ [] → Broke (buffer ++ first) old new f → Broke (first ++ second) old new f
+first_broke buffer first second old new f empty broke = broke_more first second old new f (subst (λ (b : List ℕ). Broke (b ++ first) old new f) empty broke)
 
 -- what waits is written, or a write fails
 pub put_writes : (whole waiting : List ℕ) (result : Result (Unit {0}) Failed) (old mid new : Stream → Option (List ℕ)) (f f' : ℕ) → IsPut whole waiting old mid f → Writes waiting result mid new f' → Writes whole result old new f'

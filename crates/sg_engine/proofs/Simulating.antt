@@ -10,7 +10,7 @@ use Rattle.sg_edge.specs.declared.files.Stage.TheVariants.{Fresh}
 use Rattle.sg_edge.specs.Sinks.{gain, GainsFront}
 use Rattle.sg_edge.proofs.Writing.{gain-gain, gain-nil}
 use Rattle.sg_kernel.specs.Known.{Known}
-use Rattle.sg_kernel.specs.World.{Setup, Core, World, is_ended}
+use Rattle.sg_kernel.specs.World.{Core, World, is_ended}
 use Rattle.sg_script.specs.Asked.{asked}
 use Rattle.sg_script.specs.Known.{Known as Names}
 use Rattle.sg_script.specs.Stands.{Kept}
@@ -18,7 +18,7 @@ use Rattle.sg_script.proofs.Chains.{reads_then, reads_none}
 use Rattle.sg_engine.specs.declared.ended.Ended.{Ended}
 use Rattle.sg_engine.specs.declared.ended.Ended.TheVariants as ended
 use Rattle.sg_engine.specs.Reached.{Moment, moment, StandsFor, Reached, CutOff, ending}
-use Rattle.sg_engine.specs.Run.{Answering, Progress, at_world, with_front, and_then, and_then_by, round_or_pass, run_from}
+use Rattle.sg_engine.specs.Run.{Scene, Answering, Progress, at_world, with_front, and_then, and_then_by, round_or_pass, run_from}
 use Rattle.sg_engine.specs.Gains.{cuts}
 use Rattle.sg_engine.specs.Keeping.{PartIs}
 use Rattle.sg_engine.specs.Simulated.{Trace, Advances, CutsOff, IsOver}
@@ -86,21 +86,21 @@ pub uncut_write : (how : Option Ended) → cuts how ≡ false → how ≡ Some e
 uncut_write how uncut is = uncut_not (cuts how) (ap cuts is) uncut
 
 -- ---- rounds and passes one after another
-pub run_done : (n m : ℕ) (setup : Setup) (answers : Answering) (world : World) → n ≡ suc m → list_all is_ended world.core.actors ≡ true → run_from n setup answers world ≡ at_world (Some ended.Completed) world
+pub run_done : (n m : ℕ) (at : Scene) (answers : Answering) (world : World) → n ≡ suc m → list_all is_ended world.core.actors ≡ true → run_from n at answers world ≡ at_world (Some ended.Completed) world
 unfolding run_from
-run_done n m setup answers world more all = ap (λ (k : ℕ). run_from k setup answers world) more ∙ ap (λ (b : Bool). cond b (at_world (Some ended.Completed) world) (and_then (round_or_pass setup answers world) (run_from m setup answers))) all
+run_done n m at answers world more all = ap (λ (k : ℕ). run_from k at answers world) more ∙ ap (λ (b : Bool). cond b (at_world (Some ended.Completed) world) (and_then (round_or_pass at answers world) (run_from m at answers))) all
 
-pub run_goes : (n m : ℕ) (setup : Setup) (answers : Answering) (world : World) → n ≡ suc m → list_all is_ended world.core.actors ≡ false → run_from n setup answers world ≡ and_then (round_or_pass setup answers world) (run_from m setup answers)
+pub run_goes : (n m : ℕ) (at : Scene) (answers : Answering) (world : World) → n ≡ suc m → list_all is_ended world.core.actors ≡ false → run_from n at answers world ≡ and_then (round_or_pass at answers world) (run_from m at answers)
 unfolding run_from
-run_goes n m setup answers world more some = ap (λ (k : ℕ). run_from k setup answers world) more ∙ ap (λ (b : Bool). cond b (at_world (Some ended.Completed) world) (and_then (round_or_pass setup answers world) (run_from m setup answers))) some
+run_goes n m at answers world more some = ap (λ (k : ℕ). run_from k at answers world) more ∙ ap (λ (b : Bool). cond b (at_world (Some ended.Completed) world) (and_then (round_or_pass at answers world) (run_from m at answers))) some
 
-pub run_out : (n : ℕ) (setup : Setup) (answers : Answering) (world : World) → n ≡ 0 → run_from n setup answers world ≡ at_world (Some ended.Budget) world
+pub run_out : (n : ℕ) (at : Scene) (answers : Answering) (world : World) → n ≡ 0 → run_from n at answers world ≡ at_world (Some ended.Budget) world
 unfolding run_from
-run_out n setup answers world none = ap (λ (k : ℕ). run_from k setup answers world) none
+run_out n at answers world none = ap (λ (k : ℕ). run_from k at answers world) none
 
 -- what is left of a run, after so many rounds and passes
-abbrev pub rest_of : ℕ → Setup → Answering → World → Progress
-rest_of n setup answers world = run_from n setup answers world
+abbrev pub rest_of : ℕ → Scene → Answering → World → Progress
+rest_of n at answers world = run_from n at answers world
 
 -- the run has come to its end
 abbrev pub over_by : (names : Names) (trace : Trace) (whole : Answering → Progress) (how : Ended) (minds : List Mind) (p0 p1 : PartView) (q0 q1 : Kept) (k0 k1 : Known) (core : Core) (before after : Option (List ℕ)) →
@@ -118,9 +118,9 @@ over_by names trace whole how minds p0 p1 q0 q1 k0 k1 core before after reached 
 }
 
 -- all actors have ended
-pub completed : (names : Names) (trace : Trace) (whole : Answering → Progress) (n m : ℕ) (setup : Setup) (minds : List Mind) (p0 p1 : PartView) (q0 q1 : Kept) (k0 k1 : Known) (core : Core) (before after : Option (List ℕ)) →
-    (reached : Reached names whole (rest_of n setup) [] minds (moment p0 q0 k0) (moment p1 q1 k1)) → n ≡ suc m → core ≡ k1.core → list_all is_ended core.actors ≡ true → after ≡ gain before (trace reached.made) → IsOver names trace whole ended.Completed core p0 p1 before after
-completed names trace whole n m setup minds p0 p1 q0 q1 k0 k1 core before after reached more same all printed =
+pub completed : (names : Names) (trace : Trace) (whole : Answering → Progress) (n m : ℕ) (at : Scene) (minds : List Mind) (p0 p1 : PartView) (q0 q1 : Kept) (k0 k1 : Known) (core : Core) (before after : Option (List ℕ)) →
+    (reached : Reached names whole (rest_of n at) [] minds (moment p0 q0 k0) (moment p1 q1 k1)) → n ≡ suc m → core ≡ k1.core → list_all is_ended core.actors ≡ true → after ≡ gain before (trace reached.made) → IsOver names trace whole ended.Completed core p0 p1 before after
+completed names trace whole n m at minds p0 p1 q0 q1 k0 k1 core before after reached more same all printed =
     let all_here : list_all is_ended reached.world.core.actors ≡ true = ap (λ (c : Core). list_all is_ended c.actors) (sym (same ∙ reached.stands.core)) ∙ all in
     over_by names trace whole ended.Completed minds p0 p1 q0 q1 k0 k1 core before after (record {
       piece = reached.piece;
@@ -130,13 +130,13 @@ completed names trace whole n m setup minds p0 p1 q0 q1 k0 k1 core before after 
       stands = reached.stands;
       made = reached.made;
       records = reached.records;
-      is = λ source goes. reached.is source goes ∙ ap (with_front reached.made) (run_done n m setup (asked names source) reached.world more all_here);
+      is = λ source goes. reached.is source goes ∙ ap (with_front reached.made) (run_done n m at (asked names source) reached.world more all_here);
     }) same printed
 
 -- no round and no pass is left
-pub used_up : (names : Names) (trace : Trace) (whole : Answering → Progress) (n : ℕ) (setup : Setup) (minds : List Mind) (p0 p1 : PartView) (q0 q1 : Kept) (k0 k1 : Known) (core : Core) (before after : Option (List ℕ)) →
-    (reached : Reached names whole (rest_of n setup) [] minds (moment p0 q0 k0) (moment p1 q1 k1)) → n ≡ 0 → core ≡ k1.core → after ≡ gain before (trace reached.made) → IsOver names trace whole ended.Budget core p0 p1 before after
-used_up names trace whole n setup minds p0 p1 q0 q1 k0 k1 core before after reached none same printed =
+pub used_up : (names : Names) (trace : Trace) (whole : Answering → Progress) (n : ℕ) (at : Scene) (minds : List Mind) (p0 p1 : PartView) (q0 q1 : Kept) (k0 k1 : Known) (core : Core) (before after : Option (List ℕ)) →
+    (reached : Reached names whole (rest_of n at) [] minds (moment p0 q0 k0) (moment p1 q1 k1)) → n ≡ 0 → core ≡ k1.core → after ≡ gain before (trace reached.made) → IsOver names trace whole ended.Budget core p0 p1 before after
+used_up names trace whole n at minds p0 p1 q0 q1 k0 k1 core before after reached none same printed =
     over_by names trace whole ended.Budget minds p0 p1 q0 q1 k0 k1 core before after (record {
       piece = reached.piece;
       reads = reached.reads;
@@ -145,40 +145,40 @@ used_up names trace whole n setup minds p0 p1 q0 q1 k0 k1 core before after reac
       stands = reached.stands;
       made = reached.made;
       records = reached.records;
-      is = λ source goes. reached.is source goes ∙ ap (with_front reached.made) (run_out n setup (asked names source) reached.world none);
+      is = λ source goes. reached.is source goes ∙ ap (with_front reached.made) (run_out n at (asked names source) reached.world none);
     }) same printed
 
 -- one part more, and the run goes on
-abbrev pub part_on : (names : Names) (trace : Trace) (whole : Answering → Progress) (n m : ℕ) (setup : Setup) (minds minds' : List Mind) (p0 p1 p2 : PartView) (q0 q1 q2 : Kept) (k0 k1 k1' k2 : Known) (before after : Option (List ℕ)) →
-    (reached : Reached names whole (rest_of n setup) [] minds (moment p0 q0 k0) (moment p1 q1 k1')) → n ≡ suc m → k1'.core ≡ k1.core → k1'.setup ≡ k1.setup → list_all is_ended k1.core.actors ≡ false → k0.records ≡ [] →
-    (part : Advances names trace (λ answers. round_or_pass setup answers reached.world) None reached.piece minds' (moment p1 q1 k1) (moment p2 q2 k2) before after) → k1.records ≡ [] →
-    Reached names whole (rest_of m setup) [] minds' (moment p0 q0 k0) (moment p2 q2 (record k2 { records = reached.made ++ part.records }))
-part_on names trace whole n m setup minds minds' p0 p1 p2 q0 q1 q2 k0 k1 k1' k2 before after reached more core same some first part cleared =
+abbrev pub part_on : (names : Names) (trace : Trace) (whole : Answering → Progress) (n m : ℕ) (at : Scene) (minds minds' : List Mind) (p0 p1 p2 : PartView) (q0 q1 q2 : Kept) (k0 k1 k1' k2 : Known) (before after : Option (List ℕ)) →
+    (reached : Reached names whole (rest_of n at) [] minds (moment p0 q0 k0) (moment p1 q1 k1')) → n ≡ suc m → k1'.core ≡ k1.core → k1'.setup ≡ k1.setup → list_all is_ended k1.core.actors ≡ false → k0.records ≡ [] →
+    (part : Advances names trace (λ answers. round_or_pass at answers reached.world) None reached.piece minds' (moment p1 q1 k1) (moment p2 q2 k2) before after) → k1.records ≡ [] →
+    Reached names whole (rest_of m at) [] minds' (moment p0 q0 k0) (moment p2 q2 (record k2 { records = reached.made ++ part.records }))
+part_on names trace whole n m at minds minds' p0 p1 p2 q0 q1 q2 k0 k1 k1' k2 before after reached more core same some first part cleared =
     let made : part.records ≡ part.reached.made = part.reached.records ∙ ap (λ (l : List Record). l ++ part.reached.made) cleared in
     let here : k1'.records ≡ reached.made = reached.records ∙ ap (λ (l : List Record). l ++ reached.made) first in
     let some_here : list_all is_ended reached.world.core.actors ≡ false = ap (λ (c : Core). list_all is_ended c.actors) (sym (sym core ∙ reached.stands.core)) ∙ some in
-    let shifted : Reached names (λ answers. round_or_pass setup answers reached.world) (ending None) reached.piece minds' (moment p1 q1 k1') (moment p2 q2 (record k2 { records = reached.made ++ part.records })) =
-    with_records names (λ answers. round_or_pass setup answers reached.world) (ending None) reached.piece minds' p1 p2 q1 q2 k1 (record k2 { records = part.records }) k1' (record k2 { records = reached.made ++ part.records }) reached.made part.reached here same refl refl (ap (λ (l : List Record). reached.made ++ l) made) in
-    reached_then names whole (rest_of n setup) (rest_of m setup) [] minds minds' (moment p0 q0 k0) (moment p1 q1 k1') (moment p2 q2 (record k2 { records = reached.made ++ part.records })) reached
-    (reached_as names (λ answers. and_then (round_or_pass setup answers reached.world) (rest_of m setup answers)) (λ answers. rest_of n setup answers reached.world) (rest_of m setup) reached.piece minds' (moment p1 q1 k1') (moment p2 q2 (record k2 { records = reached.made ++ part.records }))
-    (λ answers. run_goes n m setup answers reached.world more some_here)
-    (goes_on_to names (λ answers. round_or_pass setup answers reached.world) (rest_of m setup) reached.piece minds' (moment p1 q1 k1') (moment p2 q2 (record k2 { records = reached.made ++ part.records })) shifted))
+    let shifted : Reached names (λ answers. round_or_pass at answers reached.world) (ending None) reached.piece minds' (moment p1 q1 k1') (moment p2 q2 (record k2 { records = reached.made ++ part.records })) =
+    with_records names (λ answers. round_or_pass at answers reached.world) (ending None) reached.piece minds' p1 p2 q1 q2 k1 (record k2 { records = part.records }) k1' (record k2 { records = reached.made ++ part.records }) reached.made part.reached here same refl refl (ap (λ (l : List Record). reached.made ++ l) made) in
+    reached_then names whole (rest_of n at) (rest_of m at) [] minds minds' (moment p0 q0 k0) (moment p1 q1 k1') (moment p2 q2 (record k2 { records = reached.made ++ part.records })) reached
+    (reached_as names (λ answers. and_then (round_or_pass at answers reached.world) (rest_of m at answers)) (λ answers. rest_of n at answers reached.world) (rest_of m at) reached.piece minds' (moment p1 q1 k1') (moment p2 q2 (record k2 { records = reached.made ++ part.records }))
+    (λ answers. run_goes n m at answers reached.world more some_here)
+    (goes_on_to names (λ answers. round_or_pass at answers reached.world) (rest_of m at) reached.piece minds' (moment p1 q1 k1') (moment p2 q2 (record k2 { records = reached.made ++ part.records })) shifted))
 
 -- one part more, which has ended the run
-abbrev pub part_last : (names : Names) (trace : Trace) (whole : Answering → Progress) (how : Ended) (n m : ℕ) (setup : Setup) (minds minds' : List Mind) (p0 p1 p2 : PartView) (q0 q1 q2 : Kept) (k0 k1 k1' k2 : Known) (before after : Option (List ℕ)) →
-    (reached : Reached names whole (rest_of n setup) [] minds (moment p0 q0 k0) (moment p1 q1 k1')) → n ≡ suc m → k1'.core ≡ k1.core → k1'.setup ≡ k1.setup → list_all is_ended k1.core.actors ≡ false → k0.records ≡ [] →
-    (part : Advances names trace (λ answers. round_or_pass setup answers reached.world) (Some how) reached.piece minds' (moment p1 q1 k1) (moment p2 q2 k2) before after) → k1.records ≡ [] →
+abbrev pub part_last : (names : Names) (trace : Trace) (whole : Answering → Progress) (how : Ended) (n m : ℕ) (at : Scene) (minds minds' : List Mind) (p0 p1 p2 : PartView) (q0 q1 q2 : Kept) (k0 k1 k1' k2 : Known) (before after : Option (List ℕ)) →
+    (reached : Reached names whole (rest_of n at) [] minds (moment p0 q0 k0) (moment p1 q1 k1')) → n ≡ suc m → k1'.core ≡ k1.core → k1'.setup ≡ k1.setup → list_all is_ended k1.core.actors ≡ false → k0.records ≡ [] →
+    (part : Advances names trace (λ answers. round_or_pass at answers reached.world) (Some how) reached.piece minds' (moment p1 q1 k1) (moment p2 q2 k2) before after) → k1.records ≡ [] →
     Reached names whole (ending (Some how)) [] minds' (moment p0 q0 k0) (moment p2 q2 (record k2 { records = reached.made ++ part.records }))
-part_last names trace whole how n m setup minds minds' p0 p1 p2 q0 q1 q2 k0 k1 k1' k2 before after reached more core same some first part cleared =
+part_last names trace whole how n m at minds minds' p0 p1 p2 q0 q1 q2 k0 k1 k1' k2 before after reached more core same some first part cleared =
     let made : part.records ≡ part.reached.made = part.reached.records ∙ ap (λ (l : List Record). l ++ part.reached.made) cleared in
     let here : k1'.records ≡ reached.made = reached.records ∙ ap (λ (l : List Record). l ++ reached.made) first in
     let some_here : list_all is_ended reached.world.core.actors ≡ false = ap (λ (c : Core). list_all is_ended c.actors) (sym (sym core ∙ reached.stands.core)) ∙ some in
-    let shifted : Reached names (λ answers. round_or_pass setup answers reached.world) (ending (Some how)) reached.piece minds' (moment p1 q1 k1') (moment p2 q2 (record k2 { records = reached.made ++ part.records })) =
-    with_records names (λ answers. round_or_pass setup answers reached.world) (ending (Some how)) reached.piece minds' p1 p2 q1 q2 k1 (record k2 { records = part.records }) k1' (record k2 { records = reached.made ++ part.records }) reached.made part.reached here same refl refl (ap (λ (l : List Record). reached.made ++ l) made) in
-    reached_then names whole (rest_of n setup) (ending (Some how)) [] minds minds' (moment p0 q0 k0) (moment p1 q1 k1') (moment p2 q2 (record k2 { records = reached.made ++ part.records })) reached
-    (reached_as names (λ answers. and_then (round_or_pass setup answers reached.world) (rest_of m setup answers)) (λ answers. rest_of n setup answers reached.world) (ending (Some how)) reached.piece minds' (moment p1 q1 k1') (moment p2 q2 (record k2 { records = reached.made ++ part.records }))
-    (λ answers. run_goes n m setup answers reached.world more some_here)
-    (ends_at names (λ answers. round_or_pass setup answers reached.world) (rest_of m setup) how reached.piece minds' (moment p1 q1 k1') (moment p2 q2 (record k2 { records = reached.made ++ part.records })) shifted))
+    let shifted : Reached names (λ answers. round_or_pass at answers reached.world) (ending (Some how)) reached.piece minds' (moment p1 q1 k1') (moment p2 q2 (record k2 { records = reached.made ++ part.records })) =
+    with_records names (λ answers. round_or_pass at answers reached.world) (ending (Some how)) reached.piece minds' p1 p2 q1 q2 k1 (record k2 { records = part.records }) k1' (record k2 { records = reached.made ++ part.records }) reached.made part.reached here same refl refl (ap (λ (l : List Record). reached.made ++ l) made) in
+    reached_then names whole (rest_of n at) (ending (Some how)) [] minds minds' (moment p0 q0 k0) (moment p1 q1 k1') (moment p2 q2 (record k2 { records = reached.made ++ part.records })) reached
+    (reached_as names (λ answers. and_then (round_or_pass at answers reached.world) (rest_of m at answers)) (λ answers. rest_of n at answers reached.world) (ending (Some how)) reached.piece minds' (moment p1 q1 k1') (moment p2 q2 (record k2 { records = reached.made ++ part.records }))
+    (λ answers. run_goes n m at answers reached.world more some_here)
+    (ends_at names (λ answers. round_or_pass at answers reached.world) (rest_of m at) how reached.piece minds' (moment p1 q1 k1') (moment p2 q2 (record k2 { records = reached.made ++ part.records })) shifted))
 
 -- ---- a run that is cut off
 -- the records of a stretch and what follows it begin with those of the stretch
@@ -191,19 +191,19 @@ abbrev pub Appends : Trace → Type 0
 Appends trace = (first second : List Record) → trace (first ++ second) ≡ trace first ++ trace second
 
 -- a part was cut off, and so is the run
-pub part_cut : (names : Names) (trace : Trace) → Appends trace → (whole : Answering → Progress) (n m : ℕ) (setup : Setup) (minds : List Mind) (p0 p1 p2 : PartView) (q0 q1 : Kept) (k0 k1 : Known) (start before after : Option (List ℕ)) →
-    (reached : Reached names whole (rest_of n setup) [] minds (moment p0 q0 k0) (moment p1 q1 k1)) → n ≡ suc m → list_all is_ended k1.core.actors ≡ false → before ≡ gain start (trace reached.made) →
-    CutsOff names trace (λ answers. round_or_pass setup answers reached.world) reached.piece p1 p2 before after → CutsOff names trace whole [] p0 p2 start after
-part_cut names trace appends whole n m setup minds p0 p1 p2 q0 q1 k0 k1 start before after reached more some printed cut = record {
+pub part_cut : (names : Names) (trace : Trace) → Appends trace → (whole : Answering → Progress) (n m : ℕ) (at : Scene) (minds : List Mind) (p0 p1 p2 : PartView) (q0 q1 : Kept) (k0 k1 : Known) (start before after : Option (List ℕ)) →
+    (reached : Reached names whole (rest_of n at) [] minds (moment p0 q0 k0) (moment p1 q1 k1)) → n ≡ suc m → list_all is_ended k1.core.actors ≡ false → before ≡ gain start (trace reached.made) →
+    CutsOff names trace (λ answers. round_or_pass at answers reached.world) reached.piece p1 p2 before after → CutsOff names trace whole [] p0 p2 start after
+part_cut names trace appends whole n m at minds p0 p1 p2 q0 q1 k0 k1 start before after reached more some printed cut = record {
   piece = reached.piece ++ cut.piece;
   reads = reads_then reached.piece cut.piece p0 p1 p2 reached.reads cut.reads;
   front = λ source goes.
       let answers = asked names source in
-      let first = round_or_pass setup answers reached.world in
+      let first = round_or_pass at answers reached.world in
       let some_here : list_all is_ended reached.world.core.actors ≡ false = ap (λ (c : Core). list_all is_ended c.actors) (sym reached.stands.core) ∙ some in
-      let rest = made_and_then first.ended first (rest_of m setup answers) in
+      let rest = made_and_then first.ended first (rest_of m at answers) in
       let all : (whole answers).made ≡ reached.made ++ (first.made ++ rest.0) =
-      ap (λ (p : Progress). p.made) (reached.is source (goes_back reached.piece cut.piece p1 p2 source cut.reads goes) ∙ ap (with_front reached.made) (run_goes n m setup answers reached.world more some_here))
+      ap (λ (p : Progress). p.made) (reached.is source (goes_back reached.piece cut.piece p1 p2 source cut.reads goes) ∙ ap (with_front reached.made) (run_goes n m at answers reached.world more some_here))
       ∙ ap (λ (l : List Record). reached.made ++ l) rest.1 in
       let text : trace (whole answers).made ≡ trace reached.made ++ (trace first.made ++ trace rest.0) =
       ap trace all ∙ appends reached.made (first.made ++ rest.0) ∙ ap (λ (l : List ℕ). trace reached.made ++ l) (appends first.made rest.0) in
@@ -245,31 +245,31 @@ far_first names trace whole rest minds part kept known before world begun stands
 }
 
 -- one part more
-pub far_on : (names : Names) (trace : Trace) → Appends trace → (whole : Answering → Progress) (n m : ℕ) (setup : Setup) (minds minds' : List Mind) (p0 p1 p2 : PartView) (q0 q1 q2 : Kept) (k0 k1 k2 : Known) (start before after : Option (List ℕ)) →
-    (far : SoFar names trace whole (rest_of n setup) minds p0 p1 q0 q1 k0 k1 start before) → n ≡ suc m → list_all is_ended k1.core.actors ≡ false → k0.records ≡ [] → k1.records ≡ [] →
-    Advances names trace (λ answers. round_or_pass setup answers far.reached.world) None far.reached.piece minds' (moment p1 q1 k1) (moment p2 q2 k2) before after → SoFar names trace whole (rest_of m setup) minds' p0 p2 q0 q2 k0 k2 start after
-far_on names trace appends whole n m setup minds minds' p0 p1 p2 q0 q1 q2 k0 k1 k2 start before after far more some first cleared part =
+pub far_on : (names : Names) (trace : Trace) → Appends trace → (whole : Answering → Progress) (n m : ℕ) (at : Scene) (minds minds' : List Mind) (p0 p1 p2 : PartView) (q0 q1 q2 : Kept) (k0 k1 k2 : Known) (start before after : Option (List ℕ)) →
+    (far : SoFar names trace whole (rest_of n at) minds p0 p1 q0 q1 k0 k1 start before) → n ≡ suc m → list_all is_ended k1.core.actors ≡ false → k0.records ≡ [] → k1.records ≡ [] →
+    Advances names trace (λ answers. round_or_pass at answers far.reached.world) None far.reached.piece minds' (moment p1 q1 k1) (moment p2 q2 k2) before after → SoFar names trace whole (rest_of m at) minds' p0 p2 q0 q2 k0 k2 start after
+far_on names trace appends whole n m at minds minds' p0 p1 p2 q0 q1 q2 k0 k1 k2 start before after far more some first cleared part =
     let made : part.records ≡ part.reached.made = part.reached.records ∙ ap (λ (l : List Record). l ++ part.reached.made) cleared in
     record {
       records = far.reached.made ++ part.records;
-      reached = part_on names trace whole n m setup minds minds' p0 p1 p2 q0 q1 q2 k0 k1 (record k1 { records = far.records }) k2 before after far.reached more refl refl some first part cleared;
+      reached = part_on names trace whole n m at minds minds' p0 p1 p2 q0 q1 q2 k0 k1 (record k1 { records = far.records }) k2 before after far.reached more refl refl some first part cleared;
       printed = part.printed ∙ ap₂ (λ (h : Option (List ℕ)) (l : List Record). gain h (trace l)) far.printed made ∙ gain-gain start (trace far.reached.made) (trace part.reached.made) ∙ ap (gain start) (sym (appends far.reached.made part.reached.made));
     }
 
 -- the last part
-pub far_over : (names : Names) (trace : Trace) → Appends trace → (whole : Answering → Progress) (how : Ended) (n m : ℕ) (setup : Setup) (minds minds' : List Mind) (p0 p1 p2 : PartView) (q0 q1 q2 : Kept) (k0 k1 k2 : Known) (start before after : Option (List ℕ)) →
-    (far : SoFar names trace whole (rest_of n setup) minds p0 p1 q0 q1 k0 k1 start before) → n ≡ suc m → list_all is_ended k1.core.actors ≡ false → k0.records ≡ [] → k1.records ≡ [] →
-    Advances names trace (λ answers. round_or_pass setup answers far.reached.world) (Some how) far.reached.piece minds' (moment p1 q1 k1) (moment p2 q2 k2) before after → IsOver names trace whole how k2.core p0 p2 start after
-far_over names trace appends whole how n m setup minds minds' p0 p1 p2 q0 q1 q2 k0 k1 k2 start before after far more some first cleared part =
+pub far_over : (names : Names) (trace : Trace) → Appends trace → (whole : Answering → Progress) (how : Ended) (n m : ℕ) (at : Scene) (minds minds' : List Mind) (p0 p1 p2 : PartView) (q0 q1 q2 : Kept) (k0 k1 k2 : Known) (start before after : Option (List ℕ)) →
+    (far : SoFar names trace whole (rest_of n at) minds p0 p1 q0 q1 k0 k1 start before) → n ≡ suc m → list_all is_ended k1.core.actors ≡ false → k0.records ≡ [] → k1.records ≡ [] →
+    Advances names trace (λ answers. round_or_pass at answers far.reached.world) (Some how) far.reached.piece minds' (moment p1 q1 k1) (moment p2 q2 k2) before after → IsOver names trace whole how k2.core p0 p2 start after
+far_over names trace appends whole how n m at minds minds' p0 p1 p2 q0 q1 q2 k0 k1 k2 start before after far more some first cleared part =
     let made : part.records ≡ part.reached.made = part.reached.records ∙ ap (λ (l : List Record). l ++ part.reached.made) cleared in
     over_by names trace whole how minds' p0 p2 q0 q2 k0 (record k2 { records = far.reached.made ++ part.records }) k2.core start after
-    (part_last names trace whole how n m setup minds minds' p0 p1 p2 q0 q1 q2 k0 k1 (record k1 { records = far.records }) k2 before after far.reached more refl refl some first part cleared) refl
+    (part_last names trace whole how n m at minds minds' p0 p1 p2 q0 q1 q2 k0 k1 (record k1 { records = far.records }) k2 before after far.reached more refl refl some first part cleared) refl
     (part.printed ∙ ap₂ (λ (h : Option (List ℕ)) (l : List Record). gain h (trace l)) far.printed made ∙ gain-gain start (trace far.reached.made) (trace part.reached.made) ∙ ap (gain start) (sym (appends far.reached.made part.reached.made)))
 
 -- what a part did that ended the run or cut it off
-pub far_ends : (names : Names) (trace : Trace) → Appends trace → (whole : Answering → Progress) (how : Ended) (b : Bool) (n m : ℕ) (setup : Setup) (minds minds' : List Mind) (p0 p1 p2 : PartView) (q0 q1 q2 : Kept) (k0 k1 k2 : Known) (start before after : Option (List ℕ)) →
-    (far : SoFar names trace whole (rest_of n setup) minds p0 p1 q0 q1 k0 k1 start before) → n ≡ suc m → list_all is_ended k1.core.actors ≡ false → k0.records ≡ [] → k1.records ≡ [] →
-    MatchBool b (CutsOff names trace (λ answers. round_or_pass setup answers far.reached.world) far.reached.piece p1 p2 before after) (Advances names trace (λ answers. round_or_pass setup answers far.reached.world) (Some how) far.reached.piece minds' (moment p1 q1 k1) (moment p2 q2 k2) before after) →
+pub far_ends : (names : Names) (trace : Trace) → Appends trace → (whole : Answering → Progress) (how : Ended) (b : Bool) (n m : ℕ) (at : Scene) (minds minds' : List Mind) (p0 p1 p2 : PartView) (q0 q1 q2 : Kept) (k0 k1 k2 : Known) (start before after : Option (List ℕ)) →
+    (far : SoFar names trace whole (rest_of n at) minds p0 p1 q0 q1 k0 k1 start before) → n ≡ suc m → list_all is_ended k1.core.actors ≡ false → k0.records ≡ [] → k1.records ≡ [] →
+    MatchBool b (CutsOff names trace (λ answers. round_or_pass at answers far.reached.world) far.reached.piece p1 p2 before after) (Advances names trace (λ answers. round_or_pass at answers far.reached.world) (Some how) far.reached.piece minds' (moment p1 q1 k1) (moment p2 q2 k2) before after) →
     MatchBool b (CutsOff names trace whole [] p0 p2 start after) (IsOver names trace whole how k2.core p0 p2 start after)
-far_ends names trace appends whole how true n m setup minds minds' p0 p1 p2 q0 q1 q2 k0 k1 k2 start before after far more some first cleared cut = part_cut names trace appends whole n m setup minds p0 p1 p2 q0 q1 k0 (record k1 { records = far.records }) start before after far.reached more some far.printed cut
-far_ends names trace appends whole how false n m setup minds minds' p0 p1 p2 q0 q1 q2 k0 k1 k2 start before after far more some first cleared part = far_over names trace appends whole how n m setup minds minds' p0 p1 p2 q0 q1 q2 k0 k1 k2 start before after far more some first cleared part
+far_ends names trace appends whole how true n m at minds minds' p0 p1 p2 q0 q1 q2 k0 k1 k2 start before after far more some first cleared cut = part_cut names trace appends whole n m at minds p0 p1 p2 q0 q1 k0 (record k1 { records = far.records }) start before after far.reached more some far.printed cut
+far_ends names trace appends whole how false n m at minds minds' p0 p1 p2 q0 q1 q2 k0 k1 k2 start before after far more some first cleared part = far_over names trace appends whole how n m at minds minds' p0 p1 p2 q0 q1 q2 k0 k1 k2 start before after far more some first cleared part

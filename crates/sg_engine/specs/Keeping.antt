@@ -1,8 +1,8 @@
 -- What a simulation keeps from one part of a run to the next.
-use Rattle.std.specs.Prelude.{◌≡◌, ◌≤◌, ℕ, List, [], length, map, Option, MatchBool, vec_capacity}
-use Rattle.sg_base.specs.Mind.{Mind}
+use Rattle.std.specs.Prelude.{◌≡◌, ◌≤◌, ℕ, List, [], length, map, All, Option, MatchBool, vec_capacity}
+use Rattle.sg_base.specs.Mind.{Mind, IsMind}
 use Rattle.sg_edge.specs.Files.{PartView}
-use Rattle.sg_platform.specs.Deployment.{Deployed}
+use Rattle.sg_platform.specs.Deployment.{Deployed, extent_of}
 use Rattle.sg_platform.specs.Platform.{Platform}
 use Rattle.sg_script.specs.Known.{Known as Names, known_in}
 use Rattle.sg_script.specs.Stands.{kept_of}
@@ -10,7 +10,7 @@ use Rattle.sg_engine.specs.declared.ended.Ended.{Ended}
 use Rattle.sg_engine.specs.declared.simulation.Simulation.{Simulation}
 use Rattle.sg_engine.specs.Gains.{cuts}
 use Rattle.sg_engine.specs.Minds.{shown}
-use Rattle.sg_engine.specs.Output.{kernel_setup}
+use Rattle.sg_kernel.specs.Start.{setup_of}
 use Rattle.sg_engine.specs.Reached.{Moment, moment, Fits, StandsFor}
 use Rattle.sg_engine.specs.Run.{Answering, Progress, first_world}
 use Rattle.sg_engine.specs.Simulated.{Trace, Advances, CutsOff}
@@ -21,21 +21,22 @@ at_moment part sim = moment part (kept_of sim.script) sim.kernel
 abbrev pub minds_of : Simulation → List Mind
 minds_of sim = map shown sim.minds.items
 
--- all lists are of so many actors, there is room for a call of each, and no record and no line waits
-pub record IsKept (actors : ℕ) (part : PartView) (sim : Simulation) : Type 0 where
-  pub fits : Fits actors (at_moment part sim)
-  pub homes : length sim.kernel.setup.homes ≡ actors
-  pub minds : length sim.minds.items ≡ actors
-  pub calls : actors ≤ vec_capacity sim.calls
-  pub few : actors ≤ 65536
+-- all lists are of the deployment's actors, there is room for a call of each, and no record and no line waits
+pub record IsKept (deployed : Deployed) (part : PartView) (sim : Simulation) : Type 0 where
+  pub fits : Fits deployed (at_moment part sim)
+  pub homes : length sim.kernel.setup.homes ≡ length deployed.actors
+  pub minds : length sim.minds.items ≡ length deployed.actors
+  pub minds_are : All (λ mind. IsMind (extent_of deployed) (shown mind)) sim.minds.items
+  pub calls : length deployed.actors ≤ vec_capacity sim.calls
+  pub few : length deployed.actors ≤ 65536
   pub cleared : sim.kernel.records ≡ []
   pub empty : sim.buffer ≡ []
 
 -- the simulation of a setup at its beginning, with nothing of the script taken
 pub record IsFirst (platform : Platform) (deployed : Deployed) (budget : ℕ) (part : PartView) (sim : Simulation) : Type 0 where
-  pub kept : IsKept (length deployed.actors) part sim
-  pub setup : sim.kernel.setup ≡ kernel_setup platform deployed budget
-  pub stands : StandsFor (known_in deployed) [] (minds_of sim) (at_moment part sim) (first_world (length deployed.actors))
+  pub kept : IsKept deployed part sim
+  pub setup : sim.kernel.setup ≡ setup_of platform deployed budget
+  pub stands : StandsFor (known_in deployed) [] (minds_of sim) (at_moment part sim) (first_world (setup_of platform deployed budget))
 
 -- what a part of a run has done
 abbrev pub PartIs : Names → Trace → (Answering → Progress) → Option Ended → List ℕ → List Mind → Moment → Moment → Option (List ℕ) → Option (List ℕ) → Type 0

@@ -1,9 +1,9 @@
 -- The calls of a round as they are kept: only those that were made, each with its actor.
 use Rattle.std.specs.Prelude.{ℕ, ◌+◌, Option, None, Some, List, [], ◌∷◌}
 use Rattle.sg_base.specs.declared.call.Call.{Call}
-use Rattle.sg_kernel.specs.World.{Setup, World}
+use Rattle.sg_kernel.specs.World.{World}
 use Rattle.sg_engine.specs.declared.actor_call.ActorCall.{ActorCall}
-use Rattle.sg_engine.specs.Run.{Answering, Progress, at_world, and_then, one_call}
+use Rattle.sg_engine.specs.Run.{Scene, Answering, Progress, at_world, and_then, one_call}
 
 abbrev pub listed_one : ℕ → Option Call → List ActorCall → List ActorCall
 listed_one actor None rest = rest
@@ -15,6 +15,6 @@ listed actor [] = []
 listed actor (what ∷ rest) = listed_one actor what (listed (actor + 1) rest)
 
 -- these calls are answered one after another
-unfoldable pub calls_of : Setup → Answering → List ActorCall → World → Progress
-calls_of setup answers [] world = at_world None world
-calls_of setup answers (made ∷ rest) world = and_then (one_call setup answers made.actor.0 made.call world) (calls_of setup answers rest)
+unfoldable pub calls_of : Scene → Answering → List ActorCall → World → Progress
+calls_of at answers [] world = at_world None world
+calls_of at answers (made ∷ rest) world = and_then (one_call at answers made.actor.0 made.call world) (calls_of at answers rest)

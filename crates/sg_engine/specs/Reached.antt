@@ -6,11 +6,12 @@ use Rattle.sg_edge.specs.Files.{PartView}
 use Rattle.sg_edge.specs.Given.{Source}
 use Rattle.sg_edge.specs.declared.files.Stage.TheVariants.{Fresh}
 use Rattle.sg_kernel.specs.Known.{Known}
-use Rattle.sg_kernel.specs.World.{Core, World, MayCall}
+use Rattle.sg_kernel.specs.World.{Core, World, MayCall, extent}
+use Rattle.sg_platform.specs.Deployment.{Deployed, extent_of}
 use Rattle.sg_script.specs.Asked.{asked}
 use Rattle.sg_script.specs.Rest.{GoesOn}
 use Rattle.sg_script.specs.Known.{Known as Names}
-use Rattle.sg_script.specs.Stands.{Kept, Stands, Reads}
+use Rattle.sg_script.specs.Stands.{AreLimited, Kept, Stands, Reads}
 use Rattle.sg_engine.specs.declared.ended.Ended.{Ended}
 use Rattle.sg_engine.specs.Run.{Answering, Progress, at_world, with_front}
 
@@ -23,11 +24,13 @@ pub record Moment : Type 0 where
 abbrev pub moment : PartView → Kept → Known → Moment
 moment part kept kernel = record { part = part; kept = kept; kernel = kernel }
 
--- the script's part was begun, and kernel and reader are of so many actors
-pub record Fits (number : ℕ) (now : Moment) : Type 0 where
-  pub actors : length now.kernel.core.actors ≡ number
-  pub queues : length now.kept.queues - 1 ≡ number
+-- the script's part was begun, kernel and reader are of this deployment, and the actions that wait keep to its limits
+pub record Fits (deployed : Deployed) (now : Moment) : Type 0 where
+  pub actors : length now.kernel.core.actors ≡ length deployed.actors
+  pub queues : length now.kept.queues - 1 ≡ length deployed.actors
   pub begun : now.part.stage ≢ Fresh
+  pub extent : extent now.kernel.setup ≡ extent_of deployed
+  pub waiting : AreLimited (extent_of deployed) now.kept
 
 -- who may call may still call once another actor was answered
 abbrev pub LeavesFree : ℕ → Core → Core → Type 0

@@ -11,14 +11,24 @@ use Rattle.sg_base.specs.Turn.{turn}
 use Rattle.sg_kernel.specs.declared.states.Stop.{Stop}
 use Rattle.sg_kernel.specs.declared.states.Stop.TheVariants as stop
 use Rattle.sg_kernel.specs.World.{Setup, Core, World, inbox_of, is_ready, is_ended}
-use Rattle.sg_kernel.specs.Calls.{Step, answered, told}
+use Rattle.sg_kernel.specs.Calls.{answered, told}
+use Rattle.sg_kernel.specs.Start.{first_core}
+use Rattle.sg_kernel.specs.Steps.{Step}
+use Rattle.sg_route.specs.Roads.{Roads}
 use Rattle.sg_kernel.specs.Passes.{pass_of}
-use Rattle.sg_kernel.specs.Known.{first_core}
 use Rattle.sg_script.specs.declared.fault.ScriptFault.{ScriptFault}
 use Rattle.sg_script.specs.declared.fault.ScriptFault.TheVariants as fault
 use Rattle.sg_script.specs.Stands.{one_more}
 use Rattle.sg_engine.specs.declared.ended.Ended.{Ended}
 use Rattle.sg_engine.specs.declared.ended.Ended.TheVariants as ended
+
+-- what a run is of: what is simulated, and the routes between hosts
+pub record Scene : Type 0 where
+  pub setup : Setup
+  pub roads : Roads
+
+abbrev pub scene : Roads → Setup → Scene
+scene roads setup = record { setup = setup; roads = roads }
 
 -- what the script answers to an Ask of an actor that so many of its Asks came before
 abbrev pub Answering : Type 0
@@ -47,6 +57,8 @@ and_then first next = and_then_by first.ended first next
 
 abbrev pub ended_by : Stop → Ended
 ended_by stop.Budget = ended.Budget
+ended_by (stop.NoRoute from to zone a b) = ended.NoRoute from to zone a b
+ended_by (stop.TooLong from to) = ended.TooLong from to
 ended_by stop.Deadlock = ended.Deadlock
 ended_by stop.Starved = ended.Starved
 
@@ -91,40 +103,38 @@ ask setup answers actor world =
 
 abbrev pub is_ask : Call → Bool
 is_ask call.Ask = true
-is_ask (call.Compute flops) = false
-is_ask (call.Sleep ns) = false
-is_ask call.Exit = false
+is_ask other = false
 
 -- the script answers an Ask, and the kernel any other call
-abbrev pub one_call : Setup → Answering → ℕ → Call → World → Progress
-one_call setup answers actor what world = if is_ask what then ask setup answers actor world else in_world world (answered setup world.core actor what)
+abbrev pub one_call : Scene → Answering → ℕ → Call → World → Progress
+one_call at answers actor what world = if is_ask what then ask at.setup answers actor world else in_world world (answered at.roads at.setup world.core actor what)
 
-abbrev pub if_call : Setup → Answering → ℕ → Option Call → World → Progress
-if_call setup answers actor None world = at_world None world
-if_call setup answers actor (Some what) world = one_call setup answers actor what world
+abbrev pub if_call : Scene → Answering → ℕ → Option Call → World → Progress
+if_call at answers actor None world = at_world None world
+if_call at answers actor (Some what) world = one_call at answers actor what world
 
 -- the calls are answered in rising id, from this actor on
-unfoldable pub calls_from : Setup → Answering → ℕ → List (Option Call) → World → Progress
-calls_from setup answers actor [] world = at_world None world
-calls_from setup answers actor (what ∷ rest) world = and_then (if_call setup answers actor what world) (calls_from setup answers (actor + 1) rest)
+unfoldable pub calls_from : Scene → Answering → ℕ → List (Option Call) → World → Progress
+calls_from at answers actor [] world = at_world None world
+calls_from at answers actor (what ∷ rest) world = and_then (if_call at answers actor what world) (calls_from at answers (actor + 1) rest)
 
 -- all ready actors take their turn on the answers that stand, and then their calls are answered
-abbrev pub round : Setup → Answering → World → Progress
-round setup answers world =
-    calls_from setup answers 1 (zip_with call_after world.minds (inboxes world.core)) (record world { minds = zip_with mind_after world.minds (inboxes world.core) })
+abbrev pub round : Scene → Answering → World → Progress
+round at answers world =
+    calls_from at answers 1 (zip_with call_after world.minds (inboxes world.core)) (record world { minds = zip_with mind_after world.minds (inboxes world.core) })
 
 -- ---- rounds and passes
-abbrev pub round_or_pass : Setup → Answering → World → Progress
-round_or_pass setup answers world =
-    if list_any is_ready world.core.actors then round setup answers world
-    else in_world world (pass_of setup world.core)
+abbrev pub round_or_pass : Scene → Answering → World → Progress
+round_or_pass at answers world =
+    if list_any is_ready world.core.actors then round at answers world
+    else in_world world (pass_of at.setup world.core)
 
 -- So many rounds and passes. Each has an event at least or ends the run, so that one more than the budget is enough.
-unfoldable pub run_from : ℕ → Setup → Answering → World → Progress
-run_from zero setup answers world = at_world (Some ended.Budget) world
-run_from (suc n) setup answers world =
+unfoldable pub run_from : ℕ → Scene → Answering → World → Progress
+run_from zero at answers world = at_world (Some ended.Budget) world
+run_from (suc n) at answers world =
     if list_all is_ended world.core.actors then at_world (Some ended.Completed) world
-    else and_then (round_or_pass setup answers world) (run_from n setup answers)
+    else and_then (round_or_pass at answers world) (run_from n at answers)
 
 -- ---- the whole run
 abbrev pub minds_from : ℕ → ℕ → List Mind
@@ -132,8 +142,8 @@ minds_from me zero = []
 minds_from me (suc n) = replay_mind me ∷ minds_from (me + 1) n
 
 -- at first all actors are ready with the answer Start
-abbrev pub first_world : ℕ → World
-first_world actors = record { minds = minds_from 1 actors; asks = λ _. 0; core = first_core actors }
+abbrev pub first_world : Setup → World
+first_world setup = record { minds = minds_from 1 (length setup.homes); asks = λ _. 0; core = first_core setup }
 
-abbrev pub run_of : Setup → Answering → Progress
-run_of setup answers = run_from (setup.budget + 1) setup answers (first_world (length setup.homes))
+abbrev pub run_of : Scene → Answering → Progress
+run_of at answers = run_from (at.setup.budget + 1) at answers (first_world at.setup)

@@ -1,10 +1,11 @@
 //! How a run ends.
 ghost use Rattle.std.specs.Prelude.{◌≡◌, ◌≢◌, false, Option, option_map};
 ghost use Rattle.sg_kernel.specs.declared.states.Stop.{Stop};
-ghost use Rattle.sg_kernel.specs.Calls.{result_of};
+ghost use Rattle.sg_kernel.specs.Steps.{result_of};
 ghost use Rattle.sg_engine.specs.Gains.{cuts};
 ghost use Rattle.sg_engine.specs.Run.{ended_by};
 
+use sg_base::{Child, PointId, ZoneId};
 use sg_kernel::Stop;
 use sg_script::LineFault;
 
@@ -19,6 +20,11 @@ pub enum Ended {
     Starved,
     /// An event was next, and the budget was used up.
     Budget,
+    /// A communication between these two hosts had no route: in this zone there is none from the one of its children
+    /// to the other.
+    NoRoute(PointId, PointId, ZoneId, Child, Child),
+    /// The route of a communication between these two hosts had more than 64 links.
+    TooLong(PointId, PointId),
     /// An Ask met the bad line of this number.
     Script(u64, LineFault),
     /// An Ask met the end of a script that could not be read further.
@@ -38,6 +44,8 @@ pub fn end_of(stopped: Result<(), Stop>) -> Option<Ended>
     match stopped {
         Ok(()) => None,
         Err(Stop::Budget) => Some(Ended::Budget),
+        Err(Stop::NoRoute(from, to, zone, a, b)) => Some(Ended::NoRoute(from, to, zone, a, b)),
+        Err(Stop::TooLong(from, to)) => Some(Ended::TooLong(from, to)),
         Err(Stop::Deadlock) => Some(Ended::Deadlock),
         Err(Stop::Starved) => Some(Ended::Starved),
     }

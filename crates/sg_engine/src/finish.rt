@@ -1,13 +1,15 @@
 //! The lines at the end of a run.
-ghost use Rattle.std.specs.Prelude.{◌≡◌, ◌≢◌, ◌<◌, ◌≤◌, ◌++◌, [], length, false};
+ghost use Rattle.std.specs.Prelude.{◌≡◌, ◌≢◌, ◌<◌, ◌≤◌, ◌++◌, ℕ, List, [], length, false, IfOk, string_bytes};
 ghost use Rattle.sg_edge.specs.Files.{PartView};
 ghost use Rattle.sg_engine.specs.Gains.{is_cut, Ends};
 ghost use Rattle.sg_engine.specs.Keeping.{IsKept};
 ghost use Rattle.sg_engine.specs.Output.{blocked_lines, last_lines, fault_line};
+ghost use Rattle.sg_kernel.specs.World.{extent};
+ghost use Rattle.sg_platform.specs.Deployment.{extent_of};
 ghost use Rattle.sg_trace.specs.Ending.{IsLastOf, ending_of};
 
 use crate::ended::Ended;
-use crate::faults::script_fault_line;
+use crate::faults::{no_route_line, script_fault_line, too_long_line};
 use crate::printing::{print_last, print_stuck};
 use crate::setup::Setup;
 use crate::simulation::Simulation;
@@ -42,6 +44,7 @@ fn tell_stuck<O: Sinks>(
 ) -> Ended
     requires last { IsLastOf setup.now.deployment last }
     requires number { length sim.old.kernel.core.actors ≡ length setup.now.deployment.actors }
+    requires extent { extent sim.old.kernel.setup ≡ extent_of setup.now.deployment }
     requires few { length sim.old.kernel.core.actors ≤ 65536 }
     requires empty { sim.old.buffer ≡ [] }
     requires how { is_cut how ≡ false }
@@ -72,6 +75,21 @@ fn tell_fault<O: Sinks>(line: &str, how: Ended, out: &mut O) -> Ended
     }
 }
 
+// Ends the run with a line on Err that took memory.
+fn tell_made<O: Sinks>(line: Result<String, Memory>, how: Ended, out: &mut O) -> Ended
+    requires how { is_cut how ≡ false }
+    requires sound { O.faults out.old ≡ 0 }
+    ensures ends { (want : List ℕ) → IfOk line (λ text. string_bytes text ≡ want) → Ends [] want how result (O.held out.old) (O.held out.new) }
+    ensures write { result ≡ Ended.WriteFault → 0 < O.faults out.new }
+    ensures sound { result ≢ Ended.WriteFault → O.faults out.new ≡ 0 }
+    ensures read { result ≡ Ended.ReadFault → how ≡ Ended.ReadFault }
+{
+    match line {
+        Ok(line) => tell_fault(line.as_str(), how, out),
+        Err(Memory) => Ended::Memory,
+    }
+}
+
 /// Writes what stands behind the trace lines of a run that ended so and wasn't cut off.
 pub fn finish<O: Sinks>(
     alloc: Global,
@@ -82,11 +100,12 @@ pub fn finish<O: Sinks>(
     out: &mut O,
 ) -> Ended
     requires number { length sim.old.kernel.core.actors ≡ length setup.now.deployment.actors }
+    requires extent { extent sim.old.kernel.setup ≡ extent_of setup.now.deployment }
     requires few { length sim.old.kernel.core.actors ≤ 65536 }
     requires empty { sim.old.buffer ≡ [] }
     requires how { is_cut how ≡ false }
     requires sound { O.faults out.old ≡ 0 }
-    ensures ends { Ends (last_lines setup.now.platform setup.now.deployment budget sim.old.kernel.core how) (fault_line how) how result (O.held out.old) (O.held out.new) }
+    ensures ends { Ends (last_lines setup.now.platform setup.now.deployment budget sim.old.kernel.core how) (fault_line setup.now.platform how) how result (O.held out.old) (O.held out.new) }
     ensures write { result ≡ Ended.WriteFault → 0 < O.faults out.new }
     ensures sound { result ≢ Ended.WriteFault → O.faults out.new ≡ 0 }
     ensures read { result ≡ Ended.ReadFault → how ≡ Ended.ReadFault }
@@ -97,10 +116,19 @@ pub fn finish<O: Sinks>(
         Ended::Deadlock => tell_stuck(setup, sim, Last::Deadlock(date), how, out),
         Ended::Starved => tell_stuck(setup, sim, Last::Starved(date), how, out),
         Ended::Budget => tell_last(setup, Last::Budget(budget, date), how, out),
-        Ended::Script(number, kind) => match script_fault_line(alloc, number, kind) {
-            Ok(line) => tell_fault(line.as_str(), how, out),
-            Err(Memory) => Ended::Memory,
-        },
+        Ended::Script(number, kind) => {
+            tell_made(script_fault_line(alloc, number, kind), how, out)
+        }
+        Ended::NoRoute(from, to, zone, a, b) => {
+            tell_made(
+                no_route_line(alloc, &setup.platform, from, to, zone, a, b),
+                how,
+                out,
+            )
+        }
+        Ended::TooLong(from, to) => {
+            tell_made(too_long_line(alloc, &setup.platform, from, to), how, out)
+        }
         Ended::ReadFault => tell_fault("cannot read the script\n", how, out),
         Ended::WriteFault | Ended::Memory => unreachable!(),
     }

@@ -1,7 +1,8 @@
 //! The lines on Out.
 ghost use Rattle.std.specs.Prelude.{◌≡◌, ◌≤◌, ◌++◌, [], length, OnOk};
 ghost use Rattle.sg_kernel.specs.Records.{AreRecords, IsRecord};
-ghost use Rattle.sg_kernel.specs.World.{IsActor, state_of};
+ghost use Rattle.sg_kernel.specs.World.{IsActor, extent, state_of};
+ghost use Rattle.sg_platform.specs.Deployment.{extent_of};
 ghost use Rattle.sg_trace.specs.Ending.{IsLastOf, ending_of};
 ghost use Rattle.sg_trace.specs.Line.{line_of};
 ghost use Rattle.sg_engine.specs.Gains.{Writes, Puts};
@@ -21,7 +22,7 @@ fn put_record<O: Sinks>(
     buffer: &mut Buffer,
     out: &mut O,
 ) -> Result<(), Failed>
-    requires answered { IsRecord (length setup.now.deployment.actors) answered.now }
+    requires answered { IsRecord (extent_of setup.now.deployment) answered.now }
     requires sound { O.faults out.old ≡ 0 }
     ensures { Puts (buffer.old ++ line_of answered.now setup.now.platform setup.now.deployment) buffer.new result (O.held out.old) (O.held out.new) (O.faults out.new) }
 {
@@ -36,7 +37,7 @@ pub fn print_records<O: Sinks>(
     buffer: &mut Buffer,
     out: &mut O,
 ) -> Result<(), Failed>
-    requires records { AreRecords (length setup.now.deployment.actors) records.now }
+    requires records { AreRecords (extent_of setup.now.deployment) records.now }
     requires empty { buffer.old ≡ [] }
     requires sound { O.faults out.old ≡ 0 }
     ensures writes { Writes (trace_of setup.now.platform setup.now.deployment records.now) result (O.held out.old) (O.held out.new) (O.faults out.new) }
@@ -89,6 +90,7 @@ fn put_blocked<O: Sinks>(
 ) -> Result<(), Failed>
     requires actor { IsActor kernel.now.core actor.0 }
     requires number { length kernel.now.core.actors ≡ length setup.now.deployment.actors }
+    requires extent { extent kernel.now.setup ≡ extent_of setup.now.deployment }
     requires sound { O.faults out.old ≡ 0 }
     ensures { Puts (buffer.old ++ blocked_line setup.now.platform setup.now.deployment actor.0 (state_of kernel.now.core actor.0)) buffer.new result (O.held out.old) (O.held out.new) (O.faults out.new) }
 {
@@ -106,6 +108,7 @@ fn put_all_blocked<O: Sinks>(
     out: &mut O,
 ) -> Result<(), Failed>
     requires number { length kernel.now.core.actors ≡ length setup.now.deployment.actors }
+    requires extent { extent kernel.now.setup ≡ extent_of setup.now.deployment }
     requires few { length kernel.now.core.actors ≤ 65536 }
     requires sound { O.faults out.old ≡ 0 }
     ensures { Puts (buffer.old ++ blocked_lines setup.now.platform setup.now.deployment 1 kernel.now.core.actors) buffer.new result (O.held out.old) (O.held out.new) (O.faults out.new) }
@@ -129,6 +132,7 @@ pub fn print_stuck<O: Sinks>(
 ) -> Result<(), Failed>
     requires last { IsLastOf setup.now.deployment last }
     requires number { length kernel.now.core.actors ≡ length setup.now.deployment.actors }
+    requires extent { extent kernel.now.setup ≡ extent_of setup.now.deployment }
     requires few { length kernel.now.core.actors ≤ 65536 }
     requires empty { buffer.old ≡ [] }
     requires sound { O.faults out.old ≡ 0 }

@@ -4,14 +4,15 @@ ghost use Rattle.sg_base.specs.Limits.{IsCall};
 ghost use Rattle.sg_base.specs.Mind as base;
 ghost use Rattle.sg_edge.specs.Files.{Only};
 ghost use Rattle.sg_edge.specs.declared.files.Stage.TheVariants.{Broken};
-ghost use Rattle.sg_kernel.specs.World.{World, MayCall};
+ghost use Rattle.sg_kernel.specs.World.{World, MayCall, extent};
+ghost use Rattle.sg_kernel.specs.Roads.{AreOver};
 ghost use Rattle.sg_script.specs.Known.{known_in};
 ghost use Rattle.sg_script.specs.Stands.{kept_of};
 ghost use Rattle.sg_engine.specs.declared.actor_call.ActorCall.{ActorCall};
 ghost use Rattle.sg_engine.specs.Gains.{cuts};
 ghost use Rattle.sg_engine.specs.Listed.{calls_of};
 ghost use Rattle.sg_engine.specs.Reached.{moment, Fits, LeavesFree, StandsFor, Reached, CutOff, ending};
-ghost use Rattle.sg_engine.specs.Run.{is_ask as is_ask_spec, ask, one_call};
+ghost use Rattle.sg_engine.specs.Run.{is_ask as is_ask_spec, ask, one_call, scene};
 
 use crate::actor_call::ActorCall;
 use crate::ended::{Ended, end_of};
@@ -19,6 +20,7 @@ use sg_base::{ActorId, Call, Memory};
 use sg_edge::{Files, Part};
 use sg_kernel::Kernel;
 use sg_platform::Deployment;
+use sg_route::Router;
 use sg_script::{Script, ScriptFault};
 
 // Answers an Ask: with the actor's next line, or by the end of the run.
@@ -31,11 +33,11 @@ fn answer_ask<F: Files>(
 ) -> Result<Option<Ended>, Memory>
     requires caller { MayCall kernel.old.core actor.0 }
     requires room { 0 < kernel.old.room }
-    requires fits { Fits (length deployment.now.actors) (moment (F.shows files.old Part.Script) (kept_of script.old) kernel.old) }
+    requires fits { Fits deployment.now (moment (F.shows files.old Part.Script) (kept_of script.old) kernel.old) }
     ensures step { (taken : List ℕ) (minds : List base.Mind) (world : World) → StandsFor (known_in deployment.now) taken minds (moment (F.shows files.old Part.Script) (kept_of script.old) kernel.old) world → MatchResult result
         (λ how. Reached (known_in deployment.now) (λ answers. ask kernel.old.setup answers actor.0 world) (ending how) taken minds (moment (F.shows files.old Part.Script) (kept_of script.old) kernel.old) (moment (F.shows files.new Part.Script) (kept_of script.new) kernel.new))
         (λ _. CutOff (F.shows files.old Part.Script) (F.shows files.new Part.Script)) }
-    ensures fits { Fits (length deployment.now.actors) (moment (F.shows files.new Part.Script) (kept_of script.new) kernel.new) }
+    ensures fits { Fits deployment.now (moment (F.shows files.new Part.Script) (kept_of script.new) kernel.new) }
     ensures uncut { IfOk result (λ how. cuts how ≡ false) }
     ensures read { result ≡ Ok (Some Ended.ReadFault) → (F.shows files.new Part.Script).stage ≡ Broken }
     ensures others { Only Part.Script (F.shows files.old) (F.shows files.new) }
@@ -59,7 +61,7 @@ fn is_ask(call: Call) -> bool
 {
     match call {
         Call::Ask => true,
-        Call::Compute(_) | Call::Sleep(_) | Call::Exit => false,
+        _ => false,
     }
 }
 
@@ -68,18 +70,20 @@ fn answer_one<F: Files>(
     kernel: &mut Kernel,
     script: &mut Script,
     deployment: &Deployment,
+    router: &Router,
     files: &mut F,
     actor: ActorId,
     call: Call,
 ) -> Result<Option<Ended>, Memory>
     requires caller { MayCall kernel.old.core actor.0 }
-    requires call { IsCall call }
+    requires call { IsCall (extent kernel.old.setup) call }
     requires room { 0 < kernel.old.room }
-    requires fits { Fits (length deployment.now.actors) (moment (F.shows files.old Part.Script) (kept_of script.old) kernel.old) }
+    requires roads { AreOver (length kernel.old.setup.capacities.links) router.now }
+    requires fits { Fits deployment.now (moment (F.shows files.old Part.Script) (kept_of script.old) kernel.old) }
     ensures step { (taken : List ℕ) (minds : List base.Mind) (world : World) → StandsFor (known_in deployment.now) taken minds (moment (F.shows files.old Part.Script) (kept_of script.old) kernel.old) world → MatchResult result
-        (λ how. Reached (known_in deployment.now) (λ answers. one_call kernel.old.setup answers actor.0 call world) (ending how) taken minds (moment (F.shows files.old Part.Script) (kept_of script.old) kernel.old) (moment (F.shows files.new Part.Script) (kept_of script.new) kernel.new))
+        (λ how. Reached (known_in deployment.now) (λ answers. one_call (scene router.now kernel.old.setup) answers actor.0 call world) (ending how) taken minds (moment (F.shows files.old Part.Script) (kept_of script.old) kernel.old) (moment (F.shows files.new Part.Script) (kept_of script.new) kernel.new))
         (λ _. CutOff (F.shows files.old Part.Script) (F.shows files.new Part.Script)) }
-    ensures fits { Fits (length deployment.now.actors) (moment (F.shows files.new Part.Script) (kept_of script.new) kernel.new) }
+    ensures fits { Fits deployment.now (moment (F.shows files.new Part.Script) (kept_of script.new) kernel.new) }
     ensures uncut { IfOk result (λ how. cuts how ≡ false) }
     ensures read { result ≡ Ok (Some Ended.ReadFault) → (F.shows files.new Part.Script).stage ≡ Broken }
     ensures others { Only Part.Script (F.shows files.old) (F.shows files.new) }
@@ -90,7 +94,7 @@ fn answer_one<F: Files>(
     if is_ask(call) {
         answer_ask(kernel, script, deployment, files, actor)
     } else {
-        Ok(end_of(kernel.answer(actor, call)))
+        Ok(end_of(kernel.answer(actor, call, router)))
     }
 }
 
@@ -99,24 +103,28 @@ pub fn answer_calls<F: Files>(
     kernel: &mut Kernel,
     script: &mut Script,
     deployment: &Deployment,
+    router: &Router,
     files: &mut F,
     calls: &[ActorCall],
 ) -> Result<Option<Ended>, Memory>
-    requires callers { All (λ (made : ActorCall). MayCall kernel.old.core made.actor.0 × IsCall made.call) calls.now }
+    requires callers { All (λ (made : ActorCall). MayCall kernel.old.core made.actor.0 × IsCall (extent kernel.old.setup) made.call) calls.now }
     requires rises { AllPairs (λ (a b : ActorCall). a.actor.0 < b.actor.0) calls.now }
     requires room { length calls.now ≤ kernel.old.room }
-    requires fits { Fits (length deployment.now.actors) (moment (F.shows files.old Part.Script) (kept_of script.old) kernel.old) }
+    requires roads { AreOver (length kernel.old.setup.capacities.links) router.now }
+    requires fits { Fits deployment.now (moment (F.shows files.old Part.Script) (kept_of script.old) kernel.old) }
     ensures step { (taken : List ℕ) (minds : List base.Mind) (world : World) → StandsFor (known_in deployment.now) taken minds (moment (F.shows files.old Part.Script) (kept_of script.old) kernel.old) world → MatchResult result
-        (λ how. Reached (known_in deployment.now) (λ answers. calls_of kernel.old.setup answers calls.now world) (ending how) taken minds (moment (F.shows files.old Part.Script) (kept_of script.old) kernel.old) (moment (F.shows files.new Part.Script) (kept_of script.new) kernel.new))
+        (λ how. Reached (known_in deployment.now) (λ answers. calls_of (scene router.now kernel.old.setup) answers calls.now world) (ending how) taken minds (moment (F.shows files.old Part.Script) (kept_of script.old) kernel.old) (moment (F.shows files.new Part.Script) (kept_of script.new) kernel.new))
         (λ _. CutOff (F.shows files.old Part.Script) (F.shows files.new Part.Script)) }
-    ensures fits { Fits (length deployment.now.actors) (moment (F.shows files.new Part.Script) (kept_of script.new) kernel.new) }
+    ensures fits { Fits deployment.now (moment (F.shows files.new Part.Script) (kept_of script.new) kernel.new) }
     ensures setup { kernel.new.setup ≡ kernel.old.setup }
     ensures uncut { IfOk result (λ how. cuts how ≡ false) }
     ensures read { result ≡ Ok (Some Ended.ReadFault) → (F.shows files.new Part.Script).stage ≡ Broken }
     ensures others { Only Part.Script (F.shows files.old) (F.shows files.new) }
 {
     for made in calls {
-        match answer_one(kernel, script, deployment, files, made.actor, made.call) {
+        match answer_one(
+            kernel, script, deployment, router, files, made.actor, made.call,
+        ) {
             Ok(None) => {}
             Ok(Some(how)) => return Ok(Some(how)),
             Err(Memory) => return Err(Memory),

@@ -6,7 +6,7 @@ ghost use Rattle.sg_edge.specs.declared.files.Stage.TheVariants.{Fresh, Broken};
 ghost use Rattle.sg_script.specs.Known.{known_in};
 ghost use Rattle.sg_engine.specs.Gains.{is_cut as is_cut_spec, Ends, IsBroken};
 ghost use Rattle.sg_engine.specs.Keeping.{IsKept, IsFirst};
-ghost use Rattle.sg_engine.specs.Output.{trace_of, kernel_setup, run_output};
+ghost use Rattle.sg_engine.specs.Output.{trace_of, scene_of, run_output};
 ghost use Rattle.sg_engine.specs.Run.{run_of};
 ghost use Rattle.sg_engine.specs.Simulated.{CutsOff, IsOver};
 
@@ -34,9 +34,9 @@ fn simulate<F: Files, O: Sinks, L: Ledger>(
     requires budget { budget ≤ 1000000000 }
     requires sound { O.faults out.old ≡ 0 }
     ensures run { MatchBool (is_cut_spec result)
-        (CutsOff (known_in setup.now.deployment) (trace_of setup.now.platform setup.now.deployment) (run_of (kernel_setup setup.now.platform setup.now.deployment budget)) [] (F.shows files.old Part.Script) (F.shows files.new Part.Script) (O.held out.old Stream.Out) (O.held out.new Stream.Out))
-        (IsOver (known_in setup.now.deployment) (trace_of setup.now.platform setup.now.deployment) (run_of (kernel_setup setup.now.platform setup.now.deployment budget)) result sim.new.kernel.core (F.shows files.old Part.Script) (F.shows files.new Part.Script) (O.held out.old Stream.Out) (O.held out.new Stream.Out)) }
-    ensures kept { MatchBool (is_cut_spec result) ⊤ (IsKept (length setup.now.deployment.actors) (F.shows files.new Part.Script) sim.new) }
+        (CutsOff (known_in setup.now.deployment) (trace_of setup.now.platform setup.now.deployment) (run_of (scene_of setup.now.platform setup.now.deployment budget)) [] (F.shows files.old Part.Script) (F.shows files.new Part.Script) (O.held out.old Stream.Out) (O.held out.new Stream.Out))
+        (IsOver (known_in setup.now.deployment) (trace_of setup.now.platform setup.now.deployment) (run_of (scene_of setup.now.platform setup.now.deployment budget)) result sim.new.kernel.core (F.shows files.old Part.Script) (F.shows files.new Part.Script) (O.held out.old Stream.Out) (O.held out.new Stream.Out)) }
+    ensures kept { MatchBool (is_cut_spec result) ⊤ (IsKept setup.now.deployment (F.shows files.new Part.Script) sim.new) }
     ensures err { O.held out.new Stream.Err ≡ O.held out.old Stream.Err }
     ensures write { result ≡ Ended.WriteFault → 0 < O.faults out.new }
     ensures sound { result ≢ Ended.WriteFault → O.faults out.new ≡ 0 }
@@ -65,6 +65,8 @@ fn is_cut(how: Ended) -> bool
         | Ended::Starved
         | Ended::Budget
         | Ended::Script(_, _)
+        | Ended::NoRoute(..)
+        | Ended::TooLong(..)
         | Ended::ReadFault => false,
     }
 }

@@ -1,12 +1,38 @@
 //! What a run is of.
+ghost use Rattle.std.specs.Prelude.{◌≡◌, length};
+ghost use Rattle.sg_kernel.specs.Roads.{AreOver};
+ghost use Rattle.sg_kernel.specs.Start.{link_caps};
 ghost use Rattle.sg_platform.specs.Deployment.{IsDeployedOn};
+ghost use Rattle.sg_route.specs.Roads.{roads_of};
 
 use sg_platform::{Deployment, PlatformText};
+use sg_route::Router;
+use sg_route_laws::routes_are_good;
 
-/// A platform, and the actors that are deployed on it.
+/// A platform, the actors that are deployed on it, and the routes between its hosts.
 #[derive(Drop)]
 pub struct Setup {
     pub platform: PlatformText,
     pub deployment: Deployment,
+    pub router: Router,
     ghost deployed: { IsDeployedOn platform deployment },
+    ghost roads: { router ≡ roads_of platform },
+    ghost over: { AreOver (length (link_caps platform.links)) router },
+}
+
+impl Setup {
+    /// The setup of these three, where the router has the routes of the platform.
+    pub fn new(platform: PlatformText, deployment: Deployment, router: Router) -> Setup
+        requires deployed { IsDeployedOn platform deployment }
+        requires roads { router ≡ roads_of platform }
+        ensures platform { result.platform ≡ platform }
+        ensures deployment { result.deployment ≡ deployment }
+    {
+        routes_are_good(&platform);
+        Setup {
+            platform,
+            deployment,
+            router,
+        }
+    }
 }

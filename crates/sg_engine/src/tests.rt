@@ -1,11 +1,14 @@
 //! Runs with small budgets.
-ghost use Rattle.std.specs.Prelude.{◌≡◌, ◌≢◌, ◌<◌, ◌≤◌};
+ghost use Rattle.std.specs.Prelude.{◌≡◌, ◌≢◌, ◌<◌, ◌≤◌, IfOk};
 ghost use Rattle.sg_edge.specs.declared.files.Stage.TheVariants.{Fresh};
+ghost use Rattle.sg_route.specs.Roads.{roads_of};
 
 use crate::{Ended, Setup, run};
 use sg_base::{Memory, Steps};
 use sg_edge::{Files, MemFiles, MemSinks, Part, Sinks, Stream};
-use sg_platform::{read_deployment, read_platform};
+use sg_platform::{PlatformText, read_deployment, read_platform};
+use sg_route::Router;
+use sg_zones::Zones;
 use std::alloc::Global;
 use std::marker::Brand;
 use std::sync::ledger::{Blank, Ledger};
@@ -21,17 +24,25 @@ const FIRST: &str = "[[actor]]\nname = 'p0'\nhost = 'h1'\nfunction = 'replay'\n"
 
 const SECOND: &str = "[[actor]]\nname = 'p1'\nhost = 'h1'\nfunction = 'replay'\n";
 
+/// The routes of a platform.
+fn router(alloc: Global, platform: &PlatformText) -> Result<Router, Memory>
+    ensures { IfOk result (λ router. router ≡ roads_of platform.now) }
+{
+    match Zones::build(alloc, platform) {
+        Ok(zones) => Router::build(alloc, platform, &zones),
+        Err(_) => Err(Memory),
+    }
+}
+
 /// A setup of these actors.
 fn setup(alloc: Global, deployment: &str) -> Result<Setup, Memory> {
     let platform = match read_platform(alloc, PLATFORM.as_bytes()) {
         Ok(platform) => platform,
         Err(_) => return Err(Memory),
     };
+    let router = router(alloc, &platform)?;
     match read_deployment(alloc, deployment.as_bytes(), &platform) {
-        Ok(deployment) => Ok(Setup {
-            platform,
-            deployment,
-        }),
+        Ok(deployment) => Ok(Setup::new(platform, deployment, router)),
         Err(_) => Err(Memory),
     }
 }

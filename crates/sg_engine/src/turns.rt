@@ -1,6 +1,8 @@
 //! The first half of a round: the turns.
 ghost use Rattle.std.specs.Prelude.{◌≡◌, ◌<◌, ◌≤◌, ◌++◌, [], length, map, IfSome, All, vec_capacity};
-ghost use Rattle.sg_base.specs.Limits.{IsCall, IsAnswer};
+ghost use Rattle.sg_base.specs.Limits.{Extent, IsCall, IsAnswer};
+ghost use Rattle.sg_base.specs.Mind.{IsMind};
+ghost use Rattle.sg_kernel.specs.World.{extent};
 ghost use Rattle.sg_engine.specs.declared.actor_call.ActorCall.{ActorCall};
 ghost use Rattle.sg_engine.specs.Listed.{listed, listed_one};
 ghost use Rattle.sg_engine.specs.Minds.{shown};
@@ -8,16 +10,17 @@ ghost use Rattle.sg_engine.specs.Run.{zip_with, mind_after, call_after, inboxes}
 
 use crate::actor_call::ActorCall;
 use crate::minds::Mind;
-use sg_base::{ActorId, Answer, Call};
+use sg_base::{ActorId, Answer, Call, turns_keep_limits};
 use sg_kernel::Kernel;
 
 // The turn of an actor that has an answer. An actor without one stays as it is.
 fn take_turn(mind: &mut Mind, answer: Option<Answer>) -> Option<Call>
-    requires { IfSome answer IsAnswer }
     ensures mind { shown mind.new ≡ mind_after (shown mind.old) answer }
     ensures call { result ≡ call_after (shown mind.old) answer }
-    ensures limited { IfSome result IsCall }
+    ensures keeps { (extent : Extent) → IsMind extent (shown mind.old) → IsMind extent (shown mind.new) }
+    ensures limited { (extent : Extent) → IsMind extent (shown mind.old) → IfSome answer (IsAnswer extent) → IfSome result (IsCall extent) }
 {
+    turns_keep_limits();
     match answer {
         Some(answer) => Some(mind.turn(answer)),
         None => None,
@@ -40,10 +43,12 @@ fn keep(calls: &mut Vec<ActorCall>, actor: ActorId, call: Option<Call>)
 /// id. Only who is in the kernel's queue is asked.
 pub fn take_turns(kernel: &Kernel, minds: &mut [Mind], calls: &mut Vec<ActorCall>)
     requires minds { length minds.old ≡ length kernel.now.core.actors }
+    requires minds_are { All (λ mind. IsMind (extent kernel.now.setup) (shown mind)) minds.old }
     requires room { length minds.old ≤ vec_capacity calls.old }
+    ensures minds_are { All (λ mind. IsMind (extent kernel.now.setup) (shown mind)) minds.new }
     ensures minds { map shown minds.new ≡ zip_with mind_after (map shown minds.old) (inboxes kernel.now.core) }
     ensures calls { calls.new.items ≡ listed 1 (zip_with call_after (map shown minds.old) (inboxes kernel.now.core)) }
-    ensures limited { All (λ (made : ActorCall). IsCall made.call) calls.new.items }
+    ensures limited { All (λ (made : ActorCall). IsCall (extent kernel.now.setup) made.call) calls.new.items }
     ensures room { vec_capacity calls.new ≡ vec_capacity calls.old }
 {
     calls.clear();

@@ -47,6 +47,7 @@ prints_nothing want S.Script old new p = absurd (let e : S.Memory ≡ S.Script =
 prints_nothing want S.Deadlock old new p = absurd (let e : S.Memory ≡ S.Deadlock = p.0 in cc)
 prints_nothing want S.Starved old new p = absurd (let e : S.Memory ≡ S.Starved = p.0 in cc)
 prints_nothing want S.Budget old new p = absurd (let e : S.Memory ≡ S.Budget = p.0 in cc)
+prints_nothing want S.Route old new p = absurd (let e : S.Memory ≡ S.Route = p.0 in cc)
 prints_nothing want S.ReadFault old new p = absurd (let e : S.Memory ≡ S.ReadFault = p.0 in cc)
 
 -- a refusal is told as the definition has it, or memory was wanting
@@ -72,6 +73,8 @@ ended_prints run E.Deadlock old new ends = (ap status_of ends.0, ends.1)
 ended_prints run E.Starved old new ends = (ap status_of ends.0, ends.1)
 ended_prints run E.Budget old new ends = (ap status_of ends.0, ends.1)
 ended_prints run (E.Script number kind) old new ends = (ap status_of ends.0, ends.1)
+ended_prints run (E.NoRoute from to zone a b) old new ends = (ap status_of ends.0, ends.1)
+ended_prints run (E.TooLong from to) old new ends = (ap status_of ends.0, ends.1)
 ended_prints run E.ReadFault old new ends = (ap status_of ends.0, ends.1)
 ended_prints run E.WriteFault old new ends = ends
 ended_prints run E.Memory old new ends = ends

@@ -5,9 +5,12 @@ mod parts;
 mod real_files;
 mod real_sinks;
 mod refusal;
+mod routed;
 mod telling;
 #[cfg(test)]
 mod tests;
+#[cfg(test)]
+mod tests_runs;
 mod top;
 mod words;
 

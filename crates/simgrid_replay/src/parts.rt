@@ -4,17 +4,16 @@ ghost use Rattle.sg_edge.specs.declared.files.Stage.TheVariants.{Fresh, Broken};
 ghost use Rattle.sg_edge.specs.Files.{Only, KeepsTelling};
 ghost use Rattle.sg_edge.specs.Given.{Source, Gives};
 ghost use Rattle.sg_platform.specs.Deployment.{IsDeployedOn};
-ghost use Rattle.simgrid_replay.specs.Parts.{platform_given, deployment_given, or_platform_fault, or_zone_fault, or_deployment_fault, IsReadFault, Breaks};
+ghost use Rattle.simgrid_replay.specs.Parts.{platform_given, deployment_given, or_platform_fault, or_deployment_fault, IsReadFault, Breaks};
 ghost use Rattle.sg_platform.specs.PlatformOf.{platform_of as platform_of_text};
 ghost use Rattle.sg_platform.specs.DeploymentOf.{deployment_of as deployment_of_text};
-ghost use Rattle.sg_zones.specs.Faults.{zones_of};
 
 use crate::refusal::Refusal;
+use crate::routed::Routed;
 use sg_edge::{Files, Loaded, Part, load};
 use sg_platform::{
     Deployment, DeploymentFault, Place, PlatformFault, PlatformText, read_deployment, read_platform,
 };
-use sg_zones::{ZoneFault, Zones};
 use std::alloc::Global;
 
 /// The greatest platform or deployment, in bytes.
@@ -27,22 +26,11 @@ const WHOLE_TEXT: Place = Place {
     key: 0,
 };
 
-/// The platform, where its zones have no fault.
-fn with_zones(alloc: Global, platform: PlatformText) -> Result<PlatformText, Refusal>
-    ensures { result ≢ Err Refusal.Memory → result ≡ or_zone_fault platform (zones_of platform) }
-{
-    match Zones::build(alloc, &platform) {
-        Ok(_) => Ok(platform),
-        Err(ZoneFault::Memory) => Err(Refusal::Memory),
-        Err(fault) => Err(Refusal::Zones(fault)),
-    }
-}
-
-fn platform_of(alloc: Global, text: &[u8]) -> Result<PlatformText, Refusal>
+fn platform_of(alloc: Global, text: &[u8]) -> Result<Routed, Refusal>
     ensures { result ≢ Err Refusal.Memory → result ≡ or_platform_fault (platform_of_text text.now) }
 {
     match read_platform(alloc, text) {
-        Ok(platform) => with_zones(alloc, platform),
+        Ok(platform) => Routed::new(alloc, platform),
         Err(PlatformFault::Memory) => Err(Refusal::Memory),
         Err(fault) => Err(Refusal::Platform(fault)),
     }
@@ -59,12 +47,12 @@ fn deployment_of(alloc: Global, text: &[u8], platform: &PlatformText) -> Result<
     }
 }
 
-/// The platform.
+/// The platform, with its routes.
 pub fn load_platform<F: Files>(
     alloc: Global,
     files: &mut F,
     name: &str,
-) -> Result<PlatformText, Refusal>
+) -> Result<Routed, Refusal>
     requires { (F.shows files.old Part.Platform).stage ≡ Fresh }
     ensures given { (source : Source) → Gives (F.shows files.old Part.Platform) (F.shows files.new Part.Platform) source → result ≢ Err Refusal.Memory → result ≡ platform_given source }
     ensures cause { IfErr result (λ why. IsReadFault why → Breaks (F.shows files.old Part.Platform) (F.shows files.new Part.Platform)) }

@@ -61,6 +61,7 @@ pub fn status(ended: Ended) -> Status
         Ended::Starved => Status::Starved,
         Ended::Budget => Status::Budget,
         Ended::Script(_, _) => Status::Script,
+        Ended::NoRoute(..) | Ended::TooLong(..) => Status::Route,
         Ended::ReadFault => Status::ReadFault,
         Ended::WriteFault => Status::WriteFault,
         Ended::Memory => Status::Memory,

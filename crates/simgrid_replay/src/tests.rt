@@ -92,7 +92,7 @@ fn call(
 }
 
 /// The same of a replay.
-fn replay(
+pub fn replay(
     alloc: Global,
     texts: (&str, &str, &[u8]),
     calls: &[u64],

@@ -11,12 +11,13 @@ ghost use Rattle.simgrid_replay.specs.Parts.{platform_given, deployment_given};
 ghost use Rattle.simgrid_replay.specs.Words.{AsksReplay};
 
 use crate::parts::{load_deployment, load_platform};
+use crate::routed::Routed;
 use crate::telling::{refuse, say, status};
 use crate::words::{USAGE, names};
 use sg_base::{Status, Steps};
 use sg_edge::{Files, Part, Sinks};
-use sg_engine::{Setup, run};
-use sg_platform::{Deployment, PlatformText};
+use sg_engine::run;
+use sg_platform::Deployment;
 use std::alloc::Global;
 use std::sync::ledger::Ledger;
 
@@ -26,7 +27,7 @@ const BUDGET: u64 = 1_000_000;
 // Begins the script and runs it. A script that can't be begun is told by the Ask that needs it.
 fn replay<F: Files, O: Sinks, L: Ledger>(
     alloc: Global,
-    platform: PlatformText,
+    platform: Routed,
     deployment: Deployment,
     script: &str,
     files: &mut F,
@@ -44,17 +45,14 @@ fn replay<F: Files, O: Sinks, L: Ledger>(
     ensures others { Only Part.Script (F.shows files.old) (F.shows files.new) }
 {
     let _ = files.begin(Part::Script, script);
-    let setup = Setup {
-        platform,
-        deployment,
-    };
+    let setup = platform.with(deployment);
     status(run(alloc, &setup, files, BUDGET, out, steps))
 }
 
 // Reads the deployment, and goes on.
 fn deploy<F: Files, O: Sinks, L: Ledger>(
     alloc: Global,
-    platform: PlatformText,
+    platform: Routed,
     deployment: &str,
     script: &str,
     files: &mut F,
@@ -74,7 +72,7 @@ fn deploy<F: Files, O: Sinks, L: Ledger>(
     ensures refused_first { (d : Source) → Gives (F.shows files.old Part.Deployment) (F.shows files.new Part.Deployment) d → IsErr (deployment_given platform d) → F.shows files.new Part.Script ≡ F.shows files.old Part.Script }
     ensures platform { F.shows files.new Part.Platform ≡ F.shows files.old Part.Platform }
 {
-    match load_deployment(alloc, files, deployment, &platform) {
+    match load_deployment(alloc, files, deployment, platform.platform()) {
         Ok(deployment) => replay(alloc, platform, deployment, script, files, out, steps),
         Err(why) => refuse(alloc, why, out),
     }

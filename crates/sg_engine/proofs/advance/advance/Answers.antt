@@ -1,4 +1,4 @@
-use Rattle.std.proofs.Common.{◌≡◌, ◌∙◌, sym, ap, subst, List, [], map}
+use Rattle.std.proofs.Common.{◌≡◌, ◌∙◌, sym, ap, subst, List, [], map, length}
 use Rattle.std.specs.Vec.{with_items}
 use Rattle.std.proofs.lemmas.List.{with_items_is}
 use Rattle.sg_base.specs.declared.trace_record.Record.{Record}
@@ -7,6 +7,7 @@ use Rattle.sg_edge.specs.declared.files.Part.TheVariants.{Script}
 use Rattle.sg_edge.specs.declared.sinks.Stream.TheVariants.{Out}
 use Rattle.sg_edge.specs.Sinks.{gain, GainsFront}
 use Rattle.sg_kernel.specs.Known.{Known}
+use Rattle.sg_kernel.specs.Roads.{AreOver}
 use Rattle.sg_kernel.specs.World.{Setup}
 use Rattle.sg_script.specs.Known.{known_in}
 use Rattle.sg_script.specs.Stands.{kept_of}
@@ -14,9 +15,14 @@ use Rattle.sg_script.proofs.Chains.{reads_none}
 use Rattle.sg_engine.specs.Minds.{shown}
 use Rattle.sg_engine.specs.Output.{trace_of}
 use Rattle.sg_engine.specs.Reached.{moment, Reached, ending}
-use Rattle.sg_engine.specs.Run.{round_or_pass}
+use Rattle.sg_engine.specs.Run.{scene, round_or_pass}
 use Rattle.sg_engine.proofs.Simulating.{advances, cuts_off_at, cuts_off_by, part_is, uncut_write}
 use Rattle.sg_engine.proofs.advance.advance.Goals as goal
+
+pub round_or_pass-requires-clause-roads : goal.round_or_pass-requires-clause-roads
+round_or_pass-requires-clause-roads g c =
+    let setup = ap (λ (k : Known). k.setup) c.in-Ok.ensures.kept in
+    subst (λ (s : Setup). AreOver (length s.capacities.links) c.args.setup.now.router) (sym setup) c.requires.roads
 
 pub returns-in-Err-clause-part : goal.returns-in-Err-clause-part
 returns-in-Err-clause-part g c = λ taken world stands.
@@ -41,14 +47,14 @@ returns-in-Err-print_records-clause-part g c = λ taken world stands.
     let kept' = kept_of c.round_or_pass.new.script in
     let same : mid ≡ record old { room = mid.room } = c.in-Ok.ensures.kept in
     let minds = map shown c.round_or_pass.new.minds in
-    let reached : Reached names (λ answers. round_or_pass mid.setup answers world) (ending c.in-Ok-round_or_pass.how) taken minds (moment part kept mid) (moment part' kept' new) =
+    let reached : Reached names (λ answers. round_or_pass (scene c.args.setup.now.router mid.setup) answers world) (ending c.in-Ok-round_or_pass.how) taken minds (moment part kept mid) (moment part' kept' new) =
     c.in-Ok-round_or_pass.ensures.step taken world (record { script = stands.script; core = ap (λ (k : Known). k.core) same ∙ stands.core; minds = ap (map shown) c.deref_mut.ensures.value ∙ stands.minds }) in
-    let here : Reached names (λ answers. round_or_pass old.setup answers world) (ending c.in-Ok-round_or_pass.how) taken minds (moment part kept mid) (moment part' kept' new) =
-    subst (λ (s : Setup). Reached names (λ answers. round_or_pass s answers world) (ending c.in-Ok-round_or_pass.how) taken minds (moment part kept mid) (moment part' kept' new)) (ap (λ (k : Known). k.setup) same) reached in
+    let here : Reached names (λ answers. round_or_pass (scene c.args.setup.now.router old.setup) answers world) (ending c.in-Ok-round_or_pass.how) taken minds (moment part kept mid) (moment part' kept' new) =
+    subst (λ (s : Setup). Reached names (λ answers. round_or_pass (scene c.args.setup.now.router s) answers world) (ending c.in-Ok-round_or_pass.how) taken minds (moment part kept mid) (moment part' kept' new)) (ap (λ (k : Known). k.setup) same) reached in
     let before = g.O.Sinks.held c.args.out.now Out in
     let after = g.O.Sinks.held c.print_records.new.out Out in
     let front : GainsFront (trace new.records) before after = subst (λ (l : List Record). GainsFront (trace l) before after) c.records.ensures.are c.in-Err-print_records.ensures.writes.front in
-    cuts_off_at names trace (λ answers. round_or_pass old.setup answers world) c.in-Ok-round_or_pass.how taken minds part part' kept kept' mid new before after here (ap (λ (k : Known). k.records) same ∙ c.requires.kept.cleared) front
+    cuts_off_at names trace (λ answers. round_or_pass (scene c.args.setup.now.router old.setup) answers world) c.in-Ok-round_or_pass.how taken minds part part' kept kept' mid new before after here (ap (λ (k : Known). k.records) same ∙ c.requires.kept.cleared) front
 
 pub returns-clause-part : goal.returns-clause-part
 returns-clause-part g c = λ taken world stands.
@@ -66,16 +72,16 @@ returns-clause-part g c = λ taken world stands.
     let same : mid ≡ record old { room = mid.room } = c.in-Ok.ensures.kept in
     let written = with_items_is c.args.sim.now.minds c.round_or_pass.new.minds (c.round_or_pass.auto.minds ∙ c.deref_mut.ensures.len) in
     let minds = map shown c.round_or_pass.new.minds in
-    let reached : Reached names (λ answers. round_or_pass mid.setup answers world) (ending how) taken minds (moment part kept mid) (moment part' kept' new) =
+    let reached : Reached names (λ answers. round_or_pass (scene c.args.setup.now.router mid.setup) answers world) (ending how) taken minds (moment part kept mid) (moment part' kept' new) =
     c.in-Ok-round_or_pass.ensures.step taken world (record { script = stands.script; core = ap (λ (k : Known). k.core) same ∙ stands.core; minds = ap (map shown) c.deref_mut.ensures.value ∙ stands.minds }) in
-    let here : Reached names (λ answers. round_or_pass old.setup answers world) (ending how) taken minds (moment part kept mid) (moment part' kept' new) =
-    subst (λ (s : Setup). Reached names (λ answers. round_or_pass s answers world) (ending how) taken minds (moment part kept mid) (moment part' kept' new)) (ap (λ (k : Known). k.setup) same) reached in
-    let at : Reached names (λ answers. round_or_pass old.setup answers world) (ending how) taken (map shown (with_items c.args.sim.now.minds c.round_or_pass.new.minds).items) (moment part kept mid) (moment part' kept' new) =
-    subst (λ (m : List Mind). Reached names (λ answers. round_or_pass old.setup answers world) (ending how) taken m (moment part kept mid) (moment part' kept' new)) (sym (ap (map shown) written)) here in
+    let here : Reached names (λ answers. round_or_pass (scene c.args.setup.now.router old.setup) answers world) (ending how) taken minds (moment part kept mid) (moment part' kept' new) =
+    subst (λ (s : Setup). Reached names (λ answers. round_or_pass (scene c.args.setup.now.router s) answers world) (ending how) taken minds (moment part kept mid) (moment part' kept' new)) (ap (λ (k : Known). k.setup) same) reached in
+    let at : Reached names (λ answers. round_or_pass (scene c.args.setup.now.router old.setup) answers world) (ending how) taken (map shown (with_items c.args.sim.now.minds c.round_or_pass.new.minds).items) (moment part kept mid) (moment part' kept' new) =
+    subst (λ (m : List Mind). Reached names (λ answers. round_or_pass (scene c.args.setup.now.router old.setup) answers world) (ending how) taken m (moment part kept mid) (moment part' kept' new)) (sym (ap (map shown) written)) here in
     let before = g.O.Sinks.held c.args.out.now Out in
     let after = g.O.Sinks.held c.print_records.new.out Out in
     part_is names trace _ how taken _ _ _ before after c.in-Ok-round_or_pass.ensures.uncut
-    (advances names trace (λ answers. round_or_pass old.setup answers world) how taken (map shown (with_items c.args.sim.now.minds c.round_or_pass.new.minds).items) part part' kept kept' old mid new before after at
+    (advances names trace (λ answers. round_or_pass (scene c.args.setup.now.router old.setup) answers world) how taken (map shown (with_items c.args.sim.now.minds c.round_or_pass.new.minds).items) part part' kept kept' old mid new before after at
     (ap (λ (k : Known). k.records) same ∙ c.requires.kept.cleared)
     c.requires.kept.cleared
     (ap (λ (k : Known). k.setup) same)

@@ -1,5 +1,8 @@
-use Rattle.sg_engine.proofs.PutLines.{put_broke, put_put, put_writes}
+use Rattle.sg_engine.proofs.PutLines.{first_broke, put_broke, put_put, put_writes}
 use Rattle.sg_engine.proofs.printing.print_stuck.Goals as goal
+
+pub returns-in-Err : goal.returns-in-Err
+returns-in-Err g c = first_broke c.args.buffer.now _ _ _ _ _ c.requires.empty c.in-Err.ensures
 
 pub returns-in-Err-put_all_blocked : goal.returns-in-Err-put_all_blocked
 returns-in-Err-put_all_blocked g c = put_broke c.args.buffer.now _ _ _ _ _ _ _ _ c.requires.empty c.in-Ok.ensures c.in-Err-put_all_blocked.ensures

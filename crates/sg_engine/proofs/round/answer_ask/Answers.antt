@@ -1,5 +1,4 @@
-use Rattle.std.proofs.Common.{◌∙◌, sym, ap}
-use Rattle.sg_kernel.specs.Known.{Known}
+use Rattle.std.proofs.Common.{◌∙◌, sym}
 use Rattle.sg_script.specs.Stands.{IsCut}
 use Rattle.sg_engine.proofs.Calls.{used_up, asked_to, told_to}
 use Rattle.sg_engine.proofs.round.answer_ask.Goals as goal
@@ -10,10 +9,7 @@ returns-then-is_used_up-clause-step g c = λ taken minds world stands.
 
 pub returns-in-Ok-clause-step : goal.returns-in-Ok-clause-step
 returns-in-Ok-clause-step g c = λ taken minds world stands.
-    told_to _ taken minds _ _ _ _ c.args.kernel.now c.tell.new.self world c.args.actor.0 c.in-Ok.action c.end_of.result stands (sym c.is_used_up.ensures ∙ c.if-is_used_up.false) (c.in-Ok.ensures.asked taken world.asks stands.script)
-    (ap (λ (k : Known). k.core) c.tell.ensures.step)
-    (ap (λ (k : Known). k.records) c.tell.ensures.step)
-    (ap (λ (k : Known). k.setup) c.tell.ensures.step)
+    told_to _ taken minds _ _ _ _ c.args.kernel.now c.tell.new.self _ world c.args.actor.0 c.in-Ok.action c.end_of.result stands (sym c.is_used_up.ensures ∙ c.if-is_used_up.false) (c.in-Ok.ensures.asked taken world.asks stands.script) c.tell.ensures.step
     (c.end_of.ensures.is _ c.tell.ensures.result)
 
 pub returns-in-Err-Line-clause-step : goal.returns-in-Err-Line-clause-step

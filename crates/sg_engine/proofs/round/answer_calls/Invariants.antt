@@ -8,6 +8,7 @@ use Rattle.sg_script.specs.Stands.{kept_of}
 use Rattle.sg_engine.specs.declared.actor_call.ActorCall.{ActorCall}
 use Rattle.sg_engine.specs.Listed.{calls_of}
 use Rattle.sg_engine.specs.Reached.{moment, Fits, StandsFor, Reached}
+use Rattle.sg_engine.specs.Run.{scene}
 use Rattle.sg_engine.proofs.Calls.{rest_from}
 use Rattle.sg_engine.proofs.round.answer_calls.Given as goal
 
@@ -17,8 +18,8 @@ invariant-loop-made g l =
     let now = moment (g.F.Files.shows l.files Script) (kept_of l.script) l.kernel in
     record {
       reached : (taken : List ℕ) (minds : List Mind) (world : World) → StandsFor (known_in l.deployment) taken minds first world →
-          Reached (known_in l.deployment) (λ answers. calls_of l.fn.kernel.setup answers l.calls world) (rest_from l.fn.kernel.setup l.calls l.made-index) taken minds first now;
-      fits : Fits (length l.deployment.actors) now;
+          Reached (known_in l.deployment) (λ answers. calls_of (scene l.router l.fn.kernel.setup) answers l.calls world) (rest_from (scene l.router l.fn.kernel.setup) l.calls l.made-index) taken minds first now;
+      fits : Fits l.deployment now;
       others : Only Script (g.F.Files.shows l.fn.files) (g.F.Files.shows l.files);
       setup : l.kernel.setup ≡ l.fn.kernel.setup;
       room : length l.calls ≤ l.kernel.room + l.made-index;

@@ -1,8 +1,10 @@
 use Rattle.std.proofs.Common.{◌≡◌, ◌+◌, ◌-◌, ◌<◌, ◌≤◌, ◌++◌, ◌∙◌, ℕ, None, length, map, get_or, take, drop, sym, ap, refl, arith}
 use Rattle.std.proofs.lemmas.List.{length-map}
+use Rattle.std.proofs.lemmas.List.Elements.{All-set}
 use Rattle.std.proofs.Math.ListN.{get_or-map}
 use Rattle.sg_kernel.specs.declared.states.State.TheVariants.{Ended}
-use Rattle.sg_kernel.specs.World.{inbox_of}
+use Rattle.sg_base.specs.Mind.{IsMind}
+use Rattle.sg_kernel.specs.World.{inbox_of, extent}
 use Rattle.sg_engine.specs.Listed.{listed}
 use Rattle.sg_engine.specs.Minds.{shown}
 use Rattle.sg_engine.specs.Run.{zip_with, mind_after, call_after, inboxes}
@@ -15,6 +17,7 @@ unfolding last_id listed
 loop-actor-init c = record {
   minds = refl;
   calls = c.clear.ensures.items;
+  minds_are = c.requires.minds_are;
   limited = λ k d within. absurd (omega (arith, within, ap length c.clear.ensures.items));
   room = c.clear.ensures.capacity;
 }
@@ -65,6 +68,8 @@ loop-actor-preserved c =
     let silent : (j : ℕ) → done ≤ j → j < i → get_or answers j None ≡ None = λ j from to. quiet core.actors queue k j is within from to in
     let minds = inv.minds ∙ skipped_minds had answers done i le same silent in
     let calls = inv.calls ∙ skipped_calls 1 had answers done i le silent in
+    let limits = extent c.args.kernel.now.setup in
+    let mine = inv.minds_are i _ (omega (arith, place, c.loop-actor.auto.minds)) in
     let answer : c.inbox-answer.result ≡ get_or answers i None = c.inbox-answer.ensures.is ∙ sym (get_or-map inbox_of core.actors i Ended) in
     record {
       minds =
@@ -74,7 +79,8 @@ loop-actor-preserved c =
           calls_next had answers c.loop-actor.calls.items c.keep.new.calls.items i id _ _ c.inbox-answer.result c.take_turn-call.result place' same calls c.keep.ensures.items number c.take_turn-call.ensures.call
           (turn_at c.args.minds.now c.loop-actor.minds answers i _ place long minds) answer
           ∙ ap (λ (n : ℕ). listed 1 (zip_with call_after (take n had) (take n answers))) (sym next);
-      limited = limited_next c.loop-actor.calls.items c.keep.new.calls.items id c.take_turn-call.result c.keep.ensures.items c.take_turn-call.ensures.limited inv.limited;
+      minds_are = All-set (λ mind. IsMind limits (shown mind)) c.loop-actor.minds i c.take_turn-call.new.mind (c.take_turn-call.ensures.keeps limits mine) inv.minds_are;
+      limited = limited_next limits c.loop-actor.calls.items c.keep.new.calls.items id c.take_turn-call.result c.keep.ensures.items (c.take_turn-call.ensures.limited limits mine c.inbox-answer.ensures.limited) inv.limited;
       room = c.keep.ensures.room ∙ inv.room;
     }
 

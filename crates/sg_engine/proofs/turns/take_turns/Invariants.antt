@@ -1,6 +1,8 @@
 use Rattle.std.proofs.Common.{◌≡◌, ◌++◌, map, take, drop, vec_capacity}
 use Rattle.std.specs.Prelude.{All}
 use Rattle.sg_base.specs.Limits.{IsCall}
+use Rattle.sg_base.specs.Mind.{IsMind}
+use Rattle.sg_kernel.specs.World.{extent}
 use Rattle.sg_engine.specs.declared.actor_call.ActorCall.{ActorCall}
 use Rattle.sg_engine.specs.Listed.{listed}
 use Rattle.sg_engine.specs.Minds.{shown}
@@ -16,6 +18,7 @@ invariant-loop-actor l =
     record {
       minds : map shown l.minds ≡ zip_with mind_after (take done had) (take done answers) ++ drop done had;
       calls : l.calls.items ≡ listed 1 (zip_with call_after (take done had) (take done answers));
-      limited : All (λ (made : ActorCall). IsCall made.call) l.calls.items;
+      minds_are : All (λ mind. IsMind (extent l.kernel.setup) (shown mind)) l.minds;
+      limited : All (λ (made : ActorCall). IsCall (extent l.kernel.setup) made.call) l.calls.items;
       room : vec_capacity l.calls ≡ vec_capacity l.fn.calls;
     }
