@@ -6,7 +6,6 @@ pub mod Joins
 pub mod Limits
 pub mod Meets
 pub mod Mets
-pub mod Over
 pub mod Passed
 pub mod Postings
 pub mod PostsKept

@@ -14,8 +14,6 @@ mod queue;
 mod setup;
 mod starts;
 mod states;
-#[cfg(test)]
-mod tests;
 
 pub use kernel::Kernel;
 pub use laws::{stands_at_first, steps_lead};

@@ -55,8 +55,7 @@ returns-in-Blocked-default-default-Some-clause-answering c =
     let place : id - 1 < length states = omega (arith, from, to) in
     let isnt : is_ready_in states id ≡ false = ap is_ready (get_or_default states (id - 1) Ended _ place ∙ sym c.index.ensures ∙ c.in-Blocked-default-default-Some.is) in
     let now = Ready c.answer_to.result in
-    let queue = c.push_reserved-in-Blocked-default-default-Some.ensures in
-    (
+    let queue = c.push_reserved-in-Blocked-default-default-Some.ensures in (
       subst (HasAnswered _) (sym queue.items) (answered_more states parts.queue.items c.args.given.actor now (from, to) isnt refl c.requires.answering.0),
       omega (arith, length-set states (id - 1) now, c.requires.answering.1, queue.capacity),
     )

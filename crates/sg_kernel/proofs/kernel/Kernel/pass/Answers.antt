@@ -50,8 +50,7 @@ invariant_of-self-2 g c =
     let moved = moved_dated parts c.settle.new.self c.advance_to.new.self c.in-Some.date c.self.invariant.0 c.self.invariant.1 c.settle.ensures c.in-Some.ensures c.advance_to.ensures in
     let done = c.end_due-stopped.ensures in
     let meeting = done.meeting in
-    let held = done.held in
-    (
+    let held = done.held in (
       search rules,
       omega (arith, moved, done.date, done.events),
       search rules,
