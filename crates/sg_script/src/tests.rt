@@ -16,14 +16,16 @@ const PLATFORM: &str = "zone = [{id = 'z', routing = 'Full'}]
 host = [{id = 'h1', zone = 'z', speed = '1Gf'}]
 ";
 
-const DEPLOYMENT: &str =
+const OBJECTS: &str =
     "actor = [{name = 'p0', host = 'h1', function = 'replay'}, {name = 'p1', host = 'h1', function = 'replay'}]
+mutex = [{id = 'm'}, {id = 'both'}]
+semaphore = [{id = 'both', capacity = 1}, {id = 's', capacity = 0}]
 ";
 
-// The replay actors p0 and p1.
+// The replay actors p0 and p1, and what they may lock and acquire.
 fn two_actors(alloc: Global) -> Result<Deployment, Fail> {
     let platform = read_platform(alloc, PLATFORM.as_bytes())?;
-    Ok(read_deployment(alloc, DEPLOYMENT.as_bytes(), &platform)?)
+    Ok(read_deployment(alloc, OBJECTS.as_bytes(), &platform)?)
 }
 
 // A script part of this text that was begun, of which the read of that number fails.
@@ -45,11 +47,60 @@ fn unread(alloc: Global, deployment: &Deployment) -> Result<Script, Fail>
     Ok(Script::new(alloc, deployment.actors().len() as u32)?)
 }
 
-const OBJECTS: &str =
-    "actor = [{name = 'p0', host = 'h1', function = 'replay'}, {name = 'p1', host = 'h1', function = 'replay'}]
-mutex = [{id = 'm'}, {id = 'both'}]
-semaphore = [{id = 'both', capacity = 1}, {id = 's', capacity = 0}]
-";
+type Answer = Result<Option<Action>, ScriptFault>;
+
+// The answer to one Ask.
+fn ask<F: Files>(
+    script: &mut Script,
+    actor: ActorId,
+    deployment: &Deployment,
+    files: &mut F,
+) -> Result<Answer, Fail>
+    requires begun { (F.shows files.old Part.Script).stage ≢ Fresh }
+    requires actors { actors_in deployment.now ≡ actors_of script.old }
+    requires waiting { AreLimited (extent_of deployment.now) (kept_of script.old) }
+    ensures begun { (F.shows files.new Part.Script).stage ≢ Fresh }
+    ensures actors { actors_in deployment.now ≡ actors_of script.new }
+    ensures waiting { AreLimited (extent_of deployment.now) (kept_of script.new) }
+{
+    if actor.0 as usize > deployment.actors().len() {
+        return Err(Fail::new("no such actor"));
+    }
+    Ok(script.next_of(actor, deployment, files))
+}
+
+// The answers to these Asks of a script that was begun.
+fn ask_all<F: Files>(
+    alloc: Global,
+    asks: &[ActorId],
+    deployment: &Deployment,
+    files: &mut F,
+) -> Result<Vec<Answer>, Fail>
+    requires { (F.shows files.old Part.Script).stage ≢ Fresh }
+{
+    let mut script = unread(alloc, deployment)?;
+    let mut answers = Vec::new(alloc);
+    for actor in asks {
+        answers.push(ask(&mut script, *actor, deployment, files)?)?;
+    }
+    Ok(answers)
+}
+
+// The answers to these Asks of p0 and p1, where the reads of these numbers fail.
+fn answers(
+    alloc: Global,
+    text: &[u8],
+    failing: &[u64],
+    asks: &[ActorId],
+) -> Result<Vec<Answer>, Fail> {
+    let deployment = two_actors(alloc)?;
+    let mut files = begun(alloc, text, failing)?;
+    ask_all(alloc, asks, &deployment, &mut files)
+}
+
+const P0: ActorId = ActorId(1);
+
+const P1: ActorId = ActorId(2);
 
 /// What p1 may ask for.
 const ACTIONS: [(&str, Action); 17] = [
@@ -123,12 +174,11 @@ const FAULTS: [(&str, LineFault); 42] = [
 
 #[test]
 fn each_action_with_its_arguments(rt: HostRuntime) -> Result<(), Fail> {
-    let platform = read_platform(rt.alloc(), PLATFORM.as_bytes())?;
-    let deployment = read_deployment(rt.alloc(), OBJECTS.as_bytes(), &platform)?;
+    let deployment = two_actors(rt.alloc())?;
     for (text, action) in ACTIONS {
         let line = format!(in rt.alloc(); " p1 \t {text}\r")?;
         let said = read_line(line.as_bytes(), &deployment);
-        let actor = ActorId(2);
+        let actor = P1;
         assert_eq!(rt; said, Ok(Some(Entry { actor, action })), "for {text}");
     }
     Ok(())
@@ -136,8 +186,7 @@ fn each_action_with_its_arguments(rt: HostRuntime) -> Result<(), Fail> {
 
 #[test]
 fn each_fault_of_a_line(rt: HostRuntime) -> Result<(), Fail> {
-    let platform = read_platform(rt.alloc(), PLATFORM.as_bytes())?;
-    let deployment = read_deployment(rt.alloc(), OBJECTS.as_bytes(), &platform)?;
+    let deployment = two_actors(rt.alloc())?;
     for (line, fault) in FAULTS {
         let said = read_line(line.as_bytes(), &deployment);
         assert_eq!(rt; said, Err(fault), "for {line}");
@@ -147,60 +196,39 @@ fn each_fault_of_a_line(rt: HostRuntime) -> Result<(), Fail> {
 
 #[test]
 fn actions_wait_for_their_actor(rt: HostRuntime) -> Result<(), Fail> {
-    let platform = read_platform(rt.alloc(), PLATFORM.as_bytes())?;
-    let deployment = read_deployment(rt.alloc(), OBJECTS.as_bytes(), &platform)?;
-    assert_eq!(rt; deployment.actors().len(), 2);
     let text = b"p1 lock both\np1 isend p0 5\np0 recv p1 7\n";
-    let mut files = begun(rt.alloc(), text, &[])?;
-    let mut script = unread(rt.alloc(), &deployment)?;
-    let recv = Ok(Some(Action::Recv(ActorId(2))));
+    let said = answers(rt.alloc(), text, &[], &[P0, P1])?;
+    let recv = Ok(Some(Action::Recv(P1)));
     let lock = Ok(Some(Action::Lock(1)));
-    assert_eq!(rt; script.next_of(ActorId(1), &deployment, &mut files), recv);
-    assert_eq!(rt; script.next_of(ActorId(2), &deployment, &mut files), lock);
+    assert_eq!(rt; said.as_slice(), [recv, lock].as_slice());
     Ok(())
 }
 
 #[test]
 fn a_bad_line_is_met_when_it_is_needed(rt: HostRuntime) -> Result<(), Fail> {
-    let deployment = two_actors(rt.alloc())?;
-    assert_eq!(rt; deployment.actors().len(), 2);
     let text = b"p0 compute 1e9\np1 compute 5e8\np0 jump 5\n";
-    let mut files = begun(rt.alloc(), text, &[])?;
-    let mut script = unread(rt.alloc(), &deployment)?;
+    let said = answers(rt.alloc(), text, &[], &[P1, P0, P1, P0])?;
     let half = Ok(Some(Action::Compute(500_000_000)));
     let whole = Ok(Some(Action::Compute(1_000_000_000)));
     let fault = Err(ScriptFault::Line(3, LineFault::UnknownAction));
-    assert_eq!(rt; script.next_of(ActorId(2), &deployment, &mut files), half);
-    assert_eq!(rt; script.next_of(ActorId(1), &deployment, &mut files), whole);
-    assert_eq!(rt; script.next_of(ActorId(2), &deployment, &mut files), fault);
+    assert_eq!(rt; said.as_slice(), [half, whole, fault, fault].as_slice());
     Ok(())
 }
 
 #[test]
 fn comments_and_carriage_returns(rt: HostRuntime) -> Result<(), Fail> {
-    let deployment = two_actors(rt.alloc())?;
-    assert_eq!(rt; deployment.actors().len(), 2);
     let text = b"# head\r\n\r\n\tp0 sleep 1.5ms";
-    let mut files = begun(rt.alloc(), text, &[])?;
-    let mut script = unread(rt.alloc(), &deployment)?;
+    let said = answers(rt.alloc(), text, &[], &[P0, P0])?;
     let sleep = Ok(Some(Action::Sleep(1_500_000)));
-    assert_eq!(rt; script.next_of(ActorId(1), &deployment, &mut files), sleep);
-    assert_eq!(rt;
-        script.next_of(ActorId(1), &deployment, &mut files),
-        Ok(None)
-    );
+    assert_eq!(rt; said.as_slice(), [sleep, Ok(None)].as_slice());
     Ok(())
 }
 
 #[test]
 fn a_read_fails_inside_the_first_line(rt: HostRuntime) -> Result<(), Fail> {
-    let deployment = two_actors(rt.alloc())?;
-    assert_eq!(rt; deployment.actors().len(), 2);
-    let mut files = begun(rt.alloc(), b"p0 compute 1", &[3])?;
-    let mut script = unread(rt.alloc(), &deployment)?;
+    let said = answers(rt.alloc(), b"p0 compute 1", &[3], &[P0, P1])?;
     let fault = Err(ScriptFault::Read);
-    assert_eq!(rt; script.next_of(ActorId(1), &deployment, &mut files), fault);
-    assert_eq!(rt; script.next_of(ActorId(2), &deployment, &mut files), fault);
+    assert_eq!(rt; said.as_slice(), [fault, fault].as_slice());
     Ok(())
 }
 
@@ -209,10 +237,8 @@ fn the_longest_line(rt: HostRuntime) -> Result<(), Fail> {
     let deployment = two_actors(rt.alloc())?;
     let mut line = [b' '; 4097];
     line[..12].copy_from_slice(b"p0 compute 1");
-    let entry = Entry {
-        actor: ActorId(1),
-        action: Action::Compute(1),
-    };
+    let action = Action::Compute(1);
+    let entry = Entry { actor: P0, action };
     assert_eq!(rt; read_line(&line[..4096], &deployment), Ok(Some(entry)));
     assert_eq!(rt; read_line(&line, &deployment), Err(LineFault::TooLong));
     Ok(())
