@@ -1,5 +1,5 @@
 -- How the steps of the whole call come together.
-use Rattle.std.proofs.Common.{◌≡◌, ◌≢◌, ◌<◌, ◌≤◌, ◌∙◌, ◌⊎◌, inl, inr, sym, ap, subst, refl, ℕ, List, [], ◌∷◌, ◌++◌, length, get_or, Bool, true, false, Option, None, Some, Result, Ok, arith, rules}
+use Rattle.std.proofs.Common.{◌≡◌, ◌≢◌, ◌<◌, ◌≤◌, ◌∙◌, ◌⊎◌, inl, inr, sym, ap, ap₂, subst, refl, ℕ, List, [], ◌∷◌, ◌++◌, length, get_or, Bool, true, false, Option, None, Some, Result, Ok, arith, rules}
 use Rattle.std.proofs.Common as C
 use Rattle.std.specs.Prelude.{OnOk, OnErr}
 use Rattle.sg_base.specs.declared.status.Status.{Status}
@@ -13,7 +13,9 @@ use Rattle.sg_edge.specs.Given.{Source, Gives}
 use Rattle.sg_engine.specs.declared.ended.Ended.{Ended}
 use Rattle.sg_engine.specs.declared.ended.Ended.TheVariants as E
 use Rattle.sg_engine.specs.Gains.{GainsFronts, Ends}
-use Rattle.sg_engine.specs.Output.{Output}
+use Rattle.sg_engine.specs.Output.{Output, run_output}
+use Rattle.sg_platform.specs.Deployment.{Deployed}
+use Rattle.sg_platform.specs.Platform.{Platform}
 use Rattle.simgrid_replay.specs.declared.refusal.Refusal.{Refusal}
 use Rattle.simgrid_replay.specs.declared.refusal.Refusal.TheVariants as R
 use Rattle.simgrid_replay.specs.Outcome.{Outcome, Prints, of_run, status_of, refused, refusal_outcome}
@@ -82,3 +84,8 @@ ended_prints run E.Memory old new ends = ends
 -- what a run has written is what the call prints
 pub run_prints : (run : Output) (how : Ended) (code : Status) (old new : Stream → Option (List ℕ)) → code ≡ status_of how → Ends run.out run.err run.ended how old new → Prints (of_run run) code old new
 run_prints run how code old new is ends = subst (λ (s : Status). Prints (of_run run) s old new) (sym is) (ended_prints run how old new ends)
+
+-- the same of a platform and a deployment that are known by other names
+pub prints_as : (p p' : Platform) (d d' : Deployed) (most : ℕ) (source : Source) (code : Status) (old new : Stream → Option (List ℕ)) → p ≡ p' → d ≡ d' →
+    Prints (of_run (run_output p d most source)) code old new → Prints (of_run (run_output p' d' most source)) code old new
+prints_as p p' d d' most source code old new same also prints = subst (λ (run : Output). Prints (of_run run) code old new) (ap₂ (λ a b. run_output a b most source) same also) prints

@@ -16,7 +16,7 @@ use crate::telling::{refuse, say, status};
 use crate::words::{USAGE, names};
 use sg_base::{Status, Steps};
 use sg_edge::{Files, Part, Sinks};
-use sg_engine::run;
+use sg_engine::{Setup, run};
 use sg_platform::Deployment;
 use std::alloc::Global;
 use std::sync::ledger::Ledger;
@@ -25,6 +25,28 @@ use std::sync::ledger::Ledger;
 const BUDGET: u64 = 1_000_000;
 
 // Begins the script and runs it. A script that can't be begun is told by the Ask that needs it.
+fn begin_and_run<F: Files, O: Sinks, L: Ledger>(
+    alloc: Global,
+    setup: &Setup,
+    script: &str,
+    files: &mut F,
+    out: &mut O,
+    steps: &mut Steps<L>,
+) -> Status
+    requires fresh { (F.shows files.old Part.Script).stage ≡ Fresh }
+    requires sound { O.faults out.old ≡ 0 }
+    ensures output { (source : Source) → Gives (F.shows files.old Part.Script) (F.shows files.new Part.Script) source → Prints (of_run (run_output setup.now.platform setup.now.deployment budget_spec source)) result (O.held out.old) (O.held out.new) }
+    ensures write { result ≡ Status.WriteFault → 0 < O.faults out.new }
+    ensures sound { result ≢ Status.WriteFault → O.faults out.new ≡ 0 }
+    ensures read { result ≡ Status.ReadFault → SomeBroke (F.shows files.old) (F.shows files.new) }
+    ensures telling { KeepsTelling (F.shows files.old Part.Script) (F.shows files.new Part.Script) }
+    ensures others { Only Part.Script (F.shows files.old) (F.shows files.new) }
+{
+    let _ = files.begin(Part::Script, script);
+    status(run(alloc, setup, files, BUDGET, out, steps))
+}
+
+// Runs a deployment on its platform.
 fn replay<F: Files, O: Sinks, L: Ledger>(
     alloc: Global,
     platform: Routed,
@@ -44,9 +66,8 @@ fn replay<F: Files, O: Sinks, L: Ledger>(
     ensures telling { KeepsTelling (F.shows files.old Part.Script) (F.shows files.new Part.Script) }
     ensures others { Only Part.Script (F.shows files.old) (F.shows files.new) }
 {
-    let _ = files.begin(Part::Script, script);
     let setup = platform.with(deployment);
-    status(run(alloc, &setup, files, BUDGET, out, steps))
+    begin_and_run(alloc, &setup, script, files, out, steps)
 }
 
 // Reads the deployment, and goes on.

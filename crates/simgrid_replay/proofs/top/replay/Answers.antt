@@ -1,10 +1,7 @@
-use Rattle.sg_edge.specs.declared.files.Part.TheVariants.{Script}
-use Rattle.sg_engine.specs.Output.{run_output}
 use Rattle.simgrid_replay.specs.Outcome.{budget}
-use Rattle.simgrid_replay.proofs.TopLemmas.{begin_takes_nothing, begun_gives, run_prints}
+use Rattle.simgrid_replay.proofs.TopLemmas.{prints_as}
 use Rattle.simgrid_replay.proofs.top.replay.Goals as goal
 
 pub returns-clause-output : goal.returns-clause-output
 returns-clause-output g c = λ source gives.
-    run_prints (run_output c.args.platform c.args.deployment budget source) c.run.result c.status.result _ _ c.status.ensures
-    (c.run.ensures.output source (begun_gives _ _ _ source (begin_takes_nothing c.begin.result _ _ c.begin.ensures.begun c.begin.ensures.failed) gives))
+    prints_as _ _ _ _ budget source _ _ _ c.with-setup.ensures.platform c.with-setup.ensures.deployment (c.begin_and_run.ensures.output source gives)
