@@ -371,8 +371,6 @@ fn writes_the_lines_of_runs(rt: HostRuntime) -> Result<(), Fail> {
 
 /// The names of so many links from this number on, in quotes.
 fn link_names(alloc: Global, from: u32, to: u32) -> Result<String, Memory>
-    requires { from ≤ to }
-    requires { to ≤ 65 }
 {
     let mut text = String::new(alloc);
     for n in from..to {
