@@ -48,11 +48,7 @@ fn deployment_of(alloc: Global, text: &[u8], platform: &PlatformText) -> Result<
 }
 
 /// The platform, with its routes.
-pub fn load_platform<F: Files>(
-    alloc: Global,
-    files: &mut F,
-    name: &str,
-) -> Result<Routed, Refusal>
+pub fn load_platform<F: Files>(alloc: Global, files: &mut F, name: &str) -> Result<Routed, Refusal>
     requires { (F.shows files.old Part.Platform).stage ≡ Fresh }
     ensures given { (source : Source) → Gives (F.shows files.old Part.Platform) (F.shows files.new Part.Platform) source → result ≢ Err Refusal.Memory → result ≡ platform_given source }
     ensures cause { IfErr result (λ why. IsReadFault why → Breaks (F.shows files.old Part.Platform) (F.shows files.new Part.Platform)) }

@@ -17,6 +17,13 @@ link = [{id = 'l', bandwidth = '1MBps', latency = '10ms'}]
 route = [{src = 'h1', dst = 'h2', links = ['l']}]
 ";
 
+/// The same with no way back.
+const ONE_WAY: &str = "zone = [{id = 'z', routing = 'Full'}]
+host = [{id = 'h1', zone = 'z', speed = '1Gf'}, {id = 'h2', zone = 'z', speed = '1Gf'}]
+link = [{id = 'l', bandwidth = '1MBps', latency = '10ms'}]
+route = [{src = 'h1', dst = 'h2', links = ['l'], symmetrical = false}]
+";
+
 /// The same with a FATPIPE link.
 const PIPE: &str = "zone = [{id = 'z', routing = 'Full'}]
 host = [{id = 'h1', zone = 'z', speed = '1Gf'}, {id = 'h2', zone = 'z', speed = '1Gf'}]
@@ -119,7 +126,7 @@ const SEND: &str = "p0 send p1 1e6\np1 recv p0\n";
 const TWO_SENDS: &str = "p0 send p1 1e6\np1 recv p0\np2 send p3 1e6\np3 recv p2\n";
 
 /// A platform, a deployment, a script, what is written to Out and to Err, and the exit status.
-const RUNS: [(&str, &str, &str, &str, &str, u8); 21] = [
+const RUNS: [(&str, &str, &str, &str, &str, u8); 31] = [
     (
         LINE,
         TWO,
@@ -355,6 +362,122 @@ Simulation time 1.010000000
         "",
         6,
     ),
+    // Worked out by hand.
+    (
+        LINE,
+        TWO,
+        "p0 isend p1 0\np0 isend p1 1e6\np0 wait\np0 wait\np1 recv p0\np1 recv p0\n",
+        "[h1:p0:(1) 0.000000000] isend p1 0 0.000000000
+[h1:p0:(1) 0.000000000] isend p1 1000000 0.000000000
+[h1:p0:(1) 0.010000000] wait 0.010000000
+[h2:p1:(2) 0.010000000] recv p0 0 0.010000000
+[h1:p0:(1) 1.020000000] wait 1.010000000
+[h2:p1:(2) 1.020000000] recv p0 1000000 1.010000000
+Simulation time 1.020000000
+",
+        "",
+        0,
+    ),
+    (
+        LINE,
+        TWO,
+        "p0 isend p1 5\np1 yield\n",
+        "[h1:p0:(1) 0.000000000] isend p1 5 0.000000000
+[h2:p1:(2) 0.000000000] yield 0.000000000
+Simulation time 0.000000000
+",
+        "",
+        0,
+    ),
+    (
+        LINE,
+        TWO,
+        "p1 irecv p0\np1 irecv p0\np1 wait\np0 send p1 1e6\n",
+        "[h2:p1:(2) 0.000000000] irecv p0 0.000000000
+[h2:p1:(2) 0.000000000] irecv p0 0.000000000
+[h1:p0:(1) 1.010000000] send p1 1000000 1.010000000
+[h2:p1:(2) 1.010000000] wait 1.010000000
+Simulation time 1.010000000
+",
+        "",
+        0,
+    ),
+    (
+        LINE,
+        TWO,
+        "p0 isend p1 1e6\np0 compute 5e8\np0 wait\np1 recv p0 7\n",
+        "[h1:p0:(1) 0.000000000] isend p1 1000000 0.000000000
+[h1:p0:(1) 0.500000000] compute 500000000 0.500000000
+[h1:p0:(1) 1.010000000] wait 0.510000000
+[h2:p1:(2) 1.010000000] recv p0 1000000 1.010000000
+Simulation time 1.010000000
+",
+        "",
+        0,
+    ),
+    (
+        LINE,
+        TWO,
+        "p0 isend p1 0\np0 sleep 1\np0 wait\np1 recv p0\n",
+        "[h1:p0:(1) 0.000000000] isend p1 0 0.000000000
+[h2:p1:(2) 0.010000000] recv p0 0 0.010000000
+[h1:p0:(1) 1.000000000] sleep 1.000000000
+[h1:p0:(1) 1.000000000] wait 0.000000000
+Simulation time 1.000000000
+",
+        "",
+        0,
+    ),
+    (
+        LINE,
+        TWO,
+        "p0 lock m1\np0 lock m1\n",
+        "[h1:p0:(1) 0.000000000] lock m1 0.000000000
+deadlock at 0.000000000
+blocked [h1:p0:(1)] lock m1
+",
+        "",
+        6,
+    ),
+    (
+        LINE,
+        TWO,
+        "p0 release s1\np0 acquire s1\n",
+        "[h1:p0:(1) 0.000000000] release s1 0.000000000
+[h1:p0:(1) 0.000000000] acquire s1 0.000000000
+Simulation time 0.000000000
+",
+        "",
+        0,
+    ),
+    (
+        ONE_WAY,
+        TWO,
+        "p1 send p0 1\np0 recv p1\n",
+        "",
+        "no route from h2 to h1: zone z, h2 to h1\n",
+        9,
+    ),
+    (
+        LINE,
+        TWO,
+        "p0 send p9 1\n",
+        "",
+        "script line 1: unknown actor\n",
+        5,
+    ),
+    (
+        LINE,
+        TWO,
+        "p0 lock m1\np1 sleep 1\np1 lock m1\n",
+        "[h1:p0:(1) 0.000000000] lock m1 0.000000000
+[h2:p1:(2) 1.000000000] sleep 1.000000000
+deadlock at 1.000000000
+blocked [h2:p1:(2)] lock m1
+",
+        "",
+        6,
+    ),
 ];
 
 #[test]
@@ -370,8 +493,7 @@ fn writes_the_lines_of_runs(rt: HostRuntime) -> Result<(), Fail> {
 }
 
 /// The names of so many links from this number on, in quotes.
-fn link_names(alloc: Global, from: u32, to: u32) -> Result<String, Memory>
-{
+fn link_names(alloc: Global, from: u32, to: u32) -> Result<String, Memory> {
     let mut text = String::new(alloc);
     for n in from..to {
         let name = format!(in alloc; "'k{n}',")?;
@@ -412,12 +534,7 @@ fn a_route_has_64_links_at_most(rt: HostRuntime) -> Result<(), Fail> {
     let alloc = rt.alloc();
     let platform = far_apart(alloc)?;
     let script = b"p0 send p1 1\np1 recv p0\n";
-    let (status, out) = replay(
-        alloc,
-        (platform.as_str(), TWO, script.as_slice()),
-        &[],
-        &[],
-    )?;
+    let (status, out) = replay(alloc, (platform.as_str(), TWO, script.as_slice()), &[], &[])?;
     assert_eq!(rt;
         out.held(Stream::Err),
         b"route from h1 to h2: more than 64 links\n".as_slice()
