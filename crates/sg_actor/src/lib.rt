@@ -3,7 +3,9 @@
 
 mod actor;
 mod calls;
+mod churn;
 mod crew;
+mod generator;
 mod laws;
 mod plain;
 mod role;
@@ -13,6 +15,7 @@ mod tape;
 
 pub use actor::Actor;
 pub use crew::all_blank;
+pub use generator::draw;
 pub use laws::{roles_keep_limits, rounds_keep_limits};
 pub use plain::PlainContext;
 pub use role::Role;

@@ -7,6 +7,7 @@ ghost use Rattle.sg_actor.specs.Fields.{fields_mind, is_exit, kind_now, master_n
 
 use crate::actor::Actor;
 use crate::calls::{replay_call, worker_call};
+use crate::churn::{Churn, Phase};
 use crate::role::Role;
 use sg_base::{ActorId, Answer, BoxId, Call, Ids, Memory, Msg};
 use std::alloc::Global;
@@ -30,6 +31,7 @@ enum Fields {
         next: u64,
         workers: Ids,
     },
+    Churn(Churn),
 }
 
 /// A context that keeps its mind in fields.
@@ -113,6 +115,21 @@ fn fields_of(alloc: Global, role: &Role) -> Result<Fields, Memory>
                 workers: Ids::from_vec(workers),
             })
         }
+        Role::Churn {
+            state,
+            steps,
+            me,
+            next,
+            prev,
+        } => Ok(Fields::Churn(Churn {
+            state: *state,
+            step: 0,
+            phase: Phase::Compute,
+            steps: *steps,
+            me: *me,
+            next: *next,
+            prev: *prev,
+        })),
     }
 }
 
@@ -135,6 +152,7 @@ fn fields_turn(fields: &mut Fields, answer: Answer) -> Call
             next,
             workers,
         } => master_call(*tasks, *flops, *bytes, next, workers.as_slice()),
+        Fields::Churn(numbers) => numbers.turn(),
     }
 }
 

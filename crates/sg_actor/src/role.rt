@@ -15,4 +15,14 @@ pub enum Role {
         bytes: u64,
         workers: Ids,
     },
+    /// So many times, it computes, sends to the next actor of a ring, receives from the one before it, and waits
+    /// until what it sent is there. How much it computes and sends is drawn.
+    Churn {
+        /// The state with which its generator begins.
+        state: u64,
+        steps: u32,
+        me: ActorId,
+        next: ActorId,
+        prev: ActorId,
+    },
 }

@@ -1,13 +1,15 @@
 //! A context that keeps its mind in a flat list of words.
 ghost use Rattle.std.specs.Prelude.{◌≡◌, Some, None, IsSome, IfSome, IfOk, OnOk, ◌++◌, map, vec_len};
-ghost use Rattle.sg_base.specs.Mind.{master};
-ghost use Rattle.sg_base.specs.Turn.{turn, turn_of, master_turn};
+ghost use Rattle.sg_base.specs.Mind.{master, churn};
+ghost use Rattle.sg_base.specs.Turn.{turn, turn_of, master_turn, churn_turn};
 ghost use Rattle.sg_actor.specs.Roles.{mind_of, number_of, CanCast};
 ghost use Rattle.sg_actor.specs.Tape.{tape_mind, kind_of, IsTape, IsTapeOf, FitActorsFrom};
 ghost use Rattle.sg_actor.specs.Fields.{is_exit, kind_now};
 
 use crate::actor::Actor;
 use crate::calls::{replay_call, worker_call};
+use crate::churn::{MOST_BYTES, MOST_FLOPS};
+use crate::generator::draw;
 use crate::role::Role;
 use sg_base::{ActorId, Answer, BoxId, Call, Memory, Msg};
 use std::alloc::Global;
@@ -19,7 +21,9 @@ const WORKER: u64 = 1;
 
 const MASTER: u64 = 2;
 
-const ENDED: u64 = 3;
+const CHURN: u64 = 3;
+
+const ENDED: u64 = 4;
 
 /// A context that keeps its mind in a flat list of words: none while it is blank, else the kind's and then the numbers.
 #[derive(Drop)]
@@ -88,6 +92,16 @@ fn tape_of(alloc: Global, role: &Role) -> Result<Vec<u64>, Memory>
             push_actors(&mut words, workers.as_slice())?;
             Ok(words)
         }
+        Role::Churn {
+            state,
+            steps,
+            me,
+            next,
+            prev,
+        } => {
+            let (me, next, prev) = (me.0 as u64, next.0 as u64, prev.0 as u64);
+            words_of(alloc, &[CHURN, *state, 0, 0, *steps as u64, me, next, prev])
+        }
     }
 }
 
@@ -135,6 +149,7 @@ fn numbers_turn(kind: u64, numbers: &mut [u64], answer: Answer) -> Call
         REPLAY => replay_call(ActorId(numbers[0] as u32), answer),
         WORKER => worker_call(ActorId(numbers[0] as u32), answer),
         MASTER => master_step(numbers),
+        CHURN => churn_step(numbers),
         _ => Call::Exit,
     }
 }
@@ -160,4 +175,42 @@ fn master_step(numbers: &mut [u64]) -> Call
         return Call::Send(BoxId::Named(to), 0, Msg::Stop);
     }
     Call::Exit
+}
+
+// One turn of an actor that churns: its numbers are the state of its generator, its step, its phase, how many steps it
+// does, itself, the next actor of the ring, and the one before it.
+fn churn_step(numbers: &mut [u64]) -> Call
+    requires { IsTapeOf churn numbers.old }
+    ensures kept { IsTapeOf churn numbers.new }
+    ensures numbers { numbers.new ≡ (churn_turn numbers.old).mind.numbers }
+    ensures call { result ≡ (churn_turn numbers.old).call }
+{
+    let me = ActorId(numbers[4] as u32);
+    match numbers[2] {
+        0 => {
+            if numbers[1] == numbers[3] {
+                return Call::Exit;
+            }
+            numbers[2] = 1;
+            Call::Compute(draw(&mut numbers[0], MOST_FLOPS))
+        }
+        1 => {
+            numbers[2] = 2;
+            let to = ActorId(numbers[5] as u32);
+            Call::ISend(
+                BoxId::Pair(me, to),
+                draw(&mut numbers[0], MOST_BYTES),
+                Msg::Empty,
+            )
+        }
+        2 => {
+            numbers[2] = 3;
+            Call::Recv(BoxId::Pair(ActorId(numbers[6] as u32), me))
+        }
+        _ => {
+            numbers[2] = 0;
+            numbers[1] += 1;
+            Call::Wait
+        }
+    }
 }

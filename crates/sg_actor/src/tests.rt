@@ -3,7 +3,7 @@ ghost use Rattle.std.specs.Prelude.{◌≡◌, IsSome};
 ghost use Rattle.sg_actor.specs.Roles.{CanCast};
 ghost use Rattle.sg_actor.specs.Seen.{seen};
 
-use crate::{Actor, PlainContext, Role, Seat, TapeContext, all_blank, run_round};
+use crate::{Actor, PlainContext, Role, Seat, TapeContext, all_blank, draw, run_round};
 use sg_base::{Action, ActorId, Answer, BoxId, Call, Ids, Memory, Msg};
 use std::alloc::Global;
 use std::process::Abort;
@@ -92,6 +92,76 @@ fn turns_of_a_replay(rt: HostRuntime) -> Result<(), Fail> {
         (Answer::Act(Action::Wait), Call::Exit),
     ];
     takes_turns(&rt, rt.alloc(), &Role::Replay(ME), &turns)?;
+    Ok(())
+}
+
+#[test]
+fn turns_of_a_churn(rt: HostRuntime) -> Result<(), Fail> {
+    let there = BoxId::Pair(ME, ActorId(2));
+    let back = BoxId::Pair(ActorId(3), ME);
+    let role = Role::Churn {
+        state: 0,
+        steps: 2,
+        me: ME,
+        next: ActorId(2),
+        prev: ActorId(3),
+    };
+    let turns = [
+        (Answer::Start, Call::Compute(167951808)),
+        (Answer::Done, Call::ISend(there, 396425, Msg::Empty)),
+        (Answer::Done, Call::Recv(back)),
+        (Answer::Got(Msg::Empty), Call::Wait),
+        (Answer::Done, Call::Compute(299921938)),
+        (Answer::Refused, Call::ISend(there, 605237, Msg::Empty)),
+        (Answer::Start, Call::Recv(back)),
+        (Answer::NoMore, Call::Wait),
+        (Answer::Done, Call::Exit),
+        (Answer::Done, Call::Exit),
+    ];
+    takes_turns(&rt, rt.alloc(), &role, &turns)?;
+    Ok(())
+}
+
+#[test]
+fn generator_turns_over(rt: HostRuntime) -> Result<(), Fail> {
+    let there = BoxId::Pair(ME, ME);
+    let role = Role::Churn {
+        state: u64::MAX,
+        steps: 1,
+        me: ME,
+        next: ME,
+        prev: ME,
+    };
+    let turns = [
+        (Answer::Start, Call::Compute(574552489)),
+        (Answer::Done, Call::ISend(there, 332344, Msg::Empty)),
+        (Answer::Done, Call::Recv(there)),
+        (Answer::Done, Call::Wait),
+        (Answer::Done, Call::Exit),
+    ];
+    takes_turns(&rt, rt.alloc(), &role, &turns)?;
+    Ok(())
+}
+
+#[test]
+fn churn_without_steps_ends(rt: HostRuntime) -> Result<(), Fail> {
+    let role = Role::Churn {
+        state: 7,
+        steps: 0,
+        me: ME,
+        next: ActorId(2),
+        prev: ActorId(3),
+    };
+    takes_turns(&rt, rt.alloc(), &role, &[(Answer::Start, Call::Exit)])?;
+    Ok(())
+}
+
+#[test]
+fn draws_from_the_state_0(rt: HostRuntime) -> Result<(), Fail> {
+    let mut state = 0;
+    assert_eq!(rt; draw(&mut state, 2147483648), 167951808);
+    assert_eq!(rt; state, 1442695040888963407);
+    assert_eq!(rt; draw(&mut state, 100), 25);
     Ok(())
 }
 

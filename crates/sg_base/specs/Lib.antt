@@ -1,3 +1,4 @@
+pub mod Draw
 pub mod Limits
 pub mod Mind
 pub mod Status

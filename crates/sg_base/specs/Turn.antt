@@ -1,5 +1,5 @@
 -- The turn of an actor: from its mind and the answer that it has, its new mind and its call.
-use Rattle.std.specs.Prelude.{ℕ, ◌+◌, ◌-◌, ◌%◌, nat_lt, if◌then◌else◌, List, length, slice_index, slice_set}
+use Rattle.std.specs.Prelude.{ℕ, ◌+◌, ◌-◌, ◌%◌, ◌==◌, nat_lt, if◌then◌else◌, List, ◌∷◌, length, drop, slice_index, slice_set}
 use Rattle.sg_base.specs.declared.ids.ActorId.{ActorId}
 use Rattle.sg_base.specs.declared.ids.BoxId.TheVariants as box
 use Rattle.sg_base.specs.declared.call.Action.{Action}
@@ -10,7 +10,8 @@ use Rattle.sg_base.specs.declared.call.Msg.{Msg}
 use Rattle.sg_base.specs.declared.call.Msg.TheVariants as msg
 use Rattle.sg_base.specs.declared.call.Call.{Call}
 use Rattle.sg_base.specs.declared.call.Call.TheVariants as call
-use Rattle.sg_base.specs.Mind.{Kind, Mind, mind, replay, worker, master, ended}
+use Rattle.sg_base.specs.Draw.{drawn, next_state}
+use Rattle.sg_base.specs.Mind.{Kind, Mind, mind, replay, worker, master, churn, ended}
 
 pub record Turn : Type 0 where
   pub mind : Mind
@@ -84,11 +85,31 @@ master_turn numbers =
     else if nat_lt next (tasks + workers) then sends numbers (next - tasks) 0 msg.Stop
     else leaves numbers
 
+-- the numbers of an actor that churns, with these in place of its first three
+abbrev pub churned : ℕ → ℕ → ℕ → List ℕ → Call → Turn
+churned state step phase numbers call = turned churn (state ∷ step ∷ phase ∷ drop 3 numbers) call
+
+-- An actor that churns computes, sends to the next actor of the ring, receives from the one before it, and waits until
+-- what it sent is there; so many times, and then it ends. What it computes and sends is drawn.
+abbrev pub churn_turn : List ℕ → Turn
+churn_turn numbers =
+    let state = slice_index numbers 0 in
+    let step = slice_index numbers 1 in
+    let phase = slice_index numbers 2 in
+    let me = actor_of (slice_index numbers 4) in
+    if phase == 0 then
+    (if step == slice_index numbers 3 then leaves numbers
+    else churned (next_state state) step 1 numbers (call.Compute (1 + drawn state % 1000000000)))
+    else if phase == 1 then churned (next_state state) step 2 numbers (call.ISend (box.Pair me (actor_of (slice_index numbers 5))) (1 + drawn state % 1000000) msg.Empty)
+    else if phase == 2 then churned state step 3 numbers (call.Recv (box.Pair (actor_of (slice_index numbers 6)) me))
+    else churned state (step + 1) 0 numbers call.Wait
+
 -- an actor that has ended gives Exit for every answer
 abbrev pub turn_of : Kind → List ℕ → Answer → Turn
 turn_of replay numbers answer = replay_turn numbers answer
 turn_of worker numbers answer = worker_turn numbers answer
 turn_of master numbers answer = master_turn numbers
+turn_of churn numbers answer = churn_turn numbers
 turn_of ended numbers answer = leaves numbers
 
 abbrev pub turn : Mind → Answer → Turn

@@ -16,7 +16,7 @@ mod trace_record;
 pub use actors::Ids;
 pub use call::{Action, Answer, Call, Msg};
 pub use ids::{ActorId, BoxId, Child, LinkId, PointId, Serial, ZoneId};
-pub use laws::turns_keep_limits;
+pub use laws::{draws_are_small, turns_keep_limits};
 pub use links::Links;
 pub use memory::Memory;
 pub use status::Status;

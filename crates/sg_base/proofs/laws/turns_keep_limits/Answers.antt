@@ -7,8 +7,8 @@ use Rattle.sg_base.specs.declared.call.Answer.TheVariants as answer
 use Rattle.sg_base.specs.declared.call.Msg.{Msg}
 use Rattle.sg_base.specs.declared.call.Msg.TheVariants as msg
 use Rattle.sg_base.specs.declared.ids.ActorId.{ActorId}
-use Rattle.sg_base.specs.Mind.{Kind, IsShaped, ActorsFrom, replay, worker, master, ended}
-use Rattle.sg_base.specs.Turn.{call_of, replay_turn, worker_got, worker_turn, master_turn, turn_of}
+use Rattle.sg_base.specs.Mind.{Kind, IsShaped, ActorsFrom, replay, worker, master, churn, ended}
+use Rattle.sg_base.specs.Turn.{call_of, replay_turn, worker_got, worker_turn, master_turn, churn_turn, turn_of}
 use Rattle.sg_base.specs.Limits.{Extent, IsActorIn, IsActorNumber, IsAction, IsAnswer, IsMsg, IsCall}
 use Rattle.std.specs.Prelude.{slice_index}
 use Rattle.sg_base.proofs.laws.turns_keep_limits.Goals as goal
@@ -56,10 +56,14 @@ worker_call extent n answer.Refused (one, actors) h = only extent n one actors
 master_call : (extent : Extent) (n : List ℕ) → IsShaped extent master n → IsCall extent (master_turn n).call
 master_call extent n h = grind (arith, common_steps)
 
+churn_call : (extent : Extent) (n : List ℕ) → IsShaped extent churn n → IsCall extent (churn_turn n).call
+churn_call extent n h = grind (arith, common_steps)
+
 by_kind : (extent : Extent) (k : Kind) (n : List ℕ) (a : Answer) → IsShaped extent k n → IsAnswer extent a → IsCall extent (turn_of k n a).call
 by_kind extent replay n a shaped h = replay_call extent n a shaped h
 by_kind extent worker n a shaped h = worker_call extent n a shaped h
 by_kind extent master n a shaped h = master_call extent n shaped
+by_kind extent churn n a shaped h = churn_call extent n shaped
 by_kind extent ended n a shaped h = tt
 
 pub returns-clause-call : goal.returns-clause-call
