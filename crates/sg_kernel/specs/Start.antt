@@ -6,7 +6,7 @@ use Rattle.sg_activity.specs.declared.kinds.HostCap.{HostCap}
 use Rattle.sg_activity.specs.declared.kinds.LinkCap.{LinkCap}
 use Rattle.sg_platform.specs.declared.rows.ActorRow.{ActorRow}
 use Rattle.sg_platform.specs.declared.rows.Function.{Function}
-use Rattle.sg_platform.specs.declared.rows.Function.TheVariants.{Replay}
+use Rattle.sg_platform.specs.declared.rows.Function.TheVariants.{Replay, Worker, Master, Churn}
 use Rattle.sg_platform.specs.declared.rows.HostRow.{HostRow}
 use Rattle.sg_platform.specs.declared.rows.LinkRow.{LinkRow}
 use Rattle.sg_platform.specs.declared.rows.Policy.{Policy}
@@ -39,6 +39,9 @@ home_of actor = actor.host.0
 
 abbrev pub is_replay : Function → Bool
 is_replay Replay = true
+is_replay Worker = false
+is_replay (Master tasks flops bytes workers) = false
+is_replay (Churn seed next prev steps) = false
 
 abbrev pub replays : ActorRow → Bool
 replays actor = is_replay actor.function

@@ -76,6 +76,7 @@ fn is_replay(function: &Function) -> bool
 {
     match function {
         Function::Replay => true,
+        _ => false,
     }
 }
 

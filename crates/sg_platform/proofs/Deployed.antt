@@ -1,13 +1,19 @@
 -- The rows of a tree that has no fault are a deployment on its platform.
-use Rattle.std.proofs.Common.{◌≡◌, ℕ, ◌<◌, ◌≤◌, [], length, codes, None, refl, subst, arith}
+use Rattle.std.proofs.Common.{◌≡◌, ℕ, ◌+◌, ◌<◌, ◌≤◌, IfSome, [], length, map, codes, Option, Some, None, refl, subst, arith}
 use Rattle.std.proofs.lemmas.List.{length-map}
 use Rattle.std.proofs.lemmas.List.Elements.{All-map}
+use Rattle.std.specs.Map.{lookup}
+use Rattle.std.specs.Str.{bytes_eq}
+use Rattle.sg_base.specs.Limits.{Extent}
+use Rattle.sg_platform.proofs.KeptFunctions.{FindsWorkers, actor_function_kept}
 use Rattle.sg_platform.proofs.KeptRows.{actor_kept, mutex_kept, semaphore_kept}
 use Rattle.sg_platform.specs.Build.{actor_row, mutex_row, semaphore_row}
-use Rattle.sg_platform.specs.Deployment.{IsActorRow, IsDeployedOn, IsDeployment, IsSemaphoreRow}
+use Rattle.sg_platform.specs.Deployment.{IsActorRow, IsDeployedOn, IsDeployment, IsFunction, IsSemaphoreRow}
 use Rattle.sg_platform.specs.DeploymentOf.{rows_of}
 use Rattle.sg_platform.specs.Platform.{Platform}
 use Rattle.sg_rules.proofs.Kept.{rows_few, rows_kept}
+use Rattle.sg_rules.proofs.KeptArguments.{workers_below}
+use Rattle.sg_rules.specs.Arguments.{worker_numbers}
 use Rattle.sg_rules.specs.Faults.{faults_of, table_faults}
 use Rattle.sg_rules.specs.Names.{AreSmall, FitsIn32, Known, deployment_known}
 use Rattle.sg_rules.specs.Tables.{deployment_tables}
@@ -40,25 +46,40 @@ pub known_hosts : (hosts : ℕ) (points : Finds) (tree : Members) → (deploymen
 unfolding deployment_known
 known_hosts hosts points tree = refl
 
-pub deployment_small : (hosts : ℕ) (points : Finds) (tree : Members) → FitsIn32 points → AreSmall (deployment_known hosts points tree)
+pub deployment_small : (hosts : ℕ) (points : Finds) (tree : Members) → FitsIn32 points → length (rows_at (codes "actor") tree) ≤ 65536 → AreSmall (deployment_known hosts points tree)
 unfolding deployment_known
-deployment_small hosts points tree fits = record {
-  points = fits;
-  links = λ q. tt;
-}
+deployment_small hosts points tree fits few =
+    let rows = rows_at (codes "actor") tree in
+    record {
+      points = fits;
+      links = λ q. tt;
+      workers = λ q. next_small (lookup (bytes_eq q) (worker_numbers rows)) (length rows) few (workers_below rows q);
+    }
+  where
+    next_small : (o : Option ℕ) (n : ℕ) → n ≤ 65536 → IfSome o (λ i. i < n) → IfSome o (λ i. i + 1 < 4294967296)
+    next_small None n few below = tt
+    next_small (Some i) n few below = omega (arith, few, below)
 
-pub deployment_without_faults : (names : Known) (tree : Members) → first (faults_of names deployment_tables tree) ≡ None → IsDeployment (rows_of names tree)
+-- a tree without faults has few actors
+pub actors_few : (names : Known) (tree : Members) → first (faults_of names deployment_tables tree) ≡ None → length (rows_at (codes "actor") tree) ≤ 65536
+actors_few names tree none = rows_few names tree Actor (no_faults names tree none).actors
+
+pub deployment_without_faults : (names : Known) (tree : Members) → FindsWorkers names (rows_at (codes "actor") tree) → first (faults_of names deployment_tables tree) ≡ None → IsDeployment (rows_of names tree)
 unfolding rows_of
-deployment_without_faults names tree none =
+deployment_without_faults names tree finds none =
     let kept = no_faults names tree none in
     let actors = rows_at (codes "actor") tree in
     let mutexes = rows_at (codes "mutex") tree in
     let semaphores = rows_at (codes "semaphore") tree in
+    let extent : Extent =
+    record { actors = length (map (actor_row names) actors); mutexes = length (map mutex_row mutexes); semaphores = length (map semaphore_row semaphores) } in
     record {
       few_actors = omega (arith, length-map actors (actor_row names), rows_few names tree Actor kept.actors);
       few_mutexes = omega (arith, length-map mutexes mutex_row, rows_few names tree Mutex kept.mutexes);
       few_semaphores = omega (arith, length-map semaphores semaphore_row, rows_few names tree Semaphore kept.semaphores);
       actors = All-map IsActorRow (actor_row names) actors (rows_kept names tree Actor (λ row. IsActorRow (actor_row names row)) (λ number row fine. (actor_kept names number row fine).row) kept.actors);
+      functions = All-map (λ actor. IsFunction extent actor.function) (actor_row names) actors
+          (rows_kept names tree Actor (λ row. IsFunction extent (actor_row names row).function) (λ number row fine. actor_function_kept names actors extent finds (length-map actors (actor_row names)) (rows_few names tree Actor kept.actors) number row fine) kept.actors);
       mutexes = All-map (λ mutex. length mutex.id ≤ 64) mutex_row mutexes (rows_kept names tree Mutex (λ row. length (mutex_row row).id ≤ 64) (λ number row fine. mutex_kept names number row fine) kept.mutexes);
       semaphores = All-map IsSemaphoreRow semaphore_row semaphores (rows_kept names tree Semaphore (λ row. IsSemaphoreRow (semaphore_row row)) (λ number row fine. semaphore_kept names number row fine) kept.semaphores);
     }

@@ -1,6 +1,7 @@
 pub mod BadTomls
 pub mod Deployed
 pub mod EndsBelow
+pub mod KeptFunctions
 pub mod KeptRows
 pub mod LinkLists
 pub mod Numbers

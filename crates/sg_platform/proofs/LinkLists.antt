@@ -23,11 +23,11 @@ use Rattle.toml.specs.Data.{Data, Items, get, as_array, as_str}
 abbrev LinksBelow : Known → Counts → Type 0
 LinksBelow names counts = (q : List ℕ) → IfSome (names.links q) (λ n. n < counts.links)
 
-and_left : (a b : Bool) → (a && b) ≡ true → a ≡ true
+pub and_left : (a b : Bool) → (a && b) ≡ true → a ≡ true
 and_left true b h = refl
 and_left false b h = h
 
-and_right : (a b : Bool) → (a && b) ≡ true → b ≡ true
+pub and_right : (a b : Bool) → (a && b) ≡ true → b ≡ true
 and_right true b h = h
 and_right false b h = absurd (false≢true h)
 

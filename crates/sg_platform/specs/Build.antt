@@ -7,9 +7,9 @@ use Rattle.sg_base.specs.declared.ids.LinkId.{LinkId}
 use Rattle.sg_base.specs.declared.ids.PointId.{PointId}
 use Rattle.sg_base.specs.declared.ids.ZoneId.{ZoneId}
 use Rattle.sg_platform.specs.Ends.{way_back}
+use Rattle.sg_platform.specs.Functions.{function_of}
 use Rattle.sg_platform.specs.declared.ends.LinkEnd.{LinkEnd}
 use Rattle.sg_platform.specs.declared.rows.ActorRow.{ActorRow}
-use Rattle.sg_platform.specs.declared.rows.Function.TheVariants.{Replay}
 use Rattle.sg_platform.specs.declared.rows.HostRow.{HostRow}
 use Rattle.sg_platform.specs.declared.rows.LinkRow.{LinkRow}
 use Rattle.sg_platform.specs.declared.rows.MutexRow.{MutexRow}
@@ -165,5 +165,5 @@ unfoldable pub actor_row : Known → Data → ActorRow
 actor_row names row = record {
   name = text_or_empty (codes "name") row;
   host = point_id names (text_or_empty (codes "host") row);
-  function = Replay;
+  function = function_of names row;
 }

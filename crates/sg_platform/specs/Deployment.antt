@@ -1,11 +1,13 @@
 -- A deployment, and what holds of each one.
-use Rattle.std.specs.Prelude.{ℕ, ◌+◌, ◌<◌, ◌≤◌, List, Option, length, option_map}
+use Rattle.std.specs.Prelude.{ℕ, ◌+◌, ◌<◌, ◌≤◌, ◌^◌, List, Option, length, option_map}
 use Rattle.std.specs.List.{All}
 use Rattle.sg_base.specs.declared.ids.ActorId.{ActorId}
-use Rattle.sg_base.specs.Limits.{Extent}
+use Rattle.sg_base.specs.Limits.{Extent, IsActorIn, IsAmount}
 use Rattle.sg_platform.specs.Index.{mutex_number, replay_number, semaphore_number}
 use Rattle.sg_platform.specs.Platform.{Platform}
 use Rattle.sg_platform.specs.declared.rows.ActorRow.{ActorRow}
+use Rattle.sg_platform.specs.declared.rows.Function.{Function}
+use Rattle.sg_platform.specs.declared.rows.Function.TheVariants.{Replay, Worker, Master, Churn}
 use Rattle.sg_platform.specs.declared.rows.MutexRow.{MutexRow}
 use Rattle.sg_platform.specs.declared.rows.SemaphoreRow.{SemaphoreRow}
 
@@ -21,6 +23,14 @@ extent_of deployed = record { actors = length deployed.actors; mutexes = length 
 abbrev pub IsActorRow : ActorRow → Type 0
 IsActorRow actor = length actor.name ≤ 64
 
+-- the amounts of a function keep to their limits, and the actors that it names exist; a master has a worker
+abbrev pub IsFunction : Extent → Function → Type 0
+IsFunction extent Replay = Unit {0}
+IsFunction extent Worker = Unit {0}
+IsFunction extent (Master tasks flops bytes workers) =
+    (tasks ≤ 1000000000) × IsAmount flops × IsAmount bytes × (0 < length workers) × (length workers < 2 ^ 63) × All (IsActorIn extent) workers
+IsFunction extent (Churn seed next prev steps) = (steps ≤ 1000000) × IsActorIn extent next × IsActorIn extent prev
+
 pub record IsSemaphoreRow (semaphore : SemaphoreRow) : Type 0 where
   pub id : length semaphore.id ≤ 64
   pub capacity : semaphore.capacity ≤ 1000000000
@@ -30,6 +40,7 @@ pub record IsDeployment (deployed : Deployed) : Type 0 where
   pub few_mutexes : length deployed.mutexes ≤ 65536
   pub few_semaphores : length deployed.semaphores ≤ 65536
   pub actors : All IsActorRow deployed.actors
+  pub functions : All (λ actor. IsFunction (extent_of deployed) actor.function) deployed.actors
   pub mutexes : All (λ mutex. length mutex.id ≤ 64) deployed.mutexes
   pub semaphores : All IsSemaphoreRow deployed.semaphores
 

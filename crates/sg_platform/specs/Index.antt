@@ -6,7 +6,7 @@ use Rattle.std.specs.Str.{bytes_eq}
 use Rattle.std.specs.Global.{Vec}
 use Rattle.sg_platform.specs.declared.rows.ActorRow.{ActorRow}
 use Rattle.sg_platform.specs.declared.rows.Function.{Function}
-use Rattle.sg_platform.specs.declared.rows.Function.TheVariants.{Replay}
+use Rattle.sg_platform.specs.declared.rows.Function.TheVariants.{Replay, Worker, Master, Churn}
 use Rattle.sg_platform.specs.declared.rows.HostRow.{HostRow}
 use Rattle.sg_platform.specs.declared.rows.MutexRow.{MutexRow}
 use Rattle.sg_platform.specs.declared.rows.SemaphoreRow.{SemaphoreRow}
@@ -31,6 +31,9 @@ host_number hosts name = lookup (bytes_eq name) (along host_names 0 hosts)
 -- the row of the first actor of a name that replays
 abbrev pub names_if_replay : Function → List ℕ → List (List ℕ)
 names_if_replay Replay name = name ∷ []
+names_if_replay Worker name = []
+names_if_replay (Master tasks flops bytes workers) name = []
+names_if_replay (Churn seed next prev steps) name = []
 
 abbrev pub replay_names : ℕ → ActorRow → List (List ℕ × ℕ)
 replay_names i actor = numbered i (names_if_replay actor.function actor.name)

@@ -6,9 +6,10 @@ ghost use Rattle.sg_rules.specs.Names.{AreSmall, FitsIn32, names_view};
 ghost use Rattle.toml.specs.View.{view};
 
 use crate::ends::{LinkEnd, way_back};
+use crate::functions::function_of;
 use crate::rows::{
-    ActorRow, Function, HostRow, LinkRow, MutexRow, Policy, RouteRow, RouterRow, Routing,
-    SemaphoreRow, SpokeRow, ZoneRouteRow, ZoneRow,
+    ActorRow, HostRow, LinkRow, MutexRow, Policy, RouteRow, RouterRow, Routing, SemaphoreRow,
+    SpokeRow, ZoneRouteRow, ZoneRow,
 };
 use indexmap::IndexMap;
 use sg_base::{Child, LinkId, Links, Memory, PointId, Text, ZoneId};
@@ -339,10 +340,11 @@ fn actor_row(alloc: Global, names: &Names, row: &Value) -> Result<ActorRow, Memo
 {
     let name = Text::new(alloc, text_or_empty(row, "name"))?;
     let host = point_id(names, text_or_empty(row, "host"));
+    let function = function_of(alloc, names, row)?;
     Ok(ActorRow {
         name,
         host,
-        function: Function::Replay,
+        function,
     })
 }
 

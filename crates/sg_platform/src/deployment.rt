@@ -79,6 +79,29 @@ impl Model for Deployment {
 }
 
 impl Deployment {
+    /// The deployment with these rows.
+    pub(crate) fn with_rows(
+        alloc: Global,
+        actors: Vec<ActorRow>,
+        mutexes: Vec<MutexRow>,
+        semaphores: Vec<SemaphoreRow>,
+    ) -> Result<Deployment, sg_base::Memory>
+        requires { IsDeployment (record { actors = actors.items; mutexes = mutexes.items; semaphores = semaphores.items }) }
+        ensures { IfOk result (λ d. d ≡ record { actors = actors.items; mutexes = mutexes.items; semaphores = semaphores.items }) }
+    {
+        let replay = replay_by_name(alloc, actors.as_slice())?;
+        let named_mutexes = mutexes_by_name(alloc, mutexes.as_slice())?;
+        let named_semaphores = semaphores_by_name(alloc, semaphores.as_slice())?;
+        Ok(Deployment {
+            actors,
+            mutexes,
+            semaphores,
+            replay,
+            named_mutexes,
+            named_semaphores,
+        })
+    }
+
     /// The actors, in declared order. The first has the identifier 1.
     pub fn actors(&self) -> &[ActorRow]
         ensures rows { result.now ≡ self.now.actors }
@@ -160,17 +183,7 @@ fn rows_of(alloc: Global, names: &Names, tree: &toml::Table) -> Result<Deploymen
     let actors = actor_rows(alloc, names, rows_at(tree, "actor"))?;
     let mutexes = mutex_rows(alloc, rows_at(tree, "mutex"))?;
     let semaphores = semaphore_rows(alloc, rows_at(tree, "semaphore"))?;
-    let replay = replay_by_name(alloc, actors.as_slice())?;
-    let named_mutexes = mutexes_by_name(alloc, mutexes.as_slice())?;
-    let named_semaphores = semaphores_by_name(alloc, semaphores.as_slice())?;
-    Ok(Deployment {
-        actors,
-        mutexes,
-        semaphores,
-        replay,
-        named_mutexes,
-        named_semaphores,
-    })
+    Deployment::with_rows(alloc, actors, mutexes, semaphores)
 }
 
 /// The names that stand beside a platform.
@@ -180,7 +193,6 @@ fn names_on(
     platform: &PlatformText,
 ) -> Result<Names, sg_base::Memory>
     ensures known { IfOk result (λ names. names_view names ≡ names_on platform.now (table_view tree.now)) }
-    ensures small { IfOk result (λ names. AreSmall (names_view names)) }
     ensures few { IfOk result (λ names. names.zones + names.hosts ≤ 16384) }
 {
     let points = hosts_by_name(alloc, platform.hosts())?;
@@ -197,12 +209,11 @@ fn deployment_in(
     platform: &PlatformText,
 ) -> Result<Deployment, DeploymentFault>
     requires known { names_view names.now ≡ names_on platform.now (table_view tree.now) }
-    requires small { AreSmall (names_view names.now) }
     requires few { names.now.zones + names.now.hosts ≤ 16384 }
     ensures value { result ≢ Err Memory → result ≡ tree_deployment platform.now (table_view tree.now) }
     ensures deployed { IfOk result (IsDeployedOn platform.now) }
 {
-    match first_fault(names, &DEPLOYMENT, tree) {
+    match first_fault(alloc, names, &DEPLOYMENT, tree)? {
         Some(fault) => Err(fault_of(fault)),
         None => Ok(rows_of(alloc, names, tree)?),
     }

@@ -64,6 +64,7 @@ fn add_actor(
 {
     match actor.function {
         Function::Replay => add_bytes(alloc, space, actor.name.as_str().as_bytes(), number),
+        _ => Ok(()),
     }
 }
 

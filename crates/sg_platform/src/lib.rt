@@ -5,8 +5,10 @@
 mod build;
 mod deployment;
 mod ends;
+mod functions;
 mod index;
 mod laws;
+mod of_rows;
 mod platform;
 mod rows;
 #[cfg(test)]

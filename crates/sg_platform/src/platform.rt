@@ -51,13 +51,13 @@ impl From<sg_base::Memory> for PlatformFault {
 /// A platform, which contracts see as its rows.
 #[derive(Drop)]
 pub struct PlatformText {
-    zones: Vec<ZoneRow>,
-    hosts: Vec<HostRow>,
-    routers: Vec<RouterRow>,
-    links: Vec<LinkRow>,
-    routes: Vec<RouteRow>,
-    zone_routes: Vec<ZoneRouteRow>,
-    spokes: Vec<SpokeRow>,
+    pub(crate) zones: Vec<ZoneRow>,
+    pub(crate) hosts: Vec<HostRow>,
+    pub(crate) routers: Vec<RouterRow>,
+    pub(crate) links: Vec<LinkRow>,
+    pub(crate) routes: Vec<RouteRow>,
+    pub(crate) zone_routes: Vec<ZoneRouteRow>,
+    pub(crate) spokes: Vec<SpokeRow>,
 }
 
 impl Model for PlatformText {
@@ -200,7 +200,7 @@ fn platform_in(
     requires few { names.now.zones + names.now.hosts < 2 ^ 63 }
     ensures { result ≢ Err Memory → result ≡ tree_platform (table_view tree.now) }
 {
-    match first_fault(names, &PLATFORM, tree) {
+    match first_fault(alloc, names, &PLATFORM, tree)? {
         Some(fault) => Err(fault_of(fault)),
         None => Ok(rows_of(alloc, names, tree)?),
     }

@@ -1,5 +1,5 @@
 //! The rows of platforms and deployments, with resolved names.
-use sg_base::{Child, Links, PointId, Text, ZoneId};
+use sg_base::{ActorId, Child, Ids, Links, PointId, Text, ZoneId};
 
 /// How a zone finds the routes between its children.
 #[derive(Clone, Copy, Debug, PartialEq, Eq)]
@@ -98,6 +98,23 @@ pub struct SpokeRow {
 pub enum Function {
     /// It does what the script says.
     Replay,
+    /// It does the tasks that a master sends it.
+    Worker,
+    /// It hands so many tasks out, of so many flops and bytes each, to its workers in turn.
+    Master {
+        tasks: u64,
+        flops: u64,
+        bytes: u64,
+        workers: Ids,
+    },
+    /// It computes and passes messages on round a ring, by numbers that it draws: no text can name it.
+    Churn {
+        /// The state with which its generator begins.
+        seed: u64,
+        next: ActorId,
+        prev: ActorId,
+        steps: u32,
+    },
 }
 
 /// An actor.

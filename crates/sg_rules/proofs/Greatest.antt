@@ -2,10 +2,10 @@
 use Rattle.std.proofs.Common.{◌≡◌, ℕ, ◌≤◌, ◌==◌, Bool, true, false, cond, nat_le, List, length, Option, Some, None, Result, Ok, Err, IfOk, inl, inr, arith}
 use Rattle.std.proofs.lemmas.Bool.{cases_Bool}
 use Rattle.std.proofs.lemmas.Bool.Decides.{nat_tests}
-use Rattle.sg_rules.specs.Units.{bandwidth_value, if_latency, latency_value, speed_value, value_of}
-use Rattle.sg_units.specs.Amount.{up_to, sized, bandwidth_of, read_by, speed_of, time_of, is_short, value_of as amount}
+use Rattle.sg_rules.specs.Units.{amount_value, bandwidth_value, if_latency, latency_value, speed_value, value_of}
+use Rattle.sg_units.specs.Amount.{up_to, sized, amount_of, bandwidth_of, read_by, speed_of, time_of, is_short, value_of as amount}
 use Rattle.sg_units.specs.Number.{Number, number_of}
-use Rattle.sg_units.specs.Units.{Units, bandwidth_units, size_of, speed_units}
+use Rattle.sg_units.specs.Units.{Units, amount_units, bandwidth_units, size_of, speed_units}
 use Rattle.sg_units.specs.declared.fault.AmountFault.{AmountFault}
 use Rattle.sg_units.specs.declared.fault.AmountFault.TheVariants.{NotANumber, TooLarge}
 use Rattle.sg_units.specs.declared.units.Ratio.{Ratio}
@@ -36,6 +36,10 @@ within_read units greatest text =
 pub value_within : (greatest : ℕ) (r : Result ℕ AmountFault) (n : ℕ) → Within greatest r → value_of r ≡ Some n → n ≤ greatest
 value_within greatest (Ok value) n within same = let e : value ≡ n = cc in omega (arith, within, e)
 value_within greatest (Err fault) n within same = cc
+
+pub amount_within : (text : List ℕ) (n : ℕ) → amount_value text ≡ Some n → n ≤ 1000000000000000
+unfolding amount_value
+amount_within text n same = value_within 1000000000000000 (amount_of text) n (within_read amount_units 1000000000000000 text) same
 
 pub speed_within : (text : List ℕ) (n : ℕ) → speed_value text ≡ Some n → n ≤ 1000000000000000
 unfolding speed_value

@@ -1,6 +1,8 @@
 pub mod Greatest
 pub mod Kept
+pub mod KeptArguments
 pub mod NameLemmas
+pub mod Repeats
 pub mod Small
 pub mod TableLemmas
 pub mod Rising

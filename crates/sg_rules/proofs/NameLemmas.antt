@@ -20,6 +20,7 @@ pub record FindsSame (a b : Known) : Type 0 where
   pub zone_pairs : SamePairs a.zone_pairs b.zone_pairs
   pub children : SameNames a.children b.children
   pub actors : SameNames a.actors b.actors
+  pub workers : SameNames a.workers b.workers
   pub mutexes : SameNames a.mutexes b.mutexes
   pub semaphores : SameNames a.semaphores b.semaphores
 
@@ -34,6 +35,7 @@ known_same a b s = λ i. record {
   zone_pairs = λ q. s.zone_pairs q i;
   children = λ q. s.children q i;
   actors = λ q. s.actors q i;
+  workers = λ q. s.workers q i;
   mutexes = λ q. s.mutexes q i;
   semaphores = λ q. s.semaphores q i;
 }

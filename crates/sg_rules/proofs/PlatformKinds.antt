@@ -5,7 +5,7 @@ use Rattle.sg_rules.proofs.Rising.{Each, each_append}
 use Rattle.sg_rules.specs.Faults.{faults_of, key_faults, row_faults, row_faults_at, row_kinds, rows_before, table_faults, table_kinds, top_kinds}
 use Rattle.sg_rules.specs.Names.{Known}
 use Rattle.sg_rules.specs.PlatformKinds.{IsPlatformFault, PlatformKinds}
-use Rattle.sg_rules.specs.Rules.{argument_kinds, child_kinds, end_kinds, host_kinds, id_kinds, is_text, key_kinds, kinds_at, latency_kinds, link_id_kinds, link_list_kinds, list_kinds, point_kinds, rate_kinds, route_end_kinds, shape_kinds, text_kinds, texts_kinds, value_kinds, whole_kinds, word_kinds, zone_kinds, zone_route_end_kinds}
+use Rattle.sg_rules.specs.Rules.{child_kinds, default_kinds, end_kinds, host_kinds, id_kinds, is_text, key_kinds, kinds_at, latency_kinds, link_id_kinds, link_list_kinds, list_kinds, point_kinds, rate_kinds, route_end_kinds, shape_kinds, text_kinds, texts_kinds, value_kinds, whole_kinds, word_kinds, zone_kinds, zone_route_end_kinds}
 use Rattle.sg_rules.specs.Tables.{keys_of, platform_tables, table_number, table_text}
 use Rattle.sg_rules.specs.declared.tables.Key.{Key}
 use Rattle.sg_rules.specs.declared.tables.Rule.{Rule}
@@ -98,9 +98,17 @@ shape_small shape.Whole names number row r d h = typed _ (as_integer d) (whole_s
 shape_small shape.Truth names number row r d h = typed _ (as_bool d) (λ b. tt)
 shape_small shape.Texts names number row r d h = typed _ (as_array d) (λ items. list_small names row r _ h)
 
+default_small : (names : Known) (row : Data) (r : Rule) → IsPlatformRule r → AreSmall (default_kinds names row r)
+default_small names row rule.ArgumentList h = absurd h
+default_small names row _ h = tt
+
 key_small : (names : Known) (number : ℕ) (row : Data) (k : Key) (o : Option Data) → IsPlatformRule k.rule → AreSmall (kinds_at names number row k o)
 unfolding value_kinds
-key_small names number row k None h = one _ MissingKey (omega arith)
+key_small names number row k None h = missing_or _ (default_kinds names row k.rule) (default_small names row k.rule h)
+  where
+    missing_or : (b : Bool) (kinds : List Kind) → AreSmall kinds → AreSmall (cond b (MissingKey ∷ []) kinds)
+    missing_or true kinds h = (omega arith, tt)
+    missing_or false kinds h = h
 key_small names number row k (Some d) h = shape_small _ names number row k.rule d h
 
 place_small : (t r k : ℕ) (kinds : List Kind) → AreSmall kinds → Each IsPlatformFault (at_place t r k kinds)

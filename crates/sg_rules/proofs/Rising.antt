@@ -1,10 +1,11 @@
 -- The faults of a tree rise.
 use Rattle.std.proofs.Common.{◌≡◌, ℕ, ◌+◌, ◌<◌, ◌≤◌, Bool, true, false, cond, ℤ, List, [], ◌∷◌, ◌++◌, Option, Some, None, refl, sym, ◌∙◌, inl, inr, arith}
 use Rattle.std.specs.List.{AllByRecursion, list_all}
+use Rattle.sg_rules.specs.Arguments.{argument_kinds}
 use Rattle.sg_rules.specs.Faults.{faults_of, key_faults, row_faults, row_faults_at, row_kinds, rows_before, table_faults, table_kinds, top_kinds}
 use Rattle.sg_rules.specs.Names.{Known}
 use Rattle.sg_rules.specs.Rising.{FaultsRise, IsBefore, IsRising}
-use Rattle.sg_rules.specs.Rules.{argument_kinds, child_kinds, end_kinds, host_kinds, id_kinds, is_text, key_kinds, kinds_at, latency_kinds, link_id_kinds, link_list_kinds, list_kinds, point_kinds, rate_kinds, route_end_kinds, shape_kinds, text_kinds, texts_kinds, value_kinds, whole_kinds, word_kinds, zone_kinds, zone_route_end_kinds}
+use Rattle.sg_rules.specs.Rules.{child_kinds, default_kinds, end_kinds, host_kinds, id_kinds, is_text, key_kinds, kinds_at, latency_kinds, link_id_kinds, link_list_kinds, list_kinds, point_kinds, rate_kinds, route_end_kinds, shape_kinds, text_kinds, texts_kinds, value_kinds, whole_kinds, word_kinds, zone_kinds, zone_route_end_kinds}
 use Rattle.sg_rules.specs.Tables.{deployment_tables, keys_of, platform_tables, shape_of, table_number, table_text}
 use Rattle.sg_rules.specs.declared.tables.Key.{Key}
 use Rattle.sg_rules.specs.declared.tables.Rule.{Rule}
@@ -115,9 +116,18 @@ shape_rise shape.Whole names number row r d = typed _ (as_integer d) (whole_rise
 shape_rise shape.Truth names number row r d = typed _ (as_bool d) (λ b. tt)
 shape_rise shape.Texts names number row r d = typed _ (as_array d) (λ items. list_rise names row r _)
 
+default_rise : (names : Known) (row : Data) (r : Rule) → KindsRise (default_kinds names row r)
+unfolding argument_kinds
+default_rise names row rule.ArgumentList = one _ Arguments
+default_rise names row _ = tt
+
 key_rise : (names : Known) (number : ℕ) (row : Data) (k : Key) (o : Option Data) → KindsRise (kinds_at names number row k o)
 unfolding value_kinds
-key_rise names number row k None = one _ MissingKey
+key_rise names number row k None = missing_or _ (default_kinds names row k.rule) (default_rise names row k.rule)
+  where
+    missing_or : (b : Bool) (kinds : List Kind) → KindsRise kinds → KindsRise (cond b (MissingKey ∷ []) kinds)
+    missing_or true kinds h = (tt, tt)
+    missing_or false kinds h = h
 key_rise names number row k (Some d) = shape_rise (shape_of k.rule) names number row k.rule d
 
 -- the faults at one place

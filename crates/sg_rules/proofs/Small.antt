@@ -57,6 +57,10 @@ pub known_links : (tree : Members) (q : List ℕ) → (platform_known tree).link
 unfolding platform_known
 known_links tree q = refl
 
+known_workers : (tree : Members) (q : List ℕ) → (platform_known tree).workers q ≡ None
+unfolding platform_known
+known_workers tree q = refl
+
 pub platform_small : (tree : Members) → FewRows tree → AreSmall (platform_known tree)
 platform_small tree few =
     let zones = rows_at (codes "zone") tree in
@@ -66,4 +70,5 @@ platform_small tree few =
     record {
       points = λ q. rw (known_points tree q) (below_all _ (length zones + length hosts + length routers) 4294967296 (omega (arith, few.zones, few.hosts, few.routers)) (points_below zones hosts routers q));
       links = λ q. rw (known_links tree q) (below_all _ (length (flat_map link_names links)) 4294967296 (omega (arith, few.links, two_each links)) (links_below links q));
+      workers = λ q. rw (known_workers tree q) tt;
     }

@@ -1,5 +1,6 @@
 pub mod Tables
 pub mod Units
+pub mod Arguments
 pub mod LinkNames
 pub mod Pairs
 pub mod Names

@@ -3,6 +3,7 @@ use Rattle.std.specs.Prelude.{ℕ, ◌+◌, ◌<◌, ◌^◌, IfSome, List, ◌+
 use Rattle.std.specs.HashMap.{get_by, get_by_text}
 use Rattle.std.specs.Map.{lookup}
 use Rattle.std.specs.Str.{bytes_eq}
+use Rattle.sg_rules.specs.Arguments.{worker_numbers}
 use Rattle.sg_rules.specs.LinkNames.{declared_numbers, taken_numbers}
 use Rattle.sg_rules.specs.Pairs.{pair_numbers}
 use Rattle.sg_rules.specs.declared.names.Names.{Names}
@@ -21,6 +22,7 @@ pub record Known : Type 0 where
   pub zone_pairs : Pair → Option ℕ
   pub children : Finds
   pub actors : Finds
+  pub workers : Finds
   pub mutexes : Finds
   pub semaphores : Finds
 
@@ -53,6 +55,7 @@ platform_known tree = record {
   zone_pairs = λ q. lookup (pair_eq q) (pair_numbers (points_in tree) (rows_at (codes "zone_route") tree));
   children = λ q. lookup (bytes_eq q) (names_from (codes "child") 0 (rows_at (codes "spoke") tree));
   actors = finds_none;
+  workers = finds_none;
   mutexes = finds_none;
   semaphores = finds_none;
 }
@@ -69,6 +72,7 @@ deployment_known hosts points tree = record {
   zone_pairs = pairs_none;
   children = finds_none;
   actors = λ q. lookup (bytes_eq q) (names_from (codes "name") 0 (rows_at (codes "actor") tree));
+  workers = λ q. lookup (bytes_eq q) (worker_numbers (rows_at (codes "actor") tree));
   mutexes = λ q. lookup (bytes_eq q) (names_from (codes "id") 0 (rows_at (codes "mutex") tree));
   semaphores = λ q. lookup (bytes_eq q) (names_from (codes "id") 0 (rows_at (codes "semaphore") tree));
 }
@@ -85,6 +89,7 @@ names_view names = record {
   zone_pairs = λ q. get_by (pair_eq q) names.zone_pairs;
   children = λ q. get_by_text names.children q;
   actors = λ q. get_by_text names.actors q;
+  workers = λ q. get_by_text names.workers q;
   mutexes = λ q. get_by_text names.mutexes q;
   semaphores = λ q. get_by_text names.semaphores q;
 }
@@ -93,7 +98,8 @@ names_view names = record {
 abbrev pub FitsIn32 : Finds → Type 0
 FitsIn32 found = (name : List ℕ) → IfSome (found name) (λ i. i < 2 ^ 32)
 
--- so does each that a row keeps
+-- so does each that a row keeps; actors are numbered from 1 on
 pub record AreSmall (names : Known) : Type 0 where
   pub points : FitsIn32 names.points
   pub links : FitsIn32 names.links
+  pub workers : (name : List ℕ) → IfSome (names.workers name) (λ row. row + 1 < 2 ^ 32)

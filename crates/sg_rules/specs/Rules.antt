@@ -1,8 +1,9 @@
 -- The rules that the values of keys keep, each asked by itself of the whole tree.
-use Rattle.std.specs.Prelude.{is_none, is_some, ℕ, ◌+◌, ◌==◌, ℤ, pos, negsuc, Bool, true, false, not, ◌&&◌, ◌||◌, nat_lt, nat_le, List, [], ◌∷◌, ◌++◌, if◌then◌else◌, Option, Some, None, length, codes, unwrap_or}
+use Rattle.std.specs.Prelude.{is_none, is_some, ℕ, ◌+◌, ◌==◌, ℤ, pos, negsuc, Bool, true, false, not, ◌&&◌, ◌||◌, nat_lt, nat_le, List, [], ◌∷◌, ◌++◌, if◌then◌else◌, Option, Some, None, length, codes}
 use Rattle.std.specs.Char.{is_ascii_alphanumeric}
 use Rattle.std.specs.List.{list_all, list_any}
 use Rattle.std.specs.Str.{bytes_eq}
+use Rattle.sg_rules.specs.Arguments.{argument_kinds}
 use Rattle.sg_rules.specs.LinkNames.{is_split, taken_by}
 use Rattle.sg_rules.specs.Names.{Known}
 use Rattle.sg_rules.specs.Pairs.{pairs_of}
@@ -19,7 +20,7 @@ use Rattle.sg_tree.specs.Faults.{broken, of_type}
 use Rattle.sg_tree.specs.Names.{Finds, Pair}
 use Rattle.sg_tree.specs.Tree.{list_of, text_at}
 use Rattle.sg_tree.specs.declared.fault.Kind.{Kind}
-use Rattle.sg_tree.specs.declared.fault.Kind.TheVariants.{MissingKey, WrongType, BadValue, BadName, Duplicate, Unknown, Limit, Function, Arguments}
+use Rattle.sg_tree.specs.declared.fault.Kind.TheVariants.{MissingKey, WrongType, BadValue, BadName, Duplicate, Unknown, Limit, Function}
 use Rattle.toml.specs.Data.{Data, get, as_str, as_integer, as_bool, as_array}
 
 -- a name: 1 to 64 letters, digits, underscores, points and hyphens
@@ -92,7 +93,7 @@ abbrev pub policies : List (List ℕ)
 policies = codes "SHARED" ∷ codes "FATPIPE" ∷ codes "SPLITDUPLEX" ∷ []
 
 abbrev pub functions : List (List ℕ)
-functions = codes "replay" ∷ []
+functions = codes "replay" ∷ codes "master" ∷ codes "worker" ∷ []
 
 -- a speed or a bandwidth: above zero, where its reader takes the text
 abbrev pub is_positive : Option ℕ → Bool
@@ -146,14 +147,6 @@ whole_kinds CoreCount z = broken (not (is_core_count z)) BadValue
 whole_kinds CapacityCount z = broken (not (is_capacity z)) BadValue
 whole_kinds _ z = []
 
--- the row of an actor that replays its script lines
-abbrev pub is_replay : Data → Bool
-is_replay row = bytes_eq (unwrap_or (text_at (codes "function") row) []) (codes "replay")
-
--- the arguments of an actor: none, where it replays
-unfoldable pub argument_kinds : Data → List Data → List Kind
-argument_kinds row items = broken (is_replay row && not (length items == 0)) Arguments
-
 abbrev pub is_text : Data → Bool
 is_text d = is_some (as_str d)
 
@@ -171,7 +164,7 @@ link_list_kinds links items =
 -- what is wrong with a list of texts
 abbrev pub texts_kinds : Known → Data → Rule → List Data → List Kind
 texts_kinds names row LinkList items = link_list_kinds names.links items
-texts_kinds names row ArgumentList items = argument_kinds row items
+texts_kinds names row ArgumentList items = argument_kinds names.workers row items
 texts_kinds names row _ items = []
 
 unfoldable pub list_kinds : Known → Data → Rule → List Data → List Kind
@@ -198,9 +191,14 @@ is_required names row Required = true
 is_required names row Optional = false
 is_required names row (IfZone word) = names_zone names (text_at (word_text word) row)
 
+-- what is wrong where an optional key is left out: its default must fit the row too
+abbrev pub default_kinds : Known → Data → Rule → List Kind
+default_kinds names row ArgumentList = argument_kinds names.workers row []
+default_kinds names row _ = []
+
 -- what is wrong at a key of a row, there or not
 abbrev pub kinds_at : Known → ℕ → Data → Key → Option Data → List Kind
-kinds_at names number row key None = broken (is_required names row key.need) MissingKey
+kinds_at names number row key None = if is_required names row key.need then MissingKey ∷ [] else default_kinds names row key.rule
 kinds_at names number row key (Some d) = value_kinds names number row key.rule d
 
 abbrev pub key_text : Key → List ℕ

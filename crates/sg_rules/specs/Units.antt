@@ -1,11 +1,15 @@
 -- Values with units, where their reader takes the text.
 use Rattle.std.specs.Prelude.{ℕ, nat_le, List, if◌then◌else◌, Option, Some, None, Result, Ok, Err}
-use Rattle.sg_units.specs.Amount.{bandwidth_of, speed_of, time_of}
+use Rattle.sg_units.specs.Amount.{amount_of, bandwidth_of, speed_of, time_of}
 use Rattle.sg_units.specs.declared.fault.AmountFault.{AmountFault}
 
 abbrev pub value_of : Result ℕ AmountFault → Option ℕ
 value_of (Ok value) = Some value
 value_of (Err fault) = None
+
+-- the flops, bytes or tasks that a text gives
+unfoldable pub amount_value : List ℕ → Option ℕ
+amount_value text = value_of (amount_of text)
 
 -- the speed that a text gives, in flops per second
 unfoldable pub speed_value : List ℕ → Option ℕ

@@ -1,5 +1,5 @@
 //! The first rule that a key of a row breaks.
-ghost use Rattle.std.specs.Prelude.{◌≡◌, ◌≤◌, ◌+◌, ◌++◌, length, map};
+ghost use Rattle.std.specs.Prelude.{◌≡◌, IfOk, ◌≤◌, ◌+◌, ◌++◌, length, map};
 ghost use Rattle.std.specs.HashMap.{get_by, get_by_text};
 ghost use Rattle.std.specs.List.{list_all, list_any};
 ghost use Rattle.sg_tree.specs.Along.{first};
@@ -10,9 +10,10 @@ ghost use Rattle.sg_rules.specs.Pairs.{pairs_of};
 ghost use Rattle.sg_tree.specs.Names.{Pair, pair_eq};
 ghost use Rattle.sg_tree.specs.Tree.{text_at};
 ghost use Rattle.toml.specs.Data.{as_str};
-ghost use Rattle.sg_rules.specs.Rules.{argument_kinds, child_kinds, end_kinds, functions, host_kinds, id_kinds, is_capacity, is_core_count, is_name, is_name_byte, is_pair_taken, is_replay, is_required, is_taken, is_text, is_unknown, key_kinds, latency_kinds, link_id_kinds, link_list_kinds, list_kinds, names_zone, point_kinds, policies, rate_kinds, route_end_kinds, routings, text_kinds, texts_kinds, value_kinds, whole_kinds, word_kinds, zone_kinds, zone_route_end_kinds};
+ghost use Rattle.sg_rules.specs.Rules.{child_kinds, default_kinds, end_kinds, functions, host_kinds, id_kinds, is_capacity, is_core_count, is_name, is_name_byte, is_pair_taken, is_required, is_taken, is_text, is_unknown, key_kinds, latency_kinds, link_id_kinds, link_list_kinds, list_kinds, names_zone, point_kinds, policies, rate_kinds, route_end_kinds, routings, text_kinds, texts_kinds, value_kinds, whole_kinds, word_kinds, zone_kinds, zone_route_end_kinds};
 ghost use Rattle.toml.specs.View.{view};
 
+use crate::arguments::argument_fault;
 use crate::links::is_split;
 use crate::names::Names;
 use crate::pairs::{is_symmetrical, point_at};
@@ -20,7 +21,9 @@ use crate::tables::{Key, Need, Rule, Shape};
 use crate::units::{bandwidth_value, latency_value, speed_value};
 use arrayvec::ArrayString;
 use indexmap::IndexMap;
-use sg_tree::{Kind, text_at};
+use sg_base::Memory;
+use sg_tree::Kind;
+use std::alloc::Global;
 use toml::Value;
 
 fn is_name_byte(byte: u8) -> bool
@@ -270,7 +273,7 @@ fn function_fault(text: &str) -> Option<Kind>
     ensures { result ≡ first (word_kinds functions kind.Function text.now) }
 {
     match text {
-        "replay" => None,
+        "replay" | "master" | "worker" => None,
         _ => Some(Kind::Function),
     }
 }
@@ -338,27 +341,6 @@ fn are_texts(items: &[Value]) -> bool
     true
 }
 
-/// Whether the row is that of an actor that replays.
-fn is_replay(row: &Value) -> bool
-    ensures { result ≡ is_replay (view row.now) }
-{
-    match text_at(row, "function") {
-        Some(function) => function == "replay",
-        None => false,
-    }
-}
-
-#[tactic(auto, unfolding(crate::specs::Rules::argument_kinds))]
-fn argument_fault(row: &Value, items: &[Value]) -> Option<Kind>
-    ensures { result ≡ first (argument_kinds (view row.now) (map view items.now)) }
-{
-    if is_replay(row) && items.len() != 0 {
-        Some(Kind::Arguments)
-    } else {
-        None
-    }
-}
-
 fn is_unknown(links: &IndexMap<String, usize>, item: &Value) -> bool
     ensures { result ≡ is_unknown (λ name. get_by_text links.now name) (as_str (view item.now)) }
 {
@@ -394,48 +376,67 @@ fn link_list_fault(links: &IndexMap<String, usize>, items: &[Value]) -> Option<K
     }
 }
 
-fn texts_fault(names: &Names, row: &Value, rule: Rule, items: &[Value]) -> Option<Kind>
-    ensures { result ≡ first (texts_kinds (names_view names.now) (view row.now) rule (map view items.now)) }
+fn texts_fault(
+    alloc: Global,
+    names: &Names,
+    row: &Value,
+    rule: Rule,
+    items: &[Value],
+) -> Result<Option<Kind>, Memory>
+    ensures { IfOk result (λ fault. fault ≡ first (texts_kinds (names_view names.now) (view row.now) rule (map view items.now))) }
 {
     match rule {
-        Rule::LinkList => link_list_fault(&names.links, items),
-        Rule::ArgumentList => argument_fault(row, items),
-        _ => None,
+        Rule::LinkList => Ok(link_list_fault(&names.links, items)),
+        Rule::ArgumentList => argument_fault(alloc, &names.workers, row, items),
+        _ => Ok(None),
     }
 }
 
 #[tactic(auto, unfolding(crate::specs::Rules::list_kinds))]
-fn list_fault(names: &Names, row: &Value, rule: Rule, items: &[Value]) -> Option<Kind>
-    ensures { result ≡ first (list_kinds (names_view names.now) (view row.now) rule (map view items.now)) }
+fn list_fault(
+    alloc: Global,
+    names: &Names,
+    row: &Value,
+    rule: Rule,
+    items: &[Value],
+) -> Result<Option<Kind>, Memory>
+    ensures { IfOk result (λ fault. fault ≡ first (list_kinds (names_view names.now) (view row.now) rule (map view items.now))) }
 {
     if are_texts(items) {
-        texts_fault(names, row, rule, items)
+        texts_fault(alloc, names, row, rule, items)
     } else {
-        Some(Kind::WrongType)
+        Ok(Some(Kind::WrongType))
     }
 }
 
 #[tactic(auto, unfolding(crate::specs::Rules::value_kinds), using(sg_tree::proofs::TreeLemmas::list_of_items))]
-fn value_fault(names: &Names, number: usize, row: &Value, rule: Rule, value: &Value) -> Option<Kind>
-    ensures { result ≡ first (value_kinds (names_view names.now) number (view row.now) rule (view value.now)) }
+fn value_fault(
+    alloc: Global,
+    names: &Names,
+    number: usize,
+    row: &Value,
+    rule: Rule,
+    value: &Value,
+) -> Result<Option<Kind>, Memory>
+    ensures { IfOk result (λ fault. fault ≡ first (value_kinds (names_view names.now) number (view row.now) rule (view value.now))) }
 {
     match rule.shape() {
         Shape::Text => match value.as_str() {
-            None => Some(Kind::WrongType),
-            Some(text) => text_fault(names, number, row, rule, text),
+            None => Ok(Some(Kind::WrongType)),
+            Some(text) => Ok(text_fault(names, number, row, rule, text)),
         },
         Shape::Whole => match value.as_integer() {
-            None => Some(Kind::WrongType),
-            Some(whole) => whole_fault(rule, whole),
+            None => Ok(Some(Kind::WrongType)),
+            Some(whole) => Ok(whole_fault(rule, whole)),
         },
         Shape::Truth => if value.is_bool() {
-            None
+            Ok(None)
         } else {
-            Some(Kind::WrongType)
+            Ok(Some(Kind::WrongType))
         },
         Shape::Texts => match value.as_array() {
-            None => Some(Kind::WrongType),
-            Some(items) => list_fault(names, row, rule, items.as_slice()),
+            None => Ok(Some(Kind::WrongType)),
+            Some(items) => list_fault(alloc, names, row, rule, items.as_slice()),
         },
     }
 }
@@ -460,17 +461,38 @@ fn is_required(names: &Names, row: &Value, need: Need) -> bool
     }
 }
 
+/// What is wrong where an optional key is left out.
+fn default_fault(
+    alloc: Global,
+    names: &Names,
+    row: &Value,
+    rule: Rule,
+) -> Result<Option<Kind>, Memory>
+    ensures { IfOk result (λ fault. fault ≡ first (default_kinds (names_view names.now) (view row.now) rule)) }
+{
+    match rule {
+        Rule::ArgumentList => argument_fault(alloc, &names.workers, row, &[]),
+        _ => Ok(None),
+    }
+}
+
 /// The first rule that a key of a row breaks. The row has this number among the rows that share its space of names.
 #[tactic(auto, unfolding(crate::specs::Rules::key_kinds))]
-pub fn key_fault(names: &Names, number: usize, row: &Value, key: Key) -> Option<Kind>
-    ensures { result ≡ first (key_kinds (names_view names.now) number (view row.now) key) }
+pub fn key_fault(
+    alloc: Global,
+    names: &Names,
+    number: usize,
+    row: &Value,
+    key: Key,
+) -> Result<Option<Kind>, Memory>
+    ensures { IfOk result (λ fault. fault ≡ first (key_kinds (names_view names.now) number (view row.now) key)) }
 {
     match row.get(key.word.text()) {
         None => if is_required(names, row, key.need) {
-            Some(Kind::MissingKey)
+            Ok(Some(Kind::MissingKey))
         } else {
-            None
+            default_fault(alloc, names, row, key.rule)
         },
-        Some(value) => value_fault(names, number, row, key.rule, value),
+        Some(value) => value_fault(alloc, names, number, row, key.rule, value),
     }
 }

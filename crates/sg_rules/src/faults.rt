@@ -1,5 +1,5 @@
 //! The first fault of a tree.
-ghost use Rattle.std.specs.Prelude.{◌≡◌, ◌<◌, ◌≤◌, ◌+◌, ◌^◌, length, map, codes};
+ghost use Rattle.std.specs.Prelude.{◌≡◌, IfOk, ◌<◌, ◌≤◌, ◌+◌, ◌^◌, length, map, codes};
 ghost use Rattle.std.specs.Prelude.{string_bytes};
 ghost use Rattle.toml.specs.Data.{get_member};
 ghost use Rattle.std.specs.List.{list_any, list_all};
@@ -16,32 +16,35 @@ ghost use Rattle.sg_rules.specs.Faults.{key_faults, row_faults, row_faults_at, r
 use crate::checks::key_fault;
 use crate::names::Names;
 use crate::tables::{Key, Table};
+use sg_base::Memory;
 use sg_tree::{Fault, Kind, Place, rows_at, value_at};
+use std::alloc::Global;
 use toml::Value;
 
 /// The first fault of the keys of a row.
 fn keys_fault(
+    alloc: Global,
     names: &Names,
     number: usize,
     table: u32,
     row_number: u32,
     keys: &[Key],
     row: &Value,
-) -> Option<Fault>
+) -> Result<Option<Fault>, Memory>
     requires { length keys.now < 100 }
-    ensures { result ≡ first (along (key_faults (names_view names.now) number table row_number (view row.now)) 0 keys.now) }
+    ensures { IfOk result (λ fault. fault ≡ first (along (key_faults (names_view names.now) number table row_number (view row.now)) 0 keys.now)) }
 {
     for (i, key) in keys.iter().enumerate() {
-        if let Some(kind) = key_fault(names, number, row, *key) {
+        if let Some(kind) = key_fault(alloc, names, number, row, *key)? {
             let place = Place {
                 table,
                 row: row_number,
                 key: i as u32 + 1,
             };
-            return Some(Fault { place, kind });
+            return Ok(Some(Fault { place, kind }));
         }
     }
-    None
+    Ok(None)
 }
 
 fn is_key(keys: &[Key], name: &str) -> bool
@@ -86,15 +89,16 @@ fn whole_fault(keys: &[Key], row: &Value) -> Option<Kind>
 /// The first fault of a row, which has this number in its space.
 #[tactic(auto, unfolding(crate::specs::Faults::row_faults))]
 fn row_fault(
+    alloc: Global,
     names: &Names,
     keys: &[Key],
     number: usize,
     table: u32,
     row_number: u32,
     row: &Value,
-) -> Option<Fault>
+) -> Result<Option<Fault>, Memory>
     requires { length keys.now < 100 }
-    ensures { result ≡ first (row_faults (names_view names.now) keys.now number table row_number (view row.now)) }
+    ensures { IfOk result (λ fault. fault ≡ first (row_faults (names_view names.now) keys.now number table row_number (view row.now))) }
 {
     if let Some(kind) = whole_fault(keys, row) {
         let place = Place {
@@ -102,31 +106,32 @@ fn row_fault(
             row: row_number,
             key: 0,
         };
-        return Some(Fault { place, kind });
+        return Ok(Some(Fault { place, kind }));
     }
-    keys_fault(names, number, table, row_number, keys, row)
+    keys_fault(alloc, names, number, table, row_number, keys, row)
 }
 
 /// The first fault of the rows of a table, before which stand this many rows of its space.
 fn rows_fault(
+    alloc: Global,
     names: &Names,
     keys: &[Key],
     before: usize,
     table: u32,
     rows: &[Value],
-) -> Option<Fault>
+) -> Result<Option<Fault>, Memory>
     requires few_keys { length keys.now < 100 }
     requires few_rows { length rows.now < 2 ^ 20 }
     requires few_before { before < 2 ^ 63 }
-    ensures { result ≡ first (along (λ i row. row_faults_at (names_view names.now) keys.now before table i (view row)) 0 rows.now) }
+    ensures { IfOk result (λ fault. fault ≡ first (along (λ i row. row_faults_at (names_view names.now) keys.now before table i (view row)) 0 rows.now)) }
 {
     for (i, row) in rows.iter().enumerate() {
-        let found = row_fault(names, keys, before + i, table, i as u32 + 1, row);
+        let found = row_fault(alloc, names, keys, before + i, table, i as u32 + 1, row)?;
         if found.is_some() {
-            return found;
+            return Ok(found);
         }
     }
-    None
+    Ok(None)
 }
 
 /// The first rule that a table breaks as a whole.
@@ -162,9 +167,14 @@ fn before(names: &Names, table: Table) -> usize
 
 /// The first fault of a table.
 #[tactic(auto, using(crate::proofs::TableLemmas::table_rest, crate::proofs::TableLemmas::table_head, crate::proofs::TableLemmas::few_at))]
-fn table_fault(names: &Names, tree: &toml::Table, table: Table) -> Option<Fault>
+fn table_fault(
+    alloc: Global,
+    names: &Names,
+    tree: &toml::Table,
+    table: Table,
+) -> Result<Option<Fault>, Memory>
     requires { names.now.zones + names.now.hosts < 2 ^ 63 }
-    ensures { result ≡ first (table_faults (names_view names.now) (table_view tree.now) table) }
+    ensures { IfOk result (λ fault. fault ≡ first (table_faults (names_view names.now) (table_view tree.now) table)) }
 {
     match head_fault(tree, table) {
         Some(kind) => {
@@ -173,11 +183,12 @@ fn table_fault(names: &Names, tree: &toml::Table, table: Table) -> Option<Fault>
                 row: 0,
                 key: 0,
             };
-            Some(Fault { place, kind })
+            Ok(Some(Fault { place, kind }))
         }
         None => {
             let rows = rows_at(tree, table.text());
             rows_fault(
+                alloc,
                 names,
                 table.keys(),
                 before(names, table),
@@ -212,24 +223,34 @@ fn has_only_tables(tables: &[Table], members: &toml::Table) -> bool
 }
 
 /// The first fault of these tables.
-fn tables_fault(names: &Names, tree: &toml::Table, tables: &[Table]) -> Option<Fault>
+fn tables_fault(
+    alloc: Global,
+    names: &Names,
+    tree: &toml::Table,
+    tables: &[Table],
+) -> Result<Option<Fault>, Memory>
     requires { names.now.zones + names.now.hosts < 2 ^ 63 }
-    ensures { result ≡ first (along (λ i table. table_faults (names_view names.now) (table_view tree.now) table) 0 tables.now) }
+    ensures { IfOk result (λ fault. fault ≡ first (along (λ i table. table_faults (names_view names.now) (table_view tree.now) table) 0 tables.now)) }
 {
     for table in tables {
-        let found = table_fault(names, tree, *table);
+        let found = table_fault(alloc, names, tree, *table)?;
         if found.is_some() {
-            return found;
+            return Ok(found);
         }
     }
-    None
+    Ok(None)
 }
 
 /// The first fault of a tree.
 #[tactic(auto, unfolding(crate::specs::Faults::faults_of))]
-pub fn first_fault(names: &Names, tables: &[Table], tree: &toml::Table) -> Option<Fault>
+pub fn first_fault(
+    alloc: Global,
+    names: &Names,
+    tables: &[Table],
+    tree: &toml::Table,
+) -> Result<Option<Fault>, Memory>
     requires { names.now.zones + names.now.hosts < 2 ^ 63 }
-    ensures { result ≡ first (faults_of (names_view names.now) tables.now (table_view tree.now)) }
+    ensures { IfOk result (λ fault. fault ≡ first (faults_of (names_view names.now) tables.now (table_view tree.now))) }
 {
     if !has_only_tables(tables, tree) {
         let place = Place {
@@ -237,10 +258,10 @@ pub fn first_fault(names: &Names, tables: &[Table], tree: &toml::Table) -> Optio
             row: 0,
             key: 0,
         };
-        return Some(Fault {
+        return Ok(Some(Fault {
             place,
             kind: Kind::Unknown,
-        });
+        }));
     }
-    tables_fault(names, tree, tables)
+    tables_fault(alloc, names, tree, tables)
 }

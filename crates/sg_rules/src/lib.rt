@@ -2,6 +2,7 @@
 //! rows give, and the first fault of a tree.
 #![tactic(auto)]
 
+mod arguments;
 mod checks;
 mod faults;
 mod laws;
@@ -11,10 +12,11 @@ mod pairs;
 mod tables;
 mod units;
 
+pub use arguments::{has_function, text_of};
 pub use faults::first_fault;
 pub use laws::{faults_rise, platform_kinds};
 pub use links::is_split;
 pub use names::{Names, deployment_names, platform_names};
 pub use pairs::is_symmetrical;
 pub use tables::{DEPLOYMENT, Key, Need, PLATFORM, Rule, Table, Word};
-pub use units::{bandwidth_value, latency_value, speed_value};
+pub use units::{amount_value, bandwidth_value, latency_value, speed_value};

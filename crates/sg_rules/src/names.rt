@@ -9,6 +9,7 @@ ghost use Rattle.sg_tree.specs.Names.{Pair, pair_eq};
 ghost use Rattle.sg_rules.specs.Names.{deployment_known, names_view, platform_known, point_numbers};
 ghost use Rattle.toml.specs.View.{view, table_view};
 
+use crate::arguments::workers_in;
 use crate::links::{declared_links, taken_links};
 use crate::pairs::pairs_in;
 use indexmap::IndexMap;
@@ -37,6 +38,8 @@ pub struct Names {
     /// The children of spoke rows.
     pub children: IndexMap<String, usize>,
     pub actors: IndexMap<String, usize>,
+    /// The actors of function `worker`, by rows.
+    pub workers: IndexMap<String, usize>,
     pub mutexes: IndexMap<String, usize>,
     pub semaphores: IndexMap<String, usize>,
 }
@@ -112,6 +115,7 @@ pub fn platform_names(alloc: Global, tree: &Table) -> Result<Names, Memory>
         zone_pairs: pairs.1,
         children,
         actors: IndexMap::new(alloc),
+        workers: IndexMap::new(alloc),
         mutexes: IndexMap::new(alloc),
         semaphores: IndexMap::new(alloc),
     })
@@ -127,7 +131,9 @@ pub fn deployment_names(
     ensures known { IfOk result (λ names. names_view names ≡ deployment_known hosts (λ q. get_by_text points q) (table_view tree.now)) }
     ensures few { IfOk result (λ names. names.zones + names.hosts ≡ hosts) }
 {
-    let actors = names_at(alloc, "name", rows_at(tree, "actor"))?;
+    let rows = rows_at(tree, "actor");
+    let actors = names_at(alloc, "name", rows)?;
+    let workers = workers_in(alloc, rows)?;
     let mutexes = names_at(alloc, "id", rows_at(tree, "mutex"))?;
     let semaphores = names_at(alloc, "id", rows_at(tree, "semaphore"))?;
     Ok(Names {
@@ -140,6 +146,7 @@ pub fn deployment_names(
         zone_pairs: IndexMap::new(alloc),
         children: IndexMap::new(alloc),
         actors,
+        workers,
         mutexes,
         semaphores,
     })

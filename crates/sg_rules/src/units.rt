@@ -1,11 +1,22 @@
 //! Values with units, where their reader takes the text.
 ghost use Rattle.std.specs.Prelude.{◌≡◌};
-ghost use Rattle.sg_rules.specs.Units.{bandwidth_value, latency_value, speed_value};
+ghost use Rattle.sg_rules.specs.Units.{amount_value, bandwidth_value, latency_value, speed_value};
 
-use sg_units::{read_bandwidth, read_speed, read_time};
+use sg_units::{read_amount, read_bandwidth, read_speed, read_time};
 
 /// The greatest latency, in nanoseconds.
 const GREATEST_LATENCY: u64 = 1_000_000_000_000_000;
+
+/// The flops, bytes or tasks that a text gives.
+#[tactic(auto, unfolding(crate::specs::Units::amount_value))]
+pub fn amount_value(text: &[u8]) -> Option<u64>
+    ensures { result ≡ amount_value text.now }
+{
+    match read_amount(text) {
+        Ok(amount) => Some(amount),
+        Err(_) => None,
+    }
+}
 
 /// The speed that a text gives, in flops per second.
 #[tactic(auto, unfolding(crate::specs::Units::speed_value))]

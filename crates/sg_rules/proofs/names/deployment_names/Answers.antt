@@ -7,7 +7,7 @@ use Rattle.sg_rules.proofs.names.deployment_names.Goals as goal
 
 pub returns-clause-known : goal.returns-clause-known
 unfolding deployment_known
-returns-clause-known c = rw (← c.rows_at.ensures, ← c.rows_at-2.ensures, ← c.rows_at-3.ensures)
+returns-clause-known c = rw (← c.rows_at-rows.ensures, ← c.rows_at.ensures, ← c.rows_at-2.ensures)
     (known_same _ _ (record {
       zones = refl;
       hosts = refl;
@@ -18,6 +18,7 @@ returns-clause-known c = rw (← c.rows_at.ensures, ← c.rows_at-2.ensures, ←
       zone_pairs = λ q. let empty : get_by (pair_eq q) c.new-4.result ≡ None = rw c.new-4.ensures.empty in empty;
       children = λ q. let empty : get_by_text c.new-5.result q ≡ None = rw c.new-5.ensures.empty in empty;
       actors = c.in_ok-actors.ensures;
+      workers = c.in_ok-workers.ensures;
       mutexes = c.in_ok-mutexes.ensures;
       semaphores = c.in_ok-semaphores.ensures;
     }))

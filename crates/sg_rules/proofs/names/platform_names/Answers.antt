@@ -40,6 +40,7 @@ returns-clause-known c =
       zone_pairs = λ q. c.in_ok-pairs.ensures.zone_pairs q ∙ zone_pairs q;
       children = λ q. c.in_ok-children.ensures q ∙ ap (λ rows. lookup (bytes_eq q) (names_from (codes "child") 0 rows)) c.rows_at-3.ensures;
       actors = λ q. let empty : get_by_text c.new.result q ≡ None = rw c.new.ensures.empty in empty;
-      mutexes = λ q. let empty : get_by_text c.new-2.result q ≡ None = rw c.new-2.ensures.empty in empty;
-      semaphores = λ q. let empty : get_by_text c.new-3.result q ≡ None = rw c.new-3.ensures.empty in empty;
+      workers = λ q. let empty : get_by_text c.new-2.result q ≡ None = rw c.new-2.ensures.empty in empty;
+      mutexes = λ q. let empty : get_by_text c.new-3.result q ≡ None = rw c.new-3.ensures.empty in empty;
+      semaphores = λ q. let empty : get_by_text c.new-4.result q ≡ None = rw c.new-4.ensures.empty in empty;
     })

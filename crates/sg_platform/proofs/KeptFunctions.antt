@@ -1,0 +1,88 @@
+-- What an actor does, where its row breaks no rule.
+use Rattle.std.proofs.Common.{◌≡◌, ℕ, ◌+◌, ◌<◌, ◌≤◌, Bool, true, false, cond, ◌&&◌, is_some, List, [], ◌∷◌, map, length, Option, Some, None, IfSome, option_and_then, unwrap_or, codes, refl, sym, subst, inl, inr, arith}
+use Rattle.std.proofs.lemmas.Bool.{cases_Bool}
+use Rattle.std.proofs.lemmas.List.{length-map}
+use Rattle.std.proofs.lemmas.List.Elements.{All-cons, All-nil}
+use Rattle.std.specs.List.{All, list_all}
+use Rattle.std.specs.Map.{lookup}
+use Rattle.std.specs.Str.{bytes_eq}
+use Rattle.sg_base.specs.Limits.{Extent, IsActorIn}
+use Rattle.sg_base.specs.declared.ids.ActorId.{ActorId}
+use Rattle.sg_platform.proofs.LinkLists.{and_left, and_right}
+use Rattle.sg_platform.specs.Build.{actor_row}
+use Rattle.sg_platform.specs.Deployment.{IsFunction}
+use Rattle.sg_platform.specs.Functions.{amount_of, arguments_at, function_of, master_of, worker_id}
+use Rattle.sg_platform.specs.declared.rows.Function.TheVariants.{Replay, Worker}
+use Rattle.sg_rules.proofs.Greatest.{amount_within}
+use Rattle.sg_rules.proofs.Kept.{KeysKept}
+use Rattle.sg_rules.proofs.KeptArguments.{HasWorkers, arguments_fit, master_fits, tasks_within, workers_below, workers_fit}
+use Rattle.sg_rules.specs.Arguments.{are_for_master, are_workers, has_function, is_task_count, text_of, worker_numbers}
+use Rattle.sg_rules.specs.Names.{Known}
+use Rattle.sg_rules.specs.Rules.{key_kinds}
+use Rattle.sg_rules.specs.Tables.{key, keys_of}
+use Rattle.sg_rules.specs.Units.{amount_value}
+use Rattle.sg_rules.specs.declared.tables.Need.TheVariants.{Optional}
+use Rattle.sg_rules.specs.declared.tables.Rule.TheVariants.{ArgumentList}
+use Rattle.sg_rules.specs.declared.tables.Word.TheVariants.{Argument}
+use Rattle.sg_rules.specs.declared.tables.Table.TheVariants.{Actor}
+use Rattle.sg_tree.specs.Names.{Finds}
+use Rattle.toml.specs.Data.{Data}
+
+-- workers are found by the rows of the actors
+abbrev pub FindsWorkers : Known → List Data → Type 0
+FindsWorkers names rows = (names.workers) ≡ (λ q. lookup (bytes_eq q) (worker_numbers rows))
+
+value_bound : (o : Option ℕ) (greatest : ℕ) → ((n : ℕ) → o ≡ Some n → n ≤ greatest) → unwrap_or o 0 ≤ greatest
+value_bound None greatest within = omega arith
+value_bound (Some n) greatest within = within n refl
+
+amount_bound : (d : Data) → amount_of d ≤ 1000000000000000
+amount_bound d = value_bound (amount_value (text_of d)) 1000000000000000 (λ n same. amount_within (text_of d) n same)
+
+found_id : (extent : Extent) (found : Option ℕ) → is_some found ≡ true → IfSome found (λ row. row < extent.actors) → IsActorIn extent (record { 0 = unwrap_or found 0 + 1 })
+found_id extent None there below = cc
+found_id extent (Some row) there below = (omega arith, omega (arith, below))
+
+ids_exist : (names : Known) (extent : Extent) → ((q : List ℕ) → IfSome (names.workers q) (λ row. row < extent.actors)) → (items : List Data)
+    → list_all (λ name. is_some (names.workers name)) (map text_of items) ≡ true → All (IsActorIn extent) (map (worker_id names) items)
+ids_exist names extent below [] known = All-nil (IsActorIn extent)
+ids_exist names extent below (d ∷ items) known =
+    All-cons (IsActorIn extent) (worker_id names d) (map (worker_id names) items)
+    (found_id extent (names.workers (text_of d)) (and_left _ _ known) (below (text_of d)))
+    (ids_exist names extent below items (and_right _ _ known))
+
+master_kept : (names : Known) (rows : List Data) (extent : Extent) → FindsWorkers names rows → extent.actors ≡ length rows → length rows ≤ 65536 → (items : List Data)
+    → are_for_master names.workers (map text_of items) ≡ true → IsFunction extent (master_of names items)
+master_kept names rows extent finds same few [] fits = cc
+master_kept names rows extent finds same few (tasks ∷ []) fits = cc
+master_kept names rows extent finds same few (tasks ∷ (flops ∷ [])) fits = cc
+master_kept names rows extent finds same few (tasks ∷ (flops ∷ (bytes ∷ items))) fits =
+    let workers : HasWorkers names.workers rows (map text_of items) = subst (λ (f : Finds). are_workers f (map text_of items) ≡ true → HasWorkers f rows (map text_of items)) (sym finds) (workers_fit rows (map text_of items)) (and_right _ _ fits) in
+    let below : (q : List ℕ) → IfSome (names.workers q) (λ row. row < extent.actors) = subst (λ (f : Finds). (q : List ℕ) → IfSome (f q) (λ row. row < extent.actors)) (sym finds) (λ q. subst (λ n. IfSome (lookup (bytes_eq q) (worker_numbers rows)) (λ row. row < n)) (sym same) (workers_below rows q)) in
+    let texts = length-map items text_of in
+    let ids = length-map items (worker_id names) in (
+      tasks_within (amount_value (text_of tasks)) (and_left _ _ (and_left _ _ (and_left _ _ fits))),
+      amount_bound flops,
+      amount_bound bytes,
+      omega (arith, ids, texts, workers.some),
+      omega (arith, ids, texts, workers.few, few),
+      ids_exist names extent below items workers.known,
+    )
+
+pub function_kept : (names : Known) (rows : List Data) (extent : Extent) → FindsWorkers names rows → extent.actors ≡ length rows → length rows ≤ 65536 → (number : ℕ) (row : Data)
+    → key_kinds names number row (key Argument Optional ArgumentList) ≡ [] → IsFunction extent (function_of names row)
+unfolding function_of
+function_kept names rows extent finds same few number row kept =
+    elim (cases_Bool (has_function (codes "master") row)) [
+      | inl master ↦ rw master (master_kept names rows extent finds same few (arguments_at row) (master_fits names.workers row (arguments_at row) (arguments_fit names number row kept) master))
+      | inr other ↦ rw other (others (has_function (codes "worker") row))
+    ]
+  where
+    others : (b : Bool) → IsFunction extent (cond b Worker Replay)
+    others true = tt
+    others false = tt
+
+pub actor_function_kept : (names : Known) (rows : List Data) (extent : Extent) → FindsWorkers names rows → extent.actors ≡ length rows → length rows ≤ 65536 → (number : ℕ) (row : Data)
+    → KeysKept names number row (keys_of Actor) → IsFunction extent (actor_row names row).function
+unfolding actor_row
+actor_function_kept names rows extent finds same few number row kept = function_kept names rows extent finds same few number row kept.1.1.1.0

@@ -1,0 +1,32 @@
+-- What the actors of a tree do, where it has no fault.
+use Rattle.std.specs.Prelude.{ℕ, ◌+◌, List, [], ◌∷◌, map, if◌then◌else◌, option_and_then, unwrap_or, codes}
+use Rattle.sg_base.specs.declared.ids.ActorId.{ActorId}
+use Rattle.sg_platform.specs.declared.rows.Function.{Function}
+use Rattle.sg_platform.specs.declared.rows.Function.TheVariants.{Replay, Worker, Master}
+use Rattle.sg_rules.specs.Arguments.{has_function, text_of}
+use Rattle.sg_rules.specs.Names.{Known}
+use Rattle.sg_rules.specs.Units.{amount_value}
+use Rattle.sg_tree.specs.Tree.{items_or_none}
+use Rattle.toml.specs.Data.{Data, as_array, get}
+
+-- the arguments of a row
+abbrev pub arguments_at : Data → List Data
+arguments_at row = items_or_none (option_and_then as_array (get (codes "argument") row))
+
+abbrev pub amount_of : Data → ℕ
+amount_of d = unwrap_or (amount_value (text_of d)) 0
+
+-- the worker that an argument names; the first actor has the identifier 1
+abbrev pub worker_id : Known → Data → ActorId
+worker_id names d = record { 0 = unwrap_or (names.workers (text_of d)) 0 + 1 }
+
+-- the count of tasks, the flops and the bytes of each, and the workers in their order
+abbrev pub master_of : Known → List Data → Function
+master_of names [] = Master 0 0 0 []
+master_of names (tasks ∷ []) = Master 0 0 0 []
+master_of names (tasks ∷ (flops ∷ [])) = Master 0 0 0 []
+master_of names (tasks ∷ (flops ∷ (bytes ∷ workers))) = Master (amount_of tasks) (amount_of flops) (amount_of bytes) (map (worker_id names) workers)
+
+unfoldable pub function_of : Known → Data → Function
+function_of names row =
+    if has_function (codes "master") row then master_of names (arguments_at row) else if has_function (codes "worker") row then Worker else Replay

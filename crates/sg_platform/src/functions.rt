@@ -1,0 +1,90 @@
+//! What the actors of a tree do, where it has no fault.
+ghost use Rattle.std.specs.Prelude.{◌≡◌, ◌+◌, IfOk, map};
+ghost use Rattle.sg_platform.specs.Functions.{amount_of, arguments_at, function_of, master_of, worker_id};
+ghost use Rattle.sg_rules.specs.Names.{AreSmall, names_view};
+ghost use Rattle.toml.specs.View.{view};
+
+use crate::rows::Function;
+use sg_base::{ActorId, Ids, Memory};
+use sg_rules::{Names, amount_value, has_function, text_of};
+use std::alloc::Global;
+use toml::Value;
+
+fn amount_of(item: &Value) -> u64
+    ensures { result ≡ amount_of (view item.now) }
+{
+    amount_value(text_of(item).as_bytes()).unwrap_or(0)
+}
+
+/// The worker that an argument names.
+fn worker_id(names: &Names, item: &Value) -> ActorId
+    requires { AreSmall (names_view names.now) }
+    ensures { result ≡ worker_id (names_view names.now) (view item.now) }
+{
+    match names.workers.get(text_of(item)) {
+        Some(row) => ActorId(*row as u32 + 1),
+        None => ActorId(1),
+    }
+}
+
+fn worker_ids(alloc: Global, names: &Names, items: &[Value]) -> Result<Ids, Memory>
+    requires { AreSmall (names_view names.now) }
+    ensures { IfOk result (λ ids. ids ≡ map (λ d. worker_id (names_view names.now) d) (map view items.now)) }
+{
+    let mut made = Vec::new(alloc);
+    for item in items {
+        made.push(worker_id(names, item))?;
+    }
+    Ok(Ids::from_vec(made))
+}
+
+/// The function of a master that is given these arguments.
+fn master_of(alloc: Global, names: &Names, items: &[Value]) -> Result<Function, Memory>
+    requires { AreSmall (names_view names.now) }
+    ensures { IfOk result (λ function. function ≡ master_of (names_view names.now) (map view items.now)) }
+{
+    match items {
+        [tasks, flops, bytes, workers @ ..] => Ok(Function::Master {
+            tasks: amount_of(tasks),
+            flops: amount_of(flops),
+            bytes: amount_of(bytes),
+            workers: worker_ids(alloc, names, workers)?,
+        }),
+        _ => Ok(Function::Master {
+            tasks: 0,
+            flops: 0,
+            bytes: 0,
+            workers: Ids::from_vec(Vec::new(alloc)),
+        }),
+    }
+}
+
+/// The function of a master's row.
+#[tactic(auto, using(sg_tree::proofs::TreeLemmas::list_of_items))]
+fn master_at(alloc: Global, names: &Names, row: &Value) -> Result<Function, Memory>
+    requires { AreSmall (names_view names.now) }
+    ensures { IfOk result (λ function. function ≡ master_of (names_view names.now) (arguments_at (view row.now))) }
+{
+    match row.get("argument") {
+        Some(value) => match value.as_array() {
+            Some(items) => master_of(alloc, names, items.as_slice()),
+            None => master_of(alloc, names, &[]),
+        },
+        None => master_of(alloc, names, &[]),
+    }
+}
+
+/// What the actor of a row does.
+#[tactic(auto, unfolding(crate::specs::Functions::function_of))]
+pub fn function_of(alloc: Global, names: &Names, row: &Value) -> Result<Function, Memory>
+    requires { AreSmall (names_view names.now) }
+    ensures { IfOk result (λ function. function ≡ function_of (names_view names.now) (view row.now)) }
+{
+    if has_function(row, "master") {
+        master_at(alloc, names, row)
+    } else if has_function(row, "worker") {
+        Ok(Function::Worker)
+    } else {
+        Ok(Function::Replay)
+    }
+}

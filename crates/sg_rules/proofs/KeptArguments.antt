@@ -1,0 +1,129 @@
+-- What holds of the arguments of a master's row that breaks no rule.
+use Rattle.std.proofs.Common.{◌≡◌, ℕ, ◌+◌, ◌<◌, ◌≤◌, ◌==◌, Bool, true, false, cond, not, ◌&&◌, ◌||◌, is_some, List, [], ◌∷◌, map, length, Option, Some, None, IfSome, option_and_then, option_to_list, unwrap_or, codes, refl, length-append, inl, inr, arith}
+use Rattle.std.proofs.lemmas.Bool.{cases_Bool}
+use Rattle.std.proofs.lemmas.Bool.Decides.{nat_tests}
+use Rattle.std.proofs.lemmas.Cmp.{nat_list_eq_equiv}
+use Rattle.std.proofs.lemmas.List.{length-map}
+use Rattle.std.proofs.lemmas.Map.Steps.{length-le_from_keys}
+use Rattle.std.proofs.lemmas.Slice.Eq.{bytes_eq-Decides}
+use Rattle.std.specs.List.{list_all, list_any}
+use Rattle.std.specs.Map.{lookup}
+use Rattle.std.specs.Str.{bytes_eq}
+use Rattle.sg_rules.proofs.Kept.{unbroken}
+use Rattle.sg_rules.proofs.Repeats.{distinct}
+use Rattle.sg_rules.specs.Arguments.{are_workers, argument_kinds, has_function, is_task_count, repeats, are_for_master, text_of, worker_names, worker_numbers}
+use Rattle.sg_rules.specs.Names.{Known, deployment_known}
+use Rattle.sg_rules.specs.Rules.{is_text, key_kinds, kinds_at, list_kinds, value_kinds}
+use Rattle.sg_rules.specs.Tables.{key}
+use Rattle.sg_rules.specs.declared.tables.Need.TheVariants.{Optional}
+use Rattle.sg_rules.specs.declared.tables.Rule.TheVariants.{ArgumentList}
+use Rattle.sg_rules.specs.declared.tables.Word.TheVariants.{Argument}
+use Rattle.sg_tree.proofs.Bounds.{along_below, below_all, numbered_below}
+use Rattle.sg_tree.specs.Along.{along}
+use Rattle.sg_tree.specs.Faults.{of_type}
+use Rattle.sg_tree.specs.Names.{Finds, numbered}
+use Rattle.sg_tree.specs.Tree.{items_or_none, list_of, rows_at, text_at}
+use Rattle.toml.specs.Data.{Data, Items, Members, as_array, get}
+
+typed_arguments : (names : Known) (row : Data) (found : Option Items) → of_type (λ items. list_kinds names row ArgumentList (list_of items)) found ≡ [] → argument_kinds names.workers row (items_or_none found) ≡ []
+unfolding list_kinds
+typed_arguments names row None empty = cc
+typed_arguments names row (Some items) empty =
+    elim (cases_Bool (list_all is_text (list_of items))) [
+      | inl texts ↦ rw texts at empty
+      | inr other ↦ let wrong = rw other at empty in cc
+    ]
+
+arguments_at : (names : Known) (number : ℕ) (row : Data) (d : Option Data) → kinds_at names number row (key Argument Optional ArgumentList) d ≡ []
+    → argument_kinds names.workers row (items_or_none (option_and_then as_array d)) ≡ []
+unfolding value_kinds
+arguments_at names number row None empty = empty
+arguments_at names number row (Some d) empty = typed_arguments names row (as_array d) empty
+
+-- the arguments of a row fit, also where they are left out
+pub arguments_fit : (names : Known) (number : ℕ) (row : Data) → key_kinds names number row (key Argument Optional ArgumentList) ≡ []
+    → argument_kinds names.workers row (items_or_none (option_and_then as_array (get (codes "argument") row))) ≡ []
+unfolding key_kinds
+arguments_fit names number row empty = arguments_at names number row (get (codes "argument") row) empty
+
+pub master_fits : (workers : Finds) (row : Data) (items : List Data) → argument_kinds workers row items ≡ [] → has_function (codes "master") row ≡ true → are_for_master workers (map text_of items) ≡ true
+unfolding argument_kinds
+master_fits workers row items empty master = fits _ _ _ (unbroken _ _ empty) master
+  where
+    fits : (a b c : Bool) → (a || (b && not c)) ≡ false → b ≡ true → c ≡ true
+    fits true b c kept yes_master = cc
+    fits false true true kept yes_master = refl
+    fits false true false kept yes_master = cc
+    fits false false c kept yes_master = cc
+
+pub tasks_within : (o : Option ℕ) → is_task_count o ≡ true → unwrap_or o 0 ≤ 1000000000
+tasks_within None fits = cc
+tasks_within (Some n) fits = grind (arith, nat_tests)
+
+both_left : (a b : Bool) → (a && b) ≡ true → a ≡ true
+both_left true b both = refl
+both_left false b both = cc
+
+both_right : (a b : Bool) → (a && b) ≡ true → b ≡ true
+both_right true b both = both
+both_right false b both = cc
+
+-- where each name is found, so is one of them
+found_among : (found : Finds) (names : List (List ℕ)) → list_all (λ name. is_some (found name)) names ≡ true → (q : List ℕ) → list_any (bytes_eq q) names ≡ true → is_some (found q) ≡ true
+found_among found [] all q among = cc
+found_among found (name ∷ names) all q among =
+    elim (cases_Bool (bytes_eq q name)) [
+      | inl here ↦ let same : q ≡ name = (bytes_eq-Decides q name).0 here in rw same (both_left _ _ all)
+      | inr other ↦ found_among found names (both_right _ _ all) q (rw other at among)
+    ]
+
+names_one : (row : Data) → length (worker_names row) ≤ 1
+names_one row = one (has_function (codes "worker") row) (text_at (codes "name") row)
+  where
+    one : (b : Bool) (o : Option (List ℕ)) → length (cond b (option_to_list o) []) ≤ 1
+    one true None = omega arith
+    one true (Some name) = omega arith
+    one false o = omega arith
+
+-- no more workers than rows
+numbers_few : (i : ℕ) (rows : List Data) → length (along (λ i row. numbered i (worker_names row)) i rows) ≤ length rows
+numbers_few i [] = omega arith
+numbers_few i (row ∷ rows) =
+    let under : List ℕ → List ℕ × ℕ = λ name. (name, i) in
+    omega (arith, length-append (numbered i (worker_names row)) (along (λ i row. numbered i (worker_names row)) (i + 1) rows), length-map (worker_names row) under, names_one row, numbers_few (i + 1) rows)
+
+-- what workers a master has: some, no more than there are rows, and each is known
+pub record HasWorkers (workers : Finds) (rows : List Data) (names : List (List ℕ)) : Type 0 where
+  pub some : 1 ≤ length names
+  pub few : length names ≤ length rows
+  pub known : list_all (λ name. is_some (workers name)) names ≡ true
+
+some_names : (n : ℕ) → not (n == 0) ≡ true → 1 ≤ n
+some_names n other = grind (arith, nat_tests)
+
+pub workers_fit : (rows : List Data) (names : List (List ℕ)) → are_workers (λ q. lookup (bytes_eq q) (worker_numbers rows)) names ≡ true → HasWorkers (λ q. lookup (bytes_eq q) (worker_numbers rows)) rows names
+unfolding are_workers
+workers_fit rows names fits =
+    let found : Finds = λ q. lookup (bytes_eq q) (worker_numbers rows) in
+    let front = both_left _ _ fits in
+    let known = both_right _ _ front in
+    let apart = distinct names (unbroken_not (repeats names) (both_right _ _ fits)) in
+    record {
+      some = some_names (length names) (both_left _ _ front);
+      few = omega (arith, numbers_few 0 rows, length-le_from_keys nat_list_eq_equiv names (worker_numbers rows) apart (found_among found names known));
+      known = known;
+    }
+  where
+    unbroken_not : (b : Bool) → not b ≡ true → b ≡ false
+    unbroken_not true n = cc
+    unbroken_not false n = refl
+
+-- the row of a worker is below the count of the rows
+pub workers_below : (rows : List Data) (q : List ℕ) → IfSome (lookup (bytes_eq q) (worker_numbers rows)) (λ row. row < length rows)
+workers_below rows q =
+    below_all _ (0 + 0 + length rows) (length rows) (omega arith)
+    (along_below (bytes_eq q) (λ i row. numbered i (worker_names row)) 0 (λ j row. below_all _ (j + 1) (0 + j + 1) (omega arith) (numbered_below (bytes_eq q) j (worker_names row))) 0 rows)
+
+pub known_workers : (hosts : ℕ) (points : Finds) (tree : Members) → (deployment_known hosts points tree).workers ≡ (λ q. lookup (bytes_eq q) (worker_numbers (rows_at (codes "actor") tree)))
+unfolding deployment_known
+known_workers hosts points tree = refl

@@ -1,0 +1,59 @@
+-- What actors do, and the arguments that go with it.
+use Rattle.std.specs.Prelude.{is_some, ℕ, ◌==◌, Bool, false, not, ◌&&◌, ◌||◌, nat_le, List, [], ◌∷◌, if◌then◌else◌, Option, Some, None, length, map, codes, unwrap_or}
+use Rattle.std.specs.List.{list_all, list_any}
+use Rattle.std.specs.Str.{bytes_eq}
+use Rattle.sg_rules.specs.Units.{amount_value}
+use Rattle.sg_tree.specs.Along.{along}
+use Rattle.sg_tree.specs.Faults.{broken}
+use Rattle.sg_tree.specs.Names.{Finds, numbered, texts_at}
+use Rattle.sg_tree.specs.Tree.{text_or_empty}
+use Rattle.sg_tree.specs.declared.fault.Kind.{Kind}
+use Rattle.sg_tree.specs.declared.fault.Kind.TheVariants.{Arguments}
+use Rattle.toml.specs.Data.{Data, as_str}
+
+-- the row is that of an actor of this function
+abbrev pub has_function : List ℕ → Data → Bool
+has_function word row = bytes_eq (text_or_empty (codes "function") row) word
+
+-- the name of a worker
+abbrev pub worker_names : Data → List (List ℕ)
+worker_names row = if has_function (codes "worker") row then texts_at (codes "name") row else []
+
+-- the names of workers, under the numbers of their rows
+abbrev pub worker_numbers : List Data → List (List ℕ × ℕ)
+worker_numbers rows = along (λ i row. numbered i (worker_names row)) 0 rows
+
+-- the text of an item
+abbrev pub text_of : Data → List ℕ
+text_of d = unwrap_or (as_str d) []
+
+-- a text stands twice
+abbrev pub repeats : List (List ℕ) → Bool
+repeats [] = false
+repeats (text ∷ texts) = list_any (bytes_eq text) texts || repeats texts
+
+-- how many tasks a master may hand out
+abbrev pub is_task_count : Option ℕ → Bool
+is_task_count None = false
+is_task_count (Some n) = nat_le n 1000000000
+
+-- the names of workers: some, and none twice
+unfoldable pub are_workers : Finds → List (List ℕ) → Bool
+are_workers workers names = (not (length names == 0) && list_all (λ name. is_some (workers name)) names) && not (repeats names)
+
+-- what a master is given: the count of its tasks, the flops and the bytes of each, and its workers
+abbrev pub are_for_master : Finds → List (List ℕ) → Bool
+are_for_master workers [] = false
+are_for_master workers (tasks ∷ []) = false
+are_for_master workers (tasks ∷ (flops ∷ [])) = false
+are_for_master workers (tasks ∷ (flops ∷ (bytes ∷ names))) =
+    ((is_task_count (amount_value tasks) && is_some (amount_value flops)) && is_some (amount_value bytes)) && are_workers workers names
+
+-- an actor of another function is given nothing
+abbrev pub takes_none : Data → Bool
+takes_none row = has_function (codes "replay") row || has_function (codes "worker") row
+
+-- the arguments of an actor, where its function is known
+unfoldable pub argument_kinds : Finds → Data → List Data → List Kind
+argument_kinds workers row items =
+    broken ((takes_none row && not (length items == 0)) || (has_function (codes "master") row && not (are_for_master workers (map text_of items)))) Arguments

@@ -1,0 +1,187 @@
+//! What actors do, and the arguments that go with it.
+ghost use Rattle.std.specs.Prelude.{◌≡◌, is_some, ℕ, List, IfOk, OnOk, codes, map};
+ghost use Rattle.std.specs.HashMap.{get_by_text};
+ghost use Rattle.std.specs.List.{list_all};
+ghost use Rattle.std.specs.Map.{lookup};
+ghost use Rattle.std.specs.Str.{bytes_eq};
+ghost use Rattle.sg_rules.specs.Arguments.{are_for_master, are_workers, argument_kinds, has_function, is_task_count, repeats, takes_none, text_of, worker_names, worker_numbers};
+ghost use Rattle.sg_rules.specs.Units.{amount_value};
+ghost use Rattle.sg_tree.specs.Along.{along, first};
+ghost use Rattle.sg_tree.specs.Names.{numbered, or_else};
+ghost use Rattle.toml.specs.View.{view};
+
+use crate::units::amount_value;
+use indexmap::IndexMap;
+use sg_base::Memory;
+use sg_tree::{Kind, add_name, text_at, text_or_empty};
+use std::alloc::Global;
+use toml::Value;
+
+/// Whether the row is that of an actor of this function.
+pub fn has_function(row: &Value, word: &str) -> bool
+    ensures { result ≡ has_function word.now (view row.now) }
+{
+    text_or_empty(row, "function") == word
+}
+
+/// Gives the name of a worker the number of its row.
+fn add_worker(
+    alloc: Global,
+    space: &mut IndexMap<String, usize>,
+    number: usize,
+    row: &Value,
+) -> Result<(), Memory>
+    ensures { OnOk result ((q : List ℕ) → get_by_text space.new q ≡ or_else (get_by_text space.old q) (lookup (bytes_eq q) (numbered number (worker_names (view row.now))))) }
+{
+    if !has_function(row, "worker") {
+        return Ok(());
+    }
+    match text_at(row, "name") {
+        Some(name) => add_name(alloc, space, name, number),
+        None => Ok(()),
+    }
+}
+
+/// Gives the names of workers the numbers of their rows.
+#[tactic(auto, using(sg_tree::proofs::NameLemmas::along_turn))]
+fn add_workers(
+    alloc: Global,
+    space: &mut IndexMap<String, usize>,
+    rows: &[Value],
+) -> Result<(), Memory>
+    ensures { OnOk result ((q : List ℕ) → get_by_text space.new q ≡ or_else (get_by_text space.old q) (lookup (bytes_eq q) (along (λ i row. numbered i (worker_names (view row))) 0 rows.now))) }
+{
+    for (i, row) in rows.iter().enumerate() {
+        add_worker(alloc, space, i, row)?;
+    }
+    Ok(())
+}
+
+/// The names of workers, under the numbers of their rows.
+pub fn workers_in(alloc: Global, rows: &[Value]) -> Result<IndexMap<String, usize>, Memory>
+    ensures { IfOk result (λ made. (q : List ℕ) → get_by_text made q ≡ lookup (bytes_eq q) (worker_numbers (map view rows.now))) }
+{
+    let mut made = IndexMap::new(alloc);
+    add_workers(alloc, &mut made, rows)?;
+    Ok(made)
+}
+
+/// The text of an item, and the empty text where it is none.
+pub fn text_of(item: &Value) -> &str
+    ensures { result.now ≡ text_of (view item.now) }
+{
+    match item.as_str() {
+        Some(text) => text,
+        None => "",
+    }
+}
+
+/// Whether a text stands twice in a list.
+fn repeats(alloc: Global, items: &[Value]) -> Result<bool, Memory>
+    ensures { IfOk result (λ twice. twice ≡ repeats (map text_of (map view items.now))) }
+{
+    let mut seen = IndexMap::new(alloc);
+    for (i, item) in items.iter().enumerate() {
+        let text = text_of(item);
+        if seen.contains_key(text) {
+            return Ok(true);
+        }
+        add_name(alloc, &mut seen, text, i)?;
+    }
+    Ok(false)
+}
+
+fn are_known(workers: &IndexMap<String, usize>, items: &[Value]) -> bool
+    ensures { result ≡ list_all (λ name. is_some (get_by_text workers.now name)) (map text_of (map view items.now)) }
+{
+    for item in items {
+        if !workers.contains_key(text_of(item)) {
+            return false;
+        }
+    }
+    true
+}
+
+/// Whether the items are names of workers: some, and none twice.
+#[tactic(auto, unfolding(crate::specs::Arguments::are_workers))]
+fn are_workers(
+    alloc: Global,
+    workers: &IndexMap<String, usize>,
+    items: &[Value],
+) -> Result<bool, Memory>
+    ensures { IfOk result (λ fine. fine ≡ are_workers (λ name. get_by_text workers.now name) (map text_of (map view items.now))) }
+{
+    if items.len() == 0 || !are_known(workers, items) {
+        return Ok(false);
+    }
+    let twice = repeats(alloc, items)?;
+    Ok(!twice)
+}
+
+/// The greatest count of tasks.
+const GREATEST_TASKS: u64 = 1_000_000_000;
+
+fn is_task_count(item: &Value) -> bool
+    ensures { result ≡ is_task_count (amount_value (text_of (view item.now))) }
+{
+    match amount_value(text_of(item).as_bytes()) {
+        Some(tasks) => tasks <= GREATEST_TASKS,
+        None => false,
+    }
+}
+
+fn is_amount(item: &Value) -> bool
+    ensures { result ≡ is_some (amount_value (text_of (view item.now))) }
+{
+    amount_value(text_of(item).as_bytes()).is_some()
+}
+
+/// Whether the items are what a master is given.
+fn are_for_master(
+    alloc: Global,
+    workers: &IndexMap<String, usize>,
+    items: &[Value],
+) -> Result<bool, Memory>
+    ensures { IfOk result (λ fine. fine ≡ are_for_master (λ name. get_by_text workers.now name) (map text_of (map view items.now))) }
+{
+    match items {
+        [tasks, flops, bytes, names @ ..] => {
+            if is_task_count(tasks) && is_amount(flops) && is_amount(bytes) {
+                are_workers(alloc, workers, names)
+            } else {
+                Ok(false)
+            }
+        }
+        _ => Ok(false),
+    }
+}
+
+/// Whether an actor of the row's function is given nothing.
+fn takes_none(row: &Value) -> bool
+    ensures { result ≡ takes_none (view row.now) }
+{
+    has_function(row, "replay") || has_function(row, "worker")
+}
+
+/// What is wrong with the arguments of an actor whose function is known.
+#[tactic(auto, unfolding(crate::specs::Arguments::argument_kinds))]
+pub fn argument_fault(
+    alloc: Global,
+    workers: &IndexMap<String, usize>,
+    row: &Value,
+    items: &[Value],
+) -> Result<Option<Kind>, Memory>
+    ensures { IfOk result (λ fault. fault ≡ first (argument_kinds (λ name. get_by_text workers.now name) (view row.now) (map view items.now))) }
+{
+    if takes_none(row) && items.len() != 0 {
+        return Ok(Some(Kind::Arguments));
+    }
+    if !has_function(row, "master") {
+        return Ok(None);
+    }
+    if are_for_master(alloc, workers, items)? {
+        Ok(None)
+    } else {
+        Ok(Some(Kind::Arguments))
+    }
+}
