@@ -1,17 +1,15 @@
 -- Words that the definition takes ask for something.
-use Rattle.std.proofs.Common.{◌≡◌, ◌⊎◌, ◌&&◌, ◌||◌, ◌∙◌, ap, inl, inr, ℕ, List, [], ◌∷◌, Bool, true, false, Option, Some, None, refl, sym, subst, not, codes}
+use Rattle.std.proofs.Common.{◌≡◌, ◌⊎◌, ◌&&◌, ◌||◌, ◌∙◌, ap, inl, inr, ℕ, List, [], Bool, true, false, Option, Some, None, refl, sym, subst, not, codes}
 use Rattle.std.specs.Prelude.{is_some, option_and_then, option_map}
-use Rattle.std.specs.Option.{option_map_or}
-use Rattle.std.specs.Str.{bytes_eq}
 use Rattle.clap.specs.Words.{Row, Rule, Shape, Text, built, fault_of, first_of, subcommand_of}
 use Rattle.clap.specs.ValueTests.{is_unsigned_in}
 use Rattle.clap.specs.Walk.{answers_to, nothing_held, rows_after, walk, walk_from}
 use Rattle.clap.specs.Simple.{argument_words, built_leaf, entered, filled, help_shape, inherited, label_of, names_of, with_index}
 use Rattle.clap.specs.Faults.{entered_fault, level_fault}
-use Rattle.sg_words.specs.CommandLine.{asked_at, asked_by, asked_of, name_rule, number_at, program_app, replay_app, replay_at, request_at, run_app, run_at}
+use Rattle.sg_words.specs.CommandLine.{actors_rule, asked_at, asked_by, asked_of, churn_app, churn_at, name_rule, number_at, program_app, replay_app, replay_at, request_at, run_app, run_at, seed_rule, steps_rule}
 use Rattle.sg_words.proofs.Accepted.{Owns, nil_both}
 use Rattle.sg_words.proofs.Ends.{owns_of, text_of}
-use Rattle.sg_words.proofs.Level.{Enters, Taken, default_first, entered_level, find_three, level_taken, required_first}
+use Rattle.sg_words.proofs.Level.{Taken, default_first, entered_level, find_four, level_taken, required_first}
 use Rattle.sg_words.proofs.Stops.{is_help_at, walk_kept}
 
 abbrev top : Shape
@@ -22,6 +20,9 @@ replay_shape = built_leaf (inherited top replay_app.top)
 
 abbrev run_shape : Shape
 run_shape = built_leaf (inherited top run_app.top)
+
+abbrev churn_shape : Shape
+churn_shape = built_leaf (inherited top churn_app.top)
 
 abbrev help_built : Shape
 help_built = built_leaf help_shape
@@ -34,6 +35,9 @@ replay_owns = owns_of replay_shape.rules refl refl
 
 run_owns : Owns run_shape.rules
 run_owns = owns_of run_shape.rules refl refl
+
+churn_owns : Owns churn_shape.rules
+churn_owns = owns_of churn_shape.rules refl refl
 
 map_some : {X Y : Type 0} (f : X → Y) (o : Option X) → is_some o ≡ true → is_some (option_map f o) ≡ true
 map_some f None h = h
@@ -81,15 +85,33 @@ run_some words t =
     let request : is_some (run_at rows) ≡ true = then_some _ _ (some_of _ _ p.1) (λ _. map_some _ _ (some_of _ _ d.1)) in
     asked_some (codes "run") rows request (number_read (codes "nthreads") 1 64 rows w) (number_read (codes "budget") 1 1000000000 rows b)
 
+churn_some : (words : List Text) → Taken churn_shape [] words false [] → is_some (asked_at (codes "churn") (rows_after churn_shape.rules [] words)) ≡ true
+churn_some words t =
+    let rows = rows_after churn_shape.rules [] words in
+    let s = required_first churn_shape [] words [] (with_index 1 (filled seed_rule)) t refl refl in
+    let a = required_first churn_shape [] words [] (with_index 2 (filled actors_rule)) t refl refl in
+    let n = required_first churn_shape [] words [] (with_index 3 (filled steps_rule)) t refl refl in
+    let w = default_first churn_shape [] words false [] (codes "nthreads") t refl in
+    let b = default_first churn_shape [] words false [] (codes "budget") t refl in
+    let request : is_some (churn_at rows) ≡ true =
+    then_some _ _ (number_read (codes "seed") 0 9223372036854775807 rows s)
+    (λ _. then_some _ _ (number_read (codes "actors") 2 4096 rows a) (λ _. map_some _ _ (number_read (codes "steps") 0 1000000 rows n))) in
+    asked_some (codes "churn") rows request (number_read (codes "nthreads") 1 64 rows w) (number_read (codes "budget") 1 1000000000 rows b)
+
+abbrev IsCommand : Shape → Type 0
+IsCommand s = ((s ≡ replay_shape) ⊎ (s ≡ run_shape)) ⊎ (s ≡ churn_shape)
+
 -- the command with what was found asks for something
 abbrev Asks : Shape → List Text → Type 0
 Asks s words = is_some (asked_at s.name (rows_after s.rules [] words)) ≡ true
 
-each_asks : (s : Shape) (words : List Text) → (s ≡ replay_shape) ⊎ (s ≡ run_shape) → level_fault s [] nothing_held words false [] ≡ [] → Asks s words
-each_asks s words (inl e) f =
+each_asks : (s : Shape) (words : List Text) → IsCommand s → level_fault s [] nothing_held words false [] ≡ [] → Asks s words
+each_asks s words (inl (inl e)) f =
     subst (λ x. Asks x words) (sym e) (replay_some words (level_taken replay_shape replay_owns [] words false [] refl (subst (λ x. level_fault x [] nothing_held words false [] ≡ []) e f)))
-each_asks s words (inr e) f =
+each_asks s words (inl (inr e)) f =
     subst (λ x. Asks x words) (sym e) (run_some words (level_taken run_shape run_owns [] words false [] refl (subst (λ x. level_fault x [] nothing_held words false [] ≡ []) e f)))
+each_asks s words (inr e) f =
+    subst (λ x. Asks x words) (sym e) (churn_some words (level_taken churn_shape churn_owns [] words false [] refl (subst (λ x. level_fault x [] nothing_held words false [] ≡ []) e f)))
 
 has_of : (b : Bool) → (not b && true) ≡ false → b ≡ true
 has_of true h = refl
@@ -111,10 +133,10 @@ not_entered word words stop is none answers =
     let worse : is_help_at (Some (codes "help", words)) ≡ false = subst (λ x. is_help_at (Some (x, words)) ≡ false) name bad in
     cc
 
-two_left : (s : Shape) (word : Text) (words : List Text) (stop : Option (Text × List Text)) → stop ≡ Some (word, words) → is_help_at stop ≡ false
-    → ((s ≡ replay_shape) ⊎ (s ≡ run_shape)) ⊎ (answers_to word (label_of help_built) ≡ true) → (s ≡ replay_shape) ⊎ (s ≡ run_shape)
-two_left s word words stop is none (inl two) = two
-two_left s word words stop is none (inr help) = absurd (not_entered word words stop is none help)
+three_left : (s : Shape) (word : Text) (words : List Text) (stop : Option (Text × List Text)) → stop ≡ Some (word, words) → is_help_at stop ≡ false
+    → IsCommand s ⊎ (answers_to word (label_of help_built) ≡ true) → IsCommand s
+three_left s word words stop is none (inl three) = three
+three_left s word words stop is none (inr help) = absurd (not_entered word words stop is none help)
 
 -- words that the definition takes ask for something
 pub accepted : (words : List Text) → fault_of program_app words ≡ [] → is_some (asked_of words) ≡ true
@@ -125,8 +147,8 @@ accepted words f =
     (entered_fault (built program_app) stop) refl f in
     let none : is_help_at stop ≡ false = walk_kept top (names_of (built program_app)) refl (walk_from nothing_held) given (nil_both _ _ f).0 refl in
     let e = entered_level (built program_app) stop (has_of _ t.wanted) t.entered in
-    let three = find_three (λ s. answers_to e.word (label_of s)) replay_shape run_shape help_built e.sub e.found in
-    finish stop e.sub e.words e.is (each_asks e.sub e.words (two_left e.sub e.word e.words stop e.stops none three) e.fault)
+    let four = find_four (λ s. answers_to e.word (label_of s)) replay_shape run_shape churn_shape help_built e.sub e.found in
+    finish stop e.sub e.words e.is (each_asks e.sub e.words (three_left e.sub e.word e.words stop e.stops none four) e.fault)
   where
     finish : (stop : Option (Text × List Text)) (s : Shape) (ws : List Text) → entered (built program_app) stop ≡ Some (s.name, rows_after s.rules [] ws) → Asks s ws
         → is_some (option_and_then (λ p. asked_at p.0 p.1) (entered (built program_app) stop)) ≡ true

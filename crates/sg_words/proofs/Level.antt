@@ -83,12 +83,13 @@ pub default_first : (s : Shape) (names : Names) (words : List Text) (has : Bool)
 default_first s names words has below id t d =
     first_good s.rules id (rows_after s.rules names words) (default_present id s.rules _ d) t.good
 
--- what is found among three is the first, the second, or the third, which then passes
-pub find_three : (q : Shape → Bool) (x y z s : Shape) → find q (x ∷ y ∷ z ∷ []) ≡ Some s → ((s ≡ x) ⊎ (s ≡ y)) ⊎ (q z ≡ true)
-find_three q x y z s f = go (q x) (q y) (q z) f
+-- what is found among four is one of the first three, or the fourth, which then passes
+pub find_four : (q : Shape → Bool) (w x y z s : Shape) → find q (w ∷ x ∷ y ∷ z ∷ []) ≡ Some s → (((s ≡ w) ⊎ (s ≡ x)) ⊎ (s ≡ y)) ⊎ (q z ≡ true)
+find_four q w x y z s f = go (q w) (q x) (q y) (q z) f
   where
-    go : (b d e : Bool) → cond b (Some x) (cond d (Some y) (cond e (Some z) None)) ≡ Some s → ((s ≡ x) ⊎ (s ≡ y)) ⊎ (e ≡ true)
-    go true d e f = inl (inl cc)
-    go false true e f = inl (inr cc)
-    go false false true f = inr refl
-    go false false false f = cc
+    go : (a b d e : Bool) → cond a (Some w) (cond b (Some x) (cond d (Some y) (cond e (Some z) None))) ≡ Some s → (((s ≡ w) ⊎ (s ≡ x)) ⊎ (s ≡ y)) ⊎ (e ≡ true)
+    go true b d e f = inl (inl (inl cc))
+    go false true d e f = inl (inl (inr cc))
+    go false false true e f = inl (inr cc)
+    go false false false true f = inr refl
+    go false false false false f = cc

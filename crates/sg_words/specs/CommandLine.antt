@@ -6,6 +6,7 @@ use Rattle.std.specs.Str.Parse.{digits_value, without_leading_plus}
 use Rattle.clap.specs.Words.{App, Kinds, Row, Rule, Text, fault_of, first_of, new_app, new_rule, subcommand_of, with_rule, with_subcommand}
 use Rattle.clap.specs.ValueTests.{is_unsigned_in}
 use Rattle.clap.specs.declared.builder.action.ArgAction.TheVariants.{SetTrue}
+use Rattle.clap.specs.declared.builder.value_parser.ValueParser.{ValueParser}
 use Rattle.clap.specs.declared.builder.value_parser.ValueParser.TheVariants as vp
 
 -- ---- the definition
@@ -13,6 +14,19 @@ use Rattle.clap.specs.declared.builder.value_parser.ValueParser.TheVariants as v
 -- a name that must be given
 abbrev pub name_rule : Text → Rule
 name_rule id = record (new_rule id) { required = true; value_names = 1 }
+
+-- a number that must be given, which this parser reads
+abbrev pub parsed_rule : Text → ValueParser → Rule
+parsed_rule id parser = record (name_rule id) { parser = Some parser }
+
+abbrev pub seed_rule : Rule
+seed_rule = parsed_rule (codes "seed") (vp.Unsigned 0 9223372036854775807)
+
+abbrev pub actors_rule : Rule
+actors_rule = parsed_rule (codes "actors") (vp.Unsigned 2 4096)
+
+abbrev pub steps_rule : Rule
+steps_rule = parsed_rule (codes "steps") (vp.Unsigned 0 1000000)
 
 -- an option with a number from least to most, and its default
 abbrev pub number_rule : Text → ℕ → ℕ → Text → Rule
@@ -33,8 +47,12 @@ abbrev pub quiet_rule : Rule
 quiet_rule = record (new_rule (codes "quiet")) { long = Some (codes "quiet"); action = Some SetTrue }
 
 -- the options of every command
+abbrev pub with_common_options : App → App
+with_common_options a = with_rule (with_rule a workers_rule) budget_rule
+
+-- the options of a command that prints a line for each action
 abbrev pub with_options : App → App
-with_options a = with_rule (with_rule (with_rule a workers_rule) budget_rule) quiet_rule
+with_options a = with_rule (with_common_options a) quiet_rule
 
 abbrev pub with_parts : App → App
 with_parts a = with_rule (with_rule a (name_rule (codes "platform"))) (name_rule (codes "deployment"))
@@ -45,6 +63,9 @@ replay_app = with_options (with_rule (with_parts (new_app (codes "replay"))) (na
 abbrev pub run_app : App
 run_app = with_options (with_parts (new_app (codes "run")))
 
+abbrev pub churn_app : App
+churn_app = with_common_options (with_rule (with_rule (with_rule (new_app (codes "churn")) seed_rule) actors_rule) steps_rule)
+
 -- the program, without its commands: one of them must be given, and there is a version
 abbrev pub bare_app : App
 bare_app = record {
@@ -53,7 +74,7 @@ bare_app = record {
 }
 
 abbrev pub program_app : App
-program_app = with_subcommand (with_subcommand bare_app replay_app.top) run_app.top
+program_app = with_subcommand (with_subcommand (with_subcommand bare_app replay_app.top) run_app.top) churn_app.top
 
 -- the kinds of refusal that the words may have, none where the definition accepts them
 abbrev pub refusals : List Text → Kinds
@@ -61,10 +82,12 @@ refusals words = fault_of program_app words
 
 -- ---- the job
 
--- what the program is asked to do: to replay a script on a platform with a deployment, or to run without a script
+-- what the program is asked to do: to replay a script on a platform with a deployment, to run without a script, or to
+-- churn from a seed, with so many actors and steps
 pub data Request : Type 0 where
   replay : Text → Text → Text → Request
   run : Text → Text → Request
+  churn : ℕ → ℕ → ℕ → Request
 
 pub record Asked : Type 0 where
   pub request : Request
@@ -87,10 +110,15 @@ abbrev pub run_at : List Row → Option Request
 run_at rows = option_and_then (λ platform. option_map (λ deployment. run platform deployment)
     (first_of (codes "deployment") rows)) (first_of (codes "platform") rows)
 
+abbrev pub churn_at : List Row → Option Request
+churn_at rows = option_and_then (λ seed. option_and_then (λ actors. option_map (λ steps. churn seed actors steps)
+    (number_at 0 1000000 (codes "steps") rows)) (number_at 2 4096 (codes "actors") rows)) (number_at 0 9223372036854775807 (codes "seed") rows)
+
 abbrev pub request_at : Text → List Row → Option Request
 request_at name rows =
     if bytes_eq name (codes "replay") then replay_at rows
     else if bytes_eq name (codes "run") then run_at rows
+    else if bytes_eq name (codes "churn") then churn_at rows
     else None
 
 abbrev pub is_quiet : List Row → Bool

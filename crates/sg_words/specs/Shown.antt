@@ -10,11 +10,12 @@ use Rattle.sg_words.specs.declared.job.Asked.{Asked}
 use Rattle.sg_words.specs.declared.job.Command.{Command}
 use Rattle.sg_words.specs.declared.job.Job.{Job}
 use Rattle.sg_words.specs.declared.job.Request.{Request}
-use Rattle.sg_words.specs.declared.job.Request.TheVariants.{Replay, Run}
+use Rattle.sg_words.specs.declared.job.Request.TheVariants.{Replay, Run, Churn}
 
 abbrev pub request_text : Request → line.Request
 request_text (Replay platform deployment script) = line.replay platform.now deployment.now script.now
 request_text (Run platform deployment) = line.run platform.now deployment.now
+request_text (Churn n) = line.churn n.seed n.actors n.steps
 
 abbrev pub asked_text : Asked → line.Asked
 asked_text a = record { request = request_text a.request; workers = a.workers; budget = a.budget; quiet = a.quiet }
@@ -22,6 +23,7 @@ asked_text a = record { request = request_text a.request; workers = a.workers; b
 abbrev pub command_shown : Command → line.Request
 command_shown (Command.Replay platform deployment script) = line.replay platform deployment script
 command_shown (Command.Run platform deployment) = line.run platform deployment
+command_shown (Command.Churn seed actors steps) = line.churn seed actors steps
 
 abbrev pub job_shown : Job → line.Asked
 job_shown job = record { request = command_shown job.command; workers = job.workers; budget = job.budget; quiet = job.quiet }

@@ -2,9 +2,10 @@
 ghost use Rattle.std.specs.Prelude.{◌≡◌, IfOk, false};
 ghost use Rattle.clap.specs.Words.{app_of, rule_of, with_rule, with_subcommand};
 ghost use Rattle.clap.specs.declared.builder.command.Command.TheViews.{out-Command};
-ghost use Rattle.sg_words.specs.CommandLine.{name_rule, workers_rule, budget_rule, quiet_rule, with_options, with_parts, replay_app, run_app, bare_app, program_app};
+ghost use Rattle.sg_words.specs.CommandLine.{name_rule, parsed_rule, seed_rule, actors_rule, steps_rule, workers_rule, budget_rule, quiet_rule, with_common_options, with_options, with_parts, replay_app, run_app, churn_app, bare_app, program_app};
 
 use crate::help;
+use clap::builder::ValueParser;
 use clap::{Arg, ArgAction, Command, value_parser};
 use std::alloc::{AllocError, Global};
 
@@ -16,6 +17,44 @@ fn name_arg<'a>(alloc: Global, id: &'a str, shown: &'a str, help: &'a str) -> Ar
         .required(true)
         .value_name(shown)
         .help(help)
+}
+
+// A number that must be given.
+fn number_arg<'a>(
+    alloc: Global,
+    id: &'a str,
+    shown: &'a str,
+    parser: ValueParser<'a>,
+    help: &'a str,
+) -> Arg<'a>
+    ensures rule { rule_of result ≡ parsed_rule id.entry.now parser.entry }
+    ensures local { result.global ≡ false }
+{
+    name_arg(alloc, id, shown, help).value_parser(parser)
+}
+
+fn seed_arg<'a>(alloc: Global) -> Arg<'a>
+    ensures rule { rule_of result ≡ seed_rule }
+    ensures local { result.global ≡ false }
+{
+    let parser = value_parser!(u64).range(0..=9223372036854775807);
+    number_arg(alloc, "seed", "SEED", parser, help::SEED)
+}
+
+fn actors_arg<'a>(alloc: Global) -> Arg<'a>
+    ensures rule { rule_of result ≡ actors_rule }
+    ensures local { result.global ≡ false }
+{
+    let parser = value_parser!(u64).range(2..=4096);
+    number_arg(alloc, "actors", "ACTORS", parser, help::ACTORS)
+}
+
+fn steps_arg<'a>(alloc: Global) -> Arg<'a>
+    ensures rule { rule_of result ≡ steps_rule }
+    ensures local { result.global ≡ false }
+{
+    let parser = value_parser!(u64).range(0..=1000000);
+    number_arg(alloc, "steps", "STEPS", parser, help::STEPS)
 }
 
 fn workers_arg<'a>(alloc: Global) -> Arg<'a>
@@ -79,13 +118,22 @@ fn with_parts<'a>(alloc: Global, command: Command<'a>) -> Result<Command<'a>, Al
 }
 
 // The command with the options that each command has.
+fn with_common_options<'a>(alloc: Global, command: Command<'a>) -> Result<Command<'a>, AllocError>
+    requires { (out-Command command).has_globals ≡ false }
+    ensures shape { IfOk result (λ c. app_of c ≡ with_common_options (app_of command.entry)) }
+    ensures local { IfOk result (λ c. (out-Command c).has_globals ≡ false) }
+{
+    let command = with_arg(command, workers_arg(alloc))?;
+    with_arg(command, budget_arg(alloc))
+}
+
+// The command with the options of one that prints a line for each action.
 fn with_options<'a>(alloc: Global, command: Command<'a>) -> Result<Command<'a>, AllocError>
     requires { (out-Command command).has_globals ≡ false }
     ensures shape { IfOk result (λ c. app_of c ≡ with_options (app_of command.entry)) }
     ensures local { IfOk result (λ c. (out-Command c).has_globals ≡ false) }
 {
-    let command = with_arg(command, workers_arg(alloc))?;
-    let command = with_arg(command, budget_arg(alloc))?;
+    let command = with_common_options(alloc, command)?;
     with_arg(command, quiet_arg(alloc))
 }
 
@@ -112,6 +160,19 @@ fn run<'a>(alloc: Global) -> Result<Command<'a>, AllocError>
     with_options(alloc, command)
 }
 
+fn churn<'a>(alloc: Global) -> Result<Command<'a>, AllocError>
+    ensures shape { IfOk result (λ c. app_of c ≡ churn_app) }
+    ensures local { IfOk result (λ c. (out-Command c).has_globals ≡ false) }
+{
+    let command = Command::new(alloc, "churn")
+        .about(help::CHURN)
+        .after_help(help::STATUSES);
+    let command = with_arg(command, seed_arg(alloc))?;
+    let command = with_arg(command, actors_arg(alloc))?;
+    let command = with_arg(command, steps_arg(alloc))?;
+    with_common_options(alloc, command)
+}
+
 fn bare<'a>(alloc: Global) -> Command<'a>
     ensures { app_of result ≡ bare_app }
 {
@@ -135,5 +196,6 @@ pub fn program<'a>(alloc: Global) -> Result<Command<'a>, AllocError>
     ensures { IfOk result (λ c. app_of c ≡ program_app) }
 {
     let program = with_command(bare(alloc), replay(alloc)?)?;
-    with_command(program, run(alloc)?)
+    let program = with_command(program, run(alloc)?)?;
+    with_command(program, churn(alloc)?)
 }

@@ -12,6 +12,17 @@ pub const REPLAY: &str =
 
 pub const RUN: &str = "Runs masters and workers, which need no script";
 
+pub const CHURN: &str =
+    "Runs a load that anybody can make again from its numbers: a load test, a benchmark, a check of determinism";
+
+pub const SEED: &str =
+    "The number that hosts, links and amounts are drawn from, 0 to 9223372036854775807";
+
+pub const ACTORS: &str = "Actors, 2 to 4096: a ring, each on a host of its own";
+
+pub const STEPS: &str =
+    "Steps of each actor, 0 to 1000000: it computes, sends to the next, receives from the one before, and waits";
+
 pub const PLATFORM: &str = "The platform, a TOML file: zones, hosts, routers, links and routes";
 
 pub const DEPLOYMENT: &str =

@@ -1,10 +1,11 @@
 //! The job, read off the values that were found for the arguments.
 ghost use Rattle.std.specs.Prelude.{◌≡◌, ◌≤◌, ◌&&◌, Some, None, option_map, IfOk, IfSome, nat_le, if◌then◌else◌};
 ghost use Rattle.clap.specs.Words.{found_of, rows_of, first_of, subcommand_rows_of};
-ghost use Rattle.sg_words.specs.CommandLine.{number_in, number_at, replay_at, run_at, request_at, is_quiet, asked_at, asked_by};
+ghost use Rattle.sg_words.specs.CommandLine.{number_in, number_at, replay_at, run_at, churn_at, request_at, is_quiet, asked_at, asked_by};
+ghost use Rattle.sg_words.specs.Ranges.{IsInRange};
 ghost use Rattle.sg_words.specs.Shown.{request_text, asked_text, command_shown, job_shown};
 
-use crate::job::{Asked, Command, Job, Request};
+use crate::job::{Asked, ChurnNumbers, Command, Job, Request};
 use clap::ArgMatches;
 use sg_base::{Memory, Text};
 use std::alloc::Global;
@@ -60,6 +61,19 @@ fn run_at<'a>(matches: &ArgMatches<'a>) -> Option<Request<'a>>
     Some(Request::Run(platform, deployment))
 }
 
+fn churn_at<'a>(matches: &ArgMatches<'a>) -> Option<Request<'a>>
+    ensures { option_map request_text result ≡ churn_at (rows_of (found_of matches.now)) }
+{
+    let seed = number_at(matches, "seed", 0, 9_223_372_036_854_775_807)?;
+    let actors = number_at(matches, "actors", 2, 4096)? as u32;
+    let steps = number_at(matches, "steps", 0, 1_000_000)? as u32;
+    Some(Request::Churn(ChurnNumbers {
+        seed,
+        actors,
+        steps,
+    }))
+}
+
 fn request_at<'a>(name: &str, matches: &ArgMatches<'a>) -> Option<Request<'a>>
     ensures { option_map request_text result ≡ request_at name.now (rows_of (found_of matches.now)) }
 {
@@ -67,6 +81,8 @@ fn request_at<'a>(name: &str, matches: &ArgMatches<'a>) -> Option<Request<'a>>
         replay_at(matches)
     } else if name == "run" {
         run_at(matches)
+    } else if name == "churn" {
+        churn_at(matches)
     } else {
         None
     }
@@ -105,7 +121,8 @@ pub(crate) fn asked_in<'a>(matches: &ArgMatches<'a>) -> Option<Asked<'a>>
 }
 
 fn command_of(alloc: Global, request: Request<'_>) -> Result<Command, Memory>
-    ensures { IfOk result (λ c. command_shown c ≡ request_text request.entry) }
+    ensures shown { IfOk result (λ c. command_shown c ≡ request_text request.entry) }
+    ensures in_range { IfOk result IsInRange }
 {
     match request {
         Request::Replay(platform, deployment, script) => Ok(Command::Replay {
@@ -116,6 +133,11 @@ fn command_of(alloc: Global, request: Request<'_>) -> Result<Command, Memory>
         Request::Run(platform, deployment) => Ok(Command::Run {
             platform: Text::new(alloc, platform)?,
             deployment: Text::new(alloc, deployment)?,
+        }),
+        Request::Churn(numbers) => Ok(Command::Churn {
+            seed: numbers.seed,
+            actors: numbers.actors,
+            steps: numbers.steps,
         }),
     }
 }

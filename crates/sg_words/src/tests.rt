@@ -31,6 +31,19 @@ fn shown(alloc: Global, job: &Job) -> Result<String, AllocError> {
             let (p, d) = (platform.as_str(), deployment.as_str());
             format!(in alloc; "run {p} {d}, {workers} {budget} {quiet}")
         }
+        Command::Churn {
+            seed,
+            actors,
+            steps,
+        } => format!(in alloc; "churn {seed} {actors} {steps}, {workers} {budget} {quiet}"),
+    }
+}
+
+// How many more actors and steps a churn could have: nothing wraps, since a job shows that its numbers are in range.
+fn room(job: &Job) -> (u32, u32) {
+    match job.command {
+        Command::Churn { actors, steps, .. } => (4096 - actors, 1_000_000 - steps),
+        Command::Replay { .. } | Command::Run { .. } => (0, 0),
     }
 }
 
@@ -45,7 +58,7 @@ fn told(alloc: Global, line: &str) -> Result<String, AllocError> {
 }
 
 /// Command lines, and what is told of each.
-const LINES: [(&str, &str); 44] = [
+const LINES: [(&str, &str); 66] = [
     ("replay a b c", "replay a b c, 1 1000000 false"),
     ("replay a b -", "replay a b -, 1 1000000 false"),
     (
@@ -63,6 +76,17 @@ const LINES: [(&str, &str); 44] = [
     ("run a b --budget 1", "run a b, 1 1 false"),
     ("run a b --nthreads +5", "run a b, 5 1000000 false"),
     ("run a b --nthreads 05", "run a b, 5 1000000 false"),
+    ("churn 7 3 2", "churn 7 3 2, 1 1000000 false"),
+    (
+        "churn 7 3 2 --budget 45 --nthreads 64",
+        "churn 7 3 2, 64 45 false",
+    ),
+    ("churn --budget=45 +7 03 2", "churn 7 3 2, 1 45 false"),
+    ("churn 0 2 0", "churn 0 2 0, 1 1000000 false"),
+    (
+        "churn 9223372036854775807 4096 1000000",
+        "churn 9223372036854775807 4096 1000000, 1 1000000 false",
+    ),
     ("--help", "help"),
     ("-h", "help"),
     ("--version", "help"),
@@ -71,6 +95,8 @@ const LINES: [(&str, &str); 44] = [
     ("help replay", "help"),
     ("replay --help", "help"),
     ("run -h", "help"),
+    ("churn --help", "help"),
+    ("help churn", "help"),
     ("replay a b c --help", "help"),
     ("", "MissingSubcommand"),
     ("jump", "InvalidSubcommand"),
@@ -80,6 +106,21 @@ const LINES: [(&str, &str); 44] = [
     ("replay a b c d", "UnknownArgument"),
     ("run a b c", "UnknownArgument"),
     ("run a b --version", "UnknownArgument"),
+    ("churn", "MissingRequiredArgument"),
+    ("churn 7 3", "MissingRequiredArgument"),
+    ("churn 7 3 2 1", "UnknownArgument"),
+    ("churn -1 3 2", "UnknownArgument"),
+    ("churn -- -1 3 2", "ValueValidation"),
+    ("churn 7 3 2 --quiet", "UnknownArgument"),
+    ("churn 9223372036854775808 3 2", "ValueValidation"),
+    ("churn 18446744073709551616 3 2", "ValueValidation"),
+    ("churn 7 1 2", "ValueValidation"),
+    ("churn 7 0 2", "ValueValidation"),
+    ("churn 7 4097 2", "ValueValidation"),
+    ("churn 7 3 1000001", "ValueValidation"),
+    ("churn seven 3 2", "ValueValidation"),
+    ("churn 7 3 2 --budget 0", "ValueValidation"),
+    ("churn 7 3 2 --nthreads 65", "ValueValidation"),
     ("replay --budget 0 a b c", "ValueValidation"),
     ("replay --budget 1000000001 a b c", "ValueValidation"),
     ("replay --budget 1e6 a b c", "ValueValidation"),
@@ -107,6 +148,15 @@ fn command_lines(rt: HostRuntime) -> Result<(), Fail> {
     Ok(())
 }
 
+#[test]
+fn jobs_show_that_numbers_are_in_range(rt: HostRuntime) -> Result<(), Fail> {
+    match read(rt.alloc(), "churn 7 4095 999998") {
+        Ok(job) => assert_eq!(rt; room(&job), (1, 2)),
+        Err(_) => panic!(rt; "refused"),
+    }
+    Ok(())
+}
+
 const TOP_HELP: &str =
     "Simulates how long a program takes on machines that you don't have, in whole numbers:
 the same input gives the same output on every machine.
@@ -117,6 +167,7 @@ Usage: simgrid_replay <COMMAND>
 Commands:
   replay  Replays a script: each actor does the actions of its lines, in their order
   run     Runs masters and workers, which need no script
+  churn   Runs a load that anybody can make again from its numbers: a load test, a benchmark, a check of determinism
   help    Print this message or the help of the given subcommand(s)
 
 Options:
@@ -159,6 +210,23 @@ Options:
 
 ";
 
+const CHURN_HELP: &str =
+    "Runs a load that anybody can make again from its numbers: a load test, a benchmark, a check of determinism
+
+Usage: simgrid_replay churn [OPTIONS] <SEED> <ACTORS> <STEPS>
+
+Arguments:
+  <SEED>    The number that hosts, links and amounts are drawn from, 0 to 9223372036854775807
+  <ACTORS>  Actors, 2 to 4096: a ring, each on a host of its own
+  <STEPS>   Steps of each actor, 0 to 1000000: it computes, sends to the next, receives from the one before, and waits
+
+Options:
+      --nthreads <N>  Worker threads, 1 to 64; the output is the same for every number [default: 1]
+      --budget <N>    Events after which the run is stopped, 1 to 1000000000 [default: 1000000]
+  -h, --help          Print help
+
+";
+
 /// What each help ends with.
 const STATUSES: &str = "Exit status:
    0  the simulation completed; also for help and the version
@@ -186,23 +254,27 @@ Usage: simgrid_replay replay <PLATFORM> <DEPLOYMENT> <SCRIPT>
 ";
 
 const NO_COMMAND: &str = "error: 'simgrid_replay' requires a subcommand but one was not provided
-  [subcommands: replay, run, help]
+  [subcommands: replay, run, churn, help]
 
 Usage: simgrid_replay <COMMAND>
 
 ";
 
+const ONE_ACTOR: &str = "error: invalid value '1' for '<ACTORS>': 1 is not in 2..=4096\n\n";
+
 /// What a text about refused words ends with.
 const MORE: &str = "For more information, try '--help'.\n";
 
 /// Command lines, and the text that is told of each: how it begins, and all that follows.
-const TEXTS: [(&str, &str, &str); 7] = [
+const TEXTS: [(&str, &str, &str); 9] = [
     ("--help", TOP_HELP, STATUSES),
     ("replay --help", REPLAY_HELP, STATUSES),
     ("run --help", RUN_HELP, STATUSES),
+    ("churn --help", CHURN_HELP, STATUSES),
     ("--version", "simgrid_replay 0.1.0\n", ""),
     ("replay --budget 0 a b c", NO_EVENT, MORE),
     ("replay a b", NO_SCRIPT, MORE),
+    ("churn 7 1 2", ONE_ACTOR, MORE),
     ("", NO_COMMAND, MORE),
 ];
 

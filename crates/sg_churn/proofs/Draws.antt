@@ -1,0 +1,32 @@
+-- The generator, draw by draw.
+use Rattle.std.proofs.Common.{◌≡◌, ℕ, ◌+◌, ◌*◌, ◌%◌, codes, ap, ◌∙◌, refl, arith, add-one}
+use Rattle.sg_base.specs.Draw.{drawn, next_state}
+use Rattle.sg_churn.specs.Generated.{drawn_after, host_of, host_with, link_of, link_with, name_of, state_after}
+use Rattle.sg_platform.specs.declared.rows.HostRow.{HostRow}
+use Rattle.sg_platform.specs.declared.rows.LinkRow.{LinkRow}
+
+pub begins : (seed : ℕ) → seed ≡ state_after seed 0
+unfolding state_after
+begins seed = refl
+
+more_draws : (seed draws : ℕ) → next_state (state_after seed draws) ≡ state_after seed (draws + 1)
+unfolding state_after
+more_draws seed draws = rw (add-one draws)
+
+-- the state behind one draw more
+pub next_drawn : (seed draws more state next : ℕ) → more ≡ draws + 1 → state ≡ state_after seed draws → next ≡ next_state state → next ≡ state_after seed more
+next_drawn seed draws more state next one here drawn = drawn ∙ ap next_state here ∙ more_draws seed draws ∙ ap (λ n. state_after seed n) (omega arith)
+
+-- what is drawn in this state
+pub drawn_here : (seed draws most state n : ℕ) → state ≡ state_after seed draws → n ≡ 1 + drawn state % most → n ≡ drawn_after seed draws most
+unfolding drawn_after
+drawn_here seed draws most state n here drawn_now = drawn_now ∙ ap (λ s. 1 + drawn s % most) here
+
+pub host_drawn : (seed row speed : ℕ) (host : HostRow) → host ≡ host_with row (speed * 100000000) → speed ≡ drawn_after seed (3 * row) 8 → host ≡ host_of seed row
+host_drawn seed row speed host made drawn = made ∙ ap (λ s. host_with row (s * 100000000)) drawn
+
+pub link_drawn : (seed row bandwidth latency : ℕ) (made : LinkRow) → made ≡ link_with (name_of (codes "l") row) (bandwidth * 1000000) (latency * 1000)
+    → bandwidth ≡ drawn_after seed (3 * row + 1) 8 → latency ≡ drawn_after seed (3 * row + 2) 100 → made ≡ link_of seed row
+link_drawn seed row bandwidth latency made is first second =
+    is ∙ ap (λ b. link_with (name_of (codes "l") row) (b * 1000000) (latency * 1000)) first
+    ∙ ap (λ l. link_with (name_of (codes "l") row) (drawn_after seed (3 * row + 1) 8 * 1000000) (l * 1000)) second

@@ -1,0 +1,57 @@
+-- The names of rows are names, and no two of a space are the same.
+use Rattle.std.proofs.Common.{◌≡◌, ◌≢◌, ℕ, ◌+◌, ◌<◌, ◌≤◌, ◌==◌, ◌&&◌, ◌%◌, ◌^◌, true, not, nat_le, List, [], ◌∷◌, ◌++◌, length, decimal, IsTrue, arith}
+use Rattle.std.proofs.lemmas.Bool.Decides.{nat_tests}
+use Rattle.std.proofs.lemmas.Fmt.{decimal_by_steps, decimal_injective, length-decimal-le}
+use Rattle.std.proofs.lemmas.List.Elements.{All-cons}
+use Rattle.std.proofs.lemmas.List.Folds.{list_all-append}
+use Rattle.std.specs.List.{list_all}
+use Rattle.sg_churn.proofs.NumberedRows.{all_rows, distinct_behind, distinct_rows}
+use Rattle.sg_churn.specs.Generated.{name_of, rows}
+use Rattle.sg_platform.specs.OfRows.{AreNames}
+use Rattle.sg_rules.specs.Rules.{is_name, is_name_byte}
+
+digit_fits : (n : ℕ) → n < 10 → is_name_byte (48 + n) ≡ true
+digit_fits n low = grind (arith, nat_tests)
+
+digits_fit : (n : ℕ) → n < 2 ^ 64 → list_all is_name_byte (decimal n) ≡ true
+digits_fit = decimal_by_steps (λ m ds. list_all is_name_byte ds ≡ true) one more
+  where
+    one : (m : ℕ) → m < 10 → list_all is_name_byte ((48 + m) ∷ []) ≡ true
+    one m low = rw (digit_fits m low)
+
+    more : (m : ℕ) (ds : List ℕ) → 10 ≤ m → list_all is_name_byte ds ≡ true → list_all is_name_byte (ds ++ ((48 + m % 10) ∷ [])) ≡ true
+    more m ds high fit = rw (list_all-append is_name_byte ds ((48 + m % 10) ∷ []), fit, digit_fits (m % 10) (omega arith))
+
+name_fits : (text : List ℕ) → 0 < length text → length text ≤ 64 → list_all is_name_byte text ≡ true → IsTrue (is_name text)
+unfolding is_name
+name_fits text some short fit = rw fit (within (length text) some short)
+  where
+    within : (n : ℕ) → 0 < n → n ≤ 64 → (not (n == 0) && nat_le n 64) && true ≡ true
+    within n some short = grind (arith, nat_tests)
+
+row_name_fits : (c row : ℕ) → is_name_byte c ≡ true → row < 4096 → IsTrue (is_name (name_of (c ∷ []) row))
+row_name_fits c row fits few =
+    name_fits (c ∷ decimal (row + 1)) (omega arith) (omega (arith, length-decimal-le 5 (row + 1) (omega arith) (omega arith) (omega arith))) (rw (fits, digits_fit (row + 1) (omega arith)))
+
+row_names_differ : (c i j : ℕ) → i < j → j < 4096 → name_of (c ∷ []) i ≢ name_of (c ∷ []) j
+row_names_differ c i j before few same =
+    let numbers : decimal (i + 1) ≡ decimal (j + 1) = cc in
+    let equal : i + 1 ≡ j + 1 = decimal_injective (i + 1) (j + 1) (omega arith) (omega arith) numbers in
+    absurd (omega arith)
+
+-- the names of rows under one letter
+pub row_names : (c count : ℕ) → is_name_byte c ≡ true → count ≤ 4096 → AreNames (rows (name_of (c ∷ [])) count)
+row_names c count fits few = record {
+  fit = all_rows (λ name. IsTrue (is_name name)) (name_of (c ∷ [])) count (λ k below. row_name_fits c k fits (omega arith));
+  distinct = distinct_rows (name_of (c ∷ [])) count (λ i j before below. row_names_differ c i j before (omega arith));
+}
+
+-- the same behind a name that begins otherwise
+pub row_names_behind : (name : List ℕ) (c count : ℕ) → IsTrue (is_name name) → is_name_byte c ≡ true → ((row : ℕ) → name ≢ name_of (c ∷ []) row) → count ≤ 4096
+    → AreNames (name ∷ rows (name_of (c ∷ [])) count)
+row_names_behind name c count named fits differ few =
+    let behind = row_names c count fits few in
+    record {
+      fit = All-cons (λ name. IsTrue (is_name name)) name (rows (name_of (c ∷ [])) count) named behind.fit;
+      distinct = distinct_behind name (rows (name_of (c ∷ [])) count) (all_rows (λ other. name ≢ other) (name_of (c ∷ [])) count (λ k below. differ k)) behind.distinct;
+    }

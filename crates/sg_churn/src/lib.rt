@@ -1,0 +1,13 @@
+//! The load of a churn, which anybody can make again from three numbers: a platform, and the actors on it.
+#![tactic(auto)]
+
+mod deployment;
+mod laws;
+mod names;
+mod platform;
+#[cfg(test)]
+mod tests;
+
+pub use deployment::churn_deployment;
+pub use laws::churn_has_no_zone_fault;
+pub use platform::churn_platform;
