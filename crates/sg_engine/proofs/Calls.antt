@@ -1,29 +1,32 @@
 -- Calls that are answered one after another.
 use Rattle.std.proofs.Common.{◌≡◌, ◌≢◌, ◌∙◌, sym, ap, ap₂, subst, refl, ℕ, ◌+◌, ◌==◌, ◌<◌, ◌≤◌, Bool, true, false, cond, List, [], ◌++◌, length, get_or, drop, Option, None, Some, Result, Ok}
-use Rattle.std.specs.Prelude.{option_map}
+use Rattle.std.specs.Prelude.{option_map, MatchResult, ◌&&◌}
 use Rattle.std.proofs.lemmas.List.{append-nil, at_drop_more, at_drop_all}
 use Rattle.sg_base.specs.declared.call.Action.{Action}
+use Rattle.sg_base.specs.declared.call.Call.{Call}
 use Rattle.sg_base.specs.declared.trace_record.Record.{Record}
 use Rattle.sg_base.specs.Mind.{Mind}
 use Rattle.sg_edge.specs.Files.{PartView}
-use Rattle.sg_edge.specs.declared.files.Stage.TheVariants.{Fresh}
+use Rattle.sg_edge.specs.declared.files.Stage.TheVariants.{Fresh, Broken}
 use Rattle.sg_kernel.specs.World.{Setup, Core, World}
-use Rattle.sg_kernel.specs.Calls.{told}
+use Rattle.sg_kernel.specs.Calls.{answered, told}
 use Rattle.sg_kernel.specs.Steps.{Step}
 use Rattle.sg_kernel.specs.Known.{Known, after}
+use Rattle.sg_platform.specs.Deployment.{Deployed}
 use Rattle.sg_route.specs.Roads.{Roads}
 use Rattle.sg_script.specs.Asked.{asked}
 use Rattle.sg_script.specs.Known.{Known as Names}
-use Rattle.sg_script.specs.Stands.{Kept, IsAsked, Reads, one_more}
+use Rattle.sg_script.specs.declared.script.Script.{Script}
+use Rattle.sg_script.specs.Stands.{Kept, kept_of, IsAsked, Reads, one_more}
 use Rattle.sg_script.specs.declared.fault.ScriptFault.{ScriptFault}
 use Rattle.sg_script.proofs.Chains.{reads_none, reads_then}
 use Rattle.sg_engine.specs.declared.actor_call.ActorCall.{ActorCall}
 use Rattle.sg_engine.specs.declared.ended.Ended.{Ended}
 use Rattle.sg_engine.specs.declared.ended.Ended.TheVariants as ended
 use Rattle.sg_engine.specs.Listed.{calls_of}
-use Rattle.sg_engine.specs.Run.{Scene, scene, Answering, Progress, at_world, and_then, ended_by, in_world, ask, tells, one_call}
-use Rattle.sg_engine.specs.Reached.{Moment, moment, StandsFor, Reached, CutOff, ending}
-use Rattle.sg_engine.proofs.Reaching.{reached_then, reached_as, rest_as, goes_on_to, ends_at, stands_as}
+use Rattle.sg_engine.specs.Run.{Scene, scene, Answering, Progress, at_world, and_then, ended_by, in_world, ask, is_ask, tells, one_call}
+use Rattle.sg_engine.specs.Reached.{Moment, moment, moment_of, Fits, StandsFor, Reached, CutOff, ending, script_part}
+use Rattle.sg_engine.proofs.Reaching.{matched_as, reached_then, reached_as, rest_as, goes_on_to, ends_at, stands_as}
 
 -- ---- one call
 -- a step of the kernel, for which nothing of the script was read
@@ -95,6 +98,37 @@ told_to names taken minds part part' kept kept' old new room world actor action 
     reached_then names (λ answers. ask old.setup answers actor world) (λ answers w. tells old.setup actor (Ok action) w) (ending how) taken minds minds (moment part kept old) (moment part' kept' old) (moment part' kept' new) first
     (stepped names (taken ++ is_asked.piece) minds part' kept' old new room (record world { asks = one_more actor world.asks }) step how is_asked.reads.begun first.stands is ends)
 
+-- ---- who answers
+-- the script answers an Ask
+pub script_answers : {E : Type 0} (script : Bool) (names : Names) (roads : Roads) (setup : Setup) (actor : ℕ) (what : Call) (taken : List ℕ) (minds : List Mind) (world : World) (part part' : PartView) (reader reader' : Script) (old new : Known) (result : Result (Option Ended) E) →
+    (script && is_ask what) ≡ true →
+    (StandsFor names taken minds (moment part (kept_of reader) old) world → MatchResult result (λ how. Reached names (λ answers. ask setup answers actor world) (ending how) taken minds (moment part (kept_of reader) old) (moment part' (kept_of reader') new)) (λ _. CutOff part part')) →
+    StandsFor names taken minds (moment_of script part reader old) world →
+    MatchResult result (λ how. Reached names (λ answers. one_call (scene roads setup script) answers actor what world) (ending how) taken minds (moment_of script part reader old) (moment_of script part' reader' new)) (λ _. CutOff (script_part script part) (script_part script part'))
+script_answers true names roads setup actor what taken minds world part part' reader reader' old new result is step stands =
+    matched_as result names (λ answers. ask setup answers actor world) (λ answers. one_call (scene roads setup true) answers actor what world) taken minds _ _ _
+    (λ answers. ap (λ (b : Bool). cond b (ask setup answers actor world) (in_world world (answered roads setup world.core actor what))) is) (step stands)
+script_answers false names roads setup actor what taken minds world part part' reader reader' old new result is step stands = absurd (cc is)
+
+pub is_scripted : (script asks : Bool) → (script && asks) ≡ true → script ≡ true
+is_scripted true asks is = refl
+is_scripted false asks is = absurd (cc is)
+
+pub fits_scripted : (script : Bool) (deployed : Deployed) (part : PartView) (reader : Script) (known : Known) → script ≡ true → Fits deployed (moment part (kept_of reader) known) → Fits deployed (moment_of script part reader known)
+fits_scripted true deployed part reader known is fits = fits
+fits_scripted false deployed part reader known is fits = absurd (cc is)
+
+pub scripted_fits : (script : Bool) (deployed : Deployed) (part : PartView) (reader : Script) (known : Known) → script ≡ true → Fits deployed (moment_of script part reader known) → Fits deployed (moment part (kept_of reader) known)
+scripted_fits true deployed part reader known is fits = fits
+scripted_fits false deployed part reader known is fits = absurd (cc is)
+
+pub broken_scripted : (script : Bool) (part : PartView) → script ≡ true → part.stage ≡ Broken → (script_part script part).stage ≡ Broken
+broken_scripted true part is broken = broken
+broken_scripted false part is broken = absurd (cc is)
+
+pub not_unscripted : {P : Type 0} (script : Bool) → script ≡ true → script ≡ false → P
+not_unscripted script is isnt = absurd (let e : true ≡ false = sym is ∙ isnt in cc e)
+
 -- ---- calls one after another
 calls_more : (at : Scene) (answers : Answering) (calls : List ActorCall) (i : ℕ) (d : ActorCall) (world : World) → i < length calls →
     calls_of at answers (drop i calls) world ≡ and_then (one_call at answers (get_or calls i d).actor.0 (get_or calls i d).call world) (calls_of at answers (drop (i + 1) calls))
@@ -113,26 +147,26 @@ abbrev at_place : Scene → ActorCall → World → Answering → Progress
 at_place at made world answers = one_call at answers made.actor.0 made.call world
 
 -- one more call was answered, and the run goes on
-pub one_more_call : (names : Names) (whole : Answering → Progress) (roads : Roads) (setup : Setup) (calls : List ActorCall) (i : ℕ) (d : ActorCall) (taken : List ℕ) (minds : List Mind) (old mid new : Moment) → i < length calls → mid.kernel.setup ≡ setup →
-    (first : Reached names whole (rest_from (scene roads setup) calls i) taken minds old mid) → Reached names (λ answers. one_call (scene roads mid.kernel.setup) answers (get_or calls i d).actor.0 (get_or calls i d).call first.world) (ending None) (taken ++ first.piece) minds mid new →
-    Reached names whole (rest_from (scene roads setup) calls (i + 1)) taken minds old new
-one_more_call names whole roads setup calls i d taken minds old mid new within same first step =
-    let here : Reached names (at_place (scene roads setup) (get_or calls i d) first.world) (ending None) (taken ++ first.piece) minds mid new =
-    subst (λ (s : Setup). Reached names (at_place (scene roads s) (get_or calls i d) first.world) (ending None) (taken ++ first.piece) minds mid new) same step in
-    reached_then names whole (rest_from (scene roads setup) calls i) (rest_from (scene roads setup) calls (i + 1)) taken minds minds old mid new first
-    (reached_as names _ (λ answers. rest_from (scene roads setup) calls i answers first.world) (rest_from (scene roads setup) calls (i + 1)) (taken ++ first.piece) minds mid new (λ answers. calls_more (scene roads setup) answers calls i d first.world within)
-    (goes_on_to names (at_place (scene roads setup) (get_or calls i d) first.world) (rest_from (scene roads setup) calls (i + 1)) (taken ++ first.piece) minds mid new here))
+pub one_more_call : (names : Names) (whole : Answering → Progress) (roads : Roads) (setup : Setup) (script : Bool) (calls : List ActorCall) (i : ℕ) (d : ActorCall) (taken : List ℕ) (minds : List Mind) (old mid new : Moment) → i < length calls → mid.kernel.setup ≡ setup →
+    (first : Reached names whole (rest_from (scene roads setup script) calls i) taken minds old mid) → Reached names (λ answers. one_call (scene roads mid.kernel.setup script) answers (get_or calls i d).actor.0 (get_or calls i d).call first.world) (ending None) (taken ++ first.piece) minds mid new →
+    Reached names whole (rest_from (scene roads setup script) calls (i + 1)) taken minds old new
+one_more_call names whole roads setup script calls i d taken minds old mid new within same first step =
+    let here : Reached names (at_place (scene roads setup script) (get_or calls i d) first.world) (ending None) (taken ++ first.piece) minds mid new =
+    subst (λ (s : Setup). Reached names (at_place (scene roads s script) (get_or calls i d) first.world) (ending None) (taken ++ first.piece) minds mid new) same step in
+    reached_then names whole (rest_from (scene roads setup script) calls i) (rest_from (scene roads setup script) calls (i + 1)) taken minds minds old mid new first
+    (reached_as names _ (λ answers. rest_from (scene roads setup script) calls i answers first.world) (rest_from (scene roads setup script) calls (i + 1)) (taken ++ first.piece) minds mid new (λ answers. calls_more (scene roads setup script) answers calls i d first.world within)
+    (goes_on_to names (at_place (scene roads setup script) (get_or calls i d) first.world) (rest_from (scene roads setup script) calls (i + 1)) (taken ++ first.piece) minds mid new here))
 
 -- one more call was answered, and the run has ended
-pub last_call : (names : Names) (whole : Answering → Progress) (roads : Roads) (setup : Setup) (calls : List ActorCall) (i : ℕ) (d : ActorCall) (how : Ended) (taken : List ℕ) (minds : List Mind) (old mid new : Moment) → i < length calls → mid.kernel.setup ≡ setup →
-    (first : Reached names whole (rest_from (scene roads setup) calls i) taken minds old mid) → Reached names (λ answers. one_call (scene roads mid.kernel.setup) answers (get_or calls i d).actor.0 (get_or calls i d).call first.world) (ending (Some how)) (taken ++ first.piece) minds mid new →
+pub last_call : (names : Names) (whole : Answering → Progress) (roads : Roads) (setup : Setup) (script : Bool) (calls : List ActorCall) (i : ℕ) (d : ActorCall) (how : Ended) (taken : List ℕ) (minds : List Mind) (old mid new : Moment) → i < length calls → mid.kernel.setup ≡ setup →
+    (first : Reached names whole (rest_from (scene roads setup script) calls i) taken minds old mid) → Reached names (λ answers. one_call (scene roads mid.kernel.setup script) answers (get_or calls i d).actor.0 (get_or calls i d).call first.world) (ending (Some how)) (taken ++ first.piece) minds mid new →
     Reached names whole (ending (Some how)) taken minds old new
-last_call names whole roads setup calls i d how taken minds old mid new within same first step =
-    let here : Reached names (at_place (scene roads setup) (get_or calls i d) first.world) (ending (Some how)) (taken ++ first.piece) minds mid new =
-    subst (λ (s : Setup). Reached names (at_place (scene roads s) (get_or calls i d) first.world) (ending (Some how)) (taken ++ first.piece) minds mid new) same step in
-    reached_then names whole (rest_from (scene roads setup) calls i) (ending (Some how)) taken minds minds old mid new first
-    (reached_as names _ (λ answers. rest_from (scene roads setup) calls i answers first.world) (ending (Some how)) (taken ++ first.piece) minds mid new (λ answers. calls_more (scene roads setup) answers calls i d first.world within)
-    (ends_at names (at_place (scene roads setup) (get_or calls i d) first.world) (rest_from (scene roads setup) calls (i + 1)) how (taken ++ first.piece) minds mid new here))
+last_call names whole roads setup script calls i d how taken minds old mid new within same first step =
+    let here : Reached names (at_place (scene roads setup script) (get_or calls i d) first.world) (ending (Some how)) (taken ++ first.piece) minds mid new =
+    subst (λ (s : Setup). Reached names (at_place (scene roads s script) (get_or calls i d) first.world) (ending (Some how)) (taken ++ first.piece) minds mid new) same step in
+    reached_then names whole (rest_from (scene roads setup script) calls i) (ending (Some how)) taken minds minds old mid new first
+    (reached_as names _ (λ answers. rest_from (scene roads setup script) calls i answers first.world) (ending (Some how)) (taken ++ first.piece) minds mid new (λ answers. calls_more (scene roads setup script) answers calls i d first.world within)
+    (ends_at names (at_place (scene roads setup script) (get_or calls i d) first.world) (rest_from (scene roads setup script) calls (i + 1)) how (taken ++ first.piece) minds mid new here))
 
 -- no call is left
 pub all_called : (names : Names) (whole : Answering → Progress) (at : Scene) (calls : List ActorCall) (i : ℕ) (taken : List ℕ) (minds : List Mind) (old new : Moment) → length calls ≤ i →

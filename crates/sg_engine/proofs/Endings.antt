@@ -1,11 +1,12 @@
 -- From what a run has come to, to what it has written in all.
-use Rattle.std.proofs.Common.{◌≡◌, sym, subst, refl, ℕ, List, [], ◌++◌, Bool, true, false, Option, None, Some}
+use Rattle.std.proofs.Common.{◌≡◌, ◌≢◌, ◌∙◌, ap, sym, subst, refl, ℕ, List, [], ◌++◌, Bool, true, false, IsTrue, Option, None, Some}
+use Rattle.std.proofs.lemmas.List.{append-nil}
 use Rattle.std.specs.Prelude.{MatchBool, IsSome}
 use Rattle.sg_edge.specs.declared.sinks.Stream.{Stream}
 use Rattle.sg_edge.specs.declared.sinks.Stream.TheVariants.{Out, Err}
-use Rattle.sg_edge.specs.declared.files.Stage.TheVariants.{Broken}
-use Rattle.sg_edge.specs.Files.{PartView, before, KeepsTelling}
-use Rattle.sg_edge.specs.Given.{Source}
+use Rattle.sg_edge.specs.declared.files.Stage.TheVariants.{Fresh, Over, Broken}
+use Rattle.sg_edge.specs.Files.{PartView, before, KeepsTelling, NoneLeft}
+use Rattle.sg_edge.specs.Given.{Source, Gives}
 use Rattle.sg_edge.specs.Sinks.{gain}
 use Rattle.sg_kernel.specs.World.{Core}
 use Rattle.sg_platform.specs.Deployment.{Deployed}
@@ -14,9 +15,13 @@ use Rattle.sg_script.specs.Asked.{asked}
 use Rattle.sg_script.specs.Known.{known_in}
 use Rattle.sg_script.specs.Stands.{Reads}
 use Rattle.sg_script.specs.Rest.{GoesOn}
+use Rattle.sg_script.proofs.Whole.{given_goes_on}
 use Rattle.sg_engine.specs.declared.ended.Ended.{Ended}
+use Rattle.sg_engine.specs.declared.show.Show.{Show}
 use Rattle.sg_engine.specs.Gains.{is_cut, Ends, GainsAll, GainsFronts, IsBroken}
 use Rattle.sg_engine.specs.Output.{trace_of, last_lines, fault_line, written_of, run_output, scene_of}
+use Rattle.sg_engine.specs.Reached.{script_part}
+use Rattle.sg_engine.specs.Roles.{first_minds}
 use Rattle.sg_engine.specs.Run.{Progress, run_of}
 use Rattle.sg_engine.specs.Simulated.{CutsOff, IsOver}
 use Rattle.sg_engine.proofs.Fronts.{front_more, fronts_out, fronts_behind, all_behind}
@@ -31,14 +36,14 @@ ends_by : (b : Bool) (front out err : List ℕ) (how result : Ended) (old mid ne
 ends_by true front out err how result old mid new wrote same ends = fronts_behind front out err old mid new wrote same ends
 ends_by false front out err how result old mid new wrote same ends = (ends.0, all_behind front out err old mid new wrote same ends.1)
 
-pub run_ends : (platform : Platform) (deployed : Deployed) (budget : ℕ) (how result : Ended) (core : Core) (p0 p1 : PartView) (old mid new : Stream → Option (List ℕ)) (source : Source) → Going p0 p1 source →
-    IsOver (known_in deployed) (trace_of platform deployed) (run_of (scene_of platform deployed budget)) how core p0 p1 (old Out) (mid Out) → mid Err ≡ old Err →
-    Ends (last_lines platform deployed budget core how) (fault_line platform how) how result mid new → let want = run_output platform deployed budget source in Ends want.out want.err want.ended result old new
-run_ends platform deployed budget how result core p0 p1 old mid new source going over same ends =
-    let trace = trace_of platform deployed over.made in
-    let last : Ends (last_lines platform deployed budget over.world.core how) (fault_line platform how) how result mid new = subst (λ (c : Core). Ends (last_lines platform deployed budget c how) (fault_line platform how) how result mid new) over.core_is ends in
-    let all : Ends (trace ++ last_lines platform deployed budget over.world.core how) (fault_line platform how) how result old new = ends_by (is_cut result) trace (last_lines platform deployed budget over.world.core how) (fault_line platform how) how result old mid new over.printed same last in
-    let written : Progress → Type 0 = λ p. Ends (written_of platform deployed budget p).out (written_of platform deployed budget p).err (written_of platform deployed budget p).ended result old new in
+pub run_ends : (platform : Platform) (deployed : Deployed) (script : Bool) (budget : ℕ) (show : Show) (how result : Ended) (core : Core) (p0 p1 : PartView) (old mid new : Stream → Option (List ℕ)) (source : Source) → Going p0 p1 source →
+    IsOver (known_in deployed) (trace_of show platform deployed) (run_of (scene_of platform deployed script budget) (first_minds deployed)) how core p0 p1 (old Out) (mid Out) → mid Err ≡ old Err →
+    Ends (last_lines show platform deployed budget core how) (fault_line platform how) how result mid new → let want = run_output platform deployed script budget show source in Ends want.out want.err want.ended result old new
+run_ends platform deployed script budget show how result core p0 p1 old mid new source going over same ends =
+    let trace = trace_of show platform deployed over.made in
+    let last : Ends (last_lines show platform deployed budget over.world.core how) (fault_line platform how) how result mid new = subst (λ (c : Core). Ends (last_lines show platform deployed budget c how) (fault_line platform how) how result mid new) over.core_is ends in
+    let all : Ends (trace ++ last_lines show platform deployed budget over.world.core how) (fault_line platform how) how result old new = ends_by (is_cut result) trace (last_lines show platform deployed budget over.world.core how) (fault_line platform how) how result old mid new over.printed same last in
+    let written : Progress → Type 0 = λ p. Ends (written_of show platform deployed budget p).out (written_of show platform deployed budget p).err (written_of show platform deployed budget p).ended result old new in
     subst written (sym (over.is source (going over.piece over.reads))) all
 
 cut_by : (b : Bool) (out err : List ℕ) (want how : Ended) (old new : Stream → Option (List ℕ)) → b ≡ true → GainsFronts out err old new → MatchBool b (GainsFronts out err old new) ((want ≡ how) × GainsAll out err old new)
@@ -46,25 +51,42 @@ cut_by true out err want how old new is fronts = fronts
 cut_by false out err want how old new is fronts = absurd (cc is)
 
 -- a run that was cut off
-pub run_cut : (platform : Platform) (deployed : Deployed) (budget : ℕ) (how : Ended) (p0 p1 : PartView) (old new : Stream → Option (List ℕ)) (source : Source) → Going p0 p1 source → is_cut how ≡ true →
-    CutsOff (known_in deployed) (trace_of platform deployed) (run_of (scene_of platform deployed budget)) [] p0 p1 (old Out) (new Out) → new Err ≡ old Err → let want = run_output platform deployed budget source in Ends want.out want.err want.ended how old new
-run_cut platform deployed budget how p0 p1 old new source going is cut same =
-    let want = run_output platform deployed budget source in
-    let made = (run_of (scene_of platform deployed budget) (asked (known_in deployed) source)).made in
-    let front = front_more (trace_of platform deployed made) _ (old Out) (new Out) (cut.front source (going cut.piece cut.reads)) in
+pub run_cut : (platform : Platform) (deployed : Deployed) (script : Bool) (budget : ℕ) (show : Show) (how : Ended) (p0 p1 : PartView) (old new : Stream → Option (List ℕ)) (source : Source) → Going p0 p1 source → is_cut how ≡ true →
+    CutsOff (known_in deployed) (trace_of show platform deployed) (run_of (scene_of platform deployed script budget) (first_minds deployed)) [] p0 p1 (old Out) (new Out) → new Err ≡ old Err → let want = run_output platform deployed script budget show source in Ends want.out want.err want.ended how old new
+run_cut platform deployed script budget show how p0 p1 old new source going is cut same =
+    let want = run_output platform deployed script budget show source in
+    let made = (run_of (scene_of platform deployed script budget) (first_minds deployed) (asked (known_in deployed) source)).made in
+    let front = front_more (trace_of show platform deployed made) _ (old Out) (new Out) (cut.front source (going cut.piece cut.reads)) in
     cut_by (is_cut how) want.out want.err want.ended how old new is (fronts_out want.out want.err old new front same)
 
-pub left_told : (piece : List ℕ) (a b : Option (List ℕ)) → a ≡ before piece b → IsSome a → IsSome b
+left_told : (piece : List ℕ) (a b : Option (List ℕ)) → a ≡ before piece b → IsSome a → IsSome b
 left_told piece a None is some = subst IsSome is some
 left_told piece a (Some rest) is some = refl
 
+-- ---- the script's part, where there is a script and where there is none
 -- a part that tells goes on telling
-pub goes_on_telling : (piece : List ℕ) (old new : PartView) → Reads piece old new → KeepsTelling old new
-goes_on_telling piece old new reads = left_told piece old.left new.left reads.left
+pub goes_on_telling : (script : Bool) (piece : List ℕ) (old new : PartView) → Reads piece (script_part script old) (script_part script new) → (script ≡ false → new ≡ old) → KeepsTelling old new
+goes_on_telling true piece old new reads same = left_told piece old.left new.left reads.left
+goes_on_telling false piece old new reads same = λ some. subst (λ (p : PartView). IsSome p.left) (sym (same refl)) some
 
 -- the part that a read fault comes from
-pub broken_part : (piece : List ℕ) (old new : PartView) → Reads piece old new → new.stage ≡ Broken → IsBroken old new
-broken_part piece old new reads broken = (broken, reads.rising, reads.broke broken)
+pub broken_part : (script : Bool) (piece : List ℕ) (old new : PartView) → Reads piece (script_part script old) (script_part script new) → (script_part script new).stage ≡ Broken → IsBroken old new
+broken_part true piece old new reads broken = (broken, reads.rising, reads.broke broken)
+broken_part false piece old new reads broken = absurd (cc broken)
+
+-- nothing is left of a part that has nothing to give
+none_read : (piece : List ℕ) → Some [] ≡ before piece (Some []) → [] ≡ piece
+none_read piece is = let all : [] ≡ piece ++ [] = cc is in all ∙ append-nil piece
+
+-- the source that a run's part gives; without a script each one does
+pub is_going : (script : Bool) (old new : PartView) (source : Source) → (new.stage ≡ Over → NoneLeft new.left) → (IsTrue script → Gives old new source) → Going (script_part script old) (script_part script new) source
+is_going true old new source over gives = λ piece reads. given_goes_on piece old new source reads.left over (gives refl)
+is_going false old new source over gives = λ piece reads. record { rest = source.bytes; bytes = ap (λ (l : List ℕ). l ++ source.bytes) (none_read piece reads.left); may = tt }
+
+-- without a script nothing is asked of the part's stage
+pub is_begun : (script : Bool) (part : PartView) → (IsTrue script → part.stage ≢ Fresh) → (script_part script part).stage ≢ Fresh
+is_begun true part begun = begun refl
+is_begun false part begun = λ fresh. absurd (cc fresh)
 
 -- a fact by what a test has shown
 pub in_cut : {P : Type 0} (Q : Type 0) (b : Bool) → b ≡ true → MatchBool b P Q → P

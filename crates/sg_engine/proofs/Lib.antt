@@ -1,11 +1,16 @@
 pub mod Calls
+pub mod Castings
 pub mod Endings
 pub mod Fronts
 pub mod Leaving
 pub mod Listing
+pub mod Merging
 pub mod Over
+pub mod Parts
 pub mod PutLines
+pub mod Queues
 pub mod Reaching
+pub mod Rounds
 pub mod Simulating
 pub mod Starting
-pub mod Turning
+pub mod Stepping

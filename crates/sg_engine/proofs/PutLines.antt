@@ -9,6 +9,7 @@ use Rattle.sg_kernel.specs.declared.states.State.TheVariants.{Ended}
 use Rattle.sg_platform.specs.Deployment.{Deployed}
 use Rattle.sg_platform.specs.Platform.{Platform}
 use Rattle.sg_trace.specs.Line.{line_of}
+use Rattle.sg_engine.specs.declared.show.Show.TheVariants.{All}
 use Rattle.sg_engine.specs.Gains.{IsPut, Broke, Writes}
 use Rattle.sg_engine.specs.Output.{trace_of, blocked_line, blocked_lines}
 use Rattle.sg_engine.proofs.Fronts.{put_on, put_as, broke_more, broke_on, wrote_all}
@@ -27,7 +28,11 @@ line_broke whole buffer line left rest old mid new f f' first put broke =
 pub none_left : (whole buffer left : List ℕ) (old new : Stream → Option (List ℕ)) (f : ℕ) → left ≡ [] → IsPut whole (buffer ++ left) old new f → IsPut whole buffer old new f
 none_left whole buffer left old new f none put = put_as whole (buffer ++ left) buffer old new f (ap (λ (l : List ℕ). buffer ++ l) none ∙ append-nil buffer) put
 
--- what an empty buffer was given, and then a text more
+-- what an empty buffer was given
+pub put_empty : (buffer text waiting : List ℕ) (old new : Stream → Option (List ℕ)) (f : ℕ) → buffer ≡ [] → IsPut (buffer ++ text) waiting old new f → IsPut text waiting old new f
+put_empty buffer text waiting old new f empty put = subst (λ (b : List ℕ). IsPut (b ++ text) waiting old new f) empty put
+
+-- the same, and then a text more
 pub put_put : (buffer first second waiting left : List ℕ) (old mid new : Stream → Option (List ℕ)) (f f' : ℕ) → buffer ≡ [] → IsPut (buffer ++ first) waiting old mid f → IsPut (waiting ++ second) left mid new f' → IsPut (first ++ second) left old new f'
 put_put buffer first second waiting left old mid new f f' empty put then =
     let put' : IsPut first waiting old mid f = subst (λ (b : List ℕ). IsPut (b ++ first) waiting old mid f) empty put in
@@ -71,8 +76,8 @@ blocked_none platform deployed actors i past = at_drop_all (λ l. blocked_lines 
 
 -- ---- the lines of records
 pub trace_more : (platform : Platform) (deployed : Deployed) (records : List Record) (i : ℕ) (d : Record) → i < length records →
-    trace_of platform deployed (drop i records) ≡ line_of (get_or records i d) platform deployed ++ trace_of platform deployed (drop (i + 1) records)
-trace_more platform deployed records i d within = at_drop_more (trace_of platform deployed) records i d within
+    trace_of All platform deployed (drop i records) ≡ line_of (get_or records i d) platform deployed ++ trace_of All platform deployed (drop (i + 1) records)
+trace_more platform deployed records i d within = at_drop_more (trace_of All platform deployed) records i d within
 
-pub trace_none : (platform : Platform) (deployed : Deployed) (records : List Record) (i : ℕ) → length records ≤ i → trace_of platform deployed (drop i records) ≡ []
-trace_none platform deployed records i past = at_drop_all (trace_of platform deployed) records i past
+pub trace_none : (platform : Platform) (deployed : Deployed) (records : List Record) (i : ℕ) → length records ≤ i → trace_of All platform deployed (drop i records) ≡ []
+trace_none platform deployed records i past = at_drop_all (trace_of All platform deployed) records i past

@@ -1,7 +1,8 @@
 -- Parts of a run with their lines, one after another.
-use Rattle.std.proofs.Common.{◌≡◌, ◌≢◌, ◌∙◌, sym, ap, ap₂, subst, refl, ℕ, suc, List, [], ◌++◌, Bool, true, false, cond, Option, None, Some, append_assoc}
-use Rattle.std.specs.Prelude.{MatchBool}
+use Rattle.std.proofs.Common.{◌≡◌, ◌≢◌, ◌∙◌, sym, ap, ap₂, subst, refl, ℕ, suc, ◌≤◌, List, [], ◌++◌, length, Bool, true, false, cond, Option, None, Some, append_assoc}
+use Rattle.std.specs.Prelude.{All, MatchBool, vec_capacity}
 use Rattle.std.specs.List.{list_all}
+use Rattle.std.proofs.lemmas.Grind.{flat_map-append}
 use Rattle.std.proofs.lemmas.List.{append-nil}
 use Rattle.sg_base.specs.declared.trace_record.Record.{Record}
 use Rattle.sg_base.specs.Mind.{Mind}
@@ -10,17 +11,28 @@ use Rattle.sg_edge.specs.declared.files.Stage.TheVariants.{Fresh}
 use Rattle.sg_edge.specs.Sinks.{gain, GainsFront}
 use Rattle.sg_edge.proofs.Writing.{gain-gain, gain-nil}
 use Rattle.sg_kernel.specs.Known.{Known}
-use Rattle.sg_kernel.specs.World.{Core, World, is_ended}
+use Rattle.sg_actor.specs.Places.{Place}
+use Rattle.sg_base.specs.Limits.{Extent}
+use Rattle.sg_kernel.specs.World.{Setup, Core, World, extent, is_ended}
+use Rattle.sg_route.specs.Roads.{Roads}
+use Rattle.sg_platform.specs.Deployment.{Deployed, extent_of}
+use Rattle.sg_platform.specs.Platform.{Platform}
 use Rattle.sg_script.specs.Asked.{asked}
 use Rattle.sg_script.specs.Known.{Known as Names}
-use Rattle.sg_script.specs.Stands.{Kept}
+use Rattle.sg_script.specs.Stands.{Kept, kept_of}
 use Rattle.sg_script.proofs.Chains.{reads_then, reads_none}
 use Rattle.sg_engine.specs.declared.ended.Ended.{Ended}
 use Rattle.sg_engine.specs.declared.ended.Ended.TheVariants as ended
-use Rattle.sg_engine.specs.Reached.{Moment, moment, StandsFor, Reached, CutOff, ending}
-use Rattle.sg_engine.specs.Run.{Scene, Answering, Progress, at_world, with_front, and_then, and_then_by, round_or_pass, run_from}
+use Rattle.sg_engine.specs.Reached.{Moment, moment, Fits, StandsFor, Reached, CutOff, ending}
+use Rattle.sg_engine.specs.Run.{Scene, scene, Answering, Progress, at_world, with_front, and_then, and_then_by, round_or_pass, run_from}
+use Rattle.sg_engine.specs.declared.show.Show.{Show}
+use Rattle.sg_engine.specs.declared.show.Show.TheVariants as show
 use Rattle.sg_engine.specs.Gains.{cuts}
-use Rattle.sg_engine.specs.Keeping.{PartIs}
+use Rattle.sg_engine.specs.Output.{trace_of}
+use Rattle.sg_trace.specs.Line.{line_of}
+use Rattle.sg_engine.specs.declared.simulation.Simulation.{Simulation}
+use Rattle.sg_engine.specs.Keeping.{IsKept, PartIs}
+use Rattle.sg_engine.specs.Seated.{IsSeated}
 use Rattle.sg_engine.specs.Simulated.{Trace, Advances, CutsOff, IsOver}
 use Rattle.sg_engine.proofs.Reaching.{goes_back, reached_then, reached_as, goes_on_to, ends_at}
 
@@ -39,6 +51,12 @@ with_records names whole rest taken minds part part' kept kept' old new old' new
   records = after ∙ ap (λ (l : List Record). l ++ reached.made) (sym before);
   is = reached.is;
 }
+
+-- the same of a scene whose setup is the same
+pub scene_as : (names : Names) (roads : Roads) (script : Bool) (setup setup' : Setup) (how : Option Ended) (taken : List ℕ) (minds : List Mind) (world : World) (old new : Moment) → setup' ≡ setup →
+    Reached names (λ answers. round_or_pass (scene roads setup' script) answers world) (ending how) taken minds old new → Reached names (λ answers. round_or_pass (scene roads setup script) answers world) (ending how) taken minds old new
+scene_as names roads script setup setup' how taken minds world old new same reached =
+    subst (λ (s : Setup). Reached names (λ answers. round_or_pass (scene roads s script) answers world) (ending how) taken minds old new) same reached
 
 -- a moment with other room stands for the same worlds
 pub stands_with : (names : Names) (taken : List ℕ) (minds : List Mind) (part : PartView) (kept : Kept) (old new : Known) (world : World) → new.core ≡ old.core → StandsFor names taken minds (moment part kept old) world → StandsFor names taken minds (moment part kept new) world
@@ -75,9 +93,34 @@ cuts_off_by names trace whole taken part part' before cut = record {
   front = λ source goes. (trace (whole (asked names source)).made, record { done = []; split = refl; held = sym (gain-nil before) });
 }
 
+-- a part of a scene is that of the same one
+pub part_as : (names : Names) (trace : Trace) (at at' : Scene) (how : Option Ended) (taken : List ℕ) (minds : List Mind) (world : World) (old new : Moment) (before after : Option (List ℕ)) → at ≡ at' →
+    PartIs names trace (λ answers. round_or_pass at answers world) how taken minds old new before after → PartIs names trace (λ answers. round_or_pass at' answers world) how taken minds old new before after
+part_as names trace at at' how taken minds world old new before after same part = subst (λ (s : Scene). PartIs names trace (λ answers. round_or_pass s answers world) how taken minds old new before after) same part
+
 -- a part that didn't cut the run off
 pub part_is : (names : Names) (trace : Trace) (whole : Answering → Progress) (how : Option Ended) (taken : List ℕ) (minds : List Mind) (old new : Moment) (before after : Option (List ℕ)) → cuts how ≡ false → Advances names trace whole how taken minds old new before after → PartIs names trace whole how taken minds old new before after
 part_is names trace whole how taken minds old new before after uncut advances = rw uncut advances
+
+-- what a simulation keeps behind a part whose records are written and cleared
+pub kept_on : (deployed : Deployed) (part : PartView) (sim : Simulation) (places : List Place) (known : Known) → Fits deployed (moment part (kept_of sim.script) known) → sim.kernel ≡ record known { records = [] } → length known.setup.homes ≡ length deployed.actors →
+    All (IsSeated (extent known.setup)) places → length places ≡ length deployed.actors → length deployed.actors ≤ vec_capacity sim.calls → length deployed.actors ≤ 65536 → sim.buffer ≡ [] → IsKept deployed part sim places
+kept_on deployed part sim places known fits is homes seated number calls few empty = record {
+  fits = record {
+    actors = ap (λ (k : Known). length k.core.actors) is ∙ fits.actors;
+    queues = fits.queues;
+    begun = fits.begun;
+    extent = ap (λ (k : Known). extent k.setup) is ∙ fits.extent;
+    waiting = fits.waiting;
+  };
+  homes = ap (λ (k : Known). length k.setup.homes) is ∙ homes;
+  number = number;
+  seated = subst (λ (e : Extent). All (IsSeated e) places) fits.extent seated;
+  calls = calls;
+  few = few;
+  cleared = ap (λ (k : Known). k.records) is;
+  empty = empty;
+}
 
 uncut_not : (b : Bool) → b ≡ true → b ≡ false → ⊥
 uncut_not b is isnt = absurd (let e : true ≡ false = sym is ∙ isnt in cc e)
@@ -180,15 +223,26 @@ part_last names trace whole how n m at minds minds' p0 p1 p2 q0 q1 q2 k0 k1 k1' 
     (λ answers. run_goes n m at answers reached.world more some_here)
     (ends_at names (λ answers. round_or_pass at answers reached.world) (rest_of m at) how reached.piece minds' (moment p1 q1 k1') (moment p2 q2 (record k2 { records = reached.made ++ part.records })) shifted))
 
+-- ---- the lines of records
+-- the trace of records and then of others
+abbrev pub Appends : Trace → Type 0
+Appends trace = (first second : List Record) → trace (first ++ second) ≡ trace first ++ trace second
+
+pub trace_appends : (shown : Show) (platform : Platform) (deployed : Deployed) → Appends (trace_of shown platform deployed)
+trace_appends show.All platform deployed first second = flat_map-append (λ r. line_of r platform deployed) first second
+trace_appends show.Quiet platform deployed first second = refl
+trace_appends show.Summary platform deployed first second = refl
+
+pub trace_none : (shown : Show) (platform : Platform) (deployed : Deployed) → trace_of shown platform deployed [] ≡ []
+trace_none show.All platform deployed = refl
+trace_none show.Quiet platform deployed = refl
+trace_none show.Summary platform deployed = refl
+
 -- ---- a run that is cut off
 -- the records of a stretch and what follows it begin with those of the stretch
 made_and_then : (how : Option Ended) (first : Progress) (next : World → Progress) → (more : List Record) × ((and_then_by how first next).made ≡ first.made ++ more)
 made_and_then None first next = ((next first.world).made, refl)
 made_and_then (Some how) first next = ([], sym (append-nil first.made))
-
--- the trace of records and then of others
-abbrev pub Appends : Trace → Type 0
-Appends trace = (first second : List Record) → trace (first ++ second) ≡ trace first ++ trace second
 
 -- a part was cut off, and so is the run
 pub part_cut : (names : Names) (trace : Trace) → Appends trace → (whole : Answering → Progress) (n m : ℕ) (at : Scene) (minds : List Mind) (p0 p1 p2 : PartView) (q0 q1 : Kept) (k0 k1 : Known) (start before after : Option (List ℕ)) →

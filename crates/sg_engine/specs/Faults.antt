@@ -8,6 +8,7 @@ use Rattle.sg_base.specs.declared.ids.ZoneId.{ZoneId}
 use Rattle.sg_platform.specs.Platform.{Platform}
 use Rattle.sg_script.specs.declared.fault.LineFault.{LineFault}
 use Rattle.sg_script.specs.declared.fault.LineFault.TheVariants as kind
+use Rattle.sg_trace.specs.Names.{host_name}
 
 abbrev pub fault_text : LineFault → List ℕ
 fault_text kind.TooLong = codes "line too long"
@@ -20,15 +21,12 @@ fault_text kind.TooManyLines = codes "too many lines"
 fault_text kind.UnknownObject = codes "unknown object"
 
 -- ---- routes
-abbrev pub host_name : Platform → ℕ → List ℕ
-host_name platform host = option_map_or (λ row. row.id) (slice_get platform.hosts host) []
-
 abbrev pub router_name : Platform → ℕ → List ℕ
 router_name platform router = option_map_or (λ row. row.id) (slice_get platform.routers router) []
 
 -- the hosts come first, and then the routers
 abbrev pub point_name : Platform → PointId → List ℕ
-point_name platform point = if nat_lt point.0 (length platform.hosts) then host_name platform point.0 else router_name platform (point.0 - length platform.hosts)
+point_name platform point = if nat_lt point.0 (length platform.hosts) then host_name platform point else router_name platform (point.0 - length platform.hosts)
 
 abbrev pub zone_name : Platform → ZoneId → List ℕ
 zone_name platform zone = option_map_or (λ row. row.id) (slice_get platform.zones zone.0) []

@@ -2,8 +2,9 @@ pub mod Faults
 pub mod Gains
 pub mod Keeping
 pub mod Listed
-pub mod Minds
 pub mod Output
 pub mod Reached
+pub mod Roles
 pub mod Run
+pub mod Seated
 pub mod Simulated

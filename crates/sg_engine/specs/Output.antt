@@ -1,5 +1,5 @@
 -- What a run writes, and how it ends.
-use Rattle.std.specs.Prelude.{ℕ, ◌+◌, ◌++◌, unwrap_or, List, [], ◌∷◌, codes}
+use Rattle.std.specs.Prelude.{ℕ, ◌+◌, ◌++◌, unwrap_or, Bool, List, [], ◌∷◌, length, codes}
 use Rattle.std.specs.List.{flat_map}
 use Rattle.std.specs.Fmt.{decimal}
 use Rattle.sg_base.specs.declared.trace_record.Record.{Record}
@@ -19,15 +19,26 @@ use Rattle.sg_trace.specs.Line.{line_of}
 use Rattle.sg_trace.specs.declared.last.Last.TheVariants as last
 use Rattle.sg_engine.specs.declared.ended.Ended.{Ended}
 use Rattle.sg_engine.specs.declared.ended.Ended.TheVariants as ended
+use Rattle.sg_engine.specs.declared.show.Show.{Show}
+use Rattle.sg_engine.specs.declared.show.Show.TheVariants as show
+use Rattle.sg_engine.specs.Roles.{first_minds}
 use Rattle.sg_engine.specs.Run.{Scene, scene, Progress, run_of}
 
 -- what a run is of
-abbrev pub scene_of : Platform → Deployed → ℕ → Scene
-scene_of platform deployed budget = scene (roads_of platform) (setup_of platform deployed budget)
+abbrev pub scene_of : Platform → Deployed → Bool → ℕ → Scene
+scene_of platform deployed script budget = scene (roads_of platform) (setup_of platform deployed budget) script
 
--- a trace line for each record
-abbrev pub trace_of : Platform → Deployed → List Record → List ℕ
-trace_of platform deployed records = flat_map (λ r. line_of r platform deployed) records
+-- a trace line for each record, where all is shown
+abbrev pub trace_of : Show → Platform → Deployed → List Record → List ℕ
+trace_of show.All platform deployed records = flat_map (λ r. line_of r platform deployed) records
+trace_of show.Quiet platform deployed records = []
+trace_of show.Summary platform deployed records = []
+
+-- how many actors and events there were, where that is shown
+abbrev pub summary_line : Show → Platform → Deployed → ℕ → List ℕ
+summary_line show.All platform deployed events = []
+summary_line show.Quiet platform deployed events = []
+summary_line show.Summary platform deployed events = ending_of (last.Summary (length deployed.actors) events) platform deployed
 
 abbrev pub blocked_line : Platform → Deployed → ℕ → State → List ℕ
 blocked_line platform deployed actor (state.Ready answer) = []
@@ -40,17 +51,17 @@ blocked_lines platform deployed actor [] = []
 blocked_lines platform deployed actor (state ∷ more) = blocked_line platform deployed actor state ++ blocked_lines platform deployed (actor + 1) more
 
 -- what stands on Out behind the trace lines
-abbrev pub last_lines : Platform → Deployed → ℕ → Core → Ended → List ℕ
-last_lines platform deployed budget core ended.Completed = ending_of (last.Time core.date) platform deployed
-last_lines platform deployed budget core ended.Deadlock = ending_of (last.Deadlock core.date) platform deployed ++ blocked_lines platform deployed 1 core.actors
-last_lines platform deployed budget core ended.Starved = ending_of (last.Starved core.date) platform deployed ++ blocked_lines platform deployed 1 core.actors
-last_lines platform deployed budget core ended.Budget = ending_of (last.Budget budget core.date) platform deployed
-last_lines platform deployed budget core (ended.Script number kind) = []
-last_lines platform deployed budget core (ended.NoRoute from to zone a b) = []
-last_lines platform deployed budget core (ended.TooLong from to) = []
-last_lines platform deployed budget core ended.ReadFault = []
-last_lines platform deployed budget core ended.WriteFault = []
-last_lines platform deployed budget core ended.Memory = []
+abbrev pub last_lines : Show → Platform → Deployed → ℕ → Core → Ended → List ℕ
+last_lines show platform deployed budget core ended.Completed = summary_line show platform deployed core.events ++ ending_of (last.Time core.date) platform deployed
+last_lines show platform deployed budget core ended.Deadlock = ending_of (last.Deadlock core.date) platform deployed ++ blocked_lines platform deployed 1 core.actors
+last_lines show platform deployed budget core ended.Starved = ending_of (last.Starved core.date) platform deployed ++ blocked_lines platform deployed 1 core.actors
+last_lines show platform deployed budget core ended.Budget = ending_of (last.Budget budget core.date) platform deployed
+last_lines show platform deployed budget core (ended.Script number kind) = []
+last_lines show platform deployed budget core (ended.NoRoute from to zone a b) = []
+last_lines show platform deployed budget core (ended.TooLong from to) = []
+last_lines show platform deployed budget core ended.ReadFault = []
+last_lines show platform deployed budget core ended.WriteFault = []
+last_lines show platform deployed budget core ended.Memory = []
 
 -- what stands on Err
 abbrev pub fault_line : Platform → Ended → List ℕ
@@ -74,13 +85,14 @@ pub record Output : Type 0 where
 abbrev pub end_of : Progress → Ended
 end_of progress = unwrap_or progress.ended ended.Budget
 
-abbrev pub written_of : Platform → Deployed → ℕ → Progress → Output
-written_of platform deployed budget progress = record {
-  out = trace_of platform deployed progress.made ++ last_lines platform deployed budget progress.world.core (end_of progress);
+abbrev pub written_of : Show → Platform → Deployed → ℕ → Progress → Output
+written_of show platform deployed budget progress = record {
+  out = trace_of show platform deployed progress.made ++ last_lines show platform deployed budget progress.world.core (end_of progress);
   err = fault_line platform (end_of progress);
   ended = end_of progress;
 }
 
--- what a run writes and how it ends, by what its script gives
-abbrev pub run_output : Platform → Deployed → ℕ → Source → Output
-run_output platform deployed budget script = written_of platform deployed budget (run_of (scene_of platform deployed budget) (asked (known_in deployed) script))
+-- what a run writes and how it ends, with or without a script, by what that gives
+abbrev pub run_output : Platform → Deployed → Bool → ℕ → Show → Source → Output
+run_output platform deployed script budget show source =
+    written_of show platform deployed budget (run_of (scene_of platform deployed script budget) (first_minds deployed) (asked (known_in deployed) source))

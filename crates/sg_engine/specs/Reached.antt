@@ -1,17 +1,18 @@
 -- How far a run has come between two moments, whatever its script may still give.
-use Rattle.std.specs.Prelude.{◌≡◌, ◌≢◌, ◌-◌, ℕ, List, ◌++◌, length, Option}
+use Rattle.std.specs.Prelude.{◌≡◌, ◌≢◌, ◌-◌, ℕ, Bool, true, false, List, [], ◌++◌, length, Option, Some}
 use Rattle.sg_base.specs.declared.trace_record.Record.{Record}
 use Rattle.sg_base.specs.Mind.{Mind}
 use Rattle.sg_edge.specs.Files.{PartView}
 use Rattle.sg_edge.specs.Given.{Source}
-use Rattle.sg_edge.specs.declared.files.Stage.TheVariants.{Fresh}
+use Rattle.sg_edge.specs.declared.files.Stage.TheVariants.{Fresh, Begun}
 use Rattle.sg_kernel.specs.Known.{Known}
 use Rattle.sg_kernel.specs.World.{Core, World, MayCall, extent}
 use Rattle.sg_platform.specs.Deployment.{Deployed, extent_of}
 use Rattle.sg_script.specs.Asked.{asked}
 use Rattle.sg_script.specs.Rest.{GoesOn}
 use Rattle.sg_script.specs.Known.{Known as Names}
-use Rattle.sg_script.specs.Stands.{AreLimited, Kept, Stands, Reads}
+use Rattle.sg_script.specs.Stands.{AreLimited, Kept, kept_of, Stands, Reads}
+use Rattle.sg_script.specs.declared.script.Script.{Script}
 use Rattle.sg_engine.specs.declared.ended.Ended.{Ended}
 use Rattle.sg_engine.specs.Run.{Answering, Progress, at_world, with_front}
 
@@ -21,8 +22,16 @@ pub record Moment : Type 0 where
   pub kept : Kept
   pub kernel : Known
 
+-- what a run sees of the script's part: without a script, that it has nothing to give
+abbrev pub script_part : Bool → PartView → PartView
+script_part true part = part
+script_part false part = record { stage = Begun; left = Some []; faults = 0 }
+
 abbrev pub moment : PartView → Kept → Known → Moment
 moment part kept kernel = record { part = part; kept = kept; kernel = kernel }
+
+abbrev pub moment_of : Bool → PartView → Script → Known → Moment
+moment_of script part reader kernel = moment (script_part script part) (kept_of reader) kernel
 
 -- the script's part was begun, kernel and reader are of this deployment, and the actions that wait keep to its limits
 pub record Fits (deployed : Deployed) (now : Moment) : Type 0 where

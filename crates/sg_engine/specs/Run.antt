@@ -1,12 +1,12 @@
 -- A run, for any number of hosts and actors: rounds until nobody is ready, then a pass, and again, until it ends.
-use Rattle.std.specs.Prelude.{ℕ, zero, suc, ◌+◌, ◌==◌, Option, None, Some, option_map, Result, Ok, Err, Bool, true, false, if◌then◌else◌, List, [], ◌∷◌, ◌++◌, map, length}
+use Rattle.std.specs.Prelude.{ℕ, zero, suc, ◌+◌, ◌==◌, Option, None, Some, option_map, Result, Ok, Err, Bool, true, false, ◌&&◌, if◌then◌else◌, List, [], ◌∷◌, ◌++◌, map}
 use Rattle.std.specs.List.{list_any, list_all}
 use Rattle.sg_base.specs.declared.call.Action.{Action}
 use Rattle.sg_base.specs.declared.call.Answer.{Answer}
 use Rattle.sg_base.specs.declared.call.Call.{Call}
 use Rattle.sg_base.specs.declared.call.Call.TheVariants as call
 use Rattle.sg_base.specs.declared.trace_record.Record.{Record}
-use Rattle.sg_base.specs.Mind.{Mind, replay_mind}
+use Rattle.sg_base.specs.Mind.{Mind}
 use Rattle.sg_base.specs.Turn.{turn}
 use Rattle.sg_kernel.specs.declared.states.Stop.{Stop}
 use Rattle.sg_kernel.specs.declared.states.Stop.TheVariants as stop
@@ -22,13 +22,14 @@ use Rattle.sg_script.specs.Stands.{one_more}
 use Rattle.sg_engine.specs.declared.ended.Ended.{Ended}
 use Rattle.sg_engine.specs.declared.ended.Ended.TheVariants as ended
 
--- what a run is of: what is simulated, and the routes between hosts
+-- what a run is of: what is simulated, the routes between hosts, and whether there is a script
 pub record Scene : Type 0 where
   pub setup : Setup
   pub roads : Roads
+  pub script : Bool
 
-abbrev pub scene : Roads → Setup → Scene
-scene roads setup = record { setup = setup; roads = roads }
+abbrev pub scene : Roads → Setup → Bool → Scene
+scene roads setup script = record { setup = setup; roads = roads; script = script }
 
 -- what the script answers to an Ask of an actor that so many of its Asks came before
 abbrev pub Answering : Type 0
@@ -105,9 +106,9 @@ abbrev pub is_ask : Call → Bool
 is_ask call.Ask = true
 is_ask other = false
 
--- the script answers an Ask, and the kernel any other call
+-- where there is a script, it answers an Ask; the kernel answers any other call
 abbrev pub one_call : Scene → Answering → ℕ → Call → World → Progress
-one_call at answers actor what world = if is_ask what then ask at.setup answers actor world else in_world world (answered at.roads at.setup world.core actor what)
+one_call at answers actor what world = if at.script && is_ask what then ask at.setup answers actor world else in_world world (answered at.roads at.setup world.core actor what)
 
 abbrev pub if_call : Scene → Answering → ℕ → Option Call → World → Progress
 if_call at answers actor None world = at_world None world
@@ -137,13 +138,9 @@ run_from (suc n) at answers world =
     else and_then (round_or_pass at answers world) (run_from n at answers)
 
 -- ---- the whole run
-abbrev pub minds_from : ℕ → ℕ → List Mind
-minds_from me zero = []
-minds_from me (suc n) = replay_mind me ∷ minds_from (me + 1) n
+-- at first the actors have this in mind, and all are ready with the answer Start
+abbrev pub first_world : List Mind → Setup → World
+first_world minds setup = record { minds = minds; asks = λ _. 0; core = first_core setup }
 
--- at first all actors are ready with the answer Start
-abbrev pub first_world : Setup → World
-first_world setup = record { minds = minds_from 1 (length setup.homes); asks = λ _. 0; core = first_core setup }
-
-abbrev pub run_of : Scene → Answering → Progress
-run_of at answers = run_from (at.setup.budget + 1) at answers (first_world at.setup)
+abbrev pub run_of : Scene → List Mind → Answering → Progress
+run_of at minds answers = run_from (at.setup.budget + 1) at answers (first_world minds at.setup)

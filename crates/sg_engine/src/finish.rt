@@ -3,15 +3,16 @@ ghost use Rattle.std.specs.Prelude.{◌≡◌, ◌≢◌, ◌<◌, ◌≤◌, �
 ghost use Rattle.sg_edge.specs.Files.{PartView};
 ghost use Rattle.sg_engine.specs.Gains.{is_cut, Ends};
 ghost use Rattle.sg_engine.specs.Keeping.{IsKept};
-ghost use Rattle.sg_engine.specs.Output.{blocked_lines, last_lines, fault_line};
+ghost use Rattle.sg_engine.specs.Output.{blocked_lines, last_lines, fault_line, summary_line};
 ghost use Rattle.sg_kernel.specs.World.{extent};
 ghost use Rattle.sg_platform.specs.Deployment.{extent_of};
 ghost use Rattle.sg_trace.specs.Ending.{IsLastOf, ending_of};
 
 use crate::ended::Ended;
 use crate::faults::{no_route_line, script_fault_line, too_long_line};
-use crate::printing::{print_last, print_stuck};
+use crate::printing::{print_last, print_stuck, print_two};
 use crate::setup::Setup;
+use crate::show::Show;
 use crate::simulation::Simulation;
 use sg_base::Memory;
 use sg_edge::{Failed, Sinks, Stream, write_all};
@@ -31,6 +32,29 @@ fn tell_last<O: Sinks>(setup: &Setup, last: Last, how: Ended, out: &mut O) -> En
     match print_last(setup, last, out) {
         Ok(()) => how,
         Err(Failed) => Ended::WriteFault,
+    }
+}
+
+// Ends a run that was completed: where a summary is shown, its line stands before that of the date.
+fn tell_completed<O: Sinks>(setup: &Setup, sim: &mut Simulation, show: Show, out: &mut O) -> Ended
+    requires empty { sim.old.buffer ≡ [] }
+    requires sound { O.faults out.old ≡ 0 }
+    ensures ends { Ends (summary_line show setup.now.platform setup.now.deployment sim.old.kernel.core.events ++ ending_of (Last.Time sim.old.kernel.core.date) setup.now.platform setup.now.deployment) [] Ended.Completed result (O.held out.old) (O.held out.new) }
+    ensures write { result ≡ Ended.WriteFault → 0 < O.faults out.new }
+    ensures sound { result ≢ Ended.WriteFault → O.faults out.new ≡ 0 }
+    ensures read { result ≢ Ended.ReadFault }
+{
+    let time = Last::Time(sim.kernel.date());
+    match show {
+        Show::All | Show::Quiet => tell_last(setup, time, Ended::Completed, out),
+        Show::Summary => {
+            let actors = setup.deployment.actors().len() as u64;
+            let summary = Last::Summary(actors, sim.kernel.events());
+            match print_two(setup, summary, time, &mut sim.buffer, out) {
+                Ok(()) => Ended::Completed,
+                Err(Failed) => Ended::WriteFault,
+            }
+        }
     }
 }
 
@@ -97,6 +121,7 @@ pub fn finish<O: Sinks>(
     sim: &mut Simulation,
     how: Ended,
     budget: u64,
+    show: Show,
     out: &mut O,
 ) -> Ended
     requires number { length sim.old.kernel.core.actors ≡ length setup.now.deployment.actors }
@@ -105,14 +130,14 @@ pub fn finish<O: Sinks>(
     requires empty { sim.old.buffer ≡ [] }
     requires how { is_cut how ≡ false }
     requires sound { O.faults out.old ≡ 0 }
-    ensures ends { Ends (last_lines setup.now.platform setup.now.deployment budget sim.old.kernel.core how) (fault_line setup.now.platform how) how result (O.held out.old) (O.held out.new) }
+    ensures ends { Ends (last_lines show setup.now.platform setup.now.deployment budget sim.old.kernel.core how) (fault_line setup.now.platform how) how result (O.held out.old) (O.held out.new) }
     ensures write { result ≡ Ended.WriteFault → 0 < O.faults out.new }
     ensures sound { result ≢ Ended.WriteFault → O.faults out.new ≡ 0 }
     ensures read { result ≡ Ended.ReadFault → how ≡ Ended.ReadFault }
 {
     let date = sim.kernel.date();
     match how {
-        Ended::Completed => tell_last(setup, Last::Time(date), how, out),
+        Ended::Completed => tell_completed(setup, sim, show, out),
         Ended::Deadlock => tell_stuck(setup, sim, Last::Deadlock(date), how, out),
         Ended::Starved => tell_stuck(setup, sim, Last::Starved(date), how, out),
         Ended::Budget => tell_last(setup, Last::Budget(budget, date), how, out),

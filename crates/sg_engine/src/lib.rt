@@ -1,5 +1,5 @@
-//! The run of a simulation: rounds and passes over the kernel, the script read on demand, and the lines that are
-//! written.
+//! The run of a simulation: a crew that takes its seats, rounds of turns and passes over the kernel, the script read on
+//! demand, and the lines that are written.
 #![tactic(auto)]
 
 mod actor_call;
@@ -8,12 +8,14 @@ mod buffer;
 mod ended;
 mod faults;
 mod finish;
-mod minds;
 mod part;
 mod printing;
+mod roles;
 mod round;
 mod running;
+mod seating;
 mod setup;
+mod show;
 mod simulation;
 mod start;
 mod turns;
@@ -21,6 +23,7 @@ mod turns;
 pub use ended::Ended;
 pub use running::run;
 pub use setup::Setup;
+pub use show::Show;
 
 #[cfg(test)]
 mod tests;

@@ -10,6 +10,7 @@ ghost use Rattle.sg_engine.specs.Output.{trace_of, blocked_line, blocked_lines};
 
 use crate::buffer::Buffer;
 use crate::setup::Setup;
+use crate::show::Show;
 use sg_base::{ActorId, Record};
 use sg_edge::{Failed, Sinks, Stream, write_all};
 use sg_kernel::Kernel;
@@ -30,18 +31,16 @@ fn put_record<O: Sinks>(
     buffer.put(text.as_bytes(), out)
 }
 
-/// Writes a trace line for each record, in one write where the stream takes it.
-pub fn print_records<O: Sinks>(
+// Puts a trace line for each record into the buffer.
+fn put_records<O: Sinks>(
     setup: &Setup,
     records: &[Record],
     buffer: &mut Buffer,
     out: &mut O,
 ) -> Result<(), Failed>
     requires records { AreRecords (extent_of setup.now.deployment) records.now }
-    requires empty { buffer.old ≡ [] }
     requires sound { O.faults out.old ≡ 0 }
-    ensures writes { Writes (trace_of setup.now.platform setup.now.deployment records.now) result (O.held out.old) (O.held out.new) (O.faults out.new) }
-    ensures empty { OnOk result (buffer.new ≡ []) }
+    ensures { Puts (buffer.old ++ trace_of Show.All setup.now.platform setup.now.deployment records.now) buffer.new result (O.held out.old) (O.held out.new) (O.faults out.new) }
 {
     for answered in records {
         match put_record(setup, answered, buffer, out) {
@@ -49,7 +48,31 @@ pub fn print_records<O: Sinks>(
             Err(Failed) => return Err(Failed),
         }
     }
-    buffer.flush(out)
+    Ok(())
+}
+
+/// Writes a trace line for each record where all is shown, in one write where the stream takes it.
+pub fn print_records<O: Sinks>(
+    setup: &Setup,
+    show: Show,
+    records: &[Record],
+    buffer: &mut Buffer,
+    out: &mut O,
+) -> Result<(), Failed>
+    requires records { AreRecords (extent_of setup.now.deployment) records.now }
+    requires empty { buffer.old ≡ [] }
+    requires sound { O.faults out.old ≡ 0 }
+    ensures writes { Writes (trace_of show setup.now.platform setup.now.deployment records.now) result (O.held out.old) (O.held out.new) (O.faults out.new) }
+    ensures empty { OnOk result (buffer.new ≡ []) }
+{
+    match show {
+        Show::All => {}
+        Show::Quiet | Show::Summary => return Ok(()),
+    }
+    match put_records(setup, records, buffer, out) {
+        Ok(()) => buffer.flush(out),
+        Err(Failed) => Err(Failed),
+    }
 }
 
 /// Writes a last line.
@@ -78,6 +101,31 @@ fn put_last<O: Sinks>(
 {
     let text = ending_line(&last, &setup.platform, &setup.deployment);
     buffer.put(text.as_bytes(), out)
+}
+
+/// Writes two last lines.
+pub fn print_two<O: Sinks>(
+    setup: &Setup,
+    first: Last,
+    second: Last,
+    buffer: &mut Buffer,
+    out: &mut O,
+) -> Result<(), Failed>
+    requires first { IsLastOf setup.now.deployment first }
+    requires second { IsLastOf setup.now.deployment second }
+    requires empty { buffer.old ≡ [] }
+    requires sound { O.faults out.old ≡ 0 }
+    ensures { Writes (ending_of first setup.now.platform setup.now.deployment ++ ending_of second setup.now.platform setup.now.deployment) result (O.held out.old) (O.held out.new) (O.faults out.new) }
+{
+    match put_last(setup, first, buffer, out) {
+        Ok(()) => {}
+        Err(Failed) => return Err(Failed),
+    }
+    match put_last(setup, second, buffer, out) {
+        Ok(()) => {}
+        Err(Failed) => return Err(Failed),
+    }
+    buffer.flush(out)
 }
 
 // Puts the line of an actor into the buffer, if it is blocked.

@@ -9,30 +9,39 @@ use sg_platform::{Deployment, PlatformText};
 use sg_route::Router;
 use sg_route_laws::routes_are_good;
 
-/// A platform, the actors that are deployed on it, and the routes between its hosts.
+/// A platform, the actors that are deployed on it, the routes between its hosts, and whether there is a script.
 #[derive(Drop)]
 pub struct Setup {
     pub platform: PlatformText,
     pub deployment: Deployment,
     pub router: Router,
+    /// Without one each Ask is refused.
+    pub script: bool,
     ghost deployed: { IsDeployedOn platform deployment },
     ghost roads: { router ≡ roads_of platform },
     ghost over: { AreOver (length (link_caps platform.links)) router },
 }
 
 impl Setup {
-    /// The setup of these three, where the router has the routes of the platform.
-    pub fn new(platform: PlatformText, deployment: Deployment, router: Router) -> Setup
+    /// The setup of these, where the router has the routes of the platform.
+    pub fn new(
+        platform: PlatformText,
+        deployment: Deployment,
+        router: Router,
+        script: bool,
+    ) -> Setup
         requires deployed { IsDeployedOn platform deployment }
         requires roads { router ≡ roads_of platform }
         ensures platform { result.platform ≡ platform }
         ensures deployment { result.deployment ≡ deployment }
+        ensures script { result.script ≡ script }
     {
         routes_are_good(&platform);
         Setup {
             platform,
             deployment,
             router,
+            script,
         }
     }
 }

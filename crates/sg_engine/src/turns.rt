@@ -1,29 +1,100 @@
 //! The first half of a round: the turns.
-ghost use Rattle.std.specs.Prelude.{◌≡◌, ◌<◌, ◌≤◌, ◌++◌, [], length, map, IfSome, All, vec_capacity};
-ghost use Rattle.sg_base.specs.Limits.{Extent, IsCall, IsAnswer};
-ghost use Rattle.sg_base.specs.Mind.{IsMind};
-ghost use Rattle.sg_kernel.specs.World.{extent};
+ghost use Rattle.std.specs.Prelude.{◌≡◌, ◌+◌, ◌<◌, ◌≤◌, ◌++◌, [], length, map, take, drop, All, vec_capacity};
+ghost use Rattle.sg_base.specs.Limits.{IsCall};
+ghost use Rattle.sg_actor.specs.Places.{after, CanTurn, IsPlace};
+ghost use Rattle.sg_actor.specs.Seen.{seen, all_seen};
+ghost use Rattle.sg_kernel.specs.World.{extent, is_ready};
 ghost use Rattle.sg_engine.specs.declared.actor_call.ActorCall.{ActorCall};
 ghost use Rattle.sg_engine.specs.Listed.{listed, listed_one};
-ghost use Rattle.sg_engine.specs.Minds.{shown};
 ghost use Rattle.sg_engine.specs.Run.{zip_with, mind_after, call_after, inboxes};
+ghost use Rattle.sg_engine.specs.Seated.{minds_of, IsCast, IsSeated, readiness, offered, call_in, rested};
 
 use crate::actor_call::ActorCall;
-use crate::minds::Mind;
-use sg_base::{ActorId, Answer, Call, turns_keep_limits};
+use sg_actor::{Actor, Seat, rounds_keep_limits, run_round};
+use sg_base::{ActorId, Answer, Call};
 use sg_kernel::Kernel;
+use std::thread::Threads;
 
-// The turn of an actor that has an answer. An actor without one stays as it is.
-fn take_turn(mind: &mut Mind, answer: Option<Answer>) -> Option<Call>
-    ensures mind { shown mind.new ≡ mind_after (shown mind.old) answer }
-    ensures call { result ≡ call_after (shown mind.old) answer }
-    ensures keeps { (extent : Extent) → IsMind extent (shown mind.old) → IsMind extent (shown mind.new) }
-    ensures limited { (extent : Extent) → IsMind extent (shown mind.old) → IfSome answer (IsAnswer extent) → IfSome result (IsCall extent) }
+// Puts an answer into a seat, if there is one.
+fn offer_one<A: Actor>(seat: &mut Seat<A>, answer: Option<Answer>)
+    ensures { seen A.mind seat.new ≡ offered (seen A.mind seat.old) answer }
 {
-    turns_keep_limits();
     match answer {
-        Some(answer) => Some(mind.turn(answer)),
-        None => None,
+        Some(answer) => {
+            seat.inbox = answer;
+            seat.ready = true;
+        }
+        None => {}
+    }
+}
+
+// Puts the answers of the kernel into the seats of their actors. Only who is in its queue is asked.
+fn offer<A: Actor>(kernel: &Kernel, seats: &mut [Seat<A>])
+    requires number { length seats.old ≡ length kernel.now.core.actors }
+    requires limited { All (IsPlace (extent kernel.now.setup)) (all_seen A.mind seats.old) }
+    ensures offered { all_seen A.mind seats.new ≡ zip_with offered (all_seen A.mind seats.old) (inboxes kernel.now.core) }
+    ensures limited { All (IsPlace (extent kernel.now.setup)) (all_seen A.mind seats.new) }
+{
+    let queue = kernel.run_queue();
+    for actor in queue {
+        offer_one(&mut seats[actor.0 as usize - 1], kernel.inbox(*actor));
+    }
+}
+
+// Where the run of neighbours ends that begins at this place of a queue.
+fn end_of_run(queue: &[ActorId], from: usize) -> usize
+    requires { from < length queue.now }
+    ensures { (from < result) × (result ≤ length queue.now) }
+{
+    for next in from + 1..queue.len() {
+        if queue[next].0 as u64 != queue[next - 1].0 as u64 + 1 {
+            return next;
+        }
+    }
+    queue.len()
+}
+
+// How far one go of turns reaches that begins at this place of a queue.
+fn end_of_turns(queue: &[ActorId], from: usize, workers: u32) -> usize
+    requires { from < length queue.now }
+    ensures { (from < result) × (result ≤ length queue.now) }
+{
+    if workers == 1 {
+        end_of_run(queue, from)
+    } else {
+        queue.len()
+    }
+}
+
+// The turns of those who sit from one place to another.
+fn turn_some<R: Threads + Sync>(rt: &R, seats: &mut [Seat], from: usize, to: usize, workers: u32)
+    requires workers { 0 < workers }
+    requires range { (from ≤ to) × (to ≤ length seats.old) }
+    requires ready { All CanTurn (all_seen (λ b. mind b) seats.old) }
+    ensures { let places = all_seen (λ b. mind b) seats.old in all_seen (λ b. mind b) seats.new ≡ take from places ++ (map after (drop from (take to places)) ++ drop to places) }
+{
+    let (_, rest) = seats.split_at_mut(from);
+    let (some, _) = rest.split_at_mut(to - from);
+    run_round(rt, some, workers);
+}
+
+// The turns of all who are ready. With one worker each run of neighbours in the queue takes its turns in one go, so
+// that the seats between cost nothing; with more, all from the first to the last do, side by side.
+fn turn_all<R: Threads + Sync>(rt: &R, kernel: &Kernel, seats: &mut [Seat], workers: u32)
+    requires workers { 0 < workers }
+    requires number { length seats.old ≡ length kernel.now.core.actors }
+    requires ready { map readiness (all_seen (λ b. mind b) seats.old) ≡ map is_ready kernel.now.core.actors }
+    requires cast { All IsCast (all_seen (λ b. mind b) seats.old) }
+    ensures { all_seen (λ b. mind b) seats.new ≡ map after (all_seen (λ b. mind b) seats.old) }
+{
+    let queue = kernel.run_queue();
+    let mut from = 0;
+    while from < queue.len() {
+        let to = end_of_turns(queue, from, workers);
+        let first = queue[from].0 as usize - 1;
+        let end = queue[to - 1].0 as usize;
+        turn_some(rt, seats, first, end, workers);
+        from = to;
     }
 }
 
@@ -39,23 +110,56 @@ fn keep(calls: &mut Vec<ActorCall>, actor: ActorId, call: Option<Call>)
     }
 }
 
-/// Each ready actor takes its turn on the answer that it has. Their calls take the place of those before, in rising
-/// id. Only who is in the kernel's queue is asked.
-pub fn take_turns(kernel: &Kernel, minds: &mut [Mind], calls: &mut Vec<ActorCall>)
-    requires minds { length minds.old ≡ length kernel.now.core.actors }
-    requires minds_are { All (λ mind. IsMind (extent kernel.now.setup) (shown mind)) minds.old }
-    requires room { length minds.old ≤ vec_capacity calls.old }
-    ensures minds_are { All (λ mind. IsMind (extent kernel.now.setup) (shown mind)) minds.new }
-    ensures minds { map shown minds.new ≡ zip_with mind_after (map shown minds.old) (inboxes kernel.now.core) }
-    ensures calls { calls.new.items ≡ listed 1 (zip_with call_after (map shown minds.old) (inboxes kernel.now.core)) }
-    ensures limited { All (λ (made : ActorCall). IsCall (extent kernel.now.setup) made.call) calls.new.items }
+// The call of a seat whose actor has taken its turn, and which rests then.
+fn collect_one<A: Actor>(seat: &mut Seat<A>) -> Option<Call>
+    ensures seat { seen A.mind seat.new ≡ rested (seen A.mind seat.old) }
+    ensures call { result ≡ call_in (seen A.mind seat.old) }
+{
+    if !seat.ready {
+        return None;
+    }
+    seat.ready = false;
+    Some(seat.outbox)
+}
+
+// The calls that were made take the place of those before, and their actors rest.
+fn collect<A: Actor>(kernel: &Kernel, seats: &mut [Seat<A>], calls: &mut Vec<ActorCall>)
+    requires number { length seats.old ≡ length kernel.now.core.actors }
+    requires ready { map readiness (all_seen A.mind seats.old) ≡ map is_ready kernel.now.core.actors }
+    requires room { length seats.old ≤ vec_capacity calls.old }
+    ensures seats { all_seen A.mind seats.new ≡ map rested (all_seen A.mind seats.old) }
+    ensures calls { calls.new.items ≡ listed 1 (map call_in (all_seen A.mind seats.old)) }
     ensures room { vec_capacity calls.new ≡ vec_capacity calls.old }
 {
     calls.clear();
     let queue = kernel.run_queue();
     for actor in queue {
-        let answer = kernel.inbox(*actor);
-        let call = take_turn(&mut minds[actor.0 as usize - 1], answer);
+        let call = collect_one(&mut seats[actor.0 as usize - 1]);
         keep(calls, *actor, call);
     }
+}
+
+/// Each ready actor takes its turn on the answer that it has. Their calls take the place of those before, in rising
+/// id. It costs the actors in the kernel's queue, and not the others.
+pub fn take_turns<R: Threads + Sync>(
+    rt: &R,
+    kernel: &Kernel,
+    seats: &mut [Seat],
+    calls: &mut Vec<ActorCall>,
+    workers: u32,
+)
+    requires workers { 0 < workers }
+    requires number { length seats.old ≡ length kernel.now.core.actors }
+    requires seated { All (IsSeated (extent kernel.now.setup)) (all_seen (λ b. mind b) seats.old) }
+    requires room { length seats.old ≤ vec_capacity calls.old }
+    ensures seated { All (IsSeated (extent kernel.now.setup)) (all_seen (λ b. mind b) seats.new) }
+    ensures minds { minds_of (all_seen (λ b. mind b) seats.new) ≡ zip_with mind_after (minds_of (all_seen (λ b. mind b) seats.old)) (inboxes kernel.now.core) }
+    ensures calls { calls.new.items ≡ listed 1 (zip_with call_after (minds_of (all_seen (λ b. mind b) seats.old)) (inboxes kernel.now.core)) }
+    ensures limited { All (λ (made : ActorCall). IsCall (extent kernel.now.setup) made.call) calls.new.items }
+    ensures room { vec_capacity calls.new ≡ vec_capacity calls.old }
+{
+    rounds_keep_limits();
+    offer(kernel, seats);
+    turn_all(rt, kernel, seats, workers);
+    collect(kernel, seats, calls);
 }

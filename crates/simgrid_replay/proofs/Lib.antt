@@ -1,3 +1,5 @@
 pub mod PartLemmas
+pub mod TellingLemmas
 pub mod TopLemmas
+pub mod WordLemmas
 pub mod ZoneLemmas

@@ -1,10 +1,13 @@
 -- What zones that were built tell of the platform.
-use Rattle.std.proofs.Common.{◌≡◌, refl, Option, None, Some, Result, Ok, sym, ap}
+use Rattle.std.proofs.Common.{◌≡◌, ◌≢◌, refl, Option, None, Some, Result, Ok, sym, ap}
+use Rattle.std.proofs.Common as C
 use Rattle.sg_platform.specs.Platform.{Platform}
 use Rattle.sg_zones.specs.Faults.{or_tree, zone_fault, zones_of}
 use Rattle.sg_zones.specs.Tree.{Tree, tree_of}
 use Rattle.sg_zones.specs.declared.fault.ZoneFault.{ZoneFault}
 use Rattle.simgrid_replay.specs.Parts.{or_zone_fault}
+use Rattle.simgrid_replay.specs.declared.refusal.Refusal.{Refusal}
+use Rattle.simgrid_replay.specs.declared.refusal.Refusal.TheVariants as R
 
 built_by : (fault : Option ZoneFault) (tree zones : Tree) → Ok zones ≡ or_tree fault tree → zones ≡ tree
 built_by None tree zones is = cc is
@@ -16,3 +19,12 @@ zones_are platform zones is = built_by (zone_fault platform) (tree_of platform) 
 
 pub no_zone_fault : (platform : Platform) (zones : Tree) → Ok zones ≡ zones_of platform → Ok platform ≡ or_zone_fault platform (zones_of platform)
 no_zone_fault platform zones is = ap (or_zone_fault platform) is
+
+-- where the zones have no fault nothing but memory is wanting
+pub only_memory : (platform : Platform) (tree : Tree) (result : Result Platform Refusal) (why : Refusal) → zones_of platform ≡ Ok tree → result ≡ C.Err why →
+    (◌≢◌ {A = Result Platform Refusal} result (C.Err R.Memory) → result ≡ or_zone_fault platform (zones_of platform)) → ¬ (why ≡ R.Memory) → ⊥
+only_memory platform tree result why zones is given other =
+    let not : ◌≢◌ {A = Result Platform Refusal} result (C.Err R.Memory) = λ e. other (cc) in
+    let fits : or_zone_fault platform (zones_of platform) ≡ Ok platform = ap (or_zone_fault platform) zones in
+    let known : result ≡ or_zone_fault platform (zones_of platform) = given not in
+    cc

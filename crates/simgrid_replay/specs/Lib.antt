@@ -2,4 +2,5 @@ pub mod Faults
 pub mod Outcome
 pub mod Parts
 pub mod RealFiles
-pub mod Words
+pub mod Refused
+pub mod Terms

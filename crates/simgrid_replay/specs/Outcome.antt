@@ -6,16 +6,17 @@ use Rattle.sg_edge.specs.declared.files.Part.{Part}
 use Rattle.sg_edge.specs.declared.files.Part.TheVariants as part
 use Rattle.sg_edge.specs.declared.files.Stage.TheVariants.{Broken}
 use Rattle.sg_edge.specs.declared.sinks.Stream.{Stream}
+use Rattle.sg_edge.specs.declared.sinks.Stream.TheVariants as stream
 use Rattle.sg_edge.specs.Files.{PartView}
 use Rattle.sg_edge.specs.Given.{Source}
 use Rattle.sg_engine.specs.declared.ended.Ended.{Ended}
 use Rattle.sg_engine.specs.declared.ended.Ended.TheVariants as ended
 use Rattle.sg_engine.specs.Gains.{GainsAll, GainsFronts}
 use Rattle.sg_engine.specs.Output.{Output, run_output}
-use Rattle.sg_platform.specs.Deployment.{Deployed}
-use Rattle.sg_platform.specs.Platform.{Platform}
-use Rattle.simgrid_replay.specs.Faults.{fault_line, platform_words, platform_place, zone_words, zone_place, deployment_words, deployment_place}
-use Rattle.simgrid_replay.specs.Parts.{platform_given, deployment_given}
+use Rattle.sg_words.specs.CommandLine.{Asked}
+use Rattle.simgrid_replay.specs.Faults.{fault_line, platform_words, platform_place, zone_words, zone_place, deployment_words, deployment_place, replay_line, contexts_line}
+use Rattle.simgrid_replay.specs.Parts.{Setting, setting, seats}
+use Rattle.simgrid_replay.specs.Terms.{Terms, terms_of}
 use Rattle.simgrid_replay.specs.declared.refusal.Refusal.{Refusal}
 use Rattle.simgrid_replay.specs.declared.refusal.Refusal.TheVariants as refusal
 
@@ -36,39 +37,45 @@ status_of ended.ReadFault = status.ReadFault
 status_of ended.WriteFault = status.WriteFault
 status_of ended.Memory = status.Memory
 
+-- a text on one stream, and nothing on the other
+abbrev pub told : Stream → List ℕ → Status → Outcome
+told stream.Out text how = record { out = text; err = []; status = how }
+told stream.Err text how = record { out = []; err = text; status = how }
+
 -- one line on Err, and nothing else
 abbrev pub refused : List ℕ → Status → Outcome
-refused line how = record { out = []; err = line; status = how }
-
-abbrev pub usage : Outcome
-usage = refused (codes "usage: simgrid_replay replay PLATFORM DEPLOYMENT SCRIPT\n") status.Words
+refused line how = told stream.Err line how
 
 abbrev pub refusal_outcome : Refusal → Outcome
 refusal_outcome (refusal.Platform fault) = refused (fault_line (codes "platform") (platform_words fault) (platform_place fault)) status.Platform
 refusal_outcome (refusal.Zones fault) = refused (fault_line (codes "platform") (zone_words fault) (zone_place fault)) status.Platform
 refusal_outcome (refusal.Deployment fault) = refused (fault_line (codes "deployment") (deployment_words fault) (deployment_place fault)) status.Deployment
+refusal_outcome (refusal.ReplayUnderRun row) = refused (replay_line row) status.Deployment
+refusal_outcome (refusal.TooFewContexts actors contexts) = refused (contexts_line actors contexts) status.Deployment
 refusal_outcome refusal.ReadPlatform = refused (codes "cannot read the platform\n") status.ReadFault
 refusal_outcome refusal.ReadDeployment = refused (codes "cannot read the deployment\n") status.ReadFault
 refusal_outcome refusal.Memory = refused [] status.Memory
 
--- the most events of a run
-abbrev pub budget : ℕ
-budget = 1000000
-
 abbrev pub of_run : Output → Outcome
 of_run run = record { out = run.out; err = run.err; status = status_of run.ended }
 
-abbrev pub run_on : Platform → Source → Result Deployed Refusal → Outcome
-run_on platform script (Ok deployed) = of_run (run_output platform deployed budget script)
-run_on platform script (Err why) = refusal_outcome why
+-- the run of a setting on these terms, with what its script gives
+abbrev pub run_on : Terms → Source → Setting → Outcome
+run_on terms script on = of_run (run_output on.platform on.deployment terms.script terms.budget terms.show script)
 
-abbrev pub deploy_on : Source → Source → Result Platform Refusal → Outcome
-deploy_on deployment script (Ok platform) = run_on platform script (deployment_given platform deployment)
-deploy_on deployment script (Err why) = refusal_outcome why
+abbrev pub or_refused : Terms → Source → Result Setting Refusal → Outcome
+or_refused terms script (Ok on) = run_on terms script on
+or_refused terms script (Err why) = refusal_outcome why
 
--- the platform, the deployment, the run: the first that ends the call decides
-abbrev pub outcome : Source → Source → Source → Outcome
-outcome platform deployment script = deploy_on deployment script (platform_given platform)
+-- What a job comes to with so many contexts, by what the three parts gave: the platform, the deployment, the run; the
+-- first that ends the call decides.
+abbrev pub outcome : Asked → ℕ → Source → Source → Source → Outcome
+outcome job contexts platform deployment script =
+    or_refused (terms_of job) script (setting job.request contexts platform deployment)
+
+-- how many contexts a job takes of so many
+abbrev pub taken : Asked → ℕ → Source → Source → ℕ
+taken job contexts platform deployment = seats (setting job.request contexts platform deployment)
 
 -- a failed write or want of memory cuts the call off
 abbrev pub is_cut : Status → Bool

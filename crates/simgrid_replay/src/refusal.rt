@@ -1,6 +1,6 @@
 //! Why a platform or a deployment isn't there, and the lines that tell it.
 ghost use Rattle.std.specs.Prelude.{◌≡◌, IfOk, codes, string_bytes};
-ghost use Rattle.simgrid_replay.specs.Faults.{fault_line as fault_line_spec, platform_words, platform_place, zone_words, zone_place, deployment_words, deployment_place};
+ghost use Rattle.simgrid_replay.specs.Faults.{fault_line as fault_line_spec, platform_words, platform_place, zone_words, zone_place, deployment_words, deployment_place, replay_line as replay_line_spec, contexts_line as contexts_line_spec};
 
 use sg_base::Memory;
 use sg_platform::{DeploymentFault, Place, PlatformFault};
@@ -16,6 +16,10 @@ pub enum Refusal {
     Zones(ZoneFault),
     /// The deployment's text is none, or it doesn't fit the platform.
     Deployment(DeploymentFault),
+    /// There is no script, and the actor of this row replays. Rows count from 1.
+    ReplayUnderRun(u32),
+    /// There are so many actors, and so many contexts, which are fewer.
+    TooFewContexts(usize, usize),
     /// The platform could not be begun or read.
     ReadPlatform,
     /// The deployment could not be begun or read.
@@ -172,4 +176,24 @@ pub fn deployment_line(alloc: Global, fault: &DeploymentFault) -> Result<String,
         words_of_deployment(fault),
         place_of_deployment(fault),
     )
+}
+
+/// The line that tells of an actor that replays where there is no script, with its newline.
+pub fn replay_line(alloc: Global, row: u32) -> Result<String, Memory>
+    ensures { IfOk result (λ line. string_bytes line ≡ replay_line_spec row) }
+{
+    match format!(in alloc; "deployment: replay actor under run (row {row})\n") {
+        Ok(line) => Ok(line),
+        Err(_) => Err(Memory),
+    }
+}
+
+/// The line that tells that there are too few contexts, with its newline.
+pub fn contexts_line(alloc: Global, actors: usize, contexts: usize) -> Result<String, Memory>
+    ensures { IfOk result (λ line. string_bytes line ≡ contexts_line_spec actors contexts) }
+{
+    match format!(in alloc; "deployment: {actors} actors, {contexts} contexts\n") {
+        Ok(line) => Ok(line),
+        Err(_) => Err(Memory),
+    }
 }

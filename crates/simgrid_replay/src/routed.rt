@@ -57,12 +57,13 @@ impl Routed {
         &self.platform
     }
 
-    /// What a run of this deployment is of.
-    pub fn with(self, deployment: Deployment) -> Setup
+    /// What a run of this deployment is of, with a script or without.
+    pub fn with(self, deployment: Deployment, script: bool) -> Setup
         requires { IsDeployedOn self deployment }
         ensures platform { result.platform ≡ self }
         ensures deployment { result.deployment ≡ deployment }
+        ensures script { result.script ≡ script }
     {
-        Setup::new(self.platform, deployment, self.router)
+        Setup::new(self.platform, deployment, self.router, script)
     }
 }

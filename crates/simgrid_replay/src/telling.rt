@@ -1,26 +1,64 @@
-//! The one line of a refusal, and the status of a run.
-ghost use Rattle.std.specs.Prelude.{◌≡◌, ◌≢◌, ◌<◌, [], false};
-ghost use Rattle.simgrid_replay.specs.Outcome.{refused, refusal_outcome, status_of, is_cut, Prints};
+//! The text of a call that makes no run, and the status of a run.
+ghost use Rattle.std.specs.Prelude.{◌≡◌, ◌≢◌, ◌<◌, ℕ, List, [], Option, Err, IfOk, false, string_bytes};
+ghost use Rattle.clap.specs.Words.{Kinds};
+ghost use Rattle.sg_words.specs.CommandLine.{Asked};
+ghost use Rattle.sg_words.specs.Shown.{Answers};
+ghost use Rattle.simgrid_replay.specs.Outcome.{told, refused, refusal_outcome, status_of, is_cut, Prints};
 ghost use Rattle.simgrid_replay.specs.Parts.{IsReadFault};
+ghost use Rattle.simgrid_replay.specs.Refused.{TellsWords};
 
-use crate::refusal::{Refusal, deployment_line, platform_line, zone_line};
-use sg_base::Status;
+use crate::refusal::{
+    Refusal, contexts_line, deployment_line, platform_line, replay_line, zone_line,
+};
+use sg_base::{Memory, Status};
 use sg_edge::{Failed, Sinks, Stream, write_all};
 use sg_engine::Ended;
+use sg_words::WordsFault;
 use std::alloc::Global;
 
-/// Writes a line on Err, with which a call of this status ends.
-pub fn say<O: Sinks>(line: &str, status: Status, out: &mut O) -> Status
+// Writes a text, with which a call of this status ends.
+fn say<O: Sinks>(to: Stream, text: &str, status: Status, out: &mut O) -> Status
     requires status { is_cut status ≡ false }
     requires sound { O.faults out.old ≡ 0 }
-    ensures prints { Prints (refused line.now status) result (O.held out.old) (O.held out.new) }
+    ensures prints { Prints (told to text.now status) result (O.held out.old) (O.held out.new) }
     ensures write { result ≡ Status.WriteFault → 0 < O.faults out.new }
     ensures sound { result ≢ Status.WriteFault → O.faults out.new ≡ 0 }
     ensures read { result ≡ Status.ReadFault → status ≡ Status.ReadFault }
 {
-    match write_all(out, Stream::Err, line.as_bytes()) {
+    match write_all(out, to, text.as_bytes()) {
         Ok(()) => status,
         Err(Failed) => Status::WriteFault,
+    }
+}
+
+// Writes a line on Err that took memory.
+fn say_made<O: Sinks>(line: Result<String, Memory>, status: Status, out: &mut O) -> Status
+    requires status { is_cut status ≡ false }
+    requires sound { O.faults out.old ≡ 0 }
+    ensures prints { (want : List ℕ) → IfOk line (λ text. string_bytes text ≡ want) → Prints (refused want status) result (O.held out.old) (O.held out.new) }
+    ensures write { result ≡ Status.WriteFault → 0 < O.faults out.new }
+    ensures sound { result ≢ Status.WriteFault → O.faults out.new ≡ 0 }
+    ensures read { result ≡ Status.ReadFault → status ≡ Status.ReadFault }
+{
+    match line {
+        Ok(line) => say(Stream::Err, line.as_str(), status, out),
+        Err(Memory) => Status::Memory,
+    }
+}
+
+/// Tells words that ask for no run: help and the version on Out, any other text on Err.
+pub fn tell_words<O: Sinks>(fault: WordsFault, out: &mut O) -> Status
+    requires { O.faults out.old ≡ 0 }
+    ensures tells { (kinds : Kinds) (asked : Option Asked) → Answers kinds asked (Err fault) → kinds ≢ [] → TellsWords kinds result (O.held out.old) (O.held out.new) }
+    ensures silent { (asked : Option Asked) → Answers [] asked (Err fault) → (result ≡ Status.Memory) × Prints (refused [] Status.Memory) result (O.held out.old) (O.held out.new) }
+    ensures write { result ≡ Status.WriteFault → 0 < O.faults out.new }
+    ensures sound { result ≢ Status.WriteFault → O.faults out.new ≡ 0 }
+    ensures read { result ≢ Status.ReadFault }
+{
+    match fault {
+        WordsFault::Help(text) => say(Stream::Out, text.as_str(), Status::Completed, out),
+        WordsFault::Bad(_, text) => say(Stream::Err, text.as_str(), Status::Words, out),
+        WordsFault::Memory => Status::Memory,
     }
 }
 
@@ -28,25 +66,41 @@ pub fn say<O: Sinks>(line: &str, status: Status, out: &mut O) -> Status
 pub fn refuse<O: Sinks>(alloc: Global, refusal: Refusal, out: &mut O) -> Status
     requires { O.faults out.old ≡ 0 }
     ensures prints { Prints (refusal_outcome refusal) result (O.held out.old) (O.held out.new) }
+    ensures memory { refusal ≡ Refusal.Memory → result ≡ Status.Memory }
     ensures write { result ≡ Status.WriteFault → 0 < O.faults out.new }
     ensures sound { result ≢ Status.WriteFault → O.faults out.new ≡ 0 }
     ensures read { result ≡ Status.ReadFault → IsReadFault refusal }
 {
     match refusal {
-        Refusal::Platform(fault) => match platform_line(alloc, &fault) {
-            Ok(line) => say(line.as_str(), Status::Platform, out),
-            Err(_) => Status::Memory,
-        },
-        Refusal::Zones(fault) => match zone_line(alloc, &fault) {
-            Ok(line) => say(line.as_str(), Status::Platform, out),
-            Err(_) => Status::Memory,
-        },
-        Refusal::Deployment(fault) => match deployment_line(alloc, &fault) {
-            Ok(line) => say(line.as_str(), Status::Deployment, out),
-            Err(_) => Status::Memory,
-        },
-        Refusal::ReadPlatform => say("cannot read the platform\n", Status::ReadFault, out),
-        Refusal::ReadDeployment => say("cannot read the deployment\n", Status::ReadFault, out),
+        Refusal::Platform(fault) => say_made(platform_line(alloc, &fault), Status::Platform, out),
+        Refusal::Zones(fault) => say_made(zone_line(alloc, &fault), Status::Platform, out),
+        Refusal::Deployment(fault) => {
+            say_made(deployment_line(alloc, &fault), Status::Deployment, out)
+        }
+        Refusal::ReplayUnderRun(row) => say_made(replay_line(alloc, row), Status::Deployment, out),
+        Refusal::TooFewContexts(actors, contexts) => {
+            say_made(
+                contexts_line(alloc, actors, contexts),
+                Status::Deployment,
+                out,
+            )
+        }
+        Refusal::ReadPlatform => {
+            say(
+                Stream::Err,
+                "cannot read the platform\n",
+                Status::ReadFault,
+                out,
+            )
+        }
+        Refusal::ReadDeployment => {
+            say(
+                Stream::Err,
+                "cannot read the deployment\n",
+                Status::ReadFault,
+                out,
+            )
+        }
         Refusal::Memory => Status::Memory,
     }
 }

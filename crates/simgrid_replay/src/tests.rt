@@ -1,105 +1,12 @@
 //! What no clause says: that memory suffices, and what whole calls write.
-ghost use Rattle.std.specs.Prelude.{◌≡◌, ◌<◌};
-ghost use Rattle.sg_edge.specs.declared.files.Part.{Part};
-ghost use Rattle.sg_edge.specs.declared.files.Stage.TheVariants.{Fresh};
-
-use crate::top::simgrid;
-use sg_base::{Memory, Steps};
-use sg_edge::{Files, MemFiles, MemSinks, Sinks, Stream, SureFiles, SureSinks};
+use crate::testing::{FAST, Kinds, REPLAY, SLOW, code_of, crew_of, on_hosts, replay, words};
+use sg_base::Memory;
+use sg_edge::{Stream, SureFiles, SureSinks};
 use std::alloc::Global;
 use std::marker::Brand;
-use std::sync::ledger::{Blank, Ledger};
+use std::sync::ledger::Blank;
 use std::test::Fail;
-
-/// Two hosts of 10^9 flops a second.
-const FAST: &str = "zone = [{id = 'z', routing = 'Full'}]
-host = [{id = 'h1', zone = 'z', speed = '1Gf'}, {id = 'h2', zone = 'z', speed = '1Gf'}]
-";
-
-/// One host of 10 flops a second.
-const SLOW: &str = "zone = [{id = 'z', routing = 'Full'}]
-host = [{id = 'h1', zone = 'z', speed = '10f'}]
-";
-
-const REPLAY: &str = "simgrid_replay replay p d s";
-
-/// The words of a command line.
-fn words(alloc: Global, line: &str) -> Result<Vec<String>, Memory> {
-    let mut words = Vec::new(alloc);
-    for word in line.split_whitespace() {
-        words.push(String::from_str(alloc, word)?)?;
-    }
-    Ok(words)
-}
-
-/// A deployment that has actors `p0`, `p1` and so on, on these hosts.
-fn on_hosts(alloc: Global, hosts: &[&str]) -> Result<String, Memory> {
-    let mut text = String::new(alloc);
-    for (n, host) in hosts.iter().enumerate() {
-        let row = format!(in alloc;
-            "[[actor]]\nname = 'p{n}'\nhost = '{host}'\nfunction = 'replay'\n"
-        )?;
-        text.push_str(row.as_str())?;
-    }
-    Ok(text)
-}
-
-/// The exit status of a call, which counts its own steps.
-fn code_of<F: Files, O: Sinks, L: Ledger>(
-    alloc: Global,
-    words: &[String],
-    files: &mut F,
-    out: &mut O,
-    blank: Blank,
-) -> u8
-    requires fresh { (part : Part) → (F.shows files.old part).stage ≡ Fresh }
-    requires sound { O.faults out.old ≡ 0 }
-    requires name { blank.name ≡ L.name }
-    requires parts { blank.parts ≡ L.parts }
-    requires some { 0 < blank.parts }
-{
-    let mut steps = Steps::<L>::new(blank);
-    simgrid(alloc, words, files, out, &mut steps).code()
-}
-
-/// The exit status of a call with these words over these three texts, and what it wrote. Calls and writes of these
-/// numbers fail.
-fn call(
-    alloc: Global,
-    line: &str,
-    texts: (&str, &str, &[u8]),
-    calls: &[u64],
-    writes: &[u64],
-) -> Result<(u8, MemSinks), Memory> {
-    let (platform, deployment, script) = texts;
-    let words = words(alloc, line)?;
-    let mut files = MemFiles::new(
-        alloc,
-        Some(platform.as_bytes()),
-        Some(deployment.as_bytes()),
-        Some(script),
-        calls,
-    )?;
-    let mut out = MemSinks::new(alloc, 1000, 1000, writes, 7)?;
-    let code = code_of::<MemFiles, MemSinks, Brand>(
-        alloc,
-        &words,
-        &mut files,
-        &mut out,
-        Blank::new(1),
-    );
-    Ok((code, out))
-}
-
-/// The same of a replay.
-pub fn replay(
-    alloc: Global,
-    texts: (&str, &str, &[u8]),
-    calls: &[u64],
-    writes: &[u64],
-) -> Result<(u8, MemSinks), Memory> {
-    call(alloc, REPLAY, texts, calls, writes)
-}
+use std::thread::Threads;
 
 #[test]
 fn one_actor_replays_its_lines(rt: HostRuntime) -> Result<(), Fail> {
@@ -118,6 +25,7 @@ fn one_actor_replays_its_lines(rt: HostRuntime) -> Result<(), Fail> {
     let deployment = on_hosts(alloc, &["h1"])?;
     for (script, want) in cases {
         let (status, out) = replay(
+            &rt,
             alloc,
             (FAST, deployment.as_str(), script.as_bytes()),
             &[],
@@ -173,7 +81,13 @@ Simulation time 2.133333334
         ),
     ];
     for (platform, deployment, script, want) in cases {
-        let (status, out) = replay(alloc, (platform, deployment, script.as_bytes()), &[], &[])?;
+        let (status, out) = replay(
+            &rt,
+            alloc,
+            (platform, deployment, script.as_bytes()),
+            &[],
+            &[],
+        )?;
         assert_eq!(rt; out.held(Stream::Out), want.as_bytes(), "for {script}");
         assert_eq!(rt; status, 0, "for {script}");
     }
@@ -186,6 +100,7 @@ fn a_bad_line_ends_the_run_when_it_is_met(rt: HostRuntime) -> Result<(), Fail> {
     let deployment = on_hosts(alloc, &["h1", "h2"])?;
     let script = b"p0 compute 1e9\np1 compute 5e8\np0 jump 5\n";
     let (status, out) = replay(
+        &rt,
         alloc,
         (FAST, deployment.as_str(), script.as_slice()),
         &[],
@@ -212,7 +127,7 @@ fn a_line_has_4096_bytes_at_most(rt: HostRuntime) -> Result<(), Fail> {
         let mut script = Vec::from_slice(alloc, b"p0 compute 1")?;
         script.resize(bytes, b' ')?;
         script.push(b'\n')?;
-        let (status, out) = replay(alloc, (FAST, deployment.as_str(), &script), &[], &[])?;
+        let (status, out) = replay(&rt, alloc, (FAST, deployment.as_str(), &script), &[], &[])?;
         assert_eq!(rt; status, want, "for {bytes}");
         assert_eq!(rt; out.held(Stream::Err), told.as_bytes(), "for {bytes}");
     }
@@ -244,7 +159,13 @@ fn a_failed_read_is_told_by_the_ask_that_meets_it(rt: HostRuntime) -> Result<(),
         ),
     ];
     for (deployment, call, script, want, code) in cases {
-        let (status, out) = replay(alloc, (FAST, deployment, script.as_bytes()), &[call], &[])?;
+        let (status, out) = replay(
+            &rt,
+            alloc,
+            (FAST, deployment, script.as_bytes()),
+            &[call],
+            &[],
+        )?;
         let told = if code == 10 {
             "cannot read the script\n"
         } else {
@@ -279,6 +200,7 @@ fn shares_below_one_flop_a_second_starve(rt: HostRuntime) -> Result<(), Fail> {
         want.push_str(blocked.as_str())?;
     }
     let (status, out) = replay(
+        &rt,
         alloc,
         (SLOW, deployment.as_str(), script.as_bytes()),
         &[],
@@ -332,6 +254,7 @@ host = [{id = 'h1', zone = 'z', speed = '1Gf'}, {id = 'h1', zone = 'z', speed = 
     ];
     for (platform, deployment, want, code) in cases {
         let (status, out) = replay(
+            &rt,
             alloc,
             (platform, deployment, b"p0 compute 1e9\n".as_slice()),
             &[],
@@ -344,30 +267,11 @@ host = [{id = 'h1', zone = 'z', speed = '1Gf'}, {id = 'h1', zone = 'z', speed = 
 }
 
 #[test]
-fn refuses_other_words(rt: HostRuntime) -> Result<(), Fail> {
-    let cases = [
-        "",
-        "simgrid_replay replay p d",
-        "simgrid_replay replay p d s t",
-        "simgrid_replay run p d s",
-    ];
-    for line in cases {
-        let texts = (FAST, "", b"".as_slice());
-        let (status, out) = call(rt.alloc(), line, texts, &[], &[])?;
-        assert_eq!(rt; (status, out.held(Stream::Out).len()), (2, 0), "for {line}");
-        assert_eq!(rt;
-            out.held(Stream::Err),
-            b"usage: simgrid_replay replay PLATFORM DEPLOYMENT SCRIPT\n".as_slice()
-        );
-    }
-    Ok(())
-}
-
-#[test]
 fn a_failed_write_cuts_the_run_off(rt: HostRuntime) -> Result<(), Fail> {
     let alloc = rt.alloc();
     let deployment = on_hosts(alloc, &["h1"])?;
     let (status, out) = replay(
+        &rt,
         alloc,
         (FAST, deployment.as_str(), b"p0 compute 1e9\n".as_slice()),
         &[],
@@ -380,17 +284,27 @@ fn a_failed_write_cuts_the_run_off(rt: HostRuntime) -> Result<(), Fail> {
 }
 
 /// The exit status of the same run over parts and streams that never fail.
-fn over_sure_parts(alloc: Global) -> Result<u8, Memory> {
+fn over_sure_parts<R: Threads + Sync>(rt: &R, alloc: Global) -> Result<u8, Memory> {
     let words = words(alloc, REPLAY)?;
     let deployment = on_hosts(alloc, &["h1"])?;
     let script = b"p0 compute 1e9\n";
     let mut files = SureFiles::new(alloc, FAST.as_bytes(), deployment.as_bytes(), script)?;
     let mut out = SureSinks::new();
-    Ok(code_of::<SureFiles, SureSinks, Brand>(alloc, &words, &mut files, &mut out, Blank::new(1)))
+    let mut crew = crew_of(alloc, Kinds::Both, 1)?;
+    let code = code_of::<R, SureFiles, SureSinks, Brand>(
+        rt,
+        alloc,
+        &words,
+        &mut files,
+        &mut out,
+        &mut crew,
+        Blank::new(1),
+    );
+    Ok(code)
 }
 
 #[test]
 fn completes_over_parts_and_streams_that_never_fail(rt: HostRuntime) -> Result<(), Fail> {
-    assert_eq!(rt; over_sure_parts(rt.alloc())?, 0);
+    assert_eq!(rt; over_sure_parts(&rt, rt.alloc())?, 0);
     Ok(())
 }

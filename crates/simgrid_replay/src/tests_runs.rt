@@ -1,5 +1,5 @@
 //! Whole runs over links, routes and objects, and what they write.
-use crate::tests::replay;
+use crate::testing::{LINE, replay};
 use sg_base::Memory;
 use sg_edge::Stream;
 use std::alloc::Global;
@@ -10,21 +10,14 @@ const APART: &str = "zone = [{id = 'z', routing = 'Full'}]
 host = [{id = 'h1', zone = 'z', speed = '1Gf'}, {id = 'h2', zone = 'z', speed = '1Gf'}]
 ";
 
-/// Two hosts with a link between them.
-const LINE: &str = "zone = [{id = 'z', routing = 'Full'}]
-host = [{id = 'h1', zone = 'z', speed = '1Gf'}, {id = 'h2', zone = 'z', speed = '1Gf'}]
-link = [{id = 'l', bandwidth = '1MBps', latency = '10ms'}]
-route = [{src = 'h1', dst = 'h2', links = ['l']}]
-";
-
-/// The same with no way back.
+/// Two hosts with a link between them, and no way back.
 const ONE_WAY: &str = "zone = [{id = 'z', routing = 'Full'}]
 host = [{id = 'h1', zone = 'z', speed = '1Gf'}, {id = 'h2', zone = 'z', speed = '1Gf'}]
 link = [{id = 'l', bandwidth = '1MBps', latency = '10ms'}]
 route = [{src = 'h1', dst = 'h2', links = ['l'], symmetrical = false}]
 ";
 
-/// The same with a FATPIPE link.
+/// The same with a FATPIPE link, and a way back.
 const PIPE: &str = "zone = [{id = 'z', routing = 'Full'}]
 host = [{id = 'h1', zone = 'z', speed = '1Gf'}, {id = 'h2', zone = 'z', speed = '1Gf'}]
 link = [{id = 'l', bandwidth = '1MBps', latency = '10ms', sharing_policy = 'FATPIPE'}]
@@ -484,7 +477,13 @@ blocked [h2:p1:(2)] lock m1
 fn writes_the_lines_of_runs(rt: HostRuntime) -> Result<(), Fail> {
     let alloc = rt.alloc();
     for (platform, deployment, script, out, err, code) in RUNS {
-        let (status, held) = replay(alloc, (platform, deployment, script.as_bytes()), &[], &[])?;
+        let (status, held) = replay(
+            &rt,
+            alloc,
+            (platform, deployment, script.as_bytes()),
+            &[],
+            &[],
+        )?;
         assert_eq!(rt; held.held(Stream::Out), out.as_bytes(), "for {script}");
         assert_eq!(rt; held.held(Stream::Err), err.as_bytes(), "for {script}");
         assert_eq!(rt; status, code, "for {script}");
@@ -534,7 +533,13 @@ fn a_route_has_64_links_at_most(rt: HostRuntime) -> Result<(), Fail> {
     let alloc = rt.alloc();
     let platform = far_apart(alloc)?;
     let script = b"p0 send p1 1\np1 recv p0\n";
-    let (status, out) = replay(alloc, (platform.as_str(), TWO, script.as_slice()), &[], &[])?;
+    let (status, out) = replay(
+        &rt,
+        alloc,
+        (platform.as_str(), TWO, script.as_slice()),
+        &[],
+        &[],
+    )?;
     assert_eq!(rt;
         out.held(Stream::Err),
         b"route from h1 to h2: more than 64 links\n".as_slice()
@@ -546,7 +551,7 @@ fn a_route_has_64_links_at_most(rt: HostRuntime) -> Result<(), Fail> {
 #[test]
 fn a_failed_write_leaves_a_front(rt: HostRuntime) -> Result<(), Fail> {
     let alloc = rt.alloc();
-    let (status, out) = replay(alloc, (LINE, TWO, SEND.as_bytes()), &[], &[11])?;
+    let (status, out) = replay(&rt, alloc, (LINE, TWO, SEND.as_bytes()), &[], &[11])?;
     // Each write takes 7 bytes at most.
     assert_eq!(rt;
         out.held(Stream::Out),

@@ -1,8 +1,6 @@
-use Rattle.std.proofs.Common.{◌≡◌, ◌∙◌, sym, ap, subst, List, [], map, length}
-use Rattle.std.specs.Vec.{with_items}
-use Rattle.std.proofs.lemmas.List.{with_items_is}
+use Rattle.std.proofs.Common.{◌≡◌, ◌∙◌, sym, ap, arith, subst, List, [], length}
+use Rattle.std.proofs.lemmas.List.{length-map}
 use Rattle.sg_base.specs.declared.trace_record.Record.{Record}
-use Rattle.sg_base.specs.Mind.{Mind}
 use Rattle.sg_edge.specs.declared.files.Part.TheVariants.{Script}
 use Rattle.sg_edge.specs.declared.sinks.Stream.TheVariants.{Out}
 use Rattle.sg_edge.specs.Sinks.{gain, GainsFront}
@@ -12,15 +10,14 @@ use Rattle.sg_kernel.specs.World.{Setup}
 use Rattle.sg_script.specs.Known.{known_in}
 use Rattle.sg_script.specs.Stands.{kept_of}
 use Rattle.sg_script.proofs.Chains.{reads_none}
-use Rattle.sg_engine.specs.Minds.{shown}
 use Rattle.sg_engine.specs.Output.{trace_of}
-use Rattle.sg_engine.specs.Reached.{moment, Reached, ending}
+use Rattle.sg_engine.specs.Reached.{moment, script_part}
 use Rattle.sg_engine.specs.Run.{scene, round_or_pass}
-use Rattle.sg_engine.proofs.Simulating.{advances, cuts_off_at, cuts_off_by, part_is, uncut_write}
+use Rattle.sg_engine.proofs.Simulating.{advances, cuts_off_at, cuts_off_by, kept_on, part_is, scene_as, uncut_write}
 use Rattle.sg_engine.proofs.advance.advance.Goals as goal
 
 pub round_or_pass-requires-clause-roads : goal.round_or_pass-requires-clause-roads
-round_or_pass-requires-clause-roads g c =
+round_or_pass-requires-clause-roads g c κs within =
     let setup = ap (λ (k : Known). k.setup) c.in-Ok.ensures.kept in
     subst (λ (s : Setup). AreOver (length s.capacities.links) c.args.setup.now.router) (sym setup) c.requires.roads
 
@@ -31,57 +28,48 @@ returns-in-Err-clause-part g c = λ taken world stands.
 pub returns-in-Err-round_or_pass-clause-part : goal.returns-in-Err-round_or_pass-clause-part
 returns-in-Err-round_or_pass-clause-part g c = λ taken world stands.
     let core = ap (λ (k : Known). k.core) c.in-Ok.ensures.kept in
-    let minds = ap (map shown) c.deref_mut.ensures.value in
-    cuts_off_by _ _ _ taken _ _ _ (c.in-Err-round_or_pass.ensures.step taken world (record { script = stands.script; core = core ∙ stands.core; minds = minds ∙ stands.minds }))
+    cuts_off_by _ _ _ taken _ _ _ (c.in-Err-round_or_pass.ensures.step taken world (record { script = stands.script; core = core ∙ stands.core; minds = stands.minds }))
 
 pub returns-in-Err-print_records-clause-part : goal.returns-in-Err-print_records-clause-part
 returns-in-Err-print_records-clause-part g c = λ taken world stands.
     let names = known_in c.args.setup.now.deployment in
-    let trace = trace_of c.args.setup.now.platform c.args.setup.now.deployment in
+    let trace = trace_of c.args.show c.args.setup.now.platform c.args.setup.now.deployment in
     let old = c.args.sim.now.kernel in
     let mid = c.reserve_round.new.self in
     let new = c.round_or_pass.new.kernel in
-    let part = g.F.Files.shows c.args.files.now Script in
-    let part' = g.F.Files.shows c.round_or_pass.new.files Script in
+    let part = script_part c.args.setup.now.script (g.F.Files.shows c.args.files.now Script) in
+    let part' = script_part c.args.setup.now.script (g.F.Files.shows c.round_or_pass.new.files Script) in
     let kept = kept_of c.args.sim.now.script in
     let kept' = kept_of c.round_or_pass.new.script in
     let same : mid ≡ record old { room = mid.room } = c.in-Ok.ensures.kept in
-    let minds = map shown c.round_or_pass.new.minds in
-    let reached : Reached names (λ answers. round_or_pass (scene c.args.setup.now.router mid.setup) answers world) (ending c.in-Ok-round_or_pass.how) taken minds (moment part kept mid) (moment part' kept' new) =
-    c.in-Ok-round_or_pass.ensures.step taken world (record { script = stands.script; core = ap (λ (k : Known). k.core) same ∙ stands.core; minds = ap (map shown) c.deref_mut.ensures.value ∙ stands.minds }) in
-    let here : Reached names (λ answers. round_or_pass (scene c.args.setup.now.router old.setup) answers world) (ending c.in-Ok-round_or_pass.how) taken minds (moment part kept mid) (moment part' kept' new) =
-    subst (λ (s : Setup). Reached names (λ answers. round_or_pass (scene c.args.setup.now.router s) answers world) (ending c.in-Ok-round_or_pass.how) taken minds (moment part kept mid) (moment part' kept' new)) (ap (λ (k : Known). k.setup) same) reached in
+    let reached = c.in-Ok-round_or_pass.ensures.step taken world (record { script = stands.script; core = ap (λ (k : Known). k.core) same ∙ stands.core; minds = stands.minds }) in
     let before = g.O.Sinks.held c.args.out.now Out in
     let after = g.O.Sinks.held c.print_records.new.out Out in
     let front : GainsFront (trace new.records) before after = subst (λ (l : List Record). GainsFront (trace l) before after) c.records.ensures.are c.in-Err-print_records.ensures.writes.front in
-    cuts_off_at names trace (λ answers. round_or_pass (scene c.args.setup.now.router old.setup) answers world) c.in-Ok-round_or_pass.how taken minds part part' kept kept' mid new before after here (ap (λ (k : Known). k.records) same ∙ c.requires.kept.cleared) front
+    cuts_off_at names trace (λ answers. round_or_pass (scene c.args.setup.now.router old.setup c.args.setup.now.script) answers world) c.in-Ok-round_or_pass.how taken _ part part' kept kept' mid new before after
+    (scene_as names c.args.setup.now.router c.args.setup.now.script old.setup mid.setup c.in-Ok-round_or_pass.how taken _ world (moment part kept mid) (moment part' kept' new) (ap (λ (k : Known). k.setup) same) reached)
+    (ap (λ (k : Known). k.records) same ∙ c.requires.kept.cleared) front
 
 pub returns-clause-part : goal.returns-clause-part
 returns-clause-part g c = λ taken world stands.
     let names = known_in c.args.setup.now.deployment in
-    let trace = trace_of c.args.setup.now.platform c.args.setup.now.deployment in
+    let trace = trace_of c.args.show c.args.setup.now.platform c.args.setup.now.deployment in
     let how = c.in-Ok-round_or_pass.how in
     let old = c.args.sim.now.kernel in
     let mid = c.reserve_round.new.self in
     let new = c.round_or_pass.new.kernel in
     let new' = c.clear_records.new.self in
-    let part = g.F.Files.shows c.args.files.now Script in
-    let part' = g.F.Files.shows c.round_or_pass.new.files Script in
+    let part = script_part c.args.setup.now.script (g.F.Files.shows c.args.files.now Script) in
+    let part' = script_part c.args.setup.now.script (g.F.Files.shows c.round_or_pass.new.files Script) in
     let kept = kept_of c.args.sim.now.script in
     let kept' = kept_of c.round_or_pass.new.script in
     let same : mid ≡ record old { room = mid.room } = c.in-Ok.ensures.kept in
-    let written = with_items_is c.args.sim.now.minds c.round_or_pass.new.minds (c.round_or_pass.auto.minds ∙ c.deref_mut.ensures.len) in
-    let minds = map shown c.round_or_pass.new.minds in
-    let reached : Reached names (λ answers. round_or_pass (scene c.args.setup.now.router mid.setup) answers world) (ending how) taken minds (moment part kept mid) (moment part' kept' new) =
-    c.in-Ok-round_or_pass.ensures.step taken world (record { script = stands.script; core = ap (λ (k : Known). k.core) same ∙ stands.core; minds = ap (map shown) c.deref_mut.ensures.value ∙ stands.minds }) in
-    let here : Reached names (λ answers. round_or_pass (scene c.args.setup.now.router old.setup) answers world) (ending how) taken minds (moment part kept mid) (moment part' kept' new) =
-    subst (λ (s : Setup). Reached names (λ answers. round_or_pass (scene c.args.setup.now.router s) answers world) (ending how) taken minds (moment part kept mid) (moment part' kept' new)) (ap (λ (k : Known). k.setup) same) reached in
-    let at : Reached names (λ answers. round_or_pass (scene c.args.setup.now.router old.setup) answers world) (ending how) taken (map shown (with_items c.args.sim.now.minds c.round_or_pass.new.minds).items) (moment part kept mid) (moment part' kept' new) =
-    subst (λ (m : List Mind). Reached names (λ answers. round_or_pass (scene c.args.setup.now.router old.setup) answers world) (ending how) taken m (moment part kept mid) (moment part' kept' new)) (sym (ap (map shown) written)) here in
+    let reached = c.in-Ok-round_or_pass.ensures.step taken world (record { script = stands.script; core = ap (λ (k : Known). k.core) same ∙ stands.core; minds = stands.minds }) in
     let before = g.O.Sinks.held c.args.out.now Out in
     let after = g.O.Sinks.held c.print_records.new.out Out in
     part_is names trace _ how taken _ _ _ before after c.in-Ok-round_or_pass.ensures.uncut
-    (advances names trace (λ answers. round_or_pass (scene c.args.setup.now.router old.setup) answers world) how taken (map shown (with_items c.args.sim.now.minds c.round_or_pass.new.minds).items) part part' kept kept' old mid new before after at
+    (advances names trace (λ answers. round_or_pass (scene c.args.setup.now.router old.setup c.args.setup.now.script) answers world) how taken _ part part' kept kept' old mid new before after
+    (scene_as names c.args.setup.now.router c.args.setup.now.script old.setup mid.setup how taken _ world (moment part kept mid) (moment part' kept' new) (ap (λ (k : Known). k.setup) same) reached)
     (ap (λ (k : Known). k.records) same ∙ c.requires.kept.cleared)
     c.requires.kept.cleared
     (ap (λ (k : Known). k.setup) same)
@@ -92,3 +80,11 @@ returns-clause-part g c = λ taken world stands.
 
 pub returns-clause-write : goal.returns-clause-write
 returns-clause-write g c = λ is. absurd (uncut_write c.in-Ok-round_or_pass.how c.in-Ok-round_or_pass.ensures.uncut is)
+
+pub returns-clause-kept : goal.returns-clause-kept
+returns-clause-kept g c =
+    let kept = c.requires.kept in
+    let setup = c.round_or_pass.ensures.setup ∙ ap (λ (k : Known). k.setup) c.in-Ok.ensures.kept in
+    rw c.in-Ok-round_or_pass.ensures.uncut
+    (kept_on c.args.setup.now.deployment _ _ _ c.round_or_pass.new.kernel c.round_or_pass.ensures.fits c.clear_records.ensures (ap (λ (s : Setup). length s.homes) setup ∙ kept.homes) c.round_or_pass.ensures.seated
+    (length-map c.round_or_pass.new.seats _ ∙ c.round_or_pass.auto.seats ∙ sym (length-map c.args.seats.now _) ∙ kept.number) (omega (arith, c.round_or_pass.ensures.calls, kept.calls)) kept.few c.in-Ok-print_records.ensures.empty)

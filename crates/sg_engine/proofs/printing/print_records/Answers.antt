@@ -1,12 +1,5 @@
-use Rattle.std.proofs.Common.{arith}
-use Rattle.sg_engine.proofs.PutLines.{line_put, line_broke, none_left, put_writes, trace_more, trace_none}
+use Rattle.sg_engine.proofs.PutLines.{put_empty, put_writes}
 use Rattle.sg_engine.proofs.printing.print_records.Goals as goal
 
-pub returns-in-Err-clause-writes : goal.returns-in-Err-clause-writes
-returns-in-Err-clause-writes g c = line_broke _ c.loop-answered.buffer _ _ _ _ _ _ _ _ (trace_more c.args.setup.now.platform c.args.setup.now.deployment c.args.records.now c.loop-answered.answered-index _ c.loop-answered-test.true) c.loop-answered.invariant c.in-Err.ensures
-
-pub loop-answered-preserved : goal.loop-answered-preserved
-loop-answered-preserved g c = line_put _ c.loop-answered.buffer _ _ _ _ _ _ _ _ _ (trace_more c.args.setup.now.platform c.args.setup.now.deployment c.args.records.now c.loop-answered.answered-index _ c.loop-answered-test.true) c.loop-answered.invariant c.in-Ok.ensures
-
-pub returns-clause-writes : goal.returns-clause-writes
-returns-clause-writes g c = put_writes _ _ c.flush.result _ _ _ _ _ (none_left _ c.loop-answered.buffer _ _ _ _ (trace_none c.args.setup.now.platform c.args.setup.now.deployment c.args.records.now c.loop-answered.answered-index (omega (arith, c.loop-answered-test.false))) c.loop-answered.invariant) c.flush.ensures.writes
+pub returns-in-Ok-clause-writes : goal.returns-in-Ok-clause-writes
+returns-in-Ok-clause-writes g c = rw c.in-All.is (put_writes _ _ c.flush.result _ _ _ _ _ (put_empty c.args.buffer.now _ _ _ _ _ c.requires.empty c.in-Ok.ensures) c.flush.ensures.writes)

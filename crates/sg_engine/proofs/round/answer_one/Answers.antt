@@ -1,19 +1,34 @@
 use Rattle.std.proofs.Common.{◌∙◌, sym}
 use Rattle.sg_kernel.specs.Calls.{answered}
-use Rattle.sg_engine.proofs.Calls.{stepped}
+use Rattle.sg_engine.specs.Run.{is_ask}
+use Rattle.sg_engine.proofs.Calls.{broken_scripted, fits_scripted, is_scripted, not_unscripted, script_answers, scripted_fits, stepped}
 use Rattle.sg_engine.proofs.Leaving.{answered_fits, answered_free}
 use Rattle.sg_engine.proofs.round.answer_one.Goals as goal
 
-pub returns-then-is_ask-clause-step : goal.returns-then-is_ask-clause-step
-returns-then-is_ask-clause-step g c = λ taken minds world stands. rw (sym c.is_ask.ensures ∙ c.if-is_ask.true) (c.answer_ask.ensures.step taken minds world stands)
+pub answer_ask-requires-clause-fits : goal.answer_ask-requires-clause-fits
+answer_ask-requires-clause-fits g c = scripted_fits c.args.setup.now.script _ _ c.args.script.now c.args.kernel.now (is_scripted c.args.setup.now.script (is_ask c.args.call) (sym c.asks_script.ensures ∙ c.if-asks_script.true)) c.requires.fits
 
-pub returns-else-is_ask-clause-step : goal.returns-else-is_ask-clause-step
-returns-else-is_ask-clause-step g c = λ taken minds world stands.
+pub returns-then-asks_script-clause-step : goal.returns-then-asks_script-clause-step
+returns-then-asks_script-clause-step g c = λ taken minds world stands.
+    script_answers c.args.setup.now.script _ c.args.setup.now.router c.args.kernel.now.setup c.args.actor.0 c.args.call taken minds world _ _ c.args.script.now c.answer_ask.new.script c.args.kernel.now c.answer_ask.new.kernel c.answer_ask.result (sym c.asks_script.ensures ∙ c.if-asks_script.true) (c.answer_ask.ensures.step taken minds world) stands
+
+pub returns-then-asks_script-clause-fits : goal.returns-then-asks_script-clause-fits
+returns-then-asks_script-clause-fits g c = fits_scripted c.args.setup.now.script _ _ c.answer_ask.new.script c.answer_ask.new.kernel (is_scripted c.args.setup.now.script (is_ask c.args.call) (sym c.asks_script.ensures ∙ c.if-asks_script.true)) c.answer_ask.ensures.fits
+
+pub returns-then-asks_script-clause-read : goal.returns-then-asks_script-clause-read
+returns-then-asks_script-clause-read g c = λ is. broken_scripted c.args.setup.now.script _ (is_scripted c.args.setup.now.script (is_ask c.args.call) (sym c.asks_script.ensures ∙ c.if-asks_script.true)) (c.answer_ask.ensures.read is)
+
+pub returns-then-asks_script-clause-unscripted : goal.returns-then-asks_script-clause-unscripted
+returns-then-asks_script-clause-unscripted g c = λ isnt. not_unscripted c.args.setup.now.script (is_scripted c.args.setup.now.script (is_ask c.args.call) (sym c.asks_script.ensures ∙ c.if-asks_script.true)) isnt
+
+pub returns-else-asks_script-clause-step : goal.returns-else-asks_script-clause-step
+returns-else-asks_script-clause-step g c = λ taken minds world stands.
     let old = c.args.kernel.now in
-    rw (sym c.is_ask.ensures ∙ c.if-is_ask.false) (stepped _ taken minds _ _ old c.answer.new.self _ world (λ core. answered c.args.router.now old.setup core c.args.actor.0 c.args.call) c.end_of.result c.requires.fits.begun stands c.answer.ensures.step (c.end_of.ensures.is _ c.answer.ensures.result))
+    rw (sym c.asks_script.ensures ∙ c.if-asks_script.false)
+    (stepped _ taken minds _ _ old c.answer.new.self _ world (λ core. answered c.args.setup.now.router old.setup core c.args.actor.0 c.args.call) c.end_of.result c.requires.fits.begun stands c.answer.ensures.step (c.end_of.ensures.is _ c.answer.ensures.result))
 
-pub returns-else-is_ask-clause-fits : goal.returns-else-is_ask-clause-fits
-returns-else-is_ask-clause-fits g c = answered_fits _ _ _ c.args.router.now c.args.kernel.now c.answer.new.self c.args.actor.0 c.args.call _ c.requires.caller.from c.answer.ensures.step c.requires.fits
+pub returns-else-asks_script-clause-fits : goal.returns-else-asks_script-clause-fits
+returns-else-asks_script-clause-fits g c = answered_fits _ _ _ c.args.setup.now.router c.args.kernel.now c.answer.new.self c.args.actor.0 c.args.call _ c.requires.caller.from c.answer.ensures.step c.requires.fits
 
-pub returns-else-is_ask-clause-free : goal.returns-else-is_ask-clause-free
-returns-else-is_ask-clause-free g c = answered_free c.args.router.now c.args.kernel.now c.answer.new.self c.args.actor.0 c.args.call _ c.requires.caller.from c.answer.ensures.step
+pub returns-else-asks_script-clause-free : goal.returns-else-asks_script-clause-free
+returns-else-asks_script-clause-free g c = answered_free c.args.setup.now.router c.args.kernel.now c.answer.new.self c.args.actor.0 c.args.call _ c.requires.caller.from c.answer.ensures.step

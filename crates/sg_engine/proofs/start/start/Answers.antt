@@ -1,15 +1,13 @@
 use Rattle.std.proofs.Common.{◌≡◌, ◌∙◌, ap, length, arith}
 use Rattle.sg_engine.specs.declared.simulation.Simulation.{Simulation}
-use Rattle.sg_engine.specs.Run.{minds_from}
 use Rattle.sg_engine.proofs.Starting.{is_first}
 use Rattle.sg_engine.proofs.start.start.Goals as goal
 
 pub returns : goal.returns
-returns c = λ part begun.
+returns c = λ part places begun minds seated.
     let platform = c.args.setup.now.platform in
     let deployed = c.args.setup.now.deployment in
     let number : length c.actors-actors.result.now ≡ length deployed.actors = ap length c.actors-actors.ensures.rows in
-    let minds = c.in_ok-minds.ensures ∙ ap (minds_from 1) number in
-    let sim : Simulation = record { kernel = c.in_ok-new.field-0; script = c.in_ok-new-2.field-0; minds = c.in_ok-minds.field-0; calls = c.in_ok-with_capacity.field-0; buffer = c.in_ok-new-3.field-0 } in
-    is_first platform deployed c.args.budget part sim c.in_ok-new.ensures (c.in_ok-new-2.ensures.actors ∙ number) begun (c.in_ok-new-2.ensures.waiting _) (c.in_ok-new-2.ensures.stands _ part.stage) minds
+    let sim : Simulation = record { kernel = c.in_ok-new.field-0; script = c.in_ok-new-2.field-0; calls = c.in_ok-with_capacity.field-0; buffer = c.in_ok-new-3.field-0 } in
+    is_first platform deployed c.args.budget part sim places c.in_ok-new.ensures (c.in_ok-new-2.ensures.actors ∙ number) begun (c.in_ok-new-2.ensures.waiting _) (c.in_ok-new-2.ensures.stands _ part.stage) minds seated
     (omega (arith, c.in_ok-with_capacity.ensures.capacity, number)) c.actors-actors.ensures.kept.few_actors c.in_ok-new-3.ensures

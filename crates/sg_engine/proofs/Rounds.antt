@@ -1,0 +1,157 @@
+-- What a round does, place by place.
+use Rattle.std.proofs.Common.{◌≡◌, ◌∙◌, sym, ap, ap₂, refl, ℕ, zero, suc, ◌<◌, Bool, true, false, cond, List, [], ◌∷◌, map, length, get_or, Option, None, Some, IsSome, IsTrue, arith, subst}
+use Rattle.std.specs.Prelude.{All, IfSome}
+use Rattle.std.specs.Option.{unwrap_or}
+use Rattle.std.proofs.lemmas.List.Elements.{All-nil, All-cons, All-head, All-map, All-tail}
+use Rattle.sg_base.specs.declared.call.Answer.{Answer}
+use Rattle.sg_base.specs.declared.call.Call.{Call}
+use Rattle.sg_base.specs.Limits.{Extent, IsAnswer}
+use Rattle.sg_base.specs.Mind.{Mind, mind, ended}
+use Rattle.sg_base.specs.Turn.{turn}
+use Rattle.sg_actor.specs.Places.{Place, after, turned_by, CanTurn, IsPlace}
+use Rattle.sg_kernel.specs.declared.states.State.{State}
+use Rattle.sg_kernel.specs.declared.states.State.TheVariants.{Ready, Blocked, Ended}
+use Rattle.sg_kernel.specs.World.{inbox_of, is_ready}
+use Rattle.sg_engine.specs.Run.{zip_with, mind_after, call_after}
+use Rattle.sg_engine.specs.Seated.{held, minds_of, IsCast, IsSeated, readiness, offered, call_in, rested}
+
+pub length-zip_with : {X Y Z : Type 0} (f : X → Y → Z) (xs : List X) (ys : List Y) → length ys ≡ length xs → length (zip_with f xs ys) ≡ length xs
+length-zip_with f [] ys same = refl
+length-zip_with f (x ∷ xs) [] same = absurd (omega (arith, same))
+length-zip_with f (x ∷ xs) (y ∷ ys) same = let less : length ys ≡ length xs = omega (arith, same) in omega (arith, length-zip_with f xs ys less)
+
+pub zip_at : {X Y Z : Type 0} (f : X → Y → Z) (xs : List X) (ys : List Y) (i : ℕ) (d : X) (e : Y) (z : Z) → i < length xs → length ys ≡ length xs → get_or (zip_with f xs ys) i z ≡ f (get_or xs i d) (get_or ys i e)
+zip_at f [] ys i d e z within same = absurd (omega (arith, within))
+zip_at f (x ∷ xs) [] i d e z within same = absurd (omega (arith, same))
+zip_at f (x ∷ xs) (y ∷ ys) zero d e z within same = refl
+zip_at f (x ∷ xs) (y ∷ ys) (suc i) d e z within same = let less : length ys ≡ length xs = omega (arith, same) in zip_at f xs ys i d e z (omega (arith, within)) less
+
+-- ---- answers are offered
+pub offered_limited : (extent : Extent) (place : Place) (answer : Option Answer) → IsPlace extent place → IfSome answer (IsAnswer extent) → IsPlace extent (offered place answer)
+offered_limited extent place None is limited = is
+offered_limited extent place (Some answer) is limited = (is.0, limited, is.2)
+
+offered_cast : (place : Place) (answer : Option Answer) → IsCast place → IsCast (offered place answer)
+offered_cast place None cast = cast
+offered_cast place (Some answer) cast = cast
+
+pub all_offered_cast : (places : List Place) (answers : List (Option Answer)) → All IsCast places → All IsCast (zip_with offered places answers)
+all_offered_cast [] answers cast = All-nil IsCast
+all_offered_cast (place ∷ places) [] cast = All-nil IsCast
+all_offered_cast (place ∷ places) (answer ∷ answers) cast =
+    All-cons IsCast (offered place answer) (zip_with offered places answers) (offered_cast place answer (All-head IsCast place places cast)) (all_offered_cast places answers (All-tail IsCast place places cast))
+
+offered_ready : (place : Place) (state : State) → place.ready ≡ false → (offered place (inbox_of state)).ready ≡ is_ready state
+offered_ready place (Ready answer) rests = refl
+offered_ready place (Blocked what since on) rests = rests
+offered_ready place Ended rests = rests
+
+abbrev pub Rests : Place → Type 0
+Rests place = place.ready ≡ false
+
+-- who has an answer is ready then
+pub all_offered_ready : (places : List Place) (states : List State) → length states ≡ length places → All Rests places → map readiness (zip_with offered places (map inbox_of states)) ≡ map is_ready states
+all_offered_ready [] [] same rest = refl
+all_offered_ready [] (state ∷ states) same rest = absurd (omega (arith, same))
+all_offered_ready (place ∷ places) [] same rest = absurd (omega (arith, same))
+all_offered_ready (place ∷ places) (state ∷ states) same rest =
+    let less : length states ≡ length places = omega (arith, same) in
+    ap₂ (λ (b : Bool) (l : List Bool). b ∷ l) (offered_ready place state (All-head Rests place places rest)) (all_offered_ready places states less (All-tail Rests place places rest))
+
+-- ---- turns are taken
+pub can_turn : (places : List Place) → All IsCast places → All CanTurn places
+can_turn places cast = λ k d within ready. cast k d within
+
+turned_cast : (place : Place) (m : Option Mind) → IsSome m → IsCast (turned_by place m)
+turned_cast place None some = cc
+turned_cast place (Some m) some = refl
+
+after_cast : (place : Place) → IsCast place → IsCast (after place)
+after_cast place cast = elim place.ready as (λ (b : Bool). IsCast (cond b (turned_by place place.mind) place)) [ true ↦ turned_cast place place.mind cast | false ↦ cast ]
+
+pub all_after_cast : (places : List Place) → All IsCast places → All IsCast (map after places)
+all_after_cast places cast = All-map IsCast after places (λ k d within. after_cast _ (cast k d within))
+
+turned_ready : (place : Place) (m : Option Mind) → (turned_by place m).ready ≡ place.ready
+turned_ready place None = refl
+turned_ready place (Some m) = refl
+
+after_ready : (place : Place) → (after place).ready ≡ place.ready
+after_ready place = elim place.ready as (λ (b : Bool). (cond b (turned_by place place.mind) place).ready ≡ place.ready) [ true ↦ turned_ready place place.mind | false ↦ refl ]
+
+pub all_after_ready : (places : List Place) → map readiness (map after places) ≡ map readiness places
+all_after_ready [] = refl
+all_after_ready (place ∷ places) = ap₂ (λ (b : Bool) (l : List Bool). b ∷ l) (after_ready place) (all_after_ready places)
+
+pub all_after_limited : (extent : Extent) (places : List Place) → ((place : Place) → IsPlace extent place → IsPlace extent (after place)) → All (IsPlace extent) places → All (IsPlace extent) (map after places)
+all_after_limited extent places law limited = All-map (IsPlace extent) after places (λ k d within. law _ (limited k d within))
+
+-- who isn't ready stays as it is
+pub idle_stays : (place : Place) → place.ready ≡ false → after place ≡ place
+idle_stays place rests = ap (λ (b : Bool). cond b (turned_by place place.mind) place) rests
+
+-- ---- calls are collected
+pub idle_calls : (place : Place) → place.ready ≡ false → call_in place ≡ None
+idle_calls place rests = ap (λ (b : Bool). cond b (Some place.outbox) None) rests
+
+pub idle_rests : (place : Place) → place.ready ≡ false → rested place ≡ place
+idle_rests place rests = ap (λ (b : Bool). record place { ready = b }) (sym rests)
+
+-- ---- the whole of a round
+mind_round : (place : Place) (answer : Option Answer) (m : Option Mind) → place.mind ≡ m → IsSome m → place.ready ≡ false → held (rested (after (offered place answer))) ≡ mind_after (held place) answer
+mind_round place None m is some rests = ap (λ (b : Bool). held (rested (cond b (turned_by place place.mind) place))) rests
+mind_round place (Some answer) None is some rests = absurd (cc some)
+mind_round place (Some answer) (Some m) is some rests =
+    let ready : Place = record place { inbox = answer; ready = true } in
+    ap (λ (o : Option Mind). held (rested (turned_by ready o))) is ∙ sym (ap (λ (o : Option Mind). (turn (unwrap_or o (mind ended [])) answer).mind) is)
+
+call_round : (place : Place) (answer : Option Answer) (m : Option Mind) → place.mind ≡ m → IsSome m → place.ready ≡ false → call_in (after (offered place answer)) ≡ call_after (held place) answer
+call_round place None m is some rests = ap call_in (idle_stays place rests) ∙ idle_calls place rests
+call_round place (Some answer) None is some rests = absurd (cc some)
+call_round place (Some answer) (Some m) is some rests =
+    let ready : Place = record place { inbox = answer; ready = true } in
+    ap (λ (o : Option Mind). call_in (turned_by ready o)) is ∙ sym (ap (λ (o : Option Mind). Some (turn (unwrap_or o (mind ended [])) answer).call) is)
+
+pub minds_round : (extent : Extent) (places : List Place) (answers : List (Option Answer)) → All (IsSeated extent) places → minds_of (map rested (map after (zip_with offered places answers))) ≡ zip_with mind_after (minds_of places) answers
+minds_round extent [] answers seated = refl
+minds_round extent (place ∷ places) [] seated = refl
+minds_round extent (place ∷ places) (answer ∷ answers) seated =
+    let here = All-head (IsSeated extent) place places seated in
+    ap₂ (λ (m : Mind) (l : List Mind). m ∷ l) (mind_round place answer place.mind refl here.cast here.rests) (minds_round extent places answers (All-tail (IsSeated extent) place places seated))
+
+pub calls_round : (extent : Extent) (places : List Place) (answers : List (Option Answer)) → All (IsSeated extent) places → map call_in (map after (zip_with offered places answers)) ≡ zip_with call_after (minds_of places) answers
+calls_round extent [] answers seated = refl
+calls_round extent (place ∷ places) [] seated = refl
+calls_round extent (place ∷ places) (answer ∷ answers) seated =
+    let here = All-head (IsSeated extent) place places seated in
+    ap₂ (λ (c : Option Call) (l : List (Option Call)). c ∷ l) (call_round place answer place.mind refl here.cast here.rests) (calls_round extent places answers (All-tail (IsSeated extent) place places seated))
+
+pub all_rested : (extent : Extent) (places : List Place) → All IsCast places → All (IsPlace extent) places → All (IsSeated extent) (map rested places)
+all_rested extent places cast limited = All-map (IsSeated extent) rested places (λ k d within. record { cast = cast k d within; limited = limited k d within; rests = refl })
+
+-- ---- its steps: the places at first, with answers offered, behind the turns, and at rest
+all_cast : (extent : Extent) (places : List Place) → All (IsSeated extent) places → All IsCast places
+all_cast extent places seated = λ k d within. (seated k d within).cast
+
+pub cast_offered : (extent : Extent) (p0 p1 : List Place) (answers : List (Option Answer)) → p1 ≡ zip_with offered p0 answers → All (IsSeated extent) p0 → All IsCast p1
+cast_offered extent p0 p1 answers is seated = subst (All IsCast) (sym is) (all_offered_cast p0 answers (all_cast extent p0 seated))
+
+pub ready_offered : (extent : Extent) (p0 p1 : List Place) (states : List State) → p1 ≡ zip_with offered p0 (map inbox_of states) → length states ≡ length p0 → All (IsSeated extent) p0 → map readiness p1 ≡ map is_ready states
+ready_offered extent p0 p1 states is number seated = ap (map readiness) is ∙ all_offered_ready p0 states number (λ k d within. (seated k d within).rests)
+
+pub ready_turned : (p1 p2 : List Place) → p2 ≡ map after p1 → map readiness p2 ≡ map readiness p1
+ready_turned p1 p2 turned = ap (map readiness) turned ∙ all_after_ready p1
+
+pub limited_turned : (extent : Extent) (p1 p2 : List Place) → p2 ≡ map after p1 → ((place : Place) → IsPlace extent place → IsPlace extent (after place)) → All (IsPlace extent) p1 → All (IsPlace extent) p2
+limited_turned extent p1 p2 turned law limited = subst (All (IsPlace extent)) (sym turned) (all_after_limited extent p1 law limited)
+
+pub seated_again : (extent : Extent) (p0 p1 p2 p3 : List Place) (answers : List (Option Answer)) → p1 ≡ zip_with offered p0 answers → p2 ≡ map after p1 → p3 ≡ map rested p2 → All (IsSeated extent) p0 → All (IsPlace extent) p2 → All (IsSeated extent) p3
+seated_again extent p0 p1 p2 p3 answers is turned rest seated limited =
+    let cast : All IsCast p2 = subst (All IsCast) (sym turned) (all_after_cast p1 (cast_offered extent p0 p1 answers is seated)) in
+    subst (All (IsSeated extent)) (sym rest) (all_rested extent p2 cast limited)
+
+pub minds_turned : (extent : Extent) (p0 p1 p2 p3 : List Place) (answers : List (Option Answer)) → p1 ≡ zip_with offered p0 answers → p2 ≡ map after p1 → p3 ≡ map rested p2 → All (IsSeated extent) p0 → minds_of p3 ≡ zip_with mind_after (minds_of p0) answers
+minds_turned extent p0 p1 p2 p3 answers is turned rest seated = ap minds_of (rest ∙ ap (map rested) (turned ∙ ap (map after) is)) ∙ minds_round extent p0 answers seated
+
+pub calls_made : (extent : Extent) (p0 p1 p2 : List Place) (answers : List (Option Answer)) → p1 ≡ zip_with offered p0 answers → p2 ≡ map after p1 → All (IsSeated extent) p0 → map call_in p2 ≡ zip_with call_after (minds_of p0) answers
+calls_made extent p0 p1 p2 answers is turned seated = ap (map call_in) (turned ∙ ap (map after) is) ∙ calls_round extent p0 answers seated

@@ -1,0 +1,29 @@
+use Rattle.std.proofs.Common.{◌∙◌, arith, false, List, map, None, refl, subst, sym}
+use Rattle.std.specs.Prelude.{All}
+use Rattle.std.proofs.lemmas.List.{length-map}
+use Rattle.sg_actor.specs.Places.{Place, after}
+use Rattle.sg_engine.specs.Seated.{IsCast}
+use Rattle.sg_engine.proofs.Merging.{all_merged}
+use Rattle.sg_engine.proofs.Queues.{last_id}
+use Rattle.sg_engine.proofs.Rounds.{all_after_cast, can_turn, idle_stays}
+use Rattle.sg_engine.proofs.Stepping.{changes_end, turns_next}
+use Rattle.sg_engine.proofs.turns.turn_all.Goals as goal
+
+pub loop-from-init : goal.loop-from-init
+unfolding last_id
+loop-from-init g c = record { turned = refl; within = omega arith }
+
+pub turn_some-requires-clause-ready : goal.turn_some-requires-clause-ready
+turn_some-requires-clause-ready g c κs within =
+    can_turn _ (subst (All IsCast) (sym c.loop-from.invariant.turned) (all_merged IsCast _ _ _ (all_after_cast _ c.requires.cast) c.requires.cast))
+
+pub loop-from-preserved : goal.loop-from-preserved
+loop-from-preserved g c = record {
+  turned = turns_next _ c.args.seats.now c.loop-from.seats c.turn_some.new.seats c.args.kernel.now.core.actors c.run_queue-queue.result.now c.loop-from.from c.end_of_turns-to.result c.run_queue-queue.ensures c.end_of_turns-to.ensures.0 c.end_of_turns-to.ensures.1 c.requires.number c.requires.ready
+      c.loop-from.invariant.turned c.turn_some.ensures;
+  within = c.end_of_turns-to.ensures.1;
+}
+
+pub returns : goal.returns
+returns g c =
+    changes_end _ after idle_stays c.args.seats.now c.loop-from.seats c.args.kernel.now.core.actors c.run_queue-queue.result.now c.loop-from.from c.run_queue-queue.ensures c.loop-from.invariant.within c.loop-from-test.false c.requires.number c.requires.ready c.loop-from.invariant.turned

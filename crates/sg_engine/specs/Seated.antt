@@ -1,0 +1,40 @@
+-- The places of actors, from round to round.
+use Rattle.std.specs.Prelude.{◌≡◌, true, false, Bool, List, [], map, Option, None, Some, IsSome, if◌then◌else◌}
+use Rattle.std.specs.Option.{unwrap_or}
+use Rattle.sg_base.specs.declared.call.Answer.{Answer}
+use Rattle.sg_base.specs.declared.call.Call.{Call}
+use Rattle.sg_base.specs.Limits.{Extent}
+use Rattle.sg_base.specs.Mind.{Mind, mind, ended}
+use Rattle.sg_actor.specs.Places.{Place, IsPlace}
+
+-- what the actor of a place has in mind
+abbrev pub held : Place → Mind
+held place = unwrap_or place.mind (mind ended [])
+
+abbrev pub minds_of : List Place → List Mind
+minds_of places = map held places
+
+abbrev pub IsCast : Place → Type 0
+IsCast place = IsSome place.mind
+
+-- between rounds a place has a mind, all that is in it keeps to the limits, and its actor isn't to take a turn
+pub record IsSeated (extent : Extent) (place : Place) : Type 0 where
+  pub cast : IsCast place
+  pub limited : IsPlace extent place
+  pub rests : place.ready ≡ false
+
+abbrev pub readiness : Place → Bool
+readiness place = place.ready
+
+-- the place with an answer, if there is one, on which its actor is to take a turn
+abbrev pub offered : Place → Option Answer → Place
+offered place None = place
+offered place (Some answer) = record place { inbox = answer; ready = true }
+
+-- the call that its actor has made in its turn, if it took one
+abbrev pub call_in : Place → Option Call
+call_in place = if place.ready then Some place.outbox else None
+
+-- the place behind the round
+abbrev pub rested : Place → Place
+rested place = record place { ready = false }
