@@ -14,7 +14,8 @@ use Rattle.sg_route.specs.Firsts.{firsts}
 use Rattle.sg_route.specs.Roads.{Roads, roads_of}
 use Rattle.sg_route.specs.Route.{Route, Way, judged, latency_of, route_of, whole}
 use Rattle.sg_route.specs.declared.router.RouteFault.TheVariants.{TooLong}
-use Rattle.sg_route_laws.proofs.Each.{Each, each_append, each_at, each_from}
+use Rattle.sg_route.proofs.Each.{each_at, each_from}
+use Rattle.sg_zones.proofs.Each.{Each, each_append}
 
 abbrev RowQuick : LinkRow → Type 0
 RowQuick row = row.latency ≤ 1000000000000000

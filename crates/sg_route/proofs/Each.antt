@@ -1,27 +1,16 @@
--- What holds of each element, by recursion.
-use Rattle.std.proofs.Common.{◌≡◌, ◌<◌, ℕ, zero, suc, Bool, true, false, cond, List, [], ◌∷◌, ◌++◌, length, get_or, Some, arith, refl, subst}
+-- What holds of each element of lists that are made of others, and of one that is found.
+use Rattle.std.proofs.Common.{◌≡◌, ◌<◌, ℕ, zero, suc, Bool, true, false, cond, List, [], ◌∷◌, length, get_or, Some, arith, refl, subst}
 use Rattle.std.specs.List.{find, flat_map}
-use Rattle.std.specs.Prelude.{map, All}
-
-abbrev pub Each : {X : Type 0} → (X → Type 0) → List X → Type 0
-Each P [] = Unit {0}
-Each P (x ∷ xs) = P x × Each P xs
+use Rattle.std.specs.Prelude.{All}
+use Rattle.sg_zones.proofs.Each.{Each, each_append}
 
 pub each_from : {X : Type 0} (P : X → Type 0) (xs : List X) → ((k : ℕ) (d : X) → k < length xs → P (get_or xs k d)) → Each P xs
 each_from P [] h = tt
 each_from P (x ∷ xs) h = (h 0 x (omega arith), each_from P xs (λ k d few. h (suc k) d (omega arith)))
 
-pub each_append : {X : Type 0} (P : X → Type 0) (xs ys : List X) → Each P xs → Each P ys → Each P (xs ++ ys)
-each_append P [] ys h k = k
-each_append P (x ∷ xs) ys h k = (h.0, each_append P xs ys h.1 k)
-
 pub each_flat : {X Y : Type 0} (P : Y → Type 0) (Q : X → Type 0) (f : X → List Y) (xs : List X) → ((x : X) → Q x → Each P (f x)) → Each Q xs → Each P (flat_map f xs)
 each_flat P Q f [] step h = tt
 each_flat P Q f (x ∷ xs) step h = each_append P (f x) (flat_map f xs) (step x h.0) (each_flat P Q f xs step h.1)
-
-pub each_map : {X Y : Type 0} (P : Y → Type 0) (Q : X → Type 0) (f : X → Y) (xs : List X) → ((x : X) → Q x → P (f x)) → Each Q xs → Each P (map f xs)
-each_map P Q f [] step h = tt
-each_map P Q f (x ∷ xs) step h = (step x h.0, each_map P Q f xs step h.1)
 
 pub each_found : {X : Type 0} (P : X → Type 0) (p : X → Bool) (xs : List X) (x : X) → find p xs ≡ Some x → Each P xs → P x × (p x ≡ true)
 each_found {X} P p [] x h each = absurd (cc)

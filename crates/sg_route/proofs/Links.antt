@@ -22,10 +22,11 @@ use Rattle.sg_route.specs.declared.leg.Leg.{Leg}
 use Rattle.sg_route.specs.declared.locals.Local.{Local}
 use Rattle.sg_route.specs.declared.locals.Pair.{Pair}
 use Rattle.sg_route.specs.declared.router.RouteFault.TheVariants.{TooLong}
-use Rattle.sg_route_laws.proofs.Each.{Each, each_all, each_append, each_flat, each_found, each_from}
-use Rattle.sg_route_laws.proofs.Nested.{home, routing}
-use Rattle.sg_route_laws.proofs.Latency.{route_quick}
-use Rattle.sg_route_laws.specs.Laws.{RoutesAreGood}
+use Rattle.sg_route.specs.Good.{RoutesAreGood}
+use Rattle.sg_route.proofs.Each.{each_all, each_flat, each_found, each_from}
+use Rattle.sg_route.proofs.Latency.{route_quick}
+use Rattle.sg_zones.proofs.Each.{Each, each_append}
+use Rattle.sg_zones.specs.Tree.{home, routing_in, tree_of}
 
 abbrev Exists : Platform → LinkId → Type 0
 Exists p link = link.0 < length (link_ends p.links)
@@ -132,14 +133,14 @@ way_exists (suc levels) p kept a b =
     let m = roads_of p in
     forget p (by_passage (way levels m) a b (leg m a b) (passage_on m (leg m a b)))
     (step_good p (way levels m) a b (leg m a b) (passage_on m (leg m a b)) (λ x y. way_exists levels p kept x y)
-    (λ q is. passage_links p kept (routing m (leg m a b).zone) (leg m a b).from (leg m a b).to q is))
+    (λ q is. passage_links p kept (routing_in m.tree (leg m a b).zone) (leg m a b).from (leg m a b).to q is))
 
 way_good : (levels : ℕ) (p : Platform) → IsPlatform p → (a b : PointId) → WayGood p (way (suc levels) (roads_of p) a b)
 unfolding way
 way_good levels p kept a b =
     let m = roads_of p in
     step_good p (way levels m) a b (leg m a b) (passage_on m (leg m a b)) (λ x y. way_exists levels p kept x y)
-    (λ q is. passage_links p kept (routing m (leg m a b).zone) (leg m a b).from (leg m a b).to q is)
+    (λ q is. passage_links p kept (routing_in m.tree (leg m a b).zone) (leg m a b).from (leg m a b).to q is)
 
 loop_good : (p : Platform) → IsPlatform p → (r : Routing) (a : PointId) → Good p (to_itself (roads_of p) r a)
 loop_good p kept Star a = let n = link_ends_count p.links in record { some = omega arith; each = (omega arith, tt) }
@@ -155,8 +156,8 @@ whole_good : (p : Platform) → IsPlatform p → (a b : PointId) → WayGood p (
 unfolding whole
 whole_good p kept a b = go (a.0 == b.0)
   where
-    go : (t : Bool) → WayGood p (cond t (Ok (to_itself (roads_of p) (routing (roads_of p) (home (roads_of p) a)) a)) (way 16 (roads_of p) a b))
-    go true = loop_good p kept (routing (roads_of p) (home (roads_of p) a)) a
+    go : (t : Bool) → WayGood p (cond t (Ok (to_itself (roads_of p) (routing_in (tree_of p) (home (tree_of p) a)) a)) (way 16 (roads_of p) a b))
+    go true = loop_good p kept (routing_in (tree_of p) (home (tree_of p) a)) a
     go false = way_good 15 p kept a b
 
 -- ---- first places
