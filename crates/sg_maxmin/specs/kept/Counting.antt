@@ -4,7 +4,7 @@ use Rattle.sg_maxmin.specs.declared.flow_row.FlowRow.{FlowRow}
 use Rattle.sg_maxmin.specs.declared.uses.Use.{Use}
 use Rattle.sg_maxmin.specs.Fill.{Fixed, is_on, share_of}
 use Rattle.sg_maxmin.specs.Sharing.{held}
-use Rattle.sg_maxmin.specs.Uses.{AreRows, flow_of, flows_of, resources}
+use Rattle.sg_maxmin.specs.kept.Uses.{AreRows, flow_of, flows_of, resources}
 
 -- how often a resource stands in a list
 abbrev pub times : ℕ → List ℕ → ℕ
@@ -94,5 +94,8 @@ abbrev pub AreFixed : List (Option Use) → List (Option FlowRow) → Fixed → 
 AreFixed uses rows fixed = (key : ℕ) (row : FlowRow) → slice_index_or rows key None ≡ Some row → row.share ≡ fixed (flow_of uses row)
 
 -- the rows, with a place for each resource in what is left and in how many wait
-abbrev pub HavePlaces : List (Option FlowRow) → List (Option Use) → List ℕ → List ℕ → Type 0
-HavePlaces rows uses left waiting = (capacities : List ℕ) × AreRows capacities rows uses × (length left ≡ length capacities) × (length waiting ≡ length capacities)
+pub record HavePlaces (rows : List (Option FlowRow)) (uses : List (Option Use)) (left waiting : List ℕ) : Type 0 where
+  pub capacities : List ℕ
+  pub rows_are : AreRows capacities rows uses
+  pub left_len : length left ≡ length capacities
+  pub waiting_len : length waiting ≡ length capacities

@@ -1,8 +1,9 @@
 -- How a `System` keeps its flows: each has a chain of uses.
-use Rattle.std.specs.Prelude.{◌≡◌, ℕ, zero, suc, ◌-◌, Option, None, Some, List, [], ◌∷◌, map, slice_index_or, unwrap_or, option_map}
+use Rattle.std.specs.Prelude.{◌≡◌, ℕ, zero, suc, ◌-◌, ◌≤◌, Option, None, Some, List, [], ◌∷◌, length, map, slice_index_or, unwrap_or, option_map}
+use Rattle.slab.specs.Slab.{Slab, slab_len}
 use Rattle.sg_maxmin.specs.declared.flow_row.FlowRow.{FlowRow}
 use Rattle.sg_maxmin.specs.declared.uses.Use.{Use}
-use Rattle.sg_maxmin.specs.Fill.{Flow}
+use Rattle.sg_maxmin.specs.Fill.{Flow, flow}
 use Rattle.sg_maxmin.specs.Sharing.{IsFlow}
 
 abbrev pub resource_at : Option Use → ℕ
@@ -23,6 +24,10 @@ resources zero slots at = []
 resources (suc n) slots None = []
 resources (suc n) slots (Some i) = resource_at (slice_index_or slots i None) ∷ resources n slots (next_at (slice_index_or slots i None))
 
+-- the resources of a row
+abbrev pub row_uses : List (Option Use) → FlowRow → List ℕ
+row_uses uses row = resources row.count uses row.first
+
 -- so many uses of the flow in a row, and then no more
 unfoldable pub IsChain : ℕ → ℕ → List (Option Use) → Option ℕ → Type 0
 IsChain id zero slots at = at ≡ None
@@ -31,7 +36,7 @@ IsChain id (suc n) slots (Some i) = IsOf id (slice_index_or slots i None) × IsC
 
 -- the flow that a row stands for
 unfoldable pub flow_of : List (Option Use) → FlowRow → Flow
-flow_of uses row = record { uses = resources row.count uses row.first; bound = row.bound }
+flow_of uses row = flow (row_uses uses row) row.bound
 
 -- the share of a row, once it is fixed
 abbrev pub share_in : Option FlowRow → ℕ
@@ -45,6 +50,13 @@ flows_of rows uses = map (option_map (flow_of uses)) rows
 pub record AreRows (capacities : List ℕ) (rows : List (Option FlowRow)) (uses : List (Option Use)) : Type 0 where
   pub chains : (id : ℕ) (row : FlowRow) → slice_index_or rows id None ≡ Some row → IsChain id row.count uses row.first
   pub flows : (id : ℕ) (row : FlowRow) → slice_index_or rows id None ≡ Some row → IsFlow capacities (flow_of uses row)
+
+-- the rows of a system, and for each resource a place in what is left of it and in how many flows wait there
+pub record IsKept (capacities : List ℕ) (flows : Slab FlowRow) (uses : Slab Use) (left waiting : List ℕ) : Type 0 where
+  pub rows : AreRows capacities flows.slots uses.slots
+  pub left_len : length left ≡ length capacities
+  pub waiting_len : length waiting ≡ length capacities
+  pub uses_fit : slab_len uses ≤ uses.capacity
 
 -- what stands under the numbers of other flows' uses stays
 abbrev pub KeepsOthers : ℕ → List (Option Use) → List (Option Use) → Type 0
