@@ -2,9 +2,10 @@ pub mod Times
 pub mod Serials
 pub mod Spread
 pub mod Sums
-pub mod Kept
+pub mod Rates
 pub mod Replaced
 pub mod Keeps
+pub mod Pushed
 pub mod Told
 pub mod Routed
 pub mod Due

@@ -1,14 +1,16 @@
 -- The flow of a route may be in the system.
-use Rattle.std.proofs.Common.{◌≡◌, ◌≢◌, ℕ, zero, suc, ◌+◌, ◌*◌, ◌<◌, ◌≤◌, Bool, true, false, cond, not, Option, None, Some, IsSome, All, AllPairs, List, [], ◌∷◌, drop, filter, map, length, get_or, refl, sym, ap, ◌∙◌, arith}
+use Rattle.std.proofs.Common.{◌≡◌, ◌≢◌, ℕ, zero, suc, ◌+◌, ◌*◌, ◌<◌, ◌≤◌, Bool, true, false, cond, not, Option, None, Some, IsSome, All, AllPairs, List, [], ◌∷◌, drop, filter, map, length, get_or, refl, sym, ap, subst, ◌∙◌, arith}
 use Rattle.std.proofs.lemmas.List.{at_drop_more, length-append, length-map}
 use Rattle.std.proofs.lemmas.List.Kept.{AllPairs-cons}
 use Rattle.sg_base.specs.declared.ids.LinkId.{LinkId}
+use Rattle.sg_maxmin.specs.Fill.{flow}
 use Rattle.sg_maxmin.specs.Sharing.{IsFlow}
 use Rattle.sg_activity.specs.declared.kinds.HostCap.{HostCap}
 use Rattle.sg_activity.specs.declared.kinds.LinkCap.{LinkCap}
-use Rattle.sg_activity.specs.Task.{sooner}
-use Rattle.sg_activity.specs.Hosts.{offers_of, host_flow}
-use Rattle.sg_activity.specs.Links.{Capacities, capacities_of, bandwidths_of, bound_of_link, link_at, route_bound, shared_of, route_flow}
+use Rattle.sg_activity.specs.Slots.{sooner}
+use Rattle.sg_activity.specs.Hosts.{offer_of, offers_of}
+use Rattle.sg_activity.specs.Links.{Capacities, capacities_of, bandwidth_of, bandwidths_of, bound_of_link, link_at, route_bound, shared_of}
+use Rattle.sg_activity.specs.kept.Sound.{IsWay}
 use Rattle.sg_activity.proofs.Times.{sooner_assoc, sooner_never}
 
 -- ---- the bound, as a loop goes on
@@ -94,19 +96,21 @@ bounded hosts links (link ∷ route) some none = cases (link_at links link).fatp
 pub resources_are : (capacities : Capacities) → length (capacities_of capacities) ≡ length capacities.hosts + length capacities.links
 resources_are capacities =
     length-append (offers_of capacities.hosts) (bandwidths_of capacities.links)
-    ∙ ap (λ n. n + length (bandwidths_of capacities.links)) (length-map capacities.hosts (λ (host : HostCap). host.speed * host.cores))
-    ∙ ap (λ n. length capacities.hosts + n) (length-map capacities.links (λ (link : LinkCap). link.bandwidth))
+    ∙ ap (λ n. n + length (bandwidths_of capacities.links)) (length-map capacities.hosts offer_of)
+    ∙ ap (λ n. length capacities.hosts + n) (length-map capacities.links bandwidth_of)
 
-pub route_is_flow : (capacities : Capacities) (route : List LinkId) → route ≢ [] → AllPairs (λ a b. a ≢ b) route → All (λ (link : LinkId). link.0 < length capacities.links) route → IsFlow (capacities_of capacities) (route_flow capacities route)
-route_is_flow capacities route some once exist = record {
-  exist = shared_exist (length capacities.hosts) (length (capacities_of capacities)) capacities.links route (omega (arith, resources_are capacities)) exist;
-  once = shared_once (length capacities.hosts) capacities.links route once;
-  limit = bounded (length capacities.hosts) capacities.links route some;
+-- without a bound of its own a flow over a way may be in the system
+pub way_is_flow : (capacities : Capacities) (route : List LinkId) → IsWay capacities route →
+    IsFlow (capacities_of capacities) (flow (shared_of (length capacities.hosts) capacities.links route) (sooner (route_bound capacities.links route) None))
+way_is_flow capacities route is = record {
+  exist = shared_exist (length capacities.hosts) (length (capacities_of capacities)) capacities.links route (omega (arith, resources_are capacities)) is.exist;
+  once = shared_once (length capacities.hosts) capacities.links route is.apart;
+  limit = λ none. subst (λ o. IsSome o) (sym (sooner_never (route_bound capacities.links route))) (bounded (length capacities.hosts) capacities.links route is.some none);
 }
 
-pub host_is_flow : (capacities : Capacities) (host : ℕ) → host < length capacities.hosts → IsFlow (capacities_of capacities) (host_flow capacities.hosts host)
-host_is_flow capacities host within = record {
+pub host_is_flow : (capacities : Capacities) (host : ℕ) (bound : Option ℕ) → host < length capacities.hosts → IsSome bound → IsFlow (capacities_of capacities) (flow (host ∷ []) bound)
+host_is_flow capacities host bound within some = record {
   exist = all_cons (λ resource. resource < length (capacities_of capacities)) host [] (omega (arith, within, resources_are capacities)) (λ k d w. absurd (omega (arith, w)));
   once = λ i j d less w. absurd (omega (arith, less, w));
-  limit = λ none. absurd (cc none);
+  limit = λ _. some;
 }

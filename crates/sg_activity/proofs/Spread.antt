@@ -3,8 +3,8 @@ use Rattle.std.proofs.Common.{◌≡◌, ◌≢◌, ℕ, inl, inr, zero, suc, �
 use Rattle.std.specs.List.{list_any}
 use Rattle.std.proofs.lemmas.List.{append_assoc, length-append, length-replicate, replicate-append-replicate, replicate_more, map-append, set-append_right, get_or-append_right}
 use Rattle.sg_activity.specs.declared.rows.Row.{Row}
-use Rattle.sg_activity.specs.Task.{soonest, sooner, serials, passes}
-use Rattle.sg_activity.specs.Rows.{live, spread, AreRising, IsPlace, IsPut}
+use Rattle.sg_activity.specs.Slots.{soonest, sooner, serials, passes}
+use Rattle.sg_activity.specs.kept.Rows.{live, spread, AreRising, IsPlace, IsPut}
 
 -- ---- the serials
 pub rising_ends : (from to : ℕ) (rows : List Row) → AreRising from to rows → from ≤ to
@@ -277,11 +277,11 @@ less_from : (a b : ℕ) → a ≤ b → b ≢ a → a < b
 less_from a b le other = grind (arith, le, other)
 
 pub rising-put : (to : ℕ) (rows new : List Row) (row : Row) (i : ℕ) → AreRising 1 to rows → 0 < row.serial → row.serial < to → IsPlace rows row.serial i → IsPut rows row i new → AreRising 1 to new
-rising-put to rows new row i h from lt place (inl p) = subst (AreRising 1 to) (sym p.2) (rising-set 1 to rows i row row (sym p.1) p.0 h)
+rising-put to rows new row i h from lt place (inl p) = subst (AreRising 1 to) (sym p.set) (rising-set 1 to rows i row row (sym p.same) p.within h)
 rising-put to rows new row i h from lt place (inr p) =
-    subst (AreRising 1 to) (sym p.1) (rising-insert 1 to rows i row h place.within (omega (arith, from)) lt (place.below row) (λ less. less_from row.serial (get_or rows i row).serial (place.above row less) (p.0 less)))
+    subst (AreRising 1 to) (sym p.inserted) (rising-insert 1 to rows i row h place.within (omega (arith, from)) lt (place.below row) (λ less. less_from row.serial (get_or rows i row).serial (place.above row less) (p.other less)))
 
 pub spread-put : (to : ℕ) (rows new : List Row) (row : Row) (i : ℕ) → AreRising 1 to rows → 0 < row.serial → row.serial < to → IsPlace rows row.serial i → IsPut rows row i new → spread 1 to new ≡ set (spread 1 to rows) (row.serial - 1) (live row)
-spread-put to rows new row i h from lt place (inl p) = ap (spread 1 to) p.2 ∙ spread-set 1 to rows i row row h p.0 (sym p.1)
+spread-put to rows new row i h from lt place (inl p) = ap (spread 1 to) p.set ∙ spread-set 1 to rows i row row h p.within (sym p.same)
 spread-put to rows new row i h from lt place (inr p) =
-    ap (spread 1 to) p.1 ∙ spread-insert 1 to rows i row h place.within (omega (arith, from)) lt (place.below row) (λ less. less_from row.serial (get_or rows i row).serial (place.above row less) (p.0 less))
+    ap (spread 1 to) p.inserted ∙ spread-insert 1 to rows i row h place.within (omega (arith, from)) lt (place.below row) (λ less. less_from row.serial (get_or rows i row).serial (place.above row less) (p.other less))

@@ -1,6 +1,7 @@
+pub mod Slots
 pub mod Hosts
-pub mod Task
 pub mod Links
-pub mod Dates
+pub mod Task
+pub mod Underway
 pub mod Doing
-pub mod Rows
+pub mod kept

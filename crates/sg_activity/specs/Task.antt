@@ -1,27 +1,113 @@
--- Phases under way: at which rate each goes, how long the next takes, and what is left after a while.
-use Rattle.std.specs.Prelude.{ℕ, ◌+◌, ◌-◌, ◌*◌, ◌==◌, min, Bool, true, false, Option, None, Some, option_and_then, if◌then◌else◌, List, [], ◌∷◌, filter_map, slice_index_or}
-use Rattle.std.specs.Int.{div_ceil}
-use Rattle.sg_maxmin.specs.Fill.{Flow, share_of}
+-- Phases: what goes on and where, what it asks for, and what follows it.
+use Rattle.std.specs.Prelude.{ℕ, ◌-◌, ◌*◌, Bool, true, false, Option, None, Some, if◌then◌else◌, List, [], ◌∷◌, filter_map, length, slice_index_or}
+use Rattle.sg_base.specs.declared.ids.LinkId.{LinkId}
+use Rattle.sg_maxmin.specs.Fill.{Flow, flow}
 use Rattle.sg_activity.specs.declared.kinds.PhaseKind.{PhaseKind}
 use Rattle.sg_activity.specs.declared.kinds.PhaseKind.TheVariants as phase
+use Rattle.sg_activity.specs.Hosts.{host_at}
+use Rattle.sg_activity.specs.Links.{Capacities, route_bound, shared_of}
+use Rattle.sg_activity.specs.Slots.{sooner}
 
--- What goes on, and how much of it is left: unit-nanoseconds of an execution or a flow, nanoseconds of a sleep or a latency. What it uses, a latency only once it has passed. How many bytes a communication has.
+-- all links of a route, FATPIPE links too
+pub record Way : Type 0 where
+  pub links : List LinkId
+
+-- where a phase goes on: a sleep nowhere, an execution on its host, a latency and a flow over their way
+pub data Place : Type 0 where
+  nowhere : Place
+  on_host : ℕ → Place
+  over : Way → Place
+
+-- What goes on, and how much of it is left: unit-nanoseconds of an execution or a flow, nanoseconds of a sleep or a latency. Where it goes on; a bound of its own, where it has one; how many bytes a communication has.
 pub record Task : Type 0 where
   pub kind : PhaseKind
   pub left : ℕ
-  pub flow : Flow
+  pub place : Place
+  pub bound : Option ℕ
   pub bytes : ℕ
 
--- whether the phase takes a share of resources
-abbrev pub is_filled : PhaseKind → Bool
-is_filled phase.Latency = false
-is_filled phase.Flow = true
-is_filled phase.Exec = true
-is_filled phase.Timer = false
+abbrev pub exec_of : ℕ → ℕ → Task
+exec_of host flops = record {
+  kind = phase.Exec;
+  left = flops * 1000000000;
+  place = on_host host;
+  bound = None;
+  bytes = 0;
+}
 
+abbrev pub timer_of : ℕ → Task
+timer_of ns = record { kind = phase.Timer; left = ns; place = nowhere; bound = None; bytes = 0 }
+
+-- a communication over a way lets its latency pass first
+abbrev pub comm_of : Way → ℕ → ℕ → Task
+comm_of way latency bytes = record {
+  kind = phase.Latency;
+  left = latency;
+  place = over way;
+  bound = None;
+  bytes = bytes;
+}
+
+-- ---- what a phase asks for
+-- An execution uses its host, and gets at most the host's speed. A flow uses the SHARED links of its way, and gets at most the bandwidth of each FATPIPE link on it. None gets more than its own bound.
+abbrev pub flow_at : Capacities → Task → Place → Flow
+flow_at capacities task nowhere = flow [] task.bound
+flow_at capacities task (on_host host) =
+    flow (host ∷ []) (sooner (Some (host_at capacities.hosts host).speed) task.bound)
+flow_at capacities task (over way) =
+    flow (shared_of (length capacities.hosts) capacities.links way.links)
+    (sooner (route_bound capacities.links way.links) task.bound)
+
+abbrev pub flow_of : Capacities → Task → Flow
+flow_of capacities task = flow_at capacities task task.place
+
+-- whether phases of this kind take shares of resources
+abbrev pub takes_share : PhaseKind → Bool
+takes_share phase.Latency = false
+takes_share phase.Flow = true
+takes_share phase.Exec = true
+takes_share phase.Timer = false
+
+abbrev pub is_filled : Task → Bool
+is_filled task = takes_share task.kind
+
+-- how much a nanosecond takes of a phase that takes no share
+abbrev pub pace : PhaseKind → ℕ
+pace phase.Latency = 1
+pace phase.Flow = 1
+pace phase.Exec = 1
+pace phase.Timer = 1
+
+-- when a phase is due, of which nothing is left in that time
+abbrev pub wait_by : PhaseKind → Option ℕ → Option ℕ
+wait_by phase.Latency time = time
+wait_by phase.Flow time = time
+wait_by phase.Exec time = time
+wait_by phase.Timer time = time
+
+-- whether a phase of this kind is under way
+abbrev pub goes_by : PhaseKind → Bool
+goes_by phase.Latency = true
+goes_by phase.Flow = true
+goes_by phase.Exec = true
+goes_by phase.Timer = true
+
+abbrev pub goes : Task → Bool
+goes task = goes_by task.kind
+
+abbrev pub flow_in : Capacities → Option Task → Option Flow
+flow_in capacities None = None
+flow_in capacities (Some task) = if is_filled task then Some (flow_of capacities task) else None
+
+-- what the executions and flows that run ask for
+unfoldable pub flows : Capacities → List (Option Task) → List Flow
+flows capacities tasks = filter_map (flow_in capacities) tasks
+
+-- ---- what follows
 -- What follows once a phase is over: after a latency the bytes flow, and after any other phase the activity is done.
 abbrev pub next_phase : PhaseKind → Task → Option Task
-next_phase phase.Latency task = Some (record task { kind = phase.Flow; left = task.bytes * 1000000000 })
+next_phase phase.Latency task =
+    Some (record task { kind = phase.Flow; left = task.bytes * 1000000000 })
 next_phase phase.Flow task = None
 next_phase phase.Exec task = None
 next_phase phase.Timer task = None
@@ -29,51 +115,6 @@ next_phase phase.Timer task = None
 abbrev pub phase_after : Option Task → Option Task
 phase_after None = None
 phase_after (Some task) = next_phase task.kind task
-
-abbrev pub flow_in : Option Task → Option Flow
-flow_in None = None
-flow_in (Some task) = if is_filled task.kind then Some task.flow else None
-
--- what the executions and flows that run ask for
-unfoldable pub flows : List (Option Task) → List Flow
-flows tasks = filter_map flow_in tasks
-
--- units, or nanoseconds, in a nanosecond
-unfoldable pub rate : List ℕ → List (Option Task) → Task → ℕ
-rate capacities tasks task = if is_filled task.kind then share_of capacities (flows tasks) task.flow else 1
-
--- in how many nanoseconds nothing is left; none: never
-abbrev pub wait : ℕ → ℕ → Option ℕ
-wait rate left = if left == 0 then Some 0 else if rate == 0 then None else Some (div_ceil left rate)
-
--- the less of two numbers, where none is without end
-abbrev pub sooner : Option ℕ → Option ℕ → Option ℕ
-sooner None b = b
-sooner (Some a) None = Some a
-sooner (Some a) (Some b) = Some (min a b)
-
--- the least of all waits
-unfoldable pub soonest : {X : Type 0} → (X → Option ℕ) → List (Option X) → Option ℕ
-soonest waits [] = None
-soonest waits (slot ∷ rest) = sooner (option_and_then waits slot) (soonest waits rest)
-
--- whether something is there that passes the test
-abbrev pub passes : {X : Type 0} → (X → Bool) → Option X → Bool
-passes test None = false
-passes test (Some x) = test x
-
--- the serials at which the test is passed, where the first place has this serial
-unfoldable pub serials : {X : Type 0} → (X → Bool) → ℕ → List (Option X) → List ℕ
-serials test serial [] = []
-serials test serial (slot ∷ rest) = if passes test slot then serial ∷ serials test (serial + 1) rest else serials test (serial + 1) rest
-
-abbrev pub is_at : Option ℕ → ℕ → Bool
-is_at None span = false
-is_at (Some time) span = time == span
-
--- the phase, so many nanoseconds later: each of them took as much as the rate, as far as there was something left
-abbrev pub passed : ℕ → ℕ → Task → Task
-passed rate span task = record task { left = task.left - rate * span }
 
 -- the phase under a serial, if there is one under way
 abbrev pub task_at : List (Option Task) → ℕ → Option Task

@@ -2,6 +2,7 @@
 #![tactic(auto)]
 
 mod activities;
+mod kept;
 mod kinds;
 mod phases;
 mod routes;

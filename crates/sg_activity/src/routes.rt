@@ -1,19 +1,30 @@
-//! Routes of communications whose latency passes: what their flows will use, and what will bound them.
+//! Routes: what the flows over them use, and what bounds them.
 
 ghost use Rattle.std.specs.Prelude.{◌≡◌, ◌+◌, ◌<◌, ◌≤◌, ◌^◌, All, length};
 ghost use Rattle.sg_base.specs.declared.ids.LinkId.{LinkId};
-ghost use Rattle.sg_activity.specs.Task.{sooner};
+ghost use Rattle.sg_activity.specs.Slots.{sooner};
 ghost use Rattle.sg_activity.specs.Links.{bound_of_link, route_bound, shared_of};
 
 use crate::kinds::LinkCap;
 use arrayvec::ArrayVec;
 use sg_base::LinkId;
 
-/// What the flow of a communication will use once its latency has passed, and its bound.
+/// The links of a route, FATPIPE links too.
 #[derive(Drop)]
-pub(crate) struct Route {
-    pub(crate) uses: ArrayVec<usize, 64>,
-    pub(crate) bound: Option<u64>,
+pub(crate) struct Way {
+    pub(crate) links: ArrayVec<LinkId, 64>,
+}
+
+/// The way over these links.
+pub(crate) fn way_over(route: &[LinkId]) -> Way
+    requires { length route.now ≤ 64 }
+    ensures { result.links.items ≡ route.now }
+{
+    let mut links = ArrayVec::new();
+    for link in route {
+        links.push(*link);
+    }
+    Way { links }
 }
 
 // The less of a bound and of what bounds each flow over the link by itself.

@@ -3,12 +3,24 @@
 ghost use Rattle.std.specs.Prelude.{◌≡◌, ◌+◌, ◌-◌, ◌*◌, ◌<◌, ◌≤◌, ◌^◌, ℕ, Bool, Some, None, IsTrue, false, true, IsSome, map, option_map, option_and_then, MatchOption, [], is_some, filter, take, length, not, vec_len, vec_capacity};
 ghost use Rattle.std.specs.List.{list_any};
 ghost use Rattle.sg_maxmin.specs.Sharing.{flow_at};
-ghost use Rattle.sg_activity.specs.Task.{is_filled, wait as wait_spec, sooner as sooner_spec, soonest as soonest_spec, passes};
+ghost use Rattle.sg_activity.specs.Slots.{sooner as sooner_spec, soonest as soonest_spec, passes};
+ghost use Rattle.sg_activity.specs.Task.{takes_share as takes_share_spec, pace as pace_spec};
+ghost use Rattle.sg_activity.specs.Underway.{wait as wait_spec};
 ghost use Rattle.sg_activity.specs.declared.rows.Row.{Row};
-ghost use Rattle.sg_activity.specs.Rows.{live as live_spec, row_rate, row_wait, row_later, later_row as later_row_spec, is_row_due, is_due, HaveFlows, IsFirst, IsPlace, IsPut};
+ghost use Rattle.sg_activity.specs.kept.Rows.{live as live_spec, row_rate, row_wait, row_later, later_row as later_row_spec, is_row_due, is_due, HasFlow, HaveFlows, IsFirst, IsPlace, IsPut};
+ghost use Rattle.sg_activity.specs.kept.Sound.{flows_ahead as flows_ahead_spec};
 
 use crate::kinds::PhaseKind;
 use sg_maxmin::System;
+
+/// Where the phase of a row goes on: a sleep nowhere, an execution on the host of this number, a latency and a flow over
+/// the way of this key.
+#[derive(Clone, Copy)]
+pub(crate) enum Site {
+    Nowhere,
+    Host(usize),
+    Way(usize),
+}
 
 /// An activity under way, as it is kept, or one that was done not long ago.
 #[derive(Clone, Copy)]
@@ -18,8 +30,9 @@ pub(crate) struct Row {
     pub(crate) left: u128,
     /// The bytes of a communication.
     pub(crate) bytes: u64,
-    /// The flow's number in the system; while a latency passes, the route's key; 0 of a sleep.
-    pub(crate) place: usize,
+    pub(crate) site: Site,
+    /// The number in the system of a flow or an execution, and else 0.
+    pub(crate) flow: usize,
     pub(crate) due: bool,
     pub(crate) done: bool,
 }
@@ -31,8 +44,9 @@ fn live(row: &Row) -> Option<Row>
     if row.done { None } else { Some(*row) }
 }
 
-pub(crate) fn fills(kind: PhaseKind) -> bool
-    ensures { result ≡ is_filled kind }
+/// Whether phases of this kind take shares of resources.
+pub(crate) fn takes_share(kind: PhaseKind) -> bool
+    ensures { result ≡ takes_share_spec kind }
 {
     match kind {
         PhaseKind::Flow | PhaseKind::Exec => true,
@@ -40,14 +54,33 @@ pub(crate) fn fills(kind: PhaseKind) -> bool
     }
 }
 
+// How much a nanosecond takes of a phase that takes no share.
+fn pace(kind: PhaseKind) -> u64
+    ensures { result ≡ pace_spec kind }
+{
+    match kind {
+        PhaseKind::Latency | PhaseKind::Flow | PhaseKind::Exec | PhaseKind::Timer => 1,
+    }
+}
+
+/// How many flows begin once a phase of this kind is over.
+pub(crate) fn flows_ahead(kind: PhaseKind) -> usize
+    ensures { result ≡ flows_ahead_spec kind }
+{
+    match kind {
+        PhaseKind::Latency => 1,
+        PhaseKind::Flow | PhaseKind::Exec | PhaseKind::Timer => 0,
+    }
+}
+
 fn rate_of(row: &Row, system: &System) -> u64
-    requires { IsTrue (is_filled row.now.kind) → IsSome (flow_at system.now.slots row.now.place) }
+    requires { HasFlow system.now row.now }
     ensures { result ≡ row_rate system.now row.now }
 {
-    if fills(row.kind) {
-        system.share(row.place)
+    if takes_share(row.kind) {
+        system.share(row.flow)
     } else {
-        1
+        pace(row.kind)
     }
 }
 
@@ -76,7 +109,7 @@ fn sooner(a: Option<u128>, b: Option<u128>) -> Option<u128>
 }
 
 fn wait_of(slot: Option<Row>, system: &System) -> Option<u128>
-    requires { (row : Row) → slot ≡ Some row → IsTrue (is_filled row.kind) → IsSome (flow_at system.now.slots row.place) }
+    requires { (row : Row) → slot ≡ Some row → HasFlow system.now row }
     ensures { result ≡ option_and_then (row_wait system.now) slot }
 {
     match slot {
@@ -99,7 +132,7 @@ pub(crate) fn soonest(rows: &[Row], system: &System) -> Option<u128>
 
 // The row, so many nanoseconds later.
 fn later(row: &Row, system: &System, span: u128) -> Row
-    requires { IsTrue (is_filled row.now.kind) → IsSome (flow_at system.now.slots row.now.place) }
+    requires { HasFlow system.now row.now }
     ensures { result ≡ row_later system.now span row.now }
 {
     let rate = rate_of(row, system);
@@ -117,7 +150,7 @@ fn later(row: &Row, system: &System, span: u128) -> Row
 }
 
 fn later_row(row: Row, system: &System, span: u128) -> Row
-    requires { (other : Row) → live_spec row ≡ Some other → IsTrue (is_filled other.kind) → IsSome (flow_at system.now.slots other.place) }
+    requires { (other : Row) → live_spec row ≡ Some other → HasFlow system.now other }
     ensures { result ≡ later_row_spec system.now span row }
 {
     if row.done {
@@ -138,7 +171,8 @@ pub(crate) fn pass(rows: &mut [Row], system: &System, span: u128)
 }
 
 fn due_row(slot: Option<Row>) -> Option<Row>
-    ensures { MatchOption result (passes is_row_due slot ≡ false) (λ row. (slot ≡ Some row) × (row.due ≡ true)) }
+    ensures { MatchOption result (passes is_row_due slot ≡ false)
+        (λ row. (slot ≡ Some row) × (row.due ≡ true)) }
 {
     match slot {
         Some(row) if row.due => Some(row),
@@ -150,7 +184,8 @@ fn due_row(slot: Option<Row>) -> Option<Row>
 pub(crate) fn first_due(rows: &[Row], from: usize) -> Option<(usize, Row)>
     requires within { from ≤ length rows.now }
     requires before { filter is_due (take from rows.now) ≡ [] }
-    ensures { MatchOption result (filter is_due rows.now ≡ []) (λ found. IsFirst rows.now found.0 found.1) }
+    ensures { MatchOption result (filter is_due rows.now ≡ [])
+        (λ found. IsFirst rows.now found.0 found.1) }
 {
     for i in from..rows.len() {
         if let Some(row) = due_row(live(&rows[i])) {
@@ -190,7 +225,8 @@ fn place_of(rows: &[Row], serial: u64) -> usize
 /// Puts a row at the place of its serial. A row that stands there, whose activity is done, makes way.
 pub(crate) fn put(rows: &mut Vec<Row>, row: Row)
     requires room { vec_len rows.old < vec_capacity rows.old }
-    ensures place { (i : ℕ) × IsPlace rows.old.items row.serial i × IsPut rows.old.items row i rows.new.items }
+    ensures place { (i : ℕ) × IsPlace rows.old.items row.serial i
+        × IsPut rows.old.items row i rows.new.items }
     ensures len { vec_len rows.new ≤ vec_len rows.old + 1 }
     ensures capacity { vec_capacity rows.new ≡ vec_capacity rows.old }
 {

@@ -17,15 +17,16 @@ const MEGA: u64 = 1_000_000;
 
 // A communication of so many bytes begins.
 fn send(doing: &mut Activities, route: &[LinkId], latency: u128, bytes: u64) -> Result<(), Memory>
-    requires few { length doing.old.tasks < 10 }
+    requires few { length doing.old.under.tasks < 10 }
     requires some { route.now ≢ [] }
     requires apart { AllPairs (λ a b. a ≢ b) route.now }
-    requires exist { All (λ (link : LinkId). link.0 < length doing.old.capacities.links) route.now }
+    requires exist { All (λ (link : LinkId).
+        link.0 < length doing.old.under.capacities.links) route.now }
     requires short { length route.now ≤ 2 }
     requires latency { latency ≤ 10 ^ 9 }
     requires bytes { bytes ≤ 10 ^ 9 }
-    ensures capacities { doing.new.capacities ≡ doing.old.capacities }
-    ensures drawn { OnOk result (length doing.new.tasks ≡ length doing.old.tasks + 1) }
+    ensures capacities { doing.new.under.capacities ≡ doing.old.under.capacities }
+    ensures drawn { OnOk result (length doing.new.under.tasks ≡ length doing.old.under.tasks + 1) }
 {
     doing.reserve(1)?;
     let serial = doing.take_serial();
@@ -35,8 +36,8 @@ fn send(doing: &mut Activities, route: &[LinkId], latency: u128, bytes: u64) -> 
 
 // Goes to the next date and ends the first phase that is due.
 fn step<L: Ledger>(doing: &mut Activities, steps: &mut Steps<L>) -> End
-    requires { length doing.old.tasks ≤ 10 }
-    ensures { length doing.new.tasks ≡ length doing.old.tasks }
+    requires { length doing.old.under.tasks ≤ 10 }
+    ensures { length doing.new.under.tasks ≡ length doing.old.under.tasks }
 {
     doing.settle(steps);
     let Some(date) = doing.next_date() else {

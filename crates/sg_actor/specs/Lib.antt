@@ -1,3 +1,5 @@
+pub mod Chunks
+pub mod Churns
 pub mod Fields
 pub mod Places
 pub mod Roles

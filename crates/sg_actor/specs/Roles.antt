@@ -14,18 +14,18 @@ abbrev pub mind_of : Role → Mind
 mind_of (role.Replay me) = replay_mind me.0
 mind_of (role.Worker me) = worker_mind me.0
 mind_of (role.Master tasks flops bytes workers) = master_mind tasks flops bytes (map number_of workers)
-mind_of (role.Churn state steps me next prev) = churn_mind state steps me.0 next.0 prev.0
+mind_of (role.Churn seed steps me next prev) = churn_mind seed steps me.0 next.0 prev.0
 
 -- a master has a worker, and can count the messages that it sends
 abbrev pub CanCast : Role → Type 0
 CanCast (role.Replay me) = Unit {0}
 CanCast (role.Worker me) = Unit {0}
 CanCast (role.Master tasks flops bytes workers) = (0 < length workers) × (tasks + length workers < 2 ^ 64)
-CanCast (role.Churn state steps me next prev) = Unit {0}
+CanCast (role.Churn seed steps me next prev) = Unit {0}
 
 -- the amounts of a role keep to their limits, and the actors that it names exist; a master has a worker
 abbrev pub IsRole : Extent → Role → Type 0
 IsRole extent (role.Replay me) = IsActorIn extent me
 IsRole extent (role.Worker me) = IsActorIn extent me
 IsRole extent (role.Master tasks flops bytes workers) = IsAmount flops × IsAmount bytes × (0 < length workers) × All (IsActorIn extent) workers
-IsRole extent (role.Churn state steps me next prev) = IsActorIn extent me × IsActorIn extent next × IsActorIn extent prev
+IsRole extent (role.Churn seed steps me next prev) = IsActorIn extent me × IsActorIn extent next × IsActorIn extent prev

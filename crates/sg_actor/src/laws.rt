@@ -1,6 +1,9 @@
 //! Laws of roles and rounds.
 ghost use Rattle.sg_base.specs.Limits.{Extent, IsCall};
-ghost use Rattle.sg_base.specs.Mind.{IsMind};
+ghost use Rattle.sg_base.specs.declared.call.Answer.{Answer};
+ghost use Rattle.sg_base.specs.Mind.{Mind, IsMind};
+ghost use Rattle.sg_base.specs.Turn.{turn};
+ghost use Rattle.sg_actor.specs.Churns.{CountsSteps};
 ghost use Rattle.sg_actor.specs.declared.role.Role.{Role};
 ghost use Rattle.sg_actor.specs.Roles.{mind_of, IsRole};
 ghost use Rattle.sg_actor.specs.Places.{Place, IsPlace, after};
@@ -14,7 +17,15 @@ pub fn roles_keep_limits()
 
 /// The same goes on from round to round: a place keeps to the limits behind its turn if its inbox did before.
 pub fn rounds_keep_limits()
-    ensures { (extent : Extent) (place : Place) → IsPlace extent place → IsPlace extent (after place) }
+    ensures { (extent : Extent) (place : Place)
+        → IsPlace extent place → IsPlace extent (after place) }
 {
     turns_keep_limits();
 }
+
+/// An actor that churns is in one of four phases, and has done no more steps than it has to: when it is cast, and after
+/// each turn.
+pub fn churns_count_steps()
+    ensures first { (role : Role) → CountsSteps (mind_of role) }
+    ensures next { (m : Mind) (answer : Answer) → CountsSteps m → CountsSteps (turn m answer).mind }
+{}

@@ -16,7 +16,7 @@ mod tape;
 pub use actor::Actor;
 pub use crew::all_blank;
 pub use generator::draw;
-pub use laws::{roles_keep_limits, rounds_keep_limits};
+pub use laws::{churns_count_steps, roles_keep_limits, rounds_keep_limits};
 pub use plain::PlainContext;
 pub use role::Role;
 pub use round::run_round;

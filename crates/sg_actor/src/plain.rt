@@ -116,13 +116,13 @@ fn fields_of(alloc: Global, role: &Role) -> Result<Fields, Memory>
             })
         }
         Role::Churn {
-            state,
+            seed,
             steps,
             me,
             next,
             prev,
         } => Ok(Fields::Churn(Churn {
-            state: *state,
+            state: *seed,
             step: 0,
             phase: Phase::Compute,
             steps: *steps,

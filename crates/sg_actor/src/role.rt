@@ -19,7 +19,7 @@ pub enum Role {
     /// until what it sent is there. How much it computes and sends is drawn.
     Churn {
         /// The state with which its generator begins.
-        state: u64,
+        seed: u64,
         steps: u32,
         me: ActorId,
         next: ActorId,

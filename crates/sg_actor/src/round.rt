@@ -1,6 +1,7 @@
 //! Rounds: one turn of each actor that is ready.
 ghost use Rattle.std.specs.Prelude.{◌≡◌, ◌<◌, length, All, map};
 ghost use Rattle.std.specs.Thread.{IsSync, IsSend};
+ghost use Rattle.sg_actor.specs.Chunks.{chunk_size, seats_before_middle};
 ghost use Rattle.sg_actor.specs.Places.{after, CanTurn};
 ghost use Rattle.sg_actor.specs.Seen.{seen, all_seen};
 
@@ -11,8 +12,8 @@ use std::thread::{Threads, join_mut};
 /// Each actor whose seat is ready takes one turn on its inbox, and its call goes into its outbox. Every other seat
 /// stays as it is.
 ///
-/// The seats are cut into one chunk for each worker, and each chunk has a thread; which thread has which seats can't be
-/// seen afterwards. It takes no memory.
+/// The seats are cut into chunks, one for each worker where there are enough seats, and each chunk has a thread; which
+/// thread has which seats can't be seen afterwards. It takes no memory.
 pub fn run_round<R: Threads + Sync>(rt: &R, seats: &mut [Seat], workers: u32)
     requires some { 0 < workers }
     requires ready { All CanTurn (all_seen (λ b. mind b) seats.old) }
@@ -21,8 +22,18 @@ pub fn run_round<R: Threads + Sync>(rt: &R, seats: &mut [Seat], workers: u32)
     if seats.is_empty() {
         return;
     }
-    let size = seats.len().div_ceil(workers as usize);
+    let size = chunk_size(seats.len(), workers);
     run_chunks(rt, size, seats);
+}
+
+// How many seats each chunk has but the last, which may have fewer.
+fn chunk_size(seats: usize, workers: u32) -> usize
+    requires seats { 0 < seats }
+    requires workers { 0 < workers }
+    ensures size { result ≡ chunk_size seats workers }
+    ensures some { 0 < result }
+{
+    seats.div_ceil(workers as usize)
 }
 
 // The same, in a thread for each chunk of so many seats. The chunks are halved at each step, so the stack grows with the
@@ -58,22 +69,27 @@ fn run_halves<R: Threads + Sync, A: Actor + Send>(
     ensures back { all_seen A.mind back.new ≡ map after (all_seen A.mind back.old) }
 {
     let mut first = ||
-        requires { IsSync R.row × IsSend A.row × (0 < size) × All CanTurn (all_seen A.mind front.now) }
+        requires { IsSync R.row × IsSend A.row × (0 < size)
+            × All CanTurn (all_seen A.mind front.now) }
         ensures { all_seen A.mind front.exit.now ≡ map after (all_seen A.mind front.entry.now) }
     { run_chunks(rt, size, front) };
     let mut second = ||
-        requires { IsSync R.row × IsSend A.row × (0 < size) × All CanTurn (all_seen A.mind back.now) }
+        requires { IsSync R.row × IsSend A.row × (0 < size)
+            × All CanTurn (all_seen A.mind back.now) }
         ensures { all_seen A.mind back.exit.now ≡ map after (all_seen A.mind back.entry.now) }
     { run_chunks(rt, size, back) };
     join_mut(rt, &mut first, &mut second);
 }
 
 // Where the second half of the chunks begins.
-fn middle(len: usize, size: usize) -> usize
-    requires { (0 < size) × (size < len) }
-    ensures { (0 < result) × (result < len) }
+fn middle(seats: usize, size: usize) -> usize
+    requires some { 0 < size }
+    requires more { size < seats }
+    ensures middle { result ≡ seats_before_middle seats size }
+    ensures front { 0 < result }
+    ensures back { result < seats }
 {
-    len.div_ceil(size) / 2 * size
+    seats.div_ceil(size) / 2 * size
 }
 
 // The same, one after the other.

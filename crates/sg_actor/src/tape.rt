@@ -93,14 +93,14 @@ fn tape_of(alloc: Global, role: &Role) -> Result<Vec<u64>, Memory>
             Ok(words)
         }
         Role::Churn {
-            state,
+            seed,
             steps,
             me,
             next,
             prev,
         } => {
             let (me, next, prev) = (me.0 as u64, next.0 as u64, prev.0 as u64);
-            words_of(alloc, &[CHURN, *state, 0, 0, *steps as u64, me, next, prev])
+            words_of(alloc, &[CHURN, *seed, 0, 0, *steps as u64, me, next, prev])
         }
     }
 }

@@ -1,7 +1,8 @@
 //! Turns of contexts, and rounds of boxed ones beside actors of the tests' own.
-ghost use Rattle.std.specs.Prelude.{◌≡◌, IsSome};
+ghost use Rattle.std.specs.Prelude.{◌≡◌, ◌<◌, All, IsSome, IsTrue};
+ghost use Rattle.sg_actor.specs.Places.{CanTurn};
 ghost use Rattle.sg_actor.specs.Roles.{CanCast};
-ghost use Rattle.sg_actor.specs.Seen.{seen};
+ghost use Rattle.sg_actor.specs.Seen.{all_seen, seen};
 
 use crate::{Actor, PlainContext, Role, Seat, TapeContext, all_blank, draw, run_round};
 use sg_base::{Action, ActorId, Answer, BoxId, Call, Ids, Memory, Msg};
@@ -10,6 +11,7 @@ use std::process::Abort;
 use std::sync::Arc;
 use std::sync::atomic::{AtomicU64, Ordering};
 use std::test::Fail;
+use std::thread::Threads;
 
 const ME: ActorId = ActorId(1);
 
@@ -100,7 +102,7 @@ fn turns_of_a_churn(rt: HostRuntime) -> Result<(), Fail> {
     let there = BoxId::Pair(ME, ActorId(2));
     let back = BoxId::Pair(ActorId(3), ME);
     let role = Role::Churn {
-        state: 0,
+        seed: 0,
         steps: 2,
         me: ME,
         next: ActorId(2),
@@ -126,7 +128,7 @@ fn turns_of_a_churn(rt: HostRuntime) -> Result<(), Fail> {
 fn generator_turns_over(rt: HostRuntime) -> Result<(), Fail> {
     let there = BoxId::Pair(ME, ME);
     let role = Role::Churn {
-        state: u64::MAX,
+        seed: u64::MAX,
         steps: 1,
         me: ME,
         next: ME,
@@ -146,7 +148,7 @@ fn generator_turns_over(rt: HostRuntime) -> Result<(), Fail> {
 #[test]
 fn churn_without_steps_ends(rt: HostRuntime) -> Result<(), Fail> {
     let role = Role::Churn {
-        state: 7,
+        seed: 7,
         steps: 0,
         me: ME,
         next: ActorId(2),
@@ -238,12 +240,14 @@ fn only_ready_seats_take_a_turn(rt: HostRuntime) -> Result<(), Fail> {
     Ok(())
 }
 
-/// An actor that sets its flag and looks for another's before its turn.
+/// An actor that raises its flag in its turn, and looks for those of all others.
 #[derive(Drop)]
 struct Looker {
     inner: PlainContext,
-    mine: Arc<AtomicU64>,
-    other: Arc<AtomicU64>,
+    /// How many flags there are to be.
+    all: u64,
+    raised: Arc<AtomicU64>,
+    /// How many actors saw all flags.
     found: Arc<AtomicU64>,
 }
 
@@ -259,9 +263,9 @@ impl Actor for Looker {
     }
 
     fn turn(&mut self, answer: Answer) -> Call {
-        self.mine.store(1, Ordering::SeqCst);
+        self.raised.fetch_add(1, Ordering::SeqCst);
         for _i in 0..100_000_000u32 {
-            if self.other.load(Ordering::SeqCst) == 1 {
+            if self.raised.load(Ordering::SeqCst) == self.all {
                 self.found.fetch_add(1, Ordering::SeqCst);
                 break;
             }
@@ -270,32 +274,83 @@ impl Actor for Looker {
     }
 }
 
-// One that looks for a flag.
-fn looker_for(
+// Whether no seat has a blank actor.
+fn are_cast(seats: &[Seat]) -> bool
+    ensures { IsTrue result → All CanTurn (all_seen (λ b. mind b) seats.now) }
+{
+    for seat in seats {
+        if !is_cast(seat) {
+            return false;
+        }
+    }
+    true
+}
+
+// In a function of its own, so that the loop knows what it says of the mind.
+fn is_cast(seat: &Seat) -> bool
+    ensures { IsTrue result → CanTurn (seen (λ b. mind b) seat.now) }
+{
+    !seat.actor.is_blank()
+}
+
+// How many actors see the flags of all that are ready, in a round of so many workers.
+fn flags_found<R: Abort + Threads + Sync>(
+    rt: &R,
     alloc: Global,
-    mine: &Arc<AtomicU64>,
-    other: &Arc<AtomicU64>,
-    found: &Arc<AtomicU64>,
-) -> Result<Looker, Fail> {
-    Ok(Looker {
-        inner: plain(alloc)?,
-        mine: Arc::try_clone(mine)?,
-        other: Arc::try_clone(other)?,
-        found: Arc::try_clone(found)?,
-    })
+    ready: &[bool],
+    workers: u32,
+) -> Result<u64, Fail>
+    requires { 0 < workers }
+{
+    let raised = Arc::new(alloc, AtomicU64::new(0))?;
+    let found = Arc::new(alloc, AtomicU64::new(0))?;
+    let all = ready.iter().filter(|is_ready| **is_ready).count() as u64;
+    let mut seats: Vec<Seat> = Vec::new(alloc);
+    for is_ready in ready {
+        let looker = Looker {
+            inner: plain(alloc)?,
+            all,
+            raised: Arc::try_clone(&raised)?,
+            found: Arc::try_clone(&found)?,
+        };
+        seats.push(Seat {
+            actor: Box::new(alloc, looker)?,
+            inbox: Answer::Start,
+            outbox: Call::Yield,
+            ready: *is_ready,
+        })?;
+    }
+    run_cast(rt, seats.as_mut_slice(), workers);
+    Ok(found.load(Ordering::SeqCst))
+}
+
+// A round of seats that were filled in a loop: whether all are cast is looked at.
+fn run_cast<R: Abort + Threads + Sync>(rt: &R, seats: &mut [Seat], workers: u32)
+    requires { 0 < workers }
+{
+    assert!(rt; are_cast(seats));
+    run_round(rt, seats, workers);
 }
 
 #[test]
-fn two_flags(rt: HostRuntime) -> Result<(), Fail> {
-    let alloc = rt.alloc();
-    let a = Arc::new(alloc, AtomicU64::new(0))?;
-    let b = Arc::new(alloc, AtomicU64::new(0))?;
-    let found = Arc::new(alloc, AtomicU64::new(0))?;
-    let first = Box::new(alloc, looker_for(alloc, &a, &b, &found)?)?;
-    let second = Box::new(alloc, looker_for(alloc, &b, &a, &found)?)?;
-    let mut seats = [seat(&rt, first, true), seat(&rt, second, true)];
-    run_round(&rt, &mut seats, 2);
-    assert_eq!(rt; found.load(Ordering::SeqCst), 2);
+fn two_flags_and_more(rt: HostRuntime) -> Result<(), Fail> {
+    let three = [true, false, true, false, true];
+    let eight = [
+        true, false, true, true, false, false, true, true, false, true, true, true,
+    ];
+    // Which seats are ready, the workers, and how many actors see all flags. In one chunk none does but the last.
+    let cases: [(&[bool], u32, u64); 7] = [
+        (&[true, true], 2, 2),
+        (&[true, true], 1, 1),
+        (&[true, true, false, false], 2, 1),
+        (&[true, false, false, true], 2, 2),
+        (&three, 3, 3),
+        (&eight, 12, 8),
+        (&eight, 64, 8),
+    ];
+    for (ready, workers, wanted) in cases {
+        assert_eq!(rt; flags_found(&rt, rt.alloc(), ready, workers)?, wanted);
+    }
     Ok(())
 }
 

@@ -1,12 +1,15 @@
 -- What the parts show, and what the calls do to them.
-use Rattle.std.specs.Prelude.{◌≡◌, ◌≢◌, ◌<◌, ◌≤◌, ◌++◌, ℕ, List, [], length, Option, None, Some, if◌then◌else◌, ◌==◌, IsSome}
+use Rattle.std.specs.Prelude.{◌≡◌, ◌≢◌, ◌<◌, ◌≤◌, ◌++◌, ℕ, List, [], length, Option, None, Some, if◌then◌else◌, ◌==◌, IsSome, IfSome}
 use Rattle.sg_edge.specs.declared.files.Part.{Part}
+use Rattle.sg_edge.specs.declared.files.Part.TheVariants.{Platform, Deployment, Script}
 use Rattle.sg_edge.specs.declared.files.Stage.{Stage}
 use Rattle.sg_edge.specs.declared.files.Stage.TheVariants.{Fresh, Begun, Over, Broken}
 
--- the stage of a part, the bytes that are left where they are told, and how many of its calls have failed
+-- the stage of a part, the name under which it was begun and the bytes that are left, where these are told, and how
+-- many of its calls have failed
 pub record PartView : Type 0 where
   pub stage : Stage
+  pub name : Option (List ℕ)
   pub left : Option (List ℕ)
   pub faults : ℕ
 
@@ -20,15 +23,21 @@ abbrev pub NoneLeft : Option (List ℕ) → Type 0
 NoneLeft None = Unit {0}
 NoneLeft (Some rest) = rest ≡ []
 
--- the part is open and has lost nothing
-pub record Begins (old new : PartView) : Type 0 where
+-- a part that tells a name was begun under this one
+abbrev pub IsNamed : List ℕ → PartView → Type 0
+IsNamed name part = IfSome part.name (λ told. told ≡ name)
+
+-- the part is open under this name and has lost nothing
+pub record Begins (name : List ℕ) (old new : PartView) : Type 0 where
   pub stage : new.stage ≡ Begun
+  pub name_is : IsNamed name new
   pub left : new.left ≡ old.left
   pub faults : new.faults ≡ old.faults
 
 -- a call failed at the part and took nothing
 pub record Breaks (old new : PartView) : Type 0 where
   pub stage : new.stage ≡ Broken
+  pub name : new.name ≡ old.name
   pub left : new.left ≡ old.left
   pub faults : old.faults < new.faults
 
@@ -37,11 +46,34 @@ pub record Takes (bytes : List ℕ) (old new : PartView) : Type 0 where
   pub left : old.left ≡ before bytes new.left
   pub stage : new.stage ≡ (if length bytes == 0 then Over else Begun)
   pub end : length bytes ≡ 0 → NoneLeft new.left
+  pub name : new.name ≡ old.name
   pub faults : new.faults ≡ old.faults
 
 -- no other part changed
 abbrev pub Only : Part → (Part → PartView) → (Part → PartView) → Type 0
 Only part old new = (q : Part) → q ≢ part → new q ≡ old q
+
+-- from this part on nothing changed
+abbrev pub SameFrom : Part → (Part → PartView) → (Part → PartView) → Type 0
+SameFrom Platform old new = (new Platform ≡ old Platform) × (new Deployment ≡ old Deployment) × (new Script ≡ old Script)
+SameFrom Deployment old new = (new Deployment ≡ old Deployment) × (new Script ≡ old Script)
+SameFrom Script old new = new Script ≡ old Script
+
+-- some part is broken, and its count rose
+abbrev pub SomeBroke : (Part → PartView) → (Part → PartView) → Type 0
+SomeBroke old new = (part : Part) × ((new part).stage ≡ Broken) × ((old part).faults < (new part).faults)
+
+-- at most so many bytes were taken
+pub record TakesUpTo (most : ℕ) (old new : PartView) : Type 0 where
+  pub bytes : List ℕ
+  pub left : old.left ≡ before bytes new.left
+  pub few : length bytes ≤ most
+
+-- exactly so many bytes were taken
+pub record TakesJust (count : ℕ) (old new : PartView) : Type 0 where
+  pub bytes : List ℕ
+  pub left : old.left ≡ before bytes new.left
+  pub just : length bytes ≡ count
 
 -- these bytes were taken, and they are all or as many as the limit
 pub record ReadsWhole (limit : ℕ) (bytes : List ℕ) (old new : PartView) : Type 0 where
@@ -61,7 +93,7 @@ pub record ReadsFault (limit : ℕ) (old new : PartView) : Type 0 where
 
 -- a part with these bytes, none of them taken
 abbrev pub fresh_view : List ℕ → PartView
-fresh_view bytes = record { stage = Fresh; left = Some bytes; faults = 0 }
+fresh_view bytes = record { stage = Fresh; name = None; left = Some bytes; faults = 0 }
 
 -- a part that tells its bytes goes on telling them
 abbrev pub KeepsTelling : PartView → PartView → Type 0

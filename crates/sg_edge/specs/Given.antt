@@ -1,10 +1,10 @@
 -- What a part has given to a call: its bytes, and whether a call failed behind them.
-use Rattle.std.specs.Prelude.{◌≡◌, ◌≢◌, ◌<◌, ◌≤◌, ◌-◌, ℕ, List, length, take, Some, Bool, true, false}
+use Rattle.std.specs.Prelude.{◌≡◌, ◌≢◌, ◌<◌, ◌≤◌, ◌+◌, ◌-◌, ℕ, List, length, take, Some, Bool, true, false}
 use Rattle.sg_edge.specs.declared.files.Stage.{Stage}
 use Rattle.sg_edge.specs.declared.files.Stage.TheVariants.{Fresh, Begun, Over, Broken}
 use Rattle.sg_edge.specs.declared.loading.Loaded.{Loaded}
 use Rattle.sg_edge.specs.declared.loading.Loaded.TheVariants.{Whole, TooLong, Fault, Memory}
-use Rattle.sg_edge.specs.Files.{PartView}
+use Rattle.sg_edge.specs.Files.{PartView, TakesJust}
 
 -- the bytes of a part, and whether a call failed where they stop
 pub record Source : Type 0 where
@@ -53,3 +53,10 @@ IsFew most (Whole bytes) = length bytes.items ≤ most
 IsFew most TooLong = Unit {0}
 IsFew most Fault = Unit {0}
 IsFew most Memory = Unit {0}
+
+-- of a part that is too long one byte more than the most was taken
+abbrev pub StopsBehind : ℕ → Loaded → PartView → PartView → Type 0
+StopsBehind most (Whole bytes) old new = Unit {0}
+StopsBehind most TooLong old new = TakesJust (most + 1) old new
+StopsBehind most Fault old new = Unit {0}
+StopsBehind most Memory old new = Unit {0}

@@ -1,4 +1,5 @@
 pub mod Calls
+pub mod Cause
 pub mod Files
 pub mod Given
 pub mod MemFiles

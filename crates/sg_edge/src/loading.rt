@@ -2,8 +2,8 @@
 ghost use Rattle.std.specs.Prelude.{◌≡◌, ◌+◌, ◌<◌, ◌^◌, IfOk, IsErrOf};
 ghost use Rattle.sg_edge.specs.declared.files.Stage.TheVariants.{Fresh, Begun};
 ghost use Rattle.sg_edge.specs.declared.loading.ReadError.TheVariants.{Memory, Fault};
-ghost use Rattle.sg_edge.specs.Files.{Only, KeepsTelling, ReadsWhole, ReadsFault};
-ghost use Rattle.sg_edge.specs.Given.{Source, Gives, LoadedIs, FaultIs, IsFew};
+ghost use Rattle.sg_edge.specs.Files.{Only, KeepsTelling, IsNamed, ReadsWhole, ReadsFault, TakesUpTo};
+ghost use Rattle.sg_edge.specs.Given.{Source, Gives, LoadedIs, FaultIs, IsFew, StopsBehind};
 
 use crate::files::{Failed, Files, Part};
 use std::alloc::{AllocError, Global};
@@ -59,6 +59,8 @@ pub fn read_whole<F: Files>(
     ensures whole { IfOk result (λ bytes. ReadsWhole limit bytes.items (F.shows files.old part) (F.shows files.new part)) }
     ensures fault { IsErrOf result Fault → ReadsFault limit (F.shows files.old part) (F.shows files.new part) }
     ensures memory { IsErrOf result Memory → (F.shows files.new part).faults ≡ (F.shows files.old part).faults }
+    ensures most { TakesUpTo limit (F.shows files.old part) (F.shows files.new part) }
+    ensures name { (F.shows files.new part).name ≡ (F.shows files.old part).name }
     ensures telling { KeepsTelling (F.shows files.old part) (F.shows files.new part) }
     ensures others { Only part (F.shows files.old) (F.shows files.new) }
 {
@@ -82,6 +84,9 @@ fn load_begun<F: Files>(alloc: Global, files: &mut F, part: Part, most: usize) -
     ensures given { (source : Source) → Gives (F.shows files.old part) (F.shows files.new part) source → LoadedIs most result source }
     ensures fault { FaultIs result (F.shows files.old part) (F.shows files.new part) }
     ensures few { IsFew most result }
+    ensures most { TakesUpTo (most + 1) (F.shows files.old part) (F.shows files.new part) }
+    ensures stops { StopsBehind most result (F.shows files.old part) (F.shows files.new part) }
+    ensures name { (F.shows files.new part).name ≡ (F.shows files.old part).name }
     ensures telling { KeepsTelling (F.shows files.old part) (F.shows files.new part) }
     ensures others { Only part (F.shows files.old) (F.shows files.new) }
 {
@@ -99,12 +104,17 @@ fn load_begun<F: Files>(alloc: Global, files: &mut F, part: Part, most: usize) -
 }
 
 /// Begins a part under its name and reads it whole, or one byte past the most bytes that it may have.
+///
+/// It never takes more: of a part that is too long, as of one over 16 MiB, one byte more than the most is taken.
 pub fn load<F: Files>(alloc: Global, files: &mut F, part: Part, name: &str, most: usize) -> Loaded
     requires fresh { (F.shows files.old part).stage ≡ Fresh }
     requires most { most + 1 < 2 ^ 64 }
     ensures given { (source : Source) → Gives (F.shows files.old part) (F.shows files.new part) source → LoadedIs most result source }
     ensures fault { FaultIs result (F.shows files.old part) (F.shows files.new part) }
     ensures few { IsFew most result }
+    ensures most { TakesUpTo (most + 1) (F.shows files.old part) (F.shows files.new part) }
+    ensures stops { StopsBehind most result (F.shows files.old part) (F.shows files.new part) }
+    ensures name { IsNamed name.now (F.shows files.new part) }
     ensures telling { KeepsTelling (F.shows files.old part) (F.shows files.new part) }
     ensures others { Only part (F.shows files.old) (F.shows files.new) }
 {

@@ -1,5 +1,5 @@
 //! Three parts in memory, whose calls fail where they are told to.
-ghost use Rattle.std.specs.Prelude.{◌≡◌, ◌+◌, ◌<◌, ◌≤◌, ◌&&◌, length, take, min, not, is_ok, IfOk, OnOk, OnErr};
+ghost use Rattle.std.specs.Prelude.{◌≡◌, ◌+◌, ◌<◌, ◌≤◌, length, take, min, not, is_ok, bytes_eq, IfOk, OnOk, OnErr};
 ghost use Rattle.std.specs.Option.{option_copied};
 ghost use Rattle.sg_edge.specs.declared.files.Stage.TheVariants.{Fresh, Begun};
 ghost use Rattle.sg_edge.specs.Calls.{steps_of};
@@ -13,8 +13,9 @@ use std::alloc::Global;
 
 /// Three parts in memory, some of them maybe not there, whose calls fail where they are told to.
 ///
-/// A call fails exactly where its number is among those to fail, or it begins a part that isn't there. Calls of
-/// `begin` and `read` are counted together from 1. A read takes as many bytes as there are and the buffer holds.
+/// A call fails exactly where its number is among those to fail, or it begins a part that isn't there, or under
+/// another name than its own. The names are `p`, `d` and `s` at first. Calls of `begin` and `read` are counted
+/// together from 1. A read takes as many bytes as there are and the buffer holds.
 #[derive(Drop)]
 pub struct MemFiles {
     platform: MemPart,
@@ -27,7 +28,7 @@ pub struct MemFiles {
 }
 
 impl MemFiles {
-    ghost use Rattle.sg_edge.specs.MemFiles.{calls_of, failing_of, mem_left, StartsAs};
+    ghost use Rattle.sg_edge.specs.MemFiles.{calls_of, failing_of, mem_left, mem_view, name_of, Renames, StartsAs};
 
     /// Parts with these bytes, or none, and the numbers of the calls that are to fail.
     pub fn new(
@@ -44,12 +45,37 @@ impl MemFiles {
         ensures calls { IfOk result (λ m. calls_of m ≡ 0) }
     {
         Ok(MemFiles {
-            platform: MemPart::new(alloc, platform)?,
-            deployment: MemPart::new(alloc, deployment)?,
-            script: MemPart::new(alloc, script)?,
+            platform: MemPart::new(alloc, platform, "p")?,
+            deployment: MemPart::new(alloc, deployment, "d")?,
+            script: MemPart::new(alloc, script, "s")?,
             failing: Vec::from_slice(alloc, failing)?,
             calls: 0,
         })
+    }
+
+    /// Gives a part that isn't begun another name. After `Memory` it has its old one.
+    pub fn rename(&mut self, alloc: Global, part: Part, name: &str) -> Result<(), Memory>
+        requires { (mem_view self.old part).stage ≡ Fresh }
+        ensures renamed { OnOk result (Renames part name.now self.old self.new) }
+        ensures memory { OnErr result (self.new ≡ self.old) }
+    {
+        let name = String::from_str(alloc, name)?;
+        match part {
+            Part::Platform => self.platform.name = name,
+            Part::Deployment => self.deployment.name = name,
+            Part::Script => self.script.name = name,
+        }
+        Ok(())
+    }
+
+    fn is_named(&self, part: Part, name: &str) -> bool
+        ensures { result ≡ bytes_eq (name_of self.now part) name.now }
+    {
+        match part {
+            Part::Platform => self.platform.name.as_str() == name,
+            Part::Deployment => self.deployment.name.as_str() == name,
+            Part::Script => self.script.name.as_str() == name,
+        }
     }
 
     /// The bytes of a part that were not taken.
@@ -65,22 +91,24 @@ impl MemFiles {
 }
 
 impl Files for MemFiles {
-    ghost use Rattle.sg_edge.specs.MemFiles.{mem_view, mem_over, call_fails, is_there, mem_left, CountsCall};
+    ghost use Rattle.sg_edge.specs.MemFiles.{mem_view, mem_over, mem_unnamed, call_fails, can_begin, mem_left, CountsCall};
 
     ghost shows = { mem_view };
 
+    ghost unnamed = { mem_unnamed };
+
     ghost nothing_left = { mem_over };
 
-    fn begin(&mut self, part: Part, _name: &str) -> Result<(), Failed>
+    fn begin(&mut self, part: Part, name: &str) -> Result<(), Failed>
         requires { (mem_view self.old part).stage ≡ Fresh }
-        ensures begun { OnOk result (Begins (mem_view self.old part) (mem_view self.new part)) }
+        ensures begun { OnOk result (Begins name.now (mem_view self.old part) (mem_view self.new part)) }
         ensures failed { OnErr result (Breaks (mem_view self.old part) (mem_view self.new part)) }
         ensures others { Only part (mem_view self.old) (mem_view self.new) }
-        ensures exact { is_ok result ≡ (is_there self.old part && not (call_fails self.old)) }
+        ensures exact { is_ok result ≡ can_begin self.old part name.now }
         ensures counted { CountsCall self.old self.new }
     {
         let call = self.calls + 1;
-        let fails = is_among(&self.failing, call);
+        let fails = is_among(&self.failing, call) || !self.is_named(part, name);
         self.calls = call;
         match part {
             Part::Platform => self.platform.begin(fails),

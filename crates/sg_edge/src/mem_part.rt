@@ -1,5 +1,5 @@
 //! One part in memory.
-ghost use Rattle.std.specs.Prelude.{◌≡◌, ◌+◌, ◌<◌, ◌≤◌, ◌&&◌, length, take, drop, min, not, is_ok, [], unwrap_or, is_some, IfOk, OnOk, OnErr};
+ghost use Rattle.std.specs.Prelude.{◌≡◌, ◌+◌, ◌<◌, ◌≤◌, ◌&&◌, length, take, drop, min, not, is_ok, false, IfOk, OnOk, OnErr, string_bytes};
 ghost use Rattle.std.specs.Option.{option_copied};
 ghost use Rattle.sg_edge.specs.declared.files.Stage.TheVariants.{Fresh, Begun, Over};
 ghost use Rattle.sg_edge.specs.Calls.{steps_of};
@@ -9,22 +9,26 @@ use crate::files::{Failed, Stage};
 use sg_base::Memory;
 use std::alloc::Global;
 
-/// The bytes of a part, how many of them were taken, and whether there is such a part at all.
+/// The bytes of a part and its name, how many bytes were taken, whether it was begun, and whether there is such a
+/// part at all.
 #[derive(Drop)]
 pub struct MemPart {
     pub bytes: Vec<u8>,
+    pub name: String,
     pub there: bool,
+    pub begun: bool,
     pub taken: usize,
     pub stage: Stage,
     ghost in_range: { taken ≤ length bytes.items },
+    ghost unbegun: { stage ≡ Fresh → begun ≡ false },
     ghost ended: { stage ≡ Over → taken ≡ length bytes.items },
 }
 
 impl MemPart {
-    ghost use Rattle.sg_edge.specs.MemFiles.{part_view};
+    ghost use Rattle.sg_edge.specs.MemFiles.{part_view, IsFreshPart};
 
-    pub fn new(alloc: Global, bytes: Option<&[u8]>) -> Result<MemPart, Memory>
-        ensures { IfOk result (λ m. (m.bytes.items ≡ unwrap_or (option_copied bytes.entry) []) × (m.there ≡ is_some bytes.entry) × (m.taken ≡ 0) × (m.stage ≡ Fresh)) }
+    pub fn new(alloc: Global, bytes: Option<&[u8]>, name: &str) -> Result<MemPart, Memory>
+        ensures { IfOk result (IsFreshPart (option_copied bytes.entry) name.now) }
     {
         let (there, items) = match bytes {
             Some(bytes) => (true, Vec::from_slice(alloc, bytes)?),
@@ -32,7 +36,9 @@ impl MemPart {
         };
         Ok(MemPart {
             bytes: items,
+            name: String::from_str(alloc, name)?,
             there,
+            begun: false,
             taken: 0,
             stage: Stage::Fresh,
         })
@@ -40,10 +46,11 @@ impl MemPart {
 
     pub fn begin(&mut self, fails: bool) -> Result<(), Failed>
         requires { self.old.stage ≡ Fresh }
-        ensures begun { OnOk result (Begins (part_view self.old) (part_view self.new)) }
+        ensures begun { OnOk result (Begins (string_bytes self.old.name) (part_view self.old) (part_view self.new)) }
         ensures failed { OnErr result (Breaks (part_view self.old) (part_view self.new)) }
         ensures exact { is_ok result ≡ (self.old.there && not fails) }
         ensures there { self.new.there ≡ self.old.there }
+        ensures name { self.new.name ≡ self.old.name }
         ensures steps { self.old.taken + steps_of self.old.stage + 1 ≤ self.new.taken + steps_of self.new.stage }
     {
         if fails || !self.there {
@@ -51,6 +58,7 @@ impl MemPart {
             return Err(Failed);
         }
         self.stage = Stage::Begun;
+        self.begun = true;
         Ok(())
     }
 
@@ -63,6 +71,7 @@ impl MemPart {
         ensures failed { OnErr result (Breaks (part_view self.old) (part_view self.new)) }
         ensures exact { is_ok result ≡ not fails }
         ensures there { self.new.there ≡ self.old.there }
+        ensures name { self.new.name ≡ self.old.name }
         ensures steps { self.old.taken + steps_of self.old.stage + 1 ≤ self.new.taken + steps_of self.new.stage }
     {
         if fails {

@@ -8,7 +8,8 @@ use crate::mem_part::MemPart;
 use sg_base::Memory;
 use std::alloc::Global;
 
-/// Three parts in memory that are all there. No call of them ever fails.
+/// Three parts in memory that are all there. No call of them ever fails: each can be begun under any name, and
+/// doesn't tell which.
 #[derive(Drop)]
 pub struct SureFiles {
     platform: MemPart,
@@ -35,23 +36,25 @@ impl SureFiles {
         ensures script { IfOk result (λ m. sure_view m Part.Script ≡ fresh_view script.now) }
     {
         Ok(SureFiles {
-            platform: MemPart::new(alloc, Some(platform))?,
-            deployment: MemPart::new(alloc, Some(deployment))?,
-            script: MemPart::new(alloc, Some(script))?,
+            platform: MemPart::new(alloc, Some(platform), "p")?,
+            deployment: MemPart::new(alloc, Some(deployment), "d")?,
+            script: MemPart::new(alloc, Some(script), "s")?,
         })
     }
 }
 
 impl Files for SureFiles {
-    ghost use Rattle.sg_edge.specs.SureFiles.{sure_left, sure_view, sure_over};
+    ghost use Rattle.sg_edge.specs.SureFiles.{sure_left, sure_view, sure_over, sure_unnamed};
 
     ghost shows = { sure_view };
 
+    ghost unnamed = { sure_unnamed };
+
     ghost nothing_left = { sure_over };
 
-    fn begin(&mut self, part: Part, _name: &str) -> Result<(), Failed>
+    fn begin(&mut self, part: Part, name: &str) -> Result<(), Failed>
         requires { (sure_view self.old part).stage ≡ Fresh }
-        ensures begun { OnOk result (Begins (sure_view self.old part) (sure_view self.new part)) }
+        ensures begun { OnOk result (Begins name.now (sure_view self.old part) (sure_view self.new part)) }
         ensures failed { OnErr result (Breaks (sure_view self.old part) (sure_view self.new part)) }
         ensures others { Only part (sure_view self.old) (sure_view self.new) }
         ensures sure { IsOk result }

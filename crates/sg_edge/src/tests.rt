@@ -1,8 +1,9 @@
 //! What no clause says: that memory suffices, and calls over whole texts.
 use crate::{
-    Failed, Files, Loaded, MemFiles, MemSinks, Part, Sinks, Stream, SureFiles, SureSinks, load,
-    write_all,
+    Failed, Files, Loaded, MemFiles, MemSinks, Part, Sinks, Stage, Stream, SureFiles, SureSinks,
+    load, write_all,
 };
+use std::alloc::Global;
 use std::test::Fail;
 
 #[test]
@@ -14,6 +15,46 @@ fn a_read_fails_in_mid_stream(rt: HostRuntime) -> Result<(), Fail> {
     assert_eq!(rt; buf.as_slice(), b"p0 compute".as_slice());
     assert_eq!(rt; files.read(Part::Script, &mut buf), Err(Failed));
     assert_eq!(rt; files.left(Part::Script), b" 1e9\n".as_slice());
+    Ok(())
+}
+
+/// Names, and whether a script of the first name can be begun under the second.
+const NAMES: [(&str, &str, bool); 6] = [
+    ("s", "s", true),
+    ("s", "", false),
+    ("s", "d", false),
+    ("s", "-", false),
+    ("-", "-", true),
+    ("-", "s", false),
+];
+
+// Whether a script of its own name can be begun under another, and the stage in which it is left.
+fn begun(alloc: Global, own: &str, name: &str) -> Result<(bool, Stage), Fail> {
+    let mut files = MemFiles::new(alloc, None, None, Some(b""), &[])?;
+    files.rename(alloc, Part::Script, own)?;
+    let done = files.begin(Part::Script, name).is_ok();
+    Ok((done, files.stage(Part::Script)))
+}
+
+#[test]
+fn a_script_is_begun_under_its_name_alone(rt: HostRuntime) -> Result<(), Fail> {
+    for (own, name, begins) in NAMES {
+        let stage = if begins { Stage::Begun } else { Stage::Broken };
+        assert_eq!(rt;
+            begun(rt.alloc(), own, name)?,
+            (begins, stage),
+            "for {name}"
+        );
+    }
+    Ok(())
+}
+
+#[test]
+fn a_deployment_is_no_platform(rt: HostRuntime) -> Result<(), Fail> {
+    let mut files = MemFiles::new(rt.alloc(), Some(b""), Some(b""), None, &[])?;
+    assert_eq!(rt; files.begin(Part::Platform, "d"), Err(Failed));
+    let mut files = MemFiles::new(rt.alloc(), Some(b""), Some(b""), None, &[])?;
+    assert_eq!(rt; files.begin(Part::Deployment, "d"), Ok(()));
     Ok(())
 }
 

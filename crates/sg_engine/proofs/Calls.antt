@@ -8,7 +8,8 @@ use Rattle.sg_base.specs.declared.trace_record.Record.{Record}
 use Rattle.sg_base.specs.Mind.{Mind}
 use Rattle.sg_edge.specs.Files.{PartView}
 use Rattle.sg_edge.specs.declared.files.Stage.TheVariants.{Fresh, Broken}
-use Rattle.sg_kernel.specs.World.{Setup, Core, World}
+use Rattle.sg_kernel.specs.World.{Setup, Core}
+use Rattle.sg_engine.specs.World.{World}
 use Rattle.sg_kernel.specs.Calls.{answered, told}
 use Rattle.sg_kernel.specs.Steps.{Step}
 use Rattle.sg_kernel.specs.Known.{Known, after}
@@ -26,13 +27,13 @@ use Rattle.sg_engine.specs.declared.ended.Ended.TheVariants as ended
 use Rattle.sg_engine.specs.Listed.{calls_of}
 use Rattle.sg_engine.specs.Run.{Scene, scene, Answering, Progress, at_world, and_then, ended_by, in_world, ask, is_ask, tells, one_call}
 use Rattle.sg_engine.specs.Reached.{Moment, moment, moment_of, Fits, StandsFor, Reached, CutOff, ending, script_part}
-use Rattle.sg_engine.proofs.Reaching.{matched_as, reached_then, reached_as, rest_as, goes_on_to, ends_at, stands_as}
+use Rattle.sg_engine.proofs.Reaching.{matched_as, reached_then, reached_as, reached_spent, rest_as, goes_on_to, ends_at, stands_as}
 
 -- ---- one call
 -- a step of the kernel, for which nothing of the script was read
-pub stepped : (names : Names) (taken : List ℕ) (minds : List Mind) (part : PartView) (kept : Kept) (old new : Known) (room : ℕ) (world : World) (step : Core → Step) (how : Option Ended) →
+pub stepped : (names : Names) (taken : List ℕ) (minds : List (Option Mind)) (part : PartView) (kept : Kept) (old new : Known) (room : ℕ) (world : World) (step : Core → Step) (how : Option Ended) →
     part.stage ≢ Fresh → StandsFor names taken minds (moment part kept old) world → new ≡ record (after (step old.core) old) { room = room } → how ≡ option_map ended_by (step old.core).stop →
-    Reached names (λ answers. in_world world (step world.core)) (ending how) taken minds (moment part kept old) (moment part kept new)
+    Reached world.work names (λ answers. in_world world (step world.core)) (ending how) taken minds (moment part kept old) (moment part kept new)
 stepped names taken minds part kept old new room world step how begun stands is ends =
     let led : World = record world { core = (step world.core).core } in
     let core : new.core ≡ led.core = ap (λ (k : Known). k.core) is ∙ ap (λ (c : Core). (step c).core) stands.core in
@@ -43,6 +44,7 @@ stepped names taken minds part kept old new room world step how begun stands is 
       setup = ap (λ (k : Known). k.setup) is;
       world = led;
       stands = stands_as names taken (taken ++ []) minds (moment part kept new) led (sym (append-nil taken)) (record { script = stands.script; core = core; minds = stands.minds });
+      work = refl;
       made = (step world.core).made;
       records = ap (λ (k : Known). k.records) is ∙ ap (λ (c : Core). old.records ++ (step c).made) stands.core;
       is = λ source goes.
@@ -51,15 +53,16 @@ stepped names taken minds part kept old new room world step how begun stands is 
     }
 
 -- the budget is used up: nothing happens
-pub used_up : (names : Names) (taken : List ℕ) (minds : List Mind) (part : PartView) (kept : Kept) (known : Known) (world : World) (actor : ℕ) →
+pub used_up : (names : Names) (taken : List ℕ) (minds : List (Option Mind)) (part : PartView) (kept : Kept) (known : Known) (world : World) (actor : ℕ) →
     part.stage ≢ Fresh → StandsFor names taken minds (moment part kept known) world → (known.core.events == known.setup.budget) ≡ true →
-    Reached names (λ answers. ask known.setup answers actor world) (ending (Some ended.Budget)) taken minds (moment part kept known) (moment part kept known)
+    Reached world.work names (λ answers. ask known.setup answers actor world) (ending (Some ended.Budget)) taken minds (moment part kept known) (moment part kept known)
 used_up names taken minds part kept known world actor begun stands used = record {
   piece = [];
   reads = reads_none part begun;
   setup = refl;
   world = world;
   stands = stands_as names taken (taken ++ []) minds (moment part kept known) world (sym (append-nil taken)) stands;
+  work = refl;
   made = [];
   records = sym (append-nil known.records);
   is = λ source goes.
@@ -68,15 +71,16 @@ used_up names taken minds part kept known world actor begun stands used = record
 }
 
 -- the script has answered an Ask
-abbrev pub asked_to : (names : Names) (taken : List ℕ) (minds : List Mind) (part part' : PartView) (kept kept' : Kept) (known : Known) (world : World) (actor : ℕ) (answer : Result (Option Action) ScriptFault) →
+abbrev pub asked_to : (names : Names) (taken : List ℕ) (minds : List (Option Mind)) (part part' : PartView) (kept kept' : Kept) (known : Known) (world : World) (actor : ℕ) (answer : Result (Option Action) ScriptFault) →
     StandsFor names taken minds (moment part kept known) world → (known.core.events == known.setup.budget) ≡ false → IsAsked names taken world.asks actor answer part part' kept' →
-    Reached names (λ answers. ask known.setup answers actor world) (λ answers w. tells known.setup actor answer w) taken minds (moment part kept known) (moment part' kept' known)
+    Reached world.work names (λ answers. ask known.setup answers actor world) (λ answers w. tells known.setup actor answer w) taken minds (moment part kept known) (moment part' kept' known)
 asked_to names taken minds part part' kept kept' known world actor answer stands unused is_asked = record {
   piece = is_asked.piece;
   reads = is_asked.reads;
   setup = refl;
   world = record world { asks = one_more actor world.asks };
   stands = record { script = is_asked.stands; core = stands.core; minds = stands.minds };
+  work = refl;
   made = [];
   records = sym (append-nil known.records);
   is = λ source goes.
@@ -88,10 +92,10 @@ asked_to names taken minds part part' kept kept' known world actor answer stands
 }
 
 -- and the kernel has told it to the actor
-pub told_to : (names : Names) (taken : List ℕ) (minds : List Mind) (part part' : PartView) (kept kept' : Kept) (old new : Known) (room : ℕ) (world : World) (actor : ℕ) (action : Option Action) (how : Option Ended) →
+pub told_to : (names : Names) (taken : List ℕ) (minds : List (Option Mind)) (part part' : PartView) (kept kept' : Kept) (old new : Known) (room : ℕ) (world : World) (actor : ℕ) (action : Option Action) (how : Option Ended) →
     StandsFor names taken minds (moment part kept old) world → (old.core.events == old.setup.budget) ≡ false → IsAsked names taken world.asks actor (Ok action) part part' kept' →
     new ≡ record (after (told old.setup old.core actor action) old) { room = room } → how ≡ option_map ended_by (told old.setup old.core actor action).stop →
-    Reached names (λ answers. ask old.setup answers actor world) (ending how) taken minds (moment part kept old) (moment part' kept' new)
+    Reached world.work names (λ answers. ask old.setup answers actor world) (ending how) taken minds (moment part kept old) (moment part' kept' new)
 told_to names taken minds part part' kept kept' old new room world actor action how stands unused is_asked is ends =
     let first = asked_to names taken minds part part' kept kept' old world actor (Ok action) stands unused is_asked in
     let step : Core → Step = λ c. told old.setup c actor action in
@@ -100,13 +104,13 @@ told_to names taken minds part part' kept kept' old new room world actor action 
 
 -- ---- who answers
 -- the script answers an Ask
-pub script_answers : {E : Type 0} (script : Bool) (names : Names) (roads : Roads) (setup : Setup) (actor : ℕ) (what : Call) (taken : List ℕ) (minds : List Mind) (world : World) (part part' : PartView) (reader reader' : Script) (old new : Known) (result : Result (Option Ended) E) →
+pub script_answers : {E : Type 0} (script : Bool) (names : Names) (roads : Roads) (setup : Setup) (actor : ℕ) (what : Call) (taken : List ℕ) (minds : List (Option Mind)) (world : World) (part part' : PartView) (reader reader' : Script) (old new : Known) (result : Result (Option Ended) E) →
     (script && is_ask what) ≡ true →
-    (StandsFor names taken minds (moment part (kept_of reader) old) world → MatchResult result (λ how. Reached names (λ answers. ask setup answers actor world) (ending how) taken minds (moment part (kept_of reader) old) (moment part' (kept_of reader') new)) (λ _. CutOff part part')) →
+    (StandsFor names taken minds (moment part (kept_of reader) old) world → MatchResult result (λ how. Reached world.work names (λ answers. ask setup answers actor world) (ending how) taken minds (moment part (kept_of reader) old) (moment part' (kept_of reader') new)) (λ _. CutOff part part')) →
     StandsFor names taken minds (moment_of script part reader old) world →
-    MatchResult result (λ how. Reached names (λ answers. one_call (scene roads setup script) answers actor what world) (ending how) taken minds (moment_of script part reader old) (moment_of script part' reader' new)) (λ _. CutOff (script_part script part) (script_part script part'))
+    MatchResult result (λ how. Reached world.work names (λ answers. one_call (scene roads setup script) answers actor what world) (ending how) taken minds (moment_of script part reader old) (moment_of script part' reader' new)) (λ _. CutOff (script_part script part) (script_part script part'))
 script_answers true names roads setup actor what taken minds world part part' reader reader' old new result is step stands =
-    matched_as result names (λ answers. ask setup answers actor world) (λ answers. one_call (scene roads setup true) answers actor what world) taken minds _ _ _
+    matched_as world.work result names (λ answers. ask setup answers actor world) (λ answers. one_call (scene roads setup true) answers actor what world) taken minds _ _ _
     (λ answers. ap (λ (b : Bool). cond b (ask setup answers actor world) (in_world world (answered roads setup world.core actor what))) is) (step stands)
 script_answers false names roads setup actor what taken minds world part part' reader reader' old new result is step stands = absurd (cc is)
 
@@ -147,30 +151,32 @@ abbrev at_place : Scene → ActorCall → World → Answering → Progress
 at_place at made world answers = one_call at answers made.actor.0 made.call world
 
 -- one more call was answered, and the run goes on
-pub one_more_call : (names : Names) (whole : Answering → Progress) (roads : Roads) (setup : Setup) (script : Bool) (calls : List ActorCall) (i : ℕ) (d : ActorCall) (taken : List ℕ) (minds : List Mind) (old mid new : Moment) → i < length calls → mid.kernel.setup ≡ setup →
-    (first : Reached names whole (rest_from (scene roads setup script) calls i) taken minds old mid) → Reached names (λ answers. one_call (scene roads mid.kernel.setup script) answers (get_or calls i d).actor.0 (get_or calls i d).call first.world) (ending None) (taken ++ first.piece) minds mid new →
-    Reached names whole (rest_from (scene roads setup script) calls (i + 1)) taken minds old new
-one_more_call names whole roads setup script calls i d taken minds old mid new within same first step =
-    let here : Reached names (at_place (scene roads setup script) (get_or calls i d) first.world) (ending None) (taken ++ first.piece) minds mid new =
-    subst (λ (s : Setup). Reached names (at_place (scene roads s script) (get_or calls i d) first.world) (ending None) (taken ++ first.piece) minds mid new) same step in
-    reached_then names whole (rest_from (scene roads setup script) calls i) (rest_from (scene roads setup script) calls (i + 1)) taken minds minds old mid new first
+pub one_more_call : {spent : ℕ} (names : Names) (whole : Answering → Progress) (roads : Roads) (setup : Setup) (script : Bool) (calls : List ActorCall) (i : ℕ) (d : ActorCall) (taken : List ℕ) (minds : List (Option Mind)) (old mid new : Moment) → i < length calls → mid.kernel.setup ≡ setup →
+    (first : Reached spent names whole (rest_from (scene roads setup script) calls i) taken minds old mid) → Reached first.world.work names (λ answers. one_call (scene roads mid.kernel.setup script) answers (get_or calls i d).actor.0 (get_or calls i d).call first.world) (ending None) (taken ++ first.piece) minds mid new →
+    Reached spent names whole (rest_from (scene roads setup script) calls (i + 1)) taken minds old new
+one_more_call {spent} names whole roads setup script calls i d taken minds old mid new within same first step =
+    let here : Reached first.world.work names (at_place (scene roads setup script) (get_or calls i d) first.world) (ending None) (taken ++ first.piece) minds mid new =
+    subst (λ (s : Setup). Reached first.world.work names (at_place (scene roads s script) (get_or calls i d) first.world) (ending None) (taken ++ first.piece) minds mid new) same step in
+    reached_spent first.world.work spent names whole (rest_from (scene roads setup script) calls (i + 1)) taken minds old new first.work
+    (reached_then names whole (rest_from (scene roads setup script) calls i) (rest_from (scene roads setup script) calls (i + 1)) taken minds minds old mid new first
     (reached_as names _ (λ answers. rest_from (scene roads setup script) calls i answers first.world) (rest_from (scene roads setup script) calls (i + 1)) (taken ++ first.piece) minds mid new (λ answers. calls_more (scene roads setup script) answers calls i d first.world within)
-    (goes_on_to names (at_place (scene roads setup script) (get_or calls i d) first.world) (rest_from (scene roads setup script) calls (i + 1)) (taken ++ first.piece) minds mid new here))
+    (goes_on_to names (at_place (scene roads setup script) (get_or calls i d) first.world) (rest_from (scene roads setup script) calls (i + 1)) (taken ++ first.piece) minds mid new here)))
 
 -- one more call was answered, and the run has ended
-pub last_call : (names : Names) (whole : Answering → Progress) (roads : Roads) (setup : Setup) (script : Bool) (calls : List ActorCall) (i : ℕ) (d : ActorCall) (how : Ended) (taken : List ℕ) (minds : List Mind) (old mid new : Moment) → i < length calls → mid.kernel.setup ≡ setup →
-    (first : Reached names whole (rest_from (scene roads setup script) calls i) taken minds old mid) → Reached names (λ answers. one_call (scene roads mid.kernel.setup script) answers (get_or calls i d).actor.0 (get_or calls i d).call first.world) (ending (Some how)) (taken ++ first.piece) minds mid new →
-    Reached names whole (ending (Some how)) taken minds old new
-last_call names whole roads setup script calls i d how taken minds old mid new within same first step =
-    let here : Reached names (at_place (scene roads setup script) (get_or calls i d) first.world) (ending (Some how)) (taken ++ first.piece) minds mid new =
-    subst (λ (s : Setup). Reached names (at_place (scene roads s script) (get_or calls i d) first.world) (ending (Some how)) (taken ++ first.piece) minds mid new) same step in
-    reached_then names whole (rest_from (scene roads setup script) calls i) (ending (Some how)) taken minds minds old mid new first
+pub last_call : {spent : ℕ} (names : Names) (whole : Answering → Progress) (roads : Roads) (setup : Setup) (script : Bool) (calls : List ActorCall) (i : ℕ) (d : ActorCall) (how : Ended) (taken : List ℕ) (minds : List (Option Mind)) (old mid new : Moment) → i < length calls → mid.kernel.setup ≡ setup →
+    (first : Reached spent names whole (rest_from (scene roads setup script) calls i) taken minds old mid) → Reached first.world.work names (λ answers. one_call (scene roads mid.kernel.setup script) answers (get_or calls i d).actor.0 (get_or calls i d).call first.world) (ending (Some how)) (taken ++ first.piece) minds mid new →
+    Reached spent names whole (ending (Some how)) taken minds old new
+last_call {spent} names whole roads setup script calls i d how taken minds old mid new within same first step =
+    let here : Reached first.world.work names (at_place (scene roads setup script) (get_or calls i d) first.world) (ending (Some how)) (taken ++ first.piece) minds mid new =
+    subst (λ (s : Setup). Reached first.world.work names (at_place (scene roads s script) (get_or calls i d) first.world) (ending (Some how)) (taken ++ first.piece) minds mid new) same step in
+    reached_spent first.world.work spent names whole (ending (Some how)) taken minds old new first.work
+    (reached_then names whole (rest_from (scene roads setup script) calls i) (ending (Some how)) taken minds minds old mid new first
     (reached_as names _ (λ answers. rest_from (scene roads setup script) calls i answers first.world) (ending (Some how)) (taken ++ first.piece) minds mid new (λ answers. calls_more (scene roads setup script) answers calls i d first.world within)
-    (ends_at names (at_place (scene roads setup script) (get_or calls i d) first.world) (rest_from (scene roads setup script) calls (i + 1)) how (taken ++ first.piece) minds mid new here))
+    (ends_at names (at_place (scene roads setup script) (get_or calls i d) first.world) (rest_from (scene roads setup script) calls (i + 1)) how (taken ++ first.piece) minds mid new here)))
 
 -- no call is left
-pub all_called : (names : Names) (whole : Answering → Progress) (at : Scene) (calls : List ActorCall) (i : ℕ) (taken : List ℕ) (minds : List Mind) (old new : Moment) → length calls ≤ i →
-    Reached names whole (rest_from at calls i) taken minds old new → Reached names whole (ending None) taken minds old new
+pub all_called : {spent : ℕ} (names : Names) (whole : Answering → Progress) (at : Scene) (calls : List ActorCall) (i : ℕ) (taken : List ℕ) (minds : List (Option Mind)) (old new : Moment) → length calls ≤ i →
+    Reached spent names whole (rest_from at calls i) taken minds old new → Reached spent names whole (ending None) taken minds old new
 all_called names whole at calls i taken minds old new past reached = rest_as names whole (rest_from at calls i) (ending None) taken minds old new (λ answers world. calls_none at answers calls i world past) reached
 
 -- memory was wanting at a later call

@@ -15,7 +15,7 @@ use Rattle.sg_platform.specs.declared.rows.ActorRow.{ActorRow}
 use Rattle.sg_platform.specs.declared.rows.Function.{Function}
 use Rattle.sg_platform.specs.declared.rows.Function.TheVariants.{Replay, Worker, Master, Churn}
 use Rattle.sg_engine.specs.Roles.{role_of, minds_from}
-use Rattle.sg_engine.specs.Seated.{held, minds_of, IsSeated}
+use Rattle.sg_engine.specs.Seated.{mind_in, minds_of, IsSeated}
 
 pub seated_first : (extent : Extent) (o : Option Mind) (m : Mind) → o ≡ Some m → IsMind extent m → IsSeated extent (record { mind = o; inbox = Start; outbox = Ask; ready = false })
 seated_first extent o m is limited = subst (λ (v : Option Mind). IsSeated extent (record { mind = v; inbox = Start; outbox = Ask; ready = false })) (sym is) (record { cast = refl; limited = (limited, tt, tt); rests = refl })
@@ -33,21 +33,21 @@ function_is extent me Worker from to is = (from, to)
 function_is extent me (Master tasks flops bytes workers) from to is = (is.1, is.2, is.3, is.5)
 function_is extent me (Churn seed next prev steps) from to is = ((from, to), is.1, is.2)
 
-minds_next : (me : ℕ) (rows : List ActorRow) (i : ℕ) (d : ActorRow) → i < length rows → minds_from me (take (suc i) rows) ≡ minds_from me (take i rows) ++ mind_of (role_of (me + i) (get_or rows i d).function) ∷ []
+minds_next : (me : ℕ) (rows : List ActorRow) (i : ℕ) (d : ActorRow) → i < length rows → minds_from me (take (suc i) rows) ≡ minds_from me (take i rows) ++ Some (mind_of (role_of (me + i) (get_or rows i d).function)) ∷ []
 minds_next me [] i d within = absurd (omega (arith, within))
-minds_next me (row ∷ rows) zero d within = let same : me ≡ me + 0 = omega arith in ap (λ (n : ℕ). mind_of (role_of n row.function) ∷ []) same
+minds_next me (row ∷ rows) zero d within = let same : me ≡ me + 0 = omega arith in ap (λ (n : ℕ). Some (mind_of (role_of n row.function)) ∷ []) same
 minds_next me (row ∷ rows) (suc i) d within =
     let same : me + 1 + i ≡ me + suc i = omega arith in
-    ap (λ (l : List Mind). mind_of (role_of me row.function) ∷ l) (minds_next (me + 1) rows i d (omega (arith, within)) ∙ ap (λ (n : ℕ). minds_from (me + 1) (take i rows) ++ mind_of (role_of n (get_or rows i d).function) ∷ []) same)
+    ap (λ (l : List (Option Mind)). Some (mind_of (role_of me row.function)) ∷ l) (minds_next (me + 1) rows i d (omega (arith, within)) ∙ ap (λ (n : ℕ). minds_from (me + 1) (take i rows) ++ Some (mind_of (role_of n (get_or rows i d).function)) ∷ []) same)
 
 -- one actor more
-pub minds_more : (rows : List ActorRow) (i : ℕ) (row : ActorRow) → i < length rows → row ≡ get_or rows i row → minds_from 1 (take (i + 1) rows) ≡ minds_from 1 (take i rows) ++ mind_of (role_of (i + 1) row.function) ∷ []
+pub minds_more : (rows : List ActorRow) (i : ℕ) (row : ActorRow) → i < length rows → row ≡ get_or rows i row → minds_from 1 (take (i + 1) rows) ≡ minds_from 1 (take i rows) ++ Some (mind_of (role_of (i + 1) row.function)) ∷ []
 minds_more rows i row within is =
     let next : i + 1 ≡ suc i = omega arith in
     let me : 1 + i ≡ i + 1 = omega arith in
     ap (λ (n : ℕ). minds_from 1 (take n rows)) next
     ∙ minds_next 1 rows i row within
-    ∙ ap₂ (λ (n : ℕ) (r : ActorRow). minds_from 1 (take i rows) ++ mind_of (role_of n r.function) ∷ []) me (sym is)
+    ∙ ap₂ (λ (n : ℕ) (r : ActorRow). minds_from 1 (take i rows) ++ Some (mind_of (role_of n r.function)) ∷ []) me (sym is)
 
 pub function_of : (extent : Extent) (actors rows : List ActorRow) (i : ℕ) (row : ActorRow) → i < length rows → row ≡ get_or rows i row → rows ≡ actors → All (λ actor. IsFunction extent actor.function) actors → IsFunction extent row.function
 function_of extent actors rows i row within is same all =
@@ -62,12 +62,12 @@ pub the_last : {X : Type 0} (P : X → Type 0) (all front : List X) (last : X) �
 the_last P all front last is each =
     subst P (get_or-append_seam front last [] last) (subst (All P) is each (length front) last (omega (arith, length-append front (last ∷ []))))
 
-pub seats_more : {S : Type 0} (see : S → Place) (items items' : List S) (s : S) (minds : List Mind) (m : Mind) → items' ≡ items ++ s ∷ [] → minds_of (map see items) ≡ minds → held (see s) ≡ m → minds_of (map see items') ≡ minds ++ m ∷ []
+pub seats_more : {S : Type 0} (see : S → Place) (items items' : List S) (s : S) (minds : List (Option Mind)) (m : Option Mind) → items' ≡ items ++ s ∷ [] → minds_of (map see items) ≡ minds → mind_in (see s) ≡ m → minds_of (map see items') ≡ minds ++ m ∷ []
 seats_more {S} see items items' s minds m is before mine =
     ap (λ (l : List S). minds_of (map see l)) is
     ∙ ap minds_of (map-append see items (s ∷ []))
-    ∙ map-append held (map see items) (see s ∷ [])
-    ∙ ap₂ (λ (l : List Mind) (n : Mind). l ++ n ∷ []) before mine
+    ∙ map-append mind_in (map see items) (see s ∷ [])
+    ∙ ap₂ (λ (l : List (Option Mind)) (n : Option Mind). l ++ n ∷ []) before mine
 
 pub all_seated_more : {S : Type 0} (see : S → Place) (extent : Extent) (items items' : List S) (s : S) → items' ≡ items ++ s ∷ [] → All (IsSeated extent) (map see items) → IsSeated extent (see s) → All (IsSeated extent) (map see items')
 all_seated_more see extent items items' s is before mine =

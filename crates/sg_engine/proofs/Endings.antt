@@ -1,5 +1,5 @@
 -- From what a run has come to, to what it has written in all.
-use Rattle.std.proofs.Common.{◌≡◌, ◌≢◌, ◌∙◌, ap, sym, subst, refl, ℕ, List, [], ◌++◌, Bool, true, false, IsTrue, Option, None, Some}
+use Rattle.std.proofs.Common.{◌≡◌, ◌≢◌, ◌≤◌, ◌+◌, ◌∙◌, ap, sym, subst, refl, ℕ, List, [], ◌++◌, Bool, true, false, IsTrue, Option, None, Some}
 use Rattle.std.proofs.lemmas.List.{append-nil}
 use Rattle.std.specs.Prelude.{MatchBool, IsSome}
 use Rattle.sg_edge.specs.declared.sinks.Stream.{Stream}
@@ -19,9 +19,8 @@ use Rattle.sg_script.proofs.Whole.{given_goes_on}
 use Rattle.sg_engine.specs.declared.ended.Ended.{Ended}
 use Rattle.sg_engine.specs.declared.show.Show.{Show}
 use Rattle.sg_engine.specs.Gains.{is_cut, Ends, GainsAll, GainsFronts, IsBroken}
-use Rattle.sg_engine.specs.Output.{trace_of, last_lines, fault_line, written_of, run_output, scene_of}
+use Rattle.sg_engine.specs.Output.{first_of, trace_of, last_lines, fault_line, written_of, run_output, scene_of}
 use Rattle.sg_engine.specs.Reached.{script_part}
-use Rattle.sg_engine.specs.Roles.{first_minds}
 use Rattle.sg_engine.specs.Run.{Progress, run_of}
 use Rattle.sg_engine.specs.Simulated.{CutsOff, IsOver}
 use Rattle.sg_engine.proofs.Fronts.{front_more, fronts_out, fronts_behind, all_behind}
@@ -36,15 +35,23 @@ ends_by : (b : Bool) (front out err : List ℕ) (how result : Ended) (old mid ne
 ends_by true front out err how result old mid new wrote same ends = fronts_behind front out err old mid new wrote same ends
 ends_by false front out err how result old mid new wrote same ends = (ends.0, all_behind front out err old mid new wrote same ends.1)
 
-pub run_ends : (platform : Platform) (deployed : Deployed) (script : Bool) (budget : ℕ) (show : Show) (how result : Ended) (core : Core) (p0 p1 : PartView) (old mid new : Stream → Option (List ℕ)) (source : Source) → Going p0 p1 source →
-    IsOver (known_in deployed) (trace_of show platform deployed) (run_of (scene_of platform deployed script budget) (first_minds deployed)) how core p0 p1 (old Out) (mid Out) → mid Err ≡ old Err →
+pub run_ends : (start count : ℕ) (platform : Platform) (deployed : Deployed) (script : Bool) (budget : ℕ) (show : Show) (how result : Ended) (core : Core) (p0 p1 : PartView) (old mid new : Stream → Option (List ℕ)) (source : Source) → Going p0 p1 source →
+    IsOver start count (known_in deployed) (trace_of show platform deployed) (run_of (scene_of platform deployed script budget) (first_of platform deployed budget)) how core p0 p1 (old Out) (mid Out) → mid Err ≡ old Err →
     Ends (last_lines show platform deployed budget core how) (fault_line platform how) how result mid new → let want = run_output platform deployed script budget show source in Ends want.out want.err want.ended result old new
-run_ends platform deployed script budget show how result core p0 p1 old mid new source going over same ends =
+run_ends start count platform deployed script budget show how result core p0 p1 old mid new source going over same ends =
     let trace = trace_of show platform deployed over.made in
     let last : Ends (last_lines show platform deployed budget over.world.core how) (fault_line platform how) how result mid new = subst (λ (c : Core). Ends (last_lines show platform deployed budget c how) (fault_line platform how) how result mid new) over.core_is ends in
     let all : Ends (trace ++ last_lines show platform deployed budget over.world.core how) (fault_line platform how) how result old new = ends_by (is_cut result) trace (last_lines show platform deployed budget over.world.core how) (fault_line platform how) how result old mid new over.printed same last in
     let written : Progress → Type 0 = λ p. Ends (written_of show platform deployed budget p).out (written_of show platform deployed budget p).err (written_of show platform deployed budget p).ended result old new in
     subst written (sym (over.is source (going over.piece over.reads))) all
+
+-- the work of a run that has come to its end
+pub run_work : (start count : ℕ) (platform : Platform) (deployed : Deployed) (script : Bool) (budget : ℕ) (show : Show) (how : Ended) (core : Core) (p0 p1 : PartView) (before after : Option (List ℕ)) (source : Source) → Going p0 p1 source →
+    IsOver start count (known_in deployed) (trace_of show platform deployed) (run_of (scene_of platform deployed script budget) (first_of platform deployed budget)) how core p0 p1 before after →
+    start + (run_output platform deployed script budget show source).work ≤ count
+run_work start count platform deployed script budget show how core p0 p1 before after source going over =
+    let spent : Progress → Type 0 = λ p. start + p.world.work ≤ count in
+    subst spent (sym (over.is source (going over.piece over.reads))) over.worked
 
 cut_by : (b : Bool) (out err : List ℕ) (want how : Ended) (old new : Stream → Option (List ℕ)) → b ≡ true → GainsFronts out err old new → MatchBool b (GainsFronts out err old new) ((want ≡ how) × GainsAll out err old new)
 cut_by true out err want how old new is fronts = fronts
@@ -52,10 +59,10 @@ cut_by false out err want how old new is fronts = absurd (cc is)
 
 -- a run that was cut off
 pub run_cut : (platform : Platform) (deployed : Deployed) (script : Bool) (budget : ℕ) (show : Show) (how : Ended) (p0 p1 : PartView) (old new : Stream → Option (List ℕ)) (source : Source) → Going p0 p1 source → is_cut how ≡ true →
-    CutsOff (known_in deployed) (trace_of show platform deployed) (run_of (scene_of platform deployed script budget) (first_minds deployed)) [] p0 p1 (old Out) (new Out) → new Err ≡ old Err → let want = run_output platform deployed script budget show source in Ends want.out want.err want.ended how old new
+    CutsOff (known_in deployed) (trace_of show platform deployed) (run_of (scene_of platform deployed script budget) (first_of platform deployed budget)) [] p0 p1 (old Out) (new Out) → new Err ≡ old Err → let want = run_output platform deployed script budget show source in Ends want.out want.err want.ended how old new
 run_cut platform deployed script budget show how p0 p1 old new source going is cut same =
     let want = run_output platform deployed script budget show source in
-    let made = (run_of (scene_of platform deployed script budget) (first_minds deployed) (asked (known_in deployed) source)).made in
+    let made = (run_of (scene_of platform deployed script budget) (first_of platform deployed budget) (asked (known_in deployed) source)).made in
     let front = front_more (trace_of show platform deployed made) _ (old Out) (new Out) (cut.front source (going cut.piece cut.reads)) in
     cut_by (is_cut how) want.out want.err want.ended how old new is (fronts_out want.out want.err old new front same)
 
@@ -68,6 +75,10 @@ left_told piece a (Some rest) is some = refl
 pub goes_on_telling : (script : Bool) (piece : List ℕ) (old new : PartView) → Reads piece (script_part script old) (script_part script new) → (script ≡ false → new ≡ old) → KeepsTelling old new
 goes_on_telling true piece old new reads same = left_told piece old.left new.left reads.left
 goes_on_telling false piece old new reads same = λ some. subst (λ (p : PartView). IsSome p.left) (sym (same refl)) some
+
+pub keeps_name : (script : Bool) (piece : List ℕ) (old new : PartView) → Reads piece (script_part script old) (script_part script new) → (script ≡ false → new ≡ old) → new.name ≡ old.name
+keeps_name true piece old new reads same = reads.name
+keeps_name false piece old new reads same = ap (λ (p : PartView). p.name) (same refl)
 
 -- the part that a read fault comes from
 pub broken_part : (script : Bool) (piece : List ℕ) (old new : PartView) → Reads piece (script_part script old) (script_part script new) → (script_part script new).stage ≡ Broken → IsBroken old new

@@ -1,10 +1,11 @@
 -- Fronts of texts that were written.
-use Rattle.std.proofs.Common.{◌≡◌, ◌∙◌, sym, ap, subst, refl, inl, inr, ℕ, List, [], ◌++◌, Option, append_assoc}
+use Rattle.std.proofs.Common.{Result, Ok, Err as Error, ◌≡◌, ◌∙◌, sym, ap, subst, refl, inl, inr, ℕ, List, [], ◌++◌, Option, append_assoc}
 use Rattle.sg_edge.specs.declared.sinks.Stream.{Stream}
 use Rattle.sg_edge.specs.declared.sinks.Stream.TheVariants.{Out, Err}
 use Rattle.sg_edge.specs.Sinks.{gain, Written, GainsFront}
 use Rattle.sg_edge.proofs.Writing.{gain-gain, gain-nil}
-use Rattle.sg_engine.specs.Gains.{GainsAll, GainsFronts, Wrote, Broke, IsPut}
+use Rattle.sg_edge.specs.declared.files.Failed.{Failed}
+use Rattle.sg_engine.specs.Gains.{GainsAll, GainsFronts, Wrote, Broke, IsPut, Tells, Writes}
 
 -- nothing was written of a text yet
 pub written_none : (text : List ℕ) (now : Option (List ℕ)) → Written text text now now
@@ -126,3 +127,12 @@ all_behind front out err old mid new wrote same g = record {
   out_held = g.out_held ∙ ap (λ (h : Option (List ℕ)). gain h out) wrote ∙ gain-gain (old Out) front out;
   err_held = g.err_held ∙ ap (λ (h : Option (List ℕ)). gain h err) same;
 }
+
+-- lines on Out alone
+pub told_out : (text : List ℕ) (result : Result (Unit {0}) Failed) (old new : Stream → Option (List ℕ)) (f : ℕ) → Writes text result old new f → Tells text [] result old new f
+told_out text (Ok done) old new f wrote = (record { out_held = wrote.out_held; err_held = wrote.err_held ∙ sym (gain-nil (old Err)) }, wrote.sound)
+told_out text (Error why) old new f broke = (fronts_out text [] old new broke.front broke.err_held, broke.failed)
+
+-- a line on Err alone
+pub told_err : (text : List ℕ) (old new : Stream → Option (List ℕ)) → new Err ≡ gain (old Err) text → new Out ≡ old Out → GainsAll [] text old new
+told_err text old new wrote same = record { out_held = same ∙ sym (gain-nil (old Out)); err_held = wrote }

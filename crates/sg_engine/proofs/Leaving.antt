@@ -13,8 +13,8 @@ use Rattle.sg_kernel.specs.declared.states.State.{State}
 use Rattle.sg_kernel.specs.declared.states.State.TheVariants.{Ready, Blocked, Ended}
 use Rattle.sg_kernel.specs.declared.states.Stop.{Stop}
 use Rattle.sg_kernel.specs.Known.{Known, after}
-use Rattle.sg_kernel.specs.World.{Setup, Core, is_ready, extent}
-use Rattle.sg_kernel.specs.Steps.{Step, follows, and_then}
+use Rattle.sg_kernel.specs.World.{Setup, Core, Blocking, is_ready, extent}
+use Rattle.sg_kernel.specs.Steps.{Step, counted, each, follows, and_then}
 use Rattle.sg_kernel.specs.Calls.{answered, answered_call}
 use Rattle.sg_kernel.specs.Locks.{caller_gets, wakes_from, wakes, all_wake, caller_first, caller_last}
 use Rattle.sg_kernel.specs.Meetings.{takes_part, joins_over, comes_by, waits_until, waits_by}
@@ -77,13 +77,12 @@ gets GoesOn actor what core from = own actor core.actors _ from
 gets Waits actor what core from = own actor core.actors _ from
 gets Refused actor what core from = own actor core.actors _ from
 
-woken_from : (state : State) (actor : ℕ) (who : ActorId) (core : Core) → Leaves actor core.actors (wakes_from state who core).core.actors
-woken_from (Ready a) actor who core = none actor core.actors
-woken_from (Blocked what since on) actor who core = readied actor who.0 core.actors _
-woken_from Ended actor who core = none actor core.actors
+woken_from : (blocking : Option Blocking) (actor : ℕ) (who : ActorId) (core : Core) → Leaves actor core.actors (wakes_from blocking who core).core.actors
+woken_from None actor who core = none actor core.actors
+woken_from (Some blocking) actor who core = readied actor who.0 core.actors _
 
 woken : (actor : ℕ) (others : List ActorId) (core : Core) → Leaves actor core.actors (all_wake others core).core.actors
-unfolding all_wake
+unfolding each
 woken actor [] core = none actor core.actors
 woken actor (who ∷ rest) core = next actor core.actors (wakes who core) (all_wake rest) (woken_from _ actor who core) (λ c. woken actor rest c)
 
@@ -103,12 +102,12 @@ joining (Ok route) setup comer post core from = taking comer.waits comer post.se
 joining (Err why) setup comer post core from = none comer.side.actor.0 core.actors
 
 coming : (post : Option Post) (roads : Roads) (setup : Setup) (comer : Comer) (core : Core) → 0 < comer.side.actor.0 → Leaves comer.side.actor.0 core.actors (comes_by post roads setup comer core).core.actors
-coming None roads setup comer core from = taking comer.waits comer (length core.tasks + 1) _ from
+coming None roads setup comer core from = taking comer.waits comer (length core.under.tasks + 1) _ from
 coming (Some post) roads setup comer core from = joining _ setup comer post core from
 
-until : (gone : Bool) (actor : ℕ) (on : Await) (core : Core) → 0 < actor → Leaves actor core.actors (waits_until gone actor on core).core.actors
-until true actor on core from = own actor core.actors _ from
-until false actor on core from = own actor core.actors _ from
+until : (over : Option Answer) (actor : ℕ) (on : Await) (core : Core) → 0 < actor → Leaves actor core.actors (waits_until over actor on core).core.actors
+until (Some over) actor on core from = own actor core.actors _ from
+until None actor on core from = own actor core.actors _ from
 
 waiting : (on : Option Await) (actor : ℕ) (core : Core) → 0 < actor → Leaves actor core.actors (waits_by on actor core).core.actors
 waiting None actor core from = own actor core.actors _ from
@@ -123,12 +122,12 @@ called roads setup core actor (call.Send mailbox bytes message) from = coming _ 
 called roads setup core actor (call.Recv mailbox) from = coming _ roads setup _ core from
 called roads setup core actor (call.ISend mailbox bytes message) from = coming _ roads setup _ core from
 called roads setup core actor (call.IRecv mailbox) from = coming _ roads setup _ core from
-called roads setup core actor call.Wait from = waiting _ actor core from
-called roads setup core actor (call.Lock mutex) from = first _ actor (call.Lock mutex) core from
-called roads setup core actor (call.Unlock mutex) from = first _ actor (call.Unlock mutex) core from
-called roads setup core actor (call.Acquire semaphore) from = first _ actor (call.Acquire semaphore) core from
-called roads setup core actor (call.Release semaphore) from = first _ actor (call.Release semaphore) core from
-called roads setup core actor call.Barrier from = last _ actor call.Barrier core from
+called roads setup core actor call.Wait from = waiting _ actor (counted core) from
+called roads setup core actor (call.Lock mutex) from = first _ actor (call.Lock mutex) (counted core) from
+called roads setup core actor (call.Unlock mutex) from = first _ actor (call.Unlock mutex) (counted core) from
+called roads setup core actor (call.Acquire semaphore) from = first _ actor (call.Acquire semaphore) (counted core) from
+called roads setup core actor (call.Release semaphore) from = first _ actor (call.Release semaphore) (counted core) from
+called roads setup core actor call.Barrier from = last _ actor call.Barrier (counted core) from
 called roads setup core actor call.Yield from = own actor core.actors _ from
 called roads setup core actor call.Exit from = own actor core.actors _ from
 

@@ -1,7 +1,9 @@
 pub mod Calls
 pub mod Castings
 pub mod Endings
+pub mod Files
 pub mod Fronts
+pub mod Fuel
 pub mod Leaving
 pub mod Listing
 pub mod Merging
@@ -14,3 +16,4 @@ pub mod Rounds
 pub mod Simulating
 pub mod Starting
 pub mod Stepping
+pub mod Uncut

@@ -11,7 +11,8 @@ use Rattle.sg_base.specs.declared.call.Answer.{Answer}
 use Rattle.sg_base.specs.declared.call.Call.{Call}
 use Rattle.sg_kernel.specs.declared.states.State.{State}
 use Rattle.sg_kernel.specs.declared.states.State.TheVariants.{Ready, Blocked, Ended}
-use Rattle.sg_kernel.specs.World.{Core, World, MayCall, inbox_of, is_ready}
+use Rattle.sg_kernel.specs.World.{Core, MayCall, inbox_of, is_ready}
+use Rattle.sg_engine.specs.World.{World}
 use Rattle.sg_engine.specs.declared.actor_call.ActorCall.{ActorCall}
 use Rattle.sg_engine.specs.declared.ended.Ended.{Ended as Ending}
 use Rattle.sg_engine.specs.Listed.{listed_one, listed, calls_of}
@@ -73,30 +74,30 @@ listed_short actor [] = omega arith
 listed_short actor (what ∷ rest) = omega (arith, short_one actor what (listed (actor + 1) rest), listed_short (actor + 1) rest)
 
 -- ---- who has called was ready
-some_call : (m : Mind) (s : State) (what : Call) → call_after m (inbox_of s) ≡ Some what → is_ready s ≡ true
+some_call : (m : Option Mind) (s : State) (what : Call) → call_after m (inbox_of s) ≡ Some what → is_ready s ≡ true
 some_call m (Ready b) what e = refl
 some_call m (Blocked c w o) what e = absurd (cc e)
 some_call m Ended what e = absurd (cc e)
 
-pub call_ready : (minds : List Mind) (states : List State) (i : ℕ) (what : Call) → get_or (zip_with call_after minds (map inbox_of states)) i None ≡ Some what → (i < length states) × IsTrue (is_ready (get_or states i Ended))
+pub call_ready : (minds : List (Option Mind)) (states : List State) (i : ℕ) (what : Call) → get_or (zip_with call_after minds (map inbox_of states)) i None ≡ Some what → (i < length states) × IsTrue (is_ready (get_or states i Ended))
 call_ready [] states i what e = absurd (cc e)
 call_ready (m ∷ minds) [] i what e = absurd (cc e)
 call_ready (m ∷ minds) (s ∷ states) zero what e = (omega arith, some_call m s what e)
 call_ready (m ∷ minds) (s ∷ states) (suc i) what e = let r = call_ready minds states i what e in (omega (arith, r.0), r.1)
 
-pub call_may : (minds : List Mind) (core : Core) (i : ℕ) (what : Call) → get_or (zip_with call_after minds (inboxes core)) i None ≡ Some what → MayCall core (i + 1)
+pub call_may : (minds : List (Option Mind)) (core : Core) (i : ℕ) (what : Call) → get_or (zip_with call_after minds (inboxes core)) i None ≡ Some what → MayCall core (i + 1)
 call_may minds core i what e =
     let r = call_ready minds core.actors i what e in
     let back : i + 1 - 1 ≡ i = omega arith in
     record { from = omega arith; to = omega (arith, r.0); ready = subst (λ k. IsTrue (is_ready (get_or core.actors k Ended))) (sym back) r.1 }
 
-pub row_short : (xs : List Mind) (ys : List (Option Answer)) → length (zip_with call_after xs ys) ≤ length xs
+pub row_short : (xs : List (Option Mind)) (ys : List (Option Answer)) → length (zip_with call_after xs ys) ≤ length xs
 row_short [] ys = omega arith
 row_short (x ∷ xs) [] = omega arith
 row_short (x ∷ xs) (y ∷ ys) = omega (arith, row_short xs ys)
 
 -- who has called was ready
-pub listed_may : (minds : List Mind) (core : Core) → All (λ (made : ActorCall). MayCall core made.actor.0) (listed 1 (zip_with call_after minds (inboxes core)))
+pub listed_may : (minds : List (Option Mind)) (core : Core) → All (λ (made : ActorCall). MayCall core made.actor.0) (listed 1 (zip_with call_after minds (inboxes core)))
 listed_may minds core = listed_all (λ (made : ActorCall). MayCall core made.actor.0) 1 (zip_with call_after minds (inboxes core)) (λ i made is. let same : i + 1 ≡ 1 + i = omega arith in subst (MayCall core) same (call_may minds core i made is))
 
 -- those of places within the limits keep to them

@@ -12,7 +12,7 @@ use Rattle.sg_platform.specs.declared.rows.Policy.{Policy}
 use Rattle.sg_platform.specs.declared.rows.Policy.TheVariants.{Shared, Fatpipe, SplitDuplex}
 use Rattle.sg_route.specs.Roads.{Roads, roads_of}
 use Rattle.sg_route.specs.Route.{Route, route_of}
-use Rattle.sg_route_laws.specs.Laws.{IsGoodRoute, RoutesAreGood}
+use Rattle.sg_route.specs.Good.{IsGoodRoute, RoutesAreGood}
 
 abbrev pub row_caps : LinkRow → List LinkCap
 row_caps row = caps_of row.policy row.bandwidth

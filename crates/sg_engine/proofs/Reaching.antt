@@ -6,7 +6,7 @@ use Rattle.sg_base.specs.declared.trace_record.Record.{Record}
 use Rattle.sg_base.specs.Mind.{Mind}
 use Rattle.sg_edge.specs.Given.{Source}
 use Rattle.sg_edge.specs.Files.{PartView}
-use Rattle.sg_kernel.specs.World.{World}
+use Rattle.sg_engine.specs.World.{World}
 use Rattle.sg_script.specs.Asked.{asked}
 use Rattle.sg_script.specs.Known.{Known as Names}
 use Rattle.sg_script.specs.Stands.{Reads}
@@ -27,12 +27,12 @@ goes_back taken piece old new source reads goes = record {
 pub front-front : (first second : List Record) (progress : Progress) → with_front first (with_front second progress) ≡ with_front (first ++ second) progress
 front-front first second progress = ap (λ (l : List Record). record progress { made = l }) (sym (append_assoc first second progress.made))
 
-pub stands_as : (names : Names) (taken other : List ℕ) (minds : List Mind) (now : Moment) (world : World) → taken ≡ other → StandsFor names taken minds now world → StandsFor names other minds now world
+pub stands_as : (names : Names) (taken other : List ℕ) (minds : List (Option Mind)) (now : Moment) (world : World) → taken ≡ other → StandsFor names taken minds now world → StandsFor names other minds now world
 stands_as names taken other minds now world same stands = subst (λ (t : List ℕ). StandsFor names t minds now world) same stands
 
 -- one stretch, and then another from where it led
-abbrev pub reached_then : (names : Names) (whole : Answering → Progress) (middle rest : Answering → World → Progress) (taken : List ℕ) (minds then_minds : List Mind) (old mid new : Moment) →
-    (first : Reached names whole middle taken minds old mid) → Reached names (λ answers. middle answers first.world) rest (taken ++ first.piece) then_minds mid new → Reached names whole rest taken then_minds old new
+abbrev pub reached_then : {spent next : ℕ} (names : Names) (whole : Answering → Progress) (middle rest : Answering → World → Progress) (taken : List ℕ) (minds then_minds : List (Option Mind)) (old mid new : Moment) →
+    (first : Reached spent names whole middle taken minds old mid) → Reached next names (λ answers. middle answers first.world) rest (taken ++ first.piece) then_minds mid new → Reached next names whole rest taken then_minds old new
 reached_then names whole middle rest taken minds then_minds old mid new first second =
     let joined : (taken ++ first.piece) ++ second.piece ≡ taken ++ (first.piece ++ second.piece) = append_assoc taken first.piece second.piece in
     record {
@@ -41,6 +41,7 @@ reached_then names whole middle rest taken minds then_minds old mid new first se
       setup = second.setup ∙ first.setup;
       world = second.world;
       stands = stands_as names _ _ then_minds new second.world joined second.stands;
+      work = second.work;
       made = first.made ++ second.made;
       records = second.records ∙ ap (λ (l : List Record). l ++ second.made) first.records ∙ append_assoc old.kernel.records first.made second.made;
       is = λ source goes.
@@ -52,47 +53,50 @@ reached_then names whole middle rest taken minds then_minds old mid new first se
     }
 
 -- the whole in other words
-abbrev pub reached_as : (names : Names) (whole other : Answering → Progress) (rest : Answering → World → Progress) (taken : List ℕ) (minds : List Mind) (old new : Moment) →
-    ((answers : Answering) → other answers ≡ whole answers) → Reached names whole rest taken minds old new → Reached names other rest taken minds old new
+abbrev pub reached_as : {spent : ℕ} (names : Names) (whole other : Answering → Progress) (rest : Answering → World → Progress) (taken : List ℕ) (minds : List (Option Mind)) (old new : Moment) →
+    ((answers : Answering) → other answers ≡ whole answers) → Reached spent names whole rest taken minds old new → Reached spent names other rest taken minds old new
 reached_as names whole other rest taken minds old new same reached = record {
   piece = reached.piece;
   reads = reached.reads;
   setup = reached.setup;
   world = reached.world;
   stands = reached.stands;
+  work = reached.work;
   made = reached.made;
   records = reached.records;
   is = λ source goes. same (asked names source) ∙ reached.is source goes;
 }
 
-pub matched_as : {E : Type 0} (result : Result (Option Ended) E) (names : Names) (whole other : Answering → Progress) (taken : List ℕ) (minds : List Mind) (old new : Moment) (cut : E → Type 0) → ((answers : Answering) → other answers ≡ whole answers) →
-    MatchResult result (λ how. Reached names whole (ending how) taken minds old new) cut → MatchResult result (λ how. Reached names other (ending how) taken minds old new) cut
-matched_as (Ok how) names whole other taken minds old new cut same reached = reached_as names whole other (ending how) taken minds old new same reached
-matched_as (Err why) names whole other taken minds old new cut same step = step
+pub matched_as : {E : Type 0} (spent : ℕ) (result : Result (Option Ended) E) (names : Names) (whole other : Answering → Progress) (taken : List ℕ) (minds : List (Option Mind)) (old new : Moment) (cut : E → Type 0) → ((answers : Answering) → other answers ≡ whole answers) →
+    MatchResult result (λ how. Reached spent names whole (ending how) taken minds old new) cut → MatchResult result (λ how. Reached spent names other (ending how) taken minds old new) cut
+matched_as spent (Ok how) names whole other taken minds old new cut same reached = reached_as names whole other (ending how) taken minds old new same reached
+matched_as spent (Err why) names whole other taken minds old new cut same step = step
 
 -- the rest in other words
-abbrev pub rest_as : (names : Names) (whole : Answering → Progress) (rest other : Answering → World → Progress) (taken : List ℕ) (minds : List Mind) (old new : Moment) →
-    ((answers : Answering) (world : World) → rest answers world ≡ other answers world) → Reached names whole rest taken minds old new → Reached names whole other taken minds old new
+abbrev pub rest_as : {spent : ℕ} (names : Names) (whole : Answering → Progress) (rest other : Answering → World → Progress) (taken : List ℕ) (minds : List (Option Mind)) (old new : Moment) →
+    ((answers : Answering) (world : World) → rest answers world ≡ other answers world) → Reached spent names whole rest taken minds old new → Reached spent names whole other taken minds old new
 rest_as names whole rest other taken minds old new same reached = record {
   piece = reached.piece;
   reads = reached.reads;
   setup = reached.setup;
   world = reached.world;
   stands = reached.stands;
+  work = reached.work;
   made = reached.made;
   records = reached.records;
   is = λ source goes. reached.is source goes ∙ ap (with_front reached.made) (same (asked names source) reached.world);
 }
 
 -- a first stretch that doesn't end the run
-abbrev pub goes_on_to : (names : Names) (first : Answering → Progress) (next : Answering → World → Progress) (taken : List ℕ) (minds : List Mind) (old new : Moment) →
-    Reached names first (ending None) taken minds old new → Reached names (λ answers. and_then (first answers) (next answers)) next taken minds old new
+abbrev pub goes_on_to : {spent : ℕ} (names : Names) (first : Answering → Progress) (next : Answering → World → Progress) (taken : List ℕ) (minds : List (Option Mind)) (old new : Moment) →
+    Reached spent names first (ending None) taken minds old new → Reached spent names (λ answers. and_then (first answers) (next answers)) next taken minds old new
 goes_on_to names first next taken minds old new reached = record {
   piece = reached.piece;
   reads = reached.reads;
   setup = reached.setup;
   world = reached.world;
   stands = reached.stands;
+  work = reached.work;
   made = reached.made;
   records = reached.records;
   is = λ source goes.
@@ -102,28 +106,34 @@ goes_on_to names first next taken minds old new reached = record {
 }
 
 -- a first stretch that ends the run
-abbrev pub ends_at : (names : Names) (first : Answering → Progress) (next : Answering → World → Progress) (how : Ended) (taken : List ℕ) (minds : List Mind) (old new : Moment) →
-    Reached names first (ending (Some how)) taken minds old new → Reached names (λ answers. and_then (first answers) (next answers)) (ending (Some how)) taken minds old new
+abbrev pub ends_at : {spent : ℕ} (names : Names) (first : Answering → Progress) (next : Answering → World → Progress) (how : Ended) (taken : List ℕ) (minds : List (Option Mind)) (old new : Moment) →
+    Reached spent names first (ending (Some how)) taken minds old new → Reached spent names (λ answers. and_then (first answers) (next answers)) (ending (Some how)) taken minds old new
 ends_at names first next how taken minds old new reached = record {
   piece = reached.piece;
   reads = reached.reads;
   setup = reached.setup;
   world = reached.world;
   stands = reached.stands;
+  work = reached.work;
   made = reached.made;
   records = reached.records;
   is = λ source goes. ap (λ (p : Progress). and_then p (next (asked names source))) (reached.is source goes);
 }
 
 -- nothing has happened yet
-pub reached_none : (names : Names) (rest : Answering → World → Progress) (taken : List ℕ) (minds : List Mind) (now : Moment) (world : World) → Reads [] now.part now.part → StandsFor names taken minds now world → Reached names (λ answers. rest answers world) rest taken minds now now
+pub reached_none : (names : Names) (rest : Answering → World → Progress) (taken : List ℕ) (minds : List (Option Mind)) (now : Moment) (world : World) → Reads [] now.part now.part → StandsFor names taken minds now world → Reached world.work names (λ answers. rest answers world) rest taken minds now now
 reached_none names rest taken minds now world reads stands = record {
   piece = [];
   reads = reads;
   setup = refl;
   world = world;
   stands = stands_as names _ _ minds now world (sym (append-nil taken)) stands;
+  work = refl;
   made = [];
   records = sym (append-nil now.kernel.records);
   is = λ source goes. refl;
 }
+
+-- the work in other words
+pub reached_spent : (spent other : ℕ) (names : Names) (whole : Answering → Progress) (rest : Answering → World → Progress) (taken : List ℕ) (minds : List (Option Mind)) (old new : Moment) → spent ≡ other → Reached spent names whole rest taken minds old new → Reached other names whole rest taken minds old new
+reached_spent spent other names whole rest taken minds old new same reached = subst (λ (n : ℕ). Reached n names whole rest taken minds old new) same reached

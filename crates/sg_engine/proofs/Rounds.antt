@@ -1,19 +1,18 @@
 -- What a round does, place by place.
 use Rattle.std.proofs.Common.{◌≡◌, ◌∙◌, sym, ap, ap₂, refl, ℕ, zero, suc, ◌<◌, Bool, true, false, cond, List, [], ◌∷◌, map, length, get_or, Option, None, Some, IsSome, IsTrue, arith, subst}
-use Rattle.std.specs.Prelude.{All, IfSome}
-use Rattle.std.specs.Option.{unwrap_or}
+use Rattle.std.specs.Prelude.{All, IfSome, option_map}
 use Rattle.std.proofs.lemmas.List.Elements.{All-nil, All-cons, All-head, All-map, All-tail}
 use Rattle.sg_base.specs.declared.call.Answer.{Answer}
 use Rattle.sg_base.specs.declared.call.Call.{Call}
 use Rattle.sg_base.specs.Limits.{Extent, IsAnswer}
-use Rattle.sg_base.specs.Mind.{Mind, mind, ended}
+use Rattle.sg_base.specs.Mind.{Mind}
 use Rattle.sg_base.specs.Turn.{turn}
 use Rattle.sg_actor.specs.Places.{Place, after, turned_by, CanTurn, IsPlace}
 use Rattle.sg_kernel.specs.declared.states.State.{State}
 use Rattle.sg_kernel.specs.declared.states.State.TheVariants.{Ready, Blocked, Ended}
 use Rattle.sg_kernel.specs.World.{inbox_of, is_ready}
 use Rattle.sg_engine.specs.Run.{zip_with, mind_after, call_after}
-use Rattle.sg_engine.specs.Seated.{held, minds_of, IsCast, IsSeated, readiness, offered, call_in, rested}
+use Rattle.sg_engine.specs.Seated.{mind_in, minds_of, IsCast, IsSeated, readiness, offered, call_in, rested}
 
 pub length-zip_with : {X Y Z : Type 0} (f : X → Y → Z) (xs : List X) (ys : List Y) → length ys ≡ length xs → length (zip_with f xs ys) ≡ length xs
 length-zip_with f [] ys same = refl
@@ -98,33 +97,36 @@ pub idle_rests : (place : Place) → place.ready ≡ false → rested place ≡ 
 idle_rests place rests = ap (λ (b : Bool). record place { ready = b }) (sym rests)
 
 -- ---- the whole of a round
-mind_round : (place : Place) (answer : Option Answer) (m : Option Mind) → place.mind ≡ m → IsSome m → place.ready ≡ false → held (rested (after (offered place answer))) ≡ mind_after (held place) answer
-mind_round place None m is some rests = ap (λ (b : Bool). held (rested (cond b (turned_by place place.mind) place))) rests
-mind_round place (Some answer) None is some rests = absurd (cc some)
-mind_round place (Some answer) (Some m) is some rests =
-    let ready : Place = record place { inbox = answer; ready = true } in
-    ap (λ (o : Option Mind). held (rested (turned_by ready o))) is ∙ sym (ap (λ (o : Option Mind). (turn (unwrap_or o (mind ended [])) answer).mind) is)
+turned_mind : (place : Place) (m : Option Mind) → place.mind ≡ m → (turned_by place m).mind ≡ option_map (λ mind. (turn mind place.inbox).mind) m
+turned_mind place None is = is
+turned_mind place (Some m) is = refl
 
-call_round : (place : Place) (answer : Option Answer) (m : Option Mind) → place.mind ≡ m → IsSome m → place.ready ≡ false → call_in (after (offered place answer)) ≡ call_after (held place) answer
-call_round place None m is some rests = ap call_in (idle_stays place rests) ∙ idle_calls place rests
-call_round place (Some answer) None is some rests = absurd (cc some)
-call_round place (Some answer) (Some m) is some rests =
-    let ready : Place = record place { inbox = answer; ready = true } in
-    ap (λ (o : Option Mind). call_in (turned_by ready o)) is ∙ sym (ap (λ (o : Option Mind). Some (turn (unwrap_or o (mind ended [])) answer).call) is)
+mind_round : (place : Place) (answer : Option Answer) → place.ready ≡ false → mind_in (rested (after (offered place answer))) ≡ mind_after (mind_in place) answer
+mind_round place None rests = ap (λ (b : Bool). mind_in (rested (cond b (turned_by place place.mind) place))) rests
+mind_round place (Some answer) rests = turned_mind (record place { inbox = answer; ready = true }) place.mind refl
+
+turned_call : (place : Place) (answer : Answer) (m : Option Mind) → IsSome m → call_in (turned_by (record place { inbox = answer; ready = true }) m) ≡ option_map (λ mind. (turn mind answer).call) m
+turned_call place answer None some = absurd (cc some)
+turned_call place answer (Some m) some = refl
+
+-- the mind is there where an answer stands
+call_round : (place : Place) (answer : Option Answer) → IsSome place.mind → place.ready ≡ false → call_in (after (offered place answer)) ≡ call_after (mind_in place) answer
+call_round place None some rests = ap call_in (idle_stays place rests) ∙ idle_calls place rests
+call_round place (Some answer) some rests = turned_call place answer place.mind some
 
 pub minds_round : (extent : Extent) (places : List Place) (answers : List (Option Answer)) → All (IsSeated extent) places → minds_of (map rested (map after (zip_with offered places answers))) ≡ zip_with mind_after (minds_of places) answers
 minds_round extent [] answers seated = refl
 minds_round extent (place ∷ places) [] seated = refl
 minds_round extent (place ∷ places) (answer ∷ answers) seated =
     let here = All-head (IsSeated extent) place places seated in
-    ap₂ (λ (m : Mind) (l : List Mind). m ∷ l) (mind_round place answer place.mind refl here.cast here.rests) (minds_round extent places answers (All-tail (IsSeated extent) place places seated))
+    ap₂ (λ (m : Option Mind) (l : List (Option Mind)). m ∷ l) (mind_round place answer here.rests) (minds_round extent places answers (All-tail (IsSeated extent) place places seated))
 
 pub calls_round : (extent : Extent) (places : List Place) (answers : List (Option Answer)) → All (IsSeated extent) places → map call_in (map after (zip_with offered places answers)) ≡ zip_with call_after (minds_of places) answers
 calls_round extent [] answers seated = refl
 calls_round extent (place ∷ places) [] seated = refl
 calls_round extent (place ∷ places) (answer ∷ answers) seated =
     let here = All-head (IsSeated extent) place places seated in
-    ap₂ (λ (c : Option Call) (l : List (Option Call)). c ∷ l) (call_round place answer place.mind refl here.cast here.rests) (calls_round extent places answers (All-tail (IsSeated extent) place places seated))
+    ap₂ (λ (c : Option Call) (l : List (Option Call)). c ∷ l) (call_round place answer here.cast here.rests) (calls_round extent places answers (All-tail (IsSeated extent) place places seated))
 
 pub all_rested : (extent : Extent) (places : List Place) → All IsCast places → All (IsPlace extent) places → All (IsSeated extent) (map rested places)
 all_rested extent places cast limited = All-map (IsSeated extent) rested places (λ k d within. record { cast = cast k d within; limited = limited k d within; rests = refl })

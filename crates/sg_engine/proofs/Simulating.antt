@@ -1,5 +1,5 @@
 -- Parts of a run with their lines, one after another.
-use Rattle.std.proofs.Common.{◌≡◌, ◌≢◌, ◌∙◌, sym, ap, ap₂, subst, refl, ℕ, suc, ◌≤◌, List, [], ◌++◌, length, Bool, true, false, cond, Option, None, Some, append_assoc}
+use Rattle.std.proofs.Common.{arith, ◌+◌, ◌≡◌, ◌≢◌, ◌∙◌, sym, ap, ap₂, subst, refl, ℕ, suc, ◌≤◌, List, [], ◌++◌, length, Bool, true, false, cond, Option, None, Some, append_assoc}
 use Rattle.std.specs.Prelude.{All, MatchBool, vec_capacity}
 use Rattle.std.specs.List.{list_all}
 use Rattle.std.proofs.lemmas.Grind.{flat_map-append}
@@ -13,7 +13,8 @@ use Rattle.sg_edge.proofs.Writing.{gain-gain, gain-nil}
 use Rattle.sg_kernel.specs.Known.{Known}
 use Rattle.sg_actor.specs.Places.{Place}
 use Rattle.sg_base.specs.Limits.{Extent}
-use Rattle.sg_kernel.specs.World.{Setup, Core, World, extent, is_ended}
+use Rattle.sg_kernel.specs.World.{Setup, Core, extent, is_ended}
+use Rattle.sg_engine.specs.World.{World}
 use Rattle.sg_route.specs.Roads.{Roads}
 use Rattle.sg_platform.specs.Deployment.{Deployed, extent_of}
 use Rattle.sg_platform.specs.Platform.{Platform}
@@ -38,34 +39,35 @@ use Rattle.sg_engine.proofs.Reaching.{goes_back, reached_then, reached_as, goes_
 
 -- ---- one part
 -- the records of a stretch stand behind others that were cleared since, and there is other room
-abbrev pub with_records : (names : Names) (whole : Answering → Progress) (rest : Answering → World → Progress) (taken : List ℕ) (minds : List Mind) (part part' : PartView) (kept kept' : Kept) (old new old' new' : Known) (front : List Record) →
-    (reached : Reached names whole rest taken minds (moment part kept old) (moment part' kept' new)) → old'.records ≡ front → old'.setup ≡ old.setup → new'.core ≡ new.core → new'.setup ≡ new.setup → new'.records ≡ front ++ reached.made →
-    Reached names whole rest taken minds (moment part kept old') (moment part' kept' new')
+abbrev pub with_records : {spent : ℕ} (names : Names) (whole : Answering → Progress) (rest : Answering → World → Progress) (taken : List ℕ) (minds : List (Option Mind)) (part part' : PartView) (kept kept' : Kept) (old new old' new' : Known) (front : List Record) →
+    (reached : Reached spent names whole rest taken minds (moment part kept old) (moment part' kept' new)) → old'.records ≡ front → old'.setup ≡ old.setup → new'.core ≡ new.core → new'.setup ≡ new.setup → new'.records ≡ front ++ reached.made →
+    Reached spent names whole rest taken minds (moment part kept old') (moment part' kept' new')
 with_records names whole rest taken minds part part' kept kept' old new old' new' front reached before setup core setup' after = record {
   piece = reached.piece;
   reads = reached.reads;
   setup = setup' ∙ reached.setup ∙ sym setup;
   world = reached.world;
   stands = record { script = reached.stands.script; core = core ∙ reached.stands.core; minds = reached.stands.minds };
+  work = reached.work;
   made = reached.made;
   records = after ∙ ap (λ (l : List Record). l ++ reached.made) (sym before);
   is = reached.is;
 }
 
 -- the same of a scene whose setup is the same
-pub scene_as : (names : Names) (roads : Roads) (script : Bool) (setup setup' : Setup) (how : Option Ended) (taken : List ℕ) (minds : List Mind) (world : World) (old new : Moment) → setup' ≡ setup →
-    Reached names (λ answers. round_or_pass (scene roads setup' script) answers world) (ending how) taken minds old new → Reached names (λ answers. round_or_pass (scene roads setup script) answers world) (ending how) taken minds old new
-scene_as names roads script setup setup' how taken minds world old new same reached =
-    subst (λ (s : Setup). Reached names (λ answers. round_or_pass (scene roads s script) answers world) (ending how) taken minds old new) same reached
+pub scene_as : {spent : ℕ} (names : Names) (roads : Roads) (script : Bool) (setup setup' : Setup) (how : Option Ended) (taken : List ℕ) (minds : List (Option Mind)) (world : World) (old new : Moment) → setup' ≡ setup →
+    Reached spent names (λ answers. round_or_pass (scene roads setup' script) answers world) (ending how) taken minds old new → Reached spent names (λ answers. round_or_pass (scene roads setup script) answers world) (ending how) taken minds old new
+scene_as {spent} names roads script setup setup' how taken minds world old new same reached =
+    subst (λ (s : Setup). Reached spent names (λ answers. round_or_pass (scene roads s script) answers world) (ending how) taken minds old new) same reached
 
 -- a moment with other room stands for the same worlds
-pub stands_with : (names : Names) (taken : List ℕ) (minds : List Mind) (part : PartView) (kept : Kept) (old new : Known) (world : World) → new.core ≡ old.core → StandsFor names taken minds (moment part kept old) world → StandsFor names taken minds (moment part kept new) world
+pub stands_with : (names : Names) (taken : List ℕ) (minds : List (Option Mind)) (part : PartView) (kept : Kept) (old new : Known) (world : World) → new.core ≡ old.core → StandsFor names taken minds (moment part kept old) world → StandsFor names taken minds (moment part kept new) world
 stands_with names taken minds part kept old new world core stands = record { script = stands.script; core = core ∙ stands.core; minds = stands.minds }
 
 -- a part was made and printed
-pub advances : (names : Names) (trace : Trace) (whole : Answering → Progress) (how : Option Ended) (taken : List ℕ) (minds : List Mind) (part part' : PartView) (kept kept' : Kept) (old mid new : Known) (before after : Option (List ℕ)) →
-    Reached names whole (ending how) taken minds (moment part kept mid) (moment part' kept' new) → mid.records ≡ [] → old.records ≡ [] → mid.setup ≡ old.setup → after ≡ gain before (trace new.records) → (new' : Known) → new'.core ≡ new.core → new'.setup ≡ new.setup →
-    Advances names trace whole how taken minds (moment part kept old) (moment part' kept' new') before after
+pub advances : {spent : ℕ} (names : Names) (trace : Trace) (whole : Answering → Progress) (how : Option Ended) (taken : List ℕ) (minds : List (Option Mind)) (part part' : PartView) (kept kept' : Kept) (old mid new : Known) (before after : Option (List ℕ)) →
+    Reached spent names whole (ending how) taken minds (moment part kept mid) (moment part' kept' new) → mid.records ≡ [] → old.records ≡ [] → mid.setup ≡ old.setup → after ≡ gain before (trace new.records) → (new' : Known) → new'.core ≡ new.core → new'.setup ≡ new.setup →
+    Advances spent names trace whole how taken minds (moment part kept old) (moment part' kept' new') before after
 advances names trace whole how taken minds part part' kept kept' old mid new before after reached none none' setup printed new' core setup' =
     let made : new.records ≡ reached.made = reached.records ∙ ap (λ (l : List Record). l ++ reached.made) none in
     record {
@@ -75,8 +77,8 @@ advances names trace whole how taken minds part part' kept kept' old mid new bef
     }
 
 -- a write failed in the lines of a part
-pub cuts_off_at : (names : Names) (trace : Trace) (whole : Answering → Progress) (how : Option Ended) (taken : List ℕ) (minds : List Mind) (part part' : PartView) (kept kept' : Kept) (mid new : Known) (before after : Option (List ℕ)) →
-    Reached names whole (ending how) taken minds (moment part kept mid) (moment part' kept' new) → mid.records ≡ [] → GainsFront (trace new.records) before after → CutsOff names trace whole taken part part' before after
+pub cuts_off_at : {spent : ℕ} (names : Names) (trace : Trace) (whole : Answering → Progress) (how : Option Ended) (taken : List ℕ) (minds : List (Option Mind)) (part part' : PartView) (kept kept' : Kept) (mid new : Known) (before after : Option (List ℕ)) →
+    Reached spent names whole (ending how) taken minds (moment part kept mid) (moment part' kept' new) → mid.records ≡ [] → GainsFront (trace new.records) before after → CutsOff names trace whole taken part part' before after
 cuts_off_at names trace whole how taken minds part part' kept kept' mid new before after reached none front = record {
   piece = reached.piece;
   reads = reached.reads;
@@ -94,12 +96,12 @@ cuts_off_by names trace whole taken part part' before cut = record {
 }
 
 -- a part of a scene is that of the same one
-pub part_as : (names : Names) (trace : Trace) (at at' : Scene) (how : Option Ended) (taken : List ℕ) (minds : List Mind) (world : World) (old new : Moment) (before after : Option (List ℕ)) → at ≡ at' →
-    PartIs names trace (λ answers. round_or_pass at answers world) how taken minds old new before after → PartIs names trace (λ answers. round_or_pass at' answers world) how taken minds old new before after
-part_as names trace at at' how taken minds world old new before after same part = subst (λ (s : Scene). PartIs names trace (λ answers. round_or_pass s answers world) how taken minds old new before after) same part
+pub part_as : (spent : ℕ) (names : Names) (trace : Trace) (at at' : Scene) (how : Option Ended) (taken : List ℕ) (minds : List (Option Mind)) (world : World) (old new : Moment) (before after : Option (List ℕ)) → at ≡ at' →
+    PartIs spent names trace (λ answers. round_or_pass at answers world) how taken minds old new before after → PartIs spent names trace (λ answers. round_or_pass at' answers world) how taken minds old new before after
+part_as spent names trace at at' how taken minds world old new before after same part = subst (λ (s : Scene). PartIs spent names trace (λ answers. round_or_pass s answers world) how taken minds old new before after) same part
 
 -- a part that didn't cut the run off
-pub part_is : (names : Names) (trace : Trace) (whole : Answering → Progress) (how : Option Ended) (taken : List ℕ) (minds : List Mind) (old new : Moment) (before after : Option (List ℕ)) → cuts how ≡ false → Advances names trace whole how taken minds old new before after → PartIs names trace whole how taken minds old new before after
+pub part_is : {spent : ℕ} (names : Names) (trace : Trace) (whole : Answering → Progress) (how : Option Ended) (taken : List ℕ) (minds : List (Option Mind)) (old new : Moment) (before after : Option (List ℕ)) → cuts how ≡ false → Advances spent names trace whole how taken minds old new before after → PartIs spent names trace whole how taken minds old new before after
 part_is names trace whole how taken minds old new before after uncut advances = rw uncut advances
 
 -- what a simulation keeps behind a part whose records are written and cleared
@@ -122,12 +124,6 @@ kept_on deployed part sim places known fits is homes seated number calls few emp
   empty = empty;
 }
 
-uncut_not : (b : Bool) → b ≡ true → b ≡ false → ⊥
-uncut_not b is isnt = absurd (let e : true ≡ false = sym is ∙ isnt in cc e)
-
-pub uncut_write : (how : Option Ended) → cuts how ≡ false → how ≡ Some ended.WriteFault → ⊥
-uncut_write how uncut is = uncut_not (cuts how) (ap cuts is) uncut
-
 -- ---- rounds and passes one after another
 pub run_done : (n m : ℕ) (at : Scene) (answers : Answering) (world : World) → n ≡ suc m → list_all is_ended world.core.actors ≡ true → run_from n at answers world ≡ at_world (Some ended.Completed) world
 unfolding run_from
@@ -145,14 +141,22 @@ run_out n at answers world none = ap (λ (k : ℕ). run_from k at answers world)
 abbrev pub rest_of : ℕ → Scene → Answering → World → Progress
 rest_of n at answers world = run_from n at answers world
 
+pub worked_as : (start spent count n : ℕ) → n ≡ spent → start + spent ≤ count → start + n ≤ count
+worked_as start spent count n is worked = omega arith
+
+-- what comes next is counted, and so is what came before
+pub work_more : (start count later spent work mine its : ℕ) → start + spent ≤ count → work ≡ spent → mine ≡ its → count + mine ≤ later → start + (work + its) ≤ later
+work_more start count later spent work mine its worked is same more = omega arith
+
 -- the run has come to its end
-abbrev pub over_by : (names : Names) (trace : Trace) (whole : Answering → Progress) (how : Ended) (minds : List Mind) (p0 p1 : PartView) (q0 q1 : Kept) (k0 k1 : Known) (core : Core) (before after : Option (List ℕ)) →
-    (reached : Reached names whole (ending (Some how)) [] minds (moment p0 q0 k0) (moment p1 q1 k1)) → core ≡ k1.core → after ≡ gain before (trace reached.made) → IsOver names trace whole how core p0 p1 before after
-over_by names trace whole how minds p0 p1 q0 q1 k0 k1 core before after reached same printed = record {
+abbrev pub over_by : {spent : ℕ} (start count : ℕ) (names : Names) (trace : Trace) (whole : Answering → Progress) (how : Ended) (minds : List (Option Mind)) (p0 p1 : PartView) (q0 q1 : Kept) (k0 k1 : Known) (core : Core) (before after : Option (List ℕ)) →
+    (reached : Reached spent names whole (ending (Some how)) [] minds (moment p0 q0 k0) (moment p1 q1 k1)) → core ≡ k1.core → after ≡ gain before (trace reached.made) → start + spent ≤ count → IsOver start count names trace whole how core p0 p1 before after
+over_by {spent} start count names trace whole how minds p0 p1 q0 q1 k0 k1 core before after reached same printed worked = record {
   piece = reached.piece;
   reads = reached.reads;
   world = reached.world;
   core_is = same ∙ reached.stands.core;
+  worked = worked_as start spent count reached.world.work reached.work worked;
   made = reached.made;
   printed = printed;
   is = λ source goes.
@@ -161,46 +165,48 @@ over_by names trace whole how minds p0 p1 q0 q1 k0 k1 core before after reached 
 }
 
 -- all actors have ended
-pub completed : (names : Names) (trace : Trace) (whole : Answering → Progress) (n m : ℕ) (at : Scene) (minds : List Mind) (p0 p1 : PartView) (q0 q1 : Kept) (k0 k1 : Known) (core : Core) (before after : Option (List ℕ)) →
-    (reached : Reached names whole (rest_of n at) [] minds (moment p0 q0 k0) (moment p1 q1 k1)) → n ≡ suc m → core ≡ k1.core → list_all is_ended core.actors ≡ true → after ≡ gain before (trace reached.made) → IsOver names trace whole ended.Completed core p0 p1 before after
-completed names trace whole n m at minds p0 p1 q0 q1 k0 k1 core before after reached more same all printed =
+pub completed : {spent : ℕ} (start count : ℕ) (names : Names) (trace : Trace) (whole : Answering → Progress) (n m : ℕ) (at : Scene) (minds : List (Option Mind)) (p0 p1 : PartView) (q0 q1 : Kept) (k0 k1 : Known) (core : Core) (before after : Option (List ℕ)) →
+    (reached : Reached spent names whole (rest_of n at) [] minds (moment p0 q0 k0) (moment p1 q1 k1)) → n ≡ suc m → core ≡ k1.core → list_all is_ended core.actors ≡ true → after ≡ gain before (trace reached.made) → start + spent ≤ count → IsOver start count names trace whole ended.Completed core p0 p1 before after
+completed start count names trace whole n m at minds p0 p1 q0 q1 k0 k1 core before after reached more same all printed worked =
     let all_here : list_all is_ended reached.world.core.actors ≡ true = ap (λ (c : Core). list_all is_ended c.actors) (sym (same ∙ reached.stands.core)) ∙ all in
-    over_by names trace whole ended.Completed minds p0 p1 q0 q1 k0 k1 core before after (record {
+    over_by start count names trace whole ended.Completed minds p0 p1 q0 q1 k0 k1 core before after (record {
       piece = reached.piece;
       reads = reached.reads;
       setup = reached.setup;
       world = reached.world;
       stands = reached.stands;
+      work = reached.work;
       made = reached.made;
       records = reached.records;
       is = λ source goes. reached.is source goes ∙ ap (with_front reached.made) (run_done n m at (asked names source) reached.world more all_here);
-    }) same printed
+    }) same printed worked
 
 -- no round and no pass is left
-pub used_up : (names : Names) (trace : Trace) (whole : Answering → Progress) (n : ℕ) (at : Scene) (minds : List Mind) (p0 p1 : PartView) (q0 q1 : Kept) (k0 k1 : Known) (core : Core) (before after : Option (List ℕ)) →
-    (reached : Reached names whole (rest_of n at) [] minds (moment p0 q0 k0) (moment p1 q1 k1)) → n ≡ 0 → core ≡ k1.core → after ≡ gain before (trace reached.made) → IsOver names trace whole ended.Budget core p0 p1 before after
-used_up names trace whole n at minds p0 p1 q0 q1 k0 k1 core before after reached none same printed =
-    over_by names trace whole ended.Budget minds p0 p1 q0 q1 k0 k1 core before after (record {
+pub used_up : {spent : ℕ} (start count : ℕ) (names : Names) (trace : Trace) (whole : Answering → Progress) (n : ℕ) (at : Scene) (minds : List (Option Mind)) (p0 p1 : PartView) (q0 q1 : Kept) (k0 k1 : Known) (core : Core) (before after : Option (List ℕ)) →
+    (reached : Reached spent names whole (rest_of n at) [] minds (moment p0 q0 k0) (moment p1 q1 k1)) → n ≡ 0 → core ≡ k1.core → after ≡ gain before (trace reached.made) → start + spent ≤ count → IsOver start count names trace whole ended.Budget core p0 p1 before after
+used_up start count names trace whole n at minds p0 p1 q0 q1 k0 k1 core before after reached none same printed worked =
+    over_by start count names trace whole ended.Budget minds p0 p1 q0 q1 k0 k1 core before after (record {
       piece = reached.piece;
       reads = reached.reads;
       setup = reached.setup;
       world = reached.world;
       stands = reached.stands;
+      work = reached.work;
       made = reached.made;
       records = reached.records;
       is = λ source goes. reached.is source goes ∙ ap (with_front reached.made) (run_out n at (asked names source) reached.world none);
-    }) same printed
+    }) same printed worked
 
 -- one part more, and the run goes on
-abbrev pub part_on : (names : Names) (trace : Trace) (whole : Answering → Progress) (n m : ℕ) (at : Scene) (minds minds' : List Mind) (p0 p1 p2 : PartView) (q0 q1 q2 : Kept) (k0 k1 k1' k2 : Known) (before after : Option (List ℕ)) →
-    (reached : Reached names whole (rest_of n at) [] minds (moment p0 q0 k0) (moment p1 q1 k1')) → n ≡ suc m → k1'.core ≡ k1.core → k1'.setup ≡ k1.setup → list_all is_ended k1.core.actors ≡ false → k0.records ≡ [] →
-    (part : Advances names trace (λ answers. round_or_pass at answers reached.world) None reached.piece minds' (moment p1 q1 k1) (moment p2 q2 k2) before after) → k1.records ≡ [] →
-    Reached names whole (rest_of m at) [] minds' (moment p0 q0 k0) (moment p2 q2 (record k2 { records = reached.made ++ part.records }))
-part_on names trace whole n m at minds minds' p0 p1 p2 q0 q1 q2 k0 k1 k1' k2 before after reached more core same some first part cleared =
+abbrev pub part_on : {spent next : ℕ} (names : Names) (trace : Trace) (whole : Answering → Progress) (n m : ℕ) (at : Scene) (minds minds' : List (Option Mind)) (p0 p1 p2 : PartView) (q0 q1 q2 : Kept) (k0 k1 k1' k2 : Known) (before after : Option (List ℕ)) →
+    (reached : Reached spent names whole (rest_of n at) [] minds (moment p0 q0 k0) (moment p1 q1 k1')) → n ≡ suc m → k1'.core ≡ k1.core → k1'.setup ≡ k1.setup → list_all is_ended k1.core.actors ≡ false → k0.records ≡ [] →
+    (part : Advances next names trace (λ answers. round_or_pass at answers reached.world) None reached.piece minds' (moment p1 q1 k1) (moment p2 q2 k2) before after) → k1.records ≡ [] →
+    Reached next names whole (rest_of m at) [] minds' (moment p0 q0 k0) (moment p2 q2 (record k2 { records = reached.made ++ part.records }))
+part_on {next} names trace whole n m at minds minds' p0 p1 p2 q0 q1 q2 k0 k1 k1' k2 before after reached more core same some first part cleared =
     let made : part.records ≡ part.reached.made = part.reached.records ∙ ap (λ (l : List Record). l ++ part.reached.made) cleared in
     let here : k1'.records ≡ reached.made = reached.records ∙ ap (λ (l : List Record). l ++ reached.made) first in
     let some_here : list_all is_ended reached.world.core.actors ≡ false = ap (λ (c : Core). list_all is_ended c.actors) (sym (sym core ∙ reached.stands.core)) ∙ some in
-    let shifted : Reached names (λ answers. round_or_pass at answers reached.world) (ending None) reached.piece minds' (moment p1 q1 k1') (moment p2 q2 (record k2 { records = reached.made ++ part.records })) =
+    let shifted : Reached next names (λ answers. round_or_pass at answers reached.world) (ending None) reached.piece minds' (moment p1 q1 k1') (moment p2 q2 (record k2 { records = reached.made ++ part.records })) =
     with_records names (λ answers. round_or_pass at answers reached.world) (ending None) reached.piece minds' p1 p2 q1 q2 k1 (record k2 { records = part.records }) k1' (record k2 { records = reached.made ++ part.records }) reached.made part.reached here same refl refl (ap (λ (l : List Record). reached.made ++ l) made) in
     reached_then names whole (rest_of n at) (rest_of m at) [] minds minds' (moment p0 q0 k0) (moment p1 q1 k1') (moment p2 q2 (record k2 { records = reached.made ++ part.records })) reached
     (reached_as names (λ answers. and_then (round_or_pass at answers reached.world) (rest_of m at answers)) (λ answers. rest_of n at answers reached.world) (rest_of m at) reached.piece minds' (moment p1 q1 k1') (moment p2 q2 (record k2 { records = reached.made ++ part.records }))
@@ -208,15 +214,15 @@ part_on names trace whole n m at minds minds' p0 p1 p2 q0 q1 q2 k0 k1 k1' k2 bef
     (goes_on_to names (λ answers. round_or_pass at answers reached.world) (rest_of m at) reached.piece minds' (moment p1 q1 k1') (moment p2 q2 (record k2 { records = reached.made ++ part.records })) shifted))
 
 -- one part more, which has ended the run
-abbrev pub part_last : (names : Names) (trace : Trace) (whole : Answering → Progress) (how : Ended) (n m : ℕ) (at : Scene) (minds minds' : List Mind) (p0 p1 p2 : PartView) (q0 q1 q2 : Kept) (k0 k1 k1' k2 : Known) (before after : Option (List ℕ)) →
-    (reached : Reached names whole (rest_of n at) [] minds (moment p0 q0 k0) (moment p1 q1 k1')) → n ≡ suc m → k1'.core ≡ k1.core → k1'.setup ≡ k1.setup → list_all is_ended k1.core.actors ≡ false → k0.records ≡ [] →
-    (part : Advances names trace (λ answers. round_or_pass at answers reached.world) (Some how) reached.piece minds' (moment p1 q1 k1) (moment p2 q2 k2) before after) → k1.records ≡ [] →
-    Reached names whole (ending (Some how)) [] minds' (moment p0 q0 k0) (moment p2 q2 (record k2 { records = reached.made ++ part.records }))
-part_last names trace whole how n m at minds minds' p0 p1 p2 q0 q1 q2 k0 k1 k1' k2 before after reached more core same some first part cleared =
+abbrev pub part_last : {spent next : ℕ} (names : Names) (trace : Trace) (whole : Answering → Progress) (how : Ended) (n m : ℕ) (at : Scene) (minds minds' : List (Option Mind)) (p0 p1 p2 : PartView) (q0 q1 q2 : Kept) (k0 k1 k1' k2 : Known) (before after : Option (List ℕ)) →
+    (reached : Reached spent names whole (rest_of n at) [] minds (moment p0 q0 k0) (moment p1 q1 k1')) → n ≡ suc m → k1'.core ≡ k1.core → k1'.setup ≡ k1.setup → list_all is_ended k1.core.actors ≡ false → k0.records ≡ [] →
+    (part : Advances next names trace (λ answers. round_or_pass at answers reached.world) (Some how) reached.piece minds' (moment p1 q1 k1) (moment p2 q2 k2) before after) → k1.records ≡ [] →
+    Reached next names whole (ending (Some how)) [] minds' (moment p0 q0 k0) (moment p2 q2 (record k2 { records = reached.made ++ part.records }))
+part_last {next} names trace whole how n m at minds minds' p0 p1 p2 q0 q1 q2 k0 k1 k1' k2 before after reached more core same some first part cleared =
     let made : part.records ≡ part.reached.made = part.reached.records ∙ ap (λ (l : List Record). l ++ part.reached.made) cleared in
     let here : k1'.records ≡ reached.made = reached.records ∙ ap (λ (l : List Record). l ++ reached.made) first in
     let some_here : list_all is_ended reached.world.core.actors ≡ false = ap (λ (c : Core). list_all is_ended c.actors) (sym (sym core ∙ reached.stands.core)) ∙ some in
-    let shifted : Reached names (λ answers. round_or_pass at answers reached.world) (ending (Some how)) reached.piece minds' (moment p1 q1 k1') (moment p2 q2 (record k2 { records = reached.made ++ part.records })) =
+    let shifted : Reached next names (λ answers. round_or_pass at answers reached.world) (ending (Some how)) reached.piece minds' (moment p1 q1 k1') (moment p2 q2 (record k2 { records = reached.made ++ part.records })) =
     with_records names (λ answers. round_or_pass at answers reached.world) (ending (Some how)) reached.piece minds' p1 p2 q1 q2 k1 (record k2 { records = part.records }) k1' (record k2 { records = reached.made ++ part.records }) reached.made part.reached here same refl refl (ap (λ (l : List Record). reached.made ++ l) made) in
     reached_then names whole (rest_of n at) (ending (Some how)) [] minds minds' (moment p0 q0 k0) (moment p1 q1 k1') (moment p2 q2 (record k2 { records = reached.made ++ part.records })) reached
     (reached_as names (λ answers. and_then (round_or_pass at answers reached.world) (rest_of m at answers)) (λ answers. rest_of n at answers reached.world) (ending (Some how)) reached.piece minds' (moment p1 q1 k1') (moment p2 q2 (record k2 { records = reached.made ++ part.records }))
@@ -245,8 +251,8 @@ made_and_then None first next = ((next first.world).made, refl)
 made_and_then (Some how) first next = ([], sym (append-nil first.made))
 
 -- a part was cut off, and so is the run
-pub part_cut : (names : Names) (trace : Trace) → Appends trace → (whole : Answering → Progress) (n m : ℕ) (at : Scene) (minds : List Mind) (p0 p1 p2 : PartView) (q0 q1 : Kept) (k0 k1 : Known) (start before after : Option (List ℕ)) →
-    (reached : Reached names whole (rest_of n at) [] minds (moment p0 q0 k0) (moment p1 q1 k1)) → n ≡ suc m → list_all is_ended k1.core.actors ≡ false → before ≡ gain start (trace reached.made) →
+pub part_cut : {spent : ℕ} (names : Names) (trace : Trace) → Appends trace → (whole : Answering → Progress) (n m : ℕ) (at : Scene) (minds : List (Option Mind)) (p0 p1 p2 : PartView) (q0 q1 : Kept) (k0 k1 : Known) (start before after : Option (List ℕ)) →
+    (reached : Reached spent names whole (rest_of n at) [] minds (moment p0 q0 k0) (moment p1 q1 k1)) → n ≡ suc m → list_all is_ended k1.core.actors ≡ false → before ≡ gain start (trace reached.made) →
     CutsOff names trace (λ answers. round_or_pass at answers reached.world) reached.piece p1 p2 before after → CutsOff names trace whole [] p0 p2 start after
 part_cut names trace appends whole n m at minds p0 p1 p2 q0 q1 k0 k1 start before after reached more some printed cut = record {
   piece = reached.piece ++ cut.piece;
@@ -275,22 +281,27 @@ part_cut names trace appends whole n m at minds p0 p1 p2 q0 q1 k0 k1 start befor
 }
 
 -- ---- the run so far, with its trace lines
-pub record SoFar (names : Names) (trace : Trace) (whole : Answering → Progress) (rest : Answering → World → Progress) (minds : List Mind) (p0 p1 : PartView) (q0 q1 : Kept) (k0 k1 : Known) (before after : Option (List ℕ)) : Type 0 where
+pub record SoFar (start count : ℕ) (names : Names) (trace : Trace) (whole : Answering → Progress) (rest : Answering → World → Progress) (minds : List (Option Mind)) (p0 p1 : PartView) (q0 q1 : Kept) (k0 k1 : Known) (before after : Option (List ℕ)) : Type 0 where
   pub records : List Record
-  pub reached : Reached names whole rest [] minds (moment p0 q0 k0) (moment p1 q1 (record k1 { records = records }))
+  pub spent : ℕ
+  pub worked : start + spent ≤ count
+  pub reached : Reached spent names whole rest [] minds (moment p0 q0 k0) (moment p1 q1 (record k1 { records = records }))
   pub printed : after ≡ gain before (trace reached.made)
 
 -- at the beginning
-pub far_first : (names : Names) (trace : Trace) (whole : Answering → Progress) (rest : Answering → World → Progress) (minds : List Mind) (part : PartView) (kept : Kept) (known : Known) (before : Option (List ℕ)) (world : World) →
-    part.stage ≢ Fresh → StandsFor names [] minds (moment part kept known) world → ((answers : Answering) → whole answers ≡ rest answers world) → trace [] ≡ [] → SoFar names trace whole rest minds part part kept kept known known before before
-far_first names trace whole rest minds part kept known before world begun stands same none = record {
+pub far_first : (start : ℕ) (names : Names) (trace : Trace) (whole : Answering → Progress) (rest : Answering → World → Progress) (minds : List (Option Mind)) (part : PartView) (kept : Kept) (known : Known) (before : Option (List ℕ)) (world : World) →
+    part.stage ≢ Fresh → StandsFor names [] minds (moment part kept known) world → ((answers : Answering) → whole answers ≡ rest answers world) → world.work ≡ 0 → trace [] ≡ [] → SoFar start start names trace whole rest minds part part kept kept known known before before
+far_first start names trace whole rest minds part kept known before world begun stands same idle none = record {
   records = known.records;
+  spent = 0;
+  worked = omega arith;
   reached = record {
     piece = [];
     reads = reads_none part begun;
     setup = refl;
     world = world;
     stands = stands;
+    work = idle;
     made = [];
     records = sym (append-nil known.records);
     is = λ source goes. same (asked names source);
@@ -299,31 +310,33 @@ far_first names trace whole rest minds part kept known before world begun stands
 }
 
 -- one part more
-pub far_on : (names : Names) (trace : Trace) → Appends trace → (whole : Answering → Progress) (n m : ℕ) (at : Scene) (minds minds' : List Mind) (p0 p1 p2 : PartView) (q0 q1 q2 : Kept) (k0 k1 k2 : Known) (start before after : Option (List ℕ)) →
-    (far : SoFar names trace whole (rest_of n at) minds p0 p1 q0 q1 k0 k1 start before) → n ≡ suc m → list_all is_ended k1.core.actors ≡ false → k0.records ≡ [] → k1.records ≡ [] →
-    Advances names trace (λ answers. round_or_pass at answers far.reached.world) None far.reached.piece minds' (moment p1 q1 k1) (moment p2 q2 k2) before after → SoFar names trace whole (rest_of m at) minds' p0 p2 q0 q2 k0 k2 start after
-far_on names trace appends whole n m at minds minds' p0 p1 p2 q0 q1 q2 k0 k1 k2 start before after far more some first cleared part =
+pub far_on : {next : ℕ} (from count later : ℕ) (names : Names) (trace : Trace) → Appends trace → (whole : Answering → Progress) (n m : ℕ) (at : Scene) (minds minds' : List (Option Mind)) (p0 p1 p2 : PartView) (q0 q1 q2 : Kept) (k0 k1 k2 : Known) (start before after : Option (List ℕ)) →
+    (far : SoFar from count names trace whole (rest_of n at) minds p0 p1 q0 q1 k0 k1 start before) → n ≡ suc m → list_all is_ended k1.core.actors ≡ false → k0.records ≡ [] → k1.records ≡ [] →
+    Advances next names trace (λ answers. round_or_pass at answers far.reached.world) None far.reached.piece minds' (moment p1 q1 k1) (moment p2 q2 k2) before after → from + next ≤ later → SoFar from later names trace whole (rest_of m at) minds' p0 p2 q0 q2 k0 k2 start after
+far_on {next} from count later names trace appends whole n m at minds minds' p0 p1 p2 q0 q1 q2 k0 k1 k2 start before after far more some first cleared part worked =
     let made : part.records ≡ part.reached.made = part.reached.records ∙ ap (λ (l : List Record). l ++ part.reached.made) cleared in
     record {
       records = far.reached.made ++ part.records;
+      spent = next;
+      worked = worked;
       reached = part_on names trace whole n m at minds minds' p0 p1 p2 q0 q1 q2 k0 k1 (record k1 { records = far.records }) k2 before after far.reached more refl refl some first part cleared;
       printed = part.printed ∙ ap₂ (λ (h : Option (List ℕ)) (l : List Record). gain h (trace l)) far.printed made ∙ gain-gain start (trace far.reached.made) (trace part.reached.made) ∙ ap (gain start) (sym (appends far.reached.made part.reached.made));
     }
 
 -- the last part
-pub far_over : (names : Names) (trace : Trace) → Appends trace → (whole : Answering → Progress) (how : Ended) (n m : ℕ) (at : Scene) (minds minds' : List Mind) (p0 p1 p2 : PartView) (q0 q1 q2 : Kept) (k0 k1 k2 : Known) (start before after : Option (List ℕ)) →
-    (far : SoFar names trace whole (rest_of n at) minds p0 p1 q0 q1 k0 k1 start before) → n ≡ suc m → list_all is_ended k1.core.actors ≡ false → k0.records ≡ [] → k1.records ≡ [] →
-    Advances names trace (λ answers. round_or_pass at answers far.reached.world) (Some how) far.reached.piece minds' (moment p1 q1 k1) (moment p2 q2 k2) before after → IsOver names trace whole how k2.core p0 p2 start after
-far_over names trace appends whole how n m at minds minds' p0 p1 p2 q0 q1 q2 k0 k1 k2 start before after far more some first cleared part =
+pub far_over : {next : ℕ} (from count later : ℕ) (names : Names) (trace : Trace) → Appends trace → (whole : Answering → Progress) (how : Ended) (n m : ℕ) (at : Scene) (minds minds' : List (Option Mind)) (p0 p1 p2 : PartView) (q0 q1 q2 : Kept) (k0 k1 k2 : Known) (start before after : Option (List ℕ)) →
+    (far : SoFar from count names trace whole (rest_of n at) minds p0 p1 q0 q1 k0 k1 start before) → n ≡ suc m → list_all is_ended k1.core.actors ≡ false → k0.records ≡ [] → k1.records ≡ [] →
+    Advances next names trace (λ answers. round_or_pass at answers far.reached.world) (Some how) far.reached.piece minds' (moment p1 q1 k1) (moment p2 q2 k2) before after → from + next ≤ later → IsOver from later names trace whole how k2.core p0 p2 start after
+far_over from count later names trace appends whole how n m at minds minds' p0 p1 p2 q0 q1 q2 k0 k1 k2 start before after far more some first cleared part worked =
     let made : part.records ≡ part.reached.made = part.reached.records ∙ ap (λ (l : List Record). l ++ part.reached.made) cleared in
-    over_by names trace whole how minds' p0 p2 q0 q2 k0 (record k2 { records = far.reached.made ++ part.records }) k2.core start after
+    over_by from later names trace whole how minds' p0 p2 q0 q2 k0 (record k2 { records = far.reached.made ++ part.records }) k2.core start after
     (part_last names trace whole how n m at minds minds' p0 p1 p2 q0 q1 q2 k0 k1 (record k1 { records = far.records }) k2 before after far.reached more refl refl some first part cleared) refl
-    (part.printed ∙ ap₂ (λ (h : Option (List ℕ)) (l : List Record). gain h (trace l)) far.printed made ∙ gain-gain start (trace far.reached.made) (trace part.reached.made) ∙ ap (gain start) (sym (appends far.reached.made part.reached.made)))
+    (part.printed ∙ ap₂ (λ (h : Option (List ℕ)) (l : List Record). gain h (trace l)) far.printed made ∙ gain-gain start (trace far.reached.made) (trace part.reached.made) ∙ ap (gain start) (sym (appends far.reached.made part.reached.made))) worked
 
 -- what a part did that ended the run or cut it off
-pub far_ends : (names : Names) (trace : Trace) → Appends trace → (whole : Answering → Progress) (how : Ended) (b : Bool) (n m : ℕ) (at : Scene) (minds minds' : List Mind) (p0 p1 p2 : PartView) (q0 q1 q2 : Kept) (k0 k1 k2 : Known) (start before after : Option (List ℕ)) →
-    (far : SoFar names trace whole (rest_of n at) minds p0 p1 q0 q1 k0 k1 start before) → n ≡ suc m → list_all is_ended k1.core.actors ≡ false → k0.records ≡ [] → k1.records ≡ [] →
-    MatchBool b (CutsOff names trace (λ answers. round_or_pass at answers far.reached.world) far.reached.piece p1 p2 before after) (Advances names trace (λ answers. round_or_pass at answers far.reached.world) (Some how) far.reached.piece minds' (moment p1 q1 k1) (moment p2 q2 k2) before after) →
-    MatchBool b (CutsOff names trace whole [] p0 p2 start after) (IsOver names trace whole how k2.core p0 p2 start after)
-far_ends names trace appends whole how true n m at minds minds' p0 p1 p2 q0 q1 q2 k0 k1 k2 start before after far more some first cleared cut = part_cut names trace appends whole n m at minds p0 p1 p2 q0 q1 k0 (record k1 { records = far.records }) start before after far.reached more some far.printed cut
-far_ends names trace appends whole how false n m at minds minds' p0 p1 p2 q0 q1 q2 k0 k1 k2 start before after far more some first cleared part = far_over names trace appends whole how n m at minds minds' p0 p1 p2 q0 q1 q2 k0 k1 k2 start before after far more some first cleared part
+pub far_ends : (next from count later : ℕ) (names : Names) (trace : Trace) → Appends trace → (whole : Answering → Progress) (how : Ended) (b : Bool) (n m : ℕ) (at : Scene) (minds minds' : List (Option Mind)) (p0 p1 p2 : PartView) (q0 q1 q2 : Kept) (k0 k1 k2 : Known) (start before after : Option (List ℕ)) →
+    (far : SoFar from count names trace whole (rest_of n at) minds p0 p1 q0 q1 k0 k1 start before) → n ≡ suc m → list_all is_ended k1.core.actors ≡ false → k0.records ≡ [] → k1.records ≡ [] →
+    MatchBool b (CutsOff names trace (λ answers. round_or_pass at answers far.reached.world) far.reached.piece p1 p2 before after) (Advances next names trace (λ answers. round_or_pass at answers far.reached.world) (Some how) far.reached.piece minds' (moment p1 q1 k1) (moment p2 q2 k2) before after) →
+    (b ≡ false → from + next ≤ later) → MatchBool b (CutsOff names trace whole [] p0 p2 start after) (IsOver from later names trace whole how k2.core p0 p2 start after)
+far_ends next from count later names trace appends whole how true n m at minds minds' p0 p1 p2 q0 q1 q2 k0 k1 k2 start before after far more some first cleared cut worked = part_cut names trace appends whole n m at minds p0 p1 p2 q0 q1 k0 (record k1 { records = far.records }) start before after far.reached more some far.printed cut
+far_ends next from count later names trace appends whole how false n m at minds minds' p0 p1 p2 q0 q1 q2 k0 k1 k2 start before after far more some first cleared part worked = far_over from count later names trace appends whole how n m at minds minds' p0 p1 p2 q0 q1 q2 k0 k1 k2 start before after far more some first cleared part (worked refl)

@@ -7,7 +7,7 @@ use Rattle.sg_base.specs.declared.call.Answer.TheVariants as answer
 use Rattle.sg_edge.specs.Files.{PartView}
 use Rattle.sg_edge.specs.declared.files.Stage.TheVariants.{Fresh}
 use Rattle.sg_kernel.specs.Known.{Known, first_known}
-use Rattle.sg_kernel.specs.Start.{setup_of, home_of, capacity_of}
+use Rattle.sg_kernel.specs.Start.{capacities_in, setup_of, home_of, capacity_of}
 use Rattle.sg_kernel.specs.World.{extent}
 use Rattle.sg_kernel.specs.declared.states.State.TheVariants.{Ready}
 use Rattle.sg_platform.specs.Deployment.{Deployed, extent_of}
@@ -19,7 +19,7 @@ use Rattle.sg_engine.specs.declared.simulation.Simulation.{Simulation}
 use Rattle.sg_engine.specs.Keeping.{at_moment, IsFirst, IsKept}
 use Rattle.sg_engine.specs.Reached.{Fits}
 use Rattle.sg_engine.specs.Roles.{first_minds, minds_from}
-use Rattle.sg_engine.specs.Seated.{held, minds_of, IsSeated}
+use Rattle.sg_engine.specs.Seated.{mind_in, minds_of, IsSeated}
 
 length-minds_from : (me : ℕ) (rows : List ActorRow) → length (minds_from me rows) ≡ length rows
 length-minds_from me [] = refl
@@ -30,10 +30,10 @@ pub extent_is : (platform : Platform) (deployed : Deployed) (budget : ℕ) → e
 extent_is platform deployed budget =
     ap₂ (λ (a s : ℕ). record { actors = a; mutexes = length deployed.mutexes; semaphores = s }) (length-map deployed.actors home_of) (length-map deployed.semaphores capacity_of)
 
-actors_are : (platform : Platform) (deployed : Deployed) (budget : ℕ) → length (first_known (setup_of platform deployed budget)).core.actors ≡ length deployed.actors
+actors_are : (platform : Platform) (deployed : Deployed) (budget : ℕ) → length (first_known (capacities_in platform) (setup_of platform deployed budget)).core.actors ≡ length deployed.actors
 actors_are platform deployed budget = length-replicate (length (setup_of platform deployed budget).homes) (Ready answer.Start) ∙ length-map deployed.actors home_of
 
-first_fits : (platform : Platform) (deployed : Deployed) (budget : ℕ) (part : PartView) (sim : Simulation) → sim.kernel ≡ first_known (setup_of platform deployed budget) → actors_of sim.script ≡ length deployed.actors →
+first_fits : (platform : Platform) (deployed : Deployed) (budget : ℕ) (part : PartView) (sim : Simulation) → sim.kernel ≡ first_known (capacities_in platform) (setup_of platform deployed budget) → actors_of sim.script ≡ length deployed.actors →
     part.stage ≢ Fresh → AreLimited (extent_of deployed) (kept_of sim.script) → Fits deployed (at_moment part sim)
 first_fits platform deployed budget part sim new queues begun waiting = record {
   actors = ap (λ (k : Known). length k.core.actors) new ∙ actors_are platform deployed budget;
@@ -43,12 +43,12 @@ first_fits platform deployed budget part sim new queues begun waiting = record {
   waiting = waiting;
 }
 
-first_kept : (platform : Platform) (deployed : Deployed) (budget : ℕ) (part : PartView) (sim : Simulation) (places : List Place) → sim.kernel ≡ first_known (setup_of platform deployed budget) → Fits deployed (at_moment part sim) →
+first_kept : (platform : Platform) (deployed : Deployed) (budget : ℕ) (part : PartView) (sim : Simulation) (places : List Place) → sim.kernel ≡ first_known (capacities_in platform) (setup_of platform deployed budget) → Fits deployed (at_moment part sim) →
     minds_of places ≡ first_minds deployed → All (IsSeated (extent_of deployed)) places → length deployed.actors ≤ vec_capacity sim.calls → length deployed.actors ≤ 65536 → sim.buffer ≡ [] → IsKept deployed part sim places
 first_kept platform deployed budget part sim places new fits minds seated calls few empty = record {
   fits = fits;
   homes = ap (λ (k : Known). length k.setup.homes) new ∙ length-map deployed.actors home_of;
-  number = sym (length-map places held) ∙ ap length minds ∙ length-minds_from 1 deployed.actors;
+  number = sym (length-map places mind_in) ∙ ap length minds ∙ length-minds_from 1 deployed.actors;
   seated = seated;
   calls = calls;
   few = few;
@@ -57,7 +57,7 @@ first_kept platform deployed budget part sim places new fits minds seated calls 
 }
 
 -- the simulation at its beginning
-pub is_first : (platform : Platform) (deployed : Deployed) (budget : ℕ) (part : PartView) (sim : Simulation) (places : List Place) → sim.kernel ≡ first_known (setup_of platform deployed budget) → actors_of sim.script ≡ length deployed.actors →
+pub is_first : (platform : Platform) (deployed : Deployed) (budget : ℕ) (part : PartView) (sim : Simulation) (places : List Place) → sim.kernel ≡ first_known (capacities_in platform) (setup_of platform deployed budget) → actors_of sim.script ≡ length deployed.actors →
     part.stage ≢ Fresh → AreLimited (extent_of deployed) (kept_of sim.script) → Stands (known_in deployed) [] part.stage (λ _. 0) (kept_of sim.script) →
     minds_of places ≡ first_minds deployed → All (IsSeated (extent_of deployed)) places → length deployed.actors ≤ vec_capacity sim.calls → length deployed.actors ≤ 65536 → sim.buffer ≡ [] → IsFirst platform deployed budget part sim places
 is_first platform deployed budget part sim places new queues begun waiting stands minds seated calls few empty = record {

@@ -1,6 +1,7 @@
 -- The texts of faults that end a run.
 use Rattle.std.specs.Prelude.{ℕ, ◌-◌, nat_lt, if◌then◌else◌, List, [], ◌++◌, length, codes, slice_get}
 use Rattle.std.specs.Option.{option_map_or}
+use Rattle.std.specs.Fmt.{decimal}
 use Rattle.sg_base.specs.declared.ids.Child.{Child}
 use Rattle.sg_base.specs.declared.ids.Child.TheVariants.{Point, Zone}
 use Rattle.sg_base.specs.declared.ids.PointId.{PointId}
@@ -19,6 +20,10 @@ fault_text kind.ArgumentCount = codes "wrong number of arguments"
 fault_text kind.BadAmount = codes "bad amount"
 fault_text kind.TooManyLines = codes "too many lines"
 fault_text kind.UnknownObject = codes "unknown object"
+
+-- the number of the line, and what is wrong with it
+abbrev pub script_line : ℕ → LineFault → List ℕ
+script_line number kind = codes "script line " ++ (decimal number ++ (codes ": " ++ (fault_text kind ++ codes "\n")))
 
 -- ---- routes
 abbrev pub router_name : Platform → ℕ → List ℕ

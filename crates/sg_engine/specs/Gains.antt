@@ -54,6 +54,11 @@ abbrev pub Puts : List ℕ → List ℕ → Result (Unit {0}) Failed → (Stream
 Puts text waiting (Ok done) old new faults = IsPut text waiting old new faults
 Puts text waiting (Error why) old new faults = Broke text old new faults
 
+-- what writing a text to Out and then one to Err has done
+abbrev pub Tells : List ℕ → List ℕ → Result (Unit {0}) Failed → (Stream → Option (List ℕ)) → (Stream → Option (List ℕ)) → ℕ → Type 0
+Tells out err (Ok done) old new faults = GainsAll out err old new × (faults ≡ 0)
+Tells out err (Error why) old new faults = GainsFronts out err old new × (0 < faults)
+
 -- a failed write or want of memory cuts the run off
 abbrev pub is_cut : Ended → Bool
 is_cut ended.Completed = false

@@ -1,24 +1,56 @@
 -- What a simulation keeps from one part of a run to the next.
-use Rattle.std.specs.Prelude.{◌≡◌, ◌≤◌, ℕ, List, [], length, All, Option, MatchBool, vec_capacity}
+use Rattle.std.specs.Prelude.{◌≡◌, ◌≤◌, ◌+◌, ℕ, List, [], length, All, Option, MatchBool, vec_capacity}
 use Rattle.sg_base.specs.Mind.{Mind}
 use Rattle.sg_actor.specs.Places.{Place}
 use Rattle.sg_edge.specs.Files.{PartView}
+use Rattle.sg_edge.specs.declared.files.Part.{Part}
+use Rattle.sg_edge.specs.declared.sinks.Stream.{Stream}
+use Rattle.sg_edge.specs.declared.sinks.Stream.TheVariants.{Out, Err}
 use Rattle.sg_platform.specs.Deployment.{Deployed, extent_of}
 use Rattle.sg_platform.specs.Platform.{Platform}
 use Rattle.sg_script.specs.Known.{Known as Names, known_in}
 use Rattle.sg_script.specs.Stands.{kept_of}
 use Rattle.sg_engine.specs.declared.ended.Ended.{Ended}
+use Rattle.sg_engine.specs.declared.setup.Setup.{Setup}
+use Rattle.sg_engine.specs.declared.show.Show.{Show}
 use Rattle.sg_engine.specs.declared.simulation.Simulation.{Simulation}
 use Rattle.sg_engine.specs.Gains.{cuts}
+use Rattle.sg_kernel.specs.Known.{Known}
 use Rattle.sg_kernel.specs.Start.{setup_of}
-use Rattle.sg_engine.specs.Reached.{Moment, moment, Fits, StandsFor}
-use Rattle.sg_engine.specs.Roles.{first_minds}
+use Rattle.sg_kernel.specs.World.{extent}
+use Rattle.sg_engine.specs.World.{World}
+use Rattle.sg_engine.specs.Output.{first_of, trace_of}
+use Rattle.sg_engine.specs.Reached.{Moment, moment, here, names_of, part_at, script_in, Fits, StandsFor}
 use Rattle.sg_engine.specs.Seated.{IsSeated, minds_of}
-use Rattle.sg_engine.specs.Run.{Answering, Progress, first_world}
+use Rattle.sg_engine.specs.Run.{Answering, Progress, work_behind}
 use Rattle.sg_engine.specs.Simulated.{Trace, Advances, CutsOff}
 
 abbrev pub at_moment : PartView → Simulation → Moment
 at_moment part sim = moment part (kept_of sim.script) sim.kernel
+
+-- a moment of the run of a setup
+abbrev pub now_at : Setup → (Part → PartView) → Simulation → Moment
+now_at setup shows sim = here setup shows sim.script sim.kernel
+
+-- all actors are seated, and there is room for a call of each
+pub record HasRoom (sim : Simulation) (places : List Place) : Type 0 where
+  pub number : length places ≡ length sim.kernel.core.actors
+  pub seated : All (IsSeated (extent sim.kernel.setup)) places
+  pub calls : length places ≤ vec_capacity sim.calls
+  pub room : length places ≤ sim.kernel.room
+
+-- behind a round or a pass all actors are seated again, and nothing but moments and records has changed
+pub record KeepsSeats (old new : Simulation) (places : List Place) : Type 0 where
+  pub setup : new.kernel.setup ≡ old.kernel.setup
+  pub seated : All (IsSeated (extent new.kernel.setup)) places
+  pub calls : vec_capacity new.calls ≡ vec_capacity old.calls
+  pub buffer : new.buffer ≡ old.buffer
+
+-- what the kernel knows is of these actors
+pub record IsOfSetup (deployed : Deployed) (known : Known) : Type 0 where
+  pub number : length known.core.actors ≡ length deployed.actors
+  pub extent : extent known.setup ≡ extent_of deployed
+  pub few : length known.core.actors ≤ 65536
 
 -- all lists are of the deployment's actors, who are seated; there is room for a call of each, and no record and no line waits
 pub record IsKept (deployed : Deployed) (part : PartView) (sim : Simulation) (places : List Place) : Type 0 where
@@ -35,9 +67,22 @@ pub record IsKept (deployed : Deployed) (part : PartView) (sim : Simulation) (pl
 pub record IsFirst (platform : Platform) (deployed : Deployed) (budget : ℕ) (part : PartView) (sim : Simulation) (places : List Place) : Type 0 where
   pub kept : IsKept deployed part sim places
   pub setup : sim.kernel.setup ≡ setup_of platform deployed budget
-  pub stands : StandsFor (known_in deployed) [] (minds_of places) (at_moment part sim) (first_world (first_minds deployed) (setup_of platform deployed budget))
+  pub stands : StandsFor (known_in deployed) [] (minds_of places) (at_moment part sim) (first_of platform deployed budget)
 
 -- what a part of a run has done
-abbrev pub PartIs : Names → Trace → (Answering → Progress) → Option Ended → List ℕ → List Mind → Moment → Moment → Option (List ℕ) → Option (List ℕ) → Type 0
-PartIs names trace whole how taken had old new before after =
-    MatchBool (cuts how) (CutsOff names trace whole taken old.part new.part before after) (Advances names trace whole how taken had old new before after)
+abbrev pub PartIs : ℕ → Names → Trace → (Answering → Progress) → Option Ended → List ℕ → List (Option Mind) → Moment → Moment → Option (List ℕ) → Option (List ℕ) → Type 0
+PartIs spent names trace whole how taken had old new before after =
+    MatchBool (cuts how) (CutsOff names trace whole taken old.part new.part before after) (Advances spent names trace whole how taken had old new before after)
+
+-- so it is in the run of a setup
+abbrev pub Holds : Setup → (Part → PartView) → Simulation → List Place → Type 0
+Holds setup shows sim places = IsKept setup.deployment (script_in setup shows) sim places
+
+abbrev pub FitsNow : Setup → (Part → PartView) → Simulation → Type 0
+FitsNow setup shows sim = Fits setup.deployment (now_at setup shows sim)
+
+-- How a part of a run leads from one moment to another, with its lines on Out: of each world for which the first moment
+-- stands. Err stays.
+abbrev pub LeadsPart : Setup → Show → Option Ended → (Stream → Option (List ℕ)) → (Stream → Option (List ℕ)) → List (Option Mind) → List (Option Mind) → Moment → Moment → Type 0
+LeadsPart setup show how before after had has old new = (after Err ≡ before Err) × ((taken : List ℕ) (world : World) → StandsFor (names_of setup) taken had old world →
+    PartIs (work_behind world) (names_of setup) (trace_of show setup.platform setup.deployment) (λ answers. part_at setup old.kernel answers world) how taken has old new (before Out) (after Out))

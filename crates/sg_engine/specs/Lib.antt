@@ -1,4 +1,5 @@
 pub mod Faults
+pub mod Fuel
 pub mod Gains
 pub mod Keeping
 pub mod Listed
@@ -8,3 +9,4 @@ pub mod Roles
 pub mod Run
 pub mod Seated
 pub mod Simulated
+pub mod World

@@ -1,7 +1,7 @@
 -- The calls of a round as they are kept: only those that were made, each with its actor.
 use Rattle.std.specs.Prelude.{ℕ, ◌+◌, Option, None, Some, List, [], ◌∷◌}
 use Rattle.sg_base.specs.declared.call.Call.{Call}
-use Rattle.sg_kernel.specs.World.{World}
+use Rattle.sg_engine.specs.World.{World}
 use Rattle.sg_engine.specs.declared.actor_call.ActorCall.{ActorCall}
 use Rattle.sg_engine.specs.Run.{Scene, Answering, Progress, at_world, and_then, one_call}
 

@@ -1,32 +1,41 @@
 -- What a run writes, and how it ends.
-use Rattle.std.specs.Prelude.{ℕ, ◌+◌, ◌++◌, unwrap_or, Bool, List, [], ◌∷◌, length, codes}
+use Rattle.std.specs.Prelude.{ℕ, ◌+◌, ◌++◌, unwrap_or, Bool, Option, option_map, List, [], ◌∷◌, length, codes}
 use Rattle.std.specs.List.{flat_map}
-use Rattle.std.specs.Fmt.{decimal}
+use Rattle.std.specs.Option.{option_map_or}
 use Rattle.sg_base.specs.declared.trace_record.Record.{Record}
 use Rattle.sg_edge.specs.Given.{Source}
 use Rattle.sg_kernel.specs.declared.states.State.{State}
-use Rattle.sg_kernel.specs.declared.states.State.TheVariants as state
-use Rattle.sg_kernel.specs.Start.{setup_of}
-use Rattle.sg_kernel.specs.World.{Core}
+use Rattle.sg_kernel.specs.Start.{capacities_in, setup_of}
+use Rattle.sg_kernel.specs.World.{Core, blocked_of}
 use Rattle.sg_platform.specs.Platform.{Platform}
 use Rattle.sg_platform.specs.Deployment.{Deployed}
 use Rattle.sg_route.specs.Roads.{roads_of}
 use Rattle.sg_script.specs.Asked.{asked}
 use Rattle.sg_script.specs.Known.{known_in}
-use Rattle.sg_engine.specs.Faults.{fault_text, no_route_line, too_long_line}
+use Rattle.sg_engine.specs.Faults.{script_line, no_route_line, too_long_line}
 use Rattle.sg_trace.specs.Ending.{ending_of}
 use Rattle.sg_trace.specs.Line.{line_of}
+use Rattle.sg_trace.specs.declared.last.Last.{Last}
 use Rattle.sg_trace.specs.declared.last.Last.TheVariants as last
 use Rattle.sg_engine.specs.declared.ended.Ended.{Ended}
 use Rattle.sg_engine.specs.declared.ended.Ended.TheVariants as ended
 use Rattle.sg_engine.specs.declared.show.Show.{Show}
 use Rattle.sg_engine.specs.declared.show.Show.TheVariants as show
 use Rattle.sg_engine.specs.Roles.{first_minds}
-use Rattle.sg_engine.specs.Run.{Scene, scene, Progress, run_of}
+use Rattle.sg_engine.specs.Run.{Scene, scene, Progress, first_world, run_of}
+use Rattle.sg_engine.specs.World.{World}
 
 -- what a run is of
 abbrev pub scene_of : Platform → Deployed → Bool → ℕ → Scene
 scene_of platform deployed script budget = scene (roads_of platform) (setup_of platform deployed budget) script
+
+-- the world in which it begins
+abbrev pub first_of : Platform → Deployed → ℕ → World
+first_of platform deployed budget = first_world (first_minds deployed) (capacities_in platform) (setup_of platform deployed budget)
+
+-- how many contexts it takes: one for each actor
+abbrev pub contexts_of : Deployed → ℕ
+contexts_of deployed = length deployed.actors
 
 -- a trace line for each record, where all is shown
 abbrev pub trace_of : Show → Platform → Deployed → List Record → List ℕ
@@ -40,10 +49,12 @@ summary_line show.All platform deployed events = []
 summary_line show.Quiet platform deployed events = []
 summary_line show.Summary platform deployed events = ending_of (last.Summary (length deployed.actors) events) platform deployed
 
+-- what is told of an actor for which the run can't go on
+abbrev pub stuck : ℕ → State → Option Last
+stuck actor state = option_map (λ what. last.Blocked (record { 0 = actor }) what) (blocked_of state)
+
 abbrev pub blocked_line : Platform → Deployed → ℕ → State → List ℕ
-blocked_line platform deployed actor (state.Ready answer) = []
-blocked_line platform deployed actor (state.Blocked what since on) = ending_of (last.Blocked (record { 0 = actor }) what) platform deployed
-blocked_line platform deployed actor state.Ended = []
+blocked_line platform deployed actor state = option_map_or (λ told. ending_of told platform deployed) (stuck actor state) []
 
 -- a line for each actor that is blocked, in rising id from this one on
 abbrev pub blocked_lines : Platform → Deployed → ℕ → List State → List ℕ
@@ -52,10 +63,10 @@ blocked_lines platform deployed actor (state ∷ more) = blocked_line platform d
 
 -- what stands on Out behind the trace lines
 abbrev pub last_lines : Show → Platform → Deployed → ℕ → Core → Ended → List ℕ
-last_lines show platform deployed budget core ended.Completed = summary_line show platform deployed core.events ++ ending_of (last.Time core.date) platform deployed
-last_lines show platform deployed budget core ended.Deadlock = ending_of (last.Deadlock core.date) platform deployed ++ blocked_lines platform deployed 1 core.actors
-last_lines show platform deployed budget core ended.Starved = ending_of (last.Starved core.date) platform deployed ++ blocked_lines platform deployed 1 core.actors
-last_lines show platform deployed budget core ended.Budget = ending_of (last.Budget budget core.date) platform deployed
+last_lines show platform deployed budget core ended.Completed = summary_line show platform deployed core.events ++ ending_of (last.Time core.under.date) platform deployed
+last_lines show platform deployed budget core ended.Deadlock = ending_of (last.Deadlock core.under.date) platform deployed ++ blocked_lines platform deployed 1 core.actors
+last_lines show platform deployed budget core ended.Starved = ending_of (last.Starved core.under.date) platform deployed ++ blocked_lines platform deployed 1 core.actors
+last_lines show platform deployed budget core ended.Budget = ending_of (last.Budget budget core.under.date) platform deployed
 last_lines show platform deployed budget core (ended.Script number kind) = []
 last_lines show platform deployed budget core (ended.NoRoute from to zone a b) = []
 last_lines show platform deployed budget core (ended.TooLong from to) = []
@@ -69,7 +80,7 @@ fault_line platform ended.Completed = []
 fault_line platform ended.Deadlock = []
 fault_line platform ended.Starved = []
 fault_line platform ended.Budget = []
-fault_line platform (ended.Script number kind) = codes "script line " ++ (decimal number ++ (codes ": " ++ (fault_text kind ++ codes "\n")))
+fault_line platform (ended.Script number kind) = script_line number kind
 fault_line platform (ended.NoRoute from to zone a b) = no_route_line platform from to zone a b
 fault_line platform (ended.TooLong from to) = too_long_line platform from to
 fault_line platform ended.ReadFault = codes "cannot read the script\n"
@@ -80,6 +91,8 @@ pub record Output : Type 0 where
   pub out : List ℕ
   pub err : List ℕ
   pub ended : Ended
+  pub work : ℕ
+  pub contexts : ℕ
 
 -- the run ended so (each run has an end)
 abbrev pub end_of : Progress → Ended
@@ -90,9 +103,11 @@ written_of show platform deployed budget progress = record {
   out = trace_of show platform deployed progress.made ++ last_lines show platform deployed budget progress.world.core (end_of progress);
   err = fault_line platform (end_of progress);
   ended = end_of progress;
+  work = progress.world.work;
+  contexts = contexts_of deployed;
 }
 
 -- what a run writes and how it ends, with or without a script, by what that gives
 abbrev pub run_output : Platform → Deployed → Bool → ℕ → Show → Source → Output
 run_output platform deployed script budget show source =
-    written_of show platform deployed budget (run_of (scene_of platform deployed script budget) (first_minds deployed) (asked (known_in deployed) source))
+    written_of show platform deployed budget (run_of (scene_of platform deployed script budget) (first_of platform deployed budget) (asked (known_in deployed) source))

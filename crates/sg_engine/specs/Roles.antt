@@ -1,5 +1,5 @@
 -- What actors are to be, and what they have in mind at first.
-use Rattle.std.specs.Prelude.{ℕ, ◌+◌, List, [], ◌∷◌}
+use Rattle.std.specs.Prelude.{ℕ, ◌+◌, Option, Some, List, [], ◌∷◌}
 use Rattle.sg_base.specs.declared.ids.ActorId.{ActorId}
 use Rattle.sg_base.specs.Mind.{Mind}
 use Rattle.sg_actor.specs.declared.role.Role.{Role}
@@ -21,9 +21,9 @@ role_of me (Master tasks flops bytes workers) = role.Master tasks flops bytes wo
 role_of me (Churn seed next prev steps) = role.Churn seed steps (actor_of me) next prev
 
 -- what the actors of these rows have in mind at first, where the first row is this actor's
-abbrev pub minds_from : ℕ → List ActorRow → List Mind
+abbrev pub minds_from : ℕ → List ActorRow → List (Option Mind)
 minds_from me [] = []
-minds_from me (row ∷ rows) = mind_of (role_of me row.function) ∷ minds_from (me + 1) rows
+minds_from me (row ∷ rows) = Some (mind_of (role_of me row.function)) ∷ minds_from (me + 1) rows
 
-abbrev pub first_minds : Deployed → List Mind
+abbrev pub first_minds : Deployed → List (Option Mind)
 first_minds deployed = minds_from 1 deployed.actors

@@ -8,9 +8,12 @@ use Rattle.sg_base.specs.declared.call.Call.TheVariants as call
 use Rattle.sg_base.specs.declared.trace_record.Record.{Record}
 use Rattle.sg_base.specs.Mind.{Mind}
 use Rattle.sg_base.specs.Turn.{turn}
+use Rattle.sg_activity.specs.Links.{Capacities}
+use Rattle.sg_activity.specs.Underway.{uses_under}
 use Rattle.sg_kernel.specs.declared.states.Stop.{Stop}
 use Rattle.sg_kernel.specs.declared.states.Stop.TheVariants as stop
-use Rattle.sg_kernel.specs.World.{Setup, Core, World, inbox_of, is_ready, is_ended}
+use Rattle.sg_kernel.specs.World.{Setup, Core, inbox_of, is_ready, is_ended}
+use Rattle.sg_engine.specs.World.{World}
 use Rattle.sg_kernel.specs.Calls.{answered, told}
 use Rattle.sg_kernel.specs.Start.{first_core}
 use Rattle.sg_kernel.specs.Steps.{Step}
@@ -67,24 +70,31 @@ ended_by stop.Starved = ended.Starved
 abbrev pub in_world : World → Step → Progress
 in_world world step = record { world = record world { core = step.core }; made = step.made; ended = option_map ended_by step.stop }
 
--- ---- a round
 abbrev pub zip_with : {X Y Z : Type 0} → (X → Y → Z) → List X → List Y → List Z
 zip_with f [] ys = []
 zip_with f (x ∷ xs) [] = []
 zip_with f (x ∷ xs) (y ∷ ys) = f x y ∷ zip_with f xs ys
 
+-- ---- what a run asks of the actors
+abbrev pub anyone_ready : Core → Bool
+anyone_ready core = list_any is_ready core.actors
+
+abbrev pub are_completed : Core → Bool
+are_completed core = list_all is_ended core.actors
+
 -- the answer of each actor that is ready
 abbrev pub inboxes : Core → List (Option Answer)
 inboxes core = map inbox_of core.actors
 
+-- ---- a round
 -- who has an answer takes its turn; the others keep their minds
-abbrev pub mind_after : Mind → Option Answer → Mind
-mind_after mind None = mind
-mind_after mind (Some answer) = (turn mind answer).mind
+abbrev pub mind_after : Option Mind → Option Answer → Option Mind
+mind_after held None = held
+mind_after held (Some answer) = option_map (λ mind. (turn mind answer).mind) held
 
-abbrev pub call_after : Mind → Option Answer → Option Call
-call_after mind None = None
-call_after mind (Some answer) = Some (turn mind answer).call
+abbrev pub call_after : Option Mind → Option Answer → Option Call
+call_after held None = None
+call_after held (Some answer) = option_map (λ mind. (turn mind answer).call) held
 
 -- how a bad line or a read fault ends the run
 abbrev pub ended_at : ScriptFault → Ended
@@ -125,22 +135,31 @@ round at answers world =
     calls_from at answers 1 (zip_with call_after world.minds (inboxes world.core)) (record world { minds = zip_with mind_after world.minds (inboxes world.core) })
 
 -- ---- rounds and passes
+-- the work of what comes next: of a pass, where nobody is ready, the uses of what is under way
+abbrev pub next_work : Core → ℕ
+next_work core = if anyone_ready core then 0 else uses_under core.under
+
+-- the work behind it
+abbrev pub work_behind : World → ℕ
+work_behind world = world.work + next_work world.core
+
 abbrev pub round_or_pass : Scene → Answering → World → Progress
 round_or_pass at answers world =
-    if list_any is_ready world.core.actors then round at answers world
-    else in_world world (pass_of at.setup world.core)
+    if anyone_ready world.core then round at answers world
+    else in_world (record world { work = world.work + uses_under world.core.under }) (pass_of at.setup world.core)
 
 -- So many rounds and passes. Each has an event at least or ends the run, so that one more than the budget is enough.
 unfoldable pub run_from : ℕ → Scene → Answering → World → Progress
 run_from zero at answers world = at_world (Some ended.Budget) world
 run_from (suc n) at answers world =
-    if list_all is_ended world.core.actors then at_world (Some ended.Completed) world
+    if are_completed world.core then at_world (Some ended.Completed) world
     else and_then (round_or_pass at answers world) (run_from n at answers)
 
 -- ---- the whole run
 -- at first the actors have this in mind, and all are ready with the answer Start
-abbrev pub first_world : List Mind → Setup → World
-first_world minds setup = record { minds = minds; asks = λ _. 0; core = first_core setup }
+abbrev pub first_world : List (Option Mind) → Capacities → Setup → World
+first_world minds capacities setup = record { minds = minds; asks = λ _. 0; core = first_core capacities setup; work = 0 }
 
-abbrev pub run_of : Scene → List Mind → Answering → Progress
-run_of at minds answers = run_from (at.setup.budget + 1) at answers (first_world minds at.setup)
+-- from this world on
+abbrev pub run_of : Scene → World → Answering → Progress
+run_of at first answers = run_from (at.setup.budget + 1) at answers first

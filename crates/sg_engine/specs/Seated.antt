@@ -1,18 +1,17 @@
 -- The places of actors, from round to round.
-use Rattle.std.specs.Prelude.{◌≡◌, true, false, Bool, List, [], map, Option, None, Some, IsSome, if◌then◌else◌}
-use Rattle.std.specs.Option.{unwrap_or}
+use Rattle.std.specs.Prelude.{◌≡◌, true, false, Bool, List, map, Option, None, Some, IsSome, if◌then◌else◌}
 use Rattle.sg_base.specs.declared.call.Answer.{Answer}
 use Rattle.sg_base.specs.declared.call.Call.{Call}
 use Rattle.sg_base.specs.Limits.{Extent}
-use Rattle.sg_base.specs.Mind.{Mind, mind, ended}
+use Rattle.sg_base.specs.Mind.{Mind}
 use Rattle.sg_actor.specs.Places.{Place, IsPlace}
 
 -- what the actor of a place has in mind
-abbrev pub held : Place → Mind
-held place = unwrap_or place.mind (mind ended [])
+abbrev pub mind_in : Place → Option Mind
+mind_in place = place.mind
 
-abbrev pub minds_of : List Place → List Mind
-minds_of places = map held places
+abbrev pub minds_of : List Place → List (Option Mind)
+minds_of places = map mind_in places
 
 abbrev pub IsCast : Place → Type 0
 IsCast place = IsSome place.mind

@@ -38,7 +38,8 @@ impl Buffer {
     pub fn put<O: Sinks>(&mut self, line: &[u8], out: &mut O) -> Result<(), Failed>
         requires line { length line.now ≤ 512 }
         requires sound { O.faults out.old ≡ 0 }
-        ensures { Puts (self.old ++ line.now) self.new result (O.held out.old) (O.held out.new) (O.faults out.new) }
+        ensures { Puts (self.old ++ line.now) self.new result
+            (O.held out.old) (O.held out.new) (O.faults out.new) }
     {
         if self.bytes.len() + line.len() > ROOM {
             match self.flush(out) {
@@ -63,7 +64,8 @@ impl Buffer {
     /// Writes what waits.
     pub fn flush<O: Sinks>(&mut self, out: &mut O) -> Result<(), Failed>
         requires { O.faults out.old ≡ 0 }
-        ensures writes { Writes self.old result (O.held out.old) (O.held out.new) (O.faults out.new) }
+        ensures writes { Writes self.old result
+            (O.held out.old) (O.held out.new) (O.faults out.new) }
         ensures empty { OnOk result (self.new ≡ []) }
     {
         match write_all(out, Stream::Out, &self.bytes) {

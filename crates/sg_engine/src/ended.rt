@@ -22,9 +22,18 @@ pub enum Ended {
     Budget,
     /// A communication between these two hosts had no route: in this zone there is none from the one of its children
     /// to the other.
-    NoRoute(PointId, PointId, ZoneId, Child, Child),
+    NoRoute {
+        from: PointId,
+        to: PointId,
+        zone: ZoneId,
+        a: Child,
+        b: Child,
+    },
     /// The route of a communication between these two hosts had more than 64 links.
-    TooLong(PointId, PointId),
+    TooLong {
+        from: PointId,
+        to: PointId,
+    },
     /// An Ask met the bad line of this number.
     Script(u64, LineFault),
     /// An Ask met the end of a script that could not be read further.
@@ -37,15 +46,30 @@ pub enum Ended {
 
 /// The end of the run that a stop of the kernel is.
 pub fn end_of(stopped: Result<(), Stop>) -> Option<Ended>
-    ensures is { (stop : Option Stop) → stopped ≡ result_of stop → result ≡ option_map ended_by stop }
+    ensures is { (stop : Option Stop) → stopped ≡ result_of stop →
+        result ≡ option_map ended_by stop }
     ensures uncut { cuts result ≡ false }
     ensures no_fault { result ≢ Some Ended.ReadFault }
 {
     match stopped {
         Ok(()) => None,
         Err(Stop::Budget) => Some(Ended::Budget),
-        Err(Stop::NoRoute(from, to, zone, a, b)) => Some(Ended::NoRoute(from, to, zone, a, b)),
-        Err(Stop::TooLong(from, to)) => Some(Ended::TooLong(from, to)),
+        Err(
+            Stop::NoRoute {
+                from,
+                to,
+                zone,
+                a,
+                b,
+            },
+        ) => Some(Ended::NoRoute {
+            from,
+            to,
+            zone,
+            a,
+            b,
+        }),
+        Err(Stop::TooLong { from, to }) => Some(Ended::TooLong { from, to }),
         Err(Stop::Deadlock) => Some(Ended::Deadlock),
         Err(Stop::Starved) => Some(Ended::Starved),
     }

@@ -1,27 +1,21 @@
 //! The parts of a run: rounds, and passes where nobody is ready.
-ghost use Rattle.std.specs.Prelude.{IfOk, ◌≡◌, ◌≢◌, ◌<◌, ◌≤◌, ℕ, List, length, false, All, MatchResult, vec_capacity};
-ghost use Rattle.std.specs.List.{list_all};
+ghost use Rattle.std.specs.Prelude.{◌≡◌, ◌+◌, ◌≤◌, false};
 ghost use Rattle.sg_actor.specs.Seen.{all_seen};
-ghost use Rattle.sg_edge.specs.Files.{Only};
-ghost use Rattle.sg_edge.specs.declared.files.Stage.TheVariants.{Broken};
 ghost use Rattle.sg_kernel.specs.Roads.{AreOver};
-ghost use Rattle.sg_kernel.specs.World.{World, extent, is_ended};
-ghost use Rattle.sg_script.specs.Known.{known_in};
-ghost use Rattle.sg_engine.specs.Gains.{cuts};
-ghost use Rattle.sg_engine.specs.Reached.{moment_of, Fits, StandsFor, Reached, CutOff, ending, script_part};
-ghost use Rattle.sg_engine.specs.Run.{round as round_spec, round_or_pass as round_or_pass_spec, scene};
-ghost use Rattle.sg_engine.specs.Seated.{minds_of, IsSeated};
+ghost use Rattle.sg_engine.specs.Keeping.{now_at, FitsNow, HasRoom, KeepsSeats};
+ghost use Rattle.sg_engine.specs.Reached.{part_at, round_at, script_in, IsReadFrom, IsUncut, Leads, ReadsScript};
+ghost use Rattle.sg_engine.specs.Run.{are_completed, next_work, work_behind};
+ghost use Rattle.sg_engine.specs.Seated.{minds_of};
 
-use crate::actor_call::ActorCall;
 use crate::ended::{Ended, end_of};
 use crate::round::answer_calls;
 use crate::setup::Setup;
+use crate::simulation::Simulation;
+use crate::terms::Terms;
 use crate::turns::take_turns;
 use sg_actor::{Actor, Seat};
 use sg_base::{Memory, Steps};
 use sg_edge::{Files, Part};
-use sg_kernel::Kernel;
-use sg_script::Script;
 use std::sync::ledger::Ledger;
 use std::thread::Threads;
 
@@ -29,71 +23,62 @@ use std::thread::Threads;
 fn round<R: Threads + Sync, F: Files>(
     rt: &R,
     setup: &Setup,
-    kernel: &mut Kernel,
-    script: &mut Script,
-    files: &mut F,
+    sim: &mut Simulation,
     seats: &mut [Seat],
-    calls: &mut Vec<ActorCall>,
-    workers: u32,
+    terms: Terms,
+    files: &mut F,
 ) -> Result<Option<Ended>, Memory>
-    requires workers { 0 < workers }
-    requires roads { AreOver (length kernel.old.setup.capacities.links) setup.now.router }
-    requires fits { Fits setup.now.deployment (moment_of setup.now.script (F.shows files.old Part.Script) script.old kernel.old) }
-    requires number { length seats.old ≡ length kernel.old.core.actors }
-    requires seated { All (IsSeated (extent kernel.old.setup)) (all_seen (λ b. mind b) seats.old) }
-    requires calls { length seats.old ≤ vec_capacity calls.old }
-    requires room { length seats.old ≤ kernel.old.room }
-    ensures step { (taken : List ℕ) (world : World) → StandsFor (known_in setup.now.deployment) taken (minds_of (all_seen (λ b. mind b) seats.old)) (moment_of setup.now.script (F.shows files.old Part.Script) script.old kernel.old) world → MatchResult result
-        (λ how. Reached (known_in setup.now.deployment) (λ answers. round_spec (scene setup.now.router kernel.old.setup setup.now.script) answers world) (ending how) taken (minds_of (all_seen (λ b. mind b) seats.new)) (moment_of setup.now.script (F.shows files.old Part.Script) script.old kernel.old) (moment_of setup.now.script (F.shows files.new Part.Script) script.new kernel.new))
-        (λ _. CutOff (script_part setup.now.script (F.shows files.old Part.Script)) (script_part setup.now.script (F.shows files.new Part.Script))) }
-    ensures fits { Fits setup.now.deployment (moment_of setup.now.script (F.shows files.new Part.Script) script.new kernel.new) }
-    ensures setup { kernel.new.setup ≡ kernel.old.setup }
-    ensures uncut { IfOk result (λ how. cuts how ≡ false) }
-    ensures read { result ≡ Ok (Some Ended.ReadFault) → (script_part setup.now.script (F.shows files.new Part.Script)).stage ≡ Broken }
-    ensures others { Only Part.Script (F.shows files.old) (F.shows files.new) }
-    ensures unscripted { setup.now.script ≡ false → files.new ≡ files.old }
-    ensures calls { vec_capacity calls.new ≡ vec_capacity calls.old }
-    ensures seated { All (IsSeated (extent kernel.new.setup)) (all_seen (λ b. mind b) seats.new) }
+    requires roads { AreOver sim.old.kernel.setup.links setup.now.router }
+    requires fits { FitsNow setup.now (F.shows files.old) sim.old }
+    requires room { HasRoom sim.old (all_seen (λ b. mind b) seats.old) }
+    ensures step { Leads setup.now (λ world. world.work) (round_at setup.now sim.old.kernel) result
+        (minds_of (all_seen (λ b. mind b) seats.old)) (minds_of (all_seen (λ b. mind b) seats.new))
+        (now_at setup.now (F.shows files.old) sim.old)
+        (now_at setup.now (F.shows files.new) sim.new) }
+    ensures fits { FitsNow setup.now (F.shows files.new) sim.new }
+    ensures seats { KeepsSeats sim.old sim.new (all_seen (λ b. mind b) seats.new) }
+    ensures uncut { IsUncut setup.now.script result }
+    ensures read { IsReadFrom result (script_in setup.now (F.shows files.new)) }
+    ensures script { ReadsScript F.shows setup.now.script files.old files.new }
 {
-    take_turns(rt, kernel, seats, calls, workers);
-    answer_calls(setup, kernel, script, files, calls.as_slice())
+    take_turns(rt, &sim.kernel, seats, &mut sim.calls, terms.workers);
+    answer_calls(
+        setup,
+        &mut sim.kernel,
+        &mut sim.script,
+        files,
+        sim.calls.as_slice(),
+    )
 }
 
-/// A round, or a pass where nobody is ready.
+/// A round, or a pass where nobody is ready. It takes no memory but for lines of the script.
 pub fn round_or_pass<R: Threads + Sync, F: Files, L: Ledger>(
     rt: &R,
     setup: &Setup,
-    kernel: &mut Kernel,
-    script: &mut Script,
-    files: &mut F,
+    sim: &mut Simulation,
     seats: &mut [Seat],
-    calls: &mut Vec<ActorCall>,
-    workers: u32,
+    terms: Terms,
+    files: &mut F,
     steps: &mut Steps<L>,
 ) -> Result<Option<Ended>, Memory>
-    requires workers { 0 < workers }
-    requires roads { AreOver (length kernel.old.setup.capacities.links) setup.now.router }
-    requires fits { Fits setup.now.deployment (moment_of setup.now.script (F.shows files.old Part.Script) script.old kernel.old) }
-    requires number { length seats.old ≡ length kernel.old.core.actors }
-    requires seated { All (IsSeated (extent kernel.old.setup)) (all_seen (λ b. mind b) seats.old) }
-    requires calls { length seats.old ≤ vec_capacity calls.old }
-    requires room { length seats.old ≤ kernel.old.room }
-    requires going { list_all is_ended kernel.old.core.actors ≡ false }
-    ensures step { (taken : List ℕ) (world : World) → StandsFor (known_in setup.now.deployment) taken (minds_of (all_seen (λ b. mind b) seats.old)) (moment_of setup.now.script (F.shows files.old Part.Script) script.old kernel.old) world → MatchResult result
-        (λ how. Reached (known_in setup.now.deployment) (λ answers. round_or_pass_spec (scene setup.now.router kernel.old.setup setup.now.script) answers world) (ending how) taken (minds_of (all_seen (λ b. mind b) seats.new)) (moment_of setup.now.script (F.shows files.old Part.Script) script.old kernel.old) (moment_of setup.now.script (F.shows files.new Part.Script) script.new kernel.new))
-        (λ _. CutOff (script_part setup.now.script (F.shows files.old Part.Script)) (script_part setup.now.script (F.shows files.new Part.Script))) }
-    ensures fits { Fits setup.now.deployment (moment_of setup.now.script (F.shows files.new Part.Script) script.new kernel.new) }
-    ensures setup { kernel.new.setup ≡ kernel.old.setup }
-    ensures uncut { IfOk result (λ how. cuts how ≡ false) }
-    ensures read { result ≡ Ok (Some Ended.ReadFault) → (script_part setup.now.script (F.shows files.new Part.Script)).stage ≡ Broken }
-    ensures others { Only Part.Script (F.shows files.old) (F.shows files.new) }
-    ensures unscripted { setup.now.script ≡ false → files.new ≡ files.old }
-    ensures calls { vec_capacity calls.new ≡ vec_capacity calls.old }
-    ensures seated { All (IsSeated (extent kernel.new.setup)) (all_seen (λ b. mind b) seats.new) }
+    requires roads { AreOver sim.old.kernel.setup.links setup.now.router }
+    requires fits { FitsNow setup.now (F.shows files.old) sim.old }
+    requires room { HasRoom sim.old (all_seen (λ b. mind b) seats.old) }
+    requires going { are_completed sim.old.kernel.core ≡ false }
+    ensures step { Leads setup.now work_behind (part_at setup.now sim.old.kernel) result
+        (minds_of (all_seen (λ b. mind b) seats.old)) (minds_of (all_seen (λ b. mind b) seats.new))
+        (now_at setup.now (F.shows files.old) sim.old)
+        (now_at setup.now (F.shows files.new) sim.new) }
+    ensures fits { FitsNow setup.now (F.shows files.new) sim.new }
+    ensures seats { KeepsSeats sim.old sim.new (all_seen (λ b. mind b) seats.new) }
+    ensures uncut { IsUncut setup.now.script result }
+    ensures read { IsReadFrom result (script_in setup.now (F.shows files.new)) }
+    ensures script { ReadsScript F.shows setup.now.script files.old files.new }
+    ensures steps { steps.old + next_work sim.old.kernel.core ≤ steps.new }
 {
-    if kernel.any_ready() {
-        round(rt, setup, kernel, script, files, seats, calls, workers)
+    if sim.kernel.any_ready() {
+        round(rt, setup, sim, seats, terms, files)
     } else {
-        Ok(end_of(kernel.pass(steps)))
+        Ok(end_of(sim.kernel.pass(steps)))
     }
 }

@@ -1,11 +1,12 @@
 //! The lines on Out.
-ghost use Rattle.std.specs.Prelude.{◌≡◌, ◌≤◌, ◌++◌, [], length, OnOk};
+ghost use Rattle.std.specs.Prelude.{◌≡◌, ◌++◌, [], OnOk};
 ghost use Rattle.sg_kernel.specs.Records.{AreRecords, IsRecord};
-ghost use Rattle.sg_kernel.specs.World.{IsActor, extent, state_of};
+ghost use Rattle.sg_kernel.specs.World.{IsActor, state_of};
 ghost use Rattle.sg_platform.specs.Deployment.{extent_of};
 ghost use Rattle.sg_trace.specs.Ending.{IsLastOf, ending_of};
 ghost use Rattle.sg_trace.specs.Line.{line_of};
 ghost use Rattle.sg_engine.specs.Gains.{Writes, Puts};
+ghost use Rattle.sg_engine.specs.Keeping.{IsOfSetup};
 ghost use Rattle.sg_engine.specs.Output.{trace_of, blocked_line, blocked_lines};
 
 use crate::buffer::Buffer;
@@ -25,7 +26,9 @@ fn put_record<O: Sinks>(
 ) -> Result<(), Failed>
     requires answered { IsRecord (extent_of setup.now.deployment) answered.now }
     requires sound { O.faults out.old ≡ 0 }
-    ensures { Puts (buffer.old ++ line_of answered.now setup.now.platform setup.now.deployment) buffer.new result (O.held out.old) (O.held out.new) (O.faults out.new) }
+    ensures { Puts (buffer.old ++ line_of answered.now setup.now.platform setup.now.deployment)
+        buffer.new result
+        (O.held out.old) (O.held out.new) (O.faults out.new) }
 {
     let text = line(answered, &setup.platform, &setup.deployment);
     buffer.put(text.as_bytes(), out)
@@ -40,7 +43,9 @@ fn put_records<O: Sinks>(
 ) -> Result<(), Failed>
     requires records { AreRecords (extent_of setup.now.deployment) records.now }
     requires sound { O.faults out.old ≡ 0 }
-    ensures { Puts (buffer.old ++ trace_of Show.All setup.now.platform setup.now.deployment records.now) buffer.new result (O.held out.old) (O.held out.new) (O.faults out.new) }
+    ensures { Puts (buffer.old
+        ++ trace_of Show.All setup.now.platform setup.now.deployment records.now) buffer.new result
+        (O.held out.old) (O.held out.new) (O.faults out.new) }
 {
     for answered in records {
         match put_record(setup, answered, buffer, out) {
@@ -62,7 +67,8 @@ pub fn print_records<O: Sinks>(
     requires records { AreRecords (extent_of setup.now.deployment) records.now }
     requires empty { buffer.old ≡ [] }
     requires sound { O.faults out.old ≡ 0 }
-    ensures writes { Writes (trace_of show setup.now.platform setup.now.deployment records.now) result (O.held out.old) (O.held out.new) (O.faults out.new) }
+    ensures writes { Writes (trace_of show setup.now.platform setup.now.deployment records.now)
+        result (O.held out.old) (O.held out.new) (O.faults out.new) }
     ensures empty { OnOk result (buffer.new ≡ []) }
 {
     match show {
@@ -79,7 +85,8 @@ pub fn print_records<O: Sinks>(
 pub fn print_last<O: Sinks>(setup: &Setup, last: Last, out: &mut O) -> Result<(), Failed>
     requires last { IsLastOf setup.now.deployment last }
     requires sound { O.faults out.old ≡ 0 }
-    ensures { Writes (ending_of last setup.now.platform setup.now.deployment) result (O.held out.old) (O.held out.new) (O.faults out.new) }
+    ensures { Writes (ending_of last setup.now.platform setup.now.deployment) result
+        (O.held out.old) (O.held out.new) (O.faults out.new) }
 {
     let text = ending_line(&last, &setup.platform, &setup.deployment);
     match write_all(out, Stream::Out, text.as_bytes()) {
@@ -97,7 +104,9 @@ fn put_last<O: Sinks>(
 ) -> Result<(), Failed>
     requires last { IsLastOf setup.now.deployment last }
     requires sound { O.faults out.old ≡ 0 }
-    ensures { Puts (buffer.old ++ ending_of last setup.now.platform setup.now.deployment) buffer.new result (O.held out.old) (O.held out.new) (O.faults out.new) }
+    ensures { Puts (buffer.old ++ ending_of last setup.now.platform setup.now.deployment)
+        buffer.new result
+        (O.held out.old) (O.held out.new) (O.faults out.new) }
 {
     let text = ending_line(&last, &setup.platform, &setup.deployment);
     buffer.put(text.as_bytes(), out)
@@ -115,7 +124,9 @@ pub fn print_two<O: Sinks>(
     requires second { IsLastOf setup.now.deployment second }
     requires empty { buffer.old ≡ [] }
     requires sound { O.faults out.old ≡ 0 }
-    ensures { Writes (ending_of first setup.now.platform setup.now.deployment ++ ending_of second setup.now.platform setup.now.deployment) result (O.held out.old) (O.held out.new) (O.faults out.new) }
+    ensures { Writes (ending_of first setup.now.platform setup.now.deployment
+        ++ ending_of second setup.now.platform setup.now.deployment) result
+        (O.held out.old) (O.held out.new) (O.faults out.new) }
 {
     match put_last(setup, first, buffer, out) {
         Ok(()) => {}
@@ -137,10 +148,11 @@ fn put_blocked<O: Sinks>(
     out: &mut O,
 ) -> Result<(), Failed>
     requires actor { IsActor kernel.now.core actor.0 }
-    requires number { length kernel.now.core.actors ≡ length setup.now.deployment.actors }
-    requires extent { extent kernel.now.setup ≡ extent_of setup.now.deployment }
+    requires of { IsOfSetup setup.now.deployment kernel.now }
     requires sound { O.faults out.old ≡ 0 }
-    ensures { Puts (buffer.old ++ blocked_line setup.now.platform setup.now.deployment actor.0 (state_of kernel.now.core actor.0)) buffer.new result (O.held out.old) (O.held out.new) (O.faults out.new) }
+    ensures { Puts (buffer.old ++ blocked_line setup.now.platform setup.now.deployment actor.0
+        (state_of kernel.now.core actor.0)) buffer.new result
+        (O.held out.old) (O.held out.new) (O.faults out.new) }
 {
     match kernel.blocked(actor) {
         Some(call) => put_last(setup, Last::Blocked(actor, call), buffer, out),
@@ -155,11 +167,11 @@ fn put_all_blocked<O: Sinks>(
     buffer: &mut Buffer,
     out: &mut O,
 ) -> Result<(), Failed>
-    requires number { length kernel.now.core.actors ≡ length setup.now.deployment.actors }
-    requires extent { extent kernel.now.setup ≡ extent_of setup.now.deployment }
-    requires few { length kernel.now.core.actors ≤ 65536 }
+    requires of { IsOfSetup setup.now.deployment kernel.now }
     requires sound { O.faults out.old ≡ 0 }
-    ensures { Puts (buffer.old ++ blocked_lines setup.now.platform setup.now.deployment 1 kernel.now.core.actors) buffer.new result (O.held out.old) (O.held out.new) (O.faults out.new) }
+    ensures { Puts (buffer.old ++ blocked_lines setup.now.platform setup.now.deployment 1
+        kernel.now.core.actors) buffer.new result
+        (O.held out.old) (O.held out.new) (O.faults out.new) }
 {
     for i in 0..kernel.actors() {
         match put_blocked(setup, kernel, ActorId(i as u32 + 1), buffer, out) {
@@ -179,12 +191,12 @@ pub fn print_stuck<O: Sinks>(
     out: &mut O,
 ) -> Result<(), Failed>
     requires last { IsLastOf setup.now.deployment last }
-    requires number { length kernel.now.core.actors ≡ length setup.now.deployment.actors }
-    requires extent { extent kernel.now.setup ≡ extent_of setup.now.deployment }
-    requires few { length kernel.now.core.actors ≤ 65536 }
+    requires of { IsOfSetup setup.now.deployment kernel.now }
     requires empty { buffer.old ≡ [] }
     requires sound { O.faults out.old ≡ 0 }
-    ensures { Writes (ending_of last setup.now.platform setup.now.deployment ++ blocked_lines setup.now.platform setup.now.deployment 1 kernel.now.core.actors) result (O.held out.old) (O.held out.new) (O.faults out.new) }
+    ensures { Writes (ending_of last setup.now.platform setup.now.deployment
+        ++ blocked_lines setup.now.platform setup.now.deployment 1 kernel.now.core.actors) result
+        (O.held out.old) (O.held out.new) (O.faults out.new) }
 {
     match put_last(setup, last, buffer, out) {
         Ok(()) => {}

@@ -31,7 +31,7 @@ pub fn role(alloc: Global, me: ActorId, function: &Function) -> Result<Role, Mem
             prev,
             steps,
         } => Ok(Role::Churn {
-            state: *seed,
+            seed: *seed,
             steps: *steps,
             me,
             next: *next,

@@ -1,18 +1,13 @@
 //! The second half of a round: the calls are answered in rising id.
-ghost use Rattle.std.specs.Prelude.{IfOk, false, ◌&&◌, ◌≡◌, ◌+◌, ◌<◌, ◌≤◌, ℕ, List, length, MatchResult, All, AllPairs};
+ghost use Rattle.std.specs.Prelude.{◌≡◌, ◌&&◌, ◌+◌, ◌<◌, ◌≤◌, IfOk, length, All, AllPairs, false};
 ghost use Rattle.sg_base.specs.Limits.{IsCall};
-ghost use Rattle.sg_base.specs.Mind as base;
 ghost use Rattle.sg_edge.specs.Files.{Only};
-ghost use Rattle.sg_edge.specs.declared.files.Stage.TheVariants.{Broken};
-ghost use Rattle.sg_kernel.specs.World.{World, MayCall, extent};
+ghost use Rattle.sg_kernel.specs.World.{MayCall, extent};
 ghost use Rattle.sg_kernel.specs.Roads.{AreOver};
-ghost use Rattle.sg_script.specs.Known.{known_in};
-ghost use Rattle.sg_script.specs.Stands.{kept_of};
 ghost use Rattle.sg_engine.specs.declared.actor_call.ActorCall.{ActorCall};
 ghost use Rattle.sg_engine.specs.Gains.{cuts};
-ghost use Rattle.sg_engine.specs.Listed.{calls_of};
-ghost use Rattle.sg_engine.specs.Reached.{moment, moment_of, Fits, LeavesFree, StandsFor, Reached, CutOff, ending, script_part};
-ghost use Rattle.sg_engine.specs.Run.{is_ask, ask, one_call, scene};
+ghost use Rattle.sg_engine.specs.Reached.{here, here_asked, script_in, call_at, calls_at, FitsAsked, FitsHere, IsReadFrom, IsUncut, LeavesFree, LeadsCalls, ReadsScript};
+ghost use Rattle.sg_engine.specs.Run.{is_ask, ask};
 
 use crate::actor_call::ActorCall;
 use crate::ended::{Ended, end_of};
@@ -32,13 +27,13 @@ fn answer_ask<F: Files>(
 ) -> Result<Option<Ended>, Memory>
     requires caller { MayCall kernel.old.core actor.0 }
     requires room { 0 < kernel.old.room }
-    requires fits { Fits setup.now.deployment (moment (F.shows files.old Part.Script) (kept_of script.old) kernel.old) }
-    ensures step { (taken : List ℕ) (minds : List base.Mind) (world : World) → StandsFor (known_in setup.now.deployment) taken minds (moment (F.shows files.old Part.Script) (kept_of script.old) kernel.old) world → MatchResult result
-        (λ how. Reached (known_in setup.now.deployment) (λ answers. ask kernel.old.setup answers actor.0 world) (ending how) taken minds (moment (F.shows files.old Part.Script) (kept_of script.old) kernel.old) (moment (F.shows files.new Part.Script) (kept_of script.new) kernel.new))
-        (λ _. CutOff (F.shows files.old Part.Script) (F.shows files.new Part.Script)) }
-    ensures fits { Fits setup.now.deployment (moment (F.shows files.new Part.Script) (kept_of script.new) kernel.new) }
+    requires fits { FitsAsked setup.now (F.shows files.old) script.old kernel.old }
+    ensures step { LeadsCalls setup.now (λ answers. ask kernel.old.setup answers actor.0) result
+        (here_asked (F.shows files.old) script.old kernel.old)
+        (here_asked (F.shows files.new) script.new kernel.new) }
+    ensures fits { FitsAsked setup.now (F.shows files.new) script.new kernel.new }
     ensures uncut { IfOk result (λ how. cuts how ≡ false) }
-    ensures read { result ≡ Ok (Some Ended.ReadFault) → (F.shows files.new Part.Script).stage ≡ Broken }
+    ensures read { IsReadFrom result (F.shows files.new Part.Script) }
     ensures others { Only Part.Script (F.shows files.old) (F.shows files.new) }
     ensures setup { kernel.new.setup ≡ kernel.old.setup }
     ensures room { kernel.old.room ≤ kernel.new.room + 1 }
@@ -77,16 +72,15 @@ fn answer_one<F: Files>(
     requires caller { MayCall kernel.old.core actor.0 }
     requires call { IsCall (extent kernel.old.setup) call }
     requires room { 0 < kernel.old.room }
-    requires roads { AreOver (length kernel.old.setup.capacities.links) setup.now.router }
-    requires fits { Fits setup.now.deployment (moment_of setup.now.script (F.shows files.old Part.Script) script.old kernel.old) }
-    ensures step { (taken : List ℕ) (minds : List base.Mind) (world : World) → StandsFor (known_in setup.now.deployment) taken minds (moment_of setup.now.script (F.shows files.old Part.Script) script.old kernel.old) world → MatchResult result
-        (λ how. Reached (known_in setup.now.deployment) (λ answers. one_call (scene setup.now.router kernel.old.setup setup.now.script) answers actor.0 call world) (ending how) taken minds (moment_of setup.now.script (F.shows files.old Part.Script) script.old kernel.old) (moment_of setup.now.script (F.shows files.new Part.Script) script.new kernel.new))
-        (λ _. CutOff (script_part setup.now.script (F.shows files.old Part.Script)) (script_part setup.now.script (F.shows files.new Part.Script))) }
-    ensures fits { Fits setup.now.deployment (moment_of setup.now.script (F.shows files.new Part.Script) script.new kernel.new) }
-    ensures uncut { IfOk result (λ how. cuts how ≡ false) }
-    ensures read { result ≡ Ok (Some Ended.ReadFault) → (script_part setup.now.script (F.shows files.new Part.Script)).stage ≡ Broken }
-    ensures others { Only Part.Script (F.shows files.old) (F.shows files.new) }
-    ensures unscripted { setup.now.script ≡ false → files.new ≡ files.old }
+    requires roads { AreOver kernel.old.setup.links setup.now.router }
+    requires fits { FitsHere setup.now (F.shows files.old) script.old kernel.old }
+    ensures step { LeadsCalls setup.now (call_at setup.now kernel.old actor call) result
+        (here setup.now (F.shows files.old) script.old kernel.old)
+        (here setup.now (F.shows files.new) script.new kernel.new) }
+    ensures fits { FitsHere setup.now (F.shows files.new) script.new kernel.new }
+    ensures uncut { IsUncut setup.now.script result }
+    ensures read { IsReadFrom result (script_in setup.now (F.shows files.new)) }
+    ensures script { ReadsScript F.shows setup.now.script files.old files.new }
     ensures setup { kernel.new.setup ≡ kernel.old.setup }
     ensures room { kernel.old.room ≤ kernel.new.room + 1 }
     ensures free { LeavesFree actor.0 kernel.old.core kernel.new.core }
@@ -106,22 +100,23 @@ pub fn answer_calls<F: Files>(
     files: &mut F,
     calls: &[ActorCall],
 ) -> Result<Option<Ended>, Memory>
-    requires callers { All (λ (made : ActorCall). MayCall kernel.old.core made.actor.0 × IsCall (extent kernel.old.setup) made.call) calls.now }
+    requires callers { All (λ (made : ActorCall). MayCall kernel.old.core made.actor.0
+        × IsCall (extent kernel.old.setup) made.call) calls.now }
     requires rises { AllPairs (λ (a b : ActorCall). a.actor.0 < b.actor.0) calls.now }
     requires room { length calls.now ≤ kernel.old.room }
-    requires roads { AreOver (length kernel.old.setup.capacities.links) setup.now.router }
-    requires fits { Fits setup.now.deployment (moment_of setup.now.script (F.shows files.old Part.Script) script.old kernel.old) }
-    ensures step { (taken : List ℕ) (minds : List base.Mind) (world : World) → StandsFor (known_in setup.now.deployment) taken minds (moment_of setup.now.script (F.shows files.old Part.Script) script.old kernel.old) world → MatchResult result
-        (λ how. Reached (known_in setup.now.deployment) (λ answers. calls_of (scene setup.now.router kernel.old.setup setup.now.script) answers calls.now world) (ending how) taken minds (moment_of setup.now.script (F.shows files.old Part.Script) script.old kernel.old) (moment_of setup.now.script (F.shows files.new Part.Script) script.new kernel.new))
-        (λ _. CutOff (script_part setup.now.script (F.shows files.old Part.Script)) (script_part setup.now.script (F.shows files.new Part.Script))) }
-    ensures fits { Fits setup.now.deployment (moment_of setup.now.script (F.shows files.new Part.Script) script.new kernel.new) }
+    requires roads { AreOver kernel.old.setup.links setup.now.router }
+    requires fits { FitsHere setup.now (F.shows files.old) script.old kernel.old }
+    ensures step { LeadsCalls setup.now (calls_at setup.now kernel.old calls.now) result
+        (here setup.now (F.shows files.old) script.old kernel.old)
+        (here setup.now (F.shows files.new) script.new kernel.new) }
+    ensures fits { FitsHere setup.now (F.shows files.new) script.new kernel.new }
     ensures setup { kernel.new.setup ≡ kernel.old.setup }
-    ensures uncut { IfOk result (λ how. cuts how ≡ false) }
-    ensures read { result ≡ Ok (Some Ended.ReadFault) → (script_part setup.now.script (F.shows files.new Part.Script)).stage ≡ Broken }
-    ensures others { Only Part.Script (F.shows files.old) (F.shows files.new) }
-    ensures unscripted { setup.now.script ≡ false → files.new ≡ files.old }
+    ensures uncut { IsUncut setup.now.script result }
+    ensures read { IsReadFrom result (script_in setup.now (F.shows files.new)) }
+    ensures script { ReadsScript F.shows setup.now.script files.old files.new }
 {
-    for made in calls {
+    for place in 0..calls.len() {
+        let made = calls[place];
         match answer_one(setup, kernel, script, files, made.actor, made.call) {
             Ok(None) => {}
             Ok(Some(how)) => return Ok(Some(how)),

@@ -1,17 +1,13 @@
 //! The whole run.
-ghost use Rattle.std.specs.Prelude.{◌≡◌, ◌≢◌, ◌<◌, ◌≤◌, ⊤, [], length, drop, false, All, None, IsTrue, MatchBool};
+ghost use Rattle.std.specs.Prelude.{◌≡◌, ◌≢◌, ◌+◌, ◌<◌, ◌≤◌, ⊤, length, drop, All, None, IsTrue, MatchBool};
 ghost use Rattle.sg_actor.specs.Seen.{all_seen};
-ghost use Rattle.sg_edge.specs.Files.{Only, KeepsTelling};
-ghost use Rattle.sg_edge.specs.Given.{Source, Gives};
 ghost use Rattle.sg_edge.specs.declared.files.Stage.TheVariants.{Fresh, Broken};
-ghost use Rattle.sg_script.specs.Known.{known_in};
-ghost use Rattle.sg_engine.specs.Gains.{is_cut as is_cut_spec, Ends, IsBroken};
+ghost use Rattle.sg_edge.specs.Cause.{HasCause};
+ghost use Rattle.sg_engine.specs.Gains.{is_cut as is_cut_spec};
 ghost use Rattle.sg_engine.specs.Keeping.{IsKept, IsFirst};
-ghost use Rattle.sg_engine.specs.Output.{trace_of, scene_of, run_output};
-ghost use Rattle.sg_engine.specs.Reached.{script_part};
-ghost use Rattle.sg_engine.specs.Roles.{first_minds};
-ghost use Rattle.sg_engine.specs.Run.{run_of};
-ghost use Rattle.sg_engine.specs.Simulated.{CutsOff, IsOver};
+ghost use Rattle.sg_engine.specs.Output.{contexts_of};
+ghost use Rattle.sg_engine.specs.Reached.{script_in, ReadsScript};
+ghost use Rattle.sg_engine.specs.Simulated.{ForSources, HasBroken, HasRun, IsRun, TakesScript, output_of};
 
 use crate::advance::advance;
 use crate::ended::Ended;
@@ -21,6 +17,7 @@ use crate::setup::Setup;
 use crate::show::Show;
 use crate::simulation::Simulation;
 use crate::start::start;
+use crate::terms::Terms;
 use sg_actor::{Actor, Seat};
 use sg_base::{Memory, Steps};
 use sg_edge::{Files, Part, Sinks, Stream};
@@ -34,33 +31,31 @@ fn simulate<R: Threads + Sync, F: Files, O: Sinks, L: Ledger>(
     setup: &Setup,
     sim: &mut Simulation,
     seats: &mut [Seat],
-    workers: u32,
-    budget: u64,
+    terms: Terms,
     files: &mut F,
-    show: Show,
     out: &mut O,
     steps: &mut Steps<L>,
 ) -> Ended
-    requires workers { 0 < workers }
-    requires first { IsFirst setup.now.platform setup.now.deployment budget (script_part setup.now.script (F.shows files.old Part.Script)) sim.old (all_seen (λ b. mind b) seats.old) }
-    requires budget { budget ≤ 1000000000 }
+    requires first { IsFirst setup.now.platform setup.now.deployment terms.budget
+        (script_in setup.now (F.shows files.old)) sim.old (all_seen (λ b. mind b) seats.old) }
     requires sound { O.faults out.old ≡ 0 }
-    ensures run { MatchBool (is_cut_spec result)
-        (CutsOff (known_in setup.now.deployment) (trace_of show setup.now.platform setup.now.deployment) (run_of (scene_of setup.now.platform setup.now.deployment setup.now.script budget) (first_minds setup.now.deployment)) [] (script_part setup.now.script (F.shows files.old Part.Script)) (script_part setup.now.script (F.shows files.new Part.Script)) (O.held out.old Stream.Out) (O.held out.new Stream.Out))
-        (IsOver (known_in setup.now.deployment) (trace_of show setup.now.platform setup.now.deployment) (run_of (scene_of setup.now.platform setup.now.deployment setup.now.script budget) (first_minds setup.now.deployment)) result sim.new.kernel.core (script_part setup.now.script (F.shows files.old Part.Script)) (script_part setup.now.script (F.shows files.new Part.Script)) (O.held out.old Stream.Out) (O.held out.new Stream.Out)) }
-    ensures kept { MatchBool (is_cut_spec result) ⊤ (IsKept setup.now.deployment (script_part setup.now.script (F.shows files.new Part.Script)) sim.new (all_seen (λ b. mind b) seats.new)) }
+    ensures run { HasRun setup.now.platform setup.now.deployment setup.now.script terms result
+        sim.new.kernel.core steps.old steps.new
+        (script_in setup.now (F.shows files.old))
+        (script_in setup.now (F.shows files.new))
+        (O.held out.old Stream.Out) (O.held out.new Stream.Out) }
+    ensures kept { MatchBool (is_cut_spec result) ⊤ (IsKept setup.now.deployment
+        (script_in setup.now (F.shows files.new)) sim.new (all_seen (λ b. mind b) seats.new)) }
     ensures err { O.held out.new Stream.Err ≡ O.held out.old Stream.Err }
-    ensures write { result ≡ Ended.WriteFault → 0 < O.faults out.new }
-    ensures sound { result ≢ Ended.WriteFault → O.faults out.new ≡ 0 }
-    ensures read { result ≡ Ended.ReadFault → (script_part setup.now.script (F.shows files.new Part.Script)).stage ≡ Broken }
-    ensures others { Only Part.Script (F.shows files.old) (F.shows files.new) }
-    ensures unscripted { setup.now.script ≡ false → files.new ≡ files.old }
+    ensures cause { HasCause (result ≡ Ended.WriteFault) (result ≡ Ended.ReadFault)
+        (O.faults out.new) ((script_in setup.now (F.shows files.new)).stage ≡ Broken) }
+    ensures script { ReadsScript F.shows setup.now.script files.old files.new }
 {
-    for _turn in 0..budget + 1 {
+    for _turn in 0..terms.budget + 1 {
         if sim.kernel.ending() {
             return Ended::Completed;
         }
-        match advance(rt, setup, sim, seats, workers, files, show, out, steps) {
+        match advance(rt, setup, sim, seats, terms, files, out, steps) {
             None => {}
             Some(how) => return how,
         }
@@ -78,8 +73,8 @@ fn is_cut(how: Ended) -> bool
         | Ended::Starved
         | Ended::Budget
         | Ended::Script(_, _)
-        | Ended::NoRoute(..)
-        | Ended::TooLong(..)
+        | Ended::NoRoute { .. }
+        | Ended::TooLong { .. }
         | Ended::ReadFault => false,
     }
 }
@@ -87,36 +82,30 @@ fn is_cut(how: Ended) -> bool
 // Simulates, and writes the last lines of a run that wasn't cut off.
 fn run_from<R: Threads + Sync, F: Files, O: Sinks, L: Ledger>(
     rt: &R,
-    alloc: Global,
     setup: &Setup,
     sim: &mut Simulation,
     seats: &mut [Seat],
-    workers: u32,
-    budget: u64,
+    terms: Terms,
     files: &mut F,
-    show: Show,
     out: &mut O,
     steps: &mut Steps<L>,
 ) -> Ended
-    requires workers { 0 < workers }
-    requires first { IsFirst setup.now.platform setup.now.deployment budget (script_part setup.now.script (F.shows files.old Part.Script)) sim.old (all_seen (λ b. mind b) seats.old) }
-    requires budget { budget ≤ 1000000000 }
+    requires first { IsFirst setup.now.platform setup.now.deployment terms.budget
+        (script_in setup.now (F.shows files.old)) sim.old (all_seen (λ b. mind b) seats.old) }
     requires sound { O.faults out.old ≡ 0 }
-    ensures output { (source : Source) → (IsTrue setup.now.script → Gives (F.shows files.old Part.Script) (F.shows files.new Part.Script) source) → let want = run_output setup.now.platform setup.now.deployment setup.now.script budget show source in Ends want.out want.err want.ended result (O.held out.old) (O.held out.new) }
-    ensures write { result ≡ Ended.WriteFault → 0 < O.faults out.new }
-    ensures sound { result ≢ Ended.WriteFault → O.faults out.new ≡ 0 }
-    ensures read { result ≡ Ended.ReadFault → IsBroken (F.shows files.old Part.Script) (F.shows files.new Part.Script) }
-    ensures telling { KeepsTelling (F.shows files.old Part.Script) (F.shows files.new Part.Script) }
-    ensures others { Only Part.Script (F.shows files.old) (F.shows files.new) }
-    ensures unscripted { setup.now.script ≡ false → files.new ≡ files.old }
+    ensures output { ForSources setup.now.script (F.shows files.old) (F.shows files.new)
+        (λ source. IsRun (output_of setup.now terms.budget terms.show source) result
+        (O.held out.old) (O.held out.new) steps.old steps.new) }
+    ensures cause { HasCause (result ≡ Ended.WriteFault) (result ≡ Ended.ReadFault)
+        (O.faults out.new) (HasBroken F.shows files.old files.new) }
+    ensures memory { result ≡ Ended.Memory → O.held out.new Stream.Err ≡ O.held out.old Stream.Err }
+    ensures script { TakesScript F.shows setup.now.script files.old files.new }
 {
-    let how = simulate(
-        rt, setup, sim, seats, workers, budget, files, show, out, steps,
-    );
+    let how = simulate(rt, setup, sim, seats, terms, files, out, steps);
     if is_cut(how) {
         how
     } else {
-        finish(alloc, setup, sim, how, budget, show, out)
+        finish(setup, sim, how, terms, out)
     }
 }
 
@@ -126,6 +115,9 @@ fn run_from<R: Threads + Sync, F: Files, O: Sinks, L: Ledger>(
 /// turns on up to so many worker threads at once; how many can't be seen in anything that is written. The script is read
 /// while the run goes on, and only as far as an actor asks for its lines. `budget` is the most events that there may
 /// be, and `steps` counts the looks of the fillings.
+///
+/// What is written, and the end, are those of the definition, for what the script's part gives. Memory is taken at the
+/// beginning, before each round, and for lines of the script, and none once the run has ended.
 pub fn run<R: Threads + Sync, F: Files, O: Sinks, L: Ledger>(
     rt: &R,
     alloc: Global,
@@ -144,21 +136,21 @@ pub fn run<R: Threads + Sync, F: Files, O: Sinks, L: Ledger>(
     requires blank { All (λ b. mind b ≡ None) crew.old.items }
     requires enough { length setup.now.deployment.actors ≤ length crew.old.items }
     requires sound { O.faults out.old ≡ 0 }
-
-    // What was written, and the end, are those of the definition, for what the script's part gave.
-    ensures output { (source : Source) → (IsTrue setup.now.script → Gives (F.shows files.old Part.Script) (F.shows files.new Part.Script) source) → let want = run_output setup.now.platform setup.now.deployment setup.now.script budget show source in Ends want.out want.err want.ended result (O.held out.old) (O.held out.new) }
-
-    // The crew has lost its first contexts, one for each actor.
-    ensures crew { result ≢ Ended.Memory → crew.new.items ≡ drop (length setup.now.deployment.actors) crew.old.items }
-
-    // The causes of a failed write and of a failed read.
-    ensures write { result ≡ Ended.WriteFault → 0 < O.faults out.new }
-    ensures sound { result ≢ Ended.WriteFault → O.faults out.new ≡ 0 }
-    ensures read { result ≡ Ended.ReadFault → IsBroken (F.shows files.old Part.Script) (F.shows files.new Part.Script) }
-    ensures telling { KeepsTelling (F.shows files.old Part.Script) (F.shows files.new Part.Script) }
-    ensures others { Only Part.Script (F.shows files.old) (F.shows files.new) }
-    ensures unscripted { setup.now.script ≡ false → files.new ≡ files.old }
+    ensures output { ForSources setup.now.script (F.shows files.old) (F.shows files.new)
+        (λ source. IsRun (output_of setup.now budget show source) result
+        (O.held out.old) (O.held out.new) steps.old steps.new) }
+    ensures crew { result ≢ Ended.Memory →
+        crew.new.items ≡ drop (contexts_of setup.now.deployment) crew.old.items }
+    ensures cause { HasCause (result ≡ Ended.WriteFault) (result ≡ Ended.ReadFault)
+        (O.faults out.new) (HasBroken F.shows files.old files.new) }
+    ensures memory { result ≡ Ended.Memory → O.held out.new Stream.Err ≡ O.held out.old Stream.Err }
+    ensures script { TakesScript F.shows setup.now.script files.old files.new }
 {
+    let terms = Terms {
+        workers,
+        budget,
+        show,
+    };
     let mut seats = match seat_all(alloc, crew, &setup.deployment) {
         Ok(seats) => seats,
         Err(Memory) => return Ended::Memory,
@@ -166,9 +158,7 @@ pub fn run<R: Threads + Sync, F: Files, O: Sinks, L: Ledger>(
     match start(alloc, setup, budget) {
         Ok(mut sim) => {
             let seats = seats.as_mut_slice();
-            run_from(
-                rt, alloc, setup, &mut sim, seats, workers, budget, files, show, out, steps,
-            )
+            run_from(rt, setup, &mut sim, seats, terms, files, out, steps)
         }
         Err(Memory) => Ended::Memory,
     }

@@ -6,8 +6,7 @@ ghost use Rattle.sg_platform.specs.Deployment.{IsDeployedOn};
 ghost use Rattle.sg_route.specs.Roads.{roads_of};
 
 use sg_platform::{Deployment, PlatformText};
-use sg_route::Router;
-use sg_route_laws::routes_are_good;
+use sg_route::{Router, routes_are_good};
 
 /// A platform, the actors that are deployed on it, the routes between its hosts, and whether there is a script.
 #[derive(Drop)]

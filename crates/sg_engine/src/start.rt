@@ -19,7 +19,10 @@ use std::alloc::Global;
 /// The simulation of a setup, in which nothing has happened yet.
 pub fn start(alloc: Global, setup: &Setup, budget: u64) -> Result<Simulation, Memory>
     requires { budget ≤ 1000000000 }
-    ensures { IfOk result (λ sim. (part : PartView) (places : List Place) → part.stage ≢ Fresh → minds_of places ≡ first_minds setup.now.deployment → All (IsSeated (extent_of setup.now.deployment)) places → IsFirst setup.now.platform setup.now.deployment budget part sim places) }
+    ensures { IfOk result (λ sim. (part : PartView) (places : List Place) → part.stage ≢ Fresh →
+        minds_of places ≡ first_minds setup.now.deployment →
+        All (IsSeated (extent_of setup.now.deployment)) places →
+        IsFirst setup.now.platform setup.now.deployment budget part sim places) }
 {
     let actors = setup.deployment.actors().len();
     Ok(Simulation {

@@ -5,10 +5,11 @@ ghost use Rattle.sg_route.specs.Roads.{roads_of};
 
 use crate::{Ended, Setup, Show, run};
 use sg_actor::{Actor, PlainContext, Role, TapeContext, all_blank};
-use sg_base::{Answer, Call, Memory, Steps};
+use sg_base::{Answer, Call, Child, Memory, PointId, Steps, ZoneId};
 use sg_edge::{Files, MemFiles, MemSinks, Part, Sinks, Stream};
 use sg_platform::{PlatformText, read_deployment, read_platform};
 use sg_route::Router;
+use sg_script::LineFault;
 use sg_zones::Zones;
 use std::alloc::Global;
 use std::marker::Brand;
@@ -19,17 +20,45 @@ use std::sync::ledger::{Blank, Ledger};
 use std::test::Fail;
 use std::thread::Threads;
 
-/// Two hosts of 10^9 flops a second, and a link of 10^6 bytes a second and 10 ms between them.
+/// Three hosts of 10^9 flops a second, and a link of 10^6 bytes a second and 10 ms between the first two.
 const PLATFORM: &str = "zone = [{id = 'z', routing = 'Full'}]
-host = [{id = 'h1', zone = 'z', speed = '1Gf'}, {id = 'h2', zone = 'z', speed = '1Gf'}]
+host = [{id = 'h1', zone = 'z', speed = '1Gf'}, {id = 'h2', zone = 'z', speed = '1Gf'}, {id = 'h3', zone = 'z', speed = '1Gf'}]
 link = [{id = 'l', bandwidth = '1MBps', latency = '10ms'}]
 route = [{src = 'h1', dst = 'h2', links = ['l']}]
 ";
 
-/// One actor, and a second one.
-const FIRST: &str = "[[actor]]\nname = 'p0'\nhost = 'h1'\nfunction = 'replay'\n";
+/// One actor.
+const FIRST: &str = "[[actor]]
+name = 'p0'
+host = 'h1'
+function = 'replay'
+";
 
-const SECOND: &str = "[[actor]]\nname = 'p1'\nhost = 'h1'\nfunction = 'replay'\n";
+/// Two actors, to the second of which no route leads.
+const APART: &str = "[[actor]]
+name = 'p0'
+host = 'h1'
+function = 'replay'
+[[actor]]
+name = 'p1'
+host = 'h3'
+function = 'replay'
+";
+
+/// Three actors.
+const THREE: &str = "[[actor]]
+name = 'p0'
+host = 'h1'
+function = 'replay'
+[[actor]]
+name = 'p1'
+host = 'h1'
+function = 'replay'
+[[actor]]
+name = 'p2'
+host = 'h1'
+function = 'replay'
+";
 
 /// A master that has one task, and its worker.
 const MASTER: &str = "[[actor]]
@@ -49,6 +78,7 @@ const TASK: &str = "[h1:m:(1) 1.010000000] send w1 1000000 1.010000000
 [h2:w1:(2) 2.010000000] compute 1000000000 1.000000000
 [h1:m:(1) 2.020000000] send w1 0 1.010000000
 [h2:w1:(2) 2.020000000] recv w1 0 0.010000000
+Simulation time 2.020000000
 ";
 
 /// The routes of a platform.
@@ -74,14 +104,15 @@ fn setup(alloc: Global, deployment: &str, script: bool) -> Result<Setup, Memory>
     }
 }
 
-/// An actor that counts its turns.
+/// A context that has a number, and adds it for as many times as its actor's id says.
 #[derive(Drop)]
-struct Counter {
+struct Numbered {
     inner: PlainContext,
-    turns: Arc<AtomicU64>,
+    number: u64,
+    sum: Arc<AtomicU64>,
 }
 
-impl Actor for Counter {
+impl Actor for Numbered {
     ghost mind = { λ s. s.inner };
 
     fn is_blank(&self) -> bool {
@@ -89,11 +120,14 @@ impl Actor for Counter {
     }
 
     fn cast(&mut self, role: &Role) -> Result<(), Memory> {
+        if let Role::Replay(me) = role {
+            let share = self.number.wrapping_mul(u64::from(me.0));
+            self.sum.fetch_add(share, Ordering::SeqCst);
+        }
         self.inner.cast(role)
     }
 
     fn turn(&mut self, answer: Answer) -> Call {
-        self.turns.fetch_add(1, Ordering::SeqCst);
         self.inner.turn(answer)
     }
 }
@@ -121,28 +155,52 @@ fn context(alloc: Global, kinds: Kinds, place: usize) -> Result<Box<dyn Actor + 
 
 fn crew(alloc: Global, kinds: Kinds) -> Result<Vec<Box<dyn Actor + Send>>, Fail> {
     let mut crew: Vec<Box<dyn Actor + Send>> = Vec::new(alloc);
-    for place in 0..3usize {
+    for place in 0..4usize {
         crew.push(context(alloc, kinds, place)?)?;
     }
     Ok(crew)
 }
 
-/// How a run is made.
+/// A run, and what it writes.
 #[derive(Clone, Copy)]
-struct Run {
+struct Row {
+    actors: &'static str,
+    /// Without one each Ask is refused.
+    script: Option<&'static str>,
+    kinds: Kinds,
     workers: u32,
     budget: u64,
     show: Show,
+    end: Ended,
+    out: &'static str,
+    err: &'static str,
 }
 
-/// With one worker, and all lines.
-fn within(budget: u64) -> Run {
-    Run {
-        workers: 1,
-        budget,
-        show: Show::All,
-    }
-}
+/// One actor that computes for a second.
+const COMPUTES: Row = Row {
+    actors: FIRST,
+    script: Some("p0 compute 1e9\n"),
+    kinds: Kinds::Both,
+    workers: 1,
+    budget: 1000,
+    show: Show::All,
+    end: Ended::Completed,
+    out: "[h1:p0:(1) 1.000000000] compute 1000000000 1.000000000\nSimulation time 1.000000000\n",
+    err: "",
+};
+
+/// A master and its worker.
+const TASKS: Row = Row {
+    actors: MASTER,
+    script: None,
+    kinds: Kinds::Both,
+    workers: 1,
+    budget: 100,
+    show: Show::All,
+    end: Ended::Completed,
+    out: TASK,
+    err: "",
+};
 
 // A run that counts its own steps.
 fn run_counted<R: Threads + Sync + Abort, F: Files, O: Sinks, L: Ledger>(
@@ -151,7 +209,7 @@ fn run_counted<R: Threads + Sync + Abort, F: Files, O: Sinks, L: Ledger>(
     setup: &Setup,
     files: &mut F,
     crew: &mut Vec<Box<dyn Actor + Send>>,
-    how: Run,
+    row: Row,
     out: &mut O,
     blank: Blank,
 ) -> Ended
@@ -162,28 +220,29 @@ fn run_counted<R: Threads + Sync + Abort, F: Files, O: Sinks, L: Ledger>(
     requires some { 0 < blank.parts }
 {
     let mut steps = Steps::<L>::new(blank);
-    assert!(rt; how.budget <= 1000 && 0 < how.workers);
-    assert!(rt; setup.deployment.actors().len() <= crew.len());
-    assert!(rt; all_blank(crew.as_slice()));
-    let Run {
+    let Row {
         workers,
         budget,
         show,
-    } = how;
+        ..
+    } = row;
+    assert!(rt; budget <= 1000 && 0 < workers);
+    assert!(rt; setup.deployment.actors().len() <= crew.len());
+    assert!(rt; all_blank(crew.as_slice()));
     run(
         rt, alloc, setup, files, crew, workers, budget, show, out, &mut steps,
     )
 }
 
-/// How a run of this script with this crew ends, and what it writes.
+/// How the run of a row ends with this crew, and what it writes.
 fn ends_with<R: Threads + Sync + Abort>(
     rt: &R,
     alloc: Global,
     setup: &Setup,
-    script: &str,
     crew: &mut Vec<Box<dyn Actor + Send>>,
-    how: Run,
+    row: Row,
 ) -> Result<(Ended, MemSinks), Fail> {
+    let script = row.script.unwrap_or("");
     let mut files = MemFiles::new(alloc, None, None, Some(script.as_bytes()), &[])?;
     let _ = files.begin(Part::Script, "s");
     let mut out = MemSinks::new(alloc, 1000, 1000, &[], 7)?;
@@ -193,208 +252,148 @@ fn ends_with<R: Threads + Sync + Abort>(
         setup,
         &mut files,
         crew,
-        how,
+        row,
         &mut out,
         Blank::new(1),
     );
     Ok((ended, out))
 }
 
-/// The same with a crew of three, of which those are left that no actor took.
-fn ends<R: Threads + Sync + Abort>(
-    rt: &R,
-    alloc: Global,
-    setup: &Setup,
-    script: &str,
-    kinds: Kinds,
-    how: Run,
-) -> Result<(Ended, MemSinks), Fail> {
-    let mut crew = crew(alloc, kinds)?;
-    let ended = ends_with(rt, alloc, setup, script, &mut crew, how)?;
-    assert_eq!(rt; crew.len() + setup.deployment.actors().len(), 3);
-    Ok(ended)
-}
-
-/// A run of this script writes just this to Out, and ends so.
-fn writes<R: Threads + Sync + Abort>(
-    rt: &R,
-    alloc: Global,
-    setup: &Setup,
-    script: &str,
-    how: Run,
-    end: Ended,
-    want: &str,
-) -> Result<(), Fail> {
-    let (ended, out) = ends(rt, alloc, setup, script, Kinds::Both, how)?;
-    assert_eq!(rt; ended, end);
-    assert_eq!(rt; out.held(Stream::Out), want.as_bytes());
-    assert_eq!(rt; out.held(Stream::Err).len(), 0);
+/// A row's run ends as it says and writes just that, and the crew keeps the contexts that no actor took.
+fn check<R: Threads + Sync + Abort>(rt: &R, alloc: Global, row: Row) -> Result<(), Fail> {
+    let setup = setup(alloc, row.actors, row.script.is_some())?;
+    let mut crew = crew(alloc, row.kinds)?;
+    let (ended, out) = ends_with(rt, alloc, &setup, &mut crew, row)?;
+    assert_eq!(rt; ended, row.end);
+    assert_eq!(rt; crew.len() + setup.deployment.actors().len(), 4);
+    assert_eq!(rt; out.held(Stream::Out), row.out.as_bytes());
+    assert_eq!(rt; out.held(Stream::Err), row.err.as_bytes());
     Ok(())
 }
 
 #[test]
-fn stops_at_the_budget(rt: HostRuntime) -> Result<(), Fail> {
-    let alloc = rt.alloc();
-    let setup = setup(alloc, FIRST, true)?;
-    let script = "p0 compute 1e9\n";
-    let line = "[h1:p0:(1) 1.000000000] compute 1000000000 1.000000000\n";
-    let cases = [
-        (5, Ended::Completed, line, "Simulation time 1.000000000\n"),
-        (
-            4,
-            Ended::Budget,
-            line,
-            "budget of 4 events used at 1.000000000\n",
-        ),
-        (
-            3,
-            Ended::Budget,
-            line,
-            "budget of 3 events used at 1.000000000\n",
-        ),
-        (
-            2,
-            Ended::Budget,
-            "",
-            "budget of 2 events used at 0.000000000\n",
-        ),
-        (
-            1,
-            Ended::Budget,
-            "",
-            "budget of 1 events used at 0.000000000\n",
-        ),
+fn runs_write_their_rows(rt: HostRuntime) -> Result<(), Fail> {
+    let rows = [
+        Row {
+            budget: 5,
+            ..COMPUTES
+        },
+        Row {
+            budget: 4,
+            end: Ended::Budget,
+            out: "[h1:p0:(1) 1.000000000] compute 1000000000 1.000000000\nbudget of 4 events used at 1.000000000\n",
+            ..COMPUTES
+        },
+        Row {
+            budget: 2,
+            end: Ended::Budget,
+            out: "budget of 2 events used at 0.000000000\n",
+            ..COMPUTES
+        },
+        Row {
+            budget: 1,
+            end: Ended::Budget,
+            out: "budget of 1 events used at 0.000000000\n",
+            ..COMPUTES
+        },
+        // It stops between two ends of a date.
+        Row {
+            actors: APART,
+            script: Some("p0 sleep 1\np1 sleep 1\n"),
+            budget: 5,
+            end: Ended::Budget,
+            out: "[h1:p0:(1) 1.000000000] sleep 1.000000000\nbudget of 5 events used at 1.000000000\n",
+            ..COMPUTES
+        },
+        Row {
+            script: Some("p0 sleep 1\np0 fly 1\n"),
+            end: Ended::Script(2, LineFault::UnknownAction),
+            out: "[h1:p0:(1) 1.000000000] sleep 1.000000000\n",
+            err: "script line 2: unknown action\n",
+            ..COMPUTES
+        },
+        Row {
+            actors: APART,
+            script: Some("p0 send p1 1\np1 recv p0\n"),
+            end: Ended::NoRoute {
+                from: PointId(0),
+                to: PointId(2),
+                zone: ZoneId(0),
+                a: Child::Point(PointId(0)),
+                b: Child::Point(PointId(2)),
+            },
+            out: "",
+            err: "no route from h1 to h3: zone z, h1 to h3\n",
+            ..COMPUTES
+        },
+        Row {
+            script: None,
+            budget: 5,
+            end: Ended::Budget,
+            out: "budget of 5 events used at 0.000000000\n",
+            ..COMPUTES
+        },
+        Row {
+            kinds: Kinds::Fields,
+            ..TASKS
+        },
+        Row {
+            kinds: Kinds::Tapes,
+            workers: 2,
+            ..TASKS
+        },
+        Row {
+            workers: 64,
+            ..TASKS
+        },
+        Row {
+            show: Show::Quiet,
+            out: "Simulation time 2.020000000\n",
+            ..TASKS
+        },
+        Row {
+            show: Show::Summary,
+            out: "2 actors, 12 events\nSimulation time 2.020000000\n",
+            ..TASKS
+        },
+        Row {
+            show: Show::Summary,
+            budget: 11,
+            end: Ended::Budget,
+            out: "budget of 11 events used at 2.020000000\n",
+            ..TASKS
+        },
     ];
-    for (budget, end, trace, last) in cases {
-        let want = format!(in alloc; "{trace}{last}")?;
-        writes(
-            &rt,
-            alloc,
-            &setup,
-            script,
-            within(budget),
-            end,
-            want.as_str(),
-        )?;
+    for row in rows {
+        check(&rt, rt.alloc(), row)?;
     }
     Ok(())
 }
 
-#[test]
-fn stops_between_two_ends_of_a_date(rt: HostRuntime) -> Result<(), Fail> {
-    let alloc = rt.alloc();
-    let both = format!(in alloc; "{FIRST}{SECOND}")?;
-    let setup = setup(alloc, both.as_str(), true)?;
-    let script = "p0 sleep 1\np1 sleep 1\n";
-    let want =
-        "[h1:p0:(1) 1.000000000] sleep 1.000000000\nbudget of 5 events used at 1.000000000\n";
-    writes(&rt, alloc, &setup, script, within(5), Ended::Budget, want)?;
-    Ok(())
-}
-
-/// What a master and its worker write with this crew and so many workers.
-fn task_with<R: Threads + Sync + Abort>(
-    rt: &R,
-    alloc: Global,
-    kinds: Kinds,
-    workers: u32,
-) -> Result<MemSinks, Fail> {
-    let setup = setup(alloc, MASTER, false)?;
-    let how = Run {
-        workers,
-        budget: 100,
-        show: Show::All,
-    };
-    let (ended, out) = ends(rt, alloc, &setup, "", kinds, how)?;
-    assert_eq!(rt; ended, Ended::Completed);
-    assert_eq!(rt; out.held(Stream::Err).len(), 0);
-    Ok(out)
-}
-
-#[test]
-fn every_crew_writes_the_same_with_any_number_of_workers(rt: HostRuntime) -> Result<(), Fail> {
-    let alloc = rt.alloc();
-    let want = format!(in alloc; "{TASK}Simulation time 2.020000000\n")?;
-    let cases = [
-        (Kinds::Fields, 1),
-        (Kinds::Tapes, 1),
-        (Kinds::Both, 1),
-        (Kinds::Fields, 2),
-        (Kinds::Tapes, 2),
-        (Kinds::Both, 64),
-    ];
-    for (kinds, workers) in cases {
-        let out = task_with(&rt, alloc, kinds, workers)?;
-        assert_eq!(rt; out.held(Stream::Out), want.as_bytes());
-    }
-    Ok(())
-}
-
-/// With one worker, and not all lines.
-fn showing(show: Show, budget: u64) -> Run {
-    Run {
-        workers: 1,
-        budget,
-        show,
-    }
-}
-
-#[test]
-fn shows_little_or_a_summary(rt: HostRuntime) -> Result<(), Fail> {
-    let alloc = rt.alloc();
-    let setup = setup(alloc, MASTER, false)?;
-    let time = "Simulation time 2.020000000\n";
-    let summary = "2 actors, 12 events\nSimulation time 2.020000000\n";
-    let last = "budget of 11 events used at 2.020000000\n";
-    let quiet = showing(Show::Quiet, 100);
-    writes(&rt, alloc, &setup, "", quiet, Ended::Completed, time)?;
-    let whole = showing(Show::Summary, 100);
-    writes(&rt, alloc, &setup, "", whole, Ended::Completed, summary)?;
-    let cut = showing(Show::Summary, 11);
-    writes(&rt, alloc, &setup, "", cut, Ended::Budget, last)?;
-    Ok(())
-}
-
-/// A crew of one that counts its turns, and of another one.
-fn counting_crew(alloc: Global, turns: Arc<AtomicU64>) -> Result<Vec<Box<dyn Actor + Send>>, Fail> {
-    let inner = PlainContext::new(alloc);
+/// A crew of contexts with the numbers 1, 10, 100 and 1,000.
+fn numbered_crew(alloc: Global, sum: &Arc<AtomicU64>) -> Result<Vec<Box<dyn Actor + Send>>, Fail> {
     let mut crew: Vec<Box<dyn Actor + Send>> = Vec::new(alloc);
-    crew.push(Box::new(alloc, Counter { inner, turns })?)?;
-    crew.push(Box::new(alloc, TapeContext::new(alloc))?)?;
+    for number in [1, 10, 100, 1000] {
+        let inner = PlainContext::new(alloc);
+        let sum = sum.clone()?;
+        crew.push(Box::new(alloc, Numbered { inner, number, sum })?)?;
+    }
     Ok(crew)
 }
 
-/// How a run with such a crew ends.
-fn ends_counted<R: Threads + Sync + Abort>(
-    rt: &R,
-    alloc: Global,
-    setup: &Setup,
-    turns: Arc<AtomicU64>,
-) -> Result<Ended, Fail> {
-    let mut crew = counting_crew(alloc, turns)?;
-    let script = "p0 compute 1e9\n";
-    let (ended, _) = ends_with(rt, alloc, setup, script, &mut crew, within(100))?;
-    assert_eq!(rt; crew.len(), 1);
-    Ok(ended)
-}
-
 #[test]
-fn first_actor_takes_the_first_context(rt: HostRuntime) -> Result<(), Fail> {
+fn each_actor_takes_the_context_of_its_place(rt: HostRuntime) -> Result<(), Fail> {
     let alloc = rt.alloc();
-    let setup = setup(alloc, FIRST, true)?;
-    let turns = Arc::new(alloc, AtomicU64::new(0))?;
-    let ended = ends_counted(&rt, alloc, &setup, turns.clone()?)?;
+    let setup = setup(alloc, THREE, true)?;
+    let sum = Arc::new(alloc, AtomicU64::new(0))?;
+    let mut crew = numbered_crew(alloc, &sum)?;
+    let row = Row {
+        script: Some(""),
+        ..COMPUTES
+    };
+    let (ended, _) = ends_with(&rt, alloc, &setup, &mut crew, row)?;
     assert_eq!(rt; ended, Ended::Completed);
-    assert_eq!(rt; turns.load(Ordering::SeqCst), 4);
-    Ok(())
-}
-
-#[test]
-fn without_a_script_each_ask_is_refused(rt: HostRuntime) -> Result<(), Fail> {
-    let alloc = rt.alloc();
-    let setup = setup(alloc, FIRST, false)?;
-    let script = "p0 compute 1e9\n";
-    let want = "budget of 5 events used at 0.000000000\n";
-    writes(&rt, alloc, &setup, script, within(5), Ended::Budget, want)?;
+    assert_eq!(rt; crew.len(), 1);
+    assert_eq!(rt; sum.load(Ordering::SeqCst), 321);
     Ok(())
 }

@@ -32,7 +32,8 @@ fn offer_one<A: Actor>(seat: &mut Seat<A>, answer: Option<Answer>)
 fn offer<A: Actor>(kernel: &Kernel, seats: &mut [Seat<A>])
     requires number { length seats.old ≡ length kernel.now.core.actors }
     requires limited { All (IsPlace (extent kernel.now.setup)) (all_seen A.mind seats.old) }
-    ensures offered { all_seen A.mind seats.new ≡ zip_with offered (all_seen A.mind seats.old) (inboxes kernel.now.core) }
+    ensures offered { all_seen A.mind seats.new
+        ≡ zip_with offered (all_seen A.mind seats.old) (inboxes kernel.now.core) }
     ensures limited { All (IsPlace (extent kernel.now.setup)) (all_seen A.mind seats.new) }
 {
     let queue = kernel.run_queue();
@@ -71,7 +72,8 @@ fn turn_some<R: Threads + Sync>(rt: &R, seats: &mut [Seat], from: usize, to: usi
     requires workers { 0 < workers }
     requires range { (from ≤ to) × (to ≤ length seats.old) }
     requires ready { All CanTurn (all_seen (λ b. mind b) seats.old) }
-    ensures { let places = all_seen (λ b. mind b) seats.old in all_seen (λ b. mind b) seats.new ≡ take from places ++ (map after (drop from (take to places)) ++ drop to places) }
+    ensures { let places = all_seen (λ b. mind b) seats.old in all_seen (λ b. mind b) seats.new
+        ≡ take from places ++ (map after (drop from (take to places)) ++ drop to places) }
 {
     let (_, rest) = seats.split_at_mut(from);
     let (some, _) = rest.split_at_mut(to - from);
@@ -83,7 +85,8 @@ fn turn_some<R: Threads + Sync>(rt: &R, seats: &mut [Seat], from: usize, to: usi
 fn turn_all<R: Threads + Sync>(rt: &R, kernel: &Kernel, seats: &mut [Seat], workers: u32)
     requires workers { 0 < workers }
     requires number { length seats.old ≡ length kernel.now.core.actors }
-    requires ready { map readiness (all_seen (λ b. mind b) seats.old) ≡ map is_ready kernel.now.core.actors }
+    requires ready { map readiness (all_seen (λ b. mind b) seats.old)
+        ≡ map is_ready kernel.now.core.actors }
     requires cast { All IsCast (all_seen (λ b. mind b) seats.old) }
     ensures { all_seen (λ b. mind b) seats.new ≡ map after (all_seen (λ b. mind b) seats.old) }
 {
@@ -125,7 +128,8 @@ fn collect_one<A: Actor>(seat: &mut Seat<A>) -> Option<Call>
 // The calls that were made take the place of those before, and their actors rest.
 fn collect<A: Actor>(kernel: &Kernel, seats: &mut [Seat<A>], calls: &mut Vec<ActorCall>)
     requires number { length seats.old ≡ length kernel.now.core.actors }
-    requires ready { map readiness (all_seen A.mind seats.old) ≡ map is_ready kernel.now.core.actors }
+    requires ready { map readiness (all_seen A.mind seats.old)
+        ≡ map is_ready kernel.now.core.actors }
     requires room { length seats.old ≤ vec_capacity calls.old }
     ensures seats { all_seen A.mind seats.new ≡ map rested (all_seen A.mind seats.old) }
     ensures calls { calls.new.items ≡ listed 1 (map call_in (all_seen A.mind seats.old)) }
@@ -153,9 +157,14 @@ pub fn take_turns<R: Threads + Sync>(
     requires seated { All (IsSeated (extent kernel.now.setup)) (all_seen (λ b. mind b) seats.old) }
     requires room { length seats.old ≤ vec_capacity calls.old }
     ensures seated { All (IsSeated (extent kernel.now.setup)) (all_seen (λ b. mind b) seats.new) }
-    ensures minds { minds_of (all_seen (λ b. mind b) seats.new) ≡ zip_with mind_after (minds_of (all_seen (λ b. mind b) seats.old)) (inboxes kernel.now.core) }
-    ensures calls { calls.new.items ≡ listed 1 (zip_with call_after (minds_of (all_seen (λ b. mind b) seats.old)) (inboxes kernel.now.core)) }
-    ensures limited { All (λ (made : ActorCall). IsCall (extent kernel.now.setup) made.call) calls.new.items }
+    ensures minds { minds_of (all_seen (λ b. mind b) seats.new)
+        ≡ zip_with mind_after (minds_of (all_seen (λ b. mind b) seats.old))
+        (inboxes kernel.now.core) }
+    ensures calls { calls.new.items ≡ listed 1
+        (zip_with call_after (minds_of (all_seen (λ b. mind b) seats.old))
+        (inboxes kernel.now.core)) }
+    ensures limited { All (λ (made : ActorCall). IsCall (extent kernel.now.setup) made.call)
+        calls.new.items }
     ensures room { vec_capacity calls.new ≡ vec_capacity calls.old }
 {
     rounds_keep_limits();

@@ -1,5 +1,6 @@
 -- Calls that are sides of communications, and others.
-use Rattle.std.proofs.Common.{◌≡◌, ◌≢◌, ℕ, ◌==◌, ◌-◌, Bool, true, false, cond, Option, None, Some, List, [], ◌∷◌, ◌++◌, refl, sym, ap, subst, ◌∙◌, arith}
+use Rattle.std.proofs.Common.{◌≡◌, ℕ, true, false, Option, None, Some, refl, subst, arith}
+use Rattle.sg_base.specs.declared.call.Answer.{Answer}
 use Rattle.sg_base.specs.declared.call.Call.{Call}
 use Rattle.sg_base.specs.declared.call.Call.TheVariants as call
 use Rattle.sg_base.specs.Limits.{Extent, IsActorNumber, IsCall}
@@ -10,13 +11,13 @@ use Rattle.sg_sync.specs.declared.outcome.Outcome.{Outcome}
 use Rattle.sg_sync.specs.declared.outcome.Outcome.TheVariants.{GoesOn, Waits, Refused}
 use Rattle.sg_sync.specs.Objects.{Done, locked, unlocked, acquired, released, arrived}
 use Rattle.sg_kernel.specs.declared.meetings.Comer.{Comer}
-use Rattle.sg_kernel.specs.declared.states.Stop.{Stop}
 use Rattle.sg_kernel.specs.World.{Setup, Core, whose_at}
-use Rattle.sg_kernel.specs.Steps.{Step, follows, and_then, counted}
-use Rattle.sg_kernel.specs.Meetings.{comer_of, sends_by, receives_by, is_gone, waits_by, waits_until}
+use Rattle.sg_kernel.specs.Steps.{counted}
+use Rattle.sg_kernel.specs.Meetings.{comer_of, sends_by, receives_by, answer_of_over, waits_by, waits_until}
 use Rattle.sg_kernel.specs.Locks.{caller_gets, all_wake, caller_first, caller_last, with_objects}
 use Rattle.sg_kernel.specs.Calls.{answered_call, actor_of}
 use Rattle.sg_kernel.specs.Sound.{IsSide}
+use Rattle.sg_kernel.proofs.Each.{both_on}
 use Rattle.sg_kernel.proofs.Woken.{all_on}
 
 -- ---- a side that comes keeps to the limits
@@ -43,27 +44,24 @@ side_limited ex actor call.Yield comer a h e = absurd (cc e)
 side_limited ex actor call.Exit comer a h e = absurd (cc e)
 
 -- ---- any other call goes on
-both_go : (first : Step) (next : Core → Step) → first.stop ≡ None → ((core : Core) → (next core).stop ≡ None) → (and_then first next).stop ≡ None
-both_go first next one two = ap (λ o. (follows o first (next first.core)).stop) one ∙ two first.core
-
 caller_goes : (outcome : Outcome) (actor : ℕ) (what : Call) (core : Core) → (caller_gets outcome actor what core).stop ≡ None
 caller_goes GoesOn actor what core = refl
 caller_goes Waits actor what core = refl
 caller_goes Refused actor what core = refl
 
 first_goes : (done : Done) (actor : ℕ) (what : Call) (core : Core) → (caller_first done actor what core).stop ≡ None
-first_goes done actor what core = both_go (caller_gets done.outcome actor what (with_objects done (counted core))) (all_wake done.after.others) (caller_goes done.outcome actor what (with_objects done (counted core))) (all_on done.after.others)
+first_goes done actor what core = both_on (caller_gets done.outcome actor what (with_objects done core)) (all_wake done.after.others) (caller_goes done.outcome actor what (with_objects done core)) (all_on done.after.others)
 
 last_goes : (done : Done) (actor : ℕ) (what : Call) (core : Core) → (caller_last done actor what core).stop ≡ None
-last_goes done actor what core = both_go (all_wake done.after.others (with_objects done (counted core))) (caller_gets done.outcome actor what) (all_on done.after.others (with_objects done (counted core))) (caller_goes done.outcome actor what)
+last_goes done actor what core = both_on (all_wake done.after.others (with_objects done core)) (caller_gets done.outcome actor what) (all_on done.after.others (with_objects done core)) (caller_goes done.outcome actor what)
+
+waits_on : (over : Option Answer) (actor : ℕ) (on : Await) (core : Core) → (waits_until over actor on core).stop ≡ None
+waits_on None actor on core = refl
+waits_on (Some over) actor on core = refl
 
 waits_goes : (found : Option Await) (actor : ℕ) (core : Core) → (waits_by found actor core).stop ≡ None
 waits_goes None actor core = refl
-waits_goes (Some on) actor core = cases (is_gone (whose_at core on.serial.0))
-  where
-    cases : (b : Bool) → (waits_until b actor on (record core { requests = taken core.requests actor })).stop ≡ None
-    cases true = refl
-    cases false = refl
+waits_goes (Some on) actor core = waits_on (answer_of_over (whose_at core on.serial.0)) actor on (record core { requests = taken core.requests actor })
 
 pub alone_goes : (roads : Roads) (setup : Setup) (core : Core) (actor : ℕ) (what : Call) → comer_of actor what ≡ None → (answered_call roads setup core actor what).stop ≡ None
 alone_goes roads setup core actor call.Ask e = refl
@@ -73,11 +71,11 @@ alone_goes roads setup core actor (call.Send b n m) e = absurd (cc e)
 alone_goes roads setup core actor (call.Recv b) e = absurd (cc e)
 alone_goes roads setup core actor (call.ISend b n m) e = absurd (cc e)
 alone_goes roads setup core actor (call.IRecv b) e = absurd (cc e)
-alone_goes roads setup core actor call.Wait e = waits_goes (oldest (queue_at core.requests actor)) actor core
-alone_goes roads setup core actor (call.Lock n) e = first_goes (locked (actor_of actor) n core.objects) actor (call.Lock n) core
-alone_goes roads setup core actor (call.Unlock n) e = first_goes (unlocked (actor_of actor) n core.objects) actor (call.Unlock n) core
-alone_goes roads setup core actor (call.Acquire n) e = first_goes (acquired (actor_of actor) n core.objects) actor (call.Acquire n) core
-alone_goes roads setup core actor (call.Release n) e = first_goes (released n core.objects) actor (call.Release n) core
-alone_goes roads setup core actor call.Barrier e = last_goes (arrived (actor_of actor) core.objects) actor call.Barrier core
+alone_goes roads setup core actor call.Wait e = waits_goes (oldest (queue_at core.requests actor)) actor (counted core)
+alone_goes roads setup core actor (call.Lock n) e = first_goes (locked (actor_of actor) n core.objects) actor (call.Lock n) (counted core)
+alone_goes roads setup core actor (call.Unlock n) e = first_goes (unlocked (actor_of actor) n core.objects) actor (call.Unlock n) (counted core)
+alone_goes roads setup core actor (call.Acquire n) e = first_goes (acquired (actor_of actor) n core.objects) actor (call.Acquire n) (counted core)
+alone_goes roads setup core actor (call.Release n) e = first_goes (released n core.objects) actor (call.Release n) (counted core)
+alone_goes roads setup core actor call.Barrier e = last_goes (arrived (actor_of actor) core.objects) actor call.Barrier (counted core)
 alone_goes roads setup core actor call.Yield e = refl
 alone_goes roads setup core actor call.Exit e = refl

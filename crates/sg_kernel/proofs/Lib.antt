@@ -1,5 +1,6 @@
 pub mod Alone
 pub mod Counts
+pub mod Each
 pub mod Ends
 pub mod Firsts
 pub mod Joins

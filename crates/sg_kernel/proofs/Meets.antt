@@ -12,8 +12,9 @@ use Rattle.sg_mailbox.specs.declared.sides.Side.{Side}
 use Rattle.sg_mailbox.specs.Posts.{Post, Posts, box_eq, is_other, without, waiting, meets, arrives, arrives_by}
 use Rattle.sg_requests.specs.declared.request.Await.{Await}
 use Rattle.sg_requests.specs.Requested.{queue_at, oldest, rest_of, queued, taken}
+use Rattle.sg_kernel.specs.declared.states.How.TheVariants as how
 use Rattle.sg_kernel.specs.declared.states.Whose.{Whose}
-use Rattle.sg_kernel.specs.declared.states.Whose.TheVariants.{Gone, Posted}
+use Rattle.sg_kernel.specs.declared.states.Whose.TheVariants.{Over, Posted}
 use Rattle.sg_kernel.specs.Meetings.{post_in, posts_from}
 use Rattle.sg_kernel.specs.Sound.{is_posted, IsMade}
 use Rattle.sg_kernel.proofs.Postings.{FoundAt, box_found, box_found_same, posts-push, posts-set, posted_elsewhere, posted_here, found_post, not_posted}
@@ -52,7 +53,7 @@ made_oldest n queues actor on e are = first (queue_at queues actor) e (made_at n
 
 -- ---- nothing of a communication of which one side is there is under way
 abbrev pub AreIdle : List Whose → List (Option Task) → Type 0
-AreIdle whose tasks = (place : ℕ) → IsTrue (is_posted (get_or whose place Gone)) → get_or tasks place None ≡ None
+AreIdle whose tasks = (place : ℕ) → IsTrue (is_posted (get_or whose place (Over how.Done))) → get_or tasks place None ≡ None
 
 pushed_at : {X : Type 0} (xs : List X) (y d : X) (i : ℕ) → (get_or (xs ++ y ∷ []) i d ≡ get_or xs i d) ⊎ ((i ≡ length xs) × (get_or (xs ++ y ∷ []) i d ≡ y))
 pushed_at [] y d zero = inr (refl, refl)
@@ -68,22 +69,22 @@ at_end (x ∷ xs) y d (suc i) e = at_end xs y d i (omega (arith, e))
 
 -- one more activity is made; nothing of it is under way where it is posted
 pub idle_more : (whose : List Whose) (tasks : List (Option Task)) (w : Whose) (t : Option Task) → length whose ≡ length tasks → (IsTrue (is_posted w) → t ≡ None) → AreIdle whose tasks → AreIdle (whose ++ w ∷ []) (tasks ++ t ∷ [])
-idle_more whose tasks w t same new old = λ place e. elim (pushed_at whose w Gone place) [
+idle_more whose tasks w t same new old = λ place e. elim (pushed_at whose w (Over how.Done) place) [
   | inl k ↦ kept place k e (pushed_at tasks t None place)
   | inr r ↦ at_end tasks t None place (omega (arith, r.0, same)) ∙ new (sym (ap is_posted r.1) ∙ e)
 ]
   where
-    kept : (place : ℕ) → get_or (whose ++ w ∷ []) place Gone ≡ get_or whose place Gone → IsTrue (is_posted (get_or (whose ++ w ∷ []) place Gone)) → (get_or (tasks ++ t ∷ []) place None ≡ get_or tasks place None) ⊎ ((place ≡ length tasks) × (get_or (tasks ++ t ∷ []) place None ≡ t)) → get_or (tasks ++ t ∷ []) place None ≡ None
+    kept : (place : ℕ) → get_or (whose ++ w ∷ []) place (Over how.Done) ≡ get_or whose place (Over how.Done) → IsTrue (is_posted (get_or (whose ++ w ∷ []) place (Over how.Done))) → (get_or (tasks ++ t ∷ []) place None ≡ get_or tasks place None) ⊎ ((place ≡ length tasks) × (get_or (tasks ++ t ∷ []) place None ≡ t)) → get_or (tasks ++ t ∷ []) place None ≡ None
     kept place k e (inl l) = l ∙ old place (sym (ap is_posted k) ∙ e)
-    kept place k e (inr r) = r.1 ∙ new (sym (ap is_posted (at_end whose w Gone place (omega (arith, r.0, same)))) ∙ e)
+    kept place k e (inr r) = r.1 ∙ new (sym (ap is_posted (at_end whose w (Over how.Done) place (omega (arith, r.0, same)))) ∙ e)
 
 -- an activity becomes another's that isn't posted
 pub idle_put : (whose : List Whose) (tasks : List (Option Task)) (i : ℕ) (w : Whose) (t : Option Task) → i < length whose → is_posted w ≡ false → AreIdle whose tasks → AreIdle (set whose i w) (set tasks i t)
 idle_put whose tasks i w t within isnt old = λ place e. cases place (cases_eq place i) e
   where
-    cases : (place : ℕ) → (place ≡ i) ⊎ (place ≢ i) → IsTrue (is_posted (get_or (set whose i w) place Gone)) → get_or (set tasks i t) place None ≡ None
-    cases place (inl is) e = absurd (true≢false (sym e ∙ ap is_posted (ap (λ k. get_or (set whose i w) k Gone) is ∙ get_or-set_same whose i w Gone within) ∙ isnt))
-    cases place (inr away) e = get_or-set_other tasks i place t None away ∙ old place (sym (ap is_posted (get_or-set_other whose i place w Gone away)) ∙ e)
+    cases : (place : ℕ) → (place ≡ i) ⊎ (place ≢ i) → IsTrue (is_posted (get_or (set whose i w) place (Over how.Done))) → get_or (set tasks i t) place None ≡ None
+    cases place (inl is) e = absurd (true≢false (sym e ∙ ap is_posted (ap (λ k. get_or (set whose i w) k (Over how.Done)) is ∙ get_or-set_same whose i w (Over how.Done) within) ∙ isnt))
+    cases place (inr away) e = get_or-set_other tasks i place t None away ∙ old place (sym (ap is_posted (get_or-set_other whose i place w (Over how.Done) away)) ∙ e)
 
 -- ---- the mailboxes tell who is posted
 abbrev pub AreTold : Posts → List Whose → Type 0

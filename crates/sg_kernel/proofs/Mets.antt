@@ -15,14 +15,15 @@ use Rattle.sg_route.specs.Route.{Route, route_of}
 use Rattle.sg_route.specs.Walked.{Routed}
 use Rattle.sg_kernel.specs.declared.meetings.Comer.{Comer}
 use Rattle.sg_kernel.specs.declared.parts.Parts.{Parts}
-use Rattle.sg_kernel.specs.declared.states.Whose.TheVariants.{Gone, Posted}
+use Rattle.sg_kernel.specs.declared.states.How.TheVariants as how
+use Rattle.sg_kernel.specs.declared.states.Whose.TheVariants.{Over, Posted}
 use Rattle.sg_kernel.specs.Meetings.{posts_from, sender_of, receiver_of, point_of, joins_over, comes, comes_by, takes_part}
 use Rattle.sg_kernel.specs.World.{Core, extent}
 use Rattle.sg_kernel.specs.Sound.{core_of, setup_in, is_posted, IsSide, IsOwner, IsSound, AreLimited, AreMeeting}
 use Rattle.sg_kernel.proofs.Postings.{FoundAt, found_post, posts_below}
 
 -- all that wait have lower serials than the next one
-pub waiting_below : (parts : Parts) (mailbox : BoxId) (next : ℕ) → next ≡ length parts.doing.tasks + 1 → IsSound parts → AreMeeting parts → All (λ (p : Post). p.serial.0 < next) (waiting parts.boxes mailbox)
+pub waiting_below : (parts : Parts) (mailbox : BoxId) (next : ℕ) → next ≡ length parts.doing.under.tasks + 1 → IsSound parts → AreMeeting parts → All (λ (p : Post). p.serial.0 < next) (waiting parts.boxes mailbox)
 waiting_below parts mailbox next is sound meeting =
     All-same (λ (p : Post). p.serial.0 < next) (waiting parts.boxes mailbox) (posts_from mailbox 1 parts.whose.whose) (meeting.posts mailbox) (λ k d lt. below k d (posts_below mailbox 1 parts.whose.whose k d lt))
   where
@@ -37,7 +38,7 @@ pub record IsMet (parts : Parts) (comer : Comer) (serial : Serial) (other : Side
   pub side_is : post.side ≡ other
   pub from : 0 < serial.0
   pub to : serial.0 ≤ length parts.whose.whose
-  pub idle : get_or parts.doing.tasks (serial.0 - 1) None ≡ None
+  pub idle : get_or parts.doing.under.tasks (serial.0 - 1) None ≡ None
   pub limited : IsSide (extent (setup_in parts)) other
 
 some_same : {X : Type 0} {x y : X} → Some x ≡ Some y → x ≡ y
@@ -57,7 +58,7 @@ is_met parts comer serial other is limited meeting = go (meets comer.sends (wait
         let at : FoundAt test comer.mailbox 1 whose p = found_post test comer.mailbox 1 whose p (ap (find test) (sym (meeting.posts comer.mailbox)) ∙ there) in
         let number : p.serial.0 ≡ serial.0 = ap (λ (s : Serial). s.0) serials in
         let place : p.serial.0 - 1 < length whose = omega (arith, at.from, at.to) in
-        let posted : get_or whose (serial.0 - 1) Gone ≡ Posted comer.mailbox p.sends p.side = ap (λ (s : Serial). get_or whose (s.0 - 1) Gone) (sym serials) ∙ at.is in
+        let posted : get_or whose (serial.0 - 1) (Over how.Done) ≡ Posted comer.mailbox p.sends p.side = ap (λ (s : Serial). get_or whose (s.0 - 1) (Over how.Done)) (sym serials) ∙ at.is in
         record {
           post = p;
           found = there;
@@ -66,7 +67,7 @@ is_met parts comer serial other is limited meeting = go (meets comer.sends (wait
           from = omega (arith, at.from, number);
           to = omega (arith, at.to, number);
           idle = meeting.idle (serial.0 - 1) (ap is_posted posted);
-          limited = subst (IsSide (extent (setup_in parts))) sides (subst (IsOwner (extent (setup_in parts))) at.is (limited.owners (p.serial.0 - 1) Gone place));
+          limited = subst (IsSide (extent (setup_in parts))) sides (subst (IsOwner (extent (setup_in parts))) at.is (limited.owners (p.serial.0 - 1) (Over how.Done) place));
         }
 
 -- both sides keep to their limits, whichever came

@@ -9,8 +9,9 @@ use Rattle.sg_base.specs.declared.ids.BoxId.{BoxId}
 use Rattle.sg_base.specs.declared.ids.BoxId.TheVariants as box
 use Rattle.sg_mailbox.specs.declared.sides.Side.{Side}
 use Rattle.sg_mailbox.specs.Posts.{Post, box_eq, without}
+use Rattle.sg_kernel.specs.declared.states.How.TheVariants as how
 use Rattle.sg_kernel.specs.declared.states.Whose.{Whose}
-use Rattle.sg_kernel.specs.declared.states.Whose.TheVariants.{Gone, Alone, Posted, Pair}
+use Rattle.sg_kernel.specs.declared.states.Whose.TheVariants.{Over, Alone, Posted, Pair}
 use Rattle.sg_kernel.specs.Meetings.{post_in, posts_from}
 use Rattle.sg_kernel.specs.Sound.{is_posted}
 
@@ -37,7 +38,7 @@ box_apart a b apart = cases (box_eq a b) refl
 
 -- ---- the post of one activity
 pub not_posted : (mailbox : BoxId) (n : ℕ) (w : Whose) → is_posted w ≡ false → post_in mailbox n w ≡ None
-not_posted mailbox n Gone e = refl
+not_posted mailbox n (Over how.Done) e = refl
 not_posted mailbox n (Alone a) e = refl
 not_posted mailbox n (Posted m s d) e = absurd (true≢false e)
 not_posted mailbox n (Pair s r) e = refl
@@ -50,7 +51,7 @@ posted_here mailbox n s d = ap (λ b. cond b (Some (record { serial = record { 0
 
 -- what a post tells of its activity
 post_told : (mailbox : BoxId) (n : ℕ) (w : Whose) (q : Post) → post_in mailbox n w ≡ Some q → (q.serial.0 ≡ n) × (w ≡ Posted mailbox q.sends q.side)
-post_told mailbox n Gone q e = absurd (cc e)
+post_told mailbox n (Over how.Done) q e = absurd (cc e)
 post_told mailbox n (Alone a) q e = absurd (cc e)
 post_told mailbox n (Pair s r) q e = absurd (cc e)
 post_told mailbox n (Posted m s d) q e = cases (box_eq mailbox m) refl e
@@ -74,15 +75,15 @@ posts-push mailbox n (x ∷ whose) w =
     ap (λ l. first ++ l) (posts-push mailbox (n + 1) whose w ∙ ap (λ k. rest ++ option_to_list (post_in mailbox k w)) at)
     ∙ sym (append_assoc first rest (option_to_list (post_in mailbox (n + suc (length whose)) w)))
 
-pub posts-set : (mailbox : BoxId) (n i : ℕ) (whose : List Whose) (w : Whose) → ((k : ℕ) → post_in mailbox k (get_or whose i Gone) ≡ None) → ((k : ℕ) → post_in mailbox k w ≡ None) → posts_from mailbox n (set whose i w) ≡ posts_from mailbox n whose
+pub posts-set : (mailbox : BoxId) (n i : ℕ) (whose : List Whose) (w : Whose) → ((k : ℕ) → post_in mailbox k (get_or whose i (Over how.Done)) ≡ None) → ((k : ℕ) → post_in mailbox k w ≡ None) → posts_from mailbox n (set whose i w) ≡ posts_from mailbox n whose
 unfolding posts_from
 posts-set mailbox n i [] w old new = refl
 posts-set mailbox n zero (x ∷ whose) w old new = ap (λ o. option_to_list o ++ posts_from mailbox (n + 1) whose) (new n ∙ sym (old n))
 posts-set mailbox n (suc i) (x ∷ whose) w old new = ap (λ l. option_to_list (post_in mailbox n x) ++ l) (posts-set mailbox (n + 1) i whose w old new)
 
 -- an activity that isn't posted becomes another's that isn't
-pub posts_kept : (mailbox : BoxId) (i : ℕ) (whose : List Whose) (w : Whose) → is_posted (get_or whose i Gone) ≡ false → is_posted w ≡ false → posts_from mailbox 1 (set whose i w) ≡ posts_from mailbox 1 whose
-posts_kept mailbox i whose w old new = posts-set mailbox 1 i whose w (λ k. not_posted mailbox k (get_or whose i Gone) old) (λ k. not_posted mailbox k w new)
+pub posts_kept : (mailbox : BoxId) (i : ℕ) (whose : List Whose) (w : Whose) → is_posted (get_or whose i (Over how.Done)) ≡ false → is_posted w ≡ false → posts_from mailbox 1 (set whose i w) ≡ posts_from mailbox 1 whose
+posts_kept mailbox i whose w old new = posts-set mailbox 1 i whose w (λ k. not_posted mailbox k (get_or whose i (Over how.Done)) old) (λ k. not_posted mailbox k w new)
 
 pub posts_below : (mailbox : BoxId) (n : ℕ) (whose : List Whose) → All (λ (p : Post). p.serial.0 < n + length whose) (posts_from mailbox n whose)
 unfolding posts_from
@@ -101,7 +102,7 @@ posts_below mailbox n (x ∷ whose) =
 pub record FoundAt (test : Post → Bool) (mailbox : BoxId) (n : ℕ) (whose : List Whose) (p : Post) : Type 0 where
   pub from : n ≤ p.serial.0
   pub to : p.serial.0 < n + length whose
-  pub is : get_or whose (p.serial.0 - n) Gone ≡ Posted mailbox p.sends p.side
+  pub is : get_or whose (p.serial.0 - n) (Over how.Done) ≡ Posted mailbox p.sends p.side
   pub taken : (w : Whose) → is_posted w ≡ false → without test (posts_from mailbox n whose) ≡ posts_from mailbox n (set whose (p.serial.0 - n) w)
 
 found_later : (test : Post → Bool) (mailbox : BoxId) (n : ℕ) (x : Whose) (whose : List Whose) (p : Post) → FoundAt test mailbox (n + 1) whose p
@@ -113,7 +114,7 @@ found_later test mailbox n x whose p f taken =
     record {
       from = omega (arith, f.from);
       to = omega (arith, f.to);
-      is = ap (λ k. get_or (x ∷ whose) k Gone) step ∙ f.is;
+      is = ap (λ k. get_or (x ∷ whose) k (Over how.Done)) step ∙ f.is;
       taken = λ w e. taken w e ∙ sym (ap (λ k. posts_from mailbox n (set (x ∷ whose) k w)) step);
     }
 
@@ -125,7 +126,7 @@ found_here test mailbox n x whose q is passes =
     record {
       from = omega (arith, told.0);
       to = omega (arith, told.0);
-      is = ap (λ k. get_or (x ∷ whose) k Gone) first ∙ told.1;
+      is = ap (λ k. get_or (x ∷ whose) k (Over how.Done)) first ∙ told.1;
       taken = λ w e.
           ap (λ o. without test (option_to_list o ++ posts_from mailbox (n + 1) whose)) is
           ∙ ap (λ b. cond b (posts_from mailbox (n + 1) whose) (q ∷ without test (posts_from mailbox (n + 1) whose))) passes

@@ -1,18 +1,18 @@
 -- Mailboxes and requests, as activities begin and end that are in no mailbox.
-use Rattle.std.proofs.Common.{◌≡◌, ◌≢◌, ℕ, zero, suc, ◌+◌, ◌-◌, ◌<◌, ◌≤◌, Bool, true, false, true≢false, IsTrue, Option, None, Some, List, [], ◌∷◌, ◌++◌, length, set, get_or, inl, inr, refl, sym, subst, ap, ◌∙◌, arith}
+use Rattle.std.proofs.Common.{◌≡◌, ◌≢◌, ℕ, zero, suc, ◌-◌, Bool, true, false, true≢false, IsTrue, Option, None, Some, List, [], ◌∷◌, ◌++◌, length, set, get_or, inl, inr, refl, sym, subst, ap, ◌∙◌, arith}
 use Rattle.std.specs.Prelude.{All}
 use Rattle.std.proofs.lemmas.Bool.{cases_eq, cases_lt}
 use Rattle.std.proofs.lemmas.List.{append-nil, get_or-set_same, get_or-set_other, get_or_past, get_or_append_left, get_or-append_right, length-set, length-append}
 use Rattle.sg_base.specs.declared.ids.ActorId.{ActorId}
-use Rattle.sg_base.specs.declared.ids.BoxId.{BoxId}
 use Rattle.sg_activity.specs.Doing.{Doing}
 use Rattle.sg_activity.specs.Task.{Task, next_phase}
 use Rattle.sg_activity.specs.declared.kinds.PhaseKind.{PhaseKind}
 use Rattle.sg_activity.specs.declared.kinds.PhaseKind.TheVariants as phase
 use Rattle.sg_requests.specs.declared.request.Await.{Await}
 use Rattle.sg_kernel.specs.declared.parts.Parts.{Parts}
+use Rattle.sg_kernel.specs.declared.states.How.TheVariants as how
 use Rattle.sg_kernel.specs.declared.states.Whose.{Whose}
-use Rattle.sg_kernel.specs.declared.states.Whose.TheVariants.{Gone, Alone}
+use Rattle.sg_kernel.specs.declared.states.Whose.TheVariants.{Over, Alone}
 use Rattle.sg_kernel.specs.Meetings.{posts_from}
 use Rattle.sg_kernel.specs.Owners.{Owned}
 use Rattle.sg_kernel.specs.Sound.{is_posted, IsMade, AreMeeting}
@@ -20,11 +20,11 @@ use Rattle.sg_kernel.proofs.Postings.{posts-push, posts_kept}
 
 -- nothing of what is posted is under way
 abbrev pub AreIdle : List Whose → List (Option Task) → Type 0
-AreIdle whose tasks = (place : ℕ) → IsTrue (is_posted (get_or whose place Gone)) → get_or tasks place None ≡ None
+AreIdle whose tasks = (place : ℕ) → IsTrue (is_posted (get_or whose place (Over how.Done))) → get_or tasks place None ≡ None
 
 -- what is under way isn't posted
-pub under_way : (whose : List Whose) (tasks : List (Option Task)) (place : ℕ) (task : Task) → AreIdle whose tasks → get_or tasks place None ≡ Some task → is_posted (get_or whose place Gone) ≡ false
-under_way whose tasks place task idle at = cases (is_posted (get_or whose place Gone)) (idle place)
+pub under_way : (whose : List Whose) (tasks : List (Option Task)) (place : ℕ) (task : Task) → AreIdle whose tasks → get_or tasks place None ≡ Some task → is_posted (get_or whose place (Over how.Done)) ≡ false
+under_way whose tasks place task idle at = cases (is_posted (get_or whose place (Over how.Done))) (idle place)
   where
     cases : (b : Bool) → (IsTrue b → get_or tasks place None ≡ None) → b ≡ false
     cases true none = absurd (cc (at, none refl))
@@ -37,10 +37,10 @@ none_there tasks place = elim (cases_lt place (length tasks)) [
   | inr past ↦ get_or_past (set tasks place None) place None (omega (arith, past, length-set tasks place None))
 ]
 
-idle_gone : (whose : List Whose) (tasks : List (Option Task)) (place : ℕ) → AreIdle whose tasks → AreIdle (set whose place Gone) (set tasks place None)
+idle_gone : (whose : List Whose) (tasks : List (Option Task)) (place : ℕ) → AreIdle whose tasks → AreIdle (set whose place (Over how.Done)) (set tasks place None)
 idle_gone whose tasks place idle other posted = elim (cases_eq other place) [
   | inl same ↦ ap (λ k. get_or (set tasks place None) k None) same ∙ none_there tasks place
-  | inr apart ↦ get_or-set_other tasks place other None None apart ∙ idle other (subst (λ w. IsTrue (is_posted w)) (get_or-set_other whose place other Gone Gone apart) posted)
+  | inr apart ↦ get_or-set_other tasks place other None None apart ∙ idle other (subst (λ w. IsTrue (is_posted w)) (get_or-set_other whose place other (Over how.Done) (Over how.Done) apart) posted)
 ]
 
 -- nothing follows a phase but a latency
@@ -54,32 +54,32 @@ last_phase task last = cases task.kind last
     cases phase.Timer isnt = refl
 
 -- what was under way is nobody's
-pub meeting_gone : (parts : Parts) (whose : Owned) (doing : Doing) (place : ℕ) (task : Task) → get_or parts.doing.tasks place None ≡ Some task → whose.whose ≡ set parts.whose.whose place Gone → doing.tasks ≡ set parts.doing.tasks place None → AreMeeting parts → AreMeeting (record parts { whose = whose; doing = doing })
+pub meeting_gone : (parts : Parts) (whose : Owned) (doing : Doing) (place : ℕ) (task : Task) → get_or parts.doing.under.tasks place None ≡ Some task → whose.whose ≡ set parts.whose.whose place (Over how.Done) → doing.under.tasks ≡ set parts.doing.under.tasks place None → AreMeeting parts → AreMeeting (record parts { whose = whose; doing = doing })
 meeting_gone parts whose doing place task at owned over old =
-    let isnt = under_way parts.whose.whose parts.doing.tasks place task old.idle at in
+    let isnt = under_way parts.whose.whose parts.doing.under.tasks place task old.idle at in
     record {
-      posts = λ mailbox. old.posts mailbox ∙ sym (ap (posts_from mailbox 1) owned ∙ posts_kept mailbox place parts.whose.whose Gone isnt refl);
-      idle = subst (λ w. AreIdle w doing.tasks) (sym owned) (subst (λ t. AreIdle (set parts.whose.whose place Gone) t) (sym over) (idle_gone parts.whose.whose parts.doing.tasks place old.idle));
-      asked = subst (λ n. All (λ (queue : List Await). All (IsMade n) queue) parts.requests.queues) (sym (ap length owned ∙ length-set parts.whose.whose place Gone)) old.asked;
+      posts = λ mailbox. old.posts mailbox ∙ sym (ap (posts_from mailbox 1) owned ∙ posts_kept mailbox place parts.whose.whose (Over how.Done) isnt refl);
+      idle = subst (λ w. AreIdle w doing.under.tasks) (sym owned) (subst (λ t. AreIdle (set parts.whose.whose place (Over how.Done)) t) (sym over) (idle_gone parts.whose.whose parts.doing.under.tasks place old.idle));
+      asked = subst (λ n. All (λ (queue : List Await). All (IsMade n) queue) parts.requests.queues) (sym (ap length owned ∙ length-set parts.whose.whose place (Over how.Done))) old.asked;
     }
 
 -- ---- an activity begins
-alone_there : (actor : ActorId) (k : ℕ) → is_posted (get_or (Alone actor ∷ []) k Gone) ≡ false
+alone_there : (actor : ActorId) (k : ℕ) → is_posted (get_or (Alone actor ∷ []) k (Over how.Done)) ≡ false
 alone_there actor zero = refl
 alone_there actor (suc k) = refl
 
 idle_more : (whose : List Whose) (tasks : List (Option Task)) (actor : ActorId) (task : Option Task) → length whose ≡ length tasks → AreIdle whose tasks → AreIdle (whose ++ Alone actor ∷ []) (tasks ++ task ∷ [])
 idle_more whose tasks actor task numbered idle place posted = elim (cases_lt place (length whose)) [
-  | inl less ↦ get_or_append_left tasks (task ∷ []) None place (omega (arith, less, numbered)) ∙ idle place (subst (λ w. IsTrue (is_posted w)) (get_or_append_left whose (Alone actor ∷ []) Gone place less) posted)
-  | inr past ↦ absurd (true≢false (sym posted ∙ ap is_posted (get_or-append_right whose (Alone actor ∷ []) (length whose) place Gone refl past) ∙ alone_there actor (place - length whose)))
+  | inl less ↦ get_or_append_left tasks (task ∷ []) None place (omega (arith, less, numbered)) ∙ idle place (subst (λ w. IsTrue (is_posted w)) (get_or_append_left whose (Alone actor ∷ []) (Over how.Done) place less) posted)
+  | inr past ↦ absurd (true≢false (sym posted ∙ ap is_posted (get_or-append_right whose (Alone actor ∷ []) (length whose) place (Over how.Done) refl past) ∙ alone_there actor (place - length whose)))
 ]
 
 -- one more is under way, an actor's alone
-pub meeting_more : (parts : Parts) (whose : Owned) (doing : Doing) (actor : ActorId) (task : Task) → length parts.whose.whose ≡ length parts.doing.tasks → whose.whose ≡ parts.whose.whose ++ Alone actor ∷ [] → doing.tasks ≡ parts.doing.tasks ++ Some task ∷ [] → AreMeeting parts → AreMeeting (record parts { whose = whose; doing = doing })
+pub meeting_more : (parts : Parts) (whose : Owned) (doing : Doing) (actor : ActorId) (task : Task) → length parts.whose.whose ≡ length parts.doing.under.tasks → whose.whose ≡ parts.whose.whose ++ Alone actor ∷ [] → doing.under.tasks ≡ parts.doing.under.tasks ++ Some task ∷ [] → AreMeeting parts → AreMeeting (record parts { whose = whose; doing = doing })
 meeting_more parts whose doing actor task numbered owned begun old =
     let more = ap length owned ∙ length-append parts.whose.whose (Alone actor ∷ []) in
     record {
       posts = λ mailbox. old.posts mailbox ∙ sym (ap (posts_from mailbox 1) owned ∙ posts-push mailbox 1 parts.whose.whose (Alone actor) ∙ append-nil (posts_from mailbox 1 parts.whose.whose));
-      idle = subst (λ w. AreIdle w doing.tasks) (sym owned) (subst (λ t. AreIdle (parts.whose.whose ++ Alone actor ∷ []) t) (sym begun) (idle_more parts.whose.whose parts.doing.tasks actor (Some task) numbered old.idle));
+      idle = subst (λ w. AreIdle w doing.under.tasks) (sym owned) (subst (λ t. AreIdle (parts.whose.whose ++ Alone actor ∷ []) t) (sym begun) (idle_more parts.whose.whose parts.doing.under.tasks actor (Some task) numbered old.idle));
       asked = λ k d within j e inside. let made = old.asked k d within j e inside in record { from = made.from; to = omega (arith, made.to, more) };
     }

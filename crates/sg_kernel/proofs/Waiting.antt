@@ -1,5 +1,5 @@
 -- Who waits at an object before a call, after it, and once all are answered.
-use Rattle.std.proofs.Common.{◌≡◌, ◌≢◌, ℕ, ◌+◌, ◌-◌, ◌^◌, ◌<◌, ◌≤◌, true≢false, IsTrue, Option, None, Some, List, [], length, map, eqb, nat_lt, set, get_or, inl, inr, refl, sym, subst, ap, ◌∙◌, arith}
+use Rattle.std.proofs.Common.{◌≡◌, ◌≢◌, ℕ, ◌+◌, ◌-◌, ◌^◌, ◌<◌, ◌≤◌, true≢false, false, IsTrue, Option, None, Some, List, [], length, map, eqb, nat_lt, set, get_or, inl, inr, refl, sym, subst, ap, ◌∙◌, arith}
 use Rattle.std.specs.Prelude.{All, Contains}
 use Rattle.std.proofs.lemmas.Bool.{cases_Bool, cases_eq, cases_lt}
 use Rattle.std.proofs.lemmas.List.{get_or-set_other, length-set, length-map}
@@ -26,6 +26,13 @@ use Rattle.sg_kernel.specs.Waking.{AreWaking}
 pub still_held : (states : List State) (a b : ActorId) (s : State) → 0 < a.0 → 0 < b.0 → b.0 ≢ a.0 → IsTrue (is_held (get_or states (b.0 - 1) Ended)) → IsTrue (is_held (get_or (set states (a.0 - 1) s) (b.0 - 1) Ended))
 still_held states a b s some one apart held =
     ap is_held (get_or-set_other states (a.0 - 1) (b.0 - 1) s Ended (λ e. apart (omega (arith, e, some, one)))) ∙ held
+
+-- one that isn't held gets any state
+pub others_held : (states : List State) (a b : ActorId) (s : State) → 0 < a.0 → 0 < b.0 → is_held (get_or states (a.0 - 1) Ended) ≡ false → IsTrue (is_held (get_or states (b.0 - 1) Ended)) → IsTrue (is_held (get_or (set states (a.0 - 1) s) (b.0 - 1) Ended))
+others_held states a b s some one isnt held = elim (cases_eq b.0 a.0) [
+  | inl same ↦ absurd (true≢false (sym held ∙ ap (λ k. is_held (get_or states (k - 1) Ended)) same ∙ isnt))
+  | inr apart ↦ still_held states a b s some one apart held
+]
 
 times_some : (actor : ActorId) (queue : List ActorId) → Contains queue actor → 0 < times actor queue
 times_some actor queue has =

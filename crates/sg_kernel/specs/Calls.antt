@@ -1,13 +1,13 @@
 -- How a call is answered. Each call is one event.
-use Rattle.std.specs.Prelude.{ℕ, ◌+◌, Option, None, Some, true, false, List, [], ◌∷◌, ◌++◌, length}
+use Rattle.std.specs.Prelude.{ℕ, ◌+◌, Option, None, Some, true, false, [], ◌∷◌, ◌++◌, length}
 use Rattle.sg_base.specs.declared.call.Call.{Call}
 use Rattle.sg_base.specs.declared.call.Call.TheVariants as call
 use Rattle.sg_base.specs.declared.call.Answer.{Answer}
 use Rattle.sg_base.specs.declared.call.Answer.TheVariants as answer
 use Rattle.sg_base.specs.declared.call.Action.{Action}
 use Rattle.sg_base.specs.declared.ids.ActorId.{ActorId}
-use Rattle.sg_activity.specs.Task.{Task}
-use Rattle.sg_activity.specs.Doing.{exec_of, timer_of}
+use Rattle.sg_activity.specs.Task.{Task, exec_of, timer_of}
+use Rattle.sg_activity.specs.Underway.{started}
 use Rattle.sg_requests.specs.declared.request.Await.{Await}
 use Rattle.sg_requests.specs.declared.request.End.TheVariants as end
 use Rattle.sg_route.specs.Roads.{Roads}
@@ -28,26 +28,44 @@ alone serial = record { serial = record { 0 = serial }; end = end.Alone }
 -- a new activity, on which the actor is blocked by this call
 abbrev pub blocks_on : Task → ℕ → Call → Core → Core
 blocks_on task actor what core =
-    blocked_by actor what (Some (alone (length core.tasks + 1)))
-    (record core { tasks = core.tasks ++ Some task ∷ []; whose = core.whose ++ Alone (actor_of actor) ∷ [] })
+    blocked_by actor what (Some (alone (length core.under.tasks + 1)))
+    (record core { under = started task core.under; whose = core.whose ++ Alone (actor_of actor) ∷ [] })
+
+-- ---- what calls lead to, once they are counted
+-- it computes on its host
+abbrev pub with_execution : Setup → ℕ → ℕ → Core → Core
+with_execution setup actor flops core = blocks_on (exec_of (host_of setup actor) flops) actor (call.Compute flops) core
+
+abbrev pub executes : Setup → ℕ → ℕ → Core → Step
+executes setup actor flops core = goes_on (with_execution setup actor flops core) []
+
+abbrev pub computes : Setup → ℕ → ℕ → Core → Step
+computes setup actor flops core = executes setup actor flops core
+
+abbrev pub with_sleep : ℕ → ℕ → Core → Core
+with_sleep actor ns core = blocks_on (timer_of ns) actor (call.Sleep ns) core
+
+-- it has made its last call
+abbrev pub leaves : ℕ → Core → Core
+leaves actor core = with_state actor Ended core
 
 -- the answer to a call; an Ask is refused where nobody tells the actor its next line
 abbrev pub answered_call : Roads → Setup → Core → ℕ → Call → Step
-answered_call roads setup core actor call.Ask = goes_on (counted (readied actor answer.Refused core)) []
-answered_call roads setup core actor (call.Compute flops) = goes_on (counted (blocks_on (exec_of setup.capacities (host_of setup actor) flops) actor (call.Compute flops) core)) []
-answered_call roads setup core actor (call.Sleep ns) = goes_on (counted (blocks_on (timer_of ns) actor (call.Sleep ns) core)) []
+answered_call roads setup core actor call.Ask = goes_on (readied actor answer.Refused (counted core)) []
+answered_call roads setup core actor (call.Compute flops) = computes setup actor flops (counted core)
+answered_call roads setup core actor (call.Sleep ns) = goes_on (with_sleep actor ns (counted core)) []
 answered_call roads setup core actor (call.Send mailbox bytes message) = comes roads setup (sends_by actor (call.Send mailbox bytes message) true mailbox bytes message) core
 answered_call roads setup core actor (call.Recv mailbox) = comes roads setup (receives_by actor (call.Recv mailbox) true mailbox) core
 answered_call roads setup core actor (call.ISend mailbox bytes message) = comes roads setup (sends_by actor (call.ISend mailbox bytes message) false mailbox bytes message) core
 answered_call roads setup core actor (call.IRecv mailbox) = comes roads setup (receives_by actor (call.IRecv mailbox) false mailbox) core
-answered_call roads setup core actor call.Wait = waits actor core
-answered_call roads setup core actor (call.Lock mutex) = caller_first (locked (actor_of actor) mutex core.objects) actor (call.Lock mutex) core
-answered_call roads setup core actor (call.Unlock mutex) = caller_first (unlocked (actor_of actor) mutex core.objects) actor (call.Unlock mutex) core
-answered_call roads setup core actor (call.Acquire semaphore) = caller_first (acquired (actor_of actor) semaphore core.objects) actor (call.Acquire semaphore) core
-answered_call roads setup core actor (call.Release semaphore) = caller_first (released semaphore core.objects) actor (call.Release semaphore) core
-answered_call roads setup core actor call.Barrier = caller_last (arrived (actor_of actor) core.objects) actor call.Barrier core
-answered_call roads setup core actor call.Yield = goes_on (counted (readied actor answer.Done core)) (at_once actor call.Yield 0 core ∷ [])
-answered_call roads setup core actor call.Exit = goes_on (counted (with_state actor Ended core)) []
+answered_call roads setup core actor call.Wait = waits actor (counted core)
+answered_call roads setup core actor (call.Lock mutex) = caller_first (locked (actor_of actor) mutex core.objects) actor (call.Lock mutex) (counted core)
+answered_call roads setup core actor (call.Unlock mutex) = caller_first (unlocked (actor_of actor) mutex core.objects) actor (call.Unlock mutex) (counted core)
+answered_call roads setup core actor (call.Acquire semaphore) = caller_first (acquired (actor_of actor) semaphore core.objects) actor (call.Acquire semaphore) (counted core)
+answered_call roads setup core actor (call.Release semaphore) = caller_first (released semaphore core.objects) actor (call.Release semaphore) (counted core)
+answered_call roads setup core actor call.Barrier = caller_last (arrived (actor_of actor) core.objects) actor call.Barrier (counted core)
+answered_call roads setup core actor call.Yield = at_once actor call.Yield 0 answer.Done (counted core)
+answered_call roads setup core actor call.Exit = goes_on (leaves actor (counted core)) []
 
 abbrev pub answered : Roads → Setup → Core → ℕ → Call → Step
 answered roads setup core actor what = unless_used setup.budget core (answered_call roads setup core actor what)
@@ -58,4 +76,4 @@ answer_of_ask (Some action) = answer.Act action
 
 -- the answer to an Ask, where the actor's next line is known, or that there is none
 abbrev pub told : Setup → Core → ℕ → Option Action → Step
-told setup core actor action = unless_used setup.budget core (goes_on (counted (readied actor (answer_of_ask action) core)) [])
+told setup core actor action = unless_used setup.budget core (goes_on (readied actor (answer_of_ask action) (counted core)) [])

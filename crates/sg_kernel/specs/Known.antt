@@ -1,7 +1,13 @@
 -- What contracts see of a `Kernel`, and for which worlds it stands.
-use Rattle.std.specs.Prelude.{◌≡◌, ℕ, List, [], ◌++◌}
+use Rattle.std.specs.Prelude.{◌≡◌, ◌≢◌, ℕ, ◌-◌, ◌<◌, Bool, if◌then◌else◌, Option, List, [], ◌++◌}
+use Rattle.sg_base.specs.declared.call.Action.{Action}
+use Rattle.sg_base.specs.declared.call.Call.{Call}
 use Rattle.sg_base.specs.declared.trace_record.Record.{Record}
-use Rattle.sg_kernel.specs.World.{Setup, Core, World}
+use Rattle.sg_activity.specs.Links.{Capacities}
+use Rattle.sg_route.specs.Roads.{Roads}
+use Rattle.sg_kernel.specs.World.{Setup, Core, World, MayCall}
+use Rattle.sg_kernel.specs.Calls.{answered, told}
+use Rattle.sg_kernel.specs.Passes.{pass_of}
 use Rattle.sg_kernel.specs.Start.{first_core}
 use Rattle.sg_kernel.specs.Steps.{Step}
 
@@ -15,8 +21,18 @@ pub record Known : Type 0 where
 abbrev pub after : Step → Known → Known
 after step known = record known { core = step.core; records = known.records ++ step.made }
 
-abbrev pub first_known : Setup → Known
-first_known setup = record { setup = setup; core = first_core setup; records = []; room = 0 }
+-- after a call: one that is answered took its room
+abbrev pub after_call : Bool → Step → Known → Known
+after_call is_answered step known = record (after step known) { room = known.room - (if is_answered then 1 else 0) }
+
+-- a call of the actor can be answered: it may make one, there is room for it, and the budget isn't used up
+pub record CanAnswer (known : Known) (actor : ℕ) : Type 0 where
+  pub caller : MayCall known.core actor
+  pub room : 0 < known.room
+  pub budget : known.core.events ≢ known.setup.budget
+
+abbrev pub first_known : Capacities → Setup → Known
+first_known capacities setup = record { setup = setup; core = first_core capacities setup; records = []; room = 0 }
 
 -- The kernel stands for each world with this core: it keeps no minds, no numbers of Asks and no records once they are cleared.
 abbrev pub Stands : Known → World → Type 0
@@ -28,8 +44,14 @@ led step world = record world { core = step.core }
 
 -- A new kernel stands for the first world.
 abbrev pub StandsAtFirst : Type 0
-StandsAtFirst = (setup : Setup) (world : World) → world.core ≡ first_core setup → Stands (first_known setup) world
+StandsAtFirst = (capacities : Capacities) (setup : Setup) (world : World) → world.core ≡ first_core capacities setup → Stands (first_known capacities setup) world
 
--- Each step leads from every world for which the kernel stood to the step's world, for which it then stands.
-abbrev pub StepsLead : Type 0
-StepsLead = (step : Setup → Core → Step) (known : Known) (world : World) → Stands known world → Stands (after (step known.setup known.core) known) (led (step known.setup world.core) world)
+-- What a step leaves stands for the world to which it leads, from every world for which the kernel stood.
+abbrev pub Leads : (Step → Known → Known) → (Setup → Core → Step) → Type 0
+Leads leaves step = (known : Known) (world : World) → Stands known world → Stands (leaves (step known.setup known.core) known) (led (step known.setup world.core) world)
+
+-- So it is of what `answer`, `tell` and `pass` leave.
+pub record StepsLead : Type 0 where
+  pub calls : (roads : Roads) (actor : ℕ) (what : Call) (is_answered : Bool) → Leads (after_call is_answered) (λ setup core. answered roads setup core actor what)
+  pub asks : (actor : ℕ) (action : Option Action) (is_answered : Bool) → Leads (after_call is_answered) (λ setup core. told setup core actor action)
+  pub passes : Leads after pass_of

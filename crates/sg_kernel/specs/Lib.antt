@@ -12,3 +12,4 @@ pub mod Owners
 pub mod Sound
 pub mod Queue
 pub mod Waking
+pub mod Whole

@@ -1,6 +1,7 @@
 -- How the sides of a communication meet in a mailbox, and how an actor waits for its requests.
 use Rattle.std.specs.Prelude.{ℕ, ◌+◌, ◌-◌, Bool, true, false, Option, None, Some, Result, Ok, Err, if◌then◌else◌, List, [], ◌∷◌, ◌++◌, length, slice_set}
 use Rattle.std.specs.Option.{option_to_list}
+use Rattle.sg_base.specs.declared.call.Answer.{Answer}
 use Rattle.sg_base.specs.declared.call.Answer.TheVariants as answer
 use Rattle.sg_base.specs.declared.call.Call.{Call}
 use Rattle.sg_base.specs.declared.call.Call.TheVariants as call
@@ -8,7 +9,9 @@ use Rattle.sg_base.specs.declared.call.Msg.{Msg}
 use Rattle.sg_base.specs.declared.call.Msg.TheVariants as msg
 use Rattle.sg_base.specs.declared.ids.BoxId.{BoxId}
 use Rattle.sg_base.specs.declared.ids.PointId.{PointId}
-use Rattle.sg_activity.specs.Doing.{comm_of}
+use Rattle.sg_base.specs.declared.ids.Serial.{Serial}
+use Rattle.sg_activity.specs.Task.{comm_of}
+use Rattle.sg_activity.specs.Underway.{begun, drawn}
 use Rattle.sg_mailbox.specs.declared.sides.Side.{Side}
 use Rattle.sg_mailbox.specs.Posts.{Post, box_eq, meets}
 use Rattle.sg_requests.specs.declared.request.Await.{Await}
@@ -20,16 +23,17 @@ use Rattle.sg_route.specs.declared.router.RouteFault.TheVariants as fault
 use Rattle.sg_route.specs.Roads.{Roads}
 use Rattle.sg_route.specs.Route.{Route, route_of}
 use Rattle.sg_kernel.specs.declared.meetings.Comer.{Comer}
+use Rattle.sg_kernel.specs.declared.states.How.TheVariants as how
 use Rattle.sg_kernel.specs.declared.states.Stop.{Stop}
 use Rattle.sg_kernel.specs.declared.states.Stop.TheVariants as stop
 use Rattle.sg_kernel.specs.declared.states.Whose.{Whose}
-use Rattle.sg_kernel.specs.declared.states.Whose.TheVariants.{Gone, Alone, Posted, Pair}
+use Rattle.sg_kernel.specs.declared.states.Whose.TheVariants.{Over, Alone, Posted, Pair}
 use Rattle.sg_kernel.specs.World.{Setup, Core, host_of, whose_at}
-use Rattle.sg_kernel.specs.Steps.{Step, goes_on, stops, counted, readied, blocked_by, at_once, refused}
+use Rattle.sg_kernel.specs.Steps.{Step, goes_on, stops, counted, blocked_by, at_once}
 
 -- ---- who waits in a mailbox
 abbrev pub post_in : BoxId → ℕ → Whose → Option Post
-post_in mailbox serial Gone = None
+post_in mailbox serial (Over before) = None
 post_in mailbox serial (Alone actor) = None
 post_in mailbox serial (Posted there sends side) = if box_eq mailbox there then Some (record { serial = record { 0 = serial }; sends = sends; side = side }) else None
 post_in mailbox serial (Pair sender receiver) = None
@@ -59,10 +63,9 @@ asks_for actor on core = record core { requests = queued core.requests actor on 
 
 -- a call that waits blocks its actor; any other is done at once
 abbrev pub takes_part : Bool → Comer → ℕ → Core → Step
-takes_part true comer serial core = goes_on (counted (blocked_by comer.side.actor.0 comer.what (Some (await serial comer.sends)) core)) []
+takes_part true comer serial core = goes_on (blocked_by comer.side.actor.0 comer.what (Some (await serial comer.sends)) core) []
 takes_part false comer serial core =
-    goes_on (counted (asks_for comer.side.actor.0 (await serial comer.sends) (readied comer.side.actor.0 answer.Done core)))
-    (at_once comer.side.actor.0 comer.what comer.side.bytes core ∷ [])
+    at_once comer.side.actor.0 comer.what comer.side.bytes answer.Done (asks_for comer.side.actor.0 (await serial comer.sends) core)
 
 -- ---- a side comes to a mailbox
 abbrev pub sends_by : ℕ → Call → Bool → BoxId → ℕ → Msg → Comer
@@ -87,12 +90,12 @@ receiver_of comer other = if comer.sends then other else comer.side
 
 -- nobody is there that it lacks: it is posted, as a communication with the next serial
 abbrev pub posted : Comer → Core → Core
-posted comer core = record core { tasks = core.tasks ++ None ∷ []; whose = core.whose ++ Posted comer.mailbox comer.sends comer.side ∷ [] }
+posted comer core = record core { under = drawn core.under; whose = core.whose ++ Posted comer.mailbox comer.sends comer.side ∷ [] }
 
 -- both sides are there: the communication begins over its route
-abbrev pub joined : Setup → ℕ → Route → Side → Side → Core → Core
-joined setup serial route sender receiver core = record core {
-  tasks = slice_set core.tasks (serial - 1) (Some (comm_of setup.capacities route.links route.latency sender.bytes));
+abbrev pub joined : ℕ → Route → Side → Side → Core → Core
+joined serial route sender receiver core = record core {
+  under = begun serial (comm_of (record { links = route.links }) route.latency sender.bytes) core.under;
   whose = slice_set core.whose (serial - 1) (Pair sender receiver);
 }
 
@@ -107,15 +110,24 @@ abbrev pub stop_of : PointId → PointId → RouteFault → Stop
 stop_of from to (fault.NoRoute zone a b) = stop.NoRoute from to zone a b
 stop_of from to fault.TooLong = stop.TooLong from to
 
+abbrev pub joins_with : Route → Setup → Comer → Serial → Side → Core → Step
+joins_with route setup comer serial other core =
+    takes_part comer.waits comer serial.0 (joined serial.0 route (sender_of comer other) (receiver_of comer other) core)
+
+abbrev pub joins_on : Route → Setup → Comer → Post → Core → Step
+joins_on route setup comer post core = joins_with route setup comer post.serial post.side core
+
 -- a missing or too long route stops the run, with all as it was
 abbrev pub joins_over : Result Route RouteFault → Setup → Comer → Post → Core → Step
 joins_over (Err why) setup comer post core =
     stops core [] (stop_of (point_of setup (sender_of comer post.side)) (point_of setup (receiver_of comer post.side)) why)
-joins_over (Ok route) setup comer post core =
-    takes_part comer.waits comer post.serial.0 (joined setup post.serial.0 route (sender_of comer post.side) (receiver_of comer post.side) core)
+joins_over (Ok route) setup comer post core = joins_on route setup comer post (counted core)
+
+abbrev pub posts : Comer → Core → Step
+posts comer core = takes_part comer.waits comer (length core.under.tasks + 1) (posted comer core)
 
 abbrev pub comes_by : Option Post → Roads → Setup → Comer → Core → Step
-comes_by None roads setup comer core = takes_part comer.waits comer (length core.tasks + 1) (posted comer core)
+comes_by None roads setup comer core = posts comer (counted core)
 comes_by (Some post) roads setup comer core =
     joins_over (route_between roads setup (sender_of comer post.side) (receiver_of comer post.side)) setup comer post core
 
@@ -124,21 +136,22 @@ abbrev pub comes : Roads → Setup → Comer → Core → Step
 comes roads setup comer core = comes_by (meets comer.sends (posts_at comer.mailbox core)) roads setup comer core
 
 -- ---- Wait
-abbrev pub is_gone : Whose → Bool
-is_gone Gone = true
-is_gone (Alone actor) = false
-is_gone (Posted mailbox sends side) = false
-is_gone (Pair sender receiver) = false
+-- what an actor that waits for an activity is answered at once; none: it isn't over
+abbrev pub answer_of_over : Whose → Option Answer
+answer_of_over (Over how.Done) = Some answer.Done
+answer_of_over (Alone actor) = None
+answer_of_over (Posted mailbox sends side) = None
+answer_of_over (Pair sender receiver) = None
 
--- at once where the communication is done, else once it is
-abbrev pub waits_until : Bool → ℕ → Await → Core → Step
-waits_until true actor on core = goes_on (counted (readied actor answer.Done core)) (at_once actor call.Wait 0 core ∷ [])
-waits_until false actor on core = goes_on (counted (blocked_by actor call.Wait (Some on) core)) []
+-- at once where the communication is over, else once it is
+abbrev pub waits_until : Option Answer → ℕ → Await → Core → Step
+waits_until (Some over) actor on core = at_once actor call.Wait 0 over core
+waits_until None actor on core = goes_on (blocked_by actor call.Wait (Some on) core) []
 
 -- the oldest request is taken away; with none the call is refused
 abbrev pub waits_by : Option Await → ℕ → Core → Step
-waits_by None actor core = goes_on (counted (readied actor answer.Refused core)) (refused actor call.Wait core ∷ [])
-waits_by (Some on) actor core = waits_until (is_gone (whose_at core on.serial.0)) actor on (record core { requests = taken core.requests actor })
+waits_by None actor core = at_once actor call.Wait 0 answer.Refused core
+waits_by (Some on) actor core = waits_until (answer_of_over (whose_at core on.serial.0)) actor on (record core { requests = taken core.requests actor })
 
 abbrev pub waits : ℕ → Core → Step
 waits actor core = waits_by (oldest (queue_at core.requests actor)) actor core

@@ -4,6 +4,8 @@ use Rattle.std.specs.List.{count_by, flat_map}
 use Rattle.sg_base.specs.declared.call.Answer.TheVariants as answer
 use Rattle.sg_activity.specs.declared.kinds.HostCap.{HostCap}
 use Rattle.sg_activity.specs.declared.kinds.LinkCap.{LinkCap}
+use Rattle.sg_activity.specs.Links.{Capacities}
+use Rattle.sg_activity.specs.Underway.{nothing_on}
 use Rattle.sg_platform.specs.declared.rows.ActorRow.{ActorRow}
 use Rattle.sg_platform.specs.declared.rows.Function.{Function}
 use Rattle.sg_platform.specs.declared.rows.Function.TheVariants.{Replay, Worker, Master, Churn}
@@ -49,10 +51,15 @@ replays actor = is_replay actor.function
 abbrev pub capacity_of : SemaphoreRow → ℕ
 capacity_of semaphore = semaphore.capacity
 
+-- the hosts and links of a platform
+abbrev pub capacities_in : Platform → Capacities
+capacities_in platform = record { hosts = map host_cap platform.hosts; links = link_caps platform.links }
+
 -- what is simulated; the barrier has as many members as there are replay actors
 abbrev pub setup_of : Platform → Deployed → ℕ → Setup
 setup_of platform deployed budget = record {
-  capacities = record { hosts = map host_cap platform.hosts; links = link_caps platform.links };
+  hosts = length platform.hosts;
+  links = length (link_caps platform.links);
   homes = map home_of deployed.actors;
   mutexes = length deployed.mutexes;
   semaphores = map capacity_of deployed.semaphores;
@@ -73,12 +80,11 @@ first_objects setup = record {
   others = [];
 }
 
--- all actors are ready with the answer Start
-abbrev pub first_core : Setup → Core
-first_core setup = record {
-  date = 0;
+-- on these hosts and links nothing is under way, and all actors are ready with the answer Start
+abbrev pub first_core : Capacities → Setup → Core
+first_core capacities setup = record {
+  under = nothing_on capacities;
   actors = replicate (length setup.homes) (Ready answer.Start);
-  tasks = [];
   whose = [];
   requests = replicate (length setup.homes) [];
   objects = first_objects setup;

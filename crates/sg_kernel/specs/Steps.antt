@@ -2,6 +2,7 @@
 use Rattle.std.specs.Prelude.{ℕ, ◌+◌, ◌-◌, ◌==◌, Option, None, Some, Ok, Err, Result, if◌then◌else◌, List, [], ◌∷◌, ◌++◌}
 use Rattle.sg_base.specs.declared.call.Call.{Call}
 use Rattle.sg_base.specs.declared.call.Answer.{Answer}
+use Rattle.sg_base.specs.declared.call.Answer.TheVariants as answer
 use Rattle.sg_base.specs.declared.trace_record.Record.{Record}
 use Rattle.sg_requests.specs.declared.request.Await.{Await}
 use Rattle.sg_kernel.specs.declared.states.State.TheVariants.{Ready, Blocked}
@@ -40,21 +41,41 @@ follows (Some stop) first second = first
 abbrev pub and_then : Step → (Core → Step) → Step
 and_then first next = follows first.stop first (next first.core)
 
+-- one after another, for each of these
+unfoldable pub each : {X : Type 0} → (X → Core → Step) → List X → Core → Step
+each does [] core = goes_on core []
+each does (x ∷ more) core = and_then (does x core) (each does more)
+
+-- one stretch after another
+unfoldable pub all_of : List (Core → Step) → Core → Step
+all_of [] core = goes_on core []
+all_of (first ∷ rest) core = and_then (first core) (all_of rest)
+
+-- ---- an actor is answered, or blocked
 -- the actor is ready with this answer
 abbrev pub readied : ℕ → Answer → Core → Core
 readied actor answer core = with_state actor (Ready answer) core
 
 -- the actor is blocked by this call until its side of an activity is done, or, with none, until another's call lets it go on
 abbrev pub blocked_by : ℕ → Call → Option Await → Core → Core
-blocked_by actor what on core = with_state actor (Blocked what core.date on) core
+blocked_by actor what on core = with_state actor (Blocked what core.under.date on) core
 
--- the record of a call that is answered as it is made, and of one that is refused
-abbrev pub at_once : ℕ → Call → ℕ → Core → Record
-at_once actor what bytes core = record { actor = record { 0 = actor }; date = core.date; what = what; bytes = bytes; took = Some 0 }
+-- how long a call took, by its answer; none: it was refused
+abbrev pub took_by : Answer → ℕ → Option ℕ
+took_by answer.Start ns = Some ns
+took_by (answer.Act action) ns = Some ns
+took_by answer.NoMore ns = Some ns
+took_by answer.Done ns = Some ns
+took_by (answer.Got message) ns = Some ns
+took_by answer.Refused ns = None
 
-abbrev pub refused : ℕ → Call → Core → Record
-refused actor what core = record { actor = record { 0 = actor }; date = core.date; what = what; bytes = 0; took = None }
+abbrev pub record_of : ℕ → Call → ℕ → ℕ → Answer → ℕ → Record
+record_of actor what since bytes answer date = record { actor = record { 0 = actor }; date = date; what = what; bytes = bytes; took = took_by answer (date - since) }
 
--- the record of a call that is answered after a while
-abbrev pub after_all : ℕ → Call → ℕ → ℕ → Core → Record
-after_all actor what since bytes core = record { actor = record { 0 = actor }; date = core.date; what = what; bytes = bytes; took = Some (core.date - since) }
+-- The call that it made at that date is answered now. No record is made elsewhere.
+abbrev pub replied : ℕ → Call → ℕ → ℕ → Answer → Core → Step
+replied actor what since bytes answer core = goes_on (readied actor answer core) (record_of actor what since bytes answer core.under.date ∷ [])
+
+-- the call that it makes is answered at once
+abbrev pub at_once : ℕ → Call → ℕ → Answer → Core → Step
+at_once actor what bytes answer core = replied actor what core.under.date bytes answer core

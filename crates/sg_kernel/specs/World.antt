@@ -4,18 +4,19 @@ use Rattle.sg_base.specs.declared.call.Answer.{Answer}
 use Rattle.sg_base.specs.declared.call.Call.{Call}
 use Rattle.sg_base.specs.Limits.{Extent}
 use Rattle.sg_base.specs.Mind.{Mind}
-use Rattle.sg_activity.specs.Links.{Capacities}
-use Rattle.sg_activity.specs.Task.{Task}
+use Rattle.sg_activity.specs.Underway.{Underway}
 use Rattle.sg_requests.specs.declared.request.Await.{Await}
 use Rattle.sg_sync.specs.Objects.{Objects}
+use Rattle.sg_kernel.specs.declared.states.How.TheVariants as how
 use Rattle.sg_kernel.specs.declared.states.State.{State}
 use Rattle.sg_kernel.specs.declared.states.State.TheVariants.{Ready, Blocked, Ended}
 use Rattle.sg_kernel.specs.declared.states.Whose.{Whose}
-use Rattle.sg_kernel.specs.declared.states.Whose.TheVariants.{Gone}
+use Rattle.sg_kernel.specs.declared.states.Whose.TheVariants.{Over}
 
--- what stays: the hosts and links, the host of each actor, how many mutexes there are, the capacity of each semaphore, how many members the barrier has, and how many events there may be
+-- what stays: how many hosts and links there are, the host of each actor, how many mutexes there are, the capacity of each semaphore, how many members the barrier has, and how many events there may be
 pub record Setup : Type 0 where
-  pub capacities : Capacities
+  pub hosts : ℕ
+  pub links : ℕ
   pub homes : List ℕ
   pub mutexes : ℕ
   pub semaphores : List ℕ
@@ -26,11 +27,10 @@ pub record Setup : Type 0 where
 abbrev pub extent : Setup → Extent
 extent setup = record { actors = length setup.homes; mutexes = setup.mutexes; semaphores = length setup.semaphores }
 
--- The part of the world that calls and passes change: the date; what each actor does, by id from 1 on; of each activity ever made, by serial from 1 on, the phase that is under way, if any, and whose it is; the requests of each actor, oldest first; the mutexes, the semaphores and the barrier; the count of events.
+-- The part of the world that calls and passes change: what is under way, with its date and its hosts and links; what each actor does, by id from 1 on; whose each activity ever made is, by serial from 1 on; the requests of each actor, oldest first; the mutexes, the semaphores and the barrier; the count of events.
 pub record Core : Type 0 where
-  pub date : ℕ
+  pub under : Underway
   pub actors : List State
-  pub tasks : List (Option Task)
   pub whose : List Whose
   pub requests : List (List Await)
   pub objects : Objects
@@ -53,7 +53,7 @@ with_state actor state core = record core { actors = slice_set core.actors (acto
 
 -- whose the activity of a serial is
 abbrev pub whose_at : Core → ℕ → Whose
-whose_at core serial = slice_index_or core.whose (serial - 1) Gone
+whose_at core serial = slice_index_or core.whose (serial - 1) (Over how.Done)
 
 abbrev pub is_ready : State → Bool
 is_ready (Ready answer) = true
@@ -81,6 +81,17 @@ abbrev pub blocked_of : State → Option Call
 blocked_of (Ready answer) = None
 blocked_of (Blocked what since on) = Some what
 blocked_of Ended = None
+
+-- the call on which an actor is blocked, since when, and on which activity, if it is one's
+pub record Blocking : Type 0 where
+  pub what : Call
+  pub since : ℕ
+  pub on : Option Await
+
+abbrev pub blocking_in : State → Option Blocking
+blocking_in (Ready answer) = None
+blocking_in (Blocked what since on) = Some (record { what = what; since = since; on = on })
+blocking_in Ended = None
 
 -- there is such an actor
 pub record IsActor (core : Core) (actor : ℕ) : Type 0 where

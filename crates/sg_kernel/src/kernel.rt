@@ -3,21 +3,21 @@
 ghost use Rattle.std.specs.Prelude.{◌≡◌, ◌≢◌, [], ◌==◌, ◌+◌, ◌-◌, ◌<◌, ◌≤◌, ◌^◌, ◌++◌, false, IfOk, OnOk, IfSome, All, length, Some, None, is_ok, if◌then◌else◌};
 ghost use Rattle.std.specs.List.{list_all, list_any};
 ghost use Rattle.sg_base.specs.Limits.{IsCall, IsAction, IsAnswer};
+ghost use Rattle.sg_activity.specs.Underway.{uses_under};
 ghost use Rattle.sg_platform.specs.Deployment.{IsDeployedOn};
 ghost use Rattle.sg_kernel.specs.declared.states.State.TheVariants.{Ready, Ended};
 ghost use Rattle.sg_kernel.specs.World.{extent, is_ready, is_ended, state_of, inbox_of, blocked_of, IsActor, MayCall};
 ghost use Rattle.sg_kernel.specs.Calls.{answered, told};
 ghost use Rattle.sg_kernel.specs.Steps.{result_of};
-ghost use Rattle.sg_kernel.specs.Start.{setup_of};
+ghost use Rattle.sg_kernel.specs.Start.{capacities_in, setup_of};
 ghost use Rattle.sg_kernel.specs.Roads.{AreOver};
 ghost use Rattle.sg_kernel.specs.Passes.{pass_of};
-ghost use Rattle.sg_kernel.specs.Known.{after, first_known};
+ghost use Rattle.sg_kernel.specs.Known.{after, after_call, first_known};
 ghost use Rattle.sg_kernel.specs.Queue.{IsQueue};
 ghost use Rattle.sg_kernel.specs.Records.{IsTellable, AreRecords};
 
 use crate::answers::go_on;
-use crate::calls::answer_alone;
-use crate::meetings::{come, comer_of};
+use crate::calls::answer_call;
 use crate::parts::Parts;
 use crate::passes::{end_due, none_next};
 use crate::queue::sort;
@@ -50,12 +50,12 @@ impl Model for Kernel {
 
     ghost Value = { Known };
 
-    ghost use Rattle.sg_kernel.specs.Sound.{known_of, IsSound, IsDated, AreLimited, AreMeeting, AreHeld};
-    ghost use Rattle.sg_kernel.specs.Queue.{IsQueued};
+    ghost use Rattle.sg_kernel.specs.Sound.{known_of};
+    ghost use Rattle.sg_kernel.specs.Whole.{IsWhole};
 
     ghost view = { λ s. known_of s.parts };
 
-    ghost invariant = { λ s. IsSound s.parts × IsDated s.parts × AreLimited s.parts × IsQueued s.parts × AreMeeting s.parts × AreHeld s.parts };
+    ghost invariant = { λ s. IsWhole s.parts };
 }
 
 impl Kernel {
@@ -69,7 +69,9 @@ impl Kernel {
     ) -> Result<Kernel, Memory>
         requires deployed { IsDeployedOn platform.now deployment.now }
         requires budget { budget ≤ 10 ^ 9 }
-        ensures { IfOk result (λ kernel. kernel ≡ first_known (setup_of platform.now deployment.now budget)) }
+        ensures { IfOk result (λ kernel. kernel
+            ≡ first_known (capacities_in platform.now)
+            (setup_of platform.now deployment.now budget)) }
     {
         let parts = first_parts(alloc, platform, deployment, budget)?;
         Ok(Kernel { parts })
@@ -90,20 +92,13 @@ impl Kernel {
         requires caller { MayCall self.old.core actor.0 }
         requires call { IsCall (extent self.old.setup) call }
         requires room { 0 < self.old.room }
-        requires roads { AreOver (length self.old.setup.capacities.links) router.now }
-        ensures step { self.new ≡ record (after (answered router.now self.old.setup self.old.core actor.0 call) self.old) { room = self.old.room - (if is_ok result then 1 else 0) } }
-        ensures result { result ≡ result_of (answered router.now self.old.setup self.old.core actor.0 call).stop }
+        requires roads { AreOver self.old.setup.links router.now }
+        ensures step { self.new ≡ after_call (is_ok result)
+            (answered router.now self.old.setup self.old.core actor.0 call) self.old }
+        ensures result { result
+            ≡ result_of (answered router.now self.old.setup self.old.core actor.0 call).stop }
     {
-        if self.parts.events == self.parts.budget {
-            return Err(Stop::Budget);
-        }
-        match comer_of(actor, call) {
-            Some(comer) => come(&mut self.parts, router, comer),
-            None => {
-                answer_alone(&mut self.parts, actor, call);
-                Ok(())
-            }
-        }
+        answer_call(&mut self.parts, actor, call, router)
     }
 
     /// Tells an actor that asked its next line, or that there is none.
@@ -111,8 +106,10 @@ impl Kernel {
         requires caller { MayCall self.old.core actor.0 }
         requires action { IfSome action (IsAction (extent self.old.setup)) }
         requires room { 0 < self.old.room }
-        ensures step { self.new ≡ record (after (told self.old.setup self.old.core actor.0 action) self.old) { room = self.old.room - (if is_ok result then 1 else 0) } }
-        ensures result { result ≡ result_of (told self.old.setup self.old.core actor.0 action).stop }
+        ensures step { self.new ≡ after_call (is_ok result)
+            (told self.old.setup self.old.core actor.0 action) self.old }
+        ensures result { result
+            ≡ result_of (told self.old.setup self.old.core actor.0 action).stop }
     {
         if self.parts.events == self.parts.budget {
             return Err(Stop::Budget);
@@ -125,12 +122,14 @@ impl Kernel {
     }
 
     /// Moves the date to where the next activities are done, and ends them by rising serial: each answers its actor,
-    /// with a record. `steps` counts the looks of the filling.
+    /// with a record. `steps` counts the looks of the filling: at least one at each use of a host or link by what is
+    /// under way.
     pub fn pass<L: Ledger>(&mut self, steps: &mut Steps<L>) -> Result<(), Stop>
         requires idle { list_any is_ready self.old.core.actors ≡ false }
         requires going { list_all is_ended self.old.core.actors ≡ false }
         ensures step { self.new ≡ after (pass_of self.old.setup self.old.core) self.old }
         ensures result { result ≡ result_of (pass_of self.old.setup self.old.core).stop }
+        ensures looks { steps.old + uses_under self.old.core.under ≤ steps.new }
         ensures actors { length self.new.core.actors ≡ length self.old.core.actors }
     {
         self.parts.doing.settle(steps);
@@ -156,7 +155,7 @@ impl Kernel {
     }
 
     /// Who is to take a turn: by rising id all actors that are ready, and perhaps some that have called since
-    /// `reserve_round`. To tell it costs nothing, and it is no longer than the number of actors that were ready then.
+    /// `reserve_round`. To tell it costs nothing.
     pub fn run_queue(&self) -> &[ActorId]
         ensures { IsQueue self.now.core.actors result.now }
     {
@@ -211,7 +210,7 @@ impl Kernel {
 
     /// The date, in nanoseconds.
     pub fn date(&self) -> u128
-        ensures is { result ≡ self.now.core.date }
+        ensures is { result ≡ self.now.core.under.date }
         ensures below { result < 10 ^ 33 }
     {
         self.parts.doing.date()

@@ -17,4 +17,4 @@ mod states;
 
 pub use kernel::Kernel;
 pub use laws::{stands_at_first, steps_lead};
-pub use states::{State, Stop, Whose};
+pub use states::{How, State, Stop, Whose};

@@ -1,57 +1,35 @@
 //! Calls on mutexes, semaphores and the barrier.
 
-ghost use Rattle.std.specs.Prelude.{◌≡◌, ◌≢◌, ◌-◌, ◌<◌, [], ◌∷◌, Contains, List, length};
+ghost use Rattle.std.specs.Prelude.{◌≡◌, ◌≢◌, ◌<◌, [], ◌∷◌, Contains, List, length};
 ghost use Rattle.sg_base.specs.declared.ids.ActorId.{ActorId};
 ghost use Rattle.sg_sync.specs.Laws.{comers};
 ghost use Rattle.sg_sync.specs.Objects.{locked, unlocked, acquired, released, arrived};
 ghost use Rattle.sg_kernel.specs.World.{IsActor, MayCall, extent};
-ghost use Rattle.sg_kernel.specs.Steps.{and_then, counted};
-ghost use Rattle.sg_kernel.specs.Locks.{all_wake, caller_first, caller_gets, caller_last, wakes};
-ghost use Rattle.sg_kernel.specs.Known.{after};
-ghost use Rattle.sg_kernel.specs.Queue.{IsQueued};
+ghost use Rattle.sg_kernel.specs.Locks.{all_wake, caller_first, caller_gets, caller_last, gets_first, gets_last, wakes};
+ghost use Rattle.sg_kernel.specs.Known.{CanAnswer};
 ghost use Rattle.sg_kernel.specs.Records.{IsTellable};
-ghost use Rattle.sg_kernel.specs.Sound.{core_of, known_of, setup_in, IsSound, IsDated, AreLimited, AreMeeting, AreHeld};
-ghost use Rattle.sg_kernel.specs.Waking.{AreWaking, HasSpare};
+ghost use Rattle.sg_kernel.specs.Sound.{core_of, known_of, setup_in, CallsBy, CountsBy, HasSpare, StepsBy};
+ghost use Rattle.sg_kernel.specs.Waking.{AreWaking};
+ghost use Rattle.sg_kernel.specs.Whole.{IsSteady, IsWhole};
 
+use crate::answers::record_of;
 use crate::parts::Parts;
 use crate::queue::join_in_order;
 use crate::states::State;
-use sg_base::{ActorId, Answer, Call, Record};
+use sg_base::{ActorId, Answer, Call};
 use sg_sync::Outcome;
 
 // One more event, and room for one call less.
 fn count(parts: &mut Parts)
     requires room { 0 < parts.old.room }
     requires budget { parts.old.events ≢ parts.old.budget }
-    requires sound { IsSound parts.old }
-    requires dated { IsDated parts.old }
-    requires limited { AreLimited parts.old }
-    requires queued { IsQueued parts.old }
-    requires meeting { AreMeeting parts.old }
-    requires held { AreHeld parts.old }
-    ensures known { known_of parts.new ≡ record (known_of parts.old) { core = counted (core_of parts.old); room = parts.old.room - 1 } }
+    requires whole { IsWhole parts.old }
+    ensures known { CountsBy (λ core. core) parts.old parts.new }
     ensures spare { HasSpare parts.new }
-    ensures sound { IsSound parts.new }
-    ensures dated { IsDated parts.new }
-    ensures limited { AreLimited parts.new }
-    ensures queued { IsQueued parts.new }
-    ensures meeting { AreMeeting parts.new }
-    ensures held { AreHeld parts.new }
+    ensures whole { IsWhole parts.new }
 {
     parts.events += 1;
     parts.room -= 1;
-}
-
-fn record_of(actor: ActorId, date: u128, what: Call, took: Option<u128>) -> Record
-    ensures { result ≡ record { actor = actor; date = date; what = what; bytes = 0; took = took } }
-{
-    Record {
-        actor,
-        date,
-        what,
-        bytes: 0,
-        took,
-    }
 }
 
 // What the one that made the call gets.
@@ -59,19 +37,12 @@ fn answer_caller(parts: &mut Parts, outcome: Outcome, actor: ActorId, what: Call
     requires caller { MayCall (core_of parts.old) actor.0 }
     requires what { IsTellable (extent (setup_in parts.old)) what }
     requires spare { HasSpare parts.old }
-    requires sound { IsSound parts.old }
-    requires dated { IsDated parts.old }
-    requires limited { AreLimited parts.old }
-    requires queued { IsQueued parts.old }
-    requires meeting { AreMeeting parts.old }
-    ensures known { known_of parts.new ≡ after (caller_gets outcome actor.0 what (core_of parts.old)) (known_of parts.old) }
+    requires steady { IsSteady parts.old }
+    ensures known { StepsBy (caller_gets outcome actor.0 what) parts.old parts.new }
     ensures objects { parts.new.objects ≡ parts.old.objects }
-    ensures waking { (others : List ActorId) → AreWaking parts.old (comers actor outcome) others → AreWaking parts.new [] others }
-    ensures sound { IsSound parts.new }
-    ensures dated { IsDated parts.new }
-    ensures limited { AreLimited parts.new }
-    ensures queued { IsQueued parts.new }
-    ensures meeting { AreMeeting parts.new }
+    ensures waking { (others : List ActorId) → AreWaking parts.old (comers actor outcome) others
+        → AreWaking parts.new [] others }
+    ensures steady { IsSteady parts.new }
 {
     let place = actor.0 as usize - 1;
     let date = parts.doing.date();
@@ -79,7 +50,7 @@ fn answer_caller(parts: &mut Parts, outcome: Outcome, actor: ActorId, what: Call
         Outcome::GoesOn => {
             parts
                 .records
-                .push_reserved(record_of(actor, date, what, Some(0)));
+                .push_reserved(record_of(actor, what, date, 0, Answer::Done, date));
             parts.states[place] = State::Ready(Answer::Done);
         }
         Outcome::Waits => {
@@ -89,7 +60,7 @@ fn answer_caller(parts: &mut Parts, outcome: Outcome, actor: ActorId, what: Call
         Outcome::Refused => {
             parts
                 .records
-                .push_reserved(record_of(actor, date, what, None));
+                .push_reserved(record_of(actor, what, date, 0, Answer::Refused, date));
             parts.states[place] = State::Ready(Answer::Refused);
         }
     }
@@ -98,30 +69,23 @@ fn answer_caller(parts: &mut Parts, outcome: Outcome, actor: ActorId, what: Call
 // One that waited goes on.
 fn wake(parts: &mut Parts, actor: ActorId)
     requires actor { IsActor (core_of parts.old) actor.0 }
-    requires sound { IsSound parts.old }
-    requires dated { IsDated parts.old }
-    requires limited { AreLimited parts.old }
-    requires queued { IsQueued parts.old }
-    requires meeting { AreMeeting parts.old }
-    ensures known { known_of parts.new ≡ after (wakes actor (core_of parts.old)) (known_of parts.old) }
+    requires steady { IsSteady parts.old }
+    ensures known { StepsBy (wakes actor) parts.old parts.new }
     ensures objects { parts.new.objects ≡ parts.old.objects }
     ensures actors { length parts.new.states.items ≡ length parts.old.states.items }
-    ensures callers { (caller : ActorId) → MayCall (core_of parts.old) caller.0 → MayCall (core_of parts.new) caller.0 }
-    ensures waking { (comers others : List ActorId) → AreWaking parts.old comers (actor ∷ others) → AreWaking parts.new comers others }
+    ensures callers { (caller : ActorId) → MayCall (core_of parts.old) caller.0
+        → MayCall (core_of parts.new) caller.0 }
+    ensures waking { (comers others : List ActorId) → AreWaking parts.old comers (actor ∷ others)
+        → AreWaking parts.new comers others }
     ensures spare { HasSpare parts.old → HasSpare parts.new }
-    ensures sound { IsSound parts.new }
-    ensures dated { IsDated parts.new }
-    ensures limited { AreLimited parts.new }
-    ensures queued { IsQueued parts.new }
-    ensures meeting { AreMeeting parts.new }
+    ensures steady { IsSteady parts.new }
 {
     let place = actor.0 as usize - 1;
     if let State::Blocked(what, since, _) = parts.states[place] {
         let date = parts.doing.date();
-        let took = Some(date.saturating_sub(since));
         parts
             .records
-            .push_reserved(record_of(actor, date, what, took));
+            .push_reserved(record_of(actor, what, since, 0, Answer::Done, date));
         parts.states[place] = State::Ready(Answer::Done);
         parts.ready += 1;
         join_in_order(&mut parts.queue, actor);
@@ -130,21 +94,16 @@ fn wake(parts: &mut Parts, actor: ActorId)
 
 // Those that go on by the last call.
 fn wake_others(parts: &mut Parts)
-    requires wakers { (actor : ActorId) → Contains parts.old.objects.others actor → IsActor (core_of parts.old) actor.0 }
-    requires sound { IsSound parts.old }
-    requires dated { IsDated parts.old }
-    requires limited { AreLimited parts.old }
-    requires queued { IsQueued parts.old }
-    requires meeting { AreMeeting parts.old }
-    ensures known { known_of parts.new ≡ after (all_wake parts.old.objects.others (core_of parts.old)) (known_of parts.old) }
-    ensures callers { (caller : ActorId) → MayCall (core_of parts.old) caller.0 → MayCall (core_of parts.new) caller.0 }
-    ensures waking { (comers : List ActorId) → AreWaking parts.old comers parts.old.objects.others → AreWaking parts.new comers [] }
+    requires wakers { (actor : ActorId) → Contains parts.old.objects.others actor
+        → IsActor (core_of parts.old) actor.0 }
+    requires steady { IsSteady parts.old }
+    ensures known { StepsBy (all_wake parts.old.objects.others) parts.old parts.new }
+    ensures callers { (caller : ActorId) → MayCall (core_of parts.old) caller.0
+        → MayCall (core_of parts.new) caller.0 }
+    ensures waking { (comers : List ActorId) → AreWaking parts.old comers parts.old.objects.others
+        → AreWaking parts.new comers [] }
     ensures spare { HasSpare parts.old → HasSpare parts.new }
-    ensures sound { IsSound parts.new }
-    ensures dated { IsDated parts.new }
-    ensures limited { AreLimited parts.new }
-    ensures queued { IsQueued parts.new }
-    ensures meeting { AreMeeting parts.new }
+    ensures steady { IsSteady parts.new }
 {
     for i in 0..parts.objects.others().len() {
         let actor = parts.objects.others()[i];
@@ -157,19 +116,11 @@ fn answer_first(parts: &mut Parts, outcome: Outcome, actor: ActorId, what: Call)
     requires caller { MayCall (core_of parts.old) actor.0 }
     requires what { IsTellable (extent (setup_in parts.old)) what }
     requires spare { HasSpare parts.old }
-    requires sound { IsSound parts.old }
-    requires dated { IsDated parts.old }
-    requires limited { AreLimited parts.old }
-    requires queued { IsQueued parts.old }
-    requires meeting { AreMeeting parts.old }
+    requires steady { IsSteady parts.old }
     requires waking { AreWaking parts.old (comers actor outcome) parts.old.objects.others }
-    ensures known { known_of parts.new ≡ after (and_then (caller_gets outcome actor.0 what (core_of parts.old)) (all_wake parts.old.objects.others)) (known_of parts.old) }
-    ensures sound { IsSound parts.new }
-    ensures dated { IsDated parts.new }
-    ensures limited { AreLimited parts.new }
-    ensures queued { IsQueued parts.new }
-    ensures meeting { AreMeeting parts.new }
-    ensures held { AreHeld parts.new }
+    ensures known { StepsBy (gets_first outcome parts.old.objects.others actor.0 what)
+        parts.old parts.new }
+    ensures whole { IsWhole parts.new }
 {
     answer_caller(parts, outcome, actor, what);
     wake_others(parts);
@@ -180,19 +131,11 @@ fn answer_last(parts: &mut Parts, outcome: Outcome, actor: ActorId, what: Call)
     requires caller { MayCall (core_of parts.old) actor.0 }
     requires what { IsTellable (extent (setup_in parts.old)) what }
     requires spare { HasSpare parts.old }
-    requires sound { IsSound parts.old }
-    requires dated { IsDated parts.old }
-    requires limited { AreLimited parts.old }
-    requires queued { IsQueued parts.old }
-    requires meeting { AreMeeting parts.old }
+    requires steady { IsSteady parts.old }
     requires waking { AreWaking parts.old (comers actor outcome) parts.old.objects.others }
-    ensures known { known_of parts.new ≡ after (and_then (all_wake parts.old.objects.others (core_of parts.old)) (caller_gets outcome actor.0 what)) (known_of parts.old) }
-    ensures sound { IsSound parts.new }
-    ensures dated { IsDated parts.new }
-    ensures limited { AreLimited parts.new }
-    ensures queued { IsQueued parts.new }
-    ensures meeting { AreMeeting parts.new }
-    ensures held { AreHeld parts.new }
+    ensures known { StepsBy (gets_last outcome parts.old.objects.others actor.0 what)
+        parts.old parts.new }
+    ensures whole { IsWhole parts.new }
 {
     wake_others(parts);
     answer_caller(parts, outcome, actor, what);
@@ -200,23 +143,13 @@ fn answer_last(parts: &mut Parts, outcome: Outcome, actor: ActorId, what: Call)
 
 /// The actor locks a mutex.
 pub(crate) fn lock(parts: &mut Parts, actor: ActorId, mutex: u32)
-    requires caller { MayCall (core_of parts.old) actor.0 }
+    requires able { CanAnswer (known_of parts.old) actor.0 }
     requires mutex { mutex < parts.old.mutexes }
-    requires room { 0 < parts.old.room }
-    requires budget { parts.old.events ≢ parts.old.budget }
-    requires sound { IsSound parts.old }
-    requires dated { IsDated parts.old }
-    requires limited { AreLimited parts.old }
-    requires queued { IsQueued parts.old }
-    requires meeting { AreMeeting parts.old }
-    requires held { AreHeld parts.old }
-    ensures known { known_of parts.new ≡ record (after (caller_first (locked actor mutex parts.old.objects) actor.0 (Call.Lock mutex) (core_of parts.old)) (known_of parts.old)) { room = parts.old.room - 1 } }
-    ensures sound { IsSound parts.new }
-    ensures dated { IsDated parts.new }
-    ensures limited { AreLimited parts.new }
-    ensures queued { IsQueued parts.new }
-    ensures meeting { AreMeeting parts.new }
-    ensures held { AreHeld parts.new }
+    requires whole { IsWhole parts.old }
+    ensures known { CallsBy
+        (caller_first (locked actor mutex parts.old.objects) actor.0 (Call.Lock mutex))
+        parts.old parts.new }
+    ensures whole { IsWhole parts.new }
 {
     count(parts);
     let outcome = parts.objects.lock(actor, mutex);
@@ -225,23 +158,13 @@ pub(crate) fn lock(parts: &mut Parts, actor: ActorId, mutex: u32)
 
 /// The actor gives a mutex up.
 pub(crate) fn unlock(parts: &mut Parts, actor: ActorId, mutex: u32)
-    requires caller { MayCall (core_of parts.old) actor.0 }
+    requires able { CanAnswer (known_of parts.old) actor.0 }
     requires mutex { mutex < parts.old.mutexes }
-    requires room { 0 < parts.old.room }
-    requires budget { parts.old.events ≢ parts.old.budget }
-    requires sound { IsSound parts.old }
-    requires dated { IsDated parts.old }
-    requires limited { AreLimited parts.old }
-    requires queued { IsQueued parts.old }
-    requires meeting { AreMeeting parts.old }
-    requires held { AreHeld parts.old }
-    ensures known { known_of parts.new ≡ record (after (caller_first (unlocked actor mutex parts.old.objects) actor.0 (Call.Unlock mutex) (core_of parts.old)) (known_of parts.old)) { room = parts.old.room - 1 } }
-    ensures sound { IsSound parts.new }
-    ensures dated { IsDated parts.new }
-    ensures limited { AreLimited parts.new }
-    ensures queued { IsQueued parts.new }
-    ensures meeting { AreMeeting parts.new }
-    ensures held { AreHeld parts.new }
+    requires whole { IsWhole parts.old }
+    ensures known { CallsBy
+        (caller_first (unlocked actor mutex parts.old.objects) actor.0 (Call.Unlock mutex))
+        parts.old parts.new }
+    ensures whole { IsWhole parts.new }
 {
     count(parts);
     let outcome = parts.objects.unlock(actor, mutex);
@@ -250,23 +173,13 @@ pub(crate) fn unlock(parts: &mut Parts, actor: ActorId, mutex: u32)
 
 /// The actor acquires a semaphore.
 pub(crate) fn acquire(parts: &mut Parts, actor: ActorId, semaphore: u32)
-    requires caller { MayCall (core_of parts.old) actor.0 }
+    requires able { CanAnswer (known_of parts.old) actor.0 }
     requires semaphore { semaphore < length parts.old.semaphores.items }
-    requires room { 0 < parts.old.room }
-    requires budget { parts.old.events ≢ parts.old.budget }
-    requires sound { IsSound parts.old }
-    requires dated { IsDated parts.old }
-    requires limited { AreLimited parts.old }
-    requires queued { IsQueued parts.old }
-    requires meeting { AreMeeting parts.old }
-    requires held { AreHeld parts.old }
-    ensures known { known_of parts.new ≡ record (after (caller_first (acquired actor semaphore parts.old.objects) actor.0 (Call.Acquire semaphore) (core_of parts.old)) (known_of parts.old)) { room = parts.old.room - 1 } }
-    ensures sound { IsSound parts.new }
-    ensures dated { IsDated parts.new }
-    ensures limited { AreLimited parts.new }
-    ensures queued { IsQueued parts.new }
-    ensures meeting { AreMeeting parts.new }
-    ensures held { AreHeld parts.new }
+    requires whole { IsWhole parts.old }
+    ensures known { CallsBy
+        (caller_first (acquired actor semaphore parts.old.objects) actor.0 (Call.Acquire semaphore))
+        parts.old parts.new }
+    ensures whole { IsWhole parts.new }
 {
     count(parts);
     let outcome = parts.objects.acquire(actor, semaphore);
@@ -275,23 +188,13 @@ pub(crate) fn acquire(parts: &mut Parts, actor: ActorId, semaphore: u32)
 
 /// The actor releases a semaphore.
 pub(crate) fn release(parts: &mut Parts, actor: ActorId, semaphore: u32)
-    requires caller { MayCall (core_of parts.old) actor.0 }
+    requires able { CanAnswer (known_of parts.old) actor.0 }
     requires semaphore { semaphore < length parts.old.semaphores.items }
-    requires room { 0 < parts.old.room }
-    requires budget { parts.old.events ≢ parts.old.budget }
-    requires sound { IsSound parts.old }
-    requires dated { IsDated parts.old }
-    requires limited { AreLimited parts.old }
-    requires queued { IsQueued parts.old }
-    requires meeting { AreMeeting parts.old }
-    requires held { AreHeld parts.old }
-    ensures known { known_of parts.new ≡ record (after (caller_first (released semaphore parts.old.objects) actor.0 (Call.Release semaphore) (core_of parts.old)) (known_of parts.old)) { room = parts.old.room - 1 } }
-    ensures sound { IsSound parts.new }
-    ensures dated { IsDated parts.new }
-    ensures limited { AreLimited parts.new }
-    ensures queued { IsQueued parts.new }
-    ensures meeting { AreMeeting parts.new }
-    ensures held { AreHeld parts.new }
+    requires whole { IsWhole parts.old }
+    ensures known { CallsBy
+        (caller_first (released semaphore parts.old.objects) actor.0 (Call.Release semaphore))
+        parts.old parts.new }
+    ensures whole { IsWhole parts.new }
 {
     count(parts);
     let outcome = parts.objects.release(semaphore);
@@ -300,22 +203,12 @@ pub(crate) fn release(parts: &mut Parts, actor: ActorId, semaphore: u32)
 
 /// The actor arrives at the barrier.
 pub(crate) fn arrive(parts: &mut Parts, actor: ActorId)
-    requires caller { MayCall (core_of parts.old) actor.0 }
-    requires room { 0 < parts.old.room }
-    requires budget { parts.old.events ≢ parts.old.budget }
-    requires sound { IsSound parts.old }
-    requires dated { IsDated parts.old }
-    requires limited { AreLimited parts.old }
-    requires queued { IsQueued parts.old }
-    requires meeting { AreMeeting parts.old }
-    requires held { AreHeld parts.old }
-    ensures known { known_of parts.new ≡ record (after (caller_last (arrived actor parts.old.objects) actor.0 Call.Barrier (core_of parts.old)) (known_of parts.old)) { room = parts.old.room - 1 } }
-    ensures sound { IsSound parts.new }
-    ensures dated { IsDated parts.new }
-    ensures limited { AreLimited parts.new }
-    ensures queued { IsQueued parts.new }
-    ensures meeting { AreMeeting parts.new }
-    ensures held { AreHeld parts.new }
+    requires able { CanAnswer (known_of parts.old) actor.0 }
+    requires whole { IsWhole parts.old }
+    ensures known { CallsBy
+        (caller_last (arrived actor parts.old.objects) actor.0 Call.Barrier)
+        parts.old parts.new }
+    ensures whole { IsWhole parts.new }
 {
     count(parts);
     let outcome = parts.objects.arrive(actor);

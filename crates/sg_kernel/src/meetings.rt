@@ -1,23 +1,23 @@
 //! Sides of communications come to mailboxes, and actors wait for their requests.
 
-ghost use Rattle.std.specs.Prelude.{◌≡◌, ◌≢◌, ◌+◌, ◌-◌, ◌<◌, ◌≤◌, AllPairs, None, Some, is_ok, if◌then◌else◌, length, vec_len, vec_capacity};
+ghost use Rattle.std.specs.Prelude.{◌≡◌, ◌≢◌, ◌-◌, ◌<◌, ◌≤◌, AllPairs, None, Some, is_ok, length};
 ghost use Rattle.sg_base.specs.declared.ids.BoxId.{BoxId};
 ghost use Rattle.sg_base.specs.Limits.{IsActorIn, IsAmount};
 ghost use Rattle.sg_mailbox.specs.Posts.{meets, met, arrives, waiting, AreBelow};
-ghost use Rattle.sg_kernel.specs.World.{Core, MayCall, extent};
-ghost use Rattle.sg_kernel.specs.Steps.{counted, result_of};
-ghost use Rattle.sg_kernel.specs.Meetings.{comer_of, comes, end_of, joined, point_of, posted, receiver_of, sender_of, stop_of, takes_part, waits as waits_spec};
-ghost use Rattle.sg_kernel.specs.Known.{after};
-ghost use Rattle.sg_kernel.specs.Queue.{IsQueued};
+ghost use Rattle.sg_kernel.specs.World.{MayCall, extent};
+ghost use Rattle.sg_kernel.specs.Steps.{result_of};
+ghost use Rattle.sg_kernel.specs.Meetings.{answer_of_over as answer_of_over_spec, comer_of, end_of, joins_with, point_of, posts, receiver_of, receives_by, sender_of, sends_by, stop_of, takes_part, waits as waits_spec};
+ghost use Rattle.sg_kernel.specs.Known.{after_call, CanAnswer};
 ghost use Rattle.sg_kernel.specs.Records.{IsTellable};
 ghost use Rattle.sg_kernel.specs.Roads.{AreOver, IsOver};
-ghost use Rattle.sg_kernel.specs.Sound.{core_of, known_of, setup_in, IsSide, IsSound, IsDated, AreLimited, AreMeeting, AreHeld, blocked_count};
+ghost use Rattle.sg_kernel.specs.Sound.{core_of, known_of, setup_in, comes_in, CallsBy, HasSpare, IsSide, StepsBy};
+ghost use Rattle.sg_kernel.specs.Whole.{IsWhole};
 
-use crate::answers::{block, done_at_once, make_blocked, make_done, refuse};
+use crate::answers::{answer_now, block, make_blocked, reply};
 use crate::parts::Parts;
-use crate::states::{Stop, Whose};
+use crate::states::{How, Stop, Whose};
 use arrayvec::ArrayVec;
-use sg_base::{ActorId, BoxId, Call, LinkId, Msg, PointId, Serial};
+use sg_base::{ActorId, Answer, BoxId, Call, LinkId, Msg, PointId, Serial};
 use sg_mailbox::{Boxes, Side};
 use sg_requests::{Await, End};
 use sg_route::{RouteFault, Router};
@@ -34,36 +34,43 @@ pub struct Comer {
     pub side: Side,
 }
 
+fn sends_by(actor: ActorId, what: Call, waits: bool, mailbox: BoxId, bytes: u64, msg: Msg) -> Comer
+    ensures { result ≡ sends_by actor.0 what waits mailbox bytes msg }
+{
+    Comer {
+        what,
+        mailbox,
+        sends: true,
+        waits,
+        side: Side { actor, bytes, msg },
+    }
+}
+
+fn receives_by(actor: ActorId, what: Call, waits: bool, mailbox: BoxId) -> Comer
+    ensures { result ≡ receives_by actor.0 what waits mailbox }
+{
+    Comer {
+        what,
+        mailbox,
+        sends: false,
+        waits,
+        side: Side {
+            actor,
+            bytes: 0,
+            msg: Msg::Empty,
+        },
+    }
+}
+
 /// The side that comes by this call, where it is one of a communication.
 pub(crate) fn comer_of(actor: ActorId, call: Call) -> Option<Comer>
     ensures { result ≡ comer_of actor.0 call }
 {
-    let (sends, waits) = match call {
-        Call::Send(..) => (true, true),
-        Call::ISend(..) => (true, false),
-        Call::Recv(_) => (false, true),
-        Call::IRecv(_) => (false, false),
-        _ => return None,
-    };
     match call {
-        Call::Send(mailbox, bytes, msg) | Call::ISend(mailbox, bytes, msg) => Some(Comer {
-            what: call,
-            mailbox,
-            sends,
-            waits,
-            side: Side { actor, bytes, msg },
-        }),
-        Call::Recv(mailbox) | Call::IRecv(mailbox) => Some(Comer {
-            what: call,
-            mailbox,
-            sends,
-            waits,
-            side: Side {
-                actor,
-                bytes: 0,
-                msg: Msg::Empty,
-            },
-        }),
+        Call::Send(mailbox, bytes, msg) => Some(sends_by(actor, call, true, mailbox, bytes, msg)),
+        Call::ISend(mailbox, bytes, msg) => Some(sends_by(actor, call, false, mailbox, bytes, msg)),
+        Call::Recv(mailbox) => Some(receives_by(actor, call, true, mailbox)),
+        Call::IRecv(mailbox) => Some(receives_by(actor, call, false, mailbox)),
         _ => None,
     }
 }
@@ -79,22 +86,13 @@ fn take_part(parts: &mut Parts, comer: Comer, serial: Serial)
     requires caller { MayCall (core_of parts.old) comer.side.actor.0 }
     requires what { IsTellable (extent (setup_in parts.old)) comer.what }
     requires bytes { IsAmount comer.side.bytes }
-    requires serial { (0 < serial.0) × (serial.0 ≤ length parts.old.whose.whose) }
-    requires request { (parts.old.room < parts.old.requests.room) × (parts.old.requests.asked < parts.old.events) }
-    requires record { vec_len parts.old.records + parts.old.room + blocked_count parts.old.states.items < vec_capacity parts.old.records }
-    requires sound { IsSound parts.old }
-    requires dated { IsDated parts.old }
-    requires limited { AreLimited parts.old }
-    requires queued { IsQueued parts.old }
-    requires meeting { AreMeeting parts.old }
-    requires held { AreHeld parts.old }
-    ensures known { (core : Core) → core_of parts.old ≡ counted core → known_of parts.new ≡ after (takes_part comer.waits comer serial.0 core) (known_of parts.old) }
-    ensures sound { IsSound parts.new }
-    ensures dated { IsDated parts.new }
-    ensures limited { AreLimited parts.new }
-    ensures queued { IsQueued parts.new }
-    ensures meeting { AreMeeting parts.new }
-    ensures held { AreHeld parts.new }
+    requires made { (0 < serial.0) × (serial.0 ≤ length parts.old.whose.whose) }
+    requires room { parts.old.room < parts.old.requests.room }
+    requires few { parts.old.requests.asked < parts.old.events }
+    requires spare { HasSpare parts.old }
+    requires whole { IsWhole parts.old }
+    ensures known { StepsBy (takes_part comer.waits comer serial.0) parts.old parts.new }
+    ensures whole { IsWhole parts.new }
 {
     let actor = comer.side.actor;
     let on = Await {
@@ -105,7 +103,7 @@ fn take_part(parts: &mut Parts, comer: Comer, serial: Serial)
         make_blocked(parts, actor, comer.what, on);
     } else {
         parts.requests.push(actor, on);
-        make_done(parts, actor, comer.what, comer.side.bytes);
+        reply(parts, actor, comer.what, comer.side.bytes, Answer::Done);
     }
 }
 
@@ -125,8 +123,10 @@ fn enter(boxes: &mut Boxes, comer: Comer, serial: Serial)
     requires room { 0 < boxes.old.room }
     requires serial { 0 < serial.0 }
     requires above { AreBelow serial (waiting boxes.old comer.mailbox) }
-    ensures there { waiting boxes.new comer.mailbox ≡ arrives comer.sends comer.side serial (waiting boxes.old comer.mailbox) }
-    ensures elsewhere { (other : BoxId) → other ≢ comer.mailbox → waiting boxes.new other ≡ waiting boxes.old other }
+    ensures there { waiting boxes.new comer.mailbox
+        ≡ arrives comer.sends comer.side serial (waiting boxes.old comer.mailbox) }
+    ensures elsewhere { (other : BoxId) → other ≢ comer.mailbox
+        → waiting boxes.new other ≡ waiting boxes.old other }
     ensures room { boxes.new.room ≡ boxes.old.room - 1 }
 {
     if comer.sends {
@@ -138,25 +138,13 @@ fn enter(boxes: &mut Boxes, comer: Comer, serial: Serial)
 
 // The side is posted, as a communication with the next serial.
 fn post(parts: &mut Parts, comer: Comer)
-    requires caller { MayCall (core_of parts.old) comer.side.actor.0 }
+    requires able { CanAnswer (known_of parts.old) comer.side.actor.0 }
     requires what { IsTellable (extent (setup_in parts.old)) comer.what }
     requires side { IsSide (extent (setup_in parts.old)) comer.side }
     requires alone { meets comer.sends (waiting parts.old.boxes comer.mailbox) ≡ None }
-    requires room { 0 < parts.old.room }
-    requires budget { parts.old.events ≢ parts.old.budget }
-    requires sound { IsSound parts.old }
-    requires dated { IsDated parts.old }
-    requires limited { AreLimited parts.old }
-    requires queued { IsQueued parts.old }
-    requires meeting { AreMeeting parts.old }
-    requires held { AreHeld parts.old }
-    ensures known { known_of parts.new ≡ record (after (takes_part comer.waits comer (length parts.old.doing.tasks + 1) (posted comer (core_of parts.old))) (known_of parts.old)) { room = parts.old.room - 1 } }
-    ensures sound { IsSound parts.new }
-    ensures dated { IsDated parts.new }
-    ensures limited { AreLimited parts.new }
-    ensures queued { IsQueued parts.new }
-    ensures meeting { AreMeeting parts.new }
-    ensures held { AreHeld parts.new }
+    requires whole { IsWhole parts.old }
+    ensures known { CallsBy (posts comer) parts.old parts.new }
+    ensures whole { IsWhole parts.new }
 {
     parts.events += 1;
     parts.room -= 1;
@@ -176,8 +164,14 @@ fn stop_of(from: PointId, to: PointId, fault: RouteFault) -> Stop
             zone,
             from: a,
             to: b,
-        } => Stop::NoRoute(from, to, zone, a, b),
-        RouteFault::TooLong => Stop::TooLong(from, to),
+        } => Stop::NoRoute {
+            from,
+            to,
+            zone,
+            a,
+            b,
+        },
+        RouteFault::TooLong => Stop::TooLong { from, to },
     }
 }
 
@@ -210,27 +204,20 @@ fn begin(
     links: &[LinkId],
     latency: u128,
 )
-    requires caller { MayCall (core_of parts.old) comer.side.actor.0 }
+    requires able { CanAnswer (known_of parts.old) comer.side.actor.0 }
     requires what { IsTellable (extent (setup_in parts.old)) comer.what }
     requires side { IsSide (extent (setup_in parts.old)) comer.side }
-    requires met { met (meets comer.sends (waiting parts.old.boxes comer.mailbox)) ≡ Some (serial, other) }
-    requires route { IsOver (length parts.old.doing.capacities.links) (record { links = links.now; latency = latency }) }
+    requires met { met (meets comer.sends (waiting parts.old.boxes comer.mailbox))
+        ≡ Some (serial, other) }
+    requires route { IsOver parts.old.links
+        (record { links = links.now; latency = latency }) }
     requires apart { AllPairs (λ a b. a ≢ b) links.now }
-    requires room { 0 < parts.old.room }
-    requires budget { parts.old.events ≢ parts.old.budget }
-    requires sound { IsSound parts.old }
-    requires dated { IsDated parts.old }
-    requires limited { AreLimited parts.old }
-    requires queued { IsQueued parts.old }
-    requires meeting { AreMeeting parts.old }
-    requires held { AreHeld parts.old }
-    ensures known { known_of parts.new ≡ record (after (takes_part comer.waits comer serial.0 (joined (setup_in parts.old) serial.0 (record { links = links.now; latency = latency }) (sender_of comer other) (receiver_of comer other) (core_of parts.old))) (known_of parts.old)) { room = parts.old.room - 1 } }
-    ensures sound { IsSound parts.new }
-    ensures dated { IsDated parts.new }
-    ensures limited { AreLimited parts.new }
-    ensures queued { IsQueued parts.new }
-    ensures meeting { AreMeeting parts.new }
-    ensures held { AreHeld parts.new }
+    requires whole { IsWhole parts.old }
+    ensures known { CallsBy
+        (joins_with (record { links = links.now; latency = latency }) (setup_in parts.old)
+        comer serial other)
+        parts.old parts.new }
+    ensures whole { IsWhole parts.new }
 {
     parts.events += 1;
     parts.room -= 1;
@@ -252,27 +239,17 @@ fn join(
     serial: Serial,
     other: Side,
 ) -> Result<(), Stop>
-    requires caller { MayCall (core_of parts.old) comer.side.actor.0 }
+    requires able { CanAnswer (known_of parts.old) comer.side.actor.0 }
     requires what { IsTellable (extent (setup_in parts.old)) comer.what }
     requires side { IsSide (extent (setup_in parts.old)) comer.side }
-    requires met { met (meets comer.sends (waiting parts.old.boxes comer.mailbox)) ≡ Some (serial, other) }
-    requires roads { AreOver (length parts.old.doing.capacities.links) router.now }
-    requires room { 0 < parts.old.room }
-    requires budget { parts.old.events ≢ parts.old.budget }
-    requires sound { IsSound parts.old }
-    requires dated { IsDated parts.old }
-    requires limited { AreLimited parts.old }
-    requires queued { IsQueued parts.old }
-    requires meeting { AreMeeting parts.old }
-    requires held { AreHeld parts.old }
-    ensures known { known_of parts.new ≡ record (after (comes router.now (setup_in parts.old) comer (core_of parts.old)) (known_of parts.old)) { room = parts.old.room - (if is_ok result then 1 else 0) } }
-    ensures result { result ≡ result_of (comes router.now (setup_in parts.old) comer (core_of parts.old)).stop }
-    ensures sound { IsSound parts.new }
-    ensures dated { IsDated parts.new }
-    ensures limited { AreLimited parts.new }
-    ensures queued { IsQueued parts.new }
-    ensures meeting { AreMeeting parts.new }
-    ensures held { AreHeld parts.new }
+    requires met { met (meets comer.sends (waiting parts.old.boxes comer.mailbox))
+        ≡ Some (serial, other) }
+    requires roads { AreOver parts.old.links router.now }
+    requires whole { IsWhole parts.old }
+    ensures known { known_of parts.new ≡ after_call (is_ok result)
+        (comes_in router.now comer parts.old) (known_of parts.old) }
+    ensures result { result ≡ result_of (comes_in router.now comer parts.old).stop }
+    ensures whole { IsWhole parts.new }
 {
     let from = point_of(parts, sender_of(comer, other));
     let to = point_of(parts, receiver_of(comer, other));
@@ -288,26 +265,15 @@ fn join(
 
 /// A side comes to its mailbox. A missing or too long route stops the run, with all as it was.
 pub(crate) fn come(parts: &mut Parts, router: &Router, comer: Comer) -> Result<(), Stop>
-    requires caller { MayCall (core_of parts.old) comer.side.actor.0 }
+    requires able { CanAnswer (known_of parts.old) comer.side.actor.0 }
     requires what { IsTellable (extent (setup_in parts.old)) comer.what }
     requires side { IsSide (extent (setup_in parts.old)) comer.side }
-    requires roads { AreOver (length parts.old.doing.capacities.links) router.now }
-    requires room { 0 < parts.old.room }
-    requires budget { parts.old.events ≢ parts.old.budget }
-    requires sound { IsSound parts.old }
-    requires dated { IsDated parts.old }
-    requires limited { AreLimited parts.old }
-    requires queued { IsQueued parts.old }
-    requires meeting { AreMeeting parts.old }
-    requires held { AreHeld parts.old }
-    ensures known { known_of parts.new ≡ record (after (comes router.now (setup_in parts.old) comer (core_of parts.old)) (known_of parts.old)) { room = parts.old.room - (if is_ok result then 1 else 0) } }
-    ensures result { result ≡ result_of (comes router.now (setup_in parts.old) comer (core_of parts.old)).stop }
-    ensures sound { IsSound parts.new }
-    ensures dated { IsDated parts.new }
-    ensures limited { AreLimited parts.new }
-    ensures queued { IsQueued parts.new }
-    ensures meeting { AreMeeting parts.new }
-    ensures held { AreHeld parts.new }
+    requires roads { AreOver parts.old.links router.now }
+    requires whole { IsWhole parts.old }
+    ensures known { known_of parts.new ≡ after_call (is_ok result)
+        (comes_in router.now comer parts.old) (known_of parts.old) }
+    ensures result { result ≡ result_of (comes_in router.now comer parts.old).stop }
+    ensures whole { IsWhole parts.new }
 {
     match whom(parts, comer) {
         Some((serial, other)) => join(parts, router, comer, serial, other),
@@ -318,30 +284,28 @@ pub(crate) fn come(parts: &mut Parts, router: &Router, comer: Comer) -> Result<(
     }
 }
 
+// What an actor that waits for an activity is answered at once, where it is over.
+fn answer_of_over(whose: Whose) -> Option<Answer>
+    ensures { result ≡ answer_of_over_spec whose }
+{
+    match whose {
+        Whose::Over(How::Done) => Some(Answer::Done),
+        Whose::Alone(_) | Whose::Posted(..) | Whose::Pair(..) => None,
+    }
+}
+
 /// The actor waits for its oldest request.
 pub(crate) fn wait(parts: &mut Parts, actor: ActorId)
-    requires caller { MayCall (core_of parts.old) actor.0 }
-    requires room { 0 < parts.old.room }
-    requires budget { parts.old.events ≢ parts.old.budget }
-    requires sound { IsSound parts.old }
-    requires dated { IsDated parts.old }
-    requires limited { AreLimited parts.old }
-    requires queued { IsQueued parts.old }
-    requires meeting { AreMeeting parts.old }
-    requires held { AreHeld parts.old }
-    ensures known { known_of parts.new ≡ record (after (waits_spec actor.0 (core_of parts.old)) (known_of parts.old)) { room = parts.old.room - 1 } }
-    ensures sound { IsSound parts.new }
-    ensures dated { IsDated parts.new }
-    ensures limited { AreLimited parts.new }
-    ensures queued { IsQueued parts.new }
-    ensures meeting { AreMeeting parts.new }
-    ensures held { AreHeld parts.new }
+    requires able { CanAnswer (known_of parts.old) actor.0 }
+    requires whole { IsWhole parts.old }
+    ensures known { CallsBy (waits_spec actor.0) parts.old parts.new }
+    ensures whole { IsWhole parts.new }
 {
     match parts.requests.take(actor) {
-        None => refuse(parts, actor, Call::Wait),
-        Some(on) => match parts.whose.of(on.serial) {
-            Whose::Gone => done_at_once(parts, actor, Call::Wait, 0),
-            _ => block(parts, actor, Call::Wait, on),
+        None => answer_now(parts, actor, Call::Wait, 0, Answer::Refused),
+        Some(on) => match answer_of_over(parts.whose.of(on.serial)) {
+            Some(answer) => answer_now(parts, actor, Call::Wait, 0, answer),
+            None => block(parts, actor, Call::Wait, on),
         },
     }
 }

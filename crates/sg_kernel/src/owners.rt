@@ -1,15 +1,16 @@
 //! Whose each activity is.
 ghost use Rattle.std.specs.Prelude.{◌≡◌, ◌+◌, ◌-◌, ◌<◌, ◌≤◌, ◌^◌, ◌++◌, ◌∷◌, [], length, slice_index_or, slice_set, OnOk};
-ghost use Rattle.sg_kernel.specs.declared.states.Whose.TheVariants.{Gone};
+ghost use Rattle.sg_kernel.specs.declared.states.How.TheVariants as how;
+ghost use Rattle.sg_kernel.specs.declared.states.Whose.TheVariants.{Over};
 ghost use Rattle.sg_kernel.specs.Owners.{whose_of as whose_of_spec};
 
-use crate::states::Whose;
+use crate::states::{How, Whose};
 use sg_base::{Memory, Serial};
 use std::alloc::Global;
 use std::collections::HashMap;
 use std::marker::Model;
 
-/// Whose each activity is. It keeps nothing of one that is nobody's, and contracts see a list by serial.
+/// Whose each activity is. It keeps nothing of one that is done, and contracts see a list by serial.
 #[derive(Drop)]
 pub(crate) struct Owners {
     owners: HashMap<u64, Whose>,
@@ -24,7 +25,10 @@ impl Model for Owners {
 
     ghost Value = { Owned };
 
-    ghost view = { λ s. record { whose = table (hash.get nat_eq s.owners) 1 s.drawn; room = s.room } };
+    ghost view = { λ s. record {
+      whose = table (hash.get nat_eq s.owners) 1 s.drawn;
+      room = s.room;
+    } };
 
     ghost invariant = { λ s. s.room ≤ hash.spare s.owners };
 }
@@ -34,7 +38,7 @@ fn whose_of(owner: Option<Whose>) -> Whose
 {
     match owner {
         Some(whose) => whose,
-        None => Whose::Gone,
+        None => Whose::Over(How::Done),
     }
 }
 
@@ -66,7 +70,10 @@ impl Owners {
     pub(crate) fn push(&mut self, whose: Whose)
         requires few { length self.old.whose < 10 ^ 9 }
         requires room { 0 < self.old.room }
-        ensures { self.new ≡ record { whose = self.old.whose ++ whose ∷ []; room = self.old.room - 1 } }
+        ensures { self.new ≡ record {
+          whose = self.old.whose ++ whose ∷ [];
+          room = self.old.room - 1;
+        } }
     {
         match self.owners.insert(self.drawn + 1, whose) {
             Ok(_) => {}
@@ -80,7 +87,7 @@ impl Owners {
     pub(crate) fn of(&self, serial: Serial) -> Whose
         requires from { 0 < serial.0 }
         requires to { serial.0 ≤ length self.now.whose }
-        ensures { result ≡ slice_index_or self.now.whose (serial.0 - 1) Gone }
+        ensures { result ≡ slice_index_or self.now.whose (serial.0 - 1) (Over how.Done) }
     {
         whose_of(self.owners.get(&serial.0).copied())
     }
@@ -90,7 +97,10 @@ impl Owners {
         requires from { 0 < serial.0 }
         requires to { serial.0 ≤ length self.old.whose }
         requires room { 0 < self.old.room }
-        ensures { self.new ≡ record { whose = slice_set self.old.whose (serial.0 - 1) whose; room = self.old.room - 1 } }
+        ensures { self.new ≡ record {
+          whose = slice_set self.old.whose (serial.0 - 1) whose;
+          room = self.old.room - 1;
+        } }
     {
         match self.owners.insert(serial.0, whose) {
             Ok(_) => {}
@@ -99,12 +109,14 @@ impl Owners {
         self.room -= 1;
     }
 
-    /// The activity of this serial is nobody's any more; the answer is whose it was.
+    /// The activity of this serial is done; the answer is whose it was.
     pub(crate) fn take(&mut self, serial: Serial) -> Whose
         requires from { 0 < serial.0 }
         requires to { serial.0 ≤ length self.old.whose }
-        ensures was { result ≡ slice_index_or self.old.whose (serial.0 - 1) Gone }
-        ensures is { self.new ≡ record self.old { whose = slice_set self.old.whose (serial.0 - 1) Gone } }
+        ensures was { result ≡ slice_index_or self.old.whose (serial.0 - 1) (Over how.Done) }
+        ensures is { self.new ≡ record self.old {
+          whose = slice_set self.old.whose (serial.0 - 1) (Over how.Done);
+        } }
     {
         whose_of(self.owners.remove(&serial.0))
     }

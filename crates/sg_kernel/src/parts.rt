@@ -21,6 +21,10 @@ pub(crate) struct Parts {
     pub(crate) objects: Sync,
     /// The records that aren't cleared.
     pub(crate) records: Vec<Record>,
+    /// How many hosts there are.
+    pub(crate) hosts: usize,
+    /// How many links there are, with the loopback.
+    pub(crate) links: usize,
     /// The host of each actor.
     pub(crate) homes: Vec<PointId>,
     /// How many mutexes there are.

@@ -1,27 +1,29 @@
 //! Ends of phases.
 
-ghost use Rattle.std.specs.Prelude.{◌≡◌, ◌≢◌, ◌+◌, ◌-◌, ◌*◌, ◌^◌, ◌<◌, ◌≤◌, ◌++◌, [], ◌∷◌, length, drop, is_some, false, if◌then◌else◌, Some};
+ghost use Rattle.std.specs.Prelude.{◌≡◌, ◌≢◌, ◌+◌, ◌<◌, [], drop, if◌then◌else◌, Some};
 ghost use Rattle.sg_activity.specs.declared.kinds.PhaseKind.TheVariants as phase_kind;
-ghost use Rattle.sg_activity.specs.Doing.{IsDue, is_running};
+ghost use Rattle.sg_activity.specs.Doing.{IsDue};
+ghost use Rattle.sg_activity.specs.Underway.{is_running};
 ghost use Rattle.sg_base.specs.declared.call.Msg.TheVariants as msg;
+ghost use Rattle.sg_kernel.specs.declared.states.How.TheVariants as how;
 ghost use Rattle.sg_kernel.specs.World.{extent};
-ghost use Rattle.sg_kernel.specs.Steps.{result_of};
+ghost use Rattle.sg_kernel.specs.Steps.{each, result_of};
 ghost use Rattle.sg_kernel.specs.Meetings.{side_of};
-ghost use Rattle.sg_kernel.specs.Passes.{answer_to, answers, answers_side, ends, ends_phase, tells_bytes};
-ghost use Rattle.sg_kernel.specs.Known.{after};
-ghost use Rattle.sg_kernel.specs.Queue.{IsAnswering};
-ghost use Rattle.sg_kernel.specs.Sound.{core_of, known_of, setup_in, IsSide, IsSound, AreLimited, AreMeeting, AreHeld, IsOwner};
+ghost use Rattle.sg_kernel.specs.Passes.{answer_of_done as answer_of_done_spec, answers, answers_side, ends, ends_one, tells_bytes as tells_bytes_spec};
+ghost use Rattle.sg_kernel.specs.Sound.{core_of, setup_in, IsOwner, IsSide, StepsBy};
+ghost use Rattle.sg_kernel.specs.Whole.{IsPassing};
 
+use crate::answers::record_of;
 use crate::parts::Parts;
 use crate::states::{State, Stop, Whose};
 use sg_activity::{Activities, Phase, PhaseKind};
-use sg_base::{ActorId, Answer, Call, Msg, Record, Serial};
+use sg_base::{ActorId, Answer, Call, Msg, Serial};
 use sg_mailbox::Side;
 use sg_requests::End;
 
 /// Why there is no next date.
 pub(crate) fn none_next(doing: &Activities) -> Stop
-    ensures { result ≡ (if is_running doing.now then Stop.Starved else Stop.Deadlock) }
+    ensures { result ≡ (if is_running doing.now.under then Stop.Starved else Stop.Deadlock) }
 {
     if doing.running() {
         Stop::Starved
@@ -31,7 +33,7 @@ pub(crate) fn none_next(doing: &Activities) -> Stop
 }
 
 fn tells_bytes(what: Call) -> bool
-    ensures { result ≡ tells_bytes what }
+    ensures { result ≡ tells_bytes_spec what }
 {
     match what {
         Call::Send(..) | Call::Recv(_) => true,
@@ -41,13 +43,13 @@ fn tells_bytes(what: Call) -> bool
 
 // How many bytes the record of a call tells, of those that came.
 fn bytes_told(what: Call, bytes: u64) -> u64
-    ensures { result ≡ (if tells_bytes what then bytes else 0) }
+    ensures { result ≡ (if tells_bytes_spec what then bytes else 0) }
 {
     if tells_bytes(what) { bytes } else { 0 }
 }
 
-fn answer_to(what: Call, msg: Msg) -> Answer
-    ensures { result ≡ answer_to what msg }
+fn answer_of_done(what: Call, msg: Msg) -> Answer
+    ensures { result ≡ answer_of_done_spec what msg }
 {
     match what {
         Call::Recv(_) => Answer::Got(msg),
@@ -58,33 +60,22 @@ fn answer_to(what: Call, msg: Msg) -> Answer
 // Answers the actor of a side, where it is blocked on this side of this activity: with what the side gives.
 fn answer_side(parts: &mut Parts, serial: Serial, end: End, given: Side)
     requires given { IsSide (extent (setup_in parts.old)) given }
-    requires sound { IsSound parts.old }
-    requires limited { AreLimited parts.old }
-    requires answering { IsAnswering parts.old }
-    requires meeting { AreMeeting parts.old }
-    requires held { AreHeld parts.old }
-    requires small { parts.old.doing.date < 10 ^ 33 }
-    ensures known { known_of parts.new ≡ after (answers_side serial.0 end given (core_of parts.old)) (known_of parts.old) }
-    ensures sound { IsSound parts.new }
-    ensures limited { AreLimited parts.new }
-    ensures answering { IsAnswering parts.new }
-    ensures meeting { AreMeeting parts.new }
-    ensures held { AreHeld parts.new }
+    requires passing { IsPassing parts.old }
+    ensures known { StepsBy (answers_side how.Done serial.0 end given) parts.old parts.new }
+    ensures passing { IsPassing parts.new }
     ensures doing { parts.new.doing ≡ parts.old.doing }
     ensures events { parts.new.events ≡ parts.old.events }
 {
     let place = given.actor.0 as usize - 1;
     match parts.states[place] {
         State::Blocked(what, since, Some(on)) if on.serial.0 == serial.0 && on.end == end => {
+            let bytes = bytes_told(what, given.bytes);
+            let answer = answer_of_done(what, given.msg);
             let date = parts.doing.date();
-            parts.records.push_reserved(Record {
-                actor: given.actor,
-                date,
-                what,
-                bytes: bytes_told(what, given.bytes),
-                took: Some(date.saturating_sub(since)),
-            });
-            parts.states[place] = State::Ready(answer_to(what, given.msg));
+            parts
+                .records
+                .push_reserved(record_of(given.actor, what, since, bytes, answer, date));
+            parts.states[place] = State::Ready(answer);
             parts.queue.push_reserved(given.actor);
             parts.ready += 1;
         }
@@ -105,18 +96,9 @@ fn side_of(actor: ActorId) -> Side
 // Answers those whose activity is done: the sender, and then the receiver.
 fn answer_owners(parts: &mut Parts, serial: Serial, whose: Whose)
     requires whose { IsOwner (extent (setup_in parts.old)) whose }
-    requires sound { IsSound parts.old }
-    requires limited { AreLimited parts.old }
-    requires answering { IsAnswering parts.old }
-    requires meeting { AreMeeting parts.old }
-    requires held { AreHeld parts.old }
-    requires small { parts.old.doing.date < 10 ^ 33 }
-    ensures known { known_of parts.new ≡ after (answers serial.0 whose (core_of parts.old)) (known_of parts.old) }
-    ensures sound { IsSound parts.new }
-    ensures limited { AreLimited parts.new }
-    ensures answering { IsAnswering parts.new }
-    ensures meeting { AreMeeting parts.new }
-    ensures held { AreHeld parts.new }
+    requires passing { IsPassing parts.old }
+    ensures known { StepsBy (answers how.Done serial.0 whose) parts.old parts.new }
+    ensures passing { IsPassing parts.new }
     ensures doing { parts.new.doing ≡ parts.old.doing }
     ensures events { parts.new.events ≡ parts.old.events }
 {
@@ -130,7 +112,7 @@ fn answer_owners(parts: &mut Parts, serial: Serial, whose: Whose)
             };
             answer_side(parts, serial, End::Receiver, given);
         }
-        Whose::Gone | Whose::Posted(..) => {}
+        Whose::Over(_) | Whose::Posted(..) => {}
     }
 }
 
@@ -138,20 +120,12 @@ fn answer_owners(parts: &mut Parts, serial: Serial, whose: Whose)
 fn begin_flow(parts: &mut Parts, phase: Phase)
     requires due { IsDue parts.old.doing phase }
     requires latency { phase.kind ≡ phase_kind.Latency }
-    requires sound { IsSound parts.old }
-    requires limited { AreLimited parts.old }
-    requires answering { IsAnswering parts.old }
-    requires meeting { AreMeeting parts.old }
-    requires held { AreHeld parts.old }
+    requires passing { IsPassing parts.old }
     requires budget { parts.old.events ≢ parts.old.budget }
-    ensures known { known_of parts.new ≡ after (ends_phase phase.serial.0 (core_of parts.old)) (known_of parts.old) }
-    ensures sound { IsSound parts.new }
-    ensures limited { AreLimited parts.new }
-    ensures answering { IsAnswering parts.new }
-    ensures meeting { AreMeeting parts.new }
-    ensures held { AreHeld parts.new }
+    ensures known { StepsBy (ends_one phase.serial.0) parts.old parts.new }
+    ensures passing { IsPassing parts.new }
     ensures due { parts.new.doing.due ≡ drop 1 parts.old.doing.due }
-    ensures date { parts.new.doing.date ≡ parts.old.doing.date }
+    ensures date { parts.new.doing.under.date ≡ parts.old.doing.under.date }
     ensures events { parts.new.events ≡ parts.old.events + 1 }
 {
     parts.doing.finish();
@@ -162,21 +136,12 @@ fn begin_flow(parts: &mut Parts, phase: Phase)
 fn end_activity(parts: &mut Parts, phase: Phase)
     requires due { IsDue parts.old.doing phase }
     requires last { phase.kind ≢ phase_kind.Latency }
-    requires sound { IsSound parts.old }
-    requires limited { AreLimited parts.old }
-    requires answering { IsAnswering parts.old }
-    requires meeting { AreMeeting parts.old }
-    requires held { AreHeld parts.old }
-    requires small { parts.old.doing.date < 10 ^ 33 }
+    requires passing { IsPassing parts.old }
     requires budget { parts.old.events ≢ parts.old.budget }
-    ensures known { known_of parts.new ≡ after (ends_phase phase.serial.0 (core_of parts.old)) (known_of parts.old) }
-    ensures sound { IsSound parts.new }
-    ensures limited { AreLimited parts.new }
-    ensures answering { IsAnswering parts.new }
-    ensures meeting { AreMeeting parts.new }
-    ensures held { AreHeld parts.new }
+    ensures known { StepsBy (ends_one phase.serial.0) parts.old parts.new }
+    ensures passing { IsPassing parts.new }
     ensures due { parts.new.doing.due ≡ drop 1 parts.old.doing.due }
-    ensures date { parts.new.doing.date ≡ parts.old.doing.date }
+    ensures date { parts.new.doing.under.date ≡ parts.old.doing.under.date }
     ensures events { parts.new.events ≡ parts.old.events + 1 }
 {
     let whose = parts.whose.take(phase.serial);
@@ -188,21 +153,12 @@ fn end_activity(parts: &mut Parts, phase: Phase)
 // Ends the first phase that is due.
 fn end_phase(parts: &mut Parts, phase: Phase)
     requires due { IsDue parts.old.doing phase }
-    requires sound { IsSound parts.old }
-    requires limited { AreLimited parts.old }
-    requires answering { IsAnswering parts.old }
-    requires meeting { AreMeeting parts.old }
-    requires held { AreHeld parts.old }
-    requires small { parts.old.doing.date < 10 ^ 33 }
+    requires passing { IsPassing parts.old }
     requires budget { parts.old.events ≢ parts.old.budget }
-    ensures known { known_of parts.new ≡ after (ends_phase phase.serial.0 (core_of parts.old)) (known_of parts.old) }
-    ensures sound { IsSound parts.new }
-    ensures limited { AreLimited parts.new }
-    ensures answering { IsAnswering parts.new }
-    ensures meeting { AreMeeting parts.new }
-    ensures held { AreHeld parts.new }
+    ensures known { StepsBy (ends_one phase.serial.0) parts.old parts.new }
+    ensures passing { IsPassing parts.new }
     ensures due { parts.new.doing.due ≡ drop 1 parts.old.doing.due }
-    ensures date { parts.new.doing.date ≡ parts.old.doing.date }
+    ensures date { parts.new.doing.under.date ≡ parts.old.doing.under.date }
     ensures events { parts.new.events ≡ parts.old.events + 1 }
 {
     match phase.kind {
@@ -213,22 +169,16 @@ fn end_phase(parts: &mut Parts, phase: Phase)
 
 /// Ends the phases that are due, as far as the budget goes.
 pub(crate) fn end_due(parts: &mut Parts) -> Result<(), Stop>
-    requires sound { IsSound parts.old }
-    requires limited { AreLimited parts.old }
-    requires answering { IsAnswering parts.old }
-    requires meeting { AreMeeting parts.old }
-    requires held { AreHeld parts.old }
-    requires small { parts.old.doing.date < 10 ^ 33 }
+    requires passing { IsPassing parts.old }
     requires some { parts.old.doing.due ≢ [] }
     requires budget { parts.old.events ≢ parts.old.budget }
-    ensures known { known_of parts.new ≡ after (ends parts.old.budget parts.old.doing.due (core_of parts.old)) (known_of parts.old) }
-    ensures result { result ≡ result_of (ends parts.old.budget parts.old.doing.due (core_of parts.old)).stop }
-    ensures sound { IsSound parts.new }
-    ensures limited { AreLimited parts.new }
-    ensures answering { IsAnswering parts.new }
-    ensures meeting { AreMeeting parts.new }
-    ensures held { AreHeld parts.new }
-    ensures date { parts.new.doing.date ≡ parts.old.doing.date }
+    ensures known { StepsBy (each (ends (setup_in parts.old)) parts.old.doing.due)
+        parts.old parts.new }
+    ensures result { result
+        ≡ result_of (each (ends (setup_in parts.old)) parts.old.doing.due
+        (core_of parts.old)).stop }
+    ensures passing { IsPassing parts.new }
+    ensures date { parts.new.doing.under.date ≡ parts.old.doing.under.date }
     ensures events { parts.old.events < parts.new.events }
 {
     while let Some(phase) = parts.doing.due() {

@@ -37,7 +37,8 @@ fn is_ready_in(states: &[State], actor: ActorId) -> bool
 
 /// Lets those go that aren't ready.
 pub(crate) fn keep_ready(queue: &mut Vec<ActorId>, states: &[State])
-    ensures items { queue.new.items ≡ filter (λ (actor : ActorId). is_ready_in_spec states.now actor.0) queue.old.items }
+    ensures items { queue.new.items
+        ≡ filter (λ (actor : ActorId). is_ready_in_spec states.now actor.0) queue.old.items }
     ensures capacity { vec_capacity queue.new ≡ vec_capacity queue.old }
 {
     queue.retain(|actor| is_ready_in(states, *actor));
@@ -55,7 +56,8 @@ pub(crate) fn sort(queue: &mut Vec<ActorId>)
 // The place in rising order of an actor that isn't there; none where it is.
 fn place_of(queue: &[ActorId], actor: ActorId) -> Option<usize>
     requires { AllPairs (λ a b. a.0 < b.0) queue.now }
-    ensures { MatchOption result (Contains queue.now actor) (λ place. IsPlace queue.now actor place × ¬ Contains queue.now actor) }
+    ensures { MatchOption result (Contains queue.now actor)
+        (λ place. IsPlace queue.now actor place × ¬ Contains queue.now actor) }
 {
     let place = queue.partition_point(|other| other.0 < actor.0);
     if place < queue.len() && queue[place].0 == actor.0 {
@@ -68,7 +70,9 @@ fn place_of(queue: &[ActorId], actor: ActorId) -> Option<usize>
 pub(crate) fn join_in_order(queue: &mut Vec<ActorId>, actor: ActorId)
     requires rises { AllPairs (λ a b. a.0 < b.0) queue.old.items }
     requires room { ¬ Contains queue.old.items actor → vec_len queue.old < vec_capacity queue.old }
-    ensures queue { (states : List State) (state : State) → IsIdOf states actor → IsQueue states queue.old.items → IsQueue (slice_set states (actor.0 - 1) state) queue.new.items }
+    ensures queue { (states : List State) (state : State) → IsIdOf states actor
+        → IsQueue states queue.old.items
+        → IsQueue (slice_set states (actor.0 - 1) state) queue.new.items }
     ensures capacity { vec_capacity queue.new ≡ vec_capacity queue.old }
 {
     if let Some(place) = place_of(queue, actor) {

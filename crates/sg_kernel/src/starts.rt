@@ -4,16 +4,14 @@ ghost use Rattle.std.specs.Prelude.{◌≡◌, ◌≢◌, ◌+◌, ◌-◌, ◌<
 ghost use Rattle.sg_base.specs.Limits.{Extent};
 ghost use Rattle.sg_base.specs.declared.call.Answer.TheVariants as answer;
 ghost use Rattle.sg_base.specs.Limits.{IsAmount, IsTime};
-ghost use Rattle.sg_activity.specs.Doing.{exec_of, timer_of};
 ghost use Rattle.sg_kernel.specs.declared.states.State.TheVariants.{Ready};
-ghost use Rattle.sg_kernel.specs.World.{MayCall, host_of, is_ready, is_ended};
+ghost use Rattle.sg_kernel.specs.World.{is_ready, is_ended};
 ghost use Rattle.sg_platform.specs.Deployment.{IsDeployedOn};
-ghost use Rattle.sg_kernel.specs.Calls.{alone, blocks_on};
-ghost use Rattle.sg_kernel.specs.Steps.{counted};
-ghost use Rattle.sg_kernel.specs.Start.{setup_of};
-ghost use Rattle.sg_kernel.specs.Known.{first_known};
-ghost use Rattle.sg_kernel.specs.Sound.{core_of, known_of, IsSound, IsDated, AreLimited, AreMeeting, AreHeld, KeepsLimits, blocked_count};
-ghost use Rattle.sg_kernel.specs.Queue.{IsQueued};
+ghost use Rattle.sg_kernel.specs.Calls.{alone, with_execution, with_sleep};
+ghost use Rattle.sg_kernel.specs.Start.{capacities_in, setup_of};
+ghost use Rattle.sg_kernel.specs.Known.{first_known, CanAnswer};
+ghost use Rattle.sg_kernel.specs.Sound.{known_of, setup_in, CountsBy, KeepsLimits, blocked_count};
+ghost use Rattle.sg_kernel.specs.Whole.{IsWhole};
 
 use crate::answers::block;
 use crate::owners::Owners;
@@ -32,8 +30,11 @@ use std::alloc::Global;
 // All actors are ready with the answer Start.
 fn first_states(alloc: Global, n: usize) -> Result<Vec<State>, Memory>
     ensures are { IfOk result (λ states. states.items ≡ replicate n (Ready answer.Start)) }
-    ensures counts { IfOk result (λ states. (count_by is_ready states.items ≡ n) × (count_by is_ended states.items ≡ 0) × (blocked_count states.items ≡ 0)) }
-    ensures limited { IfOk result (λ states. (extent : Extent) → All (KeepsLimits extent) states.items) }
+    ensures ready { IfOk result (λ states. count_by is_ready states.items ≡ n) }
+    ensures ended { IfOk result (λ states. count_by is_ended states.items ≡ 0) }
+    ensures blocked { IfOk result (λ states. blocked_count states.items ≡ 0) }
+    ensures limited { IfOk result (λ states. (extent : Extent)
+        → All (KeepsLimits extent) states.items) }
 {
     let mut states = Vec::new(alloc);
     for _i in 0..n {
@@ -54,13 +55,9 @@ pub(crate) fn first_parts(
 ) -> Result<Parts, Memory>
     requires deployed { IsDeployedOn platform.now deployment.now }
     requires budget { budget ≤ 10 ^ 9 }
-    ensures known { IfOk result (λ parts. known_of parts ≡ first_known (setup_of platform.now deployment.now budget)) }
-    ensures sound { IfOk result (λ parts. IsSound parts) }
-    ensures dated { IfOk result (λ parts. IsDated parts) }
-    ensures limited { IfOk result (λ parts. AreLimited parts) }
-    ensures queued { IfOk result (λ parts. IsQueued parts) }
-    ensures meeting { IfOk result (λ parts. AreMeeting parts) }
-    ensures held { IfOk result (λ parts. AreHeld parts) }
+    ensures known { IfOk result (λ parts. known_of parts
+        ≡ first_known (capacities_in platform.now) (setup_of platform.now deployment.now budget)) }
+    ensures whole { IfOk result (λ parts. IsWhole parts) }
 {
     let hosts = hosts(alloc, platform.hosts())?;
     let links = links(alloc, platform.links())?;
@@ -76,6 +73,8 @@ pub(crate) fn first_parts(
         requests: Requests::new(alloc, actors)?,
         objects: Sync::new(alloc, actors as u32, mutexes as u32, &semaphores, members)?,
         records: Vec::new(alloc),
+        hosts: hosts.len(),
+        links: links.len(),
         homes: homes(alloc, deployment.actors())?,
         mutexes,
         semaphores,
@@ -100,23 +99,12 @@ fn alone(serial: Serial) -> Await
 
 /// The actor computes.
 pub(crate) fn compute(parts: &mut Parts, actor: ActorId, flops: u64)
-    requires caller { MayCall (core_of parts.old) actor.0 }
+    requires able { CanAnswer (known_of parts.old) actor.0 }
     requires flops { IsAmount flops }
-    requires room { 0 < parts.old.room }
-    requires budget { parts.old.events ≢ parts.old.budget }
-    requires sound { IsSound parts.old }
-    requires dated { IsDated parts.old }
-    requires limited { AreLimited parts.old }
-    requires queued { IsQueued parts.old }
-    requires meeting { AreMeeting parts.old }
-    requires held { AreHeld parts.old }
-    ensures known { known_of parts.new ≡ record (known_of parts.old) { core = counted (blocks_on (exec_of parts.old.doing.capacities (host_of (known_of parts.old).setup actor.0) flops) actor.0 (Call.Compute flops) (core_of parts.old)); room = parts.old.room - 1 } }
-    ensures sound { IsSound parts.new }
-    ensures dated { IsDated parts.new }
-    ensures limited { AreLimited parts.new }
-    ensures queued { IsQueued parts.new }
-    ensures meeting { AreMeeting parts.new }
-    ensures held { AreHeld parts.new }
+    requires whole { IsWhole parts.old }
+    ensures known { CountsBy (with_execution (setup_in parts.old) actor.0 flops)
+        parts.old parts.new }
+    ensures whole { IsWhole parts.new }
 {
     let host = parts.homes[actor.0 as usize - 1];
     let serial = parts.doing.next_serial();
@@ -127,23 +115,11 @@ pub(crate) fn compute(parts: &mut Parts, actor: ActorId, flops: u64)
 
 /// The actor sleeps.
 pub(crate) fn sleep(parts: &mut Parts, actor: ActorId, ns: u64)
-    requires caller { MayCall (core_of parts.old) actor.0 }
+    requires able { CanAnswer (known_of parts.old) actor.0 }
     requires ns { IsTime ns }
-    requires room { 0 < parts.old.room }
-    requires budget { parts.old.events ≢ parts.old.budget }
-    requires sound { IsSound parts.old }
-    requires dated { IsDated parts.old }
-    requires limited { AreLimited parts.old }
-    requires queued { IsQueued parts.old }
-    requires meeting { AreMeeting parts.old }
-    requires held { AreHeld parts.old }
-    ensures known { known_of parts.new ≡ record (known_of parts.old) { core = counted (blocks_on (timer_of ns) actor.0 (Call.Sleep ns) (core_of parts.old)); room = parts.old.room - 1 } }
-    ensures sound { IsSound parts.new }
-    ensures dated { IsDated parts.new }
-    ensures limited { AreLimited parts.new }
-    ensures queued { IsQueued parts.new }
-    ensures meeting { AreMeeting parts.new }
-    ensures held { AreHeld parts.new }
+    requires whole { IsWhole parts.old }
+    ensures known { CountsBy (with_sleep actor.0 ns) parts.old parts.new }
+    ensures whole { IsWhole parts.new }
 {
     let serial = parts.doing.next_serial();
     block(parts, actor, Call::Sleep(ns), alone(serial));
@@ -153,20 +129,10 @@ pub(crate) fn sleep(parts: &mut Parts, actor: ActorId, ns: u64)
 
 /// Makes room for so many calls, and for what the passes after them make.
 pub(crate) fn reserve(parts: &mut Parts, n: usize) -> Result<(), Memory>
-    requires sound { IsSound parts.old }
-    requires dated { IsDated parts.old }
-    requires limited { AreLimited parts.old }
-    requires queued { IsQueued parts.old }
-    requires meeting { AreMeeting parts.old }
-    requires held { AreHeld parts.old }
+    requires whole { IsWhole parts.old }
     ensures room { OnOk result (n ≤ parts.new.room) }
     ensures known { known_of parts.new ≡ record (known_of parts.old) { room = parts.new.room } }
-    ensures sound { IsSound parts.new }
-    ensures dated { IsDated parts.new }
-    ensures limited { AreLimited parts.new }
-    ensures queued { IsQueued parts.new }
-    ensures meeting { AreMeeting parts.new }
-    ensures held { AreHeld parts.new }
+    ensures whole { IsWhole parts.new }
 {
     let n = n.max(parts.room);
     let Some(most) = n.checked_add(parts.states.len()) else {

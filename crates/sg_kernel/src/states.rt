@@ -15,11 +15,18 @@ pub enum State {
     Ended,
 }
 
+/// How an activity is over.
+#[derive(Clone, Copy, Debug, PartialEq, Eq)]
+pub enum How {
+    /// All of it is done.
+    Done,
+}
+
 /// Whose an activity is.
 #[derive(Clone, Copy, Debug, PartialEq, Eq)]
 pub enum Whose {
-    /// Nobody's: it is done.
-    Gone,
+    /// Nobody's: it is over.
+    Over(How),
     /// It is what this actor computes or sleeps.
     Alone(ActorId),
     /// It is a communication of which one side is there, in this mailbox, and whether that one sends.
@@ -33,11 +40,20 @@ pub enum Whose {
 pub enum Stop {
     /// An event is next, and as many as there may be were counted.
     Budget,
-    /// A communication between these two hosts has no route: in this zone there is none from the one of its children
-    /// to the other.
-    NoRoute(PointId, PointId, ZoneId, Child, Child),
-    /// The route of a communication between these two hosts has more than 64 links.
-    TooLong(PointId, PointId),
+    /// A communication has no route from the host `from` to the host `to`: in this zone there is none from its child
+    /// `a` to its child `b`.
+    NoRoute {
+        from: PointId,
+        to: PointId,
+        zone: ZoneId,
+        a: Child,
+        b: Child,
+    },
+    /// The route of a communication from the host `from` to the host `to` has more than 64 links.
+    TooLong {
+        from: PointId,
+        to: PointId,
+    },
     /// Nobody is ready, and nothing is under way.
     Deadlock,
     /// Nobody is ready, and nothing that is under way will ever be over.

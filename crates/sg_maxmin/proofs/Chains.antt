@@ -1,7 +1,7 @@
 -- Chains of uses.
 use Rattle.std.proofs.Common.{◌≡◌, ◌≢◌, ℕ, zero, suc, ◌-◌, ◌<◌, ◌≤◌, Option, None, Some, List, [], ◌∷◌, length, get_or, drop, drop-cons, refl, sym, ap, subst, ◌∙◌, arith}
 use Rattle.sg_maxmin.specs.declared.uses.Use.{Use}
-use Rattle.sg_maxmin.specs.Uses.{IsChain, resources, resource_at, next_at, IsOf, Extends, KeepsOthers}
+use Rattle.sg_maxmin.specs.kept.Uses.{IsChain, resources, resource_at, next_at, IsOf, Extends, KeepsOthers}
 
 -- the slot of a chain's use
 of_some : (id : ℕ) (o : Option Use) → IsOf id o → (s : Use) × (o ≡ Some s) × (s.flow ≡ id)

@@ -7,9 +7,9 @@ use Rattle.std.specs.Option.{unwrap_or}
 use Rattle.sg_maxmin.specs.declared.flow_row.FlowRow.{FlowRow}
 use Rattle.sg_maxmin.specs.declared.uses.Use.{Use}
 use Rattle.sg_maxmin.specs.Fill.{is_on}
-use Rattle.sg_maxmin.specs.Uses.{resources, flow_of, AreRows, IsOneChain, IsChain}
+use Rattle.sg_maxmin.specs.kept.Uses.{resources, flow_of, AreRows, IsOneChain, IsChain}
 use Rattle.sg_maxmin.specs.Sharing.{IsFlow}
-use Rattle.sg_maxmin.specs.Counting.{times, IsLeast, least_with, with_share, SameRows, RowSteps, IsStepped}
+use Rattle.sg_maxmin.specs.kept.Counting.{times, IsLeast, least_with, with_share, SameRows, RowSteps, IsStepped}
 
 pub eq_cases : (a b : ℕ) → (a ≡ b) ⊎ (a ≢ b)
 eq_cases a b = grind arith

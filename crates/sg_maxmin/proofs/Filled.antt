@@ -7,11 +7,11 @@ use Rattle.sg_maxmin.specs.declared.uses.Use.{Use}
 use Rattle.sg_maxmin.specs.Fill.{Flow, Fixed, is_on, taken, waiting, level, limits, least, lowest, step, steps_from, unfixed, share_of}
 use Rattle.sg_maxmin.specs.Laws.{HaveLimits}
 use Rattle.sg_maxmin.specs.Sharing.{Sharing, HasLimit, held, flow_at}
-use Rattle.sg_maxmin.specs.Uses.{IsChain, resources, flow_of, flows_of, share_in, AreRows}
+use Rattle.sg_maxmin.specs.kept.Uses.{IsChain, resources, flow_of, flows_of, share_in, AreRows}
 use Rattle.sg_maxmin.proofs.Chains.{length-resources}
 use Rattle.sg_maxmin.proofs.Rows.{flow_at-flows_of}
 use Rattle.std.proofs.Math.ListN.{get_or-map}
-use Rattle.sg_maxmin.specs.Counting.{rows_held, taken_on, waiting_on, AreCounted, row_limits, all_limits, IsLeast, RowSteps, IsStepped, with_share, SameRows, AreFixed, AreRowShares, row_count, count_of}
+use Rattle.sg_maxmin.specs.kept.Counting.{rows_held, taken_on, waiting_on, AreCounted, row_limits, all_limits, IsLeast, RowSteps, IsStepped, with_share, SameRows, AreFixed, AreRowShares, row_count, count_of}
 use Rattle.sg_maxmin.proofs.Members.{In, In-map, In-map_back, In-from_contains, contains_from_In, In-filter, In-flat_map}
 use Rattle.sg_maxmin.proofs.Sums.{sum_by_same}
 use Rattle.sg_maxmin.proofs.OneStep.{least_le, least_in, lowest_le, step_fixed, step_at, was, gets, waits, step_cases}

@@ -5,8 +5,8 @@ use Rattle.std.proofs.lemmas.List.Sums.{sum_by-cons, sum_by-append}
 use Rattle.sg_maxmin.specs.declared.flow_row.FlowRow.{FlowRow}
 use Rattle.sg_maxmin.specs.declared.uses.Use.{Use}
 use Rattle.sg_maxmin.specs.Fill.{is_on}
-use Rattle.sg_maxmin.specs.Uses.{flow_of}
-use Rattle.sg_maxmin.specs.Counting.{rows_held, taken_on, waiting_on, row_taken, row_waiting, row_count, count_of, unfixed_limits, all_limits, row_limits, AreCounted}
+use Rattle.sg_maxmin.specs.kept.Uses.{flow_of}
+use Rattle.sg_maxmin.specs.kept.Counting.{rows_held, taken_on, waiting_on, row_taken, row_waiting, row_count, count_of, unfixed_limits, all_limits, row_limits, AreCounted}
 
 pub held_suc : (rows : List (Option FlowRow)) (k : ℕ) → rows_held (take (suc k) rows) ≡ rows_held (take k rows) ++ option_to_list (get_or rows k None)
 held_suc [] zero = refl

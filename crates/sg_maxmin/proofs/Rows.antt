@@ -2,8 +2,9 @@
 use Rattle.std.proofs.Common.{◌≡◌, ◌≢◌, ℕ, zero, suc, ◌⊎◌, inl, inr, Option, None, Some, List, [], ◌∷◌, map, get_or, option_map, refl, sym, ap, subst, ◌∙◌, arith}
 use Rattle.sg_maxmin.specs.declared.uses.Use.{Use}
 use Rattle.sg_maxmin.specs.declared.flow_row.FlowRow.{FlowRow}
+use Rattle.sg_maxmin.specs.Fill.{flow}
 use Rattle.sg_maxmin.specs.Sharing.{flow_at, IsFlow, Changes}
-use Rattle.sg_maxmin.specs.Uses.{IsChain, flow_of, flows_of, share_in, AreRows, KeepsOthers}
+use Rattle.sg_maxmin.specs.kept.Uses.{IsChain, flow_of, flows_of, share_in, AreRows, KeepsOthers}
 use Rattle.std.proofs.Math.ListN.{get_or-map}
 use Rattle.sg_maxmin.proofs.Chains.{chain_kept}
 
@@ -22,7 +23,7 @@ flow_of_kept : (id : ℕ) (old new : List (Option Use)) (row : FlowRow) →
 unfolding flow_of
 flow_of_kept id old new row h c =
     let kept = chain_kept id row.count old new row.first h c in
-    (kept.0, ap (λ us. record { uses = us; bound = row.bound }) kept.1)
+    (kept.0, ap (λ us. flow us row.bound) kept.1)
 
 eq_cases : (a b : ℕ) → (a ≡ b) ⊎ (a ≢ b)
 eq_cases a b = grind arith

@@ -1,7 +1,7 @@
 -- Where sums over two lists of flows are the same, so are the shares.
 use Rattle.std.proofs.Common.{◌≡◌, ℕ, zero, suc, ◌<◌, inl, inr, Bool, true, false, cond, ◌&&◌, ◌==◌, true≢false, Option, None, Some, List, [], ◌∷◌, sum_by, refl, sym, ap, ap₂, subst, arith}
 use Rattle.std.proofs.lemmas.List.Sums.{sum_by-cons}
-use Rattle.sg_maxmin.specs.Fill.{Flow, is_on, share_of}
+use Rattle.sg_maxmin.specs.Fill.{Flow, flow, is_on, share_of}
 use Rattle.sg_maxmin.specs.Laws.{HaveLimits, HaveSameSums, SharesSame}
 use Rattle.sg_maxmin.proofs.Members.{In, In-from_contains, contains_from_In}
 use Rattle.sg_maxmin.proofs.Sums.{le-sum_by}
@@ -61,7 +61,7 @@ flow_self f = rw (nats_self f.uses) (bound_self f.bound)
 flow_from : (f g : Flow) → same_flow f g ≡ true → g ≡ f
 flow_from f g e =
     let both = and_parts (same_nats f.uses g.uses) (same_bound f.bound g.bound) e in
-    ap₂ (λ us b. record { uses = us; bound = b }) (sym (nats_from f.uses g.uses both.0)) (sym (bound_from f.bound g.bound both.1))
+    ap₂ flow (sym (nats_from f.uses g.uses both.0)) (sym (bound_from f.bound g.bound both.1))
 
 sum_some : {X : Type 0} (h : X → ℕ) (xs : List X) → 0 < sum_by h xs → (x : X) × In x xs × (0 < h x)
 sum_some h [] pos = absurd (omega (arith, pos))

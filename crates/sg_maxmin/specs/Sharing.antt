@@ -1,7 +1,7 @@
 -- What contracts see of a `System`.
 use Rattle.std.specs.Prelude.{◌≡◌, ◌≢◌, ℕ, ◌<◌, Option, None, Some, IsSome, List, [], length, filter_map, slice_index, slice_index_or, All, AllPairs, sum_by, refl}
 use Rattle.std.specs.Coded.{Coded, code_by, coded×, coded_ℕ, coded_list, coded_option}
-use Rattle.sg_maxmin.specs.Fill.{Flow, share_of}
+use Rattle.sg_maxmin.specs.Fill.{Flow, flow, share_of}
 
 -- the capacities, the flow or nothing under each id, the share under each id, and room for so many flows and uses more
 pub record Sharing : Type 0 where
@@ -12,7 +12,7 @@ pub record Sharing : Type 0 where
   pub use_room : ℕ
 
 abbrev pub flow_code : Coded Flow
-flow_code = code_by (List ℕ × Option ℕ) (coded× (coded_list coded_ℕ) (coded_option coded_ℕ)) (λ f. (f.uses, f.bound)) (λ p. record { uses = p.0; bound = p.1 }) (λ _. refl)
+flow_code = code_by (List ℕ × Option ℕ) (coded× (coded_list coded_ℕ) (coded_option coded_ℕ)) (λ f. (f.uses, f.bound)) (λ p. flow p.0 p.1) (λ _. refl)
 
 abbrev pub sharing_code : Coded Sharing
 sharing_code = code_by (List ℕ × (List (Option Flow) × (List ℕ × (ℕ × ℕ)))) (coded× (coded_list coded_ℕ) (coded× (coded_list (coded_option flow_code)) (coded× (coded_list coded_ℕ) (coded× coded_ℕ coded_ℕ)))) (λ s. (s.capacities, (s.slots, (s.shares, (s.flow_room, s.use_room))))) (λ p. record { capacities = p.0; slots = p.1.0; shares = p.1.1.0; flow_room = p.1.1.1.0; use_room = p.1.1.1.1 }) (λ _. refl)

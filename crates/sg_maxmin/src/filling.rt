@@ -3,11 +3,11 @@
 //! each flow that is at it.
 
 ghost use Rattle.std.specs.Prelude.{◌≡◌, ◌≢◌, ◌↔◌, IsTrue, IsSomeAnd, option_map, ◌≤◌, ◌<◌, ◌+◌, ◌-◌, ◌*◌, ◌^◌, ◌/◌, ℕ, List, ◌++◌, length, All, Some, None, slice_index};
-ghost use Rattle.sg_maxmin.specs.Uses.{IsOneChain, AreRows, flows_of, resources};
+ghost use Rattle.sg_maxmin.specs.kept.Uses.{IsOneChain, AreRows, flows_of, row_uses};
 ghost use Rattle.sg_maxmin.specs.Laws.{HaveLimits};
 ghost use Rattle.sg_maxmin.specs.Sharing.{held};
 ghost use Rattle.slab.specs.Slab.{get};
-ghost use Rattle.sg_maxmin.specs.Counting.{HavePlaces, times, IsLeast, row_limits, least_with, AreCounted, row_taken, row_waiting, row_count, count_of, unfixed_limits, all_limits, with_share, RowSteps, SameRows, AreRowShares};
+ghost use Rattle.sg_maxmin.specs.kept.Counting.{HavePlaces, times, IsLeast, row_limits, least_with, AreCounted, row_taken, row_waiting, row_count, count_of, unfixed_limits, all_limits, with_share, RowSteps, SameRows, AreRowShares};
 
 use crate::flow_row::FlowRow;
 use crate::uses::{Use, look};
@@ -18,9 +18,11 @@ use std::sync::ledger::Ledger;
 // Counts an unfixed flow at each of its resources.
 fn put_waiting<L: Ledger>(uses: &Slab<Use>, row: FlowRow, waiting: &mut [u64], steps: &mut Steps<L>)
     requires chain { IsOneChain row.count uses.now.slots row.first }
-    requires exist { All (λ resource. resource < length waiting.old) (resources row.count uses.now.slots row.first) }
-    requires fits { (resource : ℕ) → slice_index waiting.old resource + times resource (resources row.count uses.now.slots row.first) < 2 ^ 64 }
-    ensures counts { (resource : ℕ) → slice_index waiting.new resource ≡ slice_index waiting.old resource + times resource (resources row.count uses.now.slots row.first) }
+    requires exist { All (λ resource. resource < length waiting.old) (row_uses uses.now.slots row) }
+    requires fits { (resource : ℕ) →
+        slice_index waiting.old resource + times resource (row_uses uses.now.slots row) < 2 ^ 64 }
+    ensures counts { (resource : ℕ) → slice_index waiting.new resource
+        ≡ slice_index waiting.old resource + times resource (row_uses uses.now.slots row) }
     ensures looks { steps.new ≡ steps.old + row.count }
 {
     let mut at = row.first;
@@ -40,8 +42,9 @@ fn take_off<L: Ledger>(
     steps: &mut Steps<L>,
 )
     requires chain { IsOneChain row.count uses.now.slots row.first }
-    requires exist { All (λ resource. resource < length left.old) (resources row.count uses.now.slots row.first) }
-    ensures counts { (resource : ℕ) → slice_index left.new resource ≡ slice_index left.old resource - times resource (resources row.count uses.now.slots row.first) * share }
+    requires exist { All (λ resource. resource < length left.old) (row_uses uses.now.slots row) }
+    ensures counts { (resource : ℕ) → slice_index left.new resource
+        ≡ slice_index left.old resource - times resource (row_uses uses.now.slots row) * share }
     ensures looks { steps.new ≡ steps.old + row.count }
 {
     let mut at = row.first;
@@ -62,8 +65,9 @@ fn least_limit<L: Ledger>(
     steps: &mut Steps<L>,
 ) -> Option<u64>
     requires chain { IsOneChain row.count uses.now.slots row.first }
-    requires left { All (λ resource. resource < length left.now) (resources row.count uses.now.slots row.first) }
-    requires waiting { All (λ resource. resource < length waiting.now) (resources row.count uses.now.slots row.first) }
+    requires left { All (λ resource. resource < length left.now) (row_uses uses.now.slots row) }
+    requires waiting { All (λ resource. resource < length waiting.now)
+        (row_uses uses.now.slots row) }
     ensures least { IsLeast result (row_limits left.now waiting.now uses.now.slots row) }
     ensures looks { steps.new ≡ steps.old + row.count }
 {
@@ -115,8 +119,11 @@ fn count_row<L: Ledger>(
 )
     requires rows { HavePlaces flows.now.slots uses.now.slots left.old waiting.old }
     requires fits { (resource : ℕ) → slice_index waiting.old resource + 1 < 2 ^ 64 }
-    ensures left { (resource : ℕ) → slice_index left.new resource ≡ slice_index left.old resource - row_taken uses.now.slots (get flows.now id) resource }
-    ensures waiting { (resource : ℕ) → slice_index waiting.new resource ≡ slice_index waiting.old resource + row_waiting uses.now.slots (get flows.now id) resource }
+    ensures left { (resource : ℕ) → slice_index left.new resource
+        ≡ slice_index left.old resource - row_taken uses.now.slots (get flows.now id) resource }
+    ensures waiting { (resource : ℕ) → slice_index waiting.new resource
+        ≡ slice_index waiting.old resource
+        + row_waiting uses.now.slots (get flows.now id) resource }
     ensures looks { steps.new ≡ steps.old + row_count (get flows.now id) }
 {
     let Some(row) = flows.get(id) else {
@@ -140,7 +147,8 @@ fn count_all<L: Ledger>(
     requires rows { AreRows capacities.now flows.now.slots uses.now.slots }
     requires left_len { length left.old ≡ length capacities.now }
     requires waiting_len { length waiting.old ≡ length capacities.now }
-    ensures counted { AreCounted capacities.now flows.now.slots uses.now.slots left.new waiting.new }
+    ensures counted { AreCounted capacities.now flows.now.slots uses.now.slots
+        left.new waiting.new }
     ensures looks { steps.new ≡ steps.old + count_of flows.now.slots }
 {
     left.copy_from_slice(capacities);
@@ -161,7 +169,9 @@ fn lowest_with<L: Ledger>(
     steps: &mut Steps<L>,
 ) -> Option<u64>
     requires rows { HavePlaces flows.now.slots uses.now.slots left.now waiting.now }
-    ensures least { (list : List ℕ) → IsLeast least list → IsLeast result (list ++ unfixed_limits (row_limits left.now waiting.now uses.now.slots) (get flows.now id)) }
+    ensures least { (list : List ℕ) → IsLeast least list → IsLeast result
+        (list
+        ++ unfixed_limits (row_limits left.now waiting.now uses.now.slots) (get flows.now id)) }
     ensures most { steps.new ≤ steps.old + row_count (get flows.now id) }
     ensures looks { steps.old ≤ steps.new }
 {
@@ -186,7 +196,8 @@ fn lowest<L: Ledger>(
     steps: &mut Steps<L>,
 ) -> Option<u64>
     requires rows { HavePlaces flows.now.slots uses.now.slots left.now waiting.now }
-    ensures least { IsLeast result (all_limits left.now waiting.now uses.now.slots flows.now.slots) }
+    ensures least { IsLeast result
+        (all_limits left.now waiting.now uses.now.slots flows.now.slots) }
     ensures most { steps.new ≤ steps.old + count_of flows.now.slots }
     ensures looks { steps.old ≤ steps.new }
 {
@@ -231,7 +242,9 @@ fn is_at<L: Ledger>(
     steps: &mut Steps<L>,
 ) -> bool
     requires rows { HavePlaces flows.now.slots uses.now.slots left.now waiting.now }
-    ensures at { IsTrue result ↔ (IsSomeAnd (get flows.now id) (λ row. (row.share ≡ None) × IsLeast (Some low) (row_limits left.now waiting.now uses.now.slots row))) }
+    ensures at { IsTrue result ↔ (IsSomeAnd (get flows.now id) (λ row.
+        (row.share ≡ None)
+        × IsLeast (Some low) (row_limits left.now waiting.now uses.now.slots row))) }
     ensures most { steps.new ≤ steps.old + row_count (get flows.now id) }
     ensures looks { steps.old ≤ steps.new }
 {
@@ -258,7 +271,8 @@ fn fix_row<L: Ledger>(
     steps: &mut Steps<L>,
 )
     requires rows { HavePlaces flows.old.slots uses.now.slots left.now waiting.now }
-    ensures stepped { RowSteps low (row_limits left.now waiting.now uses.now.slots) (get flows.old id) (get flows.new id) }
+    ensures stepped { RowSteps low (row_limits left.now waiting.now uses.now.slots)
+        (get flows.old id) (get flows.new id) }
     ensures others { (other : ℕ) → other ≢ id → get flows.new other ≡ get flows.old other }
     ensures len { length flows.new.slots ≡ length flows.old.slots }
     ensures capacity { flows.new.capacity ≡ flows.old.capacity }
@@ -280,7 +294,8 @@ fn fix_all<L: Ledger>(
     steps: &mut Steps<L>,
 )
     requires rows { HavePlaces flows.old.slots uses.now.slots left.now waiting.now }
-    ensures all { (key : ℕ) → RowSteps low (row_limits left.now waiting.now uses.now.slots) (get flows.old key) (get flows.new key) }
+    ensures all { (key : ℕ) → RowSteps low (row_limits left.now waiting.now uses.now.slots)
+        (get flows.old key) (get flows.new key) }
     ensures same { SameRows flows.old.slots flows.new.slots }
     ensures len { length flows.new.slots ≡ length flows.old.slots }
     ensures capacity { flows.new.capacity ≡ flows.old.capacity }
@@ -309,7 +324,9 @@ pub(crate) fn fill<L: Ledger>(
     ensures shares { AreRowShares capacities.now uses.now.slots flows.new.slots }
     ensures len { length flows.new.slots ≡ length flows.old.slots }
     ensures capacity { flows.new.capacity ≡ flows.old.capacity }
-    ensures most { steps.new ≤ steps.old + (3 * length (held (flows_of flows.old.slots uses.now.slots)) + 2) * count_of flows.old.slots }
+    ensures most { steps.new ≤ steps.old
+        + (3 * length (held (flows_of flows.old.slots uses.now.slots)) + 2)
+        * count_of flows.old.slots }
     ensures looks { steps.old + count_of flows.old.slots ≤ steps.new }
 {
     unfix_all(flows);

@@ -1,7 +1,6 @@
 //! Laws of filling, each the contract of a function that does nothing.
-ghost use Rattle.std.specs.Prelude.{◌≡◌, ◌-◌, [], ◌∷◌, Some, None};
-ghost use Rattle.sg_maxmin.specs.Fill.{fill, flow};
-ghost use Rattle.sg_maxmin.specs.Relisted.{AreRelisted, FillsInAnyOrder};
+ghost use Rattle.sg_maxmin.specs.Relisted.{FillsInAnyOrder};
+ghost use Rattle.sg_maxmin.specs.Worked.{AreWorked};
 ghost use Rattle.sg_maxmin.specs.Laws.{FillsApart, FillsFairly, FixesAll, FixesOnce, IsHeld, KeepsBound, KeepsShare, LevelRises, SharesSame, SumsChange};
 
 /// Progressive filling is max-min fair in whole units: on each resource the shares add up to at most its capacity,
@@ -21,7 +20,7 @@ pub fn fixes_all()
     ensures { FixesAll }
 {}
 
-/// A flow has one share: in whichever step it is fixed, it is fixed at that.
+/// A flow is fixed once: in whichever step it is, at its level.
 pub fn fixes_once()
     ensures { FixesOnce }
 {}
@@ -62,15 +61,7 @@ pub fn is_held()
     ensures { IsHeld }
 {}
 
-/// Fillings that were worked out by hand: of these capacities and these flows, each with its uses and its bound,
-/// these are the shares. `relisted` says of two of them that they differ in the order of their links alone.
+/// Fillings that were worked out by hand.
 pub fn worked_examples()
-    ensures alike { fill (10 ∷ []) (flow (0 ∷ []) (Some 10) ∷ flow (0 ∷ []) (Some 10) ∷ flow (0 ∷ []) (Some 10) ∷ []) ≡ 3 ∷ 3 ∷ 3 ∷ [] }
-    ensures two_links { fill (5 ∷ 5 ∷ []) (flow (0 ∷ []) None ∷ flow (0 ∷ 1 ∷ []) None ∷ flow (1 ∷ []) None ∷ []) ≡ 2 ∷ 2 ∷ 2 ∷ [] }
-    ensures left_by_a_bound { fill (10 ∷ []) (flow (0 ∷ []) (Some 2) ∷ flow (0 ∷ []) None ∷ flow (0 ∷ []) None ∷ []) ≡ 2 ∷ 4 ∷ 4 ∷ [] }
-    ensures left_by_a_link { fill (2 ∷ 10 ∷ []) (flow (0 ∷ 1 ∷ []) None ∷ flow (1 ∷ []) None ∷ flow (1 ∷ []) None ∷ []) ≡ 2 ∷ 4 ∷ 4 ∷ [] }
-    ensures relisted { AreRelisted (λ resource. 1 - resource) (2 ∷ 10 ∷ []) (10 ∷ 2 ∷ []) (flow (0 ∷ 1 ∷ []) None ∷ flow (1 ∷ []) None ∷ flow (1 ∷ []) None ∷ []) (flow (0 ∷ 1 ∷ []) None ∷ flow (0 ∷ []) None ∷ flow (0 ∷ []) None ∷ []) }
-    ensures links_exchanged { fill (10 ∷ 2 ∷ []) (flow (0 ∷ 1 ∷ []) None ∷ flow (0 ∷ []) None ∷ flow (0 ∷ []) None ∷ []) ≡ 2 ∷ 4 ∷ 4 ∷ [] }
-    ensures bounds_alone { fill (1 ∷ []) (flow [] (Some 7) ∷ flow [] (Some 9) ∷ flow (0 ∷ []) (Some 5) ∷ []) ≡ 7 ∷ 9 ∷ 1 ∷ [] }
-    ensures nothing { fill (3 ∷ []) (flow (0 ∷ []) None ∷ flow (0 ∷ []) None ∷ flow (0 ∷ []) None ∷ flow (0 ∷ []) (Some 2) ∷ []) ≡ 0 ∷ 0 ∷ 0 ∷ 0 ∷ [] }
+    ensures { AreWorked }
 {}

@@ -1,7 +1,7 @@
 //! The system of capacities and flows: which flow uses which resources, and the share that each gets.
 ghost use Rattle.std.specs.Prelude.{◌≡◌, ◌≤◌, ◌<◌, ◌+◌, [], length, Some, None, IsSome, IfSome, IfOk, OnOk, slice_index};
 ghost use Rattle.sg_maxmin.specs.Fair.{IsFair};
-ghost use Rattle.sg_maxmin.specs.Fill.{share_of};
+ghost use Rattle.sg_maxmin.specs.Fill.{flow, share_of};
 ghost use Rattle.sg_maxmin.specs.Sharing.{flow_at, held, AreShares, Changes, IsFlow, KeepsShares, use_count};
 
 use crate::filling::fill;
@@ -39,9 +39,9 @@ impl Model for System {
 
     ghost coded = { sharing_code };
 
-    ghost use Rattle.std.specs.Prelude.{◌-◌, ◌≡◌, ◌≤◌, length, map};
+    ghost use Rattle.std.specs.Prelude.{◌-◌, map};
     ghost use Rattle.slab.specs.Slab.{slab_len};
-    ghost use Rattle.sg_maxmin.specs.Uses.{flows_of, share_in, AreRows};
+    ghost use Rattle.sg_maxmin.specs.kept.Uses.{flows_of, share_in, IsKept};
 
     ghost view = { λ s. record {
       capacities = s.capacities.items;
@@ -51,7 +51,8 @@ impl Model for System {
       use_room = s.uses.capacity - slab_len s.uses;
     } };
 
-    ghost invariant = { λ s. AreRows s.capacities.items s.flows.slots s.uses.slots × (length s.left.items ≡ length s.capacities.items) × (length s.waiting.items ≡ length s.capacities.items) × (slab_len s.uses ≤ s.uses.capacity) };
+    ghost invariant = { λ s.
+        IsKept s.capacities.items s.flows s.uses s.left.items s.waiting.items };
 }
 
 impl System {
@@ -74,8 +75,10 @@ impl System {
     pub fn reserve(&mut self, flows: usize, uses: usize) -> Result<(), Memory>
         ensures flow_room { OnOk result (flows ≤ self.new.flow_room) }
         ensures use_room { OnOk result (uses ≤ self.new.use_room) }
-        ensures grows { (self.old.flow_room ≤ self.new.flow_room) × (self.old.use_room ≤ self.new.use_room) }
-        ensures kept { self.new ≡ record self.old { flow_room = self.new.flow_room; use_room = self.new.use_room } }
+        ensures grows { (self.old.flow_room ≤ self.new.flow_room)
+            × (self.old.use_room ≤ self.new.use_room) }
+        ensures kept { self.new ≡
+            record self.old { flow_room = self.new.flow_room; use_room = self.new.use_room } }
     {
         self.flows.reserve(flows)?;
         self.uses.reserve(uses)?;
@@ -87,11 +90,11 @@ impl System {
     ///
     /// Until the next `solve` the new flow has the share 0, and each other flow the one that it had.
     pub fn add(&mut self, uses: &[usize], bound: Option<u64>) -> FlowId
-        requires flow { IsFlow self.old.capacities (record { uses = uses.now; bound = bound }) }
+        requires flow { IsFlow self.old.capacities (flow uses.now bound) }
         requires flow_room { 0 < self.old.flow_room }
         requires use_room { length uses.now ≤ self.old.use_room }
         ensures free { flow_at self.old.slots result ≡ None }
-        ensures added { Changes self.old.slots self.new.slots result (Some (record { uses = uses.now; bound = bound })) }
+        ensures added { Changes self.old.slots self.new.slots result (Some (flow uses.now bound)) }
         ensures share { slice_index self.new.shares result ≡ 0 }
         ensures shares { KeepsShares self.old.shares self.new.shares result }
         ensures capacities { self.new.capacities ≡ self.old.capacities }
@@ -116,7 +119,8 @@ impl System {
         ensures shares { KeepsShares self.old.shares self.new.shares flow }
         ensures capacities { self.new.capacities ≡ self.old.capacities }
         ensures flow_room { self.new.flow_room ≡ self.old.flow_room + 1 }
-        ensures use_room { IfSome (flow_at self.old.slots flow) (λ old. self.new.use_room ≡ self.old.use_room + length old.uses) }
+        ensures use_room { IfSome (flow_at self.old.slots flow)
+            (λ old. self.new.use_room ≡ self.old.use_room + length old.uses) }
     {
         let row = self.flows.remove(flow);
         unchain(&mut self.uses, flow, row.count, row.first);
@@ -126,7 +130,8 @@ impl System {
     /// `steps` counts the looks at uses: each use is looked at once at least.
     pub fn solve<L: Ledger>(&mut self, steps: &mut Steps<L>)
         ensures shares { AreShares self.new }
-        ensures fair { IsFair self.new.capacities (held self.new.slots) (share_of self.new.capacities (held self.new.slots)) }
+        ensures fair { IsFair self.new.capacities (held self.new.slots)
+            (share_of self.new.capacities (held self.new.slots)) }
         ensures kept { self.new ≡ record self.old { shares = self.new.shares } }
         ensures looks { steps.old + use_count self.old ≤ steps.new }
     {

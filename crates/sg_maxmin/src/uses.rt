@@ -2,7 +2,7 @@
 //! counts.
 ghost use Rattle.std.specs.Prelude.{◌≡◌, ◌<◌, ◌+◌, length};
 ghost use Rattle.slab.specs.Slab.{HasRoomFor, slab_len};
-ghost use Rattle.sg_maxmin.specs.Uses.{Extends, GoesOn, IsChain, IsOneChain, KeepsOthers, resources};
+ghost use Rattle.sg_maxmin.specs.kept.Uses.{Extends, GoesOn, IsChain, IsOneChain, KeepsOthers, resources};
 
 use crate::system::FlowId;
 use sg_base::Steps;

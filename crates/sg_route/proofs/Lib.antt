@@ -4,3 +4,6 @@ pub mod WalkLemmas
 pub mod RouteLemmas
 pub mod FirstsLemmas
 pub mod EndsLemmas
+pub mod Each
+pub mod Latency
+pub mod Links

@@ -7,4 +7,5 @@ pub mod Index
 pub mod Roads
 pub mod Route
 pub mod Found
+pub mod Good
 pub mod Walked

@@ -3,6 +3,7 @@
 
 mod build;
 mod kept;
+mod laws;
 mod leg;
 mod locals;
 mod router;
@@ -10,4 +11,5 @@ mod spokes;
 #[cfg(test)]
 mod tests;
 
+pub use laws::routes_are_good;
 pub use router::{RouteFault, Router};

@@ -1,10 +1,9 @@
 -- A platform without zone faults has nested routes.
-use Rattle.std.proofs.Common.{◌≡◌, ◌≢◌, ◌+◌, ◌<◌, ◌≤◌, ℕ, zero, suc, Bool, true, false, cond, List, [], ◌∷◌, length, length-append, take, get_or, Option, None, Some, arith, refl, sym, ◌∙◌, ap, subst}
-use Rattle.std.specs.Prelude.{◌==◌, ◌&&◌, IfSome, map, not, slice_get, option_and_then}
+use Rattle.std.proofs.Common.{◌≡◌, ◌≢◌, ◌+◌, ◌<◌, ◌≤◌, ℕ, suc, Bool, true, false, cond, List, [], ◌∷◌, length, length-append, take, get_or, Option, None, Some, arith, refl, sym, ◌∙◌, ap, subst}
+use Rattle.std.specs.Prelude.{◌==◌, ◌&&◌, map, not}
 use Rattle.std.specs.Option.{option_or}
 use Rattle.std.proofs.lemmas.Bool.Decides.{nat_tests}
 use Rattle.std.proofs.lemmas.List.{length-map}
-use Rattle.std.proofs.lemmas.Option.{get_or_from_slice_get, slice_get_within}
 use Rattle.sg_base.specs.declared.ids.Child.{Child}
 use Rattle.sg_base.specs.declared.ids.Child.TheVariants.{Point, Zone}
 use Rattle.sg_base.specs.declared.ids.PointId.{PointId}
@@ -24,10 +23,13 @@ use Rattle.sg_route.specs.Route.{Passage, by_declared, by_spokes, leg, passage}
 use Rattle.sg_route.specs.declared.locals.Local.{Local}
 use Rattle.sg_route.specs.declared.locals.Pair.{Pair}
 use Rattle.sg_route_laws.specs.Laws.{IsPoint}
-use Rattle.sg_route_laws.proofs.Each.{Each, each_from, each_all, each_append, each_flat, each_map, each_found}
+use Rattle.sg_route.proofs.Each.{each_from, each_flat, each_found}
 use Rattle.sg_route_laws.proofs.Nested.{IsNested, depth_of_both, home, passage_between, path_to, routing, shared}
-use Rattle.sg_route_laws.proofs.Parting.{from_parts, to_parts, from_point, to_point, shared_front}
-use Rattle.sg_zones.proofs.GoodTree.{both_none, not_told, each_told, HasDepth, depth_here, HasParents, exists_on, any_at, first_root, root_once, path_at}
+use Rattle.sg_route_laws.proofs.Parting.{from_parts, to_parts, from_point, to_point, got, shared_front}
+use Rattle.sg_zones.proofs.Cycles.{parents_exist}
+use Rattle.sg_zones.proofs.Each.{Each, each_append}
+use Rattle.sg_zones.proofs.GoodTree.{both_none, not_told, each_told, HasDepth, depth_here, exists_on, any_at, first_root, root_once, path_at}
+use Rattle.sg_zones.proofs.Ups as ups
 use Rattle.sg_zones.proofs.TreeLemmas.{path_deep, path_length, path_front, depth_once}
 use Rattle.sg_zones.specs.Faults.{child_holds, first_along, gateways_at, gateway_at, route_at, zone_route_at, spoke_at, tree_fault, row_fault, zone_fault}
 use Rattle.sg_zones.specs.Paths.{parent, path}
@@ -178,29 +180,8 @@ passage_good p good Star from to way is = star_good p from to way (local.spoke_a
 
 -- ---- paths
 
-pub parents_from : (p : Platform) → IsPlatform p → HasParents p.zones
-parents_from p kept zone above is = go (slice_get p.zones zone.0) refl is
-  where
-    go : (o : Option ZoneRow) → slice_get p.zones zone.0 ≡ o → option_and_then (λ row. row.parent) o ≡ Some above → above.0 < length p.zones
-    go None e h = absurd (cc)
-    go (Some row) e h =
-        let same : get_or p.zones zone.0 row ≡ row = get_or_from_slice_get p.zones zone.0 row row e in
-        let P : Option ZoneId → Type 0 = λ o. IfSome o (λ q. q.0 < length p.zones) in
-        subst P (ap (λ r. r.parent) same ∙ h) (kept.zones zone.0 row (slice_get_within p.zones zone.0 row e)).parent
-
-abbrev InZones : Platform → ZoneId → Type 0
-InZones p zone = zone.0 < length p.zones
-
-homes_exist : (p : Platform) → IsPlatform p → Each (InZones p) (roads_of p).tree.homes
-homes_exist p kept =
-    let hosts : Each (λ row. InZones p row.zone) p.hosts = each_from (λ row. InZones p row.zone) p.hosts (λ k d few. (kept.hosts k d few).zone) in
-    let routers : Each (λ row. InZones p row.zone) p.routers = each_from (λ row. InZones p row.zone) p.routers (λ k d few. (kept.routers k d few).zone) in
-    each_append (InZones p) (map (λ row. row.zone) p.hosts) (map (λ row. row.zone) p.routers)
-    (each_map (InZones p) (λ row. InZones p row.zone) (λ row. row.zone) p.hosts (λ r h. h) hosts)
-    (each_map (InZones p) (λ row. InZones p row.zone) (λ row. row.zone) p.routers (λ r h. h) routers)
-
 pub home_exists : (p : Platform) → IsGood p → (a : PointId) → IsPoint (roads_of p) a → (home (roads_of p) a).0 < length p.zones
-home_exists p good a there = each_all (InZones p) (roads_of p).tree.homes (homes_exist p good.kept) a.0 (record { 0 = 0 }) there
+home_exists p good a there = ups.home_exists p good.kept a there
 
 -- the path of a point, through as many levels as it is deep
 pub path_of : (p : Platform) → IsGood p → (a : PointId) → IsPoint (roads_of p) a → (d : HasDepth p.zones (home (roads_of p) a)) → path_to (roads_of p) a ≡ path (suc d.depth) p.zones (home (roads_of p) a)
@@ -232,11 +213,6 @@ shared_after zones za zb x da db xs ys k j e f inside at within here =
     let same : suc k ≡ suc j = depth_once (suc k) (suc j) zones x fa.depth fb.depth in
     let c = common_front zones za zb x da db xs ys k j e f inside at within here in
     omega arith
-
-pub got : (xs : List ZoneId) (k : ℕ) (d e : ZoneId) → k < length xs → get_or xs k d ≡ get_or xs k e
-got [] k d e few = absurd (omega arith)
-got (x ∷ xs) zero d e few = refl
-got (x ∷ xs) (suc k) d e few = got xs k d e (omega arith)
 
 pub shared_short : (xs ys : List ZoneId) → shared xs ys ≤ length xs
 shared_short [] ys = omega arith
@@ -316,7 +292,7 @@ top_of p good a there =
     record {
       root = x;
       first = at;
-      exists = exists_on (suc d.depth) 0 p.zones za x (parents_from p good.kept) (home_exists p good a there) d.is (omega arith) on;
+      exists = exists_on (suc d.depth) 0 p.zones za x (parents_exist p good.kept) (home_exists p good a there) d.is (omega arith) on;
       alone = first_root p.zones x f.depth;
     }
 

@@ -1,12 +1,10 @@
-pub mod Each
 pub mod Nested
 pub mod Parting
 pub mod Levels
 pub mod Good
 pub mod Lowest
-pub mod Latency
-pub mod Links
 pub mod StarWays
 pub mod StarGateways
+pub mod FullWays
 pub mod Backs
 pub mod Complete

@@ -1,22 +1,29 @@
--- The paths part at the lowest zone that holds both points.
-use Rattle.std.proofs.Common.{◌≡◌, ◌<◌, ◌≤◌, ℕ, zero, suc, Bool, true, false, cond, List, [], ◌∷◌, length, get_or, arith, refl, sym, ◌∙◌, ap}
-use Rattle.std.specs.Prelude.{◌==◌, ◌||◌}
+-- The paths part at the lowest zone that holds both points, and go on at its children.
+use Rattle.std.proofs.Common.{◌≡◌, ◌<◌, ◌≤◌, ℕ, zero, suc, Bool, true, false, cond, List, [], ◌∷◌, ◌++◌, length, map, take, get_or, Option, None, Some, arith, refl, sym, ◌∙◌, ap}
+use Rattle.std.specs.Prelude.{◌==◌, ◌||◌, option_and_then, slice_get}
+use Rattle.std.specs.Option.{option_map_or}
+use Rattle.std.proofs.lemmas.List.{get_or-take}
 use Rattle.std.specs.List.{list_any}
 use Rattle.std.proofs.lemmas.Bool.Decides.{nat_tests}
 use Rattle.sg_base.specs.declared.ids.ZoneId.{ZoneId}
 use Rattle.sg_base.specs.declared.ids.PointId.{PointId}
-use Rattle.sg_base.specs.declared.ids.Child.TheVariants.{Zone}
+use Rattle.sg_base.specs.declared.ids.Child.{Child}
+use Rattle.sg_base.specs.declared.ids.Child.TheVariants.{Point, Zone}
 use Rattle.sg_platform.specs.Platform.{Platform}
-use Rattle.sg_zones.specs.Paths.{path}
-use Rattle.sg_zones.specs.Tree.{tree_of, depth}
-use Rattle.sg_zones.proofs.TreeLemmas.{path_deep, path_length, path_front}
+use Rattle.sg_platform.specs.declared.rows.ZoneRow.{ZoneRow}
+use Rattle.sg_zones.specs.Faults.{child_holds, zone_above}
+use Rattle.sg_zones.specs.Paths.{parent, path}
+use Rattle.sg_zones.specs.Tree.{Tree, tree_of, depth}
+use Rattle.sg_zones.proofs.Cycles.{parents_exist}
+use Rattle.sg_zones.proofs.TreeLemmas.{AboveIs, IsDepth, inner_of, path_deep, path_front, path_last, path_length}
 use Rattle.sg_zones.proofs.GoodTree.{depth_here, exists_on, any_at, path_at}
 use Rattle.sg_route.specs.Roads.{roads_of}
 use Rattle.sg_route.specs.Leg.{parting}
 use Rattle.sg_route.specs.Route.{leg}
-use Rattle.sg_route_laws.specs.Laws.{IsPoint, LegsAreLowest}
+use Rattle.sg_route_laws.specs.Laws.{IsChildOver, IsPoint, LegsAreLowest}
 use Rattle.sg_route_laws.proofs.Nested.{depth_of_both, home, path_to, shared}
-use Rattle.sg_route_laws.proofs.Good.{IsGood, common_front, got, home_exists, path_of, root_shared, parents_from, shared_short}
+use Rattle.sg_route_laws.proofs.Parting.{from_parts, from_point, got, to_parts, to_point, zone_from, zone_to}
+use Rattle.sg_route_laws.proofs.Good.{IsGood, common_front, home_exists, path_of, root_shared, shared_short}
 
 parted_zone : (last : ZoneId) (a b : PointId) (xs ys : List ZoneId) → (parting last a b xs ys).zone ≡ get_or (last ∷ xs) (shared xs ys) last
 parted_zone last a b [] ys = refl
@@ -75,8 +82,93 @@ depth_at p good a there z k inside at =
     let on : get_or (path (suc d.depth) p.zones za) k z ≡ z = ap (λ q. get_or q k z) (sym e) ∙ at in
     let s = d.shallow in
     let f = path_front (suc d.depth) k p.zones za z d.is (omega arith) on in
-    let x = exists_on (suc d.depth) k p.zones za z (parents_from p good.kept) (home_exists p good a there) d.is (omega arith) on in
+    let x = exists_on (suc d.depth) k p.zones za z (parents_exist p good.kept) (home_exists p good a there) d.is (omega arith) on in
     ap length (path_at p.zones z x ∙ path_deep (suc k) 16 p.zones z f.depth (omega arith)) ∙ path_length (suc k) p.zones z f.depth
+
+-- ---- the children
+
+pub parents_same : (zones : List ZoneRow) (i : ℕ) → get_or (map (λ row. row.parent) zones) i None ≡ option_and_then (λ row. row.parent) (slice_get zones i)
+parents_same [] i = refl
+parents_same (z ∷ zones) zero = refl
+parents_same (z ∷ zones) (suc i) = parents_same zones i
+
+-- on a path the zone above is the one before
+above_on : (zones : List ZoneRow) (x z : ZoneId) (k : ℕ) (whole : List ZoneId) → IsDepth (suc (suc k)) zones x → path (suc (suc k)) zones x ≡ take (suc (suc k)) whole
+    → get_or whole k z ≡ z → parent zones x ≡ Some z
+unfolding path
+above_on zones x z k whole deep front at = go (parent zones x) deep front (λ above h. path_length (suc k) zones above h) (λ above h. path_last k zones above z h)
+  where
+    go : (o : Option ZoneId) → AboveIs (IsDepth (suc k) zones) (suc k) o → option_map_or (path (suc k) zones) o [] ++ x ∷ [] ≡ take (suc (suc k)) whole
+        → ((above : ZoneId) → IsDepth (suc k) zones above → length (path (suc k) zones above) ≡ suc k)
+        → ((above : ZoneId) → IsDepth (suc k) zones above → get_or (path (suc k) zones above) k z ≡ above) → o ≡ Some z
+    go None h e len last = absurd (omega (arith, h))
+    go (Some above) h e len last =
+        let n = len above h in
+        let same : above ≡ z =
+        sym (last above h) ∙ sym (inner_of (path (suc k) zones above) x z k (omega arith)) ∙ ap (λ q. get_or q k z) e ∙ get_or-take (suc (suc k)) whole k z (omega arith) ∙ at in
+        ap (λ q. Some q) same
+
+-- the zone behind another on a point's path is its child
+child_above : (p : Platform) → IsGood p → (c : PointId) → IsPoint (roads_of p) c → (x z : ZoneId) (k : ℕ) → suc k < length (path_to (roads_of p) c)
+    → get_or (path_to (roads_of p) c) (suc k) x ≡ x → get_or (path_to (roads_of p) c) k z ≡ z → zone_above (tree_of p) (Zone x) ≡ Some z
+child_above p good c there x z k inside at before =
+    let zc : ZoneId = home (roads_of p) c in
+    let d = depth_here p.zones zc good.tree (home_exists p good c there) in
+    let e = path_of p good c there d in
+    let n : length (path_to (roads_of p) c) ≡ suc d.depth = ap length e ∙ path_length (suc d.depth) p.zones zc d.is in
+    let on : get_or (path (suc d.depth) p.zones zc) (suc k) x ≡ x = ap (λ q. get_or q (suc k) x) (sym e) ∙ at in
+    let f = path_front (suc d.depth) (suc k) p.zones zc x d.is (omega arith) on in
+    parents_same p.zones x.0 ∙ above_on p.zones x z k (path (suc d.depth) p.zones zc) f.depth f.front (ap (λ q. get_or q k z) (sym e) ∙ before)
+
+point_itself : (t : Tree) (q point : PointId) → point ≡ q → child_holds t (Point q) point ≡ true
+point_itself t q point same = let n : q.0 ≡ point.0 = ap (λ x. x.0) (sym same) in grind (arith, nat_tests)
+
+-- the last zone on the path of a point is its own
+last_is_home : (p : Platform) → IsGood p → (c : PointId) → IsPoint (roads_of p) c → (last : ZoneId) → get_or (last ∷ path_to (roads_of p) c) (length (path_to (roads_of p) c)) last ≡ home (roads_of p) c
+last_is_home p good c there last =
+    let zc : ZoneId = home (roads_of p) c in
+    let d = depth_here p.zones zc good.tree (home_exists p good c there) in
+    let e = path_of p good c there d in
+    let n : length (path_to (roads_of p) c) ≡ suc d.depth = ap length e ∙ path_length (suc d.depth) p.zones zc d.is in
+    ap (λ i. get_or (last ∷ path_to (roads_of p) c) i last) n ∙ ap (λ q. get_or q d.depth last) e ∙ path_last d.depth p.zones zc last d.is
+
+from_child : (p : Platform) → IsGood p → (a b : PointId) → IsPoint (roads_of p) a → (k : ℕ) → depth_of_both (roads_of p) a b ≡ suc k
+    → get_or (path_to (roads_of p) a) k (leg (roads_of p) a b).zone ≡ (leg (roads_of p) a b).zone → (c : Child) → (leg (roads_of p) a b).from ≡ c
+    → IsChildOver (tree_of p) (leg (roads_of p) a b).zone a c
+from_child p good a b there k common at (Point q) is =
+    let m = roads_of p in
+    let same : a ≡ q = from_point (home m a) a b (path_to m a) (path_to m b) q is in
+    let own : (leg m a b).zone ≡ home m a = zone_from (home m a) a b (path_to m a) (path_to m b) q is ∙ last_is_home p good a there (home m a) in
+    record { above = ap (λ z. Some z) (ap (home m) (sym same) ∙ sym own); held = point_itself (tree_of p) q a same }
+from_child p good a b there k common at (Zone x) is =
+    let m = roads_of p in
+    let parts = from_parts (home m a) a b (path_to m a) (path_to m b) x is in
+    let inside = parts.inside in
+    let here : get_or (path_to m a) (suc k) x ≡ x = ap (λ i. get_or (path_to m a) i x) (sym common) ∙ parts.at in
+    record {
+      above = child_above p good a there x (leg m a b).zone k (omega arith) here at;
+      held = among_at (path_to m a) (suc k) x (omega arith) here;
+    }
+
+to_child : (p : Platform) → IsGood p → (a b : PointId) → IsPoint (roads_of p) b → (k : ℕ) → depth_of_both (roads_of p) a b ≡ suc k
+    → get_or (path_to (roads_of p) b) k (leg (roads_of p) a b).zone ≡ (leg (roads_of p) a b).zone → (c : Child) → (leg (roads_of p) a b).to ≡ c
+    → IsChildOver (tree_of p) (leg (roads_of p) a b).zone b c
+to_child p good a b there k common at (Point q) is =
+    let m = roads_of p in
+    let same : b ≡ q = to_point (home m a) a b (path_to m a) (path_to m b) q is in
+    let own : (leg m a b).zone ≡ home m b = zone_to (home m a) a b (path_to m a) (path_to m b) q is ∙ last_is_home p good b there (home m a) in
+    record { above = ap (λ z. Some z) (ap (home m) (sym same) ∙ sym own); held = point_itself (tree_of p) q b same }
+to_child p good a b there k common at (Zone x) is =
+    let m = roads_of p in
+    let parts = to_parts (home m a) a b (path_to m a) (path_to m b) x is in
+    let inside = parts.inside in
+    let here : get_or (path_to m b) (suc k) x ≡ x = ap (λ i. get_or (path_to m b) i x) (sym common) ∙ parts.at in
+    record {
+      above = child_above p good b there x (leg m a b).zone k (omega arith) here at;
+      held = among_at (path_to m b) (suc k) x (omega arith) here;
+    }
+
+-- ---- the law
 
 prev : (n : ℕ) → 1 ≤ n → (k : ℕ) × (n ≡ suc k)
 prev zero h = absurd (omega arith)
@@ -109,4 +201,6 @@ legs_are_lowest p good a b there here =
           let dz = depth_at p good a there z r.0 (omega arith) at in
           let deep = depth_at p good a there other i.0 i.1 i.2 in
           omega arith;
+      from = from_child p good a b there r.0 n at (leg m a b).from refl;
+      to = to_child p good a b here r.0 n on (leg m a b).to refl;
     }

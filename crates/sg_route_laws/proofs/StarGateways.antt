@@ -1,9 +1,9 @@
 -- The route between the gateways of two children of one Star zone.
-use Rattle.std.proofs.Common.{◌≡◌, ◌≢◌, ℕ, zero, suc, Bool, true, false, cond, List, [], ◌∷◌, ◌++◌, length, take, drop, get_or, append_assoc, Option, None, Some, arith, refl, sym, ◌∙◌, ap, subst}
+use Rattle.std.proofs.Common.{◌≡◌, ◌≢◌, ℕ, zero, suc, Bool, true, false, cond, List, [], ◌∷◌, ◌++◌, length, take, drop, get_or, append_assoc, Option, Some, arith, refl, sym, ◌∙◌, ap, subst}
 use Rattle.std.proofs.lemmas.Bool.Decides.{nat_tests}
 use Rattle.std.proofs.lemmas.List.{append_cancel_left, append-nil, take-append-drop}
 use Rattle.std.specs.Option.{option_map_or}
-use Rattle.std.specs.Prelude.{◌==◌, map, option_and_then, slice_get}
+use Rattle.std.specs.Prelude.{◌==◌}
 use Rattle.sg_base.specs.declared.ids.Child.{Child}
 use Rattle.sg_base.specs.declared.ids.Child.TheVariants.{Point, Zone}
 use Rattle.sg_base.specs.declared.ids.PointId.{PointId}
@@ -17,10 +17,12 @@ use Rattle.sg_route.specs.Roads.{Roads, roads_of}
 use Rattle.sg_route.specs.Route.{Passage, by_passage, by_spokes, leg, passage, passage_on, way, whole}
 use Rattle.sg_route.specs.declared.leg.Leg.{Leg}
 use Rattle.sg_route_laws.specs.Laws.{StarJoinsGateways}
-use Rattle.sg_route_laws.proofs.Each.{each_found}
-use Rattle.sg_route_laws.proofs.Good.{GoodSpoke, IsGood, Stands, got, home_exists, path_of}
+use Rattle.sg_route.proofs.Each.{each_found}
+use Rattle.sg_route_laws.proofs.Good.{GoodSpoke, IsGood, Stands, home_exists, path_of}
 use Rattle.sg_route_laws.proofs.Levels.{whole_apart}
+use Rattle.sg_route_laws.proofs.Lowest.{parents_same}
 use Rattle.sg_route_laws.proofs.Nested.{home, path_to}
+use Rattle.sg_route_laws.proofs.Parting.{got}
 use Rattle.sg_route_laws.proofs.StarWays.{direct, one_step}
 use Rattle.sg_zones.proofs.GoodTree.{any_at, depth_here}
 use Rattle.sg_zones.proofs.TreeLemmas.{AboveIs, IsDepth, depth_once, path_front, path_last, path_length}
@@ -51,12 +53,12 @@ parted_now last a b (x ∷ xs) (y ∷ ys) far = go (x.0 == y.0) far
 -- ---- the path of a gateway goes through the zone to the child
 
 -- behind the path of the zone the path goes on at this child
-record GoesOn (zones : List ZoneRow) (zone : ZoneId) (child : Child) (point : PointId) (whole : List ZoneId) : Type 0 where
-  depth : ℕ
-  is : IsDepth (suc depth) zones zone
-  rest : List ZoneId
-  same : whole ≡ path (suc depth) zones zone ++ rest
-  on : next point rest ≡ child
+pub record GoesOn (zones : List ZoneRow) (zone : ZoneId) (child : Child) (point : PointId) (whole : List ZoneId) : Type 0 where
+  pub depth : ℕ
+  pub is : IsDepth (suc depth) zones zone
+  pub rest : List ZoneId
+  pub same : whole ≡ path (suc depth) zones zone ++ rest
+  pub on : next point rest ≡ child
 
 above_depth : (zones : List ZoneRow) (x zone : ZoneId) (k : ℕ) → parent zones x ≡ Some zone → IsDepth (suc k) zones x → IsDepth k zones zone
 above_depth zones x zone k up is =
@@ -80,12 +82,7 @@ through_zone zones x zone point d (suc k) whole up is front =
       on = refl;
     }
 
-parents_same : (zones : List ZoneRow) (i : ℕ) → get_or (map (λ row. row.parent) zones) i None ≡ option_and_then (λ row. row.parent) (slice_get zones i)
-parents_same [] i = refl
-parents_same (z ∷ zones) zero = refl
-parents_same (z ∷ zones) (suc i) = parents_same zones i
-
-goes_on : (p : Platform) → IsGood p → (child : Child) (gateway : PointId) (zone : ZoneId) → Stands p child gateway → zone_above (tree_of p) child ≡ Some zone
+pub goes_on : (p : Platform) → IsGood p → (child : Child) (gateway : PointId) (zone : ZoneId) → Stands p child gateway → zone_above (tree_of p) child ≡ Some zone
     → GoesOn p.zones zone child gateway (path_to (roads_of p) gateway)
 goes_on p good (Point q) gateway zone stands above =
     let held : (q.0 == gateway.0) ≡ true = stands.held in
@@ -120,7 +117,7 @@ child_itself (Point q) = grind (arith, nat_tests)
 child_itself (Zone x) = grind (arith, nat_tests)
 
 -- gateways of different children are different
-gateways_apart : (zones : List ZoneRow) (zone : ZoneId) (c d : Child) (g k : PointId) (path_of : PointId → List ZoneId) → GoesOn zones zone c g (path_of g) → GoesOn zones zone d k (path_of k)
+pub gateways_apart : (zones : List ZoneRow) (zone : ZoneId) (c d : Child) (g k : PointId) (path_of : PointId → List ZoneId) → GoesOn zones zone c g (path_of g) → GoesOn zones zone d k (path_of k)
     → child_eq c d ≡ false → g.0 ≢ k.0
 gateways_apart zones zone c d g k path_of r s far e =
     let make : ℕ → PointId = λ n. record { 0 = n } in
@@ -133,7 +130,7 @@ gateways_apart zones zone c d g k path_of r s far e =
     let t : child_eq c d ≡ true = ap (child_eq c) (sym one) ∙ child_itself c in
     cc
 
-leg_between : (p : Platform) (zone : ZoneId) (c d : Child) (g k : PointId) → GoesOn p.zones zone c g (path_to (roads_of p) g) → GoesOn p.zones zone d k (path_to (roads_of p) k)
+pub leg_between : (p : Platform) (zone : ZoneId) (c d : Child) (g k : PointId) → GoesOn p.zones zone c g (path_to (roads_of p) g) → GoesOn p.zones zone d k (path_to (roads_of p) k)
     → child_eq c d ≡ false → leg (roads_of p) g k ≡ record { zone = zone; from = c; to = d }
 leg_between p zone c d g k r s far =
     let own : ZoneId = home (roads_of p) g in

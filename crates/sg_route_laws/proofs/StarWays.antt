@@ -16,10 +16,11 @@ use Rattle.sg_route.specs.Roads.{Roads, roads_of}
 use Rattle.sg_route.specs.Route.{Passage, Way, by_passage, by_spokes, joined, leg, passage, passage_on, unless_there, way}
 use Rattle.sg_route.specs.declared.leg.Leg.{Leg}
 use Rattle.sg_route_laws.specs.Laws.{IsPoint, StarGoesUpAndDown}
-use Rattle.sg_route_laws.proofs.Each.{each_found}
-use Rattle.sg_route_laws.proofs.Good.{GoodSpoke, IsGood, child_eq_true, got, home_exists, path_of}
+use Rattle.sg_route.proofs.Each.{each_found}
+use Rattle.sg_route_laws.proofs.Good.{GoodSpoke, IsGood, child_eq_true, home_exists, path_of}
 use Rattle.sg_route_laws.proofs.Levels.{whole_apart}
 use Rattle.sg_route_laws.proofs.Nested.{home, path_to}
+use Rattle.sg_route_laws.proofs.Parting.{got}
 use Rattle.sg_zones.proofs.GoodTree.{depth_here}
 use Rattle.sg_zones.proofs.TreeLemmas.{path_last, path_length}
 use Rattle.sg_zones.specs.Faults.{child_holds}
@@ -41,7 +42,7 @@ parted_same last a b (x ∷ xs) = go (x.0 == x.0) (same_nat x.0) (parted_same x 
         h ∙ ap make (got (x ∷ xs) (length xs) x last (omega arith))
     go false e h = absurd (cc)
 
-leg_same : (p : Platform) → IsGood p → (a b : PointId) → IsPoint (roads_of p) a → home (roads_of p) a ≡ home (roads_of p) b
+pub leg_same : (p : Platform) → IsGood p → (a b : PointId) → IsPoint (roads_of p) a → home (roads_of p) a ≡ home (roads_of p) b
     → leg (roads_of p) a b ≡ record { zone = home (roads_of p) a; from = Point a; to = Point b }
 leg_same p good a b there same =
     let m : Roads = roads_of p in

@@ -1,19 +1,21 @@
 -- Laws of routes.
 use Rattle.std.specs.Prelude.{◌≡◌, ◌≢◌, ◌<◌, ◌≤◌, ◌++◌, true, false, None, Some, Ok, Err, List, length, All}
+use Rattle.sg_base.specs.declared.ids.Child.{Child}
 use Rattle.sg_base.specs.declared.ids.Child.TheVariants.{Point}
 use Rattle.sg_base.specs.declared.ids.LinkId.{LinkId}
 use Rattle.sg_base.specs.declared.ids.PointId.{PointId}
 use Rattle.sg_base.specs.declared.ids.ZoneId.{ZoneId}
 use Rattle.sg_platform.specs.Ends.{link_ends, way_back}
 use Rattle.sg_platform.specs.Platform.{Platform}
-use Rattle.sg_platform.specs.declared.rows.Routing.TheVariants.{Star}
+use Rattle.sg_platform.specs.declared.rows.Routing.TheVariants.{Full, Star}
 use Rattle.sg_platform.specs.declared.rows.SpokeRow.{SpokeRow}
 use Rattle.sg_route.specs.declared.leg.Leg.{Leg}
+use Rattle.sg_route.specs.declared.locals.Local.{Local}
 use Rattle.sg_route.specs.Equal.{child_eq}
-use Rattle.sg_route.specs.Local.{spoke_at}
+use Rattle.sg_route.specs.Local.{declared_route, spoke_at}
 use Rattle.sg_route.specs.Roads.{Roads, roads_of}
-use Rattle.sg_route.specs.Route.{Route, leg, passage_on, route_of, through_lowest, whole}
-use Rattle.sg_zones.specs.Faults.{zone_above}
+use Rattle.sg_route.specs.Route.{leg, passage_on, through_lowest, whole}
+use Rattle.sg_zones.specs.Faults.{child_holds, zone_above}
 use Rattle.sg_zones.specs.Tree.{Tree, depth, holds, home, routing_in, tree_of}
 
 -- a host or a router of the platform
@@ -24,24 +26,21 @@ IsPoint m point = point.0 < length m.tree.homes
 abbrev pub FollowsLowestZone : Roads → Type 0
 FollowsLowestZone m = (a b : PointId) → IsPoint m a → IsPoint m b → a.0 ≢ b.0 → whole m a b ≡ through_lowest (whole m) m a b
 
--- the zone holds both points, and no deeper one does
-pub record IsLowest (t : Tree) (a b : PointId) (zone : ZoneId) : Type 0 where
-  pub holds_a : holds t zone a ≡ true
-  pub holds_b : holds t zone b ≡ true
-  pub lowest : (other : ZoneId) → holds t other a ≡ true → holds t other b ≡ true → depth t other ≤ depth t zone
+-- the child of the zone that holds the point
+pub record IsChildOver (t : Tree) (zone : ZoneId) (point : PointId) (child : Child) : Type 0 where
+  pub above : zone_above t child ≡ Some zone
+  pub held : child_holds t child point ≡ true
+
+-- the zone holds both points, no deeper one does, and its children hold one each
+pub record IsLowest (t : Tree) (a b : PointId) (l : Leg) : Type 0 where
+  pub holds_a : holds t l.zone a ≡ true
+  pub holds_b : holds t l.zone b ≡ true
+  pub lowest : (other : ZoneId) → holds t other a ≡ true → holds t other b ≡ true → depth t other ≤ depth t l.zone
+  pub from : IsChildOver t l.zone a l.from
+  pub to : IsChildOver t l.zone b l.to
 
 abbrev pub LegsAreLowest : Platform → Type 0
-LegsAreLowest p = (a b : PointId) → IsPoint (roads_of p) a → IsPoint (roads_of p) b → IsLowest (tree_of p) a b (leg (roads_of p) a b).zone
-
--- a route has 1 to 64 links, all of them exist, and its latency is at most 64 times that of a link
-pub record IsGoodRoute (p : Platform) (r : Route) : Type 0 where
-  pub some : 1 ≤ length r.links
-  pub few : length r.links ≤ 64
-  pub exist : All (λ link. link.0 < length (link_ends p.links)) r.links
-  pub latency : r.latency ≤ 64000000000000000
-
-abbrev pub RoutesAreGood : Platform → Type 0
-RoutesAreGood p = (a b : PointId) (r : Route) → route_of (roads_of p) a b ≡ Ok r → IsGoodRoute p r
+LegsAreLowest p = (a b : PointId) → IsPoint (roads_of p) a → IsPoint (roads_of p) b → IsLowest (tree_of p) a b (leg (roads_of p) a b)
 
 -- the links between two points that stand in one Star zone and have these spokes
 abbrev pub StarGoesUpAndDown : Platform → Type 0
@@ -55,6 +54,20 @@ abbrev pub StarJoinsGateways : Platform → Type 0
 StarJoinsGateways p = (from to : SpokeRow) (zone : ZoneId) → spoke_at p.spokes from.child ≡ Some from → spoke_at p.spokes to.child ≡ Some to
     → child_eq from.child to.child ≡ false → zone_above (tree_of p) from.child ≡ Some zone → zone_above (tree_of p) to.child ≡ Some zone
     → routing_in (tree_of p) zone ≡ Star → whole (roads_of p) from.gateway to.gateway ≡ Ok (from.up ++ to.down)
+
+-- the links between two points that stand in one Full zone, where it declares a local route
+abbrev pub FullGoesAsDeclared : Platform → Type 0
+FullGoesAsDeclared p = (a b : PointId) (l : Local) → IsPoint (roads_of p) a → IsPoint (roads_of p) b → a.0 ≢ b.0
+    → home (tree_of p) a ≡ home (tree_of p) b → routing_in (tree_of p) (home (tree_of p) a) ≡ Full
+    → declared_route (roads_of p).locals (record { from = Point a; to = Point b }) ≡ Some l
+    → whole (roads_of p) a b ≡ Ok l.links
+
+-- the links between the gateways of two children of one Full zone, where it declares a local route
+abbrev pub FullJoinsGateways : Platform → Type 0
+FullJoinsGateways p = (from to : Child) (l : Local) (zone : ZoneId)
+    → declared_route (roads_of p).locals (record { from = from; to = to }) ≡ Some l → child_eq from to ≡ false
+    → zone_above (tree_of p) from ≡ Some zone → zone_above (tree_of p) to ≡ Some zone
+    → routing_in (tree_of p) zone ≡ Full → whole (roads_of p) l.start l.end ≡ Ok l.links
 
 abbrev pub WayBackReturns : Platform → Type 0
 WayBackReturns p = (links : List LinkId) → All (λ link. link.0 < length (link_ends p.links)) links

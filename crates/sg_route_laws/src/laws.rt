@@ -1,7 +1,7 @@
 //! What holds of routes on a platform, and where said, on one without zone faults.
 ghost use Rattle.std.specs.Prelude.{◌≡◌, None};
 ghost use Rattle.sg_route.specs.Roads.{roads_of};
-ghost use Rattle.sg_route_laws.specs.Laws.{FollowsLowestZone, HasRoutes, LegsAreLowest, RoutesAreGood, StarGoesUpAndDown, StarJoinsGateways, WayBackReturns};
+ghost use Rattle.sg_route_laws.specs.Laws.{FollowsLowestZone, FullGoesAsDeclared, FullJoinsGateways, HasRoutes, LegsAreLowest, StarGoesUpAndDown, StarJoinsGateways, WayBackReturns};
 ghost use Rattle.sg_zones.specs.Faults.{zone_fault};
 
 use sg_platform::PlatformText;
@@ -15,17 +15,11 @@ pub fn follows_lowest_zone(platform: &PlatformText)
     let _zones = platform.zones();
 }
 
-/// Where the paths of two points part is the lowest zone that holds both.
+/// Where the paths of two points part is the lowest zone that holds both, and the next steps down are its children, of
+/// which each holds one of the points.
 pub fn legs_are_lowest(platform: &PlatformText)
     requires { zone_fault platform.now ≡ None }
     ensures { LegsAreLowest platform.now }
-{
-    let _zones = platform.zones();
-}
-
-/// A route has 1 to 64 links, all of them exist, and its latency is at most 64 times the greatest of a link.
-pub fn routes_are_good(platform: &PlatformText)
-    ensures { RoutesAreGood platform.now }
 {
     let _zones = platform.zones();
 }
@@ -42,6 +36,23 @@ pub fn star_goes_up_and_down(platform: &PlatformText)
 pub fn star_joins_gateways(platform: &PlatformText)
     requires { zone_fault platform.now ≡ None }
     ensures { StarJoinsGateways platform.now }
+{
+    let _zones = platform.zones();
+}
+
+/// Between two points of one Full zone a route is the one that the zone declares.
+pub fn full_goes_as_declared(platform: &PlatformText)
+    requires { zone_fault platform.now ≡ None }
+    ensures { FullGoesAsDeclared platform.now }
+{
+    let _zones = platform.zones();
+}
+
+/// Between the gateways of a local route of two children of one Full zone, points or zones, a route is that local route
+/// as well.
+pub fn full_joins_gateways(platform: &PlatformText)
+    requires { zone_fault platform.now ≡ None }
+    ensures { FullJoinsGateways platform.now }
 {
     let _zones = platform.zones();
 }

@@ -62,7 +62,7 @@ ask_is known taken asks actor (Err Read) v w old new stands is = asked_is known 
 ask_is known taken asks actor (Err Memory) v w old new stands is = cut_is known taken asks v w old new stands is
 
 breaks : (piece : List ℕ) (v w : PartView) → Reads piece v w → Breaking v w
-breaks piece v w r = record { broke = r.broke; sound = r.sound; begun = r.begun }
+breaks piece v w r = record { name = r.name; broke = r.broke; sound = r.sound; begun = r.begun }
 
 pub breaking : (known : Known) (actor : ℕ) (answer : Result (Option Action) ScriptFault) (v w : PartView) (old new : Kept) → Ends known actor answer v w old new → Breaking v w × (length new.queues ≡ length old.queues)
 breaking known actor (Ok found) v w old new is = (breaks is.piece v w is.reads, is.queues)

@@ -30,6 +30,7 @@ not_both s a b = cc
 
 pub reads_then : (p q : List ℕ) (u v w : PartView) → Reads p u v → Reads q v w → Reads (p ++ q) u w
 reads_then p q u v w first second = record {
+  name = second.name ∙ first.name;
   left = first.left ∙ ap (before p) second.left ∙ before-before p q w.left;
   broke = λ is. elim (second.broke is) [
     | inl was ↦ elim (first.broke was) [
@@ -89,6 +90,7 @@ ends_then known actor (Err Memory) u v w a b c first second = goes_then known u 
 -- nothing was read
 pub reads_none : (v : PartView) → v.stage ≢ Fresh → Reads [] v v
 reads_none v begun = record {
+  name = refl;
   left = sym (before-nil v.left);
   broke = λ is. inl is;
   sound = λ isnt. refl;

@@ -1,5 +1,5 @@
 -- What stands at the front of bytes of which more may come.
-use Rattle.std.proofs.Common.{◌≡◌, ◌<◌, ◌≤◌, ◌+◌, ◌∙◌, suc, sym, ap, refl, ℕ, Bool, true, false, ◌||◌, ◌&&◌, eqb, ltb, List, [], ◌∷◌, ◌++◌, length, take, drop, Option, None, Some, Ok, Err, inl, inr, ◌⊎◌, arith, length-append}
+use Rattle.std.proofs.Common.{◌≡◌, ◌<◌, ◌≤◌, ◌+◌, ◌∙◌, suc, sym, ap, refl, ℕ, Bool, true, false, ◌||◌, ◌&&◌, eqb, ltb, List, [], ◌∷◌, ◌++◌, length, take, drop, Option, None, Some, Ok, Err, inl, inr, ◌⊎◌, arith, length-append, length-drop}
 use Rattle.std.specs.List.{position, position_or_len, slice_split, onto_first}
 use Rattle.std.specs.Prelude.{IsOk}
 use Rattle.std.proofs.lemmas.Bool.{cases_Bool, cases_lt}
@@ -15,7 +15,8 @@ use Rattle.sg_script.specs.Line.{Judgement, line_of}
 use Rattle.sg_script.proofs.Splits.{first_yes, first_no, some_cases, none_cases}
 use Rattle.sg_script.specs.Asked.{is_newline, is_last_line, lines_among, all_judged, judged, judgements}
 use Rattle.sg_script.specs.Front.{Leads, May, IsNoOwn}
-use Rattle.sg_script.specs.Needed.{needed_among, needed_from, of_line, of_numbered}
+use Rattle.sg_script.specs.Needed.{needed_from}
+use Rattle.sg_script.proofs.Deciding.{needs_last, needs_more}
 use Rattle.sg_script.specs.declared.line.Entry.{Entry}
 use Rattle.std.specs.Result.{is_ok}
 
@@ -61,29 +62,6 @@ among_more broken before line ys =
     let (part, parts, e) = some_part is_newline ys in
     ap (λ (list : List (List ℕ)). lines_among broken before (line ∷ list)) e ∙ ap (λ (list : List (List ℕ)). line ∷ lines_among broken (before + 1) list) (sym e)
 
--- what a line that isn't the actor's needs, and those behind it
-need_more : (known : Known) (broken : Bool) (actor before earlier : ℕ) (line ys : List ℕ) → needed_among known broken actor before (line ∷ slice_split is_newline ys) earlier ≡ of_numbered known (before + 1) line actor earlier (length line + 1) (λ k. needed_from known broken actor (before + 1) ys k)
-need_more known broken actor before earlier line ys =
-    let (part, parts, e) = some_part is_newline ys in
-    ap (λ (list : List (List ℕ)). needed_among known broken actor before (line ∷ list) earlier) e ∙ ap (λ (list : List (List ℕ)). of_numbered known (before + 1) line actor earlier (length line + 1) (λ k. needed_among known broken actor (before + 1) list k)) (sym e)
-
-line_not_own : (actor earlier n : ℕ) (said : Option Entry) (behind : ℕ → ℕ) → IsNoOwn actor said → of_line (Ok said) actor earlier n behind ≡ n + behind earlier
-line_not_own actor earlier n None behind other = refl
-line_not_own actor earlier n (Some entry) behind other =
-    let isnt : eqb entry.actor.0 actor ≡ false = grind (arith, nat_tests) in
-    rw isnt refl
-
-good_is : (known : Known) (number : ℕ) (line : List ℕ) (said : Option Entry) → judged known number line ≡ Ok said → (ltb 100000000 number ≡ false) × (line_of known line ≡ Ok said)
-good_is known number line said is = elim (cases_Bool (ltb 100000000 number)) [
-  | inl late ↦ let h : Err TooManyLines ≡ Ok said = rw late at is in absurd (cc)
-  | inr few ↦ (few, rw few at is)
-]
-
-good_not_own : (known : Known) (number : ℕ) (line : List ℕ) (actor earlier n : ℕ) (said : Option Entry) (behind : ℕ → ℕ) → judged known number line ≡ Ok said → IsNoOwn actor said → of_numbered known number line actor earlier n behind ≡ n + behind earlier
-good_not_own known number line actor earlier n said behind is other =
-    let (few, good) = good_is known number line said is in
-    rw few (ap (λ (j : Judgement). of_line j actor earlier n behind) good ∙ line_not_own actor earlier n said behind other)
-
 taken_length : (i : ℕ) (bytes : List ℕ) → i < length bytes → length (take i bytes) ≡ i
 taken_length i bytes h = grind (arith, common_steps)
 
@@ -101,9 +79,8 @@ leads_newline known before bytes i rest broken e =
       all = ap (λ (list : List (List ℕ)). all_judged known before (lines_among broken before list)) cut ∙ ap (all_judged known before) (among_more broken before (take i bytes) (drop (i + 1) bytes ++ rest));
       behind = λ _. refl;
       needs = λ actor earlier said is other.
-          ap (λ (list : List (List ℕ)). needed_among known broken actor before list earlier) cut
-          ∙ need_more known broken actor before earlier (take i bytes) (drop (i + 1) bytes ++ rest)
-          ∙ good_not_own known (before + 1) (take i bytes) actor earlier (length (take i bytes) + 1) said (λ k. needed_from known broken actor (before + 1) (drop (i + 1) bytes ++ rest) k) is other
+          needs_more known broken actor before earlier (take i bytes) (bytes ++ rest) (drop (i + 1) bytes ++ rest) said cut (omega (arith, length-append bytes rest, length-append (drop (i + 1) bytes) rest, length-drop (i + 1) bytes, taken_length i bytes (below bytes i e), below bytes i e)) other
+          (ap (λ (list : List (List ℕ)). all_judged known before (lines_among broken before list)) cut ∙ ap (all_judged known before) (among_more broken before (take i bytes) (drop (i + 1) bytes ++ rest)) ∙ ap (λ (j : Judgement). j ∷ judgements known (before + 1) (drop (i + 1) bytes ++ rest) broken) is)
           ∙ ap (λ (n : ℕ). n + 1 + needed_from known broken actor (before + 1) (drop (i + 1) bytes ++ rest) earlier) (taken_length i bytes (below bytes i e));
     }
 
@@ -196,9 +173,10 @@ leads_end known before bytes none some =
       all = ap (λ (list : List (List ℕ)). all_judged known before (lines_among false before list)) (cut ∙ ap (λ (line : List ℕ). line ∷ []) whole) ∙ rw last refl;
       behind = λ _. ap (λ (b : List ℕ). judgements known (before + 1) b false) (sym (drop_whole bytes));
       needs = λ actor earlier said is other.
-          ap (λ (list : List (List ℕ)). needed_among known false actor before list earlier) (cut ∙ ap (λ (line : List ℕ). line ∷ []) whole)
-          ∙ rw last (good_not_own known (before + 1) (take (length bytes) bytes) actor earlier (length (take (length bytes) bytes)) said (λ _. 0) is other)
-          ∙ ap (λ (b : List ℕ). length b + 0) (take_whole bytes)
+          let size : length (bytes ++ []) ≡ length bytes + 0 = omega (arith, length-append bytes []) in
+          needs_last known false actor before earlier (bytes ++ []) said other
+          (ap (λ (list : List (List ℕ)). all_judged known before (lines_among false before list)) (cut ∙ ap (λ (line : List ℕ). line ∷ []) whole) ∙ rw last (ap (λ (j : Judgement). j ∷ []) is))
+          ∙ size
           ∙ ap (λ (b : List ℕ). length bytes + needed_from known false actor (before + 1) b earlier) (sym (drop_whole bytes));
     }
 

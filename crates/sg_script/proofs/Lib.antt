@@ -1,5 +1,6 @@
 pub mod Asking
 pub mod Chains
+pub mod Deciding
 pub mod FrontLemmas
 pub mod KnownLemmas
 pub mod LimitLemmas

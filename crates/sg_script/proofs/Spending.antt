@@ -11,8 +11,9 @@ use Rattle.sg_script.specs.declared.fault.ScriptFault.TheVariants.{Line, Read, M
 use Rattle.sg_script.specs.Asked.{judged}
 use Rattle.sg_script.specs.Front.{May, Leads, IsOpen, IsNoOwn}
 use Rattle.sg_script.specs.Needed.{needed_from}
+use Rattle.sg_script.specs.Queues.{queue_at}
 use Rattle.sg_script.specs.Stands.{Kept}
-use Rattle.sg_script.specs.Steps.{ReadIs, LineIs, IsOther, settled}
+use Rattle.sg_script.specs.Steps.{ReadIs, LineIs, IsOther}
 use Rattle.sg_script.specs.Frugal.{cost_from, IsNear, Spent, SpentIs, Frugal}
 use Rattle.sg_script.proofs.Chains.{reads_none, reads_then, may_back}
 use Rattle.sg_script.proofs.Needs.{open_needs}
@@ -82,17 +83,18 @@ spent_line known actor v old new len end actors said begun fits leads is other l
   near = λ rest broken may. inl refl;
 }
 
-pub line_spends : (known : Known) (v : PartView) (old new : Kept) (len end actor : ℕ) (r : Result (Option Action) ScriptFault) → v.stage ≢ Fresh → end ≤ length old.pending
+pub line_spends : (known : Known) (v : PartView) (old new : Kept) (len end actor : ℕ) (r : Option (Result (Option Action) ScriptFault)) → v.stage ≢ Fresh → end ≤ length old.pending
     → ((rest : List ℕ) (broken : Bool) → May v.stage rest broken → Leads known old.lines old.pending len end rest broken)
-    → LineIs (judged known (old.lines + 1) (take len old.pending)) actor end r old new → SpentIs known actor (settled r) v v old new
-line_spends known v old new len end actor (Ok None) begun fits leads is = spent_line known actor v old new len end (length old.queues) is.0 begun fits leads is.1 is.2 is.3.lines is.3.pending
-line_spends known v old new len end actor (Ok (Some action)) begun fits leads is = refl
-line_spends known v old new len end actor (Err (Line n kind)) begun fits leads is = refl
-line_spends known v old new len end actor (Err Read) begun fits leads is = absurd is
-line_spends known v old new len end actor (Err Memory) begun fits leads is = refl
+    → LineIs (judged known (old.lines + 1) (take len old.pending)) actor end r old new → SpentIs known actor r v v old new
+line_spends known v old new len end actor None begun fits leads is = spent_line known actor v old new len end (length old.queues) is.0 begun fits leads is.1 is.2 is.3.lines is.3.pending
+line_spends known v old new len end actor (Some (Ok (Some action))) begun fits leads is = refl
+line_spends known v old new len end actor (Some (Ok None)) begun fits leads is = absurd is
+line_spends known v old new len end actor (Some (Err (Line n kind))) begun fits leads is = refl
+line_spends known v old new len end actor (Some (Err Read)) begun fits leads is = absurd is
+line_spends known v old new len end actor (Some (Err Memory)) begun fits leads is = refl
 
-pub frugal_of : (known : Known) (actor : ℕ) (v w x : PartView) (old new : Kept) → Spent known actor v w old new → x ≡ w → Frugal known actor v x old
-frugal_of known actor v w x old new spent same = rw same (record { piece = spent.piece; reads = spent.reads; near = spent.near })
+pub frugal_of : (known : Known) (actor : ℕ) (v w x : PartView) (old new : Kept) → queue_at old.queues actor ≡ [] → Spent known actor v w old new → x ≡ w → Frugal known actor v x old
+frugal_of known actor v w x old new empty spent same = rw same (record { piece = spent.piece; reads = spent.reads; near = spent.near; idle = λ waits. absurd (waits empty) })
 
 pub frugal_none : (known : Known) (actor : ℕ) (v : PartView) (old : Kept) → v.stage ≢ Fresh → Frugal known actor v v old
-frugal_none known actor v old begun = record { piece = []; reads = reads_none v begun; near = λ rest broken may. inl refl }
+frugal_none known actor v old begun = record { piece = []; reads = reads_none v begun; near = λ rest broken may. inl refl; idle = λ waits. refl }

@@ -17,7 +17,7 @@ use Rattle.sg_script.specs.Line.{Judgement}
 use Rattle.sg_script.specs.Front.{May, Leads, IsOpen}
 use Rattle.sg_script.specs.Queues.{queue_at}
 use Rattle.sg_script.specs.Stands.{Kept, answer_from}
-use Rattle.sg_script.specs.Steps.{Passes, LineIs, StepIs, settled, queued, IsOther, to_do, Answers}
+use Rattle.sg_script.specs.Steps.{Passes, LineIs, StepIs, queued, IsOther, to_do, Answers}
 use Rattle.sg_script.proofs.StandLemmas.{moves_line, tells_line, tells_bad, tells_broken}
 use Rattle.sg_script.proofs.Chains.{reads_none, goes_not}
 
@@ -41,11 +41,11 @@ still_empty : (actors actor : ℕ) (said : Option Entry) (queues : List (List Ac
 still_empty actors actor None queues other empty = empty
 still_empty actors actor (Some entry) queues other empty = get_or-set_other queues entry.actor.0 actor (queue_at queues entry.actor.0 ++ entry.action ∷ []) [] (λ e. other.0 (sym e)) ∙ empty
 
-pub line_steps : (known : Known) (v : PartView) (old new : Kept) (len end actor : ℕ) (r : Result (Option Action) ScriptFault) → v.stage ≢ Fresh
+pub line_steps : (known : Known) (v : PartView) (old new : Kept) (len end actor : ℕ) (r : Option (Result (Option Action) ScriptFault)) → v.stage ≢ Fresh
     → ((rest : List ℕ) (broken : Bool) → May v.stage rest broken → Leads known old.lines old.pending len end rest broken)
     → queue_at old.queues actor ≡ []
-    → LineIs (judged known (old.lines + 1) (take len old.pending)) actor end r old new → StepIs known actor (settled r) v v old new
-line_steps known v old new len end actor (Ok None) begun leads empty is =
+    → LineIs (judged known (old.lines + 1) (take len old.pending)) actor end r old new → StepIs known actor r v v old new
+line_steps known v old new len end actor None begun leads empty is =
     let (said, judged_is, other, passes) = is in (
       record {
         piece = [];
@@ -56,7 +56,8 @@ line_steps known v old new len end actor (Ok None) begun leads empty is =
       ap (λ (qs : List (List Action)). queue_at qs actor) passes.queued ∙ still_empty (length old.queues) actor said old.queues other empty,
       less v.stage end (queued said old.queues) old new (ok_few known old.lines (take len old.pending) said judged_is) passes,
     )
-line_steps known v old new len end actor (Ok (Some action)) begun leads empty is = (
+line_steps known v old new len end actor (Some (Ok None)) begun leads empty is = absurd is
+line_steps known v old new len end actor (Some (Ok (Some action))) begun leads empty is = (
   record {
     piece = [];
     reads = reads_none v begun;
@@ -65,7 +66,7 @@ line_steps known v old new len end actor (Ok (Some action)) begun leads empty is
   },
   tt,
 )
-line_steps known v old new len end actor (Err (Line n kind)) begun leads empty is = rw (is.1, is.2) (
+line_steps known v old new len end actor (Some (Err (Line n kind))) begun leads empty is = rw (is.1, is.2) (
   record {
     piece = [];
     reads = reads_none v begun;
@@ -74,8 +75,8 @@ line_steps known v old new len end actor (Err (Line n kind)) begun leads empty i
   },
   tt,
 )
-line_steps known v old new len end actor (Err Read) begun leads empty is = absurd is
-line_steps known v old new len end actor (Err Memory) begun leads empty is = rw is (goes_not known v old begun, tt)
+line_steps known v old new len end actor (Some (Err Read)) begun leads empty is = absurd is
+line_steps known v old new len end actor (Some (Err Memory)) begun leads empty is = rw is (goes_not known v old begun, tt)
 
 pub broken_steps : (known : Known) (v : PartView) (kept : Kept) (actor : ℕ) → v.stage ≡ Broken → IsOpen kept.lines kept.pending → queue_at kept.queues actor ≡ [] → v.stage ≢ Fresh → StepIs known actor (Some (Err Read)) v v kept kept
 broken_steps known v kept actor broken unended empty begun = (

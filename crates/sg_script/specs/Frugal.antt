@@ -1,11 +1,12 @@
 -- What is read is needed, but for less than a piece.
-use Rattle.std.specs.Prelude.{◌≡◌, ◌≤◌, ◌⊎◌, ℕ, Bool, ◌+◌, ◌++◌, List, length, Option, None, Some, Result}
+use Rattle.std.specs.Prelude.{◌≡◌, ◌≢◌, [], ◌≤◌, ◌⊎◌, ℕ, Bool, ◌+◌, ◌++◌, List, length, Option, None, Some, Result}
 use Rattle.sg_edge.specs.Files.{PartView}
 use Rattle.sg_base.specs.declared.call.Action.{Action}
 use Rattle.sg_script.specs.Known.{Known}
 use Rattle.sg_script.specs.declared.fault.ScriptFault.{ScriptFault}
 use Rattle.sg_script.specs.Front.{May}
 use Rattle.sg_script.specs.Needed.{needed_from}
+use Rattle.sg_script.specs.Queues.{queue_at}
 use Rattle.sg_script.specs.Stands.{Kept, Reads}
 
 -- the bytes that the next Ask of an actor without a queue needs, from those that are kept on
@@ -28,8 +29,10 @@ abbrev pub SpentIs : Known → ℕ → Option (Result (Option Action) ScriptFaul
 SpentIs known actor None old_part new_part old new = Spent known actor old_part new_part old new
 SpentIs known actor (Some answer) old_part new_part old new = new_part ≡ old_part
 
--- an Ask read nothing, or less than a piece more than it needs, whatever may still come
+-- an Ask read nothing, or less than a piece more than it needs, whatever may still come; and nothing where an action
+-- waits for the actor
 pub record Frugal (known : Known) (actor : ℕ) (old_part new_part : PartView) (old : Kept) : Type 0 where
   pub piece : List ℕ
   pub reads : Reads piece old_part new_part
   pub near : (rest : List ℕ) (broken : Bool) → May new_part.stage rest broken → IsNear known actor piece old rest broken
+  pub idle : queue_at old.queues actor ≢ [] → piece ≡ []

@@ -1,44 +1,60 @@
--- How many bytes of a script the answer to an Ask needs.
-use Rattle.std.specs.Prelude.{ℕ, zero, suc, Bool, ◌+◌, ◌==◌, List, [], ◌∷◌, length, None, Some, Ok, Err, if◌then◌else◌, nat_lt}
+-- How many bytes of a script the answer to an Ask needs: first the line that decides it, then the bytes through it.
+use Rattle.std.specs.Prelude.{ℕ, zero, suc, Bool, true, false, ◌+◌, ◌-◌, ◌==◌, List, [], ◌∷◌, length, min, Option, None, Some, Ok, Err, option_map, if◌then◌else◌, nat_lt}
 use Rattle.std.specs.List.{slice_split}
 use Rattle.sg_edge.specs.Given.{Source}
-use Rattle.sg_script.specs.declared.fault.LineFault.{LineFault}
 use Rattle.sg_script.specs.declared.fault.LineFault.TheVariants.{TooLong}
+use Rattle.sg_script.specs.declared.line.Entry.{Entry}
 use Rattle.sg_script.specs.Known.{Known}
-use Rattle.sg_script.specs.Asked.{is_newline, is_last_line}
-use Rattle.sg_script.specs.Line.{Judgement, line_of}
+use Rattle.sg_script.specs.Asked.{is_newline, judgements}
+use Rattle.sg_script.specs.Line.{Judgement}
 
--- a bad line of so many bytes; one that is too long is told so at its byte 4,097
-abbrev pub of_bad : LineFault → ℕ → ℕ
-of_bad TooLong n = 4097
-of_bad other n = n
+-- ---- the line that decides
+-- how many actions of the actor a line gives
+abbrev pub own_actions : ℕ → Option Entry → ℕ
+own_actions actor None = 0
+own_actions actor (Some entry) = if entry.actor.0 == actor then 1 else 0
 
--- a line of the actor: it is the answer, or one of the Asks before
-abbrev pub of_own : ℕ → ℕ → (ℕ → ℕ) → ℕ
-of_own zero n behind = n
-of_own (suc earlier) n behind = n + behind earlier
+-- a line behind one more
+abbrev pub behind_one : ℕ × Judgement → ℕ × Judgement
+behind_one at = (suc at.0, at.1)
 
--- a line of so many bytes, and those behind it
-abbrev pub of_line : Judgement → ℕ → ℕ → ℕ → (ℕ → ℕ) → ℕ
-of_line (Ok None) actor earlier n behind = n + behind earlier
-of_line (Ok (Some entry)) actor earlier n behind = if entry.actor.0 == actor then of_own earlier n behind else n + behind earlier
-of_line (Err kind) actor earlier n behind = of_bad kind n
+-- The line that decides the Ask of an actor that so many of its Asks come before: the one that gives its action, or a bad
+-- one before that. How many lines stand before it, and its judgement.
+abbrev pub deciding_line : ℕ → ℕ → List Judgement → Option (ℕ × Judgement)
+deciding_line actor earlier [] = None
+deciding_line actor earlier (Err kind ∷ more) = Some (0, Err kind)
+deciding_line actor earlier (Ok said ∷ more) =
+    if nat_lt earlier (own_actions actor said) then Some (0, Ok said)
+    else option_map behind_one (deciding_line actor (earlier - own_actions actor said) more)
 
--- the line of that number; one too many is told so at its first byte
-abbrev pub of_numbered : Known → ℕ → List ℕ → ℕ → ℕ → ℕ → (ℕ → ℕ) → ℕ
-of_numbered known number line actor earlier n behind = if nat_lt 100000000 number then 1 else of_line (line_of known line) actor earlier n behind
+-- ---- the bytes through it
+-- the length of so many first parts, each with the newline behind it
+abbrev pub front_length : ℕ → List (List ℕ) → ℕ
+front_length zero parts = 0
+front_length (suc n) [] = 0
+front_length (suc n) (part ∷ parts) = length part + 1 + front_length n parts
 
--- through the line that answers, or the first bad line, or to the end
-abbrev pub needed_among : Known → Bool → ℕ → ℕ → List (List ℕ) → ℕ → ℕ
-needed_among known broken actor before [] earlier = 0
-needed_among known broken actor before (rest ∷ []) earlier =
-    if is_last_line broken before rest then of_numbered known (before + 1) rest actor earlier (length rest) (λ _. 0) else length rest
-needed_among known broken actor before (line ∷ part ∷ parts) earlier =
-    of_numbered known (before + 1) line actor earlier (length line + 1) (λ k. needed_among known broken actor (before + 1) (part ∷ parts) k)
+-- the bytes through so many first lines; the last may have no newline
+abbrev pub through : List ℕ → ℕ → ℕ
+through bytes count = min (front_length count (slice_split is_newline bytes)) (length bytes)
+
+-- where a line that goes from here to there is told: one too many at its first byte, one that is too long at its byte
+-- 4,097, and any other at its end
+abbrev pub told_at : Bool → ℕ → ℕ → Judgement → ℕ
+told_at true start end said = start + 1
+told_at false start end (Err TooLong) = start + 4097
+told_at false start end other = end
+
+-- through the deciding line, or to the end; so many lines stand before these bytes
+abbrev pub needed_by : ℕ → List ℕ → Option (ℕ × Judgement) → ℕ
+needed_by before bytes None = length bytes
+needed_by before bytes (Some at) =
+    told_at (nat_lt 100000000 (before + at.0 + 1)) (through bytes at.0) (through bytes (suc at.0)) at.1
 
 -- of bytes before which so many lines were
 abbrev pub needed_from : Known → Bool → ℕ → ℕ → List ℕ → ℕ → ℕ
-needed_from known broken actor before bytes earlier = needed_among known broken actor before (slice_split is_newline bytes) earlier
+needed_from known broken actor before bytes earlier =
+    needed_by before bytes (deciding_line actor earlier (judgements known before bytes broken))
 
 abbrev pub needed : Known → Source → ℕ → ℕ → ℕ
 needed known source actor earlier = needed_from known source.broken actor 0 source.bytes earlier

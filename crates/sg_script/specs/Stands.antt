@@ -42,8 +42,9 @@ abbrev pub Stands : Known → List ℕ → Stage → (ℕ → ℕ) → Kept → 
 Stands known taken stage asks kept = (rest : List ℕ) (broken : Bool) → May stage rest broken → (actor later : ℕ) →
     asked known (record { bytes = taken ++ rest; broken = broken }) actor (asks actor + later) ≡ answer_from known kept rest broken actor later
 
--- this piece was taken; the part broke only by a call that failed
+-- this piece was taken, and the name stays; the part broke only by a call that failed
 pub record Reads (piece : List ℕ) (old new : PartView) : Type 0 where
+  pub name : new.name ≡ old.name
   pub left : old.left ≡ before piece new.left
   pub broke : new.stage ≡ Broken → (old.stage ≡ Broken) ⊎ (old.faults < new.faults)
   pub sound : new.stage ≢ Broken → new.faults ≡ old.faults
@@ -76,14 +77,15 @@ AskIs known taken asks actor (Err Read) = IsAsked known taken asks actor (Err Re
 AskIs known taken asks actor (Err Memory) = IsCut known taken asks
 
 -- a read fault is told only where the part is broken
-abbrev pub IsRead : Result (Option Action) ScriptFault → PartView → PartView → Type 0
-IsRead (Ok answer) old new = Unit {0}
-IsRead (Err (Line n kind)) old new = Unit {0}
-IsRead (Err Read) old new = new.stage ≡ Broken
-IsRead (Err Memory) old new = Unit {0}
+abbrev pub IsRead : Result (Option Action) ScriptFault → PartView → Type 0
+IsRead (Ok answer) part = Unit {0}
+IsRead (Err (Line n kind)) part = Unit {0}
+IsRead (Err Read) part = part.stage ≡ Broken
+IsRead (Err Memory) part = Unit {0}
 
--- a part breaks only by a call that failed
+-- a part breaks only by a call that failed, and keeps its name
 pub record Breaking (old new : PartView) : Type 0 where
+  pub name : new.name ≡ old.name
   pub broke : new.stage ≡ Broken → (old.stage ≡ Broken) ⊎ (old.faults < new.faults)
   pub sound : new.stage ≢ Broken → new.faults ≡ old.faults
   pub begun : new.stage ≢ Fresh

@@ -59,7 +59,7 @@ to_do stage kept = (100000000 - kept.lines) * 20000 + (8192 - length kept.pendin
 -- what a step did: without an answer it went on, and less is to do
 abbrev pub StepIs : Known → ℕ → Option (Result (Option Action) ScriptFault) → PartView → PartView → Kept → Kept → Type 0
 StepIs known actor None old_part new_part old new = Goes known old_part new_part old new × (queue_at new.queues actor ≡ []) × (to_do new_part.stage new < to_do old_part.stage old)
-StepIs known actor (Some answer) old_part new_part old new = Ends known actor answer old_part new_part old new × IsRead answer old_part new_part
+StepIs known actor (Some answer) old_part new_part old new = Ends known actor answer old_part new_part old new × IsRead answer new_part
 
 -- the queues with what a line said
 abbrev pub queued : Option Entry → List (List Action) → List (List Action)
@@ -81,13 +81,14 @@ pub record Passes (queues : List (List Action)) (end : ℕ) (old new : Kept) : T
 abbrev pub its_entry : ℕ → Action → Entry
 its_entry actor action = record { actor = record { 0 = actor }; action = action }
 
--- what taking a line of that judgement did
-abbrev pub LineIs : Judgement → ℕ → ℕ → Result (Option Action) ScriptFault → Kept → Kept → Type 0
-LineIs said actor end (Ok (Some action)) old new = (said ≡ Ok (Some (its_entry actor action))) × Passes old.queues end old new
-LineIs said actor end (Ok None) old new = (other : Option Entry) × (said ≡ Ok other) × IsOther (length old.queues) actor other × Passes (queued other old.queues) end old new
-LineIs said actor end (Err (Line n kind)) old new = (said ≡ Err kind) × (n ≡ old.lines + 1) × (new ≡ old)
-LineIs said actor end (Err Read) old new = ⊥
-LineIs said actor end (Err Memory) old new = new ≡ old
+-- what taking a line of that judgement did: without an answer it went to another actor's queue, or was passed over
+abbrev pub LineIs : Judgement → ℕ → ℕ → Option (Result (Option Action) ScriptFault) → Kept → Kept → Type 0
+LineIs said actor end (Some (Ok (Some action))) old new = (said ≡ Ok (Some (its_entry actor action))) × Passes old.queues end old new
+LineIs said actor end (Some (Ok None)) old new = ⊥
+LineIs said actor end None old new = (other : Option Entry) × (said ≡ Ok other) × IsOther (length old.queues) actor other × Passes (queued other old.queues) end old new
+LineIs said actor end (Some (Err (Line n kind))) old new = (said ≡ Err kind) × (n ≡ old.lines + 1) × (new ≡ old)
+LineIs said actor end (Some (Err Read)) old new = ⊥
+LineIs said actor end (Some (Err Memory)) old new = new ≡ old
 
 -- what reading one piece did
 pub record ReadIs (old_part new_part : PartView) (old new : Kept) : Type 0 where
@@ -98,9 +99,3 @@ pub record ReadIs (old_part new_part : PartView) (old new : Kept) : Type 0 where
   pub pending : new.pending ≡ old.pending ++ piece
   pub short : length piece ≤ 4096
   pub less : to_do new_part.stage new < to_do old_part.stage old
-
--- the answer of a line, where it is one
-abbrev pub settled : Result (Option Action) ScriptFault → Option (Result (Option Action) ScriptFault)
-settled (Ok None) = None
-settled (Ok (Some action)) = Some (Ok (Some action))
-settled (Err fault) = Some (Err fault)

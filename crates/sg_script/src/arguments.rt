@@ -71,7 +71,8 @@ pub fn semaphore(name: &[u8], deployment: &Deployment) -> Result<u32, LineFault>
 /// A peer and an amount.
 pub fn sending(text: &[u8], deployment: &Deployment) -> Result<(ActorId, u64), LineFault>
     ensures said { result ≡ sending_of (known_in deployment.now) (words text.now) }
-    ensures limits { IfOk result (λ both. IsActorIn (extent_of deployment.now) both.0 × IsAmount both.1) }
+    ensures limits { IfOk result
+        (λ both. IsActorIn (extent_of deployment.now) both.0 × IsAmount both.1) }
 {
     let (name, bytes) = two(text)?;
     let peer = actor(name, deployment)?;

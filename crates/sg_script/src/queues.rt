@@ -37,7 +37,8 @@ impl Queues {
     /// Puts an action behind those that wait for the actor.
     pub fn push(&mut self, actor: ActorId, action: Action) -> Result<(), Memory>
         requires { actor.0 < length self.old }
-        ensures ok { OnOk result (self.new ≡ slice_set self.old actor.0 (queue_at self.old actor.0 ++ action ∷ [])) }
+        ensures ok { OnOk result
+            (self.new ≡ slice_set self.old actor.0 (queue_at self.old actor.0 ++ action ∷ [])) }
         ensures err { OnErr result (self.new ≡ self.old) }
     {
         match self.lists[actor.0 as usize].push_back(action) {

@@ -9,7 +9,7 @@ ghost use Rattle.sg_script.specs.Known.{known_in, actors_in};
 
 use crate::fault::ScriptFault;
 use crate::front::{Front, front_of};
-use crate::judging::{judge, settle};
+use crate::judging::judge;
 use crate::line::Entry;
 use crate::pending::{PIECE, Pending};
 use crate::queues::Queues;
@@ -17,6 +17,9 @@ use sg_base::{Action, ActorId, Memory};
 use sg_edge::{Failed, Files, Part};
 use sg_platform::Deployment;
 use std::alloc::Global;
+
+// What an Ask is answered.
+type Answer = Result<Option<Action>, ScriptFault>;
 
 /// A script that is read as far as the answers to Asks need it.
 ///
@@ -44,7 +47,8 @@ impl Script {
     #[tactic(auto, using(crate::proofs::LimitLemmas::limited_none))]
     pub fn new(alloc: Global, actors: u32) -> Result<Script, Memory>
         ensures actors { IfOk result (λ s. actors_of s ≡ actors) }
-        ensures stands { IfOk result (λ s. (known : Known) (stage : Stage) → Stands known [] stage (λ _. 0) (kept_of s)) }
+        ensures stands { IfOk result
+            (λ s. (known : Known) (stage : Stage) → Stands known [] stage (λ _. 0) (kept_of s)) }
         ensures waiting { IfOk result (λ s. (extent : Extent) → AreLimited extent (kept_of s)) }
     {
         Ok(Script {
@@ -66,34 +70,33 @@ impl Script {
         self.before += 1;
     }
 
-    // An action of that actor is the answer, and one of another actor waits for it. Without memory the line stays.
+    // An action of that actor is the answer, and one of another actor waits for it, which is none. Without memory the
+    // line stays.
     #[tactic(auto, using(crate::proofs::LimitLemmas::limited_same, crate::proofs::LimitLemmas::limited_more))]
-    fn take_entry(
-        &mut self,
-        entry: Entry,
-        end: usize,
-        actor: ActorId,
-    ) -> Result<Option<Action>, ScriptFault>
+    fn take_entry(&mut self, entry: Entry, end: usize, actor: ActorId) -> Option<Answer>
         requires end { end ≤ length self.old.pending }
         requires few { self.old.before < 100000000 }
         requires within { entry.actor.0 < length self.old.queues }
-        ensures line { LineIs (Ok (Some entry)) actor.0 end result (kept_of self.old) (kept_of self.new) }
-        ensures waiting { (extent : Extent) → IsAction extent entry.action → AreLimited extent (kept_of self.old) → IsLimited extent result × AreLimited extent (kept_of self.new) }
+        ensures line { LineIs (Ok (Some entry)) actor.0 end result (kept_of self.old)
+            (kept_of self.new) }
+        ensures waiting { (extent : Extent) → IsAction extent entry.action → AreLimited extent
+            (kept_of self.old) → IfSome result (IsLimited extent) × AreLimited extent
+            (kept_of self.new) }
     {
         if entry.actor.0 == actor.0 {
             self.pass(end);
-            return Ok(Some(entry.action));
+            return Some(Ok(Some(entry.action)));
         }
         match self.queues.push(entry.actor, entry.action) {
             Ok(()) => {
                 self.pass(end);
-                Ok(None)
+                None
             }
-            Err(Memory) => Err(ScriptFault::Memory),
+            Err(Memory) => Some(Err(ScriptFault::Memory)),
         }
     }
 
-    // Takes the line at the front, which has `len` bytes and takes `end`.
+    // Takes the line at the front, which has `len` bytes and takes `end`: the answer, where it is one.
     #[tactic(auto, using(crate::proofs::LimitLemmas::limited_same))]
     fn take_line(
         &mut self,
@@ -101,20 +104,21 @@ impl Script {
         end: usize,
         actor: ActorId,
         deployment: &Deployment,
-    ) -> Result<Option<Action>, ScriptFault>
+    ) -> Option<Answer>
         requires len { len ≤ end }
         requires end { end ≤ length self.old.pending }
         requires actors { actors_in deployment.now < length self.old.queues }
         requires waiting { AreLimited (extent_of deployment.now) (kept_of self.old) }
-        ensures line { LineIs (judged (known_in deployment.now) (self.old.before + 1) (take len self.old.pending)) actor.0 end result (kept_of self.old) (kept_of self.new) }
-        ensures limited { IsLimited (extent_of deployment.now) result }
+        ensures line { LineIs (judged (known_in deployment.now) (self.old.before + 1)
+            (take len self.old.pending)) actor.0 end result (kept_of self.old) (kept_of self.new) }
+        ensures limited { IfSome result (IsLimited (extent_of deployment.now)) }
         ensures waiting { AreLimited (extent_of deployment.now) (kept_of self.new) }
     {
         match judge(&self.pending.bytes()[..len], self.before, deployment) {
-            Err(kind) => Err(ScriptFault::Line(self.before + 1, kind)),
+            Err(kind) => Some(Err(ScriptFault::Line(self.before + 1, kind))),
             Ok(None) => {
                 self.pass(end);
-                Ok(None)
+                None
             }
             Ok(Some(entry)) => self.take_entry(entry, end, actor),
         }
@@ -124,7 +128,8 @@ impl Script {
     fn read_piece<F: Files>(&mut self, files: &mut F)
         requires begun { (F.shows files.old Part.Script).stage ≡ Begun }
         requires short { length self.old.pending ≤ 4096 }
-        ensures read { ReadIs (F.shows files.old Part.Script) (F.shows files.new Part.Script) (kept_of self.old) (kept_of self.new) }
+        ensures read { ReadIs (F.shows files.old Part.Script) (F.shows files.new Part.Script)
+            (kept_of self.old) (kept_of self.new) }
         ensures others { Only Part.Script (F.shows files.old) (F.shows files.new) }
     {
         let mut piece = [0u8; PIECE];
@@ -141,20 +146,24 @@ impl Script {
         actor: ActorId,
         deployment: &Deployment,
         files: &mut F,
-    ) -> Option<Result<Option<Action>, ScriptFault>>
+    ) -> Option<Answer>
         requires begun { (F.shows files.old Part.Script).stage ≢ Fresh }
         requires actors { actors_in deployment.now < length self.old.queues }
         requires empty { queue_at self.old.queues actor.0 ≡ [] }
         requires waiting { AreLimited (extent_of deployment.now) (kept_of self.old) }
-        ensures step { StepIs (known_in deployment.now) actor.0 result (F.shows files.old Part.Script) (F.shows files.new Part.Script) (kept_of self.old) (kept_of self.new) }
+        ensures step { StepIs (known_in deployment.now) actor.0 result
+            (F.shows files.old Part.Script) (F.shows files.new Part.Script) (kept_of self.old)
+            (kept_of self.new) }
         ensures limited { IfSome result (IsLimited (extent_of deployment.now)) }
         ensures waiting { AreLimited (extent_of deployment.now) (kept_of self.new) }
-        ensures spent { SpentIs (known_in deployment.now) actor.0 result (F.shows files.old Part.Script) (F.shows files.new Part.Script) (kept_of self.old) (kept_of self.new) }
+        ensures spent { SpentIs (known_in deployment.now) actor.0 result
+            (F.shows files.old Part.Script) (F.shows files.new Part.Script) (kept_of self.old)
+            (kept_of self.new) }
         ensures others { Only Part.Script (F.shows files.old) (F.shows files.new) }
     {
         let front = front_of(self.pending.bytes(), self.before, files.stage(Part::Script));
         match front {
-            Front::Line { len, end } => settle(self.take_line(len, end, actor, deployment)),
+            Front::Line { len, end } => self.take_line(len, end, actor, deployment),
             Front::Unread => {
                 self.read_piece(files);
                 None
@@ -175,11 +184,14 @@ impl Script {
         requires actors { actors_in deployment.now < length self.old.queues }
         requires empty { queue_at self.old.queues actor.0 ≡ [] }
         requires waiting { AreLimited (extent_of deployment.now) (kept_of self.old) }
-        ensures ends { Ends (known_in deployment.now) actor.0 result (F.shows files.old Part.Script) (F.shows files.new Part.Script) (kept_of self.old) (kept_of self.new) }
+        ensures ends { Ends (known_in deployment.now) actor.0 result
+            (F.shows files.old Part.Script) (F.shows files.new Part.Script) (kept_of self.old)
+            (kept_of self.new) }
         ensures limited { IsLimited (extent_of deployment.now) result }
         ensures waiting { AreLimited (extent_of deployment.now) (kept_of self.new) }
-        ensures frugal { Frugal (known_in deployment.now) actor.0 (F.shows files.old Part.Script) (F.shows files.new Part.Script) (kept_of self.old) }
-        ensures read { IsRead result (F.shows files.old Part.Script) (F.shows files.new Part.Script) }
+        ensures frugal { Frugal (known_in deployment.now) actor.0 (F.shows files.old Part.Script)
+            (F.shows files.new Part.Script) (kept_of self.old) }
+        ensures read { IsRead result (F.shows files.new Part.Script) }
         ensures others { Only Part.Script (F.shows files.old) (F.shows files.new) }
     {
         loop {
@@ -201,11 +213,14 @@ impl Script {
         requires actors { actors_in deployment.now < length self.old.queues }
         requires actor { actor.0 < length self.old.queues }
         requires waiting { AreLimited (extent_of deployment.now) (kept_of self.old) }
-        ensures ends { Ends (known_in deployment.now) actor.0 result (F.shows files.old Part.Script) (F.shows files.new Part.Script) (kept_of self.old) (kept_of self.new) }
+        ensures ends { Ends (known_in deployment.now) actor.0 result
+            (F.shows files.old Part.Script) (F.shows files.new Part.Script) (kept_of self.old)
+            (kept_of self.new) }
         ensures limited { IsLimited (extent_of deployment.now) result }
         ensures waiting { AreLimited (extent_of deployment.now) (kept_of self.new) }
-        ensures frugal { Frugal (known_in deployment.now) actor.0 (F.shows files.old Part.Script) (F.shows files.new Part.Script) (kept_of self.old) }
-        ensures read { IsRead result (F.shows files.old Part.Script) (F.shows files.new Part.Script) }
+        ensures frugal { Frugal (known_in deployment.now) actor.0 (F.shows files.old Part.Script)
+            (F.shows files.new Part.Script) (kept_of self.old) }
+        ensures read { IsRead result (F.shows files.new Part.Script) }
         ensures others { Only Part.Script (F.shows files.old) (F.shows files.new) }
     {
         match self.queues.pop(actor) {
@@ -231,12 +246,15 @@ impl Script {
         requires actors { actors_in deployment.now ≡ actors_of self.old }
         requires actor { actor.0 ≤ actors_of self.old }
         requires waiting { AreLimited (extent_of deployment.now) (kept_of self.old) }
-        ensures asked { (taken : List ℕ) (asks : ℕ → ℕ) → Stands (known_in deployment.now) taken (F.shows files.old Part.Script).stage asks (kept_of self.old)
-            → AskIs (known_in deployment.now) taken asks actor.0 result (F.shows files.old Part.Script) (F.shows files.new Part.Script) (kept_of self.new) }
+        ensures asked { (taken : List ℕ) (asks : ℕ → ℕ) → Stands (known_in deployment.now) taken
+            (F.shows files.old Part.Script).stage asks (kept_of self.old)
+            → AskIs (known_in deployment.now) taken asks actor.0 result
+            (F.shows files.old Part.Script) (F.shows files.new Part.Script) (kept_of self.new) }
         ensures limited { IsLimited (extent_of deployment.now) result }
         ensures waiting { AreLimited (extent_of deployment.now) (kept_of self.new) }
-        ensures frugal { Frugal (known_in deployment.now) actor.0 (F.shows files.old Part.Script) (F.shows files.new Part.Script) (kept_of self.old) }
-        ensures read { IsRead result (F.shows files.old Part.Script) (F.shows files.new Part.Script) }
+        ensures frugal { Frugal (known_in deployment.now) actor.0 (F.shows files.old Part.Script)
+            (F.shows files.new Part.Script) (kept_of self.old) }
+        ensures read { IsRead result (F.shows files.new Part.Script) }
         ensures part { Breaking (F.shows files.old Part.Script) (F.shows files.new Part.Script) }
         ensures actors { actors_of self.new ≡ actors_of self.old }
         ensures others { Only Part.Script (F.shows files.old) (F.shows files.new) }

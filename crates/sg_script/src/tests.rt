@@ -205,6 +205,20 @@ fn actions_wait_for_their_actor(rt: HostRuntime) -> Result<(), Fail> {
 }
 
 #[test]
+fn thousands_of_actions_wait(rt: HostRuntime) -> Result<(), Fail> {
+    let mut text = Vec::new(rt.alloc());
+    for _i in 0..5000 {
+        text.extend_from_slice(b"p1 yield\n")?;
+    }
+    text.extend_from_slice(b"p0 wait\n")?;
+    let said = answers(rt.alloc(), &text, &[], &[P0, P1, P1])?;
+    let wait = Ok(Some(Action::Wait));
+    let next = Ok(Some(Action::Yield));
+    assert_eq!(rt; said.as_slice(), [wait, next, next].as_slice());
+    Ok(())
+}
+
+#[test]
 fn a_bad_line_is_met_when_it_is_needed(rt: HostRuntime) -> Result<(), Fail> {
     let text = b"p0 compute 1e9\np1 compute 5e8\np0 jump 5\n";
     let said = answers(rt.alloc(), text, &[], &[P1, P0, P1, P0])?;

@@ -16,7 +16,8 @@ fn blank_at(text: &[u8]) -> Option<usize>
 // What stands before the first blank and behind it.
 #[tactic(auto, using(std::proofs::lemmas::Grind::common_steps, crate::proofs::Splits::split_some, crate::proofs::Splits::split_none, crate::proofs::Splits::some_below))]
 fn cut(text: &[u8]) -> Option<(&[u8], &[u8])>
-    ensures cut { MatchOption result (slice_split is_blank text.now ≡ text.now ∷ []) (λ both. slice_split is_blank text.now ≡ both.0.now ∷ slice_split is_blank both.1.now) }
+    ensures cut { MatchOption result (slice_split is_blank text.now ≡ text.now ∷ [])
+        (λ both. slice_split is_blank text.now ≡ both.0.now ∷ slice_split is_blank both.1.now) }
     ensures shorter { IfSome result (λ both. length both.1.now < length text.now) }
 {
     match blank_at(text) {
@@ -28,7 +29,8 @@ fn cut(text: &[u8]) -> Option<(&[u8], &[u8])>
 /// The first word, and what stands behind it.
 #[tactic(auto, using(crate::proofs::WordLemmas::words_lead, crate::proofs::WordLemmas::words_kept, crate::proofs::WordLemmas::words_whole))]
 pub fn next_word(text: &[u8]) -> Option<(&[u8], &[u8])>
-    ensures { MatchOption result (words text.now ≡ []) (λ found. words text.now ≡ found.0.now ∷ words found.1.now) }
+    ensures { MatchOption result (words text.now ≡ [])
+        (λ found. words text.now ≡ found.0.now ∷ words found.1.now) }
 {
     let mut rest = text;
     while let Some((word, more)) = cut(rest) {
@@ -56,7 +58,8 @@ pub fn none(text: &[u8]) -> Result<(), LineFault>
 
 /// The only word.
 pub fn one(text: &[u8]) -> Result<&[u8], LineFault>
-    ensures { MatchResult result (λ word. one_word (words text.entry.now) ≡ Ok word.now) (λ e. one_word (words text.entry.now) ≡ Err e) }
+    ensures { MatchResult result (λ word. one_word (words text.entry.now) ≡ Ok word.now)
+        (λ e. one_word (words text.entry.now) ≡ Err e) }
 {
     match next_word(text) {
         Some((word, rest)) => match next_word(rest) {
@@ -69,7 +72,9 @@ pub fn one(text: &[u8]) -> Result<&[u8], LineFault>
 
 /// The only two words.
 pub fn two(text: &[u8]) -> Result<(&[u8], &[u8]), LineFault>
-    ensures { MatchResult result (λ both. two_words (words text.entry.now) ≡ Ok (both.0.now, both.1.now)) (λ e. two_words (words text.entry.now) ≡ Err e) }
+    ensures { MatchResult result
+        (λ both. two_words (words text.entry.now) ≡ Ok (both.0.now, both.1.now))
+        (λ e. two_words (words text.entry.now) ≡ Err e) }
 {
     let Some((first, rest)) = next_word(text) else {
         return Err(LineFault::ArgumentCount);

@@ -1,7 +1,7 @@
 -- What a map of names finds.
-use Rattle.std.proofs.Common.{◌≡◌, ℕ, ◌+◌, ◌<◌, Bool, true, false, cond, List, [], ◌∷◌, ◌++◌, map, length, drop, get_or, Option, Some, None, is_some, refl, ap, ◌∙◌, sym, inl, inr}
+use Rattle.std.proofs.Common.{◌≡◌, ℕ, ◌+◌, ◌<◌, Bool, true, false, cond, List, [], ◌∷◌, ◌++◌, map, length, take, drop, get_or, suc, append_assoc, arith, Option, Some, None, is_some, Result, Ok, Err, OnErr, refl, ap, ◌∙◌, sym, inl, inr}
 use Rattle.std.proofs.lemmas.Bool.{cases_Bool, false≢true, false_from_ne_true}
-use Rattle.std.proofs.lemmas.List.{drop_more}
+use Rattle.std.proofs.lemmas.List.{append-nil, drop_more, length-take-le, take_more}
 use Rattle.std.proofs.lemmas.Slice.Eq.{bytes_eq-Decides}
 use Rattle.std.specs.List.{flat_map}
 use Rattle.std.specs.Map.{lookup}
@@ -9,6 +9,11 @@ use Rattle.std.specs.Str.{bytes_eq}
 use Rattle.sg_tree.proofs.Along.{along_map}
 use Rattle.sg_tree.specs.Along.{along}
 use Rattle.sg_tree.specs.Names.{or_else}
+
+-- what holds holds after an error
+pub on_err : {A E : Type 0} (r : Result A E) (P : Type 0) → P → OnErr r P
+on_err (Ok x) P p = tt
+on_err (Err e) P p = p
 
 pub absent_from : (o : Option ℕ) (b : Bool) → b ≡ is_some o → b ≡ false → o ≡ None
 absent_from None b e h = refl
@@ -56,6 +61,27 @@ along_turn test f xs i d old new within step =
     let here = f i (get_or xs i d) in
     let rest = along f (i + 1) (drop (i + 1) xs) in
     rw (step, drop_more xs i d within) (or_else_assoc old (lookup test here) (lookup test rest) ∙ ap (or_else old) (sym (lookup_append test here rest)))
+
+along_append : {A B : Type 0} (f : ℕ → A → List B) (k : ℕ) (xs ys : List A) → along f k (xs ++ ys) ≡ along f k xs ++ along f (k + length xs) ys
+along_append f k [] ys =
+    let same : k ≡ k + 0 = omega arith in
+    ap (λ n. along f n ys) same
+along_append f k (x ∷ xs) ys =
+    let next : k + 1 + length xs ≡ k + suc (length xs) = omega arith in
+    ap (λ rest. f k x ++ rest) (along_append f (k + 1) xs ys ∙ ap (λ n. along f (k + 1) xs ++ along f n ys) next)
+    ∙ sym (append_assoc (f k x) (along f (k + 1) xs) (along f (k + suc (length xs)) ys))
+
+-- a turn of a loop that has given numbers along a front of a list
+pub along_front : {K A : Type 0} (test : K → Bool) (f : ℕ → A → List (K × ℕ)) (xs : List A) (i : ℕ) (d : A) (first old new : Option ℕ) → i < length xs → d ≡ get_or xs i d
+    → old ≡ or_else first (lookup test (along f 0 (take i xs))) → new ≡ or_else old (lookup test (f i d)) → new ≡ or_else first (lookup test (along f 0 (take (i + 1) xs)))
+along_front test f xs i d first old new within is had step =
+    let done = along f 0 (take i xs) in
+    let size : 0 + length (take i xs) ≡ i = omega (arith, length-take-le i xs (omega (arith, within))) in
+    let front : take (i + 1) xs ≡ take i xs ++ d ∷ [] = take_more xs i d within ∙ ap (λ x. take i xs ++ x ∷ []) (sym is) in
+    let more : along f 0 (take (i + 1) xs) ≡ done ++ f i d = ap (along f 0) front ∙ along_append f 0 (take i xs) (d ∷ [])
+    ∙ ap (λ n. done ++ (f n d ++ [])) size ∙ ap (λ here. done ++ here) (append-nil (f i d)) in
+    step ∙ ap (λ o. or_else o (lookup test (f i d))) had ∙ or_else_assoc first (lookup test done) (lookup test (f i d))
+    ∙ ap (or_else first) (sym (lookup_append test done (f i d))) ∙ ap (λ l. or_else first (lookup test l)) (sym more)
 
 pub flat_map_map : {X A B : Type 0} (v : X → A) (f : A → List B) (xs : List X) → flat_map f (map v xs) ≡ flat_map (λ x. f (v x)) xs
 flat_map_map v f [] = refl

@@ -3,6 +3,8 @@
 
 mod fault;
 mod names;
+#[cfg(test)]
+mod tests;
 mod tree;
 
 pub use fault::{Fault, Kind, Place};

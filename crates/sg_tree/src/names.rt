@@ -1,10 +1,10 @@
 //! The number under which a name stands first.
-ghost use Rattle.std.specs.Prelude.{◌≡◌, ◌+◌, ◌<◌, ◌^◌, ℕ, List, Some, None, if◌then◌else◌, IfOk, OnOk, length, map};
-ghost use Rattle.std.specs.HashMap.{get_by, get_by_text};
+ghost use Rattle.std.specs.Prelude.{◌≡◌, ◌+◌, ◌<◌, ◌≤◌, ◌^◌, ℕ, List, Some, None, if◌then◌else◌, IfOk, OnOk, OnErr, length, map, take};
+ghost use Rattle.std.specs.HashMap.{get_by, get_by_text, IsUnchanged};
 ghost use Rattle.std.specs.Map.{lookup};
 ghost use Rattle.std.specs.Str.{bytes_eq};
 ghost use Rattle.sg_tree.specs.Along.{along};
-ghost use Rattle.sg_tree.specs.Names.{Pair, pair_eq, names_from, numbered, or_else, texts_at};
+ghost use Rattle.sg_tree.specs.Names.{Adds, AddsFront, Pair, pair_eq, names_from, numbered, or_else, texts_at};
 ghost use Rattle.toml.specs.View.{view};
 
 use crate::tree::text_at;
@@ -13,14 +13,16 @@ use sg_base::Memory;
 use std::alloc::Global;
 use toml::Value;
 
-/// Gives a name its number, unless it has one.
+/// Gives a name its number, unless it has one. After `Memory` the space is as before.
 pub fn add_name(
     alloc: Global,
     space: &mut IndexMap<String, usize>,
     name: &str,
     number: usize,
 ) -> Result<(), Memory>
-    ensures { OnOk result ((q : List ℕ) → get_by_text space.new q ≡ or_else (get_by_text space.old q) (if bytes_eq q name.now then Some number else None)) }
+    ensures added { OnOk result ((q : List ℕ) → get_by_text space.new q
+        ≡ or_else (get_by_text space.old q) (if bytes_eq q name.now then Some number else None)) }
+    ensures memory { OnErr result (IsUnchanged space.old space.new) }
 {
     if !space.contains_key(name) {
         let key = String::from_str(alloc, name)?;
@@ -29,13 +31,15 @@ pub fn add_name(
     Ok(())
 }
 
-/// Gives a pair its number, unless it has one.
+/// Gives a pair its number, unless it has one. After `Memory` the space is as before.
 pub fn add_pair(
     space: &mut IndexMap<(usize, usize), usize>,
     pair: (usize, usize),
     number: usize,
 ) -> Result<(), Memory>
-    ensures { OnOk result ((q : Pair) → get_by (pair_eq q) space.new ≡ or_else (get_by (pair_eq q) space.old) (if pair_eq q pair then Some number else None)) }
+    ensures added { OnOk result ((q : Pair) → get_by (pair_eq q) space.new
+        ≡ or_else (get_by (pair_eq q) space.old) (if pair_eq q pair then Some number else None)) }
+    ensures memory { OnErr result (IsUnchanged space.old space.new) }
 {
     if !space.contains_key(&pair) {
         space.insert(pair, number)?;
@@ -43,7 +47,7 @@ pub fn add_pair(
     Ok(())
 }
 
-/// Gives the text at a key of a row its number.
+// Gives the text at a key of a row its number. After `Memory` the space is as before.
 fn add_text(
     alloc: Global,
     space: &mut IndexMap<String, usize>,
@@ -51,7 +55,9 @@ fn add_text(
     number: usize,
     row: &Value,
 ) -> Result<(), Memory>
-    ensures { OnOk result ((q : List ℕ) → get_by_text space.new q ≡ or_else (get_by_text space.old q) (lookup (bytes_eq q) (numbered number (texts_at key.now (view row.now))))) }
+    ensures added { OnOk result ((q : List ℕ) → get_by_text space.new q
+        ≡ or_else (get_by_text space.old q) (lookup (bytes_eq q) (numbered number (texts_at key.now (view row.now))))) }
+    ensures memory { OnErr result (IsUnchanged space.old space.new) }
 {
     match text_at(row, key) {
         Some(name) => add_name(alloc, space, name, number),
@@ -59,8 +65,7 @@ fn add_text(
     }
 }
 
-/// Gives the texts at a key of rows the numbers from this one on.
-#[tactic(auto, using(crate::proofs::NameLemmas::along_turn))]
+// Gives the texts at a key of rows the numbers from this one on. After `Memory` some first rows have theirs.
 fn add_texts(
     alloc: Global,
     space: &mut IndexMap<String, usize>,
@@ -69,7 +74,11 @@ fn add_texts(
     rows: &[Value],
 ) -> Result<(), Memory>
     requires { before + length rows.now < 2 ^ 64 }
-    ensures { OnOk result ((q : List ℕ) → get_by_text space.new q ≡ or_else (get_by_text space.old q) (lookup (bytes_eq q) (along (λ i row. numbered (before + i) (texts_at key.now (view row))) 0 rows.now))) }
+    ensures added { OnOk result (Adds (along (λ i row. numbered (before + i) (texts_at key.now (view row))) 0 rows.now)
+        (get_by_text space.old) (get_by_text space.new)) }
+    ensures memory { OnErr result ((done : ℕ) × (done ≤ length rows.now)
+        × Adds (along (λ i row. numbered (before + i) (texts_at key.now (view row))) 0 (take done rows.now))
+        (get_by_text space.old) (get_by_text space.new)) }
 {
     for (i, row) in rows.iter().enumerate() {
         add_text(alloc, space, key, before + i, row)?;
@@ -78,7 +87,7 @@ fn add_texts(
 }
 
 /// Gives the names at a key of rows the numbers of the rows, of which the first has this one. A name that has a
-/// number keeps it.
+/// number keeps it. After `Memory` this is done for some first rows.
 pub fn add_names(
     alloc: Global,
     space: &mut IndexMap<String, usize>,
@@ -87,7 +96,8 @@ pub fn add_names(
     rows: &[Value],
 ) -> Result<(), Memory>
     requires { before + length rows.now < 2 ^ 64 }
-    ensures { OnOk result ((q : List ℕ) → get_by_text space.new q ≡ or_else (get_by_text space.old q) (lookup (bytes_eq q) (names_from key.now before (map view rows.now)))) }
+    ensures added { OnOk result (Adds (names_from key.now before (map view rows.now)) (get_by_text space.old) (get_by_text space.new)) }
+    ensures memory { OnErr result (AddsFront key.now before (map view rows.now) (get_by_text space.old) (get_by_text space.new)) }
 {
     add_texts(alloc, space, key, before, rows)?;
     Ok(())

@@ -154,6 +154,10 @@ accepted words f =
         → is_some (option_and_then (λ p. asked_at p.0 p.1) (entered (built program_app) stop)) ≡ true
     finish stop s ws is asks = subst (λ o. is_some (option_and_then (λ p. asked_at p.0 p.1) o) ≡ true) (sym is) asks
 
+pub job_of : {X : Type 0} (o : Option X) → is_some o ≡ true → (x : X) × (o ≡ Some x)
+job_of None some = cc
+job_of (Some x) some = (x, refl)
+
 not_both : {X : Type 0} (o : Option X) → is_some o ≡ true → o ≡ None → ⊥
 not_both None some none = cc
 not_both (Some x) some none = cc

@@ -1,5 +1,5 @@
 -- The command line of the program: its definition as `clap` sees it, and the job that words ask for.
-use Rattle.std.specs.Prelude.{ℕ, Bool, false, true, List, [], ◌∷◌, Option, Some, None, codes, if◌then◌else◌, option_and_then, option_map}
+use Rattle.std.specs.Prelude.{◌≡◌, ℕ, Bool, false, true, List, [], ◌∷◌, Option, Some, None, codes, if◌then◌else◌, option_and_then, option_map}
 use Rattle.std.specs.Option.{option_map_or}
 use Rattle.std.specs.Str.{bytes_eq}
 use Rattle.std.specs.Str.Parse.{digits_value, without_leading_plus}
@@ -140,3 +140,7 @@ asked_by = option_and_then (λ command. asked_at command.0 command.1)
 -- what the words ask for, where the definition accepts them
 abbrev pub asked_of : List Text → Option Asked
 asked_of words = asked_by (subcommand_of program_app words)
+
+-- words that aren't refused ask for a job
+abbrev pub AcceptedWordsHaveJobs : Type 0
+AcceptedWordsHaveJobs = (words : List Text) → refusals words ≡ [] → (job : Asked) × (asked_of words ≡ Some job)

@@ -5,6 +5,7 @@ mod definition;
 mod fault;
 mod help;
 mod job;
+mod laws;
 mod reading;
 #[cfg(test)]
 mod tests;
@@ -12,4 +13,5 @@ mod words;
 
 pub use fault::WordsFault;
 pub use job::{Command, Job};
+pub use laws::accepted_words_have_a_job;
 pub use words::read_words;

@@ -262,16 +262,48 @@ Usage: simgrid_replay <COMMAND>
 
 const ONE_ACTOR: &str = "error: invalid value '1' for '<ACTORS>': 1 is not in 2..=4096\n\n";
 
+const JUMP: &str = "error: unrecognized subcommand 'jump'
+
+Usage: simgrid_replay <COMMAND>
+
+";
+
+const ONE_MORE: &str = "error: unexpected argument 'c' found
+
+Usage: simgrid_replay run [OPTIONS] <PLATFORM> <DEPLOYMENT>
+
+";
+
+const NO_NUMBER: &str = "error: a value is required for '--nthreads <N>' but none was supplied\n\n";
+
+const TWICE: &str = "error: the argument '--quiet' cannot be used multiple times
+
+Usage: simgrid_replay replay [OPTIONS] <PLATFORM> <DEPLOYMENT> <SCRIPT>
+
+";
+
+const QUIET_TRUE: &str = "error: unexpected value 'true' for '--quiet' found; no more were expected
+
+Usage: simgrid_replay replay --quiet <PLATFORM> <DEPLOYMENT> <SCRIPT>
+
+";
+
 /// What a text about refused words ends with.
 const MORE: &str = "For more information, try '--help'.\n";
 
 /// Command lines, and the text that is told of each: how it begins, and all that follows.
-const TEXTS: [(&str, &str, &str); 9] = [
+const TEXTS: [(&str, &str, &str); 15] = [
     ("--help", TOP_HELP, STATUSES),
     ("replay --help", REPLAY_HELP, STATUSES),
     ("run --help", RUN_HELP, STATUSES),
     ("churn --help", CHURN_HELP, STATUSES),
     ("--version", "simgrid_replay 0.1.0\n", ""),
+    ("help churn", CHURN_HELP, STATUSES),
+    ("jump", JUMP, MORE),
+    ("run a b c", ONE_MORE, MORE),
+    ("replay --nthreads", NO_NUMBER, MORE),
+    ("replay --quiet --quiet a b c", TWICE, MORE),
+    ("replay --quiet=true a b c", QUIET_TRUE, MORE),
     ("replay --budget 0 a b c", NO_EVENT, MORE),
     ("replay a b", NO_SCRIPT, MORE),
     ("churn 7 1 2", ONE_ACTOR, MORE),

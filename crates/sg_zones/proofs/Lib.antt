@@ -4,3 +4,6 @@ pub mod FaultLemmas
 pub mod TreeLemmas
 pub mod GoodTree
 pub mod Cycles
+pub mod Each
+pub mod Least
+pub mod Ups

@@ -61,10 +61,14 @@ child_holds t (Point own) point = own.0 == point.0
 child_holds t (Zone zone) point = holds t zone point
 
 -- the gateway isn't held by its end
+abbrev pub src_gateway_at : Tree → ℕ → ZoneRouteRow → Option ZoneFault
+src_gateway_at t row r = told_if (not (child_holds t r.src r.gw_src)) (GatewayOutside (place 6 (row + 1) 3))
+
+abbrev pub dst_gateway_at : Tree → ℕ → ZoneRouteRow → Option ZoneFault
+dst_gateway_at t row r = told_if (not (child_holds t r.dst r.gw_dst)) (GatewayOutside (place 6 (row + 1) 4))
+
 abbrev pub gateways_at : Tree → ℕ → ZoneRouteRow → Option ZoneFault
-gateways_at t row r =
-    option_or (told_if (not (child_holds t r.src r.gw_src)) (GatewayOutside (place 6 (row + 1) 3)))
-    (told_if (not (child_holds t r.dst r.gw_dst)) (GatewayOutside (place 6 (row + 1) 4)))
+gateways_at t row r = option_or (src_gateway_at t row r) (dst_gateway_at t row r)
 
 abbrev pub gateway_at : Tree → ℕ → SpokeRow → Option ZoneFault
 gateway_at t row s = told_if (not (child_holds t s.child s.gateway)) (GatewayOutside (place 7 (row + 1) 3))
@@ -74,6 +78,10 @@ gateway_at t row s = told_if (not (child_holds t s.child s.gateway)) (GatewayOut
 abbrev pub is_full : Routing → Bool
 is_full Full = true
 is_full Star = false
+
+abbrev pub is_star : Routing → Bool
+is_star Star = true
+is_star Full = false
 
 -- the zone whose child this is; the root is no child
 abbrev pub zone_above : Tree → Child → Option ZoneId
@@ -107,7 +115,8 @@ zone_route_at t row r =
 -- the zone of a spoke is Star, and the child is its child
 abbrev pub spoke_at : Tree → ℕ → SpokeRow → Option ZoneFault
 spoke_at t row s =
-    told_if (is_full (routing_in t s.zone) || not (is_zone s.zone (zone_above t s.child))) (WrongRouting (place 7 (row + 1) 1))
+    told_if (not (is_star (routing_in t s.zone)) || not (is_zone s.zone (zone_above t s.child)))
+    (WrongRouting (place 7 (row + 1) 1))
 
 -- ---- the least kind, and within it the least place
 

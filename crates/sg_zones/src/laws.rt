@@ -1,5 +1,8 @@
-//! What the faults of the zone tree mean.
-ghost use Rattle.sg_zones.specs.Laws.{CyclesNeverEnd};
+//! What the faults of the zone tree mean, and what the tree says.
+ghost use Rattle.std.specs.Prelude.{◌≡◌, None};
+ghost use Rattle.sg_zones.specs.AllFaults.{TellsLeast};
+ghost use Rattle.sg_zones.specs.Faults.{zone_fault};
+ghost use Rattle.sg_zones.specs.Laws.{CyclesNeverEnd, DepthByStepsUp, HoldsByStepsUp};
 
 use sg_platform::PlatformText;
 
@@ -7,6 +10,23 @@ use sg_platform::PlatformText;
 /// on a cycle, or below one.
 pub fn cycles_never_end(platform: &PlatformText)
     ensures { CyclesNeverEnd platform.now }
+{
+    let _zones = platform.zones();
+}
+
+/// Of all faults of the rows the one that is told has the least kind, and within it the least place.
+pub fn least_fault_is_told(platform: &PlatformText)
+    ensures { TellsLeast platform.now }
+{
+    let _zones = platform.zones();
+}
+
+/// A zone holds a point where some steps up from the point's zone lead to it, and is one deeper than the steps from it
+/// up to the root. No count of levels is in this.
+pub fn tree_goes_up(platform: &PlatformText)
+    requires { zone_fault platform.now ≡ None }
+    ensures holds { HoldsByStepsUp platform.now }
+    ensures depth { DepthByStepsUp platform.now }
 {
     let _zones = platform.zones();
 }

@@ -13,5 +13,5 @@ mod tree;
 mod zones;
 
 pub use fault::ZoneFault;
-pub use laws::cycles_never_end;
+pub use laws::{cycles_never_end, least_fault_is_told, tree_goes_up};
 pub use zones::Zones;

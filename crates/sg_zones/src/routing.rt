@@ -44,7 +44,7 @@ fn spoke_at(zones: &Zones, i: usize, row: &SpokeRow) -> Option<ZoneFault>
     requires { i < 262144 }
     ensures { result ≡ spoke_at zones.now i row.now }
 {
-    if zones.is_full(row.zone) || !zones.is_child_of(row.zone, row.child) {
+    if !zones.is_star(row.zone) || !zones.is_child_of(row.zone, row.child) {
         return Some(ZoneFault::WrongRouting(place(7, i, 1)));
     }
     None

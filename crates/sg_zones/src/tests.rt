@@ -56,15 +56,35 @@ fn chain(alloc: Global, zones: usize) -> Result<String, AllocError> {
     Ok(text)
 }
 
+// A root and below it so many zones.
+fn siblings(alloc: Global, zones: usize) -> Result<String, AllocError> {
+    let mut text = String::from_str(alloc, "[[zone]]\nid = 'z'\nrouting = 'Full'\n")?;
+    for i in 0..zones {
+        let row = format!(in alloc; "[[zone]]\nid = 'z{i}'\nparent = 'z'\nrouting = 'Star'\n")?;
+        text.push_str(row.as_str())?;
+    }
+    Ok(text)
+}
+
+// With ample memory none of these is refused for want of it.
 #[test]
-fn takes_a_chain_of_sixteen_zones_and_no_longer_one(rt: HostRuntime) -> Result<(), Fail> {
-    let sixteen = chain(rt.alloc(), 16)?;
-    assert_eq!(rt; zone_fault(rt.alloc(), sixteen.as_str())?.as_str(), "fine");
-    let seventeen = chain(rt.alloc(), 17)?;
-    assert_eq!(rt;
-        zone_fault(rt.alloc(), seventeen.as_str())?.as_str(),
-        "TooDeep(Place { table: 1, row: 17, key: 2 })"
-    );
+fn takes_chains_of_sixteen_zones_and_no_longer_ones(rt: HostRuntime) -> Result<(), Fail> {
+    let too_deep = "TooDeep(Place { table: 1, row: 17, key: 2 })";
+    let cases = [
+        (1, "fine"),
+        (16, "fine"),
+        (17, too_deep),
+        (18, too_deep),
+        (33, too_deep),
+        (1024, too_deep),
+    ];
+    for (zones, told) in cases {
+        let text = chain(rt.alloc(), zones)?;
+        let shown = zone_fault(rt.alloc(), text.as_str())?;
+        assert_eq!(rt; shown.as_str(), told);
+    }
+    let most = siblings(rt.alloc(), 1023)?;
+    assert_eq!(rt; zone_fault(rt.alloc(), most.as_str())?.as_str(), "fine");
     Ok(())
 }
 

@@ -1,6 +1,6 @@
 //! The zone tree.
 ghost use Rattle.std.specs.Prelude.{◌≡◌, ◌≢◌, ◌≤◌, ◌++◌, length, map, Err, IfOk};
-ghost use Rattle.sg_zones.specs.Faults.{child_holds, in_one_full, is_full, is_zone, row_fault, zone_above, zones_of};
+ghost use Rattle.sg_zones.specs.Faults.{child_holds, in_one_full, is_full, is_star, is_zone, row_fault, zone_above, zones_of};
 ghost use Rattle.sg_zones.specs.Tree.{depth, holds, home, parent_in, path_in, routing_in, tree_of};
 ghost use Rattle.sg_zones.specs.declared.fault.ZoneFault.TheVariants.{Memory};
 
@@ -207,13 +207,23 @@ impl Zones {
         }
     }
 
-    /// Whether the zone is Full; else it is Star.
+    /// Whether the zone is Full.
     pub(crate) fn is_full(&self, zone: ZoneId) -> bool
         ensures { result ≡ is_full (routing_in self.now zone) }
     {
         match self.routing(zone) {
             Routing::Full => true,
             Routing::Star => false,
+        }
+    }
+
+    /// Whether the zone is Star.
+    pub(crate) fn is_star(&self, zone: ZoneId) -> bool
+        ensures { result ≡ is_star (routing_in self.now zone) }
+    {
+        match self.routing(zone) {
+            Routing::Full => false,
+            Routing::Star => true,
         }
     }
 

@@ -1,14 +1,23 @@
 -- What a part says that was read whole, and one that is too long.
-use Rattle.std.proofs.Common.{◌≡◌, ◌<◌, ◌≤◌, sym, ap, refl, ℕ, List, length, true, false, Result, Ok, arith}
+use Rattle.std.proofs.Common.{◌≡◌, ◌<◌, ◌≤◌, ◌∙◌, sym, ap, ap₂, subst, refl, ℕ, Bool, List, [], length, Option, Some, None, true, false, Result, Ok, arith}
 use Rattle.std.proofs.Common as C
 use Rattle.std.proofs.lemmas.Bool.Decides.{nat_tests}
+use Rattle.std.specs.Prelude.{IfSome}
+use Rattle.sg_edge.specs.Files.{PartView, IsNamed, TakesUpTo, before}
 use Rattle.sg_edge.specs.Given.{Source}
+use Rattle.sg_edge.specs.declared.files.Part.{Part}
+use Rattle.sg_edge.specs.declared.files.Part.TheVariants as part
+use Rattle.sg_words.specs.CommandLine.{Request}
+use Rattle.simgrid_replay.specs.Given.{IsNamedBy, name_of}
+use Rattle.sg_engine.specs.declared.setup.Setup.{Setup}
+use Rattle.sg_platform.specs.Deployment.{Deployed}
 use Rattle.sg_platform.specs.DeploymentOf.{deployment_of}
 use Rattle.sg_platform.specs.Platform.{Platform}
 use Rattle.sg_platform.specs.PlatformOf.{platform_of, whole_text}
 use Rattle.sg_platform.specs.declared.deployment.DeploymentFault.TheVariants as deployment
 use Rattle.sg_platform.specs.declared.platform.PlatformFault.TheVariants as platform
-use Rattle.simgrid_replay.specs.Parts.{platform_given, deployment_given, or_platform_fault, or_deployment_fault}
+use Rattle.simgrid_replay.specs.Parts.{platform_given, deployment_given, or_platform_fault, or_deployment_fault, if_suited, on_platform, setting_in, suited, Setting}
+use Rattle.simgrid_replay.specs.declared.refusal.Refusal.{Refusal}
 use Rattle.simgrid_replay.specs.declared.refusal.Refusal.TheVariants as refusal
 
 -- a part that was read whole is what its text says
@@ -36,3 +45,41 @@ pub deployment_too_long : (source : Source) (p : Platform) → 16777216 < length
 deployment_too_long source p long =
     let is : deployment_of source.bytes p ≡ C.Err (deployment.Limit whole_text) = long_deployment source.bytes p long in
     rw is (grind (arith, nat_tests))
+
+-- what is deployed suits its run, so it is the setting
+pub settled_on : (p q : Platform) (script : Bool) (contexts : ℕ) (d : Source) (deployed fit : Deployed) (setup : Setup) → q ≡ p → Ok deployed ≡ deployment_given q d → Ok fit ≡ suited script contexts deployed →
+    setup.platform ≡ p → setup.deployment ≡ fit → on_platform p (if_suited script contexts (deployment_given p d)) ≡ Ok (setting_in setup)
+settled_on p q script contexts d deployed fit setup same is suits on with =
+    let known : deployment_given p d ≡ Ok deployed = ap (λ (x : Platform). deployment_given x d) (sym same) ∙ sym is in
+    let made : Platform → Deployed → Result Setting Refusal = λ a b. Ok (record { platform = a; deployment = b }) in
+    ap (λ (r : Result Deployed Refusal). on_platform p (if_suited script contexts r)) known ∙ ap (on_platform p) (sym suits) ∙ ap₂ made (sym on) (sym with)
+
+-- a part that has no name is named as one likes
+pub nameless : (name : List ℕ) (view : PartView) → view.name ≡ None → IsNamed name view
+nameless name view is = subst (λ (told : Option (List ℕ)). IfSome told (λ n. n ≡ name)) (sym is) tt
+
+-- of a part to which nothing was done nothing was taken
+pub takes_none : (most : ℕ) (old new : PartView) → new ≡ old → TakesUpTo most old new
+takes_none most old new same = subst (λ (v : PartView). TakesUpTo most old v) (sym same) (record { bytes = []; left = sym (before-nil old.left); few = grind (arith, nat_tests) })
+  where
+    before-nil : (left : Option (List ℕ)) → before [] left ≡ left
+    before-nil None = refl
+    before-nil (Some rest) = refl
+
+pub nameless_by : (request : Request) (part : Part) (view : PartView) → view.name ≡ None → IsNamedBy request part view
+nameless_by request part view is = by_name (name_of request part)
+  where
+    by_name : (name : Option (List ℕ)) → IfSome name (λ n. IsNamed n view)
+    by_name None = tt
+    by_name (Some n) = nameless n view is
+
+-- a part that keeps its name is named as before
+pub named_on : (request : Request) (part : Part) (old new : PartView) → new.name ≡ old.name → IsNamedBy request part old → IsNamedBy request part new
+named_on request part old new same named = subst (λ (told : Option (List ℕ)). IfSome (name_of request part) (λ name. IfSome told (λ n. n ≡ name))) (sym same) named
+
+-- each part is one of the three
+pub named_parts : (request : Request) (views : Part → PartView) → IsNamedBy request part.Platform (views part.Platform) → IsNamedBy request part.Deployment (views part.Deployment) → IsNamedBy request part.Script (views part.Script)
+    → (which : Part) → IsNamedBy request which (views which)
+named_parts request views p d s part.Platform = p
+named_parts request views p d s part.Deployment = d
+named_parts request views p d s part.Script = s

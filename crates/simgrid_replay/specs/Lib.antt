@@ -1,4 +1,6 @@
 pub mod Faults
+pub mod Given
+pub mod Order
 pub mod Outcome
 pub mod Parts
 pub mod RealFiles

@@ -1,13 +1,9 @@
 -- What a whole call writes, and its status, by what its three parts gave.
-use Rattle.std.specs.Prelude.{◌≡◌, ◌<◌, ℕ, List, [], Option, Result, Ok, Err, Bool, true, false, MatchBool, codes}
+use Rattle.std.specs.Prelude.{◌≡◌, ◌+◌, ◌≤◌, ℕ, List, [], Option, Result, Ok, Err, Bool, true, false, MatchBool, codes}
 use Rattle.sg_base.specs.declared.status.Status.{Status}
 use Rattle.sg_base.specs.declared.status.Status.TheVariants as status
-use Rattle.sg_edge.specs.declared.files.Part.{Part}
-use Rattle.sg_edge.specs.declared.files.Part.TheVariants as part
-use Rattle.sg_edge.specs.declared.files.Stage.TheVariants.{Broken}
 use Rattle.sg_edge.specs.declared.sinks.Stream.{Stream}
 use Rattle.sg_edge.specs.declared.sinks.Stream.TheVariants as stream
-use Rattle.sg_edge.specs.Files.{PartView}
 use Rattle.sg_edge.specs.Given.{Source}
 use Rattle.sg_engine.specs.declared.ended.Ended.{Ended}
 use Rattle.sg_engine.specs.declared.ended.Ended.TheVariants as ended
@@ -20,10 +16,12 @@ use Rattle.simgrid_replay.specs.Terms.{Terms, terms_of}
 use Rattle.simgrid_replay.specs.declared.refusal.Refusal.{Refusal}
 use Rattle.simgrid_replay.specs.declared.refusal.Refusal.TheVariants as refusal
 
+-- what is written, the status, and how much work the fillings of the run are
 pub record Outcome : Type 0 where
   pub out : List ℕ
   pub err : List ℕ
   pub status : Status
+  pub work : ℕ
 
 abbrev pub status_of : Ended → Status
 status_of ended.Completed = status.Completed
@@ -39,8 +37,8 @@ status_of ended.Memory = status.Memory
 
 -- a text on one stream, and nothing on the other
 abbrev pub told : Stream → List ℕ → Status → Outcome
-told stream.Out text how = record { out = text; err = []; status = how }
-told stream.Err text how = record { out = []; err = text; status = how }
+told stream.Out text how = record { out = text; err = []; status = how; work = 0 }
+told stream.Err text how = record { out = []; err = text; status = how; work = 0 }
 
 -- one line on Err, and nothing else
 abbrev pub refused : List ℕ → Status → Outcome
@@ -57,7 +55,7 @@ refusal_outcome refusal.ReadDeployment = refused (codes "cannot read the deploym
 refusal_outcome refusal.Memory = refused [] status.Memory
 
 abbrev pub of_run : Output → Outcome
-of_run run = record { out = run.out; err = run.err; status = status_of run.ended }
+of_run run = record { out = run.out; err = run.err; status = status_of run.ended; work = run.work }
 
 -- the run of a setting on these terms, with what its script gives
 abbrev pub run_on : Terms → Source → Setting → Outcome
@@ -92,16 +90,30 @@ is_cut status.ReadFault = false
 is_cut status.WriteFault = true
 is_cut status.Memory = true
 
+-- the words, the platform or the deployment are refused
+abbrev pub is_refusal : Status → Bool
+is_refusal status.Completed = false
+is_refusal status.Words = true
+is_refusal status.Platform = true
+is_refusal status.Deployment = true
+is_refusal status.Script = false
+is_refusal status.Deadlock = false
+is_refusal status.Starved = false
+is_refusal status.Budget = false
+is_refusal status.Route = false
+is_refusal status.ReadFault = false
+is_refusal status.WriteFault = false
+is_refusal status.Memory = false
+
 -- the outcome is there whole, with its status, or it was cut off and fronts of its texts are there
 abbrev pub Prints : Outcome → Status → (Stream → Option (List ℕ)) → (Stream → Option (List ℕ)) → Type 0
 Prints want how old new = MatchBool (is_cut how) (GainsFronts want.out want.err old new) ((want.status ≡ how) × GainsAll want.out want.err old new)
 
--- some part is broken, and its count rose
-abbrev pub SomeBroke : (Part → PartView) → (Part → PartView) → Type 0
-SomeBroke old new = (part : Part) × ((new part).stage ≡ Broken) × ((old part).faults < (new part).faults)
+-- where the call wasn't cut off, the count went on by the work at least
+abbrev pub Counts : Outcome → Status → ℕ → ℕ → Type 0
+Counts want how start count = is_cut how ≡ false → start + want.work ≤ count
 
--- from this part on nothing was done
-abbrev pub SameFrom : Part → (Part → PartView) → (Part → PartView) → Type 0
-SameFrom part.Platform old new = (new part.Platform ≡ old part.Platform) × (new part.Deployment ≡ old part.Deployment) × (new part.Script ≡ old part.Script)
-SameFrom part.Deployment old new = (new part.Deployment ≡ old part.Deployment) × (new part.Script ≡ old part.Script)
-SameFrom part.Script old new = new part.Script ≡ old part.Script
+-- what a call has come to: what it printed, and what it counted
+pub record HasOutcome (want : Outcome) (how : Status) (old new : Stream → Option (List ℕ)) (start count : ℕ) : Type 0 where
+  pub prints : Prints want how old new
+  pub counts : Counts want how start count

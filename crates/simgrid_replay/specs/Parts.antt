@@ -1,9 +1,9 @@
 -- What the platform and the deployment are, by what their parts gave.
-use Rattle.std.specs.Prelude.{◌≡◌, ◌<◌, ◌+◌, ℕ, Bool, length, Option, None, Some, Result, Ok, Err, if◌then◌else◌, true, false, nat_lt, position}
+use Rattle.std.specs.Prelude.{◌≡◌, ◌≢◌, ◌≤◌, ◌+◌, ℕ, Bool, length, Option, None, Some, Result, Ok, Err, if◌then◌else◌, true, false, nat_lt, position}
 use Rattle.sg_churn.specs.Generated.{platform_of_seed, deployed_of_seed}
-use Rattle.sg_edge.specs.declared.files.Stage.TheVariants.{Broken}
-use Rattle.sg_edge.specs.Files.{PartView}
 use Rattle.sg_edge.specs.Given.{Source}
+use Rattle.sg_engine.specs.Output.{contexts_of}
+use Rattle.sg_engine.specs.declared.setup.Setup.{Setup}
 use Rattle.sg_kernel.specs.Start.{replays}
 use Rattle.sg_platform.specs.Deployment.{Deployed}
 use Rattle.sg_platform.specs.DeploymentOf.{deployment_of}
@@ -92,21 +92,19 @@ setting (line.churn seed actors steps) contexts platform deployment = churn_sett
 
 -- how many contexts the run takes, none where there is no run
 abbrev pub seats : Result Setting Refusal → ℕ
-seats (Ok given) = length given.deployment.actors
+seats (Ok given) = contexts_of given.deployment
 seats (Err why) = 0
 
--- ---- causes
--- a failed read, told for its part
-abbrev pub IsReadFault : Refusal → Type 0
-IsReadFault (refusal.Platform fault) = ⊥
-IsReadFault (refusal.Zones fault) = ⊥
-IsReadFault (refusal.Deployment fault) = ⊥
-IsReadFault (refusal.ReplayUnderRun row) = ⊥
-IsReadFault (refusal.TooFewContexts actors contexts) = ⊥
-IsReadFault refusal.ReadPlatform = Unit {0}
-IsReadFault refusal.ReadDeployment = Unit {0}
-IsReadFault refusal.Memory = ⊥
+-- ---- what a run is of
+abbrev pub setting_in : Setup → Setting
+setting_in setup = record { platform = setup.platform; deployment = setup.deployment }
 
--- a part broke in between, and its count rose
-abbrev pub Breaks : PartView → PartView → Type 0
-Breaks old new = (new.stage ≡ Broken) × (old.faults < new.faults)
+-- a setup of what is to be run, or the refusal of it, or memory was wanting
+abbrev pub IsSettled : Result Setting Refusal → Result Setup Refusal → Type 0
+IsSettled given (Ok setup) = given ≡ Ok (setting_in setup)
+IsSettled given (Err why) = why ≢ refusal.Memory → given ≡ Err why
+
+-- a setup with a script or without, whose actors have a context each
+pub record IsSetupFor (scripted : Bool) (contexts : ℕ) (setup : Setup) : Type 0 where
+  pub script : setup.script ≡ scripted
+  pub seated : length setup.deployment.actors ≤ contexts

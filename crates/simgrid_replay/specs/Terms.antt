@@ -1,9 +1,9 @@
 -- On what terms a run is asked for.
-use Rattle.std.specs.Prelude.{ℕ, Bool, true, false, if◌then◌else◌, is_some}
+use Rattle.std.specs.Prelude.{ℕ, Bool, true, false, if◌then◌else◌}
 use Rattle.sg_engine.specs.declared.show.Show.{Show}
 use Rattle.sg_engine.specs.declared.show.Show.TheVariants as show
 use Rattle.sg_words.specs.CommandLine.{Asked, Request, replay, run, churn}
-use Rattle.simgrid_replay.specs.declared.wanted.Wanted.{Wanted}
+use Rattle.simgrid_replay.specs.declared.run_terms.RunTerms.{RunTerms}
 
 -- whether there is a script, how many events there may be, and what is shown of them
 pub record Terms : Type 0 where
@@ -36,5 +36,6 @@ show_of (churn seed actors steps) quiet = show.Summary
 abbrev pub terms_of : Asked → Terms
 terms_of job = record { script = has_script job.request; budget = job.budget; show = show_of job.request job.quiet }
 
-abbrev pub terms_in : Wanted → Terms
-terms_in wanted = record { script = is_some wanted.script; budget = wanted.budget; show = wanted.show }
+-- the terms of a run that is asked for, with a script or without
+abbrev pub terms_in : RunTerms → Bool → Terms
+terms_in terms script = record { script = script; budget = terms.budget; show = terms.show }

@@ -1,70 +1,88 @@
 //! SimGrid's S4U simulation kernel and trace replay, in whole numbers, as a program.
 #![tactic(auto)]
 
-mod asking;
 mod churning;
 mod parts;
+mod preparing;
 mod real_files;
 mod real_sinks;
 mod refusal;
 mod routed;
+mod run_terms;
+mod running;
 mod suiting;
 mod telling;
 #[cfg(test)]
 mod testing;
 #[cfg(test)]
-mod tests;
+mod tests_faults;
 #[cfg(test)]
 mod tests_jobs;
+#[cfg(test)]
+mod tests_limits;
 #[cfg(test)]
 mod tests_runs;
 #[cfg(test)]
 mod tests_threads;
 mod top;
-mod wanted;
 
-ghost use Rattle.std.specs.Prelude.{◌≡◌, ◌<◌, All, None};
+ghost use Rattle.std.specs.Prelude.{◌≡◌, ◌<◌, [], length, All, None, IfOk, IfErr};
+ghost use Rattle.std.specs.Process.{exit_status};
+ghost use Rattle.std.specs.Vec.Iter.{into_iter_items};
+ghost use Rattle.sg_base.specs.Status.{status_code};
 
 use real_files::RealFiles;
 use real_sinks::RealSinks;
 use sg_actor::{Actor, PlainContext, TapeContext, all_blank};
 use sg_base::{Memory, Status, Steps};
-use std::alloc::Global;
-use std::env;
-use std::io::ErrorKind;
+use std::alloc::{AllocError, Global};
+use std::env::{self, Args};
+use std::io::{self, ErrorKind};
 use std::marker::Brand;
 use std::process::ExitCode;
 use std::sync::ledger::{Blank, Ledger};
 use std::thread::Threads;
 use top::simgrid;
 
-/// How many contexts of each kind there are for actors.
+/// How many contexts of each kind there are.
 const PAIRS: u32 = 2048;
 
-// The words of the command line. Where one is no text they are refused as a whole, like no words at all.
-fn words(rt: &HostRuntime, alloc: Global) -> Result<Vec<String>, Memory> {
-    let mut words = Vec::new(alloc);
-    match env::args(rt) {
-        Ok(args) => {
-            for word in args {
-                words.push(word)?;
+fn collected(alloc: Global, args: Args) -> Result<Vec<String>, AllocError>
+    ensures { IfOk result (λ words. words.items ≡ into_iter_items args) }
+{
+    args.collect(alloc)
+}
+
+// All words of the command line in their order. Where one is no text they are refused as a whole,
+// like no words at all.
+fn words_of(alloc: Global, args: io::Result<Args>) -> Result<Vec<String>, Memory>
+    ensures whole { IfOk args (λ args. IfOk result (λ words. words.items ≡ into_iter_items args)) }
+    ensures none { IfErr args (λ _. IfOk result (λ words. words.items ≡ [])) }
+{
+    match args {
+        Ok(args) => match collected(alloc, args) {
+            Ok(words) => Ok(words),
+            Err(AllocError) => Err(Memory),
+        },
+        Err(error) => {
+            if error.kind() == ErrorKind::OutOfMemory {
+                Err(Memory)
+            } else {
+                Ok(Vec::new(alloc))
             }
         }
-        Err(error) if error.kind() == ErrorKind::OutOfMemory => return Err(Memory),
-        Err(_) => {}
     }
-    Ok(words)
 }
 
 // The program over the real files and streams, with a counter of its own.
 fn start<R: Threads + Sync, L: Ledger>(
     rt: &R,
     host: HostRuntime,
-    alloc: Global,
     words: &[String],
     crew: &mut Vec<Box<dyn Actor + Send>>,
     blank: Blank,
 ) -> Status
+    requires contexts { length crew.old.items ≡ 4096 }
     requires blank { All (λ b. mind b ≡ None) crew.old.items }
     requires name { blank.name ≡ L.name }
     requires parts { blank.parts ≡ L.parts }
@@ -73,31 +91,44 @@ fn start<R: Threads + Sync, L: Ledger>(
     let mut files = RealFiles::new(host);
     let mut out = RealSinks::new(host);
     let mut steps = Steps::<L>::new(blank);
-    simgrid(rt, alloc, words, &mut files, &mut out, crew, &mut steps)
+    simgrid(
+        rt,
+        host.alloc(),
+        words,
+        &mut files,
+        &mut out,
+        crew,
+        &mut steps,
+    )
+}
+
+// The program with the words of its command line, and contexts of both kinds in turn.
+fn program<R: Threads + Sync>(rt: &R, host: HostRuntime) -> Result<Status, Memory> {
+    let alloc = host.alloc();
+    let words = words_of(alloc, env::args(&host))?;
+    let mut crew: Vec<Box<dyn Actor + Send>> = Vec::new(alloc);
+    for _pair in 0..PAIRS {
+        crew.push(Box::new(alloc, PlainContext::new(alloc))?)?;
+        crew.push(Box::new(alloc, TapeContext::new(alloc))?)?;
+    }
+    // They are blank: no contract of a loop can say it of boxes.
+    if !all_blank(crew.as_slice()) {
+        return Err(Memory);
+    }
+    Ok(start::<R, Brand>(rt, host, &words, &mut crew, Blank::new(1)))
+}
+
+// What the program tells the system of its status.
+fn exit_code(status: Result<Status, Memory>) -> ExitCode
+    ensures ended { IfOk status (λ s. exit_status result ≡ status_code s) }
+    ensures memory { IfErr status (λ _. exit_status result ≡ status_code Status.Memory) }
+{
+    match status {
+        Ok(status) => ExitCode::from(status.code()),
+        Err(Memory) => ExitCode::from(Status::Memory.code()),
+    }
 }
 
 fn main(rt: HostRuntime) -> ExitCode {
-    let alloc = rt.alloc();
-    let memory = ExitCode::from(Status::Memory.code());
-    let mut crew: Vec<Box<dyn Actor + Send>> = Vec::new(alloc);
-    for _i in 0..PAIRS {
-        let (Ok(plain), Ok(tape)) = (
-            Box::new(alloc, PlainContext::new(alloc)),
-            Box::new(alloc, TapeContext::new(alloc)),
-        ) else {
-            return memory;
-        };
-        if crew.push(plain).is_err() || crew.push(tape).is_err() {
-            return memory;
-        }
-    }
-    let Ok(words) = words(&rt, alloc) else {
-        return memory;
-    };
-    // They are blank: no contract of a loop can say it of boxes.
-    if !all_blank(crew.as_slice()) {
-        return memory;
-    }
-    let status = start::<HostRuntime, Brand>(&rt, rt, alloc, &words, &mut crew, Blank::new(1));
-    ExitCode::from(status.code())
+    exit_code(program(&rt, rt))
 }

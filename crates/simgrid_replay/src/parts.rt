@@ -1,12 +1,13 @@
 //! The platform and the deployment, each begun, read whole and judged.
-ghost use Rattle.std.specs.Prelude.{◌≡◌, ◌≢◌, IfOk, IfErr, IsOk};
+ghost use Rattle.std.specs.Prelude.{◌≡◌, ◌≢◌, ◌+◌, IfOk, IfErr, IsOk};
 ghost use Rattle.sg_edge.specs.declared.files.Stage.TheVariants.{Fresh, Broken};
-ghost use Rattle.sg_edge.specs.Files.{Only, KeepsTelling};
+ghost use Rattle.sg_edge.specs.Files.{IsNamed, KeepsTelling, Only, TakesUpTo};
 ghost use Rattle.sg_edge.specs.Given.{Source, Gives};
 ghost use Rattle.sg_platform.specs.Deployment.{IsDeployedOn};
-ghost use Rattle.simgrid_replay.specs.Parts.{platform_given, deployment_given, or_platform_fault, or_deployment_fault, IsReadFault, Breaks};
-ghost use Rattle.sg_platform.specs.PlatformOf.{platform_of as platform_of_text};
 ghost use Rattle.sg_platform.specs.DeploymentOf.{deployment_of as deployment_of_text};
+ghost use Rattle.sg_platform.specs.PlatformOf.{greatest_text, platform_of as platform_of_text};
+ghost use Rattle.simgrid_replay.specs.Order.{Broke, IsOfPlatform, IsReadFault};
+ghost use Rattle.simgrid_replay.specs.Parts.{platform_given, deployment_given, or_platform_fault, or_deployment_fault};
 
 use crate::refusal::Refusal;
 use crate::routed::Routed;
@@ -27,7 +28,9 @@ const WHOLE_TEXT: Place = Place {
 };
 
 fn platform_of(alloc: Global, text: &[u8]) -> Result<Routed, Refusal>
-    ensures { result ≢ Err Refusal.Memory → result ≡ or_platform_fault (platform_of_text text.now) }
+    ensures given { result ≢ Err Refusal.Memory
+        → result ≡ or_platform_fault (platform_of_text text.now) }
+    ensures read { IfErr result (λ why. ¬ IsReadFault why) }
 {
     match read_platform(alloc, text) {
         Ok(platform) => Routed::new(alloc, platform),
@@ -37,8 +40,11 @@ fn platform_of(alloc: Global, text: &[u8]) -> Result<Routed, Refusal>
 }
 
 fn deployment_of(alloc: Global, text: &[u8], platform: &PlatformText) -> Result<Deployment, Refusal>
-    ensures given { result ≢ Err Refusal.Memory → result ≡ or_deployment_fault (deployment_of_text text.now platform.now) }
+    ensures given { result ≢ Err Refusal.Memory
+        → result ≡ or_deployment_fault (deployment_of_text text.now platform.now) }
     ensures deployed { IfOk result (IsDeployedOn platform.now) }
+    ensures platform { IfErr result (λ why. ¬ IsOfPlatform why) }
+    ensures read { IfErr result (λ why. ¬ IsReadFault why) }
 {
     match read_deployment(alloc, text, platform) {
         Ok(deployment) => Ok(deployment),
@@ -50,10 +56,17 @@ fn deployment_of(alloc: Global, text: &[u8], platform: &PlatformText) -> Result<
 /// The platform, with its routes.
 pub fn load_platform<F: Files>(alloc: Global, files: &mut F, name: &str) -> Result<Routed, Refusal>
     requires { (F.shows files.old Part.Platform).stage ≡ Fresh }
-    ensures given { (source : Source) → Gives (F.shows files.old Part.Platform) (F.shows files.new Part.Platform) source → result ≢ Err Refusal.Memory → result ≡ platform_given source }
-    ensures cause { IfErr result (λ why. IsReadFault why → Breaks (F.shows files.old Part.Platform) (F.shows files.new Part.Platform)) }
+    ensures given { (source : Source)
+        → Gives (F.shows files.old Part.Platform) (F.shows files.new Part.Platform) source
+        → result ≢ Err Refusal.Memory → result ≡ platform_given source }
+    ensures cause { IfErr result (λ why. IsReadFault why
+        → Broke Part.Platform (F.shows files.old) (F.shows files.new)) }
     ensures whole { IsOk result → (F.shows files.new Part.Platform).stage ≢ Broken }
-    ensures telling { KeepsTelling (F.shows files.old Part.Platform) (F.shows files.new Part.Platform) }
+    ensures named { IsNamed name.now (F.shows files.new Part.Platform) }
+    ensures bounded { TakesUpTo (greatest_text + 1) (F.shows files.old Part.Platform)
+        (F.shows files.new Part.Platform) }
+    ensures telling { KeepsTelling (F.shows files.old Part.Platform)
+        (F.shows files.new Part.Platform) }
     ensures others { Only Part.Platform (F.shows files.old) (F.shows files.new) }
 {
     match load(alloc, files, Part::Platform, name, GREATEST_TEXT) {
@@ -72,11 +85,19 @@ pub fn load_deployment<F: Files>(
     platform: &PlatformText,
 ) -> Result<Deployment, Refusal>
     requires { (F.shows files.old Part.Deployment).stage ≡ Fresh }
-    ensures given { (source : Source) → Gives (F.shows files.old Part.Deployment) (F.shows files.new Part.Deployment) source → result ≢ Err Refusal.Memory → result ≡ deployment_given platform.now source }
+    ensures given { (source : Source)
+        → Gives (F.shows files.old Part.Deployment) (F.shows files.new Part.Deployment) source
+        → result ≢ Err Refusal.Memory → result ≡ deployment_given platform.now source }
     ensures deployed { IfOk result (IsDeployedOn platform.now) }
-    ensures cause { IfErr result (λ why. IsReadFault why → Breaks (F.shows files.old Part.Deployment) (F.shows files.new Part.Deployment)) }
+    ensures platform { IfErr result (λ why. ¬ IsOfPlatform why) }
+    ensures cause { IfErr result (λ why. IsReadFault why
+        → Broke Part.Deployment (F.shows files.old) (F.shows files.new)) }
     ensures whole { IsOk result → (F.shows files.new Part.Deployment).stage ≢ Broken }
-    ensures telling { KeepsTelling (F.shows files.old Part.Deployment) (F.shows files.new Part.Deployment) }
+    ensures named { IsNamed name.now (F.shows files.new Part.Deployment) }
+    ensures bounded { TakesUpTo (greatest_text + 1) (F.shows files.old Part.Deployment)
+        (F.shows files.new Part.Deployment) }
+    ensures telling { KeepsTelling (F.shows files.old Part.Deployment)
+        (F.shows files.new Part.Deployment) }
     ensures others { Only Part.Deployment (F.shows files.old) (F.shows files.new) }
 {
     match load(alloc, files, Part::Deployment, name, GREATEST_TEXT) {

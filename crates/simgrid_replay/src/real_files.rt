@@ -1,7 +1,9 @@
 //! The real inputs: calls are passed on to std, and no contract can say which bytes they give.
-ghost use Rattle.std.specs.Prelude.{◌≡◌, ◌<◌, ◌≤◌, length, take, IfOk, OnOk, OnErr};
-ghost use Rattle.sg_edge.specs.declared.files.Stage.TheVariants.{Fresh, Begun};
+ghost use Rattle.std.specs.Prelude.{◌≡◌, ◌==◌, ◌<◌, ◌≤◌, if◌then◌else◌, length, take, IfOk, OnOk, OnErr};
+ghost use Rattle.std.specs.Io.KnownBytes.{ReadConsumes};
+ghost use Rattle.sg_edge.specs.declared.files.Stage.TheVariants.{Fresh, Begun, Over, Broken};
 ghost use Rattle.sg_edge.specs.Files.{Begins, Breaks, Takes};
+ghost use Rattle.simgrid_replay.specs.RealFiles.{is_input as is_input_spec};
 
 use sg_edge::{Failed, Files, Part, Stage};
 use std::fs::{self, File};
@@ -15,6 +17,56 @@ enum Source {
     Opened(File),
     /// From standard input.
     Input,
+}
+
+// Whether a part of this name is standard input: the script alone may be.
+fn is_input(part: Part, name: &str) -> bool
+    ensures { result ≡ is_input_spec part name.now }
+{
+    match part {
+        Part::Platform | Part::Deployment => false,
+        Part::Script => name == "-",
+    }
+}
+
+impl Source {
+    ghost use Rattle.simgrid_replay.specs.RealFiles.{comes_from_input, is_input};
+
+    // What a part of this name is read from.
+    fn open(rt: &HostRuntime, part: Part, name: &str) -> Result<Source, Failed>
+        ensures { IfOk result (λ source. comes_from_input source ≡ is_input part name.now) }
+    {
+        if is_input(part, name) {
+            return Ok(Source::Input);
+        }
+        match fs::open(rt, name) {
+            Ok(file) => Ok(Source::Opened(file)),
+            Err(_) => Err(Failed),
+        }
+    }
+}
+
+// Passes a read on to a reader.
+fn read_from<R: Read>(from: &mut R, buf: &mut [u8]) -> Result<usize, Failed>
+    ensures count { IfOk result (λ n. n ≤ length buf.new) }
+    ensures bytes { ReadConsumes (R.remaining from.old) (R.remaining from.new) result buf.new }
+{
+    match from.read(buf) {
+        Ok(n) => Ok(n),
+        Err(_) => Err(Failed),
+    }
+}
+
+// The stage of a part after a read.
+fn stage_after(got: Result<usize, Failed>) -> Stage
+    ensures read { IfOk got (λ n. result ≡ (if n == 0 then Over else Begun)) }
+    ensures failed { OnErr got (result ≡ Broken) }
+{
+    match got {
+        Ok(0) => Stage::Over,
+        Ok(_) => Stage::Begun,
+        Err(Failed) => Stage::Broken,
+    }
 }
 
 /// One real part.
@@ -36,23 +88,18 @@ impl RealPart {
         }
     }
 
-    fn begin(&mut self, rt: &HostRuntime, name: &str, may_be_input: bool) -> Result<(), Failed>
+    fn begin(&mut self, rt: &HostRuntime, part: Part, name: &str) -> Result<(), Failed>
         requires { self.old.stage ≡ Fresh }
-        ensures begun { OnOk result (Begins (real_view self.old) (real_view self.new)) }
+        ensures begun { OnOk result (Begins name.now (real_view self.old) (real_view self.new)) }
         ensures failed { OnErr result (Breaks (real_view self.old) (real_view self.new)) }
     {
-        if may_be_input && name == "-" {
-            self.source = Source::Input;
-            self.stage = Stage::Begun;
-            return Ok(());
-        }
-        match fs::open(rt, name) {
-            Ok(file) => {
-                self.source = Source::Opened(file);
+        match Source::open(rt, part, name) {
+            Ok(source) => {
+                self.source = source;
                 self.stage = Stage::Begun;
                 Ok(())
             }
-            Err(_) => {
+            Err(Failed) => {
                 self.stage = Stage::Broken;
                 Err(Failed)
             }
@@ -63,26 +110,17 @@ impl RealPart {
         requires begun { self.old.stage ≡ Begun }
         requires room { 0 < length buf.old }
         ensures count { IfOk result (λ n. n ≤ length buf.new) }
-        ensures took { IfOk result (λ n. Takes (take n buf.new) (real_view self.old) (real_view self.new)) }
+        ensures took { IfOk result (λ n.
+            Takes (take n buf.new) (real_view self.old) (real_view self.new)) }
         ensures failed { OnErr result (Breaks (real_view self.old) (real_view self.new)) }
     {
         let got = match &mut self.source {
-            Source::Closed => None,
-            Source::Opened(file) => file.read(buf).ok(),
-            Source::Input => rt.stdin().read(buf).ok(),
+            Source::Closed => Err(Failed),
+            Source::Opened(file) => read_from(file, buf),
+            Source::Input => read_from(&mut rt.stdin(), buf),
         };
-        match got {
-            Some(n) => {
-                if n == 0 {
-                    self.stage = Stage::Over;
-                }
-                Ok(n)
-            }
-            None => {
-                self.stage = Stage::Broken;
-                Err(Failed)
-            }
-        }
+        self.stage = stage_after(got);
+        got
     }
 }
 
@@ -112,17 +150,19 @@ impl RealFiles {
 }
 
 impl Files for RealFiles {
-    ghost use Rattle.simgrid_replay.specs.RealFiles.{real_files, real_over};
+    ghost use Rattle.simgrid_replay.specs.RealFiles.{real_files, real_over, real_unnamed};
 
     ghost shows = { real_files };
+
+    ghost unnamed = { real_unnamed };
 
     ghost nothing_left = { real_over };
 
     fn begin(&mut self, part: Part, name: &str) -> Result<(), Failed> {
         match part {
-            Part::Platform => self.platform.begin(&self.rt, name, false),
-            Part::Deployment => self.deployment.begin(&self.rt, name, false),
-            Part::Script => self.script.begin(&self.rt, name, true),
+            Part::Platform => self.platform.begin(&self.rt, part, name),
+            Part::Deployment => self.deployment.begin(&self.rt, part, name),
+            Part::Script => self.script.begin(&self.rt, part, name),
         }
     }
 

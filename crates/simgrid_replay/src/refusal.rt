@@ -144,7 +144,8 @@ fn fault_line(
 
 /// The line that tells a platform's fault, with its newline.
 pub fn platform_line(alloc: Global, fault: &PlatformFault) -> Result<String, Memory>
-    ensures { IfOk result (λ line. string_bytes line ≡ fault_line_spec (codes "platform") (platform_words fault.now) (platform_place fault.now)) }
+    ensures { IfOk result (λ line. string_bytes line ≡
+        fault_line_spec (codes "platform") (platform_words fault.now) (platform_place fault.now)) }
 {
     fault_line(
         alloc,
@@ -156,7 +157,8 @@ pub fn platform_line(alloc: Global, fault: &PlatformFault) -> Result<String, Mem
 
 /// The line that tells a fault of a platform's zones, with its newline.
 pub fn zone_line(alloc: Global, fault: &ZoneFault) -> Result<String, Memory>
-    ensures { IfOk result (λ line. string_bytes line ≡ fault_line_spec (codes "platform") (zone_words fault.now) (zone_place fault.now)) }
+    ensures { IfOk result (λ line. string_bytes line ≡
+        fault_line_spec (codes "platform") (zone_words fault.now) (zone_place fault.now)) }
 {
     fault_line(
         alloc,
@@ -168,7 +170,8 @@ pub fn zone_line(alloc: Global, fault: &ZoneFault) -> Result<String, Memory>
 
 /// The line that tells a deployment's fault, with its newline.
 pub fn deployment_line(alloc: Global, fault: &DeploymentFault) -> Result<String, Memory>
-    ensures { IfOk result (λ line. string_bytes line ≡ fault_line_spec (codes "deployment") (deployment_words fault.now) (deployment_place fault.now)) }
+    ensures { IfOk result (λ line. string_bytes line ≡ fault_line_spec (codes "deployment")
+        (deployment_words fault.now) (deployment_place fault.now)) }
 {
     fault_line(
         alloc,

@@ -37,7 +37,8 @@ impl Routed {
     /// The platform, where its zones have no fault.
     #[tactic(auto, using(crate::proofs::ZoneLemmas::zones_are, crate::proofs::ZoneLemmas::no_zone_fault))]
     pub fn new(alloc: Global, platform: PlatformText) -> Result<Routed, Refusal>
-        ensures { result ≢ Err Refusal.Memory → result ≡ or_zone_fault platform (zones_of platform) }
+        ensures { result ≢ Err Refusal.Memory
+            → result ≡ or_zone_fault platform (zones_of platform) }
     {
         let zones = match Zones::build(alloc, &platform) {
             Ok(zones) => zones,

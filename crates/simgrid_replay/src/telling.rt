@@ -1,10 +1,11 @@
 //! The text of a call that makes no run, and the status of a run.
-ghost use Rattle.std.specs.Prelude.{◌≡◌, ◌≢◌, ◌<◌, ℕ, List, [], Option, Err, IfOk, false, string_bytes};
+ghost use Rattle.std.specs.Prelude.{◌≡◌, ◌≢◌, ◌⊎◌, ℕ, List, [], Option, Err, IfOk, IsTrue, false, string_bytes};
 ghost use Rattle.clap.specs.Words.{Kinds};
 ghost use Rattle.sg_words.specs.CommandLine.{Asked};
 ghost use Rattle.sg_words.specs.Shown.{Answers};
-ghost use Rattle.simgrid_replay.specs.Outcome.{told, refused, refusal_outcome, status_of, is_cut, Prints};
-ghost use Rattle.simgrid_replay.specs.Parts.{IsReadFault};
+ghost use Rattle.sg_edge.specs.Cause.{HasCause};
+ghost use Rattle.simgrid_replay.specs.Order.{IsOfPlatform, IsReadFault};
+ghost use Rattle.simgrid_replay.specs.Outcome.{told, refused, refusal_outcome, status_of, is_cut, is_refusal, Prints};
 ghost use Rattle.simgrid_replay.specs.Refused.{TellsWords};
 
 use crate::refusal::{
@@ -21,9 +22,9 @@ fn say<O: Sinks>(to: Stream, text: &str, status: Status, out: &mut O) -> Status
     requires status { is_cut status ≡ false }
     requires sound { O.faults out.old ≡ 0 }
     ensures prints { Prints (told to text.now status) result (O.held out.old) (O.held out.new) }
-    ensures write { result ≡ Status.WriteFault → 0 < O.faults out.new }
-    ensures sound { result ≢ Status.WriteFault → O.faults out.new ≡ 0 }
-    ensures read { result ≡ Status.ReadFault → status ≡ Status.ReadFault }
+    ensures cause { HasCause (result ≡ Status.WriteFault) (result ≡ Status.ReadFault)
+        (O.faults out.new) (status ≡ Status.ReadFault) }
+    ensures status { (result ≡ status) ⊎ IsTrue (is_cut result) }
 {
     match write_all(out, to, text.as_bytes()) {
         Ok(()) => status,
@@ -35,10 +36,11 @@ fn say<O: Sinks>(to: Stream, text: &str, status: Status, out: &mut O) -> Status
 fn say_made<O: Sinks>(line: Result<String, Memory>, status: Status, out: &mut O) -> Status
     requires status { is_cut status ≡ false }
     requires sound { O.faults out.old ≡ 0 }
-    ensures prints { (want : List ℕ) → IfOk line (λ text. string_bytes text ≡ want) → Prints (refused want status) result (O.held out.old) (O.held out.new) }
-    ensures write { result ≡ Status.WriteFault → 0 < O.faults out.new }
-    ensures sound { result ≢ Status.WriteFault → O.faults out.new ≡ 0 }
-    ensures read { result ≡ Status.ReadFault → status ≡ Status.ReadFault }
+    ensures prints { (want : List ℕ) → IfOk line (λ text. string_bytes text ≡ want)
+        → Prints (refused want status) result (O.held out.old) (O.held out.new) }
+    ensures cause { HasCause (result ≡ Status.WriteFault) (result ≡ Status.ReadFault)
+        (O.faults out.new) (status ≡ Status.ReadFault) }
+    ensures status { (result ≡ status) ⊎ IsTrue (is_cut result) }
 {
     match line {
         Ok(line) => say(Stream::Err, line.as_str(), status, out),
@@ -49,11 +51,15 @@ fn say_made<O: Sinks>(line: Result<String, Memory>, status: Status, out: &mut O)
 /// Tells words that ask for no run: help and the version on Out, any other text on Err.
 pub fn tell_words<O: Sinks>(fault: WordsFault, out: &mut O) -> Status
     requires { O.faults out.old ≡ 0 }
-    ensures tells { (kinds : Kinds) (asked : Option Asked) → Answers kinds asked (Err fault) → kinds ≢ [] → TellsWords kinds result (O.held out.old) (O.held out.new) }
-    ensures silent { (asked : Option Asked) → Answers [] asked (Err fault) → (result ≡ Status.Memory) × Prints (refused [] Status.Memory) result (O.held out.old) (O.held out.new) }
-    ensures write { result ≡ Status.WriteFault → 0 < O.faults out.new }
-    ensures sound { result ≢ Status.WriteFault → O.faults out.new ≡ 0 }
-    ensures read { result ≢ Status.ReadFault }
+    ensures tells { (kinds : Kinds) (asked : Option Asked) → Answers kinds asked (Err fault)
+        → kinds ≢ [] → TellsWords kinds result (O.held out.old) (O.held out.new) }
+    ensures silent { (asked : Option Asked) → Answers [] asked (Err fault)
+        → (result ≡ Status.Memory)
+        × Prints (refused [] Status.Memory) result (O.held out.old) (O.held out.new) }
+    ensures cause { HasCause (result ≡ Status.WriteFault) (result ≡ Status.ReadFault)
+        (O.faults out.new) ⊥ }
+    ensures platform { result ≢ Status.Platform }
+    ensures deployment { result ≢ Status.Deployment }
 {
     match fault {
         WordsFault::Help(text) => say(Stream::Out, text.as_str(), Status::Completed, out),
@@ -67,9 +73,10 @@ pub fn refuse<O: Sinks>(alloc: Global, refusal: Refusal, out: &mut O) -> Status
     requires { O.faults out.old ≡ 0 }
     ensures prints { Prints (refusal_outcome refusal) result (O.held out.old) (O.held out.new) }
     ensures memory { refusal ≡ Refusal.Memory → result ≡ Status.Memory }
-    ensures write { result ≡ Status.WriteFault → 0 < O.faults out.new }
-    ensures sound { result ≢ Status.WriteFault → O.faults out.new ≡ 0 }
-    ensures read { result ≡ Status.ReadFault → IsReadFault refusal }
+    ensures words { result ≢ Status.Words }
+    ensures platform { result ≡ Status.Platform → IsOfPlatform refusal }
+    ensures cause { HasCause (result ≡ Status.WriteFault) (result ≡ Status.ReadFault)
+        (O.faults out.new) (IsReadFault refusal) }
 {
     match refusal {
         Refusal::Platform(fault) => say_made(platform_line(alloc, &fault), Status::Platform, out),
@@ -107,7 +114,8 @@ pub fn refuse<O: Sinks>(alloc: Global, refusal: Refusal, out: &mut O) -> Status
 
 /// The status of a run that ended so.
 pub fn status(ended: Ended) -> Status
-    ensures { result ≡ status_of ended }
+    ensures is { result ≡ status_of ended }
+    ensures unrefused { is_refusal result ≡ false }
 {
     match ended {
         Ended::Completed => Status::Completed,
@@ -115,7 +123,7 @@ pub fn status(ended: Ended) -> Status
         Ended::Starved => Status::Starved,
         Ended::Budget => Status::Budget,
         Ended::Script(_, _) => Status::Script,
-        Ended::NoRoute(..) | Ended::TooLong(..) => Status::Route,
+        Ended::NoRoute { .. } | Ended::TooLong { .. } => Status::Route,
         Ended::ReadFault => Status::ReadFault,
         Ended::WriteFault => Status::WriteFault,
         Ended::Memory => Status::Memory,

@@ -6,9 +6,10 @@ ghost use Rattle.sg_edge.specs.declared.files.Stage.TheVariants.{Fresh};
 use crate::top::simgrid;
 use sg_actor::{Actor, PlainContext, TapeContext, all_blank};
 use sg_base::{Memory, Steps};
-use sg_edge::{Files, MemFiles, MemSinks, Sinks};
+use sg_edge::{Files, MemFiles, MemSinks, Sinks, Stream};
 use std::alloc::Global;
 use std::marker::Brand;
+use std::process::Abort;
 use std::sync::ledger::{Blank, Ledger};
 use std::thread::Threads;
 
@@ -17,16 +18,23 @@ pub const FAST: &str = "zone = [{id = 'z', routing = 'Full'}]
 host = [{id = 'h1', zone = 'z', speed = '1Gf'}, {id = 'h2', zone = 'z', speed = '1Gf'}]
 ";
 
-/// One host of 10 flops a second.
-pub const SLOW: &str = "zone = [{id = 'z', routing = 'Full'}]
-host = [{id = 'h1', zone = 'z', speed = '10f'}]
-";
-
 /// Two hosts with a link between them.
 pub const LINE: &str = "zone = [{id = 'z', routing = 'Full'}]
 host = [{id = 'h1', zone = 'z', speed = '1Gf'}, {id = 'h2', zone = 'z', speed = '1Gf'}]
 link = [{id = 'l', bandwidth = '1MBps', latency = '10ms'}]
 route = [{src = 'h1', dst = 'h2', links = ['l']}]
+";
+
+pub const ONE: &str = "actor = [{name = 'p0', host = 'h1', function = 'replay'}]
+mutex = [{id = 'm1'}]
+";
+
+pub const TWO: &str = "actor = [
+    {name = 'p0', host = 'h1', function = 'replay'},
+    {name = 'p1', host = 'h2', function = 'replay'},
+]
+mutex = [{id = 'm1'}]
+semaphore = [{id = 's1', capacity = 0}]
 ";
 
 pub const REPLAY: &str = "simgrid_replay replay p d s";
@@ -40,6 +48,47 @@ pub enum Kinds {
     Both,
 }
 
+/// A call with these words over these texts, with so many contexts.
+#[derive(Clone, Copy, Debug)]
+pub struct Call<'a> {
+    pub words: &'a str,
+    pub platform: &'a [u8],
+    pub deployment: &'a [u8],
+    pub script: &'a [u8],
+    pub kinds: Kinds,
+    pub contexts: u32,
+    /// The numbers of the calls of its parts that fail, from 1.
+    pub reads: &'a [u64],
+    /// The numbers of its writes that fail, from 1. Each write takes 7 bytes at most.
+    pub writes: &'a [u64],
+}
+
+/// What a call has written, and its exit status.
+#[derive(Drop)]
+pub struct Done {
+    pub out: MemSinks,
+    pub status: u8,
+}
+
+/// A call with contexts enough, in which nothing fails.
+pub fn call_of<'a>(
+    words: &'a str,
+    platform: &'a str,
+    deployment: &'a str,
+    script: &'a str,
+) -> Call<'a> {
+    Call {
+        words,
+        platform: platform.as_bytes(),
+        deployment: deployment.as_bytes(),
+        script: script.as_bytes(),
+        kinds: Kinds::Both,
+        contexts: 20,
+        reads: &[],
+        writes: &[],
+    }
+}
+
 /// The words of a command line.
 pub fn words(alloc: Global, line: &str) -> Result<Vec<String>, Memory> {
     let mut words = Vec::new(alloc);
@@ -47,18 +96,6 @@ pub fn words(alloc: Global, line: &str) -> Result<Vec<String>, Memory> {
         words.push(String::from_str(alloc, word)?)?;
     }
     Ok(words)
-}
-
-/// A deployment that has actors `p0`, `p1` and so on, on these hosts.
-pub fn on_hosts(alloc: Global, hosts: &[&str]) -> Result<String, Memory> {
-    let mut text = String::new(alloc);
-    for (n, host) in hosts.iter().enumerate() {
-        let row = format!(in alloc;
-            "[[actor]]\nname = 'p{n}'\nhost = '{host}'\nfunction = 'replay'\n"
-        )?;
-        text.push_str(row.as_str())?;
-    }
-    Ok(text)
 }
 
 fn context(alloc: Global, tape: bool) -> Result<Box<dyn Actor + Send>, Memory> {
@@ -71,7 +108,7 @@ fn context(alloc: Global, tape: bool) -> Result<Box<dyn Actor + Send>, Memory> {
 }
 
 /// The crew, all of whom are found to be blank.
-pub fn blank(crew: Vec<Box<dyn Actor + Send>>) -> Result<Vec<Box<dyn Actor + Send>>, Memory>
+pub fn blank_crew(crew: Vec<Box<dyn Actor + Send>>) -> Result<Vec<Box<dyn Actor + Send>>, Memory>
     ensures { IfOk result (λ crew. All (λ b. mind b ≡ None) crew.items) }
 {
     if all_blank(crew.as_slice()) {
@@ -98,7 +135,7 @@ pub fn crew_of(
         };
         crew.push(context(alloc, tape)?)?;
     }
-    blank(crew)
+    blank_crew(crew)
 }
 
 /// The exit status of a call, which counts its own steps.
@@ -122,29 +159,25 @@ pub fn code_of<R: Threads + Sync, F: Files, O: Sinks, L: Ledger>(
     simgrid(rt, alloc, words, files, out, crew, &mut steps).code()
 }
 
-/// The exit status of a call with these words over these three texts, its parts afterwards, and what it wrote. Calls
-/// and writes of these numbers fail.
-pub fn call<R: Threads + Sync>(
+/// Makes a call with this crew.
+pub fn make<R: Threads + Sync>(
     rt: &R,
     alloc: Global,
-    line: &str,
-    texts: (&str, &str, &[u8]),
-    failing: (&[u64], &[u64]),
+    call: &Call<'_>,
     crew: &mut Vec<Box<dyn Actor + Send>>,
-) -> Result<(u8, MemFiles, MemSinks), Memory>
+) -> Result<Done, Memory>
     requires { All (λ b. mind b ≡ None) crew.old.items }
 {
-    let (platform, deployment, script) = texts;
-    let words = words(alloc, line)?;
+    let words = words(alloc, call.words)?;
     let mut files = MemFiles::new(
         alloc,
-        Some(platform.as_bytes()),
-        Some(deployment.as_bytes()),
-        Some(script),
-        failing.0,
+        Some(call.platform),
+        Some(call.deployment),
+        Some(call.script),
+        call.reads,
     )?;
-    let mut out = MemSinks::new(alloc, 4000, 4000, failing.1, 7)?;
-    let code = code_of::<R, MemFiles, MemSinks, Brand>(
+    let mut out = MemSinks::new(alloc, 4000, 4000, call.writes, 7)?;
+    let status = code_of::<R, MemFiles, MemSinks, Brand>(
         rt,
         alloc,
         &words,
@@ -153,30 +186,41 @@ pub fn call<R: Threads + Sync>(
         crew,
         Blank::new(1),
     );
-    Ok((code, files, out))
+    Ok(Done { out, status })
 }
 
-/// The exit status of a call with contexts enough in which nothing fails, and what it wrote.
-pub fn told<R: Threads + Sync>(
+/// Makes a call, and compares what stands on Out and on Err, and the exit status.
+pub fn compare<R: Abort + Threads + Sync>(
     rt: &R,
     alloc: Global,
-    line: &str,
-    texts: (&str, &str, &[u8]),
-) -> Result<(u8, MemSinks), Memory> {
-    let mut crew = crew_of(alloc, Kinds::Both, 20)?;
-    let (status, _, out) = call(rt, alloc, line, texts, (&[], &[]), &mut crew)?;
-    Ok((status, out))
+    call: &Call<'_>,
+    want: (&str, &str, u8),
+) -> Result<(), Memory> {
+    let words = call.words;
+    let mut crew = crew_of(alloc, call.kinds, call.contexts)?;
+    let done = make(rt, alloc, call, &mut crew)?;
+    assert_eq!(rt; done.out.held(Stream::Out), want.0.as_bytes(), "{words}");
+    assert_eq!(rt; done.out.held(Stream::Err), want.1.as_bytes(), "{words}");
+    assert_eq!(rt; done.status, want.2, "{words}");
+    Ok(())
 }
 
-/// The same of a replay, in which calls and writes of these numbers fail.
-pub fn replay<R: Threads + Sync>(
-    rt: &R,
-    alloc: Global,
-    texts: (&str, &str, &[u8]),
-    calls: &[u64],
-    writes: &[u64],
-) -> Result<(u8, MemSinks), Memory> {
-    let mut crew = crew_of(alloc, Kinds::Both, 20)?;
-    let (status, _, out) = call(rt, alloc, REPLAY, texts, (calls, writes), &mut crew)?;
-    Ok((status, out))
+/// The words, a platform, a deployment and a script, what stands on Out and on Err, and the exit status.
+pub type Row = (
+    &'static str,
+    &'static str,
+    &'static str,
+    &'static str,
+    &'static str,
+    &'static str,
+    u8,
+);
+
+/// Makes the call of each row, and compares what it comes to.
+pub fn hold<R: Abort + Threads + Sync>(rt: &R, alloc: Global, rows: &[Row]) -> Result<(), Memory> {
+    for (words, platform, deployment, script, out, err, status) in rows {
+        let call = call_of(words, platform, deployment, script);
+        compare(rt, alloc, &call, (out, err, *status))?;
+    }
+    Ok(())
 }

@@ -1,13 +1,10 @@
 //! Whole runs over links, routes and objects, and what they write.
-use crate::testing::{LINE, replay};
-use sg_base::Memory;
-use sg_edge::Stream;
-use std::alloc::Global;
+use crate::testing::{FAST, LINE, ONE, REPLAY, Row, TWO, hold};
 use std::test::Fail;
 
-/// Two hosts, and no route.
-const APART: &str = "zone = [{id = 'z', routing = 'Full'}]
-host = [{id = 'h1', zone = 'z', speed = '1Gf'}, {id = 'h2', zone = 'z', speed = '1Gf'}]
+/// One host of 10 flops a second.
+const SLOW: &str = "zone = [{id = 'z', routing = 'Full'}]
+host = [{id = 'h1', zone = 'z', speed = '10f'}]
 ";
 
 /// Two hosts with a link between them, and no way back.
@@ -77,18 +74,6 @@ link = [
 spoke = [{zone = 'z', child = 'h1', up = ['l1', 'bb']}, {zone = 'z', child = 'h2', up = ['l2', 'bb']}]
 ";
 
-const ONE: &str = "actor = [{name = 'p0', host = 'h1', function = 'replay'}]
-mutex = [{id = 'm1'}]
-";
-
-const TWO: &str = "actor = [
-    {name = 'p0', host = 'h1', function = 'replay'},
-    {name = 'p1', host = 'h2', function = 'replay'},
-]
-mutex = [{id = 'm1'}]
-semaphore = [{id = 's1', capacity = 0}]
-";
-
 const THREE: &str = "actor = [
     {name = 'p0', host = 'h1', function = 'replay'},
     {name = 'p1', host = 'h2', function = 'replay'},
@@ -114,13 +99,38 @@ const SIX: &str = "actor = [
 ]
 ";
 
+/// Three actors on one host.
+const BESIDE: &str = "actor = [
+    {name = 'p0', host = 'h1', function = 'replay'},
+    {name = 'p1', host = 'h1', function = 'replay'},
+    {name = 'p2', host = 'h1', function = 'replay'},
+]
+";
+
+/// Eleven actors on one host.
+const CROWD: &str = "actor = [
+    {name = 'p0', host = 'h1', function = 'replay'},
+    {name = 'p1', host = 'h1', function = 'replay'},
+    {name = 'p2', host = 'h1', function = 'replay'},
+    {name = 'p3', host = 'h1', function = 'replay'},
+    {name = 'p4', host = 'h1', function = 'replay'},
+    {name = 'p5', host = 'h1', function = 'replay'},
+    {name = 'p6', host = 'h1', function = 'replay'},
+    {name = 'p7', host = 'h1', function = 'replay'},
+    {name = 'p8', host = 'h1', function = 'replay'},
+    {name = 'p9', host = 'h1', function = 'replay'},
+    {name = 'p10', host = 'h1', function = 'replay'},
+]
+";
+
 const SEND: &str = "p0 send p1 1e6\np1 recv p0\n";
 
 const TWO_SENDS: &str = "p0 send p1 1e6\np1 recv p0\np2 send p3 1e6\np3 recv p2\n";
 
-/// A platform, a deployment, a script, what is written to Out and to Err, and the exit status.
-const RUNS: [(&str, &str, &str, &str, &str, u8); 31] = [
+/// Replays over links, routes and objects.
+static RUNS: [Row; 21] = [
     (
+        REPLAY,
         LINE,
         TWO,
         SEND,
@@ -132,6 +142,7 @@ Simulation time 1.010000000
         0,
     ),
     (
+        REPLAY,
         SLOW_LINE,
         FOUR,
         "p0 send p1 1\np1 recv p0\np2 send p3 1\np3 recv p2\n",
@@ -145,6 +156,7 @@ blocked [h2:p3:(4)] recv p2
         7,
     ),
     (
+        REPLAY,
         LINE,
         TWO,
         "p0 recv p1\np1 recv p0\n",
@@ -156,6 +168,7 @@ blocked [h2:p1:(2)] recv p0
         6,
     ),
     (
+        REPLAY,
         LINE,
         ONE,
         "p0 compute 0\n",
@@ -164,6 +177,7 @@ blocked [h2:p1:(2)] recv p0
         0,
     ),
     (
+        REPLAY,
         SLOW_LINE,
         TWO,
         "p0 send p1 0\np1 recv p0\n",
@@ -175,6 +189,7 @@ Simulation time 0.000000000
         0,
     ),
     (
+        REPLAY,
         TWO_LINKS,
         SIX,
         "p0 send p1 10\np1 recv p0\np2 send p3 10\np3 recv p2\np4 send p5 10\np5 recv p4\n",
@@ -190,6 +205,7 @@ Simulation time 5.000000000
         0,
     ),
     (
+        REPLAY,
         PIPE,
         FOUR,
         TWO_SENDS,
@@ -203,6 +219,7 @@ Simulation time 1.010000000
         0,
     ),
     (
+        REPLAY,
         LINE,
         FOUR,
         TWO_SENDS,
@@ -216,6 +233,7 @@ Simulation time 2.010000000
         0,
     ),
     (
+        REPLAY,
         TWO_ZONES,
         TWO,
         SEND,
@@ -227,6 +245,7 @@ Simulation time 1.030000000
         0,
     ),
     (
+        REPLAY,
         STAR,
         TWO,
         SEND,
@@ -238,6 +257,7 @@ Simulation time 1.030000000
         0,
     ),
     (
+        REPLAY,
         STAR,
         ONE,
         "p0 isend p0 498000000\np0 recv p0\np0 wait\n",
@@ -250,6 +270,7 @@ Simulation time 1.000015000
         0,
     ),
     (
+        REPLAY,
         LINE,
         ONE,
         "p0 unlock m1\np0 wait\n",
@@ -261,6 +282,7 @@ Simulation time 0.000000000
         0,
     ),
     (
+        REPLAY,
         LINE,
         ONE,
         "p0 wait\n",
@@ -269,6 +291,7 @@ Simulation time 0.000000000
         0,
     ),
     (
+        REPLAY,
         LINE,
         TWO,
         "p0 lock m1\np0 compute 1e9\np0 unlock m1\np1 lock m1\np1 unlock m1\n",
@@ -283,6 +306,7 @@ Simulation time 1.000000000
         0,
     ),
     (
+        REPLAY,
         LINE,
         TWO,
         "p0 sleep 1\np0 barrier\np1 barrier\n",
@@ -295,6 +319,7 @@ Simulation time 1.000000000
         0,
     ),
     (
+        REPLAY,
         LINE,
         TWO,
         "p0 acquire s1\np1 sleep 2\np1 release s1\n",
@@ -307,7 +332,8 @@ Simulation time 2.000000000
         0,
     ),
     (
-        APART,
+        REPLAY,
+        FAST,
         TWO,
         "p0 send p1 1\np1 recv p0\n",
         "",
@@ -315,6 +341,7 @@ Simulation time 2.000000000
         9,
     ),
     (
+        REPLAY,
         LINE,
         THREE,
         "p0 barrier\np1 barrier\n",
@@ -326,6 +353,7 @@ blocked [h2:p1:(2)] barrier
         6,
     ),
     (
+        REPLAY,
         LINE,
         ONE,
         "p0 lock m9\n",
@@ -334,6 +362,7 @@ blocked [h2:p1:(2)] barrier
         5,
     ),
     (
+        REPLAY,
         LINE,
         TWO,
         "p0 irecv p1\np0 wait\np1 isend p0 1e6\np1 yield\np1 wait\n",
@@ -348,6 +377,7 @@ Simulation time 1.010000000
         0,
     ),
     (
+        REPLAY,
         LINE,
         TWO,
         "p0 acquire s1\n",
@@ -355,8 +385,137 @@ Simulation time 1.010000000
         "",
         6,
     ),
-    // Worked out by hand.
+];
+
+/// Replays on hosts alone.
+static COMPUTATIONS: [Row; 10] = [
     (
+        REPLAY,
+        FAST,
+        ONE,
+        "p0 compute 1e9\n",
+        "[h1:p0:(1) 1.000000000] compute 1000000000 1.000000000
+Simulation time 1.000000000
+",
+        "",
+        0,
+    ),
+    (
+        REPLAY,
+        FAST,
+        ONE,
+        "# head\r\n\r\np0 compute 1e9",
+        "[h1:p0:(1) 1.000000000] compute 1000000000 1.000000000
+Simulation time 1.000000000
+",
+        "",
+        0,
+    ),
+    (
+        REPLAY,
+        FAST,
+        ONE,
+        "p0 compute 0\n",
+        "[h1:p0:(1) 0.000000000] compute 0 0.000000000
+Simulation time 0.000000000
+",
+        "",
+        0,
+    ),
+    (
+        REPLAY,
+        FAST,
+        ONE,
+        "p0 sleep 1\n",
+        "[h1:p0:(1) 1.000000000] sleep 1.000000000
+Simulation time 1.000000000
+",
+        "",
+        0,
+    ),
+    (
+        REPLAY,
+        FAST,
+        ONE,
+        "",
+        "Simulation time 0.000000000\n",
+        "",
+        0,
+    ),
+    (
+        REPLAY,
+        FAST,
+        BESIDE,
+        "p0 compute 1e9\np1 compute 1e9\n",
+        "[h1:p0:(1) 2.000000000] compute 1000000000 2.000000000
+[h1:p1:(2) 2.000000000] compute 1000000000 2.000000000
+Simulation time 2.000000000
+",
+        "",
+        0,
+    ),
+    (
+        REPLAY,
+        SLOW,
+        BESIDE,
+        "p0 compute 10\np1 compute 10\np2 compute 10\n",
+        "[h1:p0:(1) 3.333333334] compute 10 3.333333334
+[h1:p1:(2) 3.333333334] compute 10 3.333333334
+[h1:p2:(3) 3.333333334] compute 10 3.333333334
+Simulation time 3.333333334
+",
+        "",
+        0,
+    ),
+    (
+        REPLAY,
+        SLOW,
+        BESIDE,
+        "p0 compute 10\np1 compute 10\np2 compute 1\n",
+        "[h1:p2:(3) 0.333333334] compute 1 0.333333334
+[h1:p0:(1) 2.133333334] compute 10 2.133333334
+[h1:p1:(2) 2.133333334] compute 10 2.133333334
+Simulation time 2.133333334
+",
+        "",
+        0,
+    ),
+    (
+        REPLAY,
+        SLOW,
+        CROWD,
+        "p0 compute 1\np1 compute 1\np2 compute 1\np3 compute 1\np4 compute 1\np5 compute 1\np6 compute 1\np7 compute 1\np8 compute 1\np9 compute 1\np10 compute 1\n",
+        "starved at 0.000000000
+blocked [h1:p0:(1)] compute 1
+blocked [h1:p1:(2)] compute 1
+blocked [h1:p2:(3)] compute 1
+blocked [h1:p3:(4)] compute 1
+blocked [h1:p4:(5)] compute 1
+blocked [h1:p5:(6)] compute 1
+blocked [h1:p6:(7)] compute 1
+blocked [h1:p7:(8)] compute 1
+blocked [h1:p8:(9)] compute 1
+blocked [h1:p9:(10)] compute 1
+blocked [h1:p10:(11)] compute 1
+",
+        "",
+        7,
+    ),
+    (
+        REPLAY,
+        FAST,
+        TWO,
+        "p0 compute 1e9\np1 compute 5e8\np0 jump 5\n",
+        "[h2:p1:(2) 0.500000000] compute 500000000 0.500000000\n",
+        "script line 3: unknown action\n",
+        5,
+    ),
+];
+
+/// Replays whose lines are worked out by hand.
+static BY_HAND: [Row; 10] = [
+    (
+        REPLAY,
         LINE,
         TWO,
         "p0 isend p1 0\np0 isend p1 1e6\np0 wait\np0 wait\np1 recv p0\np1 recv p0\n",
@@ -372,6 +531,7 @@ Simulation time 1.020000000
         0,
     ),
     (
+        REPLAY,
         LINE,
         TWO,
         "p0 isend p1 5\np1 yield\n",
@@ -383,6 +543,7 @@ Simulation time 0.000000000
         0,
     ),
     (
+        REPLAY,
         LINE,
         TWO,
         "p1 irecv p0\np1 irecv p0\np1 wait\np0 send p1 1e6\n",
@@ -396,6 +557,7 @@ Simulation time 1.010000000
         0,
     ),
     (
+        REPLAY,
         LINE,
         TWO,
         "p0 isend p1 1e6\np0 compute 5e8\np0 wait\np1 recv p0 7\n",
@@ -409,6 +571,7 @@ Simulation time 1.010000000
         0,
     ),
     (
+        REPLAY,
         LINE,
         TWO,
         "p0 isend p1 0\np0 sleep 1\np0 wait\np1 recv p0\n",
@@ -422,6 +585,7 @@ Simulation time 1.000000000
         0,
     ),
     (
+        REPLAY,
         LINE,
         TWO,
         "p0 lock m1\np0 lock m1\n",
@@ -433,6 +597,7 @@ blocked [h1:p0:(1)] lock m1
         6,
     ),
     (
+        REPLAY,
         LINE,
         TWO,
         "p0 release s1\np0 acquire s1\n",
@@ -444,6 +609,7 @@ Simulation time 0.000000000
         0,
     ),
     (
+        REPLAY,
         ONE_WAY,
         TWO,
         "p1 send p0 1\np0 recv p1\n",
@@ -452,6 +618,7 @@ Simulation time 0.000000000
         9,
     ),
     (
+        REPLAY,
         LINE,
         TWO,
         "p0 send p9 1\n",
@@ -460,6 +627,7 @@ Simulation time 0.000000000
         5,
     ),
     (
+        REPLAY,
         LINE,
         TWO,
         "p0 lock m1\np1 sleep 1\np1 lock m1\n",
@@ -475,88 +643,18 @@ blocked [h2:p1:(2)] lock m1
 
 #[test]
 fn writes_the_lines_of_runs(rt: HostRuntime) -> Result<(), Fail> {
-    let alloc = rt.alloc();
-    for (platform, deployment, script, out, err, code) in RUNS {
-        let (status, held) = replay(
-            &rt,
-            alloc,
-            (platform, deployment, script.as_bytes()),
-            &[],
-            &[],
-        )?;
-        assert_eq!(rt; held.held(Stream::Out), out.as_bytes(), "for {script}");
-        assert_eq!(rt; held.held(Stream::Err), err.as_bytes(), "for {script}");
-        assert_eq!(rt; status, code, "for {script}");
-    }
-    Ok(())
-}
-
-/// The names of so many links from this number on, in quotes.
-fn link_names(alloc: Global, from: u32, to: u32) -> Result<String, Memory> {
-    let mut text = String::new(alloc);
-    for n in from..to {
-        let name = format!(in alloc; "'k{n}',")?;
-        text.push_str(name.as_str())?;
-    }
-    Ok(text)
-}
-
-/// Two zones with 65 links between their hosts: 64 to the first router, and one more.
-fn far_apart(alloc: Global) -> Result<String, Memory> {
-    let mut links = String::new(alloc);
-    for n in 0..65u32 {
-        let row = format!(in alloc; "{{id = 'k{n}', bandwidth = '1MBps'}},")?;
-        links.push_str(row.as_str())?;
-    }
-    let front = link_names(alloc, 0, 64)?;
-    let last = link_names(alloc, 64, 65)?;
-    match format!(in alloc;
-        "zone = [
-    {{id = 'z', routing = 'Full'}},
-    {{id = 'za', parent = 'z', routing = 'Full'}},
-    {{id = 'zb', parent = 'z', routing = 'Full'}},
-]
-host = [{{id = 'h1', zone = 'za', speed = '1Gf'}}, {{id = 'h2', zone = 'zb', speed = '1Gf'}}]
-router = [{{id = 'r1', zone = 'za'}}]
-link = [{links}]
-route = [{{src = 'h1', dst = 'r1', links = [{front}]}}]
-zone_route = [{{src = 'za', dst = 'zb', gw_src = 'r1', gw_dst = 'h2', links = [{last}]}}]
-"
-    ) {
-        Ok(text) => Ok(text),
-        Err(_) => Err(Memory),
-    }
-}
-
-#[test]
-fn a_route_has_64_links_at_most(rt: HostRuntime) -> Result<(), Fail> {
-    let alloc = rt.alloc();
-    let platform = far_apart(alloc)?;
-    let script = b"p0 send p1 1\np1 recv p0\n";
-    let (status, out) = replay(
-        &rt,
-        alloc,
-        (platform.as_str(), TWO, script.as_slice()),
-        &[],
-        &[],
-    )?;
-    assert_eq!(rt;
-        out.held(Stream::Err),
-        b"route from h1 to h2: more than 64 links\n".as_slice()
-    );
-    assert_eq!(rt; (status, out.held(Stream::Out).len()), (9, 0));
+    hold(&rt, rt.alloc(), &RUNS)?;
     Ok(())
 }
 
 #[test]
-fn a_failed_write_leaves_a_front(rt: HostRuntime) -> Result<(), Fail> {
-    let alloc = rt.alloc();
-    let (status, out) = replay(&rt, alloc, (LINE, TWO, SEND.as_bytes()), &[], &[11])?;
-    // Each write takes 7 bytes at most.
-    assert_eq!(rt;
-        out.held(Stream::Out),
-        b"[h1:p0:(1) 1.010000000] send p1 1000000 1.010000000\n[h2:p1:(2) 1.01000".as_slice()
-    );
-    assert_eq!(rt; (status, out.held(Stream::Err).len()), (11, 0));
+fn writes_the_lines_of_computations(rt: HostRuntime) -> Result<(), Fail> {
+    hold(&rt, rt.alloc(), &COMPUTATIONS)?;
+    Ok(())
+}
+
+#[test]
+fn writes_the_lines_worked_out_by_hand(rt: HostRuntime) -> Result<(), Fail> {
+    hold(&rt, rt.alloc(), &BY_HAND)?;
     Ok(())
 }

@@ -1,24 +1,25 @@
-//! That the turns of a round run side by side.
-use crate::testing::{FAST, blank, call, on_hosts};
+//! That the turns of a round run side by side, as many as there are workers.
+use crate::testing::{LINE, TWO, blank_crew, call_of, make};
 use sg_actor::{Actor, PlainContext, Role};
 use sg_base::{Answer, Call, Memory};
-use sg_edge::Stream;
 use std::alloc::Global;
 use std::sync::Arc;
 use std::sync::atomic::{AtomicU64, Ordering};
 use std::test::Fail;
 
-/// An actor that sets its flag before each turn, and then looks for another's.
+/// An actor that waits in one of its turns until so many have come there.
 #[derive(Drop)]
-struct Looker {
+struct Meeter {
     inner: PlainContext,
-    mine: Arc<AtomicU64>,
-    other: Arc<AtomicU64>,
-    /// How many turns have not found it.
+    /// How many turns are left until that one.
+    turns: u32,
+    wanted: u64,
+    here: Arc<AtomicU64>,
+    /// How many have waited for nothing.
     missed: Arc<AtomicU64>,
 }
 
-impl Actor for Looker {
+impl Actor for Meeter {
     ghost mind = { λ s. s.inner };
 
     fn is_blank(&self) -> bool {
@@ -30,62 +31,110 @@ impl Actor for Looker {
     }
 
     fn turn(&mut self, answer: Answer) -> Call {
-        self.mine.store(1, Ordering::SeqCst);
-        let mut found = false;
-        for _i in 0..100_000_000u32 {
-            if self.other.load(Ordering::SeqCst) == 1 {
-                found = true;
-                break;
+        if self.turns == 1 {
+            self.here.fetch_add(1, Ordering::SeqCst);
+            let mut met = false;
+            for _i in 0..1_000_000_000u32 {
+                if self.here.load(Ordering::SeqCst) == self.wanted {
+                    met = true;
+                    break;
+                }
+            }
+            if !met {
+                self.missed.fetch_add(1, Ordering::SeqCst);
             }
         }
-        if !found {
-            self.missed.fetch_add(1, Ordering::SeqCst);
-        }
+        self.turns = self.turns.saturating_sub(1);
         self.inner.turn(answer)
     }
 }
 
-fn looker_for(
+fn meeter_at(
     alloc: Global,
-    mine: &Arc<AtomicU64>,
-    other: &Arc<AtomicU64>,
+    turns: u32,
+    wanted: u64,
+    here: &Arc<AtomicU64>,
     missed: &Arc<AtomicU64>,
-) -> Result<Looker, Fail> {
-    Ok(Looker {
+) -> Result<Meeter, Fail> {
+    Ok(Meeter {
         inner: PlainContext::new(alloc),
-        mine: Arc::try_clone(mine)?,
-        other: Arc::try_clone(other)?,
+        turns,
+        wanted,
+        here: Arc::try_clone(here)?,
         missed: Arc::try_clone(missed)?,
     })
 }
 
+const THREE: &str = "actor = [
+    {name = 'p0', host = 'h1', function = 'replay'},
+    {name = 'p1', host = 'h1', function = 'replay'},
+    {name = 'p2', host = 'h1', function = 'replay'},
+]
+";
+
+const EIGHT: &str = "actor = [
+    {name = 'p0', host = 'h1', function = 'replay'},
+    {name = 'p1', host = 'h1', function = 'replay'},
+    {name = 'p2', host = 'h1', function = 'replay'},
+    {name = 'p3', host = 'h1', function = 'replay'},
+    {name = 'p4', host = 'h1', function = 'replay'},
+    {name = 'p5', host = 'h1', function = 'replay'},
+    {name = 'p6', host = 'h1', function = 'replay'},
+    {name = 'p7', host = 'h1', function = 'replay'},
+]
+";
+
+const MASTER: &str = "actor = [
+    {name = 'm', host = 'h1', function = 'master', argument = ['1', '1', '1', 'w1', 'w2']},
+    {name = 'w1', host = 'h2', function = 'worker'},
+    {name = 'w2', host = 'h2', function = 'worker'},
+]
+";
+
+/// The words, a deployment and a script, how many actors there are, how many of them wait for one another, and in which
+/// of their turns.
+const MEETINGS: [(&str, &str, &str, u32, u64, u32); 7] = [
+    ("p replay p d s --nthreads 2", TWO, "", 2, 2, 1),
+    ("p replay p d s --nthreads 3", THREE, "", 3, 3, 1),
+    ("p replay p d s --nthreads 8", EIGHT, "", 8, 8, 1),
+    // All but these have ended before their third turn.
+    (
+        "p replay p d s --nthreads 8",
+        EIGHT,
+        "p0 sleep 1\np2 sleep 1\np5 sleep 1\np7 sleep 1\n",
+        8,
+        4,
+        3,
+    ),
+    ("p run p d --nthreads 3", MASTER, "", 3, 3, 1),
+    ("p churn 7 3 0 --nthreads 3", TWO, "", 3, 3, 1),
+    ("p churn 7 8 0 --nthreads 8", TWO, "", 8, 8, 1),
+];
+
 #[test]
-fn two_flags(rt: HostRuntime) -> Result<(), Fail> {
+fn turns_run_side_by_side(rt: HostRuntime) -> Result<(), Fail> {
     let alloc = rt.alloc();
-    let a = Arc::new(alloc, AtomicU64::new(0))?;
-    let b = Arc::new(alloc, AtomicU64::new(0))?;
-    let missed = Arc::new(alloc, AtomicU64::new(0))?;
-    let mut crew: Vec<Box<dyn Actor + Send>> = Vec::new(alloc);
-    crew.push(Box::new(alloc, looker_for(alloc, &a, &b, &missed)?)?)?;
-    crew.push(Box::new(alloc, looker_for(alloc, &b, &a, &missed)?)?)?;
-    let deployment = on_hosts(alloc, &["h1", "h1"])?;
-    let script = b"p0 compute 1e9\np1 compute 1e9\n";
-    let line = "p replay a b c --nthreads 2";
-    let texts = (FAST, deployment.as_str(), script.as_slice());
-    let mut crew = blank(crew)?;
-    let (status, _, out) = call(&rt, alloc, line, texts, (&[], &[]), &mut crew)?;
-    assert_eq!(rt;
-        out.held(Stream::Out),
-        b"[h1:p0:(1) 2.000000000] compute 1000000000 2.000000000
-[h1:p1:(2) 2.000000000] compute 1000000000 2.000000000
-Simulation time 2.000000000
-"
-            .as_slice()
-    );
-    assert_eq!(rt; (status, missed.load(Ordering::SeqCst)), (0, 0));
-    assert_eq!(rt;
-        (a.load(Ordering::SeqCst), b.load(Ordering::SeqCst)),
-        (1, 1)
-    );
+    for (words, deployment, script, actors, wanted, turns) in MEETINGS {
+        let here = Arc::new(alloc, AtomicU64::new(0))?;
+        let missed = Arc::new(alloc, AtomicU64::new(0))?;
+        let mut crew: Vec<Box<dyn Actor + Send>> = Vec::new(alloc);
+        for _i in 0..actors {
+            let meeter = meeter_at(alloc, turns, wanted, &here, &missed)?;
+            crew.push(Box::new(alloc, meeter)?)?;
+        }
+        let mut crew = blank_crew(crew)?;
+        let done = make(
+            &rt,
+            alloc,
+            &call_of(words, LINE, deployment, script),
+            &mut crew,
+        )?;
+        let met = (
+            done.status,
+            here.load(Ordering::SeqCst),
+            missed.load(Ordering::SeqCst),
+        );
+        assert_eq!(rt; met, (0, wanted, 0), "{words}: {script}");
+    }
     Ok(())
 }

@@ -27,7 +27,7 @@ kept extent (role.Worker me) is = (refl, λ k a b. grind (arith, is))
 kept extent (role.Master tasks flops bytes workers) (few_flops, few_bytes, some, all) =
     let count = length-map workers number_of in
     (omega (arith, count, some), omega arith, few_flops, few_bytes, λ k a b. workers_are extent tasks flops bytes workers all k b (k - 4) (omega (arith, a)))
-kept extent (role.Churn state steps me next prev) is = (refl, λ k a b. grind (arith, is))
+kept extent (role.Churn seed steps me next prev) is = (refl, λ k a b. grind (arith, is))
 
 pub returns : goal.returns
 returns c = kept

@@ -1,27 +1,26 @@
-use Rattle.std.proofs.Common.{◌≡◌, false, ◌+◌, ◌<◌, ◌≤◌, ℕ, List, length, get_or}
+use Rattle.std.proofs.Common.{◌≡◌, ◌+◌, ◌<◌, ◌≤◌, ℕ, List, Option, length, get_or}
 use Rattle.sg_base.specs.Mind.{Mind}
 use Rattle.sg_edge.specs.declared.files.Part.TheVariants.{Script}
-use Rattle.sg_edge.specs.Files.{Only}
-use Rattle.sg_kernel.specs.World.{World, MayCall}
+use Rattle.sg_kernel.specs.World.{MayCall}
+use Rattle.sg_engine.specs.World.{World}
 use Rattle.sg_script.specs.Known.{known_in}
 use Rattle.sg_engine.specs.declared.actor_call.ActorCall.{ActorCall}
 use Rattle.sg_engine.specs.Listed.{calls_of}
-use Rattle.sg_engine.specs.Reached.{moment_of, Fits, StandsFor, Reached}
+use Rattle.sg_engine.specs.Reached.{moment_of, Fits, StandsFor, Reached, ReadsScript}
 use Rattle.sg_engine.specs.Run.{scene}
 use Rattle.sg_engine.proofs.Calls.{rest_from}
 use Rattle.sg_engine.proofs.round.answer_calls.Given as goal
 
-abbrev pub invariant-loop-made : goal.invariant-loop-made
-invariant-loop-made g l =
+abbrev pub invariant-loop-place : goal.invariant-loop-place
+invariant-loop-place g l =
     let first = moment_of l.setup.script (g.F.Files.shows l.fn.files Script) l.fn.script l.fn.kernel in
     let now = moment_of l.setup.script (g.F.Files.shows l.files Script) l.script l.kernel in
     record {
-      reached : (taken : List ℕ) (minds : List Mind) (world : World) → StandsFor (known_in l.setup.deployment) taken minds first world →
-          Reached (known_in l.setup.deployment) (λ answers. calls_of (scene l.setup.router l.fn.kernel.setup l.setup.script) answers l.calls world) (rest_from (scene l.setup.router l.fn.kernel.setup l.setup.script) l.calls l.made-index) taken minds first now;
+      reached : (minds : List (Option Mind)) (taken : List ℕ) (world : World) → StandsFor (known_in l.setup.deployment) taken minds first world →
+          Reached world.work (known_in l.setup.deployment) (λ answers. calls_of (scene l.setup.router l.fn.kernel.setup l.setup.script) answers l.calls world) (rest_from (scene l.setup.router l.fn.kernel.setup l.setup.script) l.calls l.place) taken minds first now;
       fits : Fits l.setup.deployment now;
-      others : Only Script (g.F.Files.shows l.fn.files) (g.F.Files.shows l.files);
-      unscripted : l.setup.script ≡ false → l.files ≡ l.fn.files;
+      script : ReadsScript g.F.Files.shows l.setup.script l.fn.files l.files;
       setup : l.kernel.setup ≡ l.fn.kernel.setup;
-      room : length l.calls ≤ l.kernel.room + l.made-index;
-      callers : (j : ℕ) (d : ActorCall) → l.made-index ≤ j → j < length l.calls → MayCall l.kernel.core (get_or l.calls j d).actor.0;
+      room : length l.calls ≤ l.kernel.room + l.place;
+      callers : (j : ℕ) (d : ActorCall) → l.place ≤ j → j < length l.calls → MayCall l.kernel.core (get_or l.calls j d).actor.0;
     }

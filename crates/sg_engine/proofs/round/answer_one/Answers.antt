@@ -1,7 +1,8 @@
-use Rattle.std.proofs.Common.{◌∙◌, sym}
+use Rattle.std.proofs.Common.{◌∙◌, refl, sym}
 use Rattle.sg_kernel.specs.Calls.{answered}
 use Rattle.sg_engine.specs.Run.{is_ask}
 use Rattle.sg_engine.proofs.Calls.{broken_scripted, fits_scripted, is_scripted, not_unscripted, script_answers, scripted_fits, stepped}
+use Rattle.sg_engine.proofs.Uncut.{uncut_asked}
 use Rattle.sg_engine.proofs.Leaving.{answered_fits, answered_free}
 use Rattle.sg_engine.proofs.round.answer_one.Goals as goal
 
@@ -9,8 +10,8 @@ pub answer_ask-requires-clause-fits : goal.answer_ask-requires-clause-fits
 answer_ask-requires-clause-fits g c = scripted_fits c.args.setup.now.script _ _ c.args.script.now c.args.kernel.now (is_scripted c.args.setup.now.script (is_ask c.args.call) (sym c.asks_script.ensures ∙ c.if-asks_script.true)) c.requires.fits
 
 pub returns-then-asks_script-clause-step : goal.returns-then-asks_script-clause-step
-returns-then-asks_script-clause-step g c = λ taken minds world stands.
-    script_answers c.args.setup.now.script _ c.args.setup.now.router c.args.kernel.now.setup c.args.actor.0 c.args.call taken minds world _ _ c.args.script.now c.answer_ask.new.script c.args.kernel.now c.answer_ask.new.kernel c.answer_ask.result (sym c.asks_script.ensures ∙ c.if-asks_script.true) (c.answer_ask.ensures.step taken minds world) stands
+returns-then-asks_script-clause-step g c = λ minds taken world stands.
+    script_answers c.args.setup.now.script _ c.args.setup.now.router c.args.kernel.now.setup c.args.actor.0 c.args.call taken minds world _ _ c.args.script.now c.answer_ask.new.script c.args.kernel.now c.answer_ask.new.kernel c.answer_ask.result (sym c.asks_script.ensures ∙ c.if-asks_script.true) (c.answer_ask.ensures.step minds taken world) stands
 
 pub returns-then-asks_script-clause-fits : goal.returns-then-asks_script-clause-fits
 returns-then-asks_script-clause-fits g c = fits_scripted c.args.setup.now.script _ _ c.answer_ask.new.script c.answer_ask.new.kernel (is_scripted c.args.setup.now.script (is_ask c.args.call) (sym c.asks_script.ensures ∙ c.if-asks_script.true)) c.answer_ask.ensures.fits
@@ -18,11 +19,20 @@ returns-then-asks_script-clause-fits g c = fits_scripted c.args.setup.now.script
 pub returns-then-asks_script-clause-read : goal.returns-then-asks_script-clause-read
 returns-then-asks_script-clause-read g c = λ is. broken_scripted c.args.setup.now.script _ (is_scripted c.args.setup.now.script (is_ask c.args.call) (sym c.asks_script.ensures ∙ c.if-asks_script.true)) (c.answer_ask.ensures.read is)
 
-pub returns-then-asks_script-clause-unscripted : goal.returns-then-asks_script-clause-unscripted
-returns-then-asks_script-clause-unscripted g c = λ isnt. not_unscripted c.args.setup.now.script (is_scripted c.args.setup.now.script (is_ask c.args.call) (sym c.asks_script.ensures ∙ c.if-asks_script.true)) isnt
+pub returns-then-asks_script-clause-uncut : goal.returns-then-asks_script-clause-uncut
+returns-then-asks_script-clause-uncut g c = uncut_asked c.args.setup.now.script c.answer_ask.result (is_scripted c.args.setup.now.script (is_ask c.args.call) (sym c.asks_script.ensures ∙ c.if-asks_script.true)) c.answer_ask.ensures.uncut
+
+pub returns-then-asks_script-clause-script : goal.returns-then-asks_script-clause-script
+returns-then-asks_script-clause-script g c = record {
+  others = c.answer_ask.ensures.others;
+  unscripted = λ isnt. not_unscripted c.args.setup.now.script (is_scripted c.args.setup.now.script (is_ask c.args.call) (sym c.asks_script.ensures ∙ c.if-asks_script.true)) isnt;
+}
+
+pub returns-else-asks_script-clause-script : goal.returns-else-asks_script-clause-script
+returns-else-asks_script-clause-script g c = record { others = λ q away. refl; unscripted = λ isnt. refl }
 
 pub returns-else-asks_script-clause-step : goal.returns-else-asks_script-clause-step
-returns-else-asks_script-clause-step g c = λ taken minds world stands.
+returns-else-asks_script-clause-step g c = λ minds taken world stands.
     let old = c.args.kernel.now in
     rw (sym c.asks_script.ensures ∙ c.if-asks_script.false)
     (stepped _ taken minds _ _ old c.answer.new.self _ world (λ core. answered c.args.setup.now.router old.setup core c.args.actor.0 c.args.call) c.end_of.result c.requires.fits.begun stands c.answer.ensures.step (c.end_of.ensures.is _ c.answer.ensures.result))

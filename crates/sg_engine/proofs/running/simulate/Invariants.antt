@@ -1,14 +1,12 @@
-use Rattle.std.proofs.Common.{◌≡◌, ◌+◌, ◌-◌, false}
+use Rattle.std.proofs.Common.{◌≡◌, ◌+◌, ◌-◌}
 use Rattle.sg_actor.specs.Seen.{all_seen}
 use Rattle.sg_edge.specs.declared.files.Part.TheVariants.{Script}
 use Rattle.sg_edge.specs.declared.sinks.Stream.TheVariants.{Out, Err}
-use Rattle.sg_edge.specs.Files.{Only}
 use Rattle.sg_script.specs.Known.{known_in}
 use Rattle.sg_script.specs.Stands.{kept_of}
 use Rattle.sg_engine.specs.Keeping.{IsKept}
-use Rattle.sg_engine.specs.Output.{trace_of, scene_of}
-use Rattle.sg_engine.specs.Reached.{script_part}
-use Rattle.sg_engine.specs.Roles.{first_minds}
+use Rattle.sg_engine.specs.Output.{first_of, trace_of, scene_of}
+use Rattle.sg_engine.specs.Reached.{script_part, ReadsScript}
 use Rattle.sg_engine.specs.Run.{run_of}
 use Rattle.sg_engine.specs.Seated.{minds_of}
 use Rattle.sg_engine.proofs.Simulating.{rest_of, SoFar}
@@ -16,15 +14,14 @@ use Rattle.sg_engine.proofs.running.simulate.Given as goal
 
 abbrev pub invariant-loop-turn : goal.invariant-loop-turn
 invariant-loop-turn g l =
-    let at = scene_of l.setup.platform l.setup.deployment l.setup.script l.budget in
+    let at = scene_of l.setup.platform l.setup.deployment l.setup.script l.terms.budget in
     let places = all_seen (λ b. (goal.Actor-dyn g (b.vtable, b.value)).mind b.value) l.seats in
     record {
-      far : SoFar (known_in l.setup.deployment) (trace_of l.show l.setup.platform l.setup.deployment) (run_of at (first_minds l.setup.deployment)) (rest_of (l.budget + 1 - l._turn) at) (minds_of places)
+      far : SoFar l.fn.steps l.steps (known_in l.setup.deployment) (trace_of l.terms.show l.setup.platform l.setup.deployment) (run_of at (first_of l.setup.platform l.setup.deployment l.terms.budget)) (rest_of (l.terms.budget + 1 - l._turn) at) (minds_of places)
           (script_part l.setup.script (g.F.Files.shows l.fn.files Script)) (script_part l.setup.script (g.F.Files.shows l.files Script)) (kept_of l.fn.sim.script) (kept_of l.sim.script) l.fn.sim.kernel l.sim.kernel (g.O.Sinks.held l.fn.out Out) (g.O.Sinks.held l.out Out);
       kept : IsKept l.setup.deployment (script_part l.setup.script (g.F.Files.shows l.files Script)) l.sim places;
       same : l.sim.kernel.setup ≡ at.setup;
       err : g.O.Sinks.held l.out Err ≡ g.O.Sinks.held l.fn.out Err;
       sound : g.O.Sinks.faults l.out ≡ 0;
-      others : Only Script (g.F.Files.shows l.fn.files) (g.F.Files.shows l.files);
-      unscripted : l.setup.script ≡ false → l.files ≡ l.fn.files;
+      script : ReadsScript g.F.Files.shows l.setup.script l.fn.files l.files;
     }

@@ -2,4 +2,4 @@ use Rattle.std.proofs.Common.{sym}
 use Rattle.sg_kernel.proofs.laws.stands_at_first.Goals as goal
 
 pub returns : goal.returns
-returns c setup world is = sym is
+returns c capacities setup world is = sym is

@@ -1,37 +1,62 @@
-use Rattle.std.proofs.Common.{◌-◌, ap, arith, None, Some, ◌∙◌}
+use Rattle.std.proofs.Common.{◌-◌, ap, arith, rules, None, ◌∙◌}
+use Rattle.std.proofs.lemmas.Grind.{common_steps}
 use Rattle.std.proofs.lemmas.List.Elements.{All-set}
 use Rattle.sg_base.specs.declared.call.Answer.TheVariants as answer
 use Rattle.sg_kernel.specs.declared.states.State.TheVariants.{Ready, Blocked}
 use Rattle.sg_kernel.specs.World.{extent}
+use Rattle.sg_kernel.specs.Steps.{record_of}
 use Rattle.sg_kernel.specs.Sound.{setup_in, KeepsLimits}
-use Rattle.sg_kernel.proofs.Woken.{record_more, made_limited}
+use Rattle.sg_kernel.proofs.Limits.{date_below, record_more, reply_limited}
 use Rattle.sg_kernel.proofs.locks.answer_caller.Goals as goal
 
-pub returns-in-GoesOn-clause-limited : goal.returns-in-GoesOn-clause-limited
-returns-in-GoesOn-clause-limited c =
+pub returns-in-GoesOn-clause-steady : goal.returns-in-GoesOn-clause-steady
+returns-in-GoesOn-clause-steady c =
     let parts = c.args.parts.now in
-    let made = made_limited parts c.args.actor c.args.what (Some 0) c.requires.sound c.requires.dated (record { from = c.requires.caller.from; to = c.requires.caller.to }) c.requires.what (omega arith) in
+    let was = c.requires.steady in
+    let made = reply_limited parts c.args.actor c.args.what parts.doing.under.date 0 answer.Done was.sound (record { from = c.requires.caller.from; to = c.requires.caller.to }) c.requires.what (omega arith) (date_below parts was.sound was.dated) in
     record {
-      states = All-set (KeepsLimits (extent (setup_in parts))) parts.states.items (c.args.actor.0 - 1) (Ready answer.Done) tt c.requires.limited.states;
-      owners = c.requires.limited.owners;
-      records = record_more (extent (setup_in parts)) parts.records.items _ c.record_of.result _ c.push_reserved.ensures.items (c.record_of.ensures ∙ ap (λ d. record { actor = c.args.actor; date = d; what = c.args.what; bytes = 0; took = Some 0 }) c.date-date.ensures) made c.requires.limited.records;
+      sound = grind (arith, common_steps);
+      dated = search rules;
+      limited = record {
+        states = All-set (KeepsLimits (extent (setup_in parts))) parts.states.items (c.args.actor.0 - 1) (Ready answer.Done) tt was.limited.states;
+        owners = was.limited.owners;
+        records = record_more (extent (setup_in parts)) parts.records.items _ c.record_of.result _ c.push_reserved.ensures.items
+            (c.record_of.ensures ∙ ap (λ d. record_of c.args.actor.0 c.args.what d 0 answer.Done d) c.date-date.ensures) made was.limited.records;
+      };
+      queued = search rules;
+      meeting = search rules;
     }
 
-pub returns-in-Refused-clause-limited : goal.returns-in-Refused-clause-limited
-returns-in-Refused-clause-limited c =
+pub returns-in-Refused-clause-steady : goal.returns-in-Refused-clause-steady
+returns-in-Refused-clause-steady c =
     let parts = c.args.parts.now in
-    let made = made_limited parts c.args.actor c.args.what None c.requires.sound c.requires.dated (record { from = c.requires.caller.from; to = c.requires.caller.to }) c.requires.what tt in
+    let was = c.requires.steady in
+    let made = reply_limited parts c.args.actor c.args.what parts.doing.under.date 0 answer.Refused was.sound (record { from = c.requires.caller.from; to = c.requires.caller.to }) c.requires.what (omega arith) (date_below parts was.sound was.dated) in
     record {
-      states = All-set (KeepsLimits (extent (setup_in parts))) parts.states.items (c.args.actor.0 - 1) (Ready answer.Refused) tt c.requires.limited.states;
-      owners = c.requires.limited.owners;
-      records = record_more (extent (setup_in parts)) parts.records.items _ c.record_of-in-Refused.result _ c.push_reserved-in-Refused.ensures.items (c.record_of-in-Refused.ensures ∙ ap (λ d. record { actor = c.args.actor; date = d; what = c.args.what; bytes = 0; took = None }) c.date-date.ensures) made c.requires.limited.records;
+      sound = grind (arith, common_steps);
+      dated = search rules;
+      limited = record {
+        states = All-set (KeepsLimits (extent (setup_in parts))) parts.states.items (c.args.actor.0 - 1) (Ready answer.Refused) tt was.limited.states;
+        owners = was.limited.owners;
+        records = record_more (extent (setup_in parts)) parts.records.items _ c.record_of-in-Refused.result _ c.push_reserved-in-Refused.ensures.items
+            (c.record_of-in-Refused.ensures ∙ ap (λ d. record_of c.args.actor.0 c.args.what d 0 answer.Refused d) c.date-date.ensures) made was.limited.records;
+      };
+      queued = search rules;
+      meeting = search rules;
     }
 
-pub returns-in-Waits-clause-limited : goal.returns-in-Waits-clause-limited
-returns-in-Waits-clause-limited c =
+pub returns-in-Waits-clause-steady : goal.returns-in-Waits-clause-steady
+returns-in-Waits-clause-steady c =
     let parts = c.args.parts.now in
+    let was = c.requires.steady in
     record {
-      states = All-set (KeepsLimits (extent (setup_in parts))) parts.states.items (c.args.actor.0 - 1) (Blocked c.args.what c.date-date.result None) c.requires.what c.requires.limited.states;
-      owners = c.requires.limited.owners;
-      records = c.requires.limited.records;
+      sound = grind (arith, common_steps);
+      dated = search rules;
+      limited = record {
+        states = All-set (KeepsLimits (extent (setup_in parts))) parts.states.items (c.args.actor.0 - 1) (Blocked c.args.what c.date-date.result None) c.requires.what was.limited.states;
+        owners = was.limited.owners;
+        records = was.limited.records;
+      };
+      queued = search rules;
+      meeting = search rules;
     }

@@ -9,10 +9,19 @@ pub wake_others-requires-clause-wakers : goal.wake_others-requires-clause-wakers
 wake_others-requires-clause-wakers c =
     let parts = c.answer_caller.new.parts in
     let same = ap (λ (o : Objects). o.others) c.answer_caller.ensures.objects in
-    answered_wakers parts parts.objects.others c.answer_caller.ensures.sound (subst (λ (q : List ActorId). AreWaking parts [] q) (sym same) (c.answer_caller.ensures.waking _ c.requires.waking))
+    answered_wakers parts parts.objects.others c.answer_caller.ensures.steady.sound (subst (λ (q : List ActorId). AreWaking parts [] q) (sym same) (c.answer_caller.ensures.waking _ c.requires.waking))
 
-pub returns-clause-held : goal.returns-clause-held
-returns-clause-held c =
+pub returns-clause-whole : goal.returns-clause-whole
+returns-clause-whole c =
     let parts = c.answer_caller.new.parts in
     let same = ap (λ (o : Objects). o.others) c.answer_caller.ensures.objects in
-    held_again c.wake_others.new.parts (c.wake_others.ensures.waking [] (subst (λ (q : List ActorId). AreWaking parts [] q) (sym same) (c.answer_caller.ensures.waking _ c.requires.waking)))
+    let steady = c.wake_others.ensures.steady in
+    let woken = c.wake_others.ensures.waking [] (subst (λ (q : List ActorId). AreWaking parts [] q) (sym same) (c.answer_caller.ensures.waking _ c.requires.waking)) in
+    record {
+      sound = steady.sound;
+      dated = steady.dated;
+      limited = steady.limited;
+      queued = steady.queued;
+      meeting = steady.meeting;
+      held = held_again c.wake_others.new.parts woken;
+    }

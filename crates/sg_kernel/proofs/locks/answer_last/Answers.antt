@@ -8,12 +8,21 @@ use Rattle.sg_kernel.proofs.locks.answer_last.Goals as goal
 pub wake_others-requires-clause-wakers : goal.wake_others-requires-clause-wakers
 wake_others-requires-clause-wakers c =
     let parts = c.args.parts.now in
-    wakers_exist parts c.args.actor c.args.outcome parts.objects.others c.requires.sound c.requires.caller c.requires.waking
+    wakers_exist parts c.args.actor c.args.outcome parts.objects.others c.requires.steady.sound c.requires.caller c.requires.waking
 
 pub returns-clause-known : goal.returns-clause-known
 returns-clause-known c =
     then_caller (known_of c.args.parts.now) (known_of c.wake_others.new.parts) (known_of c.answer_caller.new.parts) c.args.parts.now.objects.others c.args.outcome c.args.actor.0 c.args.what c.wake_others.ensures.known c.answer_caller.ensures.known
 
-pub returns-clause-held : goal.returns-clause-held
-returns-clause-held c =
-    held_again c.answer_caller.new.parts (c.answer_caller.ensures.waking [] (c.wake_others.ensures.waking (comers c.args.actor c.args.outcome) c.requires.waking))
+pub returns-clause-whole : goal.returns-clause-whole
+returns-clause-whole c =
+    let steady = c.answer_caller.ensures.steady in
+    let woken = c.answer_caller.ensures.waking [] (c.wake_others.ensures.waking (comers c.args.actor c.args.outcome) c.requires.waking) in
+    record {
+      sound = steady.sound;
+      dated = steady.dated;
+      limited = steady.limited;
+      queued = steady.queued;
+      meeting = steady.meeting;
+      held = held_again c.answer_caller.new.parts woken;
+    }

@@ -35,11 +35,7 @@ loop-i-preserved c =
       waking = λ comers old.
           c.wake.ensures.waking comers (drop (c.loop-i.i + 1) others) (subst (λ (q : List ActorId). AreWaking c.loop-i.parts comers q) (drop_at others c.others.result.now c.loop-i.i none same within) (c.loop-i.invariant.waking comers old));
       spare = λ spare. c.wake.ensures.spare (c.loop-i.invariant.spare spare);
-      sound = c.wake.ensures.sound;
-      dated = c.wake.ensures.dated;
-      limited = c.wake.ensures.limited;
-      queued = c.wake.ensures.queued;
-      meeting = c.wake.ensures.meeting;
+      steady = c.wake.ensures.steady;
     }
 
 pub returns-clause-known : goal.returns-clause-known

@@ -3,9 +3,9 @@ use Rattle.sg_base.specs.declared.ids.ActorId.{ActorId}
 use Rattle.sg_kernel.specs.World.{MayCall}
 use Rattle.sg_kernel.specs.Locks.{all_wake}
 use Rattle.sg_kernel.specs.Known.{after}
-use Rattle.sg_kernel.specs.Queue.{IsQueued}
-use Rattle.sg_kernel.specs.Sound.{core_of, known_of, IsSound, IsDated, AreLimited, AreMeeting}
-use Rattle.sg_kernel.specs.Waking.{AreWaking, HasSpare}
+use Rattle.sg_kernel.specs.Sound.{core_of, known_of, HasSpare}
+use Rattle.sg_kernel.specs.Waking.{AreWaking}
+use Rattle.sg_kernel.specs.Whole.{IsSteady}
 use Rattle.sg_kernel.proofs.locks.wake_others.Given as goal
 
 abbrev pub invariant-loop-i : goal.invariant-loop-i
@@ -16,9 +16,5 @@ invariant-loop-i l = record {
   callers : (caller : ActorId) → MayCall (core_of l.initial.parts) caller.0 → MayCall (core_of l.parts) caller.0;
   waking : (comers : List ActorId) → AreWaking l.initial.parts comers l.initial.parts.objects.others → AreWaking l.parts comers (drop l.i l.initial.parts.objects.others);
   spare : HasSpare l.initial.parts → HasSpare l.parts;
-  sound : IsSound l.parts;
-  dated : IsDated l.parts;
-  limited : AreLimited l.parts;
-  queued : IsQueued l.parts;
-  meeting : AreMeeting l.parts;
+  steady : IsSteady l.parts;
 }

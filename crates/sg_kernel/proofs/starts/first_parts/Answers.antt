@@ -1,14 +1,17 @@
-use Rattle.std.proofs.Common.{◌≡◌, ◌∙◌, map, length, replicate, [], sym, ap, ap₂, subst, refl}
+use Rattle.std.proofs.Common.{◌≡◌, ◌∙◌, map, length, replicate, [], sym, ap, ap₂, subst, refl, arith, rules, List}
+use Rattle.std.proofs.lemmas.List.{length-replicate}
 use Rattle.std.specs.Prelude.{All}
 use Rattle.std.specs.List.{count_by}
 use Rattle.std.proofs.lemmas.List.Elements.{All-map}
 use Rattle.sg_base.specs.declared.call.Answer.TheVariants as answer
-use Rattle.sg_activity.specs.Doing.{nothing_on}
+use Rattle.sg_activity.specs.Doing.{idle_on}
 use Rattle.sg_activity.specs.Hosts.{IsHost}
 use Rattle.sg_activity.specs.Links.{IsLink}
 use Rattle.sg_platform.specs.declared.rows.ActorRow.{ActorRow}
 use Rattle.sg_kernel.specs.declared.parts.Parts.{Parts}
+use Rattle.sg_kernel.specs.declared.states.State.{State}
 use Rattle.sg_kernel.specs.declared.states.State.TheVariants.{Ready}
+use Rattle.sg_kernel.specs.Queue.{IsQueue}
 use Rattle.sg_kernel.specs.Start.{host_cap, link_caps, capacity_of, replays}
 use Rattle.sg_kernel.specs.World.{extent}
 use Rattle.sg_kernel.specs.Sound.{setup_in}
@@ -36,6 +39,8 @@ made c = record {
   requests = c.in_ok-new-2.field-0;
   objects = c.in_ok-new-3.field-0;
   records = c.new-6.result;
+  hosts = c.len.result;
+  links = c.len-2.result;
   homes = c.in_ok-homes.field-0;
   mutexes = length c.mutexes-mutexes.result.now;
   semaphores = c.in_ok-semaphores.semaphores;
@@ -56,13 +61,15 @@ links_are c = c.deref-2.ensures.value ∙ c.in_ok-links.ensures ∙ ap link_caps
 
 first : (c : After-drop-hosts-2) → IsFirst c.args.platform.now c.args.deployment.now (made c)
 first c = record {
-  doing = c.in_ok-new.ensures ∙ ap₂ (λ hosts links. nothing_on hosts links) (hosts_are c) (links_are c);
+  doing = c.in_ok-new.ensures ∙ ap₂ (λ hosts links. idle_on hosts links) (hosts_are c) (links_are c);
   states = c.in_ok-first_states.ensures.are ∙ ap (λ n. replicate n (Ready answer.Start)) (ap length c.actors-actors.ensures.rows);
   whose = c.new-2.ensures;
   boxes = c.new-3.ensures.empty;
   requests = c.in_ok-new-2.ensures ∙ ap (λ n. record { queues = replicate n []; asked = 0; room = 0 }) (ap length c.actors-actors.ensures.rows);
   objects = c.in_ok-new-3.ensures ∙ objects_first c.args.platform.now c.args.deployment.now c.args.budget _ _ _ _ (ap length c.actors-actors.ensures.rows) (ap length c.mutexes-mutexes.ensures.rows) (c.deref-3.ensures.value ∙ c.in_ok-semaphores.ensures ∙ ap (map capacity_of) c.semaphores.ensures.rows) (c.members-members.ensures ∙ ap (count_by replays) c.actors.ensures.rows);
   records = c.new-6.ensures.items;
+  hosts = c.len.ensures ∙ c.in_ok-hosts.hosts.ok.0 ∙ ap length (c.in_ok-hosts.ensures ∙ ap (map host_cap) c.hosts.ensures.rows);
+  links = c.len-2.ensures ∙ c.in_ok-links.links.ok.0 ∙ ap length (c.in_ok-links.ensures ∙ ap link_caps c.links.ensures.rows);
   homes = c.in_ok-homes.ensures ∙ ap (map (λ (actor : ActorRow). actor.host)) c.actors-2.ensures.rows;
   mutexes = ap length c.mutexes-mutexes.ensures.rows;
   semaphores = c.in_ok-semaphores.ensures ∙ ap (map capacity_of) c.semaphores.ensures.rows;
@@ -74,16 +81,19 @@ first c = record {
 pub returns-clause-known : goal.returns-clause-known
 returns-clause-known c = first_is c.args.platform.now c.args.deployment.now (made c) (first c)
 
-pub returns-clause-held : goal.returns-clause-held
-returns-clause-held c = first_held c.args.platform.now c.args.deployment.now (made c) (first c) c.mutexes-mutexes.ensures.kept
-
-pub returns-clause-meeting : goal.returns-clause-meeting
-returns-clause-meeting c = first_meeting c.args.platform.now c.args.deployment.now (made c) (first c)
-
-pub returns-clause-limited : goal.returns-clause-limited
-returns-clause-limited c = first_limited c.args.platform.now c.args.deployment.now (made c) (first c) (c.in_ok-first_states.ensures.limited (extent (setup_in (made c))))
-
-pub returns-clause-sound : goal.returns-clause-sound
-returns-clause-sound c =
-    let states = c.in_ok-first_states.ensures.counts in
-    first_sound c.args.platform.now c.args.deployment.now (made c) (first c) c.requires.deployed c.requires.budget (sym states.0) (sym states.1) states.2 c.new-6.ensures.len
+pub returns-clause-whole : goal.returns-clause-whole
+returns-clause-whole c =
+    let states = c.in_ok-first_states.ensures in
+    let parts = made c in
+    let is = first c in
+    record {
+      sound = first_sound c.args.platform.now c.args.deployment.now parts is c.requires.deployed c.requires.budget (sym states.ready) (sym states.ended) states.blocked c.new-6.ensures.len;
+      dated = search rules;
+      limited = first_limited c.args.platform.now c.args.deployment.now parts is (states.limited (extent (setup_in parts)));
+      queued = (
+        subst (λ (q : List State). IsQueue q c.in_ok-all_actors.field-0.items) (sym states.are) c.in_ok-all_actors.ensures.queue,
+        omega (arith, ap length states.are, length-replicate (length c.actors-actors.result.now) (Ready answer.Start), c.in_ok-all_actors.ensures.room),
+      );
+      meeting = first_meeting c.args.platform.now c.args.deployment.now parts is;
+      held = first_held c.args.platform.now c.args.deployment.now parts is c.mutexes-mutexes.ensures.kept;
+    }

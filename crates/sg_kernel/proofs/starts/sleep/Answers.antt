@@ -1,10 +1,19 @@
-use Rattle.std.proofs.Common.{ap}
+use Rattle.std.proofs.Common.{ap, arith, rules}
+use Rattle.std.proofs.lemmas.Grind.{common_steps}
 use Rattle.sg_activity.specs.Doing.{Doing}
 use Rattle.sg_kernel.specs.Owners.{Owned}
 use Rattle.sg_kernel.proofs.PostsKept.{meeting_more}
 use Rattle.sg_kernel.proofs.starts.sleep.Goals as goal
 
-pub returns-clause-meeting : goal.returns-clause-meeting
-returns-clause-meeting c =
-    let begun = ap (λ (d : Doing). d.tasks) c.start_timer.ensures.starts in
-    meeting_more c.block.new.parts c.push.new.self c.start_timer.new.self c.args.actor _ c.block.ensures.sound.numbered (ap (λ (o : Owned). o.whose) c.push.ensures) begun c.block.ensures.meeting
+pub returns-clause-whole : goal.returns-clause-whole
+returns-clause-whole c =
+    let begun = ap (λ (d : Doing). d.under.tasks) c.start_timer.ensures.starts in
+    let was = c.block.ensures.whole in
+    record {
+      sound = grind (arith, common_steps);
+      dated = search rules;
+      limited = grind (arith, common_steps);
+      queued = search rules;
+      meeting = meeting_more c.block.new.parts c.push.new.self c.start_timer.new.self c.args.actor _ was.sound.numbered (ap (λ (o : Owned). o.whose) c.push.ensures) begun was.meeting;
+      held = search rules;
+    }

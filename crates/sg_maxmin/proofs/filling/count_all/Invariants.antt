@@ -1,5 +1,5 @@
 use Rattle.std.proofs.Common.{◌≡◌, ℕ, ◌≤◌, ◌+◌, take, slice_index}
-use Rattle.sg_maxmin.specs.Counting.{AreCounted, count_of}
+use Rattle.sg_maxmin.specs.kept.Counting.{AreCounted, count_of}
 use Rattle.sg_maxmin.proofs.filling.count_all.Given as goal
 
 abbrev pub invariant-loop-id : goal.invariant-loop-id

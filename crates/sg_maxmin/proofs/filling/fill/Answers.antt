@@ -2,8 +2,8 @@ use Rattle.std.proofs.Common.{◌≡◌, ℕ, ◌+◌, ◌≤◌, ◌<◌, ◌�
 use Rattle.sg_maxmin.specs.Fill.{steps_from, step, unfixed}
 use Rattle.sg_maxmin.specs.Laws.{HaveLimits}
 use Rattle.sg_maxmin.specs.Sharing.{held}
-use Rattle.sg_maxmin.specs.Uses.{flows_of}
-use Rattle.sg_maxmin.specs.Counting.{AreFixed, IsLeast, all_limits, count_of}
+use Rattle.sg_maxmin.specs.kept.Uses.{flows_of}
+use Rattle.sg_maxmin.specs.kept.Counting.{AreFixed, IsLeast, all_limits, count_of}
 use Rattle.sg_maxmin.proofs.Counts.{rows_same}
 use Rattle.sg_maxmin.proofs.Filled.{same_flows, unfix_same, unfix_fixed, length-held, shares_early, shares_end, step_is, same_trans, count_same, count_none}
 use Rattle.sg_maxmin.proofs.Proved.{steps-next}
@@ -30,11 +30,25 @@ count_all-requires-clause-rows g c = rows_same c.args.capacities.now c.args.uses
 
 pub lowest-requires : goal.lowest-requires
 lowest-requires g c =
-    record { rows = (c.args.capacities.now, rows_same c.args.capacities.now c.args.uses.now.slots c.args.flows.now.slots c.loop-n.flows.slots c.loop-n.invariant.same c.requires.rows, c.count_all.ensures.counted.left_len, c.count_all.ensures.counted.waiting_len) }
+    record {
+      rows = record {
+        capacities = c.args.capacities.now;
+        rows_are = rows_same c.args.capacities.now c.args.uses.now.slots c.args.flows.now.slots c.loop-n.flows.slots c.loop-n.invariant.same c.requires.rows;
+        left_len = c.count_all.ensures.counted.left_len;
+        waiting_len = c.count_all.ensures.counted.waiting_len;
+      };
+    }
 
 pub fix_all-requires : goal.fix_all-requires
 fix_all-requires g c =
-    record { rows = (c.args.capacities.now, rows_same c.args.capacities.now c.args.uses.now.slots c.args.flows.now.slots c.loop-n.flows.slots c.loop-n.invariant.same c.requires.rows, c.count_all.ensures.counted.left_len, c.count_all.ensures.counted.waiting_len) }
+    record {
+      rows = record {
+        capacities = c.args.capacities.now;
+        rows_are = rows_same c.args.capacities.now c.args.uses.now.slots c.args.flows.now.slots c.loop-n.flows.slots c.loop-n.invariant.same c.requires.rows;
+        left_len = c.count_all.ensures.counted.left_len;
+        waiting_len = c.count_all.ensures.counted.waiting_len;
+      };
+    }
 
 pub returns-in_default-clause-shares : goal.returns-in_default-clause-shares
 returns-in_default-clause-shares g c =

@@ -1,8 +1,8 @@
 use Rattle.std.proofs.Common.{◌≡◌, ◌+◌, ◌*◌, ◌<◌, ◌≤◌, length}
 use Rattle.sg_maxmin.specs.Fill.{steps_from, unfixed}
 use Rattle.sg_maxmin.specs.Sharing.{held}
-use Rattle.sg_maxmin.specs.Uses.{flows_of}
-use Rattle.sg_maxmin.specs.Counting.{SameRows, AreFixed, count_of}
+use Rattle.sg_maxmin.specs.kept.Uses.{flows_of}
+use Rattle.sg_maxmin.specs.kept.Counting.{SameRows, AreFixed, count_of}
 use Rattle.sg_maxmin.proofs.filling.fill.Given as goal
 
 abbrev pub invariant-loop-n : goal.invariant-loop-n

@@ -1,7 +1,7 @@
 use Rattle.std.proofs.Common.{◌≡◌, ℕ, ◌+◌, ◌-◌, ◌/◌, ◌<◌, ◌≤◌, List, ◌∷◌, ◌++◌, map, length, get_or, drop, take, take_all, Some, option_to_list, sym, ap, subst, ◌∙◌, arith}
 use Rattle.std.proofs.lemmas.List.Elements.{All-same, All-tail}
-use Rattle.sg_maxmin.specs.Uses.{resources}
-use Rattle.sg_maxmin.specs.Counting.{IsLeast, least_with}
+use Rattle.sg_maxmin.specs.kept.Uses.{resources}
+use Rattle.sg_maxmin.specs.kept.Counting.{IsLeast, least_with}
 use Rattle.sg_maxmin.proofs.Chains.{length-resources}
 use Rattle.sg_maxmin.proofs.Counts.{limits_more, step_on}
 use Rattle.sg_maxmin.proofs.filling.least_limit.Goals as goal

@@ -1,7 +1,7 @@
 use Rattle.std.proofs.Common.{◌≡◌, ℕ, ◌+◌, ◌-◌, ◌*◌, ◌<◌, [], ◌∷◌, length, length-set, get_or, sym, ap, ◌∙◌, arith}
 use Rattle.std.proofs.lemmas.List.Elements.{All-same, All-tail, All-head}
-use Rattle.sg_maxmin.specs.Uses.{resources}
-use Rattle.sg_maxmin.specs.Counting.{times}
+use Rattle.sg_maxmin.specs.kept.Uses.{resources}
+use Rattle.sg_maxmin.specs.kept.Counting.{times}
 use Rattle.sg_maxmin.proofs.Chains.{resources_none}
 use Rattle.sg_maxmin.proofs.Counts.{off_more}
 use Rattle.sg_maxmin.proofs.filling.take_off.Goals as goal

@@ -1,6 +1,6 @@
 use Rattle.std.proofs.Common.{◌≡◌, ◌≤◌, ◌+◌, length, drop, ◌-◌}
 use Rattle.slab.specs.Slab.{slab_len}
-use Rattle.sg_maxmin.specs.Uses.{IsChain, resources, Extends}
+use Rattle.sg_maxmin.specs.kept.Uses.{IsChain, resources, Extends}
 use Rattle.sg_maxmin.proofs.uses.chain.Given as goal
 
 abbrev pub invariant-loop-left : goal.invariant-loop-left

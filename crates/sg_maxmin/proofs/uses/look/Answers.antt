@@ -1,7 +1,7 @@
 use Rattle.std.proofs.Common.{◌≡◌, ◌-◌, Some, ◌∷◌, sym, ap, subst, ◌∙◌}
 use Rattle.std.specs.Option.{option_copied}
 use Rattle.sg_maxmin.specs.declared.uses.Use.{Use}
-use Rattle.sg_maxmin.specs.Uses.{IsChain, resources}
+use Rattle.sg_maxmin.specs.kept.Uses.{IsChain, resources}
 use Rattle.sg_maxmin.proofs.Chains.{front_of, no_front}
 use Rattle.sg_maxmin.proofs.uses.look.Goals as goal
 

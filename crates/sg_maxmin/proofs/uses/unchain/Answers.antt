@@ -1,5 +1,5 @@
 use Rattle.std.proofs.Common.{◌≡◌, ◌+◌, ◌-◌, ◌<◌, ap, subst, ◌∙◌, arith, is_some}
-use Rattle.sg_maxmin.specs.Uses.{IsChain}
+use Rattle.sg_maxmin.specs.kept.Uses.{IsChain}
 use Rattle.sg_maxmin.proofs.Chains.{front_of, no_front, chain_rest, keeps_more}
 use Rattle.sg_maxmin.proofs.uses.unchain.Goals as goal
 

@@ -1,6 +1,6 @@
 use Rattle.std.proofs.Common.{◌≡◌, ◌+◌, ◌-◌}
 use Rattle.slab.specs.Slab.{slab_len}
-use Rattle.sg_maxmin.specs.Uses.{IsChain, KeepsOthers}
+use Rattle.sg_maxmin.specs.kept.Uses.{IsChain, KeepsOthers}
 use Rattle.sg_maxmin.proofs.uses.unchain.Given as goal
 
 abbrev pub invariant-loop-done : goal.invariant-loop-done

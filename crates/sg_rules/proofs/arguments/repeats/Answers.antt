@@ -21,4 +21,4 @@ loop-i-preserved c =
     let old : Finds = λ q. get_by_text c.loop-i.seen q in
     let new : Finds = λ q. get_by_text c.add_name.new.space q in
     let fresh = rw c.text_of-text.ensures at (sym c.contains_key.ensures ∙ c.if-contains_key.false) in
-    seen_turn old new c.args.items.now c.loop-i.i c.index-items-i.result c.loop-i.i c.loop-i-test.true c.index-items-i.is fresh (λ q. rw c.text_of-text.ensures at (c.in_ok-add_name.ensures q)) ∙ c.loop-i.invariant
+    seen_turn old new c.args.items.now c.loop-i.i c.index-items-i.result c.loop-i.i c.loop-i-test.true c.index-items-i.is fresh (λ q. rw c.text_of-text.ensures at (c.in_ok-add_name.ensures.added q)) ∙ c.loop-i.invariant

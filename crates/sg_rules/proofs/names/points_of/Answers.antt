@@ -16,6 +16,6 @@ returns c = λ q.
     let first = names_from (codes "id") 0 zones in
     let second = names_from (codes "id") (length zones) hosts in
     let third = names_from (codes "id") (length zones + length hosts) routers in
-    c.in_ok-add_names-2.ensures q
-    ∙ rw (c.in_ok-add_names.ensures q, c.in_ok-made.ensures q, ← length-map c.args.zones.now view, ← length-map c.args.hosts.now view)
+    c.in_ok-add_names-2.ensures.added q
+    ∙ rw (c.in_ok-add_names.ensures.added q, c.in_ok-made.ensures q, ← length-map c.args.zones.now view, ← length-map c.args.hosts.now view)
     (sym (lookup_append (bytes_eq q) (first ++ second) third ∙ ap (λ o. or_else o (found third)) (lookup_append (bytes_eq q) first second)))

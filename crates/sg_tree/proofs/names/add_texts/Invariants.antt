@@ -1,13 +1,10 @@
-use Rattle.std.proofs.Common.{◌≡◌, ◌+◌, ℕ, List, drop}
+use Rattle.std.proofs.Common.{◌+◌, take}
 use Rattle.std.specs.HashMap.{get_by_text}
-use Rattle.std.specs.Map.{lookup}
-use Rattle.std.specs.Str.{bytes_eq}
 use Rattle.sg_tree.specs.Along.{along}
-use Rattle.sg_tree.specs.Names.{numbered, or_else, texts_at}
+use Rattle.sg_tree.specs.Names.{Adds, numbered, texts_at}
 use Rattle.toml.specs.View.{view}
 use Rattle.sg_tree.proofs.names.add_texts.Given as goal
 
 abbrev pub invariant-loop-i : goal.invariant-loop-i
 invariant-loop-i l =
-    (q : List ℕ) → or_else (get_by_text l.space q) (lookup (bytes_eq q) (along (λ i row. numbered (l.before + i) (texts_at l.key (view row))) l.i (drop l.i l.rows)))
-    ≡ or_else (get_by_text l.initial.space q) (lookup (bytes_eq q) (along (λ i row. numbered (l.before + i) (texts_at l.key (view row))) 0 l.rows))
+    Adds (along (λ i row. numbered (l.before + i) (texts_at l.key (view row))) 0 (take l.i l.rows)) (get_by_text l.initial.space) (get_by_text l.space)

@@ -6,7 +6,7 @@ use Rattle.simgrid_replay.proofs.parts.load_platform.Goals as goal
 
 pub returns-in-Whole-clause-given : goal.returns-in-Whole-clause-given
 returns-in-Whole-clause-given g c = λ source gives known.
-    c.platform_of.ensures known ∙ ap (λ text. or_platform_fault (platform_of text)) c.deref.ensures.value
+    c.platform_of.ensures.given known ∙ ap (λ text. or_platform_fault (platform_of text)) c.deref.ensures.value
     ∙ platform_whole source c.in-Whole.text.items (c.in-Whole.ensures.given source gives)
 
 pub returns-in-TooLong-clause-given : goal.returns-in-TooLong-clause-given

@@ -1,63 +1,146 @@
-use Rattle.std.proofs.Common.{◌∙◌, ap, sym, subst, refl, length, drop, IsTrue}
-use Rattle.std.specs.Prelude.{IsErr}
-use Rattle.sg_words.specs.CommandLine.{Request}
-use Rattle.sg_words.specs.Shown.{command_shown, job_shown}
-use Rattle.simgrid_replay.specs.Outcome.{taken}
-use Rattle.simgrid_replay.specs.Parts.{seats, setting, setting_given}
-use Rattle.simgrid_replay.specs.Terms.{Terms, has_parts, has_script, terms_in}
-use Rattle.simgrid_replay.proofs.TopLemmas.{given_on, outcome_for}
+use Rattle.std.proofs.Common.{◌≡◌, ◌<◌, ◌+◌, ◌∙◌, ap, sym, subst, refl, ℕ, Result, length, drop, true, false, rules}
+use Rattle.sg_edge.specs.Files.{PartView, TakesUpTo}
+use Rattle.sg_platform.specs.PlatformOf.{greatest_text}
+use Rattle.sg_edge.specs.Given.{Gives}
+use Rattle.sg_edge.specs.declared.files.Part.TheVariants.{Platform, Deployment, Script}
+use Rattle.sg_words.specs.Shown.{job_shown}
+use Rattle.simgrid_replay.specs.Given.{request_of, IsNamedBy}
+use Rattle.simgrid_replay.specs.Outcome.{or_refused}
+use Rattle.simgrid_replay.specs.Parts.{IsSetupFor, Setting, seats, setting, setting_in}
+use Rattle.simgrid_replay.specs.Terms.{has_script, terms_of}
+use Rattle.simgrid_replay.specs.declared.refusal.Refusal.{Refusal}
+use Rattle.simgrid_replay.proofs.TopLemmas.{none_taken, not_refused, partless, refusal_counts, refusal_prints, script_after, setting_counts, setting_prints, telling_before, texts_before, unrefused_spares}
+use Rattle.simgrid_replay.proofs.PartLemmas.{named_parts, nameless_by}
 use Rattle.simgrid_replay.proofs.top.do_job.Goals as goal
 
-pub returns-in-Replay-clause-output : goal.returns-in-Replay-clause-output
-returns-in-Replay-clause-output g c = λ p d s gives_p gives_d gives_s.
-    let is = ap command_shown c.in-Replay.is in
-    let has : IsTrue (has_parts (job_shown c.args.job.now).request) = subst (λ (r : Request). IsTrue (has_parts r)) (sym is) refl in
-    let scripts : IsTrue (terms_in c.wanted-wanted.result).script → IsTrue (has_script (job_shown c.args.job.now).request) = λ h. subst (λ (r : Request). IsTrue (has_script r)) (sym is) (subst (λ (t : Terms). IsTrue t.script) c.wanted-wanted.ensures h) in
-    outcome_for (job_shown c.args.job.now) _ (length c.args.crew.now.items) p d s c.simulate.result (g.O.Sinks.held c.args.out.now) (g.O.Sinks.held c.simulate.new.out) is
-    (given_on (terms_in c.wanted-wanted.result) _ (length c.args.crew.now.items) p d s c.simulate.result (g.O.Sinks.held c.args.out.now) (g.O.Sinks.held c.simulate.new.out) c.wanted-wanted.ensures
-    (c.simulate.ensures.output p d s (gives_p has) (gives_d has) (λ h. gives_s (scripts h))))
+pub run_job-requires-clause-setup : goal.run_job-requires-clause-setup
+run_job-requires-clause-setup g c κs within =
+    let contexts : c.len.result ≡ length c.args.crew.now.items = search rules in
+    subst (λ (n : ℕ). IsSetupFor (has_script (request_of c.args.job.now)) n c.in-Ok.setup) contexts c.in-Ok.ensures.fits
 
-pub returns-in-Replay-clause-crew : goal.returns-in-Replay-clause-crew
-returns-in-Replay-clause-crew g c = λ p d gives_p gives_d ends.
-    let is = ap command_shown c.in-Replay.is in
-    let has : IsTrue (has_parts (job_shown c.args.job.now).request) = subst (λ (r : Request). IsTrue (has_parts r)) (sym is) refl in
-    c.simulate.ensures.crew p d (gives_p has) (gives_d has) ends
-    ∙ ap (λ (t : Terms). drop (seats (setting_given t.script (length c.args.crew.now.items) p d)) c.args.crew.now.items) c.wanted-wanted.ensures
-    ∙ ap (λ (r : Request). drop (taken (record (job_shown c.args.job.now) { request = r }) (length c.args.crew.now.items) p d) c.args.crew.now.items) (sym is)
+pub returns-in-Ok-clause-output : goal.returns-in-Ok-clause-output
+returns-in-Ok-clause-output g c = λ p d s gives.
+    let old = g.F.Files.shows c.args.files.now in
+    let mid = g.F.Files.shows c.prepare.new.files in
+    let new = g.F.Files.shows c.run_job.new.files in
+    let contexts : c.len.result ≡ length c.args.crew.now.items = search rules in
+    let others = c.run_job.ensures.script.others in
+    let before = texts_before (request_of c.args.job.now) old mid new p d (others Platform (λ e. cc)) (others Deployment (λ e. cc)) gives.texts in
+    let is = ap (λ (n : ℕ). setting (request_of c.args.job.now) n p d) (sym contexts) ∙ c.in-Ok.ensures.given p d before in
+    let run = c.run_job.ensures.output s (script_after (request_of c.args.job.now) old mid new s c.prepare.ensures.read.unbegun gives.script) in
+    record {
+      prints = setting_prints (terms_of (job_shown c.args.job.now)) s _ (setting_in c.in-Ok.setup) c.run_job.result (g.O.Sinks.held c.args.out.now) (g.O.Sinks.held c.run_job.new.out) is run.prints;
+      counts = setting_counts (terms_of (job_shown c.args.job.now)) s _ (setting_in c.in-Ok.setup) c.run_job.result _ _ is run.counts;
+    }
 
-pub returns-in-Replay-clause-refused_first : goal.returns-in-Replay-clause-refused_first
-returns-in-Replay-clause-refused_first g c = λ p d gives_p gives_d refused.
-    let is = ap command_shown c.in-Replay.is in
-    c.simulate.ensures.refused_first p d gives_p gives_d
-    (subst (λ (t : Terms). IsErr (setting_given t.script (length c.args.crew.now.items) p d)) (sym c.wanted-wanted.ensures) (subst (λ (r : Request). IsErr (setting r (length c.args.crew.now.items) p d)) is refused))
+pub returns-in-Err-clause-output : goal.returns-in-Err-clause-output
+returns-in-Err-clause-output g c = λ p d s gives.
+    let contexts : c.len.result ≡ length c.args.crew.now.items = search rules in
+    record {
+      prints = refusal_prints (λ r. or_refused (terms_of (job_shown c.args.job.now)) s r) (setting (request_of c.args.job.now) (length c.args.crew.now.items) p d)
+          c.in-Err.why c.refuse.result _ _ (λ r. refl)
+          (λ told. sym (ap (λ (n : ℕ). setting (request_of c.args.job.now) n p d) (sym contexts) ∙ c.in-Err.ensures.given p d gives.texts (λ e. told (cc)))) c.refuse.ensures.prints;
+      counts = refusal_counts (terms_of (job_shown c.args.job.now)) s (setting (request_of c.args.job.now) (length c.args.crew.now.items) p d) c.in-Err.why c.refuse.result _ c.refuse.ensures.memory
+          (λ told. sym (ap (λ (n : ℕ). setting (request_of c.args.job.now) n p d) (sym contexts) ∙ c.in-Err.ensures.given p d gives.texts (λ e. told (cc))));
+    }
 
-pub returns-in-Run-clause-output : goal.returns-in-Run-clause-output
-returns-in-Run-clause-output g c = λ p d s gives_p gives_d gives_s.
-    let is = ap command_shown c.in-Run.is in
-    let has : IsTrue (has_parts (job_shown c.args.job.now).request) = subst (λ (r : Request). IsTrue (has_parts r)) (sym is) refl in
-    let scripts : IsTrue (terms_in c.wanted-wanted-in-Run.result).script → IsTrue (has_script (job_shown c.args.job.now).request) = λ h. subst (λ (r : Request). IsTrue (has_script r)) (sym is) (subst (λ (t : Terms). IsTrue t.script) c.wanted-wanted-in-Run.ensures h) in
-    outcome_for (job_shown c.args.job.now) _ (length c.args.crew.now.items) p d s c.simulate-in-Run.result (g.O.Sinks.held c.args.out.now) (g.O.Sinks.held c.simulate-in-Run.new.out) is
-    (given_on (terms_in c.wanted-wanted-in-Run.result) _ (length c.args.crew.now.items) p d s c.simulate-in-Run.result (g.O.Sinks.held c.args.out.now) (g.O.Sinks.held c.simulate-in-Run.new.out) c.wanted-wanted-in-Run.ensures
-    (c.simulate-in-Run.ensures.output p d s (gives_p has) (gives_d has) (λ h. gives_s (scripts h))))
+pub returns-in-Ok-clause-crew : goal.returns-in-Ok-clause-crew
+returns-in-Ok-clause-crew g c = record {
+  first = λ p d texts ends.
+      let contexts : c.len.result ≡ length c.args.crew.now.items = search rules in
+      let others = c.run_job.ensures.script.others in
+      let before = texts_before (request_of c.args.job.now) (g.F.Files.shows c.args.files.now) (g.F.Files.shows c.prepare.new.files) (g.F.Files.shows c.run_job.new.files) p d
+      (others Platform (λ e. cc)) (others Deployment (λ e. cc)) texts in
+      let is = ap (λ (n : ℕ). setting (request_of c.args.job.now) n p d) (sym contexts) ∙ c.in-Ok.ensures.given p d before in
+      c.run_job.ensures.crew ends ∙ ap (λ (r : Result Setting Refusal). drop (seats r) c.args.crew.now.items) (sym is);
+  refused = λ is. absurd (let e : true ≡ false = sym is ∙ c.run_job.ensures.unrefused in cc);
+}
 
-pub returns-in-Run-clause-crew : goal.returns-in-Run-clause-crew
-returns-in-Run-clause-crew g c = λ p d gives_p gives_d ends.
-    let is = ap command_shown c.in-Run.is in
-    let has : IsTrue (has_parts (job_shown c.args.job.now).request) = subst (λ (r : Request). IsTrue (has_parts r)) (sym is) refl in
-    c.simulate-in-Run.ensures.crew p d (gives_p has) (gives_d has) ends
-    ∙ ap (λ (t : Terms). drop (seats (setting_given t.script (length c.args.crew.now.items) p d)) c.args.crew.now.items) c.wanted-wanted-in-Run.ensures
-    ∙ ap (λ (r : Request). drop (taken (record (job_shown c.args.job.now) { request = r }) (length c.args.crew.now.items) p d) c.args.crew.now.items) (sym is)
+pub returns-in-Err-clause-crew : goal.returns-in-Err-clause-crew
+returns-in-Err-clause-crew g c = record {
+  first = λ p d texts ends.
+      let contexts : c.len.result ≡ length c.args.crew.now.items = search rules in
+      none_taken seats (setting (request_of c.args.job.now) (length c.args.crew.now.items) p d) c.in-Err.why c.args.crew.now.items (λ r. refl)
+      (λ told. sym (ap (λ (n : ℕ). setting (request_of c.args.job.now) n p d) (sym contexts) ∙ c.in-Err.ensures.given p d texts (λ e. told (cc)))) (λ is. ends (c.refuse.ensures.memory is));
+  refused = λ is. refl;
+}
 
-pub returns-in-Run-clause-refused_first : goal.returns-in-Run-clause-refused_first
-returns-in-Run-clause-refused_first g c = λ p d gives_p gives_d refused.
-    let is = ap command_shown c.in-Run.is in
-    c.simulate-in-Run.ensures.refused_first p d gives_p gives_d
-    (subst (λ (t : Terms). IsErr (setting_given t.script (length c.args.crew.now.items) p d)) (sym c.wanted-wanted-in-Run.ensures) (subst (λ (r : Request). IsErr (setting r (length c.args.crew.now.items) p d)) is refused))
+pub returns-in-Ok-clause-parts : goal.returns-in-Ok-clause-parts
+returns-in-Ok-clause-parts g c =
+    let request = request_of c.args.job.now in
+    let read = c.in-Ok.ensures.read in
+    let script = c.run_job.ensures.script in
+    let old = g.F.Files.shows c.args.files.now in
+    let mid = g.F.Files.shows c.prepare.new.files in
+    let new = g.F.Files.shows c.run_job.new.files in
+    let contexts : c.len.result ≡ length c.args.crew.now.items = search rules in
+    let same : new Platform ≡ mid Platform = script.others Platform (λ e. cc) in
+    let also : new Deployment ≡ mid Deployment = script.others Deployment (λ e. cc) in
+    record {
+      named = named_parts request new (subst (λ (v : PartView). IsNamedBy request Platform v) (sym same) c.in-Ok.ensures.platform)
+          (subst (λ (v : PartView). IsNamedBy request Deployment v) (sym also) c.in-Ok.ensures.deployment) script.named;
+      bounded = record {
+        platform = subst (λ (v : PartView). TakesUpTo (greatest_text + 1) (old Platform) v) (sym same) c.in-Ok.ensures.bounded.platform;
+        deployment = subst (λ (v : PartView). TakesUpTo (greatest_text + 1) (old Deployment) v) (sym also) c.in-Ok.ensures.bounded.deployment;
+      };
+      order = record {
+        platform_first = λ broken. absurd (read.platform_whole refl (ap (λ (v : PartView). v.stage) (sym same) ∙ broken));
+        deployment_first = λ broken. absurd (read.deployment_whole refl (ap (λ (v : PartView). v.stage) (sym also) ∙ broken));
+        platform_refused = λ p gives err.
+            let none = c.in-Ok.ensures.decided.refused p (subst (λ (v : PartView). Gives (old Platform) v p) same gives) err refl in
+            let files = script.unscripted (partless request none) ∙ c.in-Ok.ensures.unread none in
+            (ap (λ f. g.F.Files.shows f Deployment) files, ap (λ f. g.F.Files.shows f Script) files);
+        refused_first = λ p d texts err.
+            absurd (not_refused (setting request (length c.args.crew.now.items) p d) (setting_in c.in-Ok.setup)
+            (ap (λ (n : ℕ). setting request n p d) (sym contexts) ∙ c.in-Ok.ensures.given p d (texts_before request old mid new p d same also texts)) err);
+        unscripted = λ none. ap (λ f. g.F.Files.shows f Script) (script.unscripted none) ∙ read.unbegun;
+      };
+      telling = telling_before old mid new c.in-Ok.ensures.telling read.unbegun script.telling script.others;
+      unread = λ none. script.unscripted (partless request none) ∙ c.in-Ok.ensures.unread none;
+    }
 
-pub returns-in-Churn-clause-output : goal.returns-in-Churn-clause-output
-returns-in-Churn-clause-output g c = λ p d s gives_p gives_d gives_s.
-    outcome_for (job_shown c.args.job.now) _ (length c.args.crew.now.items) p d s c.churn.result (g.O.Sinks.held c.args.out.now) (g.O.Sinks.held c.churn.new.out) (ap command_shown c.in-Churn.is) (c.churn.ensures.output s)
+pub returns-in-Err-clause-parts : goal.returns-in-Err-clause-parts
+returns-in-Err-clause-parts g c =
+    let request = request_of c.args.job.now in
+    let read = c.in-Err.ensures.read in
+    let fresh = g.met.F.Files.unnamed c.args.files.now Script (c.requires.fresh Script) in
+    record {
+      named = named_parts request (g.F.Files.shows c.prepare.new.files) c.in-Err.ensures.platform c.in-Err.ensures.deployment
+          (nameless_by request Script (g.F.Files.shows c.prepare.new.files Script) (ap (λ (v : PartView). v.name) read.unbegun ∙ fresh));
+      bounded = c.in-Err.ensures.bounded;
+      order = record {
+        platform_first = λ broken. (read.platform_first broken, read.unbegun);
+        deployment_first = λ broken. read.unbegun;
+        platform_refused = λ p gives err. (c.in-Err.ensures.decided.behind p gives err, read.unbegun);
+        refused_first = λ p d texts err. read.unbegun;
+        unscripted = λ none. read.unbegun;
+      };
+      telling = c.in-Err.ensures.telling;
+      unread = c.in-Err.ensures.unread;
+    }
 
-pub returns-in-Churn-clause-crew : goal.returns-in-Churn-clause-crew
-returns-in-Churn-clause-crew g c = λ p d gives_p gives_d ends.
-    c.churn.ensures.crew ends ∙ ap (λ (r : Request). drop (taken (record (job_shown c.args.job.now) { request = r }) (length c.args.crew.now.items) p d) c.args.crew.now.items) (sym (ap command_shown c.in-Churn.is))
+pub returns-in-Ok-clause-rest : goal.returns-in-Ok-clause-rest
+returns-in-Ok-clause-rest g c = unrefused_spares c.run_job.result (g.F.Files.shows c.args.files.now) (g.F.Files.shows c.run_job.new.files) c.run_job.ensures.unrefused
+
+pub returns-in-Err-clause-rest : goal.returns-in-Err-clause-rest
+returns-in-Err-clause-rest g c = record {
+  platform = λ is. (c.in-Err.ensures.read.platform_refused (c.refuse.ensures.platform is), c.in-Err.ensures.read.unbegun);
+  deployment = λ is. c.in-Err.ensures.read.unbegun;
+}
+
+pub returns-in-Ok-clause-cause : goal.returns-in-Ok-clause-cause
+returns-in-Ok-clause-cause g c =
+    let cause = c.run_job.ensures.cause in
+    let new = g.F.Files.shows c.run_job.new.files in
+    record {
+      write = cause.write;
+      sound = cause.sound;
+      read = λ told. (Script, (cause.read told).0, subst (λ (v : PartView). v.faults < (new Script).faults) c.in-Ok.ensures.read.unbegun (cause.read told).1);
+    }
+
+pub returns-in-Err-clause-cause : goal.returns-in-Err-clause-cause
+returns-in-Err-clause-cause g c = record {
+  write = c.refuse.ensures.cause.write;
+  sound = c.refuse.ensures.cause.sound;
+  read = λ told. c.in-Err.ensures.read.cause (c.refuse.ensures.cause.read told);
+}

@@ -7,6 +7,6 @@ use Rattle.sg_kernel.proofs.kernel.Kernel.any_ready.Goals as goal
 
 pub returns : goal.returns
 returns c =
-    ap (nat_lt 0) c.self.invariant.0.ready_count
+    ap (nat_lt 0) c.self.invariant.sound.ready_count
     ∙ count_any is_ready c.self.inside.parts.states.items
     ∙ ap (λ (k : Known). list_any is_ready k.core.actors) c.self.view_is

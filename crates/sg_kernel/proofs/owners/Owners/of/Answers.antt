@@ -1,7 +1,8 @@
 use Rattle.std.proofs.Common.{◌≡◌, ◌+◌, ◌-◌, ◌<◌, ℕ, nat_eq, Option, get_or, length, sym, ap, ◌∙◌, arith}
 use Rattle.std.specs.HashMap as hash
+use Rattle.sg_kernel.specs.declared.states.How.TheVariants as how
 use Rattle.sg_kernel.specs.declared.states.Whose.{Whose}
-use Rattle.sg_kernel.specs.declared.states.Whose.TheVariants.{Gone}
+use Rattle.sg_kernel.specs.declared.states.Whose.TheVariants.{Over}
 use Rattle.sg_kernel.specs.Owners.{Owned, whose_of}
 use Rattle.sg_kernel.proofs.Tables.{length-table, table_at}
 use Rattle.sg_kernel.proofs.owners.Owners.of.Goals as goal
@@ -14,5 +15,5 @@ returns c =
     let within : c.args.serial.0 - 1 < s.drawn = omega (arith, c.requires.from, c.requires.to, ap (λ (o : Owned). length o.whose) c.self.view_is, length-table f 1 s.drawn) in
     c.whose_of.ensures
     ∙ ap whose_of (c.copied.ensures ∙ c.get.ensures.value)
-    ∙ sym (table_at f 1 s.drawn (c.args.serial.0 - 1) Gone within ∙ ap (λ k. whose_of (f k)) at)
-    ∙ ap (λ (o : Owned). get_or o.whose (c.args.serial.0 - 1) Gone) c.self.view_is
+    ∙ sym (table_at f 1 s.drawn (c.args.serial.0 - 1) (Over how.Done) within ∙ ap (λ k. whose_of (f k)) at)
+    ∙ ap (λ (o : Owned). get_or o.whose (c.args.serial.0 - 1) (Over how.Done)) c.self.view_is

@@ -1,7 +1,8 @@
 use Rattle.std.proofs.Common.{◌≡◌, ◌≢◌, ◌+◌, ◌-◌, ◌<◌, ℕ, false, true, cond, nat_eq, Option, None, set, get_or, length, sym, ap, ◌∙◌, arith}
 use Rattle.std.specs.HashMap as hash
+use Rattle.sg_kernel.specs.declared.states.How.TheVariants as how
 use Rattle.sg_kernel.specs.declared.states.Whose.{Whose}
-use Rattle.sg_kernel.specs.declared.states.Whose.TheVariants.{Gone}
+use Rattle.sg_kernel.specs.declared.states.Whose.TheVariants.{Over}
 use Rattle.sg_kernel.specs.Owners.{Owned, whose_of, table}
 use Rattle.sg_kernel.proofs.Tables.{length-table, table_at, table-set}
 use Rattle.sg_kernel.proofs.owners.Owners.take.Goals as goal
@@ -21,7 +22,7 @@ returns-clause-is c =
     let here : g c.args.serial.0 ≡ None = up.0 c.args.serial.0 ∙ ap (λ b. cond b None (f c.args.serial.0)) (agrees c.args.serial.0) in
     let apart : (j : ℕ) → j ≢ c.args.serial.0 → g j ≡ f j = λ j away. up.0 j ∙ ap (λ b. cond b None (f j)) (differs c.args.serial.0 j away) in
     ap (λ l. record { whose = l; room = s.room }) (table-set f g 1 s.drawn c.args.serial.0 c.requires.from apart ∙ ap (λ x. set (table f 1 s.drawn) (c.args.serial.0 - 1) (whose_of x)) here)
-    ∙ ap (λ (o : Owned). record o { whose = set o.whose (c.args.serial.0 - 1) Gone }) c.self.view_is
+    ∙ ap (λ (o : Owned). record o { whose = set o.whose (c.args.serial.0 - 1) (Over how.Done) }) c.self.view_is
 
 pub returns-clause-was : goal.returns-clause-was
 returns-clause-was c =
@@ -31,5 +32,5 @@ returns-clause-was c =
     let within : c.args.serial.0 - 1 < s.drawn = omega (arith, c.requires.from, c.requires.to, ap (λ (o : Owned). length o.whose) c.self.view_is, length-table f 1 s.drawn) in
     c.whose_of.ensures
     ∙ ap whose_of c.remove.ensures.value
-    ∙ sym (table_at f 1 s.drawn (c.args.serial.0 - 1) Gone within ∙ ap (λ k. whose_of (f k)) at)
-    ∙ ap (λ (o : Owned). get_or o.whose (c.args.serial.0 - 1) Gone) c.self.view_is
+    ∙ sym (table_at f 1 s.drawn (c.args.serial.0 - 1) (Over how.Done) within ∙ ap (λ k. whose_of (f k)) at)
+    ∙ ap (λ (o : Owned). get_or o.whose (c.args.serial.0 - 1) (Over how.Done)) c.self.view_is

@@ -1,0 +1,29 @@
+-- Lists of what may be there, by serial from 1 on, and numbers that may be none.
+use Rattle.std.specs.Prelude.{ℕ, ◌+◌, ◌==◌, min, Bool, false, Option, None, Some, option_and_then, if◌then◌else◌, List, [], ◌∷◌}
+
+-- the less of two numbers, where none is without end
+abbrev pub sooner : Option ℕ → Option ℕ → Option ℕ
+sooner None b = b
+sooner (Some a) None = Some a
+sooner (Some a) (Some b) = Some (min a b)
+
+-- the least of all waits
+unfoldable pub soonest : {X : Type 0} → (X → Option ℕ) → List (Option X) → Option ℕ
+soonest waits [] = None
+soonest waits (slot ∷ rest) = sooner (option_and_then waits slot) (soonest waits rest)
+
+-- whether something is there that passes the test
+abbrev pub passes : {X : Type 0} → (X → Bool) → Option X → Bool
+passes test None = false
+passes test (Some x) = test x
+
+-- the serials at which the test is passed, where the first place has this serial
+unfoldable pub serials : {X : Type 0} → (X → Bool) → ℕ → List (Option X) → List ℕ
+serials test serial [] = []
+serials test serial (slot ∷ rest) =
+    if passes test slot then serial ∷ serials test (serial + 1) rest
+    else serials test (serial + 1) rest
+
+abbrev pub is_at : Option ℕ → ℕ → Bool
+is_at None span = false
+is_at (Some time) span = time == span

@@ -1,0 +1,25 @@
+-- Ends that don't cut a run off.
+use Rattle.std.proofs.Common.{◌≡◌, ◌∙◌, ap, sym, Bool, true, false, Option, Some, Result, Ok, Err}
+use Rattle.std.specs.Prelude.{IfOk}
+use Rattle.sg_base.specs.declared.memory.Memory.{Memory}
+use Rattle.sg_engine.specs.declared.ended.Ended.{Ended}
+use Rattle.sg_engine.specs.declared.ended.Ended.TheVariants as ended
+use Rattle.sg_engine.specs.Gains.{is_cut, cuts}
+use Rattle.sg_engine.specs.Reached.{IsUncut}
+
+uncut_not : (b : Bool) → b ≡ true → b ≡ false → ⊥
+uncut_not b is isnt = absurd (let e : true ≡ false = sym is ∙ isnt in cc e)
+
+pub uncut_write : (how : Option Ended) → cuts how ≡ false → how ≡ Some ended.WriteFault → ⊥
+uncut_write how uncut is = uncut_not (cuts how) (ap cuts is) uncut
+
+pub not_write : (how : Ended) → is_cut how ≡ false → how ≡ ended.WriteFault → ⊥
+not_write how uncut is = uncut_not (is_cut how) (ap is_cut is) uncut
+
+pub not_memory : (how : Ended) → is_cut how ≡ false → how ≡ ended.Memory → ⊥
+not_memory how uncut is = uncut_not (is_cut how) (ap is_cut is) uncut
+
+-- where the script was asked, memory may have been wanting
+pub uncut_asked : (script : Bool) (result : Result (Option Ended) Memory) → script ≡ true → IfOk result (λ how. cuts how ≡ false) → IsUncut script result
+uncut_asked script (Ok how) is uncut = uncut
+uncut_asked script (Err why) is uncut = is

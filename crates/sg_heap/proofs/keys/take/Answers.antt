@@ -1,0 +1,57 @@
+use Rattle.std.proofs.Common.{◌≡◌, ℕ, ◌+◌, ◌-◌, ◌<◌, None, length, set, List, ap, ◌∙◌, subst, sym, arith}
+use Rattle.sg_heap.specs.Agenda.{key_count}
+use Rattle.sg_heap.specs.kept.Heap.{entry_at, key_of, keys_of, ArePlaced, IsHeap, IsAgenda}
+use Rattle.sg_heap.specs.declared.entry.Entry.{Entry}
+use Rattle.sg_heap.proofs.Digits.{digits-le}
+use Rattle.sg_heap.proofs.Placing.{length-keys}
+use Rattle.sg_heap.proofs.Changes.{taken_last, taken_before, loose_of, shorter, key_count_clear, key_there}
+use Rattle.sg_heap.proofs.keys.take.Goals as goal
+
+-- what is left when the entry at a place among the first count loses its key
+left : (heap heap' : List Entry) (place place' : List ℕ) (count at : ℕ) → IsAgenda heap place count → at < count → ArePlaced heap' place' → IsHeap heap' (count - 1) → length place' ≡ length place → keys_of heap' place' (count - 1) ≡ set (keys_of heap place count) (entry_at heap at).slot None → IsAgenda heap' place' (count - 1)
+left heap heap' place place' count at a h p order len keys =
+    let old = keys_of heap place count in
+    let la : at < length place = omega (arith, a.within) in
+    let e : key_count (set old (entry_at heap at).slot None) + 1 ≡ key_count old = key_count_clear old (entry_at heap at).slot (key_of (entry_at heap at)) (subst (λ n. (entry_at heap at).slot < n) (sym (length-keys heap place count)) (a.placed.slots at la)) (key_there heap place count at a.placed la h) in
+    record {
+      placed = p;
+      order = order;
+      within = omega (arith, a.within, len);
+      counted = omega (arith, ap key_count keys, e, a.counted);
+    }
+
+again : (count : ℕ) → 0 < count → (count - 1) + 1 ≡ count
+again count h = omega arith
+
+pub sift-requires-clause-placed : goal.sift-requires-clause-placed
+sift-requires-clause-placed g c =
+    rw (c.put.ensures.heap, c.put.ensures.place) (taken_before c.args.heap.now c.args.place.now c.args.at (c.args.count - 1) c.requires.agenda.placed (omega arith) (omega (arith, c.requires.agenda.within)) c.if-at-last.true).placed
+
+pub sift-requires-clause-loose : goal.sift-requires-clause-loose
+sift-requires-clause-loose g c =
+    rw c.put.ensures.heap (loose_of c.args.heap.now (set (set c.args.heap.now (c.args.count - 1) (entry_at c.args.heap.now c.args.at)) c.args.at (entry_at c.args.heap.now (c.args.count - 1))) c.args.count (c.args.count - 1) c.args.at c.requires.agenda.order (omega arith) c.requires.at
+    (taken_before c.args.heap.now c.args.place.now c.args.at (c.args.count - 1) c.requires.agenda.placed (omega arith) (omega (arith, c.requires.agenda.within)) c.if-at-last.true).same)
+
+pub returns-then-at-last-clause-keys : goal.returns-then-at-last-clause-keys
+returns-then-at-last-clause-keys g c =
+    let t = taken_before c.args.heap.now c.args.place.now c.args.at (c.args.count - 1) c.requires.agenda.placed (omega arith) (omega (arith, c.requires.agenda.within)) c.if-at-last.true in
+    c.sift.ensures.keys ∙ rw (c.put.ensures.heap, c.put.ensures.place) (t.keys ∙ ap (λ n. set (keys_of c.args.heap.now c.args.place.now n) (entry_at c.args.heap.now c.args.at).slot None) (again c.args.count (omega arith)))
+
+pub returns-then-at-last-clause-agenda : goal.returns-then-at-last-clause-agenda
+returns-then-at-last-clause-agenda g c = left c.args.heap.now c.sift.new.heap c.args.place.now c.sift.new.place c.args.count c.args.at c.requires.agenda c.requires.at c.sift.ensures.placed c.sift.ensures.heap (c.sift.auto.place ∙ c.put.auto.place) (returns-then-at-last-clause-keys g c)
+
+pub returns-then-at-last-clause-most : goal.returns-then-at-last-clause-most
+returns-then-at-last-clause-most g c = omega (arith, digits-le (c.args.count - 1) c.args.count (omega arith))
+
+pub returns-else-at-last-clause-keys : goal.returns-else-at-last-clause-keys
+returns-else-at-last-clause-keys g c =
+    let t = taken_last c.args.heap.now c.args.place.now c.args.at (c.args.count - 1) c.requires.agenda.placed (omega arith) (omega (arith, c.requires.agenda.within)) (omega arith) in
+    rw (c.put.ensures.heap, c.put.ensures.place) (t.keys ∙ ap (λ n. set (keys_of c.args.heap.now c.args.place.now n) (entry_at c.args.heap.now c.args.at).slot None) (again c.args.count (omega arith)))
+
+pub returns-else-at-last-clause-agenda : goal.returns-else-at-last-clause-agenda
+returns-else-at-last-clause-agenda g c =
+    let t = taken_last c.args.heap.now c.args.place.now c.args.at (c.args.count - 1) c.requires.agenda.placed (omega arith) (omega (arith, c.requires.agenda.within)) (omega arith) in
+    let at_last : c.args.at ≡ c.args.count - 1 = omega arith in
+    let p : ArePlaced c.put.new.heap c.put.new.place = rw (c.put.ensures.heap, c.put.ensures.place) t.placed in
+    let order : IsHeap c.put.new.heap (c.args.count - 1) = rw c.put.ensures.heap (shorter c.args.heap.now (set c.args.heap.now (c.args.count - 1) (entry_at c.args.heap.now c.args.at)) c.args.count (c.args.count - 1) c.requires.agenda.order (omega arith) (λ i h. t.same i h (λ q. omega (arith, q, h, at_last)))) in
+    left c.args.heap.now c.put.new.heap c.args.place.now c.put.new.place c.args.count c.args.at c.requires.agenda c.requires.at p order c.put.auto.place (returns-else-at-last-clause-keys g c)

@@ -1,0 +1,2 @@
+-- How an `Agenda` keeps its keys.
+pub mod Heap

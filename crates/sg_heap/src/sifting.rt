@@ -1,0 +1,127 @@
+//! Entries rise and sink in the binary heap.
+ghost use Rattle.std.specs.Prelude.{◌≡◌, ◌≤◌, ◌<◌, ◌+◌, ◌-◌, ◌*◌, ◌/◌, ℕ, length, slice_set};
+ghost use Rattle.sg_heap.specs.Agenda.{IsNoLater, digits};
+ghost use Rattle.sg_heap.specs.kept.Heap.{ArePlaced, InOrder, IsHeap, MayMove, MayRise, MaySink, entry_at, key_of, keys_of};
+
+use crate::entry::{Entry, is_before, put};
+use sg_base::Steps;
+use std::sync::ledger::Ledger;
+
+// The child of this place that comes first.
+fn first_child<L: Ledger>(heap: &[Entry], at: usize, count: usize, steps: &mut Steps<L>) -> usize
+    requires some { 2 * at + 1 < count }
+    requires count { count ≤ length heap.now }
+    ensures child { (result - 1) / 2 ≡ at }
+    ensures below { at < result }
+    ensures within { result < count }
+    ensures first { (i : ℕ) → 0 < i → i < count → (i - 1) / 2 ≡ at →
+        InOrder heap.now result i }
+    ensures least { steps.old ≤ steps.new }
+    ensures most { steps.new ≤ steps.old + 1 }
+{
+    let left = 2 * at + 1;
+    let right = left + 1;
+    if right < count && is_before(heap[right], heap[left], steps) {
+        right
+    } else {
+        left
+    }
+}
+
+// Writes the entry where it belongs, at this place or above.
+pub(crate) fn rise<L: Ledger>(
+    heap: &mut [Entry],
+    place: &mut [usize],
+    from: usize,
+    entry: Entry,
+    count: usize,
+    steps: &mut Steps<L>,
+)
+    requires from { from < count }
+    requires count { count ≤ length heap.old }
+    requires slot { entry.slot < length place.old }
+    requires placed { ArePlaced (slice_set heap.old from entry)
+        (slice_set place.old entry.slot from) }
+    requires rises { MayRise (slice_set heap.old from entry) count from }
+    ensures heap { IsHeap heap.new count }
+    ensures placed { ArePlaced heap.new place.new }
+    ensures keys { keys_of heap.new place.new count ≡
+        keys_of (slice_set heap.old from entry) (slice_set place.old entry.slot from) count }
+    ensures most { steps.new ≤ steps.old + digits from }
+{
+    let mut at = from;
+    while at > 0 {
+        let parent = (at - 1) / 2;
+        let above = heap[parent];
+        if !is_before(entry, above, steps) {
+            put(heap, place, at, entry);
+            return;
+        }
+        put(heap, place, at, above);
+        at = parent;
+    }
+    put(heap, place, at, entry);
+}
+
+// Writes the entry where it belongs, at this place or below.
+pub(crate) fn sink<L: Ledger>(
+    heap: &mut [Entry],
+    place: &mut [usize],
+    from: usize,
+    entry: Entry,
+    count: usize,
+    steps: &mut Steps<L>,
+)
+    requires from { from < count }
+    requires count { count ≤ length heap.old }
+    requires slot { entry.slot < length place.old }
+    requires placed { ArePlaced (slice_set heap.old from entry)
+        (slice_set place.old entry.slot from) }
+    requires sinks { MaySink (slice_set heap.old from entry) count from }
+    ensures heap { IsHeap heap.new count }
+    ensures placed { ArePlaced heap.new place.new }
+    ensures keys { keys_of heap.new place.new count ≡
+        keys_of (slice_set heap.old from entry) (slice_set place.old entry.slot from) count }
+    ensures most { steps.new ≤ steps.old + 2 * digits count }
+{
+    let mut at = from;
+    while 2 * at + 1 < count {
+        let child = first_child(heap, at, count, steps);
+        let below = heap[child];
+        if !is_before(below, entry, steps) {
+            put(heap, place, at, entry);
+            return;
+        }
+        put(heap, place, at, below);
+        at = child;
+    }
+    put(heap, place, at, entry);
+}
+
+// Writes the entry where it belongs, above this place, at it or below.
+pub(crate) fn sift<L: Ledger>(
+    heap: &mut [Entry],
+    place: &mut [usize],
+    from: usize,
+    entry: Entry,
+    count: usize,
+    steps: &mut Steps<L>,
+)
+    requires from { from < count }
+    requires count { count ≤ length heap.old }
+    requires slot { entry.slot < length place.old }
+    requires placed { ArePlaced (slice_set heap.old from entry)
+        (slice_set place.old entry.slot from) }
+    requires loose { MayMove (slice_set heap.old from entry) count from }
+    ensures heap { IsHeap heap.new count }
+    ensures placed { ArePlaced heap.new place.new }
+    ensures keys { keys_of heap.new place.new count ≡
+        keys_of (slice_set heap.old from entry) (slice_set place.old entry.slot from) count }
+    ensures most { steps.new ≤ steps.old + (2 * digits count + 1) }
+{
+    if from > 0 && is_before(entry, heap[(from - 1) / 2], steps) {
+        rise(heap, place, from, entry, count, steps);
+    } else {
+        sink(heap, place, from, entry, count, steps);
+    }
+}

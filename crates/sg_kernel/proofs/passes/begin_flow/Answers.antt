@@ -1,0 +1,13 @@
+use Rattle.std.proofs.Common.{arith, rules}
+use Rattle.std.proofs.lemmas.Grind.{common_steps}
+use Rattle.sg_kernel.proofs.passes.begin_flow.Goals as goal
+
+pub returns-clause-passing : goal.returns-clause-passing
+returns-clause-passing c = record {
+  sound = grind (arith, common_steps);
+  limited = grind (arith, common_steps);
+  answering = search rules;
+  meeting = search rules;
+  held = search rules;
+  small = search rules;
+}

@@ -1,0 +1,3 @@
+-- How a `System` keeps its flows, and how it fills.
+pub mod Uses
+pub mod Counting

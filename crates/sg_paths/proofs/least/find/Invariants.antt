@@ -1,0 +1,19 @@
+use Rattle.std.proofs.Common.{◌-◌, ◌≤◌, length}
+use Rattle.sg_paths.specs.Trail.{HasPlaces, IsNew, IsSettledAt, LeadsBack}
+use Rattle.sg_paths.specs.Reach.{IsRoomy}
+use Rattle.sg_paths.proofs.PathLemmas.{IsKnown}
+use Rattle.sg_paths.proofs.least.find.Given as goal
+
+abbrev pub invariant-settling : goal.invariant-settling
+invariant-settling l = record {
+  known : IsKnown l.routes l.reach.settled.items l.to;
+  root : IsSettledAt l.reach.settled.items 0 l.to;
+  back : LeadsBack l.reach.settled.items;
+  places : HasPlaces l.reach.settled.items l.reach.places.items;
+  fits : length l.reach.settled.items ≤ length l.reach.places.items;
+  new : IsNew l.reach.settled.items l.from;
+  roomy : IsRoomy l.routes (length l.fn.reach.places.items) l.reach;
+}
+
+abbrev pub decreases-settling : goal.decreases-settling
+decreases-settling l = length l.reach.places.items - length l.reach.settled.items

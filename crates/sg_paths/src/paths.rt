@@ -1,0 +1,70 @@
+//! Paths over routes.
+ghost use Rattle.std.specs.Prelude.{◌≡◌, ◌≢◌, ◌<◌, All, IfOk, IfSome, IsNone};
+ghost use Rattle.sg_paths.specs.Path.{HasNoPath, HasPath, IsLeast};
+
+use crate::least::{Reach, find};
+use crate::room::{copy, most_links, room};
+use crate::route::PathRoute;
+use sg_base::{LinkId, Memory};
+use std::alloc::Global;
+use std::marker::Model;
+
+/// Points, numbered from 0 on, and routes between them.
+#[derive(Drop)]
+pub struct Paths {
+    points: u32,
+    routes: Vec<PathRoute>,
+    reach: Reach,
+}
+
+impl Model for Paths {
+    ghost use Rattle.sg_paths.specs.Path.{Net};
+    ghost use Rattle.sg_paths.specs.Reach.{IsReady};
+
+    ghost Value = { Net };
+
+    ghost view = { λ p. record { points = p.points; routes = p.routes.items } };
+
+    ghost invariant = { λ p. IsReady p.points p.routes.items p.reach };
+}
+
+impl Paths {
+    ghost use Rattle.std.specs.Borrow.{sem};
+    ghost use Rattle.sg_paths.specs.Kept.{KeepsNet};
+
+    /// So many points, numbered from 0 on, and routes between them.
+    pub fn build(alloc: Global, points: u32, routes: &[PathRoute]) -> Result<Paths, Memory>
+        requires { All (λ route. (route.from < points) × (route.to < points)) routes.now }
+        ensures { IfOk result (λ paths. paths ≡ record { points = points; routes = routes.now }) }
+    {
+        let most = most_links(routes);
+        let copied = copy(alloc, routes)?;
+        let reach = room(alloc, points as usize, most)?;
+        Ok(Paths {
+            points,
+            routes: copied,
+            reach,
+        })
+    }
+
+    /// The links of the path from a point to another that has the fewest links, a link counted each
+    /// time that it stands there, and of these of the one whose list is least, compared from the
+    /// front. `None` is told exactly where there is no path. It takes no memory.
+    ///
+    /// Each point that is settled on the way looks at every route once.
+    pub fn search(&mut self, from: u32, to: u32) -> Option<&[LinkId]>
+        requires from { from < self.old.points }
+        requires to { to < self.old.points }
+        requires apart { from ≢ to }
+        ensures reached { IfSome result (λ links. HasPath self.old.routes from to links.now) }
+        ensures least { IfSome result (λ links. IsLeast self.old.routes from to links.now) }
+        ensures* kept { sem 𝓛 (KeepsNet self.entry) }
+        ensures none { IsNone result → HasNoPath self.old.routes from to }
+    {
+        if find(self.routes.as_slice(), &mut self.reach, from, to) {
+            Some(self.reach.lists.best.as_slice())
+        } else {
+            None
+        }
+    }
+}

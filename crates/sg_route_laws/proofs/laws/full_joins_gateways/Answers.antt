@@ -1,0 +1,7 @@
+-- A platform without zone faults is good.
+use Rattle.sg_route_laws.proofs.FullWays.{full_joins_gateways}
+use Rattle.sg_route_laws.proofs.Good.{good_from}
+use Rattle.sg_route_laws.proofs.laws.full_joins_gateways.Goals as goal
+
+pub returns : goal.returns
+returns c = full_joins_gateways c.args.platform.now (good_from c.args.platform.now c.zones-zones.ensures.kept c.requires)

@@ -1,6 +1,0 @@
--- Each platform is kept.
-use Rattle.sg_route_laws.proofs.Links.{routes_are_good}
-use Rattle.sg_route_laws.proofs.laws.routes_are_good.Goals as goal
-
-pub returns : goal.returns
-returns c = routes_are_good c.args.platform.now c.zones-zones.ensures.kept

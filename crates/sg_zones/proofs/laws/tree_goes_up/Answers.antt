@@ -1,0 +1,9 @@
+-- A zone has a depth, and its path as many zones.
+use Rattle.sg_zones.proofs.Ups.{depth_by_steps_up, holds_by_steps_up}
+use Rattle.sg_zones.proofs.laws.tree_goes_up.Goals as goal
+
+pub returns-clause-holds : goal.returns-clause-holds
+returns-clause-holds c = holds_by_steps_up c.args.platform.now c.zones-zones.ensures.kept c.requires
+
+pub returns-clause-depth : goal.returns-clause-depth
+returns-clause-depth c = depth_by_steps_up c.args.platform.now c.requires

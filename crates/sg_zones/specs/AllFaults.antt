@@ -1,0 +1,89 @@
+-- All faults of the rows, and their order: by kind, and within a kind by table, row and key.
+use Rattle.std.specs.Prelude.{◌≡◌, ℕ, ◌<◌, ◌⊎◌, Option, None, Some, List, [], ◌∷◌, ◌++◌, map}
+use Rattle.std.specs.List.{AllByRecursion}
+use Rattle.sg_platform.specs.Platform.{Platform}
+use Rattle.sg_platform.specs.declared.rows.ZoneRouteRow.{ZoneRouteRow}
+use Rattle.sg_platform.specs.declared.rows.ZoneRow.{ZoneRow}
+use Rattle.sg_tree.specs.Along.{along, first}
+use Rattle.sg_tree.specs.declared.fault.Place.{Place}
+use Rattle.sg_zones.specs.Faults.{place, roots, cycle_at, deep_at, src_gateway_at, dst_gateway_at, gateway_at, route_at, zone_route_at, spoke_at, zone_fault}
+use Rattle.sg_zones.specs.Paths.{ancestors_of}
+use Rattle.sg_zones.specs.Tree.{Tree, tree_of}
+use Rattle.sg_zones.specs.declared.fault.ZoneFault.{ZoneFault}
+use Rattle.sg_zones.specs.declared.fault.ZoneFault.TheVariants.{NoRoot, TwoRoots, ParentCycle, TooDeep, GatewayOutside, WrongRouting, Memory}
+
+-- ---- all faults
+
+-- the fault, where there is one
+abbrev pub listed : Option ZoneFault → List ZoneFault
+listed None = []
+listed (Some fault) = fault ∷ []
+
+-- those along rows, of each of which one is told at most
+abbrev pub faults_along : {X : Type 0} → (ℕ → X → Option ZoneFault) → List X → List ZoneFault
+faults_along told rows = along (λ row x. listed (told row x)) 0 rows
+
+-- no root, or each root but the first
+abbrev pub root_faults : List ℕ → List ZoneFault
+root_faults [] = NoRoot (place 1 0 0) ∷ []
+root_faults (root ∷ rest) = map (λ row. TwoRoots (place 1 row 2)) rest
+
+abbrev pub gateway_faults : Tree → ℕ → ZoneRouteRow → List ZoneFault
+gateway_faults t row r = listed (src_gateway_at t row r) ++ listed (dst_gateway_at t row r)
+
+abbrev pub tree_faults : List ZoneRow → List ZoneFault
+tree_faults zones =
+    root_faults (roots 1 zones) ++ (faults_along cycle_at (ancestors_of 1024 zones) ++ faults_along deep_at (ancestors_of 16 zones))
+
+abbrev pub row_faults : Tree → Platform → List ZoneFault
+row_faults t p =
+    along (gateway_faults t) 0 p.zone_routes
+    ++ (faults_along (gateway_at t) p.spokes
+    ++ (faults_along (route_at t) p.routes
+    ++ (faults_along (zone_route_at t) p.zone_routes
+    ++ faults_along (spoke_at t) p.spokes)))
+
+abbrev pub zone_faults : Platform → List ZoneFault
+zone_faults p = tree_faults p.zones ++ row_faults (tree_of p) p
+
+-- ---- their order
+
+abbrev pub kind_number : ZoneFault → ℕ
+kind_number (NoRoot at) = 1
+kind_number (TwoRoots at) = 2
+kind_number (ParentCycle at) = 3
+kind_number (TooDeep at) = 4
+kind_number (GatewayOutside at) = 5
+kind_number (WrongRouting at) = 6
+kind_number Memory = 7
+
+abbrev pub place_of : ZoneFault → Place
+place_of (NoRoot at) = at
+place_of (TwoRoots at) = at
+place_of (ParentCycle at) = at
+place_of (TooDeep at) = at
+place_of (GatewayOutside at) = at
+place_of (WrongRouting at) = at
+place_of Memory = place 0 0 0
+
+-- one number is less, and those before it are the same
+abbrev pub IsBelow : List ℕ → List ℕ → Type 0
+IsBelow [] ys = ⊥
+IsBelow (x ∷ xs) [] = ⊥
+IsBelow (x ∷ xs) (y ∷ ys) = (x < y) ⊎ ((x ≡ y) × IsBelow xs ys)
+
+abbrev pub numbers_of : ZoneFault → List ℕ
+numbers_of f = kind_number f ∷ (place_of f).table ∷ (place_of f).row ∷ (place_of f).key ∷ []
+
+abbrev pub IsBefore : ZoneFault → ZoneFault → Type 0
+IsBefore f g = IsBelow (numbers_of f) (numbers_of g)
+
+-- each is before all those behind it
+abbrev pub IsRising : List ZoneFault → Type 0
+IsRising [] = Unit {0}
+IsRising (f ∷ fs) = AllByRecursion (IsBefore f) fs × IsRising fs
+
+-- of all faults the least is told
+pub record TellsLeast (p : Platform) : Type 0 where
+  pub first : zone_fault p ≡ first (zone_faults p)
+  pub rise : IsRising (zone_faults p)
