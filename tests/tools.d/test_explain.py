@@ -1,0 +1,363 @@
+"""tools/explain: each kind of fault leads to its place and its rule, and its own judgement is the program's."""
+
+import os
+import random
+import unittest
+from concurrent.futures import ThreadPoolExecutor
+
+import inputs
+from common import ACTOR, HOST, ZONE, Folder, module, tool
+
+EXPLAIN = module("explain")
+
+LINK = '[[link]]\nid = "l"\nbandwidth = "1MBps"\n'
+SPLIT = LINK + 'sharing_policy = "SPLITDUPLEX"\n'
+TWO = HOST + HOST.replace("h1", "h2")
+STAR = ZONE.replace("Full", "Star")
+ROUTE = '[[route]]\nsrc = "h1"\ndst = "h2"\nlinks = ["l"]\n'
+NEST = ZONE + '[[zone]]\nid = "in"\nparent = "z"\nrouting = "Full"\n'
+ZROUTE = '[[zone_route]]\nsrc = "in"\ndst = "h2"\ngw_src = "h1"\nlinks = ["l"]\n'
+SPOKE = '[[spoke]]\nzone = "z"\nchild = "h1"\nup = ["l"]\n'
+MASTER = '[[actor]]\nname = "m"\nhost = "h1"\nfunction = "master"\nargument = ["1", "1", "1", "w"]\n'
+WORKER = '[[actor]]\nname = "w"\nhost = "h1"\nfunction = "worker"\n'
+MUTEX = '[[mutex]]\nid = "m"\n[[semaphore]]\nid = "s"\ncapacity = 1\n'
+GOOD = ZONE + HOST
+
+# The platform's text, the program's line, the line and column, what stands over the carets, and a part of what is told.
+PLATFORMS = [
+    ("", "no root zone (table 1, row 0, key 0)", "1:1", "", "there is no zone"),
+    (GOOD + "x = \n", "not TOML", "8:5", "", "a value was expected"),
+    ("[[host]\n", "not TOML", "1:7", "]", "`]]` was expected"),
+    (GOOD + 'speed = "2Gf"\n', "not TOML", "8:1", "speed", "stands twice in this table, first in line 7"),
+    (GOOD.replace('"1Gf"', "1Gf"), "not TOML", "7:9", "1Gf", 'a text stands in quotes: "1Gf"'),
+    (GOOD.replace('"1Gf"', "\u201c1Gf\u201d"), "not TOML", "7:9", "\u201c", "typographic quotation mark"),
+    ('<?xml version="1.0"?>\n<platform>\n', "not TOML", "1:1", "<", "this looks like XML"),
+    (GOOD + "x = 9223372036854775808\n", "not TOML", "8:5", "9223372036854775808", "64 bits"),
+    (ZONE.encode() + b"# caf\xe9\n", "not TOML", "4:6", "\ufffd", "0xe9 is no UTF-8"),
+    (GOOD.encode("utf-16"), "not TOML", "1:1", "\ufffd", "UTF-16"),
+    (b"\x7fELF\x02\x01\x01" + b"\0" * 9, "not TOML", "1:1", "\x7f", "no text file"),
+    (GOOD + 'x = "abc\n', "not TOML", "8:5", '"abc', "never closed"),
+    (GOOD + "x = [1,\n", "not TOML", "8:5", "[", "never closed"),
+    (ZONE + "[host]\nid = 1\n[[host]]\n", "not TOML", "6:1", "[[host]]", "was defined before, in line 4"),
+    ("#" * 16777217, "over a limit (table 0, row 0, key 0)", "1:16777217", "#", "at most 16,777,216 bytes"),
+    (GOOD + "[[hosts]]\n", "unknown name (table 0, row 0, key 0)", "8:1", "[[hosts]]", "did you mean `host`?"),
+    ("hosts = 3\n", "unknown name (table 0, row 0, key 0)", "1:1", "hosts", "the table `hosts`"),
+    (ACTOR, "unknown name (table 0, row 0, key 0)", "1:1", "[[actor]]", "PLATFORM DEPLOYMENT SCRIPT"),
+    ("[host]\n", "wrong type (table 2, row 0, key 0)", "1:1", "[host]", "write `[[host]]` in double brackets"),
+    ("zone = [" + '{id="z",routing="Full"},' * 1025 + "]\n", "over a limit (table 1, row 0, key 0)", "1:24585", '{id="z",routing="Full"}',
+     "at most 1,024 rows"),
+    ("host = [\n  7]\n", "wrong type (table 2, row 1, key 0)", "2:3", "7", "a whole number, `7`"),
+    (GOOD + "cores = 4\n", "unknown name (table 2, row 1, key 0)", "8:1", "cores", "did you mean `core`?"),
+    (ZONE + '[[host]]\nid = "h1"\nzone = "z"\n', "missing key (table 2, row 1, key 3)", "4:1", "[[host]]", "no key `speed`"),
+    (NEST + HOST.replace('"z"', '"in"') + HOST.replace("h1", "h2") + LINK + ZROUTE.replace('gw_src = "h1"\n', ""),
+     "missing key (table 6, row 1, key 3)", "19:1", "[[zone_route]]", 'as `gw_src = "h1"`'),
+    (GOOD.replace('"1Gf"', "1000"), "wrong type (table 2, row 1, key 3)", "7:9", "1000", 'as `speed = "1000"`'),
+    (GOOD + 'core = "4"\n', "wrong type (table 2, row 1, key 4)", "8:8", '"4"', "without quotes, as `core = 4`"),
+    (GOOD + "core = 4.0\n", "wrong type (table 2, row 1, key 4)", "8:8", "4.0", "a float, `4.0`"),
+    (ZONE + LINK + "latency = 0\n", "wrong type (table 4, row 1, key 3)", "7:11", "0", 'as `latency = "0"`'),
+    (ZONE + TWO + LINK + ROUTE + 'symmetrical = "NO"\n', "wrong type (table 5, row 1, key 4)", "19:15", '"NO"', "symmetrical = false"),
+    (ZONE + TWO + LINK + ROUTE.replace('["l"]', '"l"'), "wrong type (table 5, row 1, key 3)", "18:9", '"l"', 'as `links = ["l"]`'),
+    (GOOD.replace("1Gf", "1 Gf"), "bad value (table 2, row 1, key 3)", "7:9", '"1 Gf"', "in front of the unit: `1Gf`"),
+    (GOOD.replace("1Gf", "1GHz"), "bad value (table 2, row 1, key 3)", "7:9", '"1GHz"', "did you mean `1Gf`?"),
+    (GOOD.replace("1Gf", "1gf"), "bad value (table 2, row 1, key 3)", "7:9", '"1gf"', "did you mean `1Gf`?"),
+    (GOOD.replace("1Gf", "1e20f"), "bad value (table 2, row 1, key 3)", "7:9", '"1e20f"', "above 10^15"),
+    (GOOD.replace("1Gf", "0"), "bad value (table 2, row 1, key 3)", "7:9", '"0"', "it is zero"),
+    (GOOD.replace("1Gf", ".5Gf"), "bad value (table 2, row 1, key 3)", "7:9", '".5Gf"', "a zero in front: `0.5Gf`"),
+    (GOOD.replace("1Gf", "1,5Gf"), "bad value (table 2, row 1, key 3)", "7:9", '"1,5Gf"', "behind a point: `1.5Gf`"),
+    (ZONE + LINK.replace("1MBps", "500kB/s"), "bad value (table 4, row 1, key 2)", "6:13", '"500kB/s"', "did you mean `500kBps`?"),
+    (ZONE + LINK.replace("1MBps", "500 kBps"), "bad value (table 4, row 1, key 2)", "6:13", '"500 kBps"', "unit: `500kBps`"),
+    (ZONE + LINK + 'latency = "1000001s"\n', "bad value (table 4, row 1, key 3)", "7:11", '"1000001s"', "10^15 ns (1,000,000 s)"),
+    (GOOD + "core = 2000\n", "bad value (table 2, row 1, key 4)", "8:8", "2000", "from 1 to 1024"),
+    (ZONE.replace("Full", "full"), "bad value (table 1, row 1, key 3)", "3:11", '"full"', "did you mean `Full`?"),
+    (ZONE.replace("Full", "Floyd"), "bad value (table 1, row 1, key 3)", "3:11", '"Floyd"', "declare each route"),
+    (ZONE.replace("Full", "Cluster"), "bad value (table 1, row 1, key 3)", "3:11", '"Cluster"', "tools/cluster"),
+    (ZONE + LINK + 'sharing_policy = "shared"\n', "bad value (table 4, row 1, key 4)", "7:18", '"shared"', "did you mean `SHARED`?"),
+    (ZONE + TWO + LINK + ROUTE.replace('["l"]', "[]"), "bad value (table 5, row 1, key 3)", "18:9", "[]", "at least one link"),
+    (GOOD.replace("h1", "h 1"), "bad name (table 2, row 1, key 1)", "5:6", '"h 1"', "has a blank in it"),
+    (GOOD.replace("h1", "h" * 65), "bad name (table 2, row 1, key 1)", "5:6", f'"{"h" * 65}"', "has 65 characters"),
+    (ZONE + SPLIT.replace('"l"', f'"{"l" * 60}"'), "bad name (table 4, row 1, key 1)", "5:6", f'"{"l" * 60}"', "at most 59 bytes"),
+    (GOOD + HOST, "duplicate (table 2, row 2, key 1)", "9:6", '"h1"', "`h1` is taken by row 1 of table `host`, in line 4"),
+    (ZONE + LINK.replace('"l"', '"l_UP"') + SPLIT, "duplicate (table 4, row 2, key 1)", "8:6", '"l"', "`l_UP` is taken by row 1"),
+    (ZONE + TWO + LINK + ROUTE + ROUTE.replace("h1", "x").replace("h2", "h1").replace("x", "h2"),
+     "duplicate (table 5, row 2, key 2)", "21:7", '"h1"', "serves the way back too"),
+    (STAR + HOST + LINK + SPOKE * 2, "duplicate (table 7, row 2, key 2)", "17:9", '"h1"', "a child has one spoke"),
+    (GOOD.replace('zone = "z"', 'zone = "zz"'), "unknown name (table 2, row 1, key 2)", "6:8", '"zz"', "did you mean `z`?"),
+    (GOOD.replace('zone = "z"', 'zone = "h1"'), "unknown name (table 2, row 1, key 2)", "6:8", '"h1"', "`h1` is a host"),
+    (ZONE + TWO + LINK + ROUTE.replace('"h2"', '"z"'), "unknown name (table 5, row 1, key 2)", "17:7", '"z"', "`zone_route`"),
+    (ZONE + TWO + SPLIT + ROUTE, "unknown name (table 5, row 1, key 3)", "19:10", '"l"', "write `l_UP` or `l_DOWN`"),
+    (ZONE + TWO + LINK + ROUTE.replace('["l"]', '["l", "k"]'), "unknown name (table 5, row 1, key 3)", "18:15", '"k"', "`k`"),
+    (ZONE + TWO + LINK + ROUTE.replace('["l"]', "[" + '"l",' * 65 + "]"), "over a limit (table 5, row 1, key 3)", "18:266", '"l"',
+     "at most 64 links"),
+    (ZONE + 'parent = "z"\n', "no root zone (table 1, row 0, key 0)", "1:1", "[[zone]]", "each zone has a `parent`"),
+    (ZONE + ZONE.replace('"z"', '"y"'), "two root zones (table 1, row 2, key 2)", "4:1", "[[zone]]", "`z` has no `parent` either"),
+    (ZONE + '[[zone]]\nid = "a"\nparent = "b"\nrouting = "Full"\n[[zone]]\nid = "b"\nparent = "a"\nrouting = "Full"\n',
+     "zone cycle (table 1, row 2, key 2)", "6:10", '"b"', "`a` is among the zones above itself"),
+    ("".join(f'[[zone]]\nid = "z{i}"\nrouting = "Full"\n' + (f'parent = "z{i - 1}"\n' if i else "") for i in range(17)),
+     "zones too deep (table 1, row 17, key 2)", "67:10", '"z15"', "a depth of 17"),
+    (NEST + HOST.replace('"z"', '"in"') + HOST.replace("h1", "h2") + LINK + ZROUTE.replace('gw_src = "h1"', 'gw_src = "h2"'),
+     "gateway outside (table 6, row 1, key 3)", "22:10", '"h2"', "stands in the zone `z`, which isn't inside `in`"),
+    (STAR + TWO + LINK + SPOKE + 'gateway = "h2"\n', "gateway outside (table 7, row 1, key 3)", "19:11", '"h2"', "whose gateway is itself"),
+    (STAR + TWO + LINK + ROUTE, "wrong routing (table 5, row 1, key 1)", "16:7", '"h1"', "`z` is a Star zone"),
+    (GOOD + LINK + SPOKE, "wrong routing (table 7, row 1, key 1)", "12:8", '"z"', "`z` is a Full zone"),
+    (ZONE + TWO + LINK + ROUTE.replace("[[route]]", "[[zone_route]]"), "wrong routing (table 6, row 1, key 1)", "16:7", '"h1"',
+     "both ends are points"),
+]
+
+DEPLOYMENTS = [
+    (ACTOR + "x = \n", "not TOML", "5:5", "", "a value was expected"),
+    (ZONE, "unknown name (table 0, row 0, key 0)", "1:1", "[[zone]]", "a table of the platform"),
+    (ACTOR + "start = 1\n", "unknown name (table 1, row 1, key 0)", "5:1", "start", "`name`, `host`, `function` and `argument`"),
+    (ACTOR.replace("h1", "h9"), "unknown name (table 1, row 1, key 2)", "3:8", '"h9"', "a host of the platform: `h1`"),
+    (ACTOR * 2, "duplicate (table 1, row 2, key 1)", "6:8", '"p0"', "taken by row 1 of table `actor`, in line 1"),
+    (ACTOR.replace('"replay"', '"replays"'), "unknown function (table 1, row 1, key 3)", "4:12", '"replays"', "did you mean `replay`?"),
+    (ACTOR + 'argument = ["1"]\n', "bad arguments (table 1, row 1, key 4)", "5:12", '["1"]', "`replay` takes none"),
+    (MASTER + ACTOR, "bad arguments (table 1, row 1, key 4)", "5:28", '"w"', "`w` is no actor"),
+    (MASTER.replace('"1", "w"', '"1", "p0"') + ACTOR, "bad arguments (table 1, row 1, key 4)", "5:28", '"p0"', "of function `replay`"),
+    (MASTER.replace(', "w"]', "]") + WORKER, "bad arguments (table 1, row 1, key 4)", "5:12", '["1", "1", "1"]', "3 arguments"),
+    (MASTER.replace('["1"', '["2e9"') + WORKER, "bad arguments (table 1, row 1, key 4)", "5:13", '"2e9"', "above 10^9"),
+    (MASTER.replace('"w"]', '"w", "w"]') + WORKER, "bad arguments (table 1, row 1, key 4)", "5:33", '"w"', "twice"),
+    (MUTEX.replace("capacity = 1", "capacity = -1"), "bad value (table 3, row 1, key 2)", "5:12", "-1", "from 0 to 10^9"),
+    (MUTEX.replace("capacity = 1\n", ""), "missing key (table 3, row 1, key 2)", "3:1", "[[semaphore]]", "as `capacity = 2`"),
+]
+
+SCRIPTS = [
+    (b"p0 compute 1\x00\n", "not ASCII", "1:13", "U+0000"),
+    (b"\xef\xbb\xbfp0 compute 1\n", "not ASCII", "1:1", "byte order mark"),
+    ("p0\xa0compute 1\n", "not ASCII", "1:3", "type it anew"),
+    (b"\x7fELF\n", "not ASCII", "1:1", "U+007F"),
+    (b"p0 wait\r\r\n", "not ASCII", "1:8", "a carriage return"),
+    ("p0 compute 1" + " " * 4085 + "\n", "line too long", "1:4097", "4,097 bytes"),
+    ("\n# note\np1 compute 1\n", "unknown actor", "3:1", "allowed: `p0`"),
+    ("h1 compute 1\n", "unknown actor", "1:1", "on the host `h1` is `p0`"),
+    ("w recv p0\n", "unknown actor", "1:1", "`w` is an actor of function `worker`"),
+    ("p0 send nobody 1\n", "unknown actor", "1:9", "no actor has the name `nobody`"),
+    ("p0\n", "unknown action", "1:3", "no action behind the actor"),
+    ("p0 sned p0 1\n", "unknown action", "1:4", "did you mean `send`?"),
+    ("p0 Compute 1\n", "unknown action", "1:4", "did you mean `compute`?"),
+    ("p0 Isend p0 1\n", "unknown action", "1:4", "did you mean `isend`?"),
+    ("p0 waitall\n", "unknown action", "1:4", "as many `wait`"),
+    ("p0 init\n", "unknown action", "1:4", "leave the line out"),
+    ("p0 compute 1e9 # note\n", "wrong number of arguments", "1:16", "a comment stands on a line of its own"),
+    ("p0 sleep 1 s\n", "wrong number of arguments", "1:12", "in front of the unit: `1s`"),
+    ("p0 wait 0 1 0\n", "wrong number of arguments", "1:9", "`wait` takes none"),
+    ("p0 send p0\n", "wrong number of arguments", "1:11", "`send` takes an actor and an amount"),
+    ("p0 compute 1e16\n", "bad amount", "1:12", "above 10^15"),
+    ("p0 compute 1Gf\n", "bad amount", "1:12", "without a unit: `1`"),
+    ("p0 compute -5\n", "bad amount", "1:12", "numbers are never below 0"),
+    ("p0 compute 1.5.5\n", "bad amount", "1:12", "`.5` is no unit"),
+    ("p0 compute 123456789012345678901234\n", "bad amount", "1:12", "more than 20 digits"),
+    ("p0 compute 1e9999\n", "bad amount", "1:12", "more than 3 digits"),
+    ("p0 sleep 1.5x\n", "bad amount", "1:10", "`x` is no unit"),
+    ("p0 lock n\n", "unknown object", "1:9", "`n` is no mutex"),
+    ("p0 lock s\n", "unknown object", "1:9", "`s` is a semaphore"),
+]
+
+ENDINGS = [
+    ("Simulation time 0.000000000", "All actors have ended"),
+    ("deadlock at 1.000000000\nblocked [h1:a:(1)] recv b\nblocked [h2:b:(2)] recv a", "a circle: `a` waits for `b` waits for `a`"),
+    ("deadlock at 1.000000000\nblocked [h1:a:(1)] recv b", "`b`, for which `a` waits, isn't blocked: it has ended"),
+    ("deadlock at 1.000000000\nblocked [h1:a:(1)] lock m\nblocked [h1:b:(2)] barrier", "`a` on `h1` waits for the mutex `m`"),
+    ("starved at 2.000000000\nblocked [h1:a:(1)] compute 5", "more users than units a second"),
+    ("budget of 100 events used at 2.000000000", "--budget"),
+    ("route from a to b: more than 64 links", "more than 64 different links"),
+    ("2 actors, 3 events", "So many actors had so many events"),
+    ("[h1:p0:(1) 0.000000000] wait refused", "no request left"),
+    ("[h1:p0:(1) 0.000000000] unlock m refused", "only the actor that holds"),
+    ("error: unrecognized subcommand 'x'", "--help"),
+    ("error: 'simgrid_replay' requires a subcommand but one was not provided", "a file's name must be UTF-8"),
+    ("script line 100000001: too many lines", "at most 100,000,000 lines"),
+]
+
+
+def under_carets(told):
+    """What stands over the carets of the first snippet, and the carets' number."""
+    lines = told.split("\n")
+    carets = next(i for i, line in enumerate(lines) if set(line) <= set(" |^") and "^" in line)
+    start, end = lines[carets].index("^"), lines[carets].rindex("^") + 1
+    return lines[carets - 1][start:end]
+
+
+class Kinds(unittest.TestCase):
+    """One example of each kind of fault: the program tells it, and `explain` leads to its place."""
+
+    def told(self, folder, line, *names):
+        """What is told of a line, where the files fit it."""
+        paths = {part: str(folder.path / name) for part, name in zip(("platform", "deployment", "script"), names)}
+        text, fits = EXPLAIN.recognise(line, EXPLAIN.Files(paths))
+        self.assertTrue(fits, text)
+        return text
+
+    def check(self, folder, line, names, place, over, part):
+        self.assertEqual(folder.replayed().stderr.decode(), line + "\n")
+        told = self.told(folder, line, *names)
+        self.assertIn(f"/{names[-1]}:{place}", told)
+        self.assertIn(part, told)
+        self.assertIn("rule: ", told)
+        if over is not None:
+            shown = over if len(over) <= 120 else over[:60]
+            self.assertTrue(under_carets(told).startswith(EXPLAIN.shown(shown)[:60]), told)
+
+    def test_platforms(self):
+        for text, fault, place, over, part in PLATFORMS:
+            line = "platform: " + fault
+            with self.subTest(line, text=text[-200:]):
+                self.check(Folder(p=text, d=ACTOR, s=""), line, ["p"], place, over, part)
+
+    def test_deployments(self):
+        for text, fault, place, over, part in DEPLOYMENTS:
+            line = "deployment: " + fault
+            with self.subTest(line, text=text):
+                self.check(Folder(p=GOOD, d=text, s=""), line, ["p", "d"], place, over, part)
+
+    def test_scripts(self):
+        for text, kind, place, part in SCRIPTS:
+            line = f"script line {place.split(':')[0]}: {kind}"
+            with self.subTest(line, text=text[:60]):
+                folder = Folder(p=GOOD, d=ACTOR + WORKER + MUTEX, s=text)
+                self.check(folder, line, ["p", "d", "s"], place, None, part)
+
+    def test_run(self):
+        folder = Folder(p=GOOD, d=ACTOR)
+        self.check(folder, "deployment: replay actor under run (row 1)", ["p", "d"], "4:12", '"replay"', "use the command `replay`")
+        many = "".join(WORKER.replace('"w"', f'"w{i}"') for i in range(4097))
+        self.check(Folder(p=GOOD, d=many), "deployment: 4097 actors, 4096 contexts", ["p", "d"], "16385:1", "[[actor]]", "at most 4,096")
+
+    def test_routes(self):
+        spokes = STAR + TWO + LINK + SPOKE
+        send = {"d": ACTOR + ACTOR.replace("p0", "p1").replace("h1", "h2"), "s": "p0 send p1 1\np1 recv p0\n"}
+        for text, help in ((spokes, '      [[spoke]]\n      zone = "z"\n      child = "h2"'),
+                           (ZONE + TWO + LINK, '      [[route]]\n      src = "h1"\n      dst = "h2"'),
+                           (ZONE + TWO + LINK + ROUTE.replace('"h1"\ndst = "h2"', '"h2"\ndst = "h1"') + "symmetrical = false\n",
+                            "only the way back is there, in line 15")):
+            folder = Folder(p=text, **send)
+            with self.subTest(text):
+                self.check(folder, "no route from h1 to h2: zone z, h1 to h2", ["p"], "3:11", None, help)
+
+    def test_files_that_cannot_be_read(self):
+        folder = Folder(platform=GOOD, d=ACTOR, s="")
+        (folder.path / "folder").mkdir()
+        os.symlink("nowhere", folder.path / "link")
+        os.mkfifo(folder.path / "fifo")
+        for part, names, cause in (
+                ("platform", ["plattform"], "did you mean `platform`?"), ("platform", ["folder"], "`folder` is a directory"),
+                ("platform", ["link"], "a symbolic link to `nowhere`"), ("platform", ["no/p"], "there is no folder `no`"),
+                ("platform", ["-"], "for the script alone"), ("platform", ["--platform", ""], "the name is empty"),
+                ("platform", ["fifo"], "no regular file"), ("deployment", ["platform", "folder"], "is a directory"),
+                ("script", ["platform", "d", "nowhere"], "there is no file `nowhere`"),
+                ("script", ["platform", "d", "-"], "standard input, which is gone")):
+            with self.subTest(names):
+                done = tool("explain", *names, given=f"cannot read the {part}\n".encode(), folder=folder.name)
+                self.assertEqual(done.returncode, 0)
+                self.assertIn(cause, done.stdout.decode())
+        self.assertEqual(tool("explain", "--all", "folder", "d", "s", folder=folder.name).returncode, 1)
+
+    def test_piped_output(self):
+        """The fault is found behind the lines of the trace."""
+        folder = Folder(p=GOOD, d=ACTOR, s="p0 yield\np0 jump\n")
+        done = folder.replayed()
+        done = tool("explain", "p", "d", "s", given=done.stdout + done.stderr, folder=folder.name)
+        self.assertEqual(done.returncode, 0)
+        self.assertIn("script line 2: unknown action\n  --> s:2:4\n", done.stdout.decode())
+
+    def test_endings(self):
+        for given, part in ENDINGS:
+            with self.subTest(given):
+                lines, files = given.split("\n"), EXPLAIN.Files({})
+                told = [EXPLAIN.recognise(lines[0], files)[0], *EXPLAIN.explain_blocked(lines)]
+                self.assertIn(part, "\n".join(told))
+        done = tool("explain", given=ENDINGS[1][0].encode())
+        self.assertEqual(done.returncode, 0)
+        self.assertIn(ENDINGS[1][1], done.stdout.decode())
+
+    def test_lines_without_files(self):
+        done = tool("explain", "platform: wrong type (table 2, row 1, key 3)")
+        self.assertEqual(done.returncode, 0)
+        self.assertIn("table `host`, row 1, key `speed`", done.stdout.decode())
+
+    def test_files_that_were_changed_since(self):
+        folder = Folder(p=GOOD)
+        done = tool("explain", "platform: bad value (table 2, row 1, key 3)", "p", folder=folder.name)
+        self.assertEqual(done.returncode, 3)
+        self.assertIn("was it changed since?", done.stdout.decode())
+
+    def test_other_lines_are_refused(self):
+        for line in ("", "hello", "platform: bad value (table 9, row 1, key 1)", "platform: nonsense (table 1, row 1, key 1)",
+                     "script line 1: nonsense"):
+            with self.subTest(line):
+                self.assertEqual(tool("explain", given=line.encode()).returncode, 2)
+        self.assertEqual(tool("explain", "--all").returncode, 2)
+        self.assertEqual(tool("explain", "--all", "a", "b", "c", "d").returncode, 2)
+
+
+class All(unittest.TestCase):
+    """`explain --all`, and the agreement of its first fault with the program's."""
+
+    def test_every_fault_in_order(self):
+        folder = Folder(p=ZONE.replace("Full", "full") + HOST.replace("1Gf", "0") + "cores = 1\n", d=ACTOR.replace("h1", "h2"),
+                        s="p0 jump\np0 compute x\n")
+        done = tool("explain", "--all", "p", "d", "s", folder=folder.name)
+        lines = [line for line in done.stdout.decode().split("\n") if line.startswith(("platform: ", "deployment: ", "script line "))]
+        self.assertEqual(lines, ["platform: bad value (table 1, row 1, key 3)", "platform: unknown name (table 2, row 1, key 0)",
+                                 "platform: bad value (table 2, row 1, key 3)", "deployment: unknown name (table 1, row 1, key 2)",
+                                 "script line 1: unknown action", "script line 2: bad amount"])
+        self.assertEqual(done.returncode, 1)
+        self.assertTrue(done.stdout.endswith(b"6 faults\n"))
+
+    def test_an_empty_deployment(self):
+        folder = Folder(p=GOOD, d="", s="")
+        done = tool("explain", "p", "d", "s", given=folder.replayed().stdout, folder=folder.name)
+        self.assertIn("remark: the deployment has no actor", done.stdout.decode())
+
+    def test_no_fault(self):
+        folder = Folder(p=GOOD, d="", s="what\n")
+        done = tool("explain", "--all", "p", "d", "s", folder=folder.name)
+        self.assertEqual(done.returncode, 0)
+        self.assertIn("the script isn't read", done.stdout.decode())
+
+    def test_bytes_of_any_kind(self):
+        """Whatever stands in the files and the line, something is told."""
+        rng = random.Random("bytes")
+        seeds = [GOOD.encode(), ACTOR.encode(), b"p0 compute 1\n", b"\xff\xfe", b"[[[[", b"{" * 200, b"[" * 200, b"a." * 200, b"\0" * 50,
+                 b'"""', b"= = =", b"'\r\n'", "\u202e\ud7ff\U0010ffff".encode()]
+        lines = ["platform: not TOML", "script line 1: not ASCII", "platform: duplicate (table 7, row 999999999, key 5)",
+                 "cannot read the script", "no route from a to b: zone c, d to e", "deployment: 5 actors, 4 contexts"]
+        folder = Folder()
+        for _ in range(150):
+            paths = {}
+            for part in ("platform", "deployment", "script"):
+                data = b"".join(rng.choice(seeds) for _ in range(rng.randint(0, 3)))
+                folder.write(part, data[rng.choice([0, 0, 0, 1, 7]):])
+                paths[part] = str(folder.path / part)
+            files = EXPLAIN.Files(paths)
+            self.assertTrue(all(finding.text() for finding in files.findings()))
+            for line in lines:
+                self.assertTrue(EXPLAIN.recognise(line, files)[0])
+
+    def test_generated_files(self):
+        """The first fault of generated files is the one that the program tells, and there is none where a run completes."""
+        statuses = {}
+        cases = [inputs.make(number) for number in range(300)]
+        folders = [Folder(**files) for files in cases]
+        with ThreadPoolExecutor(8) as pool:
+            runs = list(pool.map(lambda folder: folder.replayed("--budget", "2000"), folders))
+        for number, (files, folder, done) in enumerate(zip(cases, folders, runs)):
+            with self.subTest(number):
+                paths = {part: str(folder.path / part[0]) for part in ("platform", "deployment", "script") if part[0] in files}
+                all_files = EXPLAIN.Files(paths)
+                found = [finding.line for finding in all_files.findings()]
+                status = done.returncode
+                statuses[status] = statuses.get(status, 0) + 1
+                if status in (3, 4, 5):
+                    line = done.stderr.decode().rstrip("\n")
+                    self.assertEqual(found[:1], [line])
+                    self.assertTrue(EXPLAIN.recognise(line, all_files)[1])
+                elif status == 0:
+                    self.assertEqual(found, [])
+                else:
+                    self.assertTrue(all(line.startswith("script line") for line in found), found)
+        for status in (0, 3, 4, 5):
+            self.assertGreater(statuses.get(status, 0), 20, statuses)
+
+
+if __name__ == "__main__":
+    unittest.main()
