@@ -1,0 +1,191 @@
+"""tools/gantt: lanes, colours, axis and tool tips of the chart; and what gantt, usage and totable share."""
+
+import random
+import re
+import subprocess
+import sys
+import unittest
+import xml.etree.ElementTree as ElementTree
+
+import traces
+from common import ROOT, Folder, example, module, tool
+
+GANTT = module("gantt")
+SVG = "{http://www.w3.org/2000/svg}"
+
+
+def chart(text, *words):
+    done = tool("gantt", *words, given=text.encode())
+    assert done.returncode == 0, done.stderr
+    return ElementTree.fromstring(done.stdout)
+
+
+def lanes(svg):
+    return [group for group in svg.iter(SVG + "g") if group.get("class") == "lane"]
+
+
+def tips(element):
+    return [line for title in element.iter(SVG + "title") for line in (title.text or "").split("\n")]
+
+
+class Charts(unittest.TestCase):
+    def test_lanes_stand_in_the_order_of_the_numbers(self):
+        svg = chart(example("master_worker"))
+        self.assertEqual([lane.get("id") for lane in lanes(svg)], ["actor-1", "actor-2", "actor-3"])
+        self.assertEqual([[text.text for text in lane.iter(SVG + "text")] for lane in lanes(svg)],
+                         [["master", "desk"], ["w1", "fast"], ["w2", "slow"]])
+
+    def test_every_line_has_a_tool_tip(self):
+        for name in ("first", "ring", "star_cluster", "master_worker"):
+            with self.subTest(name):
+                text = example(name)
+                svg = chart(text)
+                told = tips(svg)
+                for line in text.splitlines():
+                    self.assertIn(line, told)
+
+    def test_places_and_colours(self):
+        """w1 receives for 0.101 s, computes for 0.5 s, waits for the master until 1.121 s, and so on, on an axis up to 6.161 s."""
+        lane = lanes(chart(example("master_worker")))[1]
+        ground, *bars = [rect for rect in lane.iter(SVG + "rect") if rect.get("class") != "mark"]
+        left, plot = float(ground.get("x")), float(ground.get("width"))
+        found = [(bar.get("class"), round((float(bar.get("x")) - left) / plot * 6.161, 2)) for bar in bars[:5]]
+        self.assertEqual(found, [("kind-recv", 0.0), ("kind-compute", 0.1), ("kind-recv-waiting", 0.6), ("kind-recv", 1.12),
+                                 ("kind-compute", 1.22)])
+        self.assertEqual([bar.get("fill") for bar in bars[:3]], ["#8a5fbf", "#2f6fb5", "url(#kind-recv-waiting)"])
+
+    def test_legend_and_axis(self):
+        svg = chart(example("master_worker"))
+        texts = [text.text for text in svg.iter(SVG + "text")]
+        for name in ("computing", "sending", "receiving", "send waits for the receiver", "recv waits for the sender"):
+            self.assertEqual(texts.count(name), 1)
+        self.assertNotIn("wait for a mutex", texts)
+        self.assertEqual(texts.count("time [s]"), 2)
+        self.assertIn("end 6.161 s", texts)
+        short = example("first").replace("1.000000000", "0.000001500")
+        self.assertIn("time [µs]", [text.text for text in chart(short).iter(SVG + "text")])
+
+    def test_many_actors_are_legible(self):
+        for actors in (4, 16, 200, 1000):
+            with self.subTest(actors):
+                text = "".join(f"[h{i}:p{i}:({i}) 1.000000000] compute 5 1.000000000\n" for i in range(1, actors + 1))
+                svg = chart(text)
+                self.assertEqual(len(lanes(svg)), actors)
+                tops = [float(lane.find(SVG + "rect").get("y")) for lane in lanes(svg)]
+                labels = [lane.find(SVG + "text") for lane in lanes(svg)]
+                height = tops[1] - tops[0]
+                self.assertTrue(all(10 <= float(label.get("font-size")) <= height - 4 for label in labels))
+                self.assertGreater(float(svg.get("height")), tops[-1] + height)
+
+    def test_small_pieces_are_put_together(self):
+        text = "".join(f"[h:a:(1) {i // 1000}.{i % 1000:03d}000000] compute 5 0.001000000\n" for i in range(1, 20001))
+        svg = chart(text)
+        bars = [rect for rect in svg.iter(SVG + "rect") if rect.get("class") == "kind-compute"]
+        self.assertLess(len(bars), 2000)
+        self.assertGreater(len(bars), 500)
+
+    def test_blocked_and_refused(self):
+        text = traces.GOOD + "[h1:a:(1) 1.000000000] wait refused\ndeadlock at 3.000000000\nblocked [h1:a:(1)] recv b\n"
+        svg = chart(text)
+        blocked, = [rect for rect in svg.iter(SVG + "rect") if rect.get("class") == "kind-blocked"]
+        self.assertIn("blocked [h1:a:(1)] recv b", tips(blocked))
+        self.assertIn("refused", [text.text for text in svg.iter(SVG + "text")])
+
+    def test_a_part_of_the_time(self):
+        svg = chart(example("master_worker"), "--from", "1", "--to", "2.5", "--width", "800", "--title", "<part>")
+        self.assertEqual(svg.get("width"), "800")
+        self.assertEqual(svg.find(SVG + "title").text, "<part>")
+        for lane in lanes(svg):
+            ground, *bars = list(lane.iter(SVG + "rect"))
+            for bar in bars:
+                self.assertGreaterEqual(float(bar.get("x")) + 1, float(ground.get("x")))
+                self.assertLessEqual(float(bar.get("x")) + float(bar.get("width")), float(ground.get("x")) + float(ground.get("width")) + 1)
+
+
+class Shared(unittest.TestCase):
+    """What gantt, usage and totable have in common."""
+
+    TOOLS = ("gantt", "usage", "totable")
+
+    def test_shared_lines_are_the_same(self):
+        parts = []
+        for name in self.TOOLS:
+            text = (ROOT / "tools" / name).read_text(encoding="utf-8")
+            parts.append(re.search(r"^# A trace: .*?^# The end of what is the same -+$", text, re.S | re.M)[0])
+        self.assertEqual(len(set(parts)), 1)
+
+    def test_a_bad_line_is_told_and_nothing_is_written(self):
+        for index, (text, told) in enumerate(traces.BAD):
+            for name in self.TOOLS if index % 5 == 0 else ("gantt",):
+                with self.subTest(text, tool=name):
+                    folder = Folder(trace=text)
+                    out = folder.path / "out"
+                    done = tool(name, "trace", *(["-o", "out"] if name == "gantt" else []), folder=folder.name)
+                    self.assertEqual(done.returncode, 1)
+                    self.assertEqual(done.stdout, b"")
+                    self.assertIn(told, done.stderr.decode())
+                    self.assertFalse(out.exists())
+
+    def test_an_empty_trace(self):
+        for name in ("gantt", "usage"):
+            done = tool(name, given=b"Simulation time 1.000000000\n")
+            self.assertEqual(done.returncode, 1)
+            self.assertIn(b"--quiet", done.stderr)
+
+    def test_words_and_files(self):
+        folder = Folder(trace=traces.GOOD)
+        for words in (["nowhere"], [folder.name], ["--unknown"], ["a", "b"]):
+            for name in self.TOOLS:
+                with self.subTest(words, tool=name):
+                    done = tool(name, *words, folder=folder.name)
+                    self.assertEqual(done.returncode, 2)
+                    self.assertEqual(done.stdout, b"")
+        for words in (["--width", "x"], ["--from", "-1"], ["--from", "2", "--to", "1"], ["-o", "no/where"]):
+            self.assertEqual(tool("gantt", "trace", *words, folder=folder.name).returncode, 2)
+        for path in (ROOT / "tools").iterdir():
+            self.assertIn(b"exit status:", tool(path.name, "--help").stdout)
+
+    def test_spoiled_traces(self):
+        """What isn't a trace is told by its line, and what is one is drawn and counted, whatever its numbers."""
+        usage, totable, rng, bad = module("usage"), module("totable"), random.Random("spoiled"), 0
+        texts = [example(name) for name in ("ring", "star_cluster", "master_worker")]
+        for _ in range(400):
+            text = rng.choice(texts)
+            at = rng.randrange(len(text))
+            text = text[:at] + rng.choice(["", "0", "9", ".", "(", "\n", " ", "refused", "p1", "\x00", "wait", "99999999999999"]) + text[
+                at + rng.choice([0, 1, 2, 30]):]
+            try:
+                trace = GANTT.read_trace(text.split("\n")[:-1])
+            except GANTT.BadTrace as told:
+                self.assertRegex(str(told), "^line [0-9]+: ")
+                bad += 1
+                continue
+            ElementTree.fromstring(GANTT.Chart(trace).svg())
+            usage.table(trace, "both", 5)
+            list(totable.rows_of(trace, True))
+        self.assertGreater(bad, 100)
+
+    def test_output_that_cannot_be_written(self):
+        for name in self.TOOLS:
+            with open("/dev/full", "wb") as full, self.subTest(name):
+                done = subprocess.run([sys.executable, "-B", ROOT / "tools" / name], input=example("ring").encode(), stdout=full,
+                                      stderr=subprocess.PIPE)
+                self.assertEqual(done.returncode, 2)
+                self.assertEqual(done.stderr.count(b"\n"), 1, done.stderr)
+
+    def test_when_messages_meet(self):
+        """On links where nothing is shared, what follows the meeting of a message is its latency and its bytes, to the nanosecond."""
+        messages = 0
+        for number in range(30):
+            folder = Folder(**traces.fatpipe(number))
+            trace = GANTT.read_trace(folder.replayed().stdout.decode().splitlines())
+            met = GANTT.meetings(trace)
+            for action in trace.actions:
+                if action.words[0] in ("send", "recv"):
+                    messages += 1
+                    self.assertEqual(action.end - met[action.number], traces.LATENCY + int(action.words[2]) * traces.BYTE, action)
+        self.assertGreater(messages, 200)
+
+
+if __name__ == "__main__":
+    unittest.main()
