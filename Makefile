@@ -1,0 +1,32 @@
+# make: builds the proved program.  make install [PREFIX=/usr/local] [DESTDIR=]: puts the program, the tools, the manual
+# page and the completions where they belong.  make uninstall takes them away.  make check: all proofs and tests.
+PREFIX = /usr/local
+DESTDIR =
+BIN = $(DESTDIR)$(PREFIX)/bin
+SHARE = $(DESTDIR)$(PREFIX)/share
+PROGRAM = crates/simgrid_replay/out/simgrid_replay
+TOOLS = explain gantt usage totable report cluster
+
+# The launcher knows whether the program is as new as its sources.
+all:
+	./simgrid_replay --version
+
+check:
+	.ci/run
+
+install: all
+	install -d $(BIN) $(SHARE)/man/man1 $(SHARE)/bash-completion/completions $(SHARE)/zsh/site-functions $(SHARE)/fish/vendor_completions.d
+	install -m 755 $(PROGRAM) $(BIN)/simgrid_replay
+	for tool in $(TOOLS); do install -m 755 tools/$$tool $(BIN)/simgrid_replay-$$tool || exit 1; done
+	install -m 644 docs/simgrid_replay.1 $(SHARE)/man/man1/simgrid_replay.1
+	install -m 644 completions/simgrid_replay.bash $(SHARE)/bash-completion/completions/simgrid_replay
+	install -m 644 completions/_simgrid_replay $(SHARE)/zsh/site-functions/_simgrid_replay
+	install -m 644 completions/simgrid_replay.fish $(SHARE)/fish/vendor_completions.d/simgrid_replay.fish
+
+uninstall:
+	rm -f $(BIN)/simgrid_replay $(SHARE)/man/man1/simgrid_replay.1
+	for tool in $(TOOLS); do rm -f $(BIN)/simgrid_replay-$$tool; done
+	rm -f $(SHARE)/bash-completion/completions/simgrid_replay $(SHARE)/zsh/site-functions/_simgrid_replay
+	rm -f $(SHARE)/fish/vendor_completions.d/simgrid_replay.fish
+
+.PHONY: all check install uninstall
