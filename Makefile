@@ -4,6 +4,7 @@ PREFIX = /usr/local
 DESTDIR =
 BIN = $(DESTDIR)$(PREFIX)/bin
 SHARE = $(DESTDIR)$(PREFIX)/share
+LIBEXEC = $(DESTDIR)$(PREFIX)/libexec/simgrid_replay
 PROGRAM = crates/simgrid_replay/out/simgrid_replay
 TOOLS = explain gantt usage totable report cluster
 
@@ -15,9 +16,12 @@ check:
 	.ci/run
 
 install: all
-	install -d $(BIN) $(SHARE)/man/man1 $(SHARE)/bash-completion/completions $(SHARE)/zsh/site-functions $(SHARE)/fish/vendor_completions.d
+	install -d $(BIN) $(LIBEXEC) $(SHARE)/man/man1 $(SHARE)/bash-completion/completions $(SHARE)/zsh/site-functions $(SHARE)/fish/vendor_completions.d
 	install -m 755 $(PROGRAM) $(BIN)/simgrid_replay
-	for tool in $(TOOLS); do install -m 755 tools/$$tool $(BIN)/simgrid_replay-$$tool || exit 1; done
+	for tool in $(TOOLS); do \
+	    install -m 755 tools/$$tool $(LIBEXEC)/$$tool && \
+	    ln -sf ../libexec/simgrid_replay/$$tool $(BIN)/simgrid_replay-$$tool || exit 1; \
+	done
 	install -m 644 docs/simgrid_replay.1 $(SHARE)/man/man1/simgrid_replay.1
 	install -m 644 completions/simgrid_replay.bash $(SHARE)/bash-completion/completions/simgrid_replay
 	install -m 644 completions/_simgrid_replay $(SHARE)/zsh/site-functions/_simgrid_replay
@@ -25,7 +29,7 @@ install: all
 
 uninstall:
 	rm -f $(BIN)/simgrid_replay $(SHARE)/man/man1/simgrid_replay.1
-	for tool in $(TOOLS); do rm -f $(BIN)/simgrid_replay-$$tool; done
+	for tool in $(TOOLS); do rm -f $(BIN)/simgrid_replay-$$tool $(LIBEXEC)/$$tool; done
 	rm -f $(SHARE)/bash-completion/completions/simgrid_replay $(SHARE)/zsh/site-functions/_simgrid_replay
 	rm -f $(SHARE)/fish/vendor_completions.d/simgrid_replay.fish
 
