@@ -89,8 +89,8 @@ pub fn simgrid<R: Threads + Sync, F: Files, O: Sinks, L: Ledger>(
         (O.held out.old) (O.held out.new) steps.old steps.new }
     ensures telling { (q : Part) → KeepsTelling (F.shows files.old q) (F.shows files.new q) }
 
-    // Each part was begun under its name of the words, and of a platform or a deployment that is too long one byte more
-    // than the greatest has was taken.
+    // Each part was begun under its name of the words, and of a platform or a deployment at most one byte more was taken
+    // than the greatest has.
     ensures named { (job : Asked) → AskFor (map string_bytes words.now) job
         → (part : Part) → IsNamedBy job.request part (F.shows files.new part) }
     ensures bounded { AreBounded (F.shows files.old) (F.shows files.new) }
