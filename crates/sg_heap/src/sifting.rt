@@ -1,7 +1,7 @@
 //! Entries rise and sink in the binary heap.
 ghost use Rattle.std.specs.Prelude.{◌≡◌, ◌≤◌, ◌<◌, ◌+◌, ◌-◌, ◌*◌, ◌/◌, ℕ, length, slice_set};
 ghost use Rattle.sg_heap.specs.Agenda.{IsNoLater, digits};
-ghost use Rattle.sg_heap.specs.kept.Heap.{ArePlaced, InOrder, IsHeap, MayMove, MayRise, MaySink, entry_at, key_of, keys_of};
+ghost use Rattle.sg_heap.specs.kept.Heap.{ArePlaced, InOrder, IsSifted, MayMove, MayRise, MaySink, entry_at, key_of};
 
 use crate::entry::{Entry, is_before, put};
 use sg_base::Steps;
@@ -43,10 +43,8 @@ pub(crate) fn rise<L: Ledger>(
     requires placed { ArePlaced (slice_set heap.old from entry)
         (slice_set place.old entry.slot from) }
     requires rises { MayRise (slice_set heap.old from entry) count from }
-    ensures heap { IsHeap heap.new count }
-    ensures placed { ArePlaced heap.new place.new }
-    ensures keys { keys_of heap.new place.new count ≡
-        keys_of (slice_set heap.old from entry) (slice_set place.old entry.slot from) count }
+    ensures sifted { IsSifted count (slice_set heap.old from entry)
+        (slice_set place.old entry.slot from) heap.new place.new }
     ensures most { steps.new ≤ steps.old + digits from }
 {
     let mut at = from;
@@ -78,10 +76,8 @@ pub(crate) fn sink<L: Ledger>(
     requires placed { ArePlaced (slice_set heap.old from entry)
         (slice_set place.old entry.slot from) }
     requires sinks { MaySink (slice_set heap.old from entry) count from }
-    ensures heap { IsHeap heap.new count }
-    ensures placed { ArePlaced heap.new place.new }
-    ensures keys { keys_of heap.new place.new count ≡
-        keys_of (slice_set heap.old from entry) (slice_set place.old entry.slot from) count }
+    ensures sifted { IsSifted count (slice_set heap.old from entry)
+        (slice_set place.old entry.slot from) heap.new place.new }
     ensures most { steps.new ≤ steps.old + 2 * digits count }
 {
     let mut at = from;
@@ -113,10 +109,8 @@ pub(crate) fn sift<L: Ledger>(
     requires placed { ArePlaced (slice_set heap.old from entry)
         (slice_set place.old entry.slot from) }
     requires loose { MayMove (slice_set heap.old from entry) count from }
-    ensures heap { IsHeap heap.new count }
-    ensures placed { ArePlaced heap.new place.new }
-    ensures keys { keys_of heap.new place.new count ≡
-        keys_of (slice_set heap.old from entry) (slice_set place.old entry.slot from) count }
+    ensures sifted { IsSifted count (slice_set heap.old from entry)
+        (slice_set place.old entry.slot from) heap.new place.new }
     ensures most { steps.new ≤ steps.old + (2 * digits count + 1) }
 {
     if from > 0 && is_before(entry, heap[(from - 1) / 2], steps) {

@@ -60,6 +60,13 @@ pub record MayMove (heap : List Entry) (count at : ℕ) : Type 0 where
   pub order : (i : ℕ) → 0 < i → i < count → i ≢ at → (i - 1) / 2 ≢ at → InOrder heap ((i - 1) / 2) i
   pub spanned : IsSpanned heap count at
 
+-- What sifting leaves of these entries and places, of which the first count are a heap: the same keys.
+pub record IsSifted (count : ℕ) (heap : List Entry) (place : List ℕ)
+    (heap' : List Entry) (place' : List ℕ) : Type 0 where
+  pub order : IsHeap heap' count
+  pub placed : ArePlaced heap' place'
+  pub keys : keys_of heap' place' count ≡ keys_of heap place count
+
 -- All slots have their places, those with a key come first, and these are a heap.
 pub record IsAgenda (heap : List Entry) (place : List ℕ) (count : ℕ) : Type 0 where
   pub placed : ArePlaced heap place

@@ -17,7 +17,7 @@ rise-requires-clause-rises g c =
 
 pub returns-clause-keys : goal.returns-clause-keys
 returns-clause-keys g c =
-    c.rise.ensures.keys ∙ rw (c.put.ensures.heap, c.put.ensures.place) (added c.args.heap.now c.args.place.now c.args.at c.args.entry c.requires.agenda.placed c.requires.in_range c.requires.slot c.args.count c.requires.at).keys
+    c.rise.ensures.sifted.keys ∙ rw (c.put.ensures.heap, c.put.ensures.place) (added c.args.heap.now c.args.place.now c.args.at c.args.entry c.requires.agenda.placed c.requires.in_range c.requires.slot c.args.count c.requires.at).keys
 
 pub returns-clause-agenda : goal.returns-clause-agenda
 returns-clause-agenda g c =
@@ -27,8 +27,8 @@ returns-clause-agenda g c =
     let stands = at_slot c.args.heap.now c.args.place.now c.args.at c.args.entry a.placed c.requires.in_range c.requires.slot in
     let had = no_key_there c.args.heap.now c.args.place.now c.args.count c.args.entry.slot slot_in (subst (λ k. c.args.count ≤ k) (sym stands) c.requires.at) in
     record {
-      placed = c.rise.ensures.placed;
-      order = c.rise.ensures.heap;
+      placed = c.rise.ensures.sifted.placed;
+      order = c.rise.ensures.sifted.order;
       within = omega arith;
       counted = ap key_count (returns-clause-keys g c) ∙ key_count_set old c.args.entry.slot (key_of c.args.entry) (subst (λ n. c.args.entry.slot < n) (sym (length-keys c.args.heap.now c.args.place.now c.args.count)) slot_in) had ∙ ap (λ n. n + 1) a.counted;
     }

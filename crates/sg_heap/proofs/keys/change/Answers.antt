@@ -14,7 +14,7 @@ sift-requires-clause-loose g c = loose_of c.args.heap.now (set c.args.heap.now c
     (λ i h ne. get_or-set_other c.args.heap.now c.args.at i c.args.entry no_entry ne)
 
 pub returns-clause-keys : goal.returns-clause-keys
-returns-clause-keys g c = c.sift.ensures.keys ∙ keys_changed c.args.heap.now c.args.place.now c.args.at c.args.entry c.requires.agenda.placed (omega (arith, c.requires.agenda.within)) c.requires.slot c.args.count c.requires.at
+returns-clause-keys g c = c.sift.ensures.sifted.keys ∙ keys_changed c.args.heap.now c.args.place.now c.args.at c.args.entry c.requires.agenda.placed (omega (arith, c.requires.agenda.within)) c.requires.slot c.args.count c.requires.at
 
 pub returns-clause-agenda : goal.returns-clause-agenda
 returns-clause-agenda g c =
@@ -25,8 +25,8 @@ returns-clause-agenda g c =
     let had = ap (λ s. slice_index_or old s None) its ∙ key_there c.args.heap.now c.args.place.now c.args.count c.args.at a.placed la c.requires.at in
     let slot_in : c.args.entry.slot < length old = subst (λ n. c.args.entry.slot < n) (sym (length-keys c.args.heap.now c.args.place.now c.args.count)) (subst (λ s. s < length c.args.place.now) (sym its) (a.placed.slots c.args.at la)) in
     record {
-      placed = c.sift.ensures.placed;
-      order = c.sift.ensures.heap;
+      placed = c.sift.ensures.sifted.placed;
+      order = c.sift.ensures.sifted.order;
       within = omega (arith, a.within);
       counted = ap key_count (returns-clause-keys g c) ∙ key_count_reset old c.args.entry.slot (key_of c.args.entry) (key_of (entry_at c.args.heap.now c.args.at)) slot_in had ∙ a.counted;
     }

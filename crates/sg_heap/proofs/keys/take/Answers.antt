@@ -35,10 +35,10 @@ sift-requires-clause-loose g c =
 pub returns-then-at-last-clause-keys : goal.returns-then-at-last-clause-keys
 returns-then-at-last-clause-keys g c =
     let t = taken_before c.args.heap.now c.args.place.now c.args.at (c.args.count - 1) c.requires.agenda.placed (omega arith) (omega (arith, c.requires.agenda.within)) c.if-at-last.true in
-    c.sift.ensures.keys ∙ rw (c.put.ensures.heap, c.put.ensures.place) (t.keys ∙ ap (λ n. set (keys_of c.args.heap.now c.args.place.now n) (entry_at c.args.heap.now c.args.at).slot None) (again c.args.count (omega arith)))
+    c.sift.ensures.sifted.keys ∙ rw (c.put.ensures.heap, c.put.ensures.place) (t.keys ∙ ap (λ n. set (keys_of c.args.heap.now c.args.place.now n) (entry_at c.args.heap.now c.args.at).slot None) (again c.args.count (omega arith)))
 
 pub returns-then-at-last-clause-agenda : goal.returns-then-at-last-clause-agenda
-returns-then-at-last-clause-agenda g c = left c.args.heap.now c.sift.new.heap c.args.place.now c.sift.new.place c.args.count c.args.at c.requires.agenda c.requires.at c.sift.ensures.placed c.sift.ensures.heap (c.sift.auto.place ∙ c.put.auto.place) (returns-then-at-last-clause-keys g c)
+returns-then-at-last-clause-agenda g c = left c.args.heap.now c.sift.new.heap c.args.place.now c.sift.new.place c.args.count c.args.at c.requires.agenda c.requires.at c.sift.ensures.sifted.placed c.sift.ensures.sifted.order (c.sift.auto.place ∙ c.put.auto.place) (returns-then-at-last-clause-keys g c)
 
 pub returns-then-at-last-clause-most : goal.returns-then-at-last-clause-most
 returns-then-at-last-clause-most g c = omega (arith, digits-le (c.args.count - 1) c.args.count (omega arith))

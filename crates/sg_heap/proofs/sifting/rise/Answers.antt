@@ -4,9 +4,13 @@ use Rattle.sg_heap.proofs.Digits.{digits-parent}
 use Rattle.sg_heap.proofs.InHand.{rise_stops, rise_goes, slot_of}
 use Rattle.sg_heap.proofs.sifting.rise.Goals as goal
 
-pub returns-then-not-is_before-clause-heap : goal.returns-then-not-is_before-clause-heap
-returns-then-not-is_before-clause-heap g c =
-    subst (λ h. IsHeap h c.args.count) (sym c.put.ensures.heap) (rise_stops c.loop-at.heap c.args.count c.loop-at.at c.args.entry (omega arith) c.loop-at.invariant.rises (λ _. c.if-not-is_before.ensures.behind refl))
+pub returns-then-not-is_before-clause-sifted : goal.returns-then-not-is_before-clause-sifted
+returns-then-not-is_before-clause-sifted g c =
+    record {
+      order = subst (λ h. IsHeap h c.args.count) (sym c.put.ensures.heap) (rise_stops c.loop-at.heap c.args.count c.loop-at.at c.args.entry (omega arith) c.loop-at.invariant.rises (λ _. c.if-not-is_before.ensures.behind refl));
+      placed = rw (c.put.ensures.heap, c.put.ensures.place) c.loop-at.invariant.placed;
+      keys = rw (c.put.ensures.heap, c.put.ensures.place) c.loop-at.invariant.keys;
+    }
 
 pub returns-then-not-is_before-clause-most : goal.returns-then-not-is_before-clause-most
 returns-then-not-is_before-clause-most g c = omega (arith, digits-parent c.loop-at.at c.loop-at-test.true)
@@ -32,6 +36,10 @@ loop-at-preserved g c =
       most = omega (arith, inv.most, c.is_before.ensures.counted, digits-parent at c.loop-at-test.true);
     }
 
-pub returns-clause-heap : goal.returns-clause-heap
-returns-clause-heap g c =
-    subst (λ h. IsHeap h c.args.count) (sym c.put-2.ensures.heap) (rise_stops c.loop-at.heap c.args.count c.loop-at.at c.args.entry (omega arith) c.loop-at.invariant.rises (λ some. absurd (omega (arith, some))))
+pub returns-clause-sifted : goal.returns-clause-sifted
+returns-clause-sifted g c =
+    record {
+      order = subst (λ h. IsHeap h c.args.count) (sym c.put-2.ensures.heap) (rise_stops c.loop-at.heap c.args.count c.loop-at.at c.args.entry (omega arith) c.loop-at.invariant.rises (λ some. absurd (omega (arith, some))));
+      placed = rw (c.put-2.ensures.heap, c.put-2.ensures.place) c.loop-at.invariant.placed;
+      keys = rw (c.put-2.ensures.heap, c.put-2.ensures.place) c.loop-at.invariant.keys;
+    }

@@ -5,12 +5,16 @@ use Rattle.sg_heap.proofs.Order.{no_later-trans}
 use Rattle.sg_heap.proofs.InHand.{sink_stops, sink_goes}
 use Rattle.sg_heap.proofs.sifting.sink.Goals as goal
 
-pub returns-then-not-is_before-clause-heap : goal.returns-then-not-is_before-clause-heap
-returns-then-not-is_before-clause-heap g c =
+pub returns-then-not-is_before-clause-sifted : goal.returns-then-not-is_before-clause-sifted
+returns-then-not-is_before-clause-sifted g c =
     let child = c.first_child-child.result in
     let heap = c.loop-at.heap in
-    subst (λ h. IsHeap h c.args.count) (sym c.put.ensures.heap) (sink_stops heap c.args.count c.loop-at.at c.args.entry (omega arith) c.loop-at.invariant.sinks
-    (λ i hi hc e. no_later-trans (key_of c.args.entry) (key_of (entry_at heap child)) (key_of (entry_at heap i)) (c.if-not-is_before.ensures.behind refl) (c.first_child-child.ensures.first i hi hc e)))
+    record {
+      order = subst (λ h. IsHeap h c.args.count) (sym c.put.ensures.heap) (sink_stops heap c.args.count c.loop-at.at c.args.entry (omega arith) c.loop-at.invariant.sinks
+          (λ i hi hc e. no_later-trans (key_of c.args.entry) (key_of (entry_at heap child)) (key_of (entry_at heap i)) (c.if-not-is_before.ensures.behind refl) (c.first_child-child.ensures.first i hi hc e)));
+      placed = rw (c.put.ensures.heap, c.put.ensures.place) c.loop-at.invariant.placed;
+      keys = rw (c.put.ensures.heap, c.put.ensures.place) c.loop-at.invariant.keys;
+    }
 
 pub returns-then-not-is_before-clause-most : goal.returns-then-not-is_before-clause-most
 returns-then-not-is_before-clause-most g c =
@@ -35,9 +39,13 @@ loop-at-preserved g c =
       most = omega (arith, inv.most, out.most, c.is_before.ensures.counted, digits-child at to out.child out.below);
     }
 
-pub returns-clause-heap : goal.returns-clause-heap
-returns-clause-heap g c =
-    subst (λ h. IsHeap h c.args.count) (sym c.put-2.ensures.heap) (sink_stops c.loop-at.heap c.args.count c.loop-at.at c.args.entry (omega arith) c.loop-at.invariant.sinks (λ i hi hc e. absurd (omega (arith, hi, hc, e))))
+pub returns-clause-sifted : goal.returns-clause-sifted
+returns-clause-sifted g c =
+    record {
+      order = subst (λ h. IsHeap h c.args.count) (sym c.put-2.ensures.heap) (sink_stops c.loop-at.heap c.args.count c.loop-at.at c.args.entry (omega arith) c.loop-at.invariant.sinks (λ i hi hc e. absurd (omega (arith, hi, hc, e))));
+      placed = rw (c.put-2.ensures.heap, c.put-2.ensures.place) c.loop-at.invariant.placed;
+      keys = rw (c.put-2.ensures.heap, c.put-2.ensures.place) c.loop-at.invariant.keys;
+    }
 
 pub returns-clause-most : goal.returns-clause-most
 returns-clause-most g c = omega (arith, digits-le (c.loop-at.at + 1) c.args.count (omega arith))
