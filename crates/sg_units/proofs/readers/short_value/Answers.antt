@@ -1,8 +1,8 @@
 use Rattle.std.proofs.Common.{◌≡◌, true, rules}
 use Rattle.sg_units.specs.Amount.{is_short}
-use Rattle.sg_units.specs.Shown.{parts_of}
+use Rattle.sg_units.specs.kept.Shown.{parts_of}
 use Rattle.sg_units.proofs.Values.{limited_some, limited_none, limited_limit}
-use Rattle.sg_units.proofs.readers.limited.Goals as goal
+use Rattle.sg_units.proofs.readers.short_value.Goals as goal
 
 pub returns-in-Some-clause-value : goal.returns-in-Some-clause-value
 returns-in-Some-clause-value c =
