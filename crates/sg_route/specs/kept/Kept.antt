@@ -1,7 +1,9 @@
 -- What is kept of a route while it is gone along.
-use Rattle.std.specs.Prelude.{Bool, true, ◌==◌, if◌then◌else◌, List, [], ◌∷◌, ◌++◌, length}
+use Rattle.std.specs.Prelude.{◌≡◌, Bool, true, ◌==◌, if◌then◌else◌, List, [], ◌∷◌, ◌++◌, length, Result, Ok, Err}
 use Rattle.sg_base.specs.declared.ids.LinkId.{LinkId}
 use Rattle.sg_route.specs.Firsts.{is_among}
+use Rattle.sg_route.specs.Route.{Way}
+use Rattle.sg_route.specs.declared.leg.Leg.{Leg}
 
 -- at most 64 links, and whether one more was met
 pub record Kept : Type 0 where
@@ -17,3 +19,8 @@ keep_one kept link =
 abbrev pub keep_all : Kept → List LinkId → Kept
 keep_all kept [] = kept
 keep_all kept (link ∷ rest) = keep_all (keep_one kept link) rest
+
+-- what a walk has kept, or what was missing on it
+abbrev pub KeepsWay : Way → Result (Unit {0}) Leg → Kept → Kept → Type 0
+KeepsWay (Ok links) result old new = (result ≡ Ok tt) × (new ≡ keep_all old links)
+KeepsWay (Err missing) result old new = result ≡ Err missing

@@ -5,7 +5,7 @@ use Rattle.std.specs.BTreeMap.{BTreeMap, get}
 use Rattle.std.specs.declared.cmp.Ordering.{Ordering}
 use Rattle.sg_base.specs.contracts.ids.ChildOrd.TheImpl as child_ord
 use Rattle.sg_base.specs.declared.ids.Child.{Child}
-use Rattle.sg_platform.specs.declared.rows.SpokeRow.{SpokeRow}
+use Rattle.sg_rows.specs.declared.rows.SpokeRow.{SpokeRow}
 use Rattle.sg_route.specs.contracts.locals.PairOrd.TheImpl as pair_ord
 use Rattle.sg_route.specs.declared.locals.Local.{Local}
 use Rattle.sg_route.specs.declared.locals.Pair.{Pair}
