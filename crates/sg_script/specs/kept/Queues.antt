@@ -7,5 +7,5 @@ abbrev pub queue_at : List (List Action) → ℕ → List Action
 queue_at queues actor = slice_index_or queues actor []
 
 -- the queue before its first was taken
-abbrev pub popped : Option Action → List Action → List Action
-popped first queue = option_to_list first ++ queue
+abbrev pub with_first : Option Action → List Action → List Action
+with_first first queue = option_to_list first ++ queue
