@@ -12,21 +12,21 @@ use Rattle.sg_words.specs.declared.job.Job.{Job}
 use Rattle.sg_words.specs.declared.job.Request.{Request}
 use Rattle.sg_words.specs.declared.job.Request.TheVariants.{Replay, Run, Churn}
 
-abbrev pub request_text : Request → line.Request
-request_text (Replay platform deployment script) = line.replay platform.now deployment.now script.now
-request_text (Run platform deployment) = line.run platform.now deployment.now
-request_text (Churn n) = line.churn n.seed n.actors n.steps
+abbrev pub request_view : Request → line.Request
+request_view (Replay platform deployment script) = line.replay platform.now deployment.now script.now
+request_view (Run platform deployment) = line.run platform.now deployment.now
+request_view (Churn n) = line.churn n.seed n.actors n.steps
 
-abbrev pub asked_text : Asked → line.Asked
-asked_text a = record { request = request_text a.request; workers = a.workers; budget = a.budget; quiet = a.quiet }
+abbrev pub asked_view : Asked → line.Asked
+asked_view a = record { request = request_view a.request; threads = a.threads; budget = a.budget; quiet = a.quiet }
 
-abbrev pub command_shown : Command → line.Request
-command_shown (Command.Replay platform deployment script) = line.replay platform deployment script
-command_shown (Command.Run platform deployment) = line.run platform deployment
-command_shown (Command.Churn seed actors steps) = line.churn seed actors steps
+abbrev pub command_view : Command → line.Request
+command_view (Command.Replay platform deployment script) = line.replay platform deployment script
+command_view (Command.Run platform deployment) = line.run platform deployment
+command_view (Command.Churn seed actors steps) = line.churn seed actors steps
 
-abbrev pub job_shown : Job → line.Asked
-job_shown job = record { request = command_shown job.command; workers = job.workers; budget = job.budget; quiet = job.quiet }
+abbrev pub job_view : Job → line.Asked
+job_view job = record { request = command_view job.command; threads = job.threads; budget = job.budget; quiet = job.quiet }
 
 -- help, or the version, was asked for
 abbrev pub IsHelp : ErrorKind → Type 0
@@ -35,7 +35,7 @@ IsHelp kind = (kind ≡ DisplayHelp) ⊎ (kind ≡ DisplayVersion)
 -- Where no kind of refusal is there the answer is the job that was asked for, else a refusal of one of the kinds; or
 -- memory was wanting.
 abbrev pub Answers : Kinds → Option line.Asked → Result Job WordsFault → Type 0
-Answers kinds asked (Ok job) = (kinds ≡ []) × (asked ≡ Some (job_shown job))
+Answers kinds asked (Ok job) = (kinds ≡ []) × (asked ≡ Some (job_view job))
 Answers kinds asked (Err (Help text)) = IsAmong DisplayHelp kinds ⊎ IsAmong DisplayVersion kinds
 Answers kinds asked (Err (Bad kind text)) = IsAmong kind kinds × (kind ≢ DisplayHelp) × (kind ≢ DisplayVersion)
 Answers kinds asked (Err Memory) = ⊤
