@@ -3,13 +3,13 @@ ghost use Rattle.std.specs.Prelude.{◌≡◌, Some, None, IsSome, IfSome, IfOk,
 ghost use Rattle.sg_base.specs.Mind.{master, churn};
 ghost use Rattle.sg_base.specs.Turn.{turn, turn_of, master_turn, churn_turn};
 ghost use Rattle.sg_actor.specs.Roles.{mind_of, number_of, CanCast};
-ghost use Rattle.sg_actor.specs.Tape.{tape_mind, kind_of, IsTape, IsTapeOf, FitActorsFrom};
-ghost use Rattle.sg_actor.specs.Fields.{is_exit, kind_now};
+ghost use Rattle.sg_actor.specs.kept.Tape.{tape_mind, kind_of, IsTape, IsTapeOf, FitActorsFrom};
+ghost use Rattle.sg_actor.specs.kept.Fields.{is_exit, kind_now};
 
 use crate::actor::Actor;
-use crate::calls::{replay_call, worker_call};
 use crate::churn::{MOST_BYTES, MOST_FLOPS};
 use crate::generator::draw;
+use crate::next_call::{replay_call, worker_call};
 use crate::role::Role;
 use sg_base::{ActorId, Answer, BoxId, Call, Memory, Msg};
 use std::alloc::Global;
@@ -38,7 +38,7 @@ impl Model for TapeContext {
 
     ghost Value = { Option Mind };
 
-    ghost use Rattle.sg_actor.specs.Tape.{tape_mind, IsTape};
+    ghost use Rattle.sg_actor.specs.kept.Tape.{tape_mind, IsTape};
 
     ghost view = { λ s. tape_mind s.words.items };
 
@@ -126,7 +126,8 @@ fn tape_turn(words: &mut [u64], answer: Answer) -> Call
     requires kept { IsTape words.old }
     requires cast { IsSome (tape_mind words.old) }
     ensures kept { IsTape words.new }
-    ensures mind { IfSome (tape_mind words.old) (λ m. tape_mind words.new ≡ Some (turn m answer).mind) }
+    ensures mind { IfSome (tape_mind words.old)
+        (λ m. tape_mind words.new ≡ Some (turn m answer).mind) }
     ensures call { IfSome (tape_mind words.old) (λ m. result ≡ (turn m answer).call) }
 {
     let kind = words[0];
@@ -141,7 +142,8 @@ fn tape_turn(words: &mut [u64], answer: Answer) -> Call
 fn numbers_turn(kind: u64, numbers: &mut [u64], answer: Answer) -> Call
     requires { IsTapeOf (kind_of kind) numbers.old }
     ensures kept { IsTapeOf (kind_of kind) numbers.new }
-    ensures kind { (turn_of (kind_of kind) numbers.old answer).mind.kind ≡ kind_now (is_exit result) (kind_of kind) }
+    ensures kind { (turn_of (kind_of kind) numbers.old answer).mind.kind
+        ≡ kind_now (is_exit result) (kind_of kind) }
     ensures numbers { numbers.new ≡ (turn_of (kind_of kind) numbers.old answer).mind.numbers }
     ensures call { result ≡ (turn_of (kind_of kind) numbers.old answer).call }
 {

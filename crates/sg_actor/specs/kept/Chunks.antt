@@ -2,9 +2,9 @@
 use Rattle.std.specs.Prelude.{ℕ, ◌/◌, ◌*◌}
 use Rattle.std.specs.Int.{div_ceil}
 
--- how many seats each chunk has but the last, which may have fewer, where each of so many workers is to have one
+-- how many seats each chunk has but the last, which may have fewer, where each of so many threads is to have one
 abbrev pub chunk_size : ℕ → ℕ → ℕ
-chunk_size seats workers = div_ceil seats workers
+chunk_size seats threads = div_ceil seats threads
 
 -- how many chunks of this size so many seats are
 abbrev pub chunks : ℕ → ℕ → ℕ

@@ -1,5 +1,5 @@
 -- The mind that fields by kind keep.
-use Rattle.std.specs.Prelude.{◌+◌, ◌^◌, ◌≤◌, ◌<◌, Bool, true, false, Option, Some, None, ℕ, List, [], ◌∷◌, length, map}
+use Rattle.std.specs.Prelude.{◌+◌, ◌^◌, ◌≤◌, ◌<◌, Bool, true, false, Option, Some, None, ℕ, List, [], ◌∷◌, length, map, ⊤}
 use Rattle.sg_base.specs.Mind.{Kind, Mind, mind, replay, worker, master, churn, ended}
 use Rattle.sg_base.specs.declared.ids.ActorId.{ActorId}
 use Rattle.sg_base.specs.declared.call.Call.{Call}
@@ -7,8 +7,8 @@ use Rattle.sg_base.specs.declared.call.Call.TheVariants.{Exit}
 use Rattle.sg_actor.specs.declared.churn.Churn.{Churn}
 use Rattle.sg_actor.specs.declared.churn.Phase.{Phase}
 use Rattle.sg_actor.specs.declared.churn.Phase.TheVariants as phase
-use Rattle.sg_actor.specs.declared.plain.Fields.{Fields}
-use Rattle.sg_actor.specs.declared.plain.Fields.TheVariants as fields
+use Rattle.sg_actor.specs.declared.plain_context.Fields.{Fields}
+use Rattle.sg_actor.specs.declared.plain_context.Fields.TheVariants as fields
 use Rattle.sg_actor.specs.Roles.{number_of}
 
 -- the kind, or ended
@@ -44,9 +44,9 @@ IsChurnKept c = (c.step ≤ c.steps) × (0 < phase_number c.phase → c.step < c
 
 -- a master has a worker, can count its messages, and has sent no more than it has to
 abbrev pub IsKept : Fields → Type 0
-IsKept fields.Blank = Unit {0}
-IsKept (fields.Replay me) = Unit {0}
-IsKept (fields.Worker me) = Unit {0}
+IsKept fields.Blank = ⊤
+IsKept (fields.Replay me) = ⊤
+IsKept (fields.Worker me) = ⊤
 IsKept (fields.Master tasks flops bytes next workers) = (0 < length workers) × (tasks + length workers < 2 ^ 64) × (next ≤ tasks + length workers)
 IsKept (fields.Churn c) = IsChurnKept c
 

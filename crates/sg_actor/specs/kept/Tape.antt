@@ -1,5 +1,5 @@
 -- The mind that a flat list of words keeps.
-use Rattle.std.specs.Prelude.{◌≡◌, ℕ, ◌+◌, ◌-◌, ◌^◌, ◌≤◌, ◌<◌, ◌==◌, if◌then◌else◌, Option, Some, None, List, [], ◌∷◌, length, slice_index}
+use Rattle.std.specs.Prelude.{◌≡◌, ℕ, ◌+◌, ◌-◌, ◌^◌, ◌≤◌, ◌<◌, ◌==◌, if◌then◌else◌, Option, Some, None, List, [], ◌∷◌, length, slice_index, ⊤}
 use Rattle.sg_base.specs.Mind.{Kind, Mind, mind, replay, worker, master, churn, ended}
 
 -- the kind that a word stands for
@@ -31,8 +31,8 @@ IsTapeOf master numbers =
 IsTapeOf churn numbers =
     (length numbers ≡ 7) × (slice_index numbers 1 ≤ slice_index numbers 3) × (slice_index numbers 3 < 2 ^ 32) × (slice_index numbers 2 ≤ 3)
     × (0 < slice_index numbers 2 → slice_index numbers 1 < slice_index numbers 3) × FitActorsFrom 4 numbers
-IsTapeOf ended numbers = Unit {0}
+IsTapeOf ended numbers = ⊤
 
 abbrev pub IsTape : List ℕ → Type 0
-IsTape [] = Unit {0}
+IsTape [] = ⊤
 IsTape (kind ∷ numbers) = (kind ≤ 4) × IsTapeOf (kind_of kind) numbers

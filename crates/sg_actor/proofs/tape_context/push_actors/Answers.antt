@@ -1,8 +1,8 @@
 use Rattle.std.proofs.Common.{◌≡◌, ◌++◌, ◌∷◌, [], get_or, rules, ap, sym, subst, ◌∙◌}
 use Rattle.sg_actor.specs.Roles.{number_of}
-use Rattle.sg_actor.specs.Tape.{FitActorsFrom}
+use Rattle.sg_actor.specs.kept.Tape.{FitActorsFrom}
 use Rattle.sg_actor.proofs.Tapes.{words_more, fit_more}
-use Rattle.sg_actor.proofs.tape.push_actors.Goals as goal
+use Rattle.sg_actor.proofs.tape_context.push_actors.Goals as goal
 
 pub loop-actor-preserved : goal.loop-actor-preserved
 loop-actor-preserved c =

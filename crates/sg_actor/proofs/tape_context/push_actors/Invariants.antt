@@ -1,7 +1,7 @@
 use Rattle.std.proofs.Common.{◌≡◌, ◌++◌, map, take, length}
 use Rattle.sg_actor.specs.Roles.{number_of}
-use Rattle.sg_actor.specs.Tape.{FitActorsFrom}
-use Rattle.sg_actor.proofs.tape.push_actors.Given as goal
+use Rattle.sg_actor.specs.kept.Tape.{FitActorsFrom}
+use Rattle.sg_actor.proofs.tape_context.push_actors.Given as goal
 
 abbrev pub invariant-loop-actor : goal.invariant-loop-actor
 invariant-loop-actor l = record {

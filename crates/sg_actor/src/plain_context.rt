@@ -3,11 +3,11 @@ ghost use Rattle.std.specs.Prelude.{◌≡◌, ◌+◌, ◌^◌, ◌<◌, ◌≤
 ghost use Rattle.sg_base.specs.Mind.{mind, master};
 ghost use Rattle.sg_base.specs.Turn.{actor_of, master_turn, turn};
 ghost use Rattle.sg_actor.specs.Roles.{mind_of, number_of, CanCast};
-ghost use Rattle.sg_actor.specs.Fields.{fields_mind, is_exit, kind_now, master_numbers, IsKept};
+ghost use Rattle.sg_actor.specs.kept.Fields.{fields_mind, is_exit, kind_now, master_numbers, IsKept};
 
 use crate::actor::Actor;
-use crate::calls::{replay_call, worker_call};
 use crate::churn::{Churn, Phase};
+use crate::next_call::{replay_call, worker_call};
 use crate::role::Role;
 use sg_base::{ActorId, Answer, BoxId, Call, Ids, Memory, Msg};
 use std::alloc::Global;
@@ -49,7 +49,7 @@ impl Model for PlainContext {
 
     ghost Value = { Option Mind };
 
-    ghost use Rattle.sg_actor.specs.Fields.{fields_mind, IsKept};
+    ghost use Rattle.sg_actor.specs.kept.Fields.{fields_mind, IsKept};
 
     ghost view = { λ s. fields_mind s.over s.fields };
 
@@ -138,7 +138,8 @@ fn fields_turn(fields: &mut Fields, answer: Answer) -> Call
     requires kept { IsKept fields.old }
     requires cast { IsSome (fields_mind false fields.old) }
     ensures kept { IsKept fields.new }
-    ensures mind { IfSome (fields_mind false fields.old) (λ m. fields_mind (is_exit result) fields.new ≡ Some (turn m answer).mind) }
+    ensures mind { IfSome (fields_mind false fields.old)
+        (λ m. fields_mind (is_exit result) fields.new ≡ Some (turn m answer).mind) }
     ensures call { IfSome (fields_mind false fields.old) (λ m. result ≡ (turn m answer).call) }
 {
     match fields {
@@ -162,8 +163,11 @@ fn master_call(tasks: u64, flops: u64, bytes: u64, next: &mut u64, workers: &[Ac
     requires fit { tasks + length workers.now < 2 ^ 64 }
     requires few { next.old ≤ tasks + length workers.now }
     ensures few { next.new ≤ tasks + length workers.now }
-    ensures mind { mind (kind_now (is_exit result) master) (master_numbers tasks flops bytes next.new workers.now) ≡ (master_turn (master_numbers tasks flops bytes next.old workers.now)).mind }
-    ensures call { result ≡ (master_turn (master_numbers tasks flops bytes next.old workers.now)).call }
+    ensures mind { mind (kind_now (is_exit result) master)
+        (master_numbers tasks flops bytes next.new workers.now)
+        ≡ (master_turn (master_numbers tasks flops bytes next.old workers.now)).mind }
+    ensures call { result
+        ≡ (master_turn (master_numbers tasks flops bytes next.old workers.now)).call }
 {
     let count = workers.len() as u64;
     if *next < tasks {

@@ -1,9 +1,8 @@
-//! Rounds: one turn of each actor that is ready.
+//! The turns of a round: one of each actor that is ready.
 ghost use Rattle.std.specs.Prelude.{◌≡◌, ◌<◌, length, All, map};
 ghost use Rattle.std.specs.Thread.{IsSync, IsSend};
-ghost use Rattle.sg_actor.specs.Chunks.{chunk_size, seats_before_middle};
-ghost use Rattle.sg_actor.specs.Places.{after, CanTurn};
-ghost use Rattle.sg_actor.specs.Seen.{seen, all_seen};
+ghost use Rattle.sg_actor.specs.kept.Chunks.{chunk_size, seats_before_middle};
+ghost use Rattle.sg_actor.specs.Seats.{after, seat_view, seat_views, CanTurn};
 
 use crate::actor::Actor;
 use crate::seat::Seat;
@@ -12,28 +11,27 @@ use std::thread::{Threads, join_mut};
 /// Each actor whose seat is ready takes one turn on its inbox, and its call goes into its outbox. Every other seat
 /// stays as it is.
 ///
-/// The seats are cut into chunks, one for each worker where there are enough seats, and each chunk has a thread; which
-/// thread has which seats can't be seen afterwards. It takes no memory.
-pub fn run_round<R: Threads + Sync>(rt: &R, seats: &mut [Seat], workers: u32)
-    requires some { 0 < workers }
-    requires ready { All CanTurn (all_seen (λ b. mind b) seats.old) }
-    ensures { all_seen (λ b. mind b) seats.new ≡ map after (all_seen (λ b. mind b) seats.old) }
+/// The seats are cut into chunks, one for each thread where there are enough seats; which thread has which seats can't be told afterwards. It takes no memory.
+pub fn run_round<R: Threads + Sync>(rt: &R, seats: &mut [Seat], threads: u32)
+    requires some { 0 < threads }
+    requires ready { All CanTurn (seat_views (λ b. mind b) seats.old) }
+    ensures { seat_views (λ b. mind b) seats.new ≡ map after (seat_views (λ b. mind b) seats.old) }
 {
     if seats.is_empty() {
         return;
     }
-    let size = chunk_size(seats.len(), workers);
+    let size = chunk_size(seats.len(), threads);
     run_chunks(rt, size, seats);
 }
 
 // How many seats each chunk has but the last, which may have fewer.
-fn chunk_size(seats: usize, workers: u32) -> usize
+fn chunk_size(seats: usize, threads: u32) -> usize
     requires seats { 0 < seats }
-    requires workers { 0 < workers }
-    ensures size { result ≡ chunk_size seats workers }
+    requires threads { 0 < threads }
+    ensures size { result ≡ chunk_size seats threads }
     ensures some { 0 < result }
 {
-    seats.div_ceil(workers as usize)
+    seats.div_ceil(threads as usize)
 }
 
 // The same, in a thread for each chunk of so many seats. The chunks are halved at each step, so the stack grows with the
@@ -41,8 +39,8 @@ fn chunk_size(seats: usize, workers: u32) -> usize
 #[cycle(halves)]
 fn run_chunks<R: Threads + Sync, A: Actor + Send>(rt: &R, size: usize, seats: &mut [Seat<A>])
     requires size { 0 < size }
-    requires ready { All CanTurn (all_seen A.mind seats.old) }
-    ensures { all_seen A.mind seats.new ≡ map after (all_seen A.mind seats.old) }
+    requires ready { All CanTurn (seat_views A.mind seats.old) }
+    ensures { seat_views A.mind seats.new ≡ map after (seat_views A.mind seats.old) }
 {
     if seats.len() <= size {
         run_in_turn(seats);
@@ -63,20 +61,20 @@ fn run_halves<R: Threads + Sync, A: Actor + Send>(
 )
     requires size { 0 < size }
     requires some { (0 < length front.old) × (0 < length back.old) }
-    requires front { All CanTurn (all_seen A.mind front.old) }
-    requires back { All CanTurn (all_seen A.mind back.old) }
-    ensures front { all_seen A.mind front.new ≡ map after (all_seen A.mind front.old) }
-    ensures back { all_seen A.mind back.new ≡ map after (all_seen A.mind back.old) }
+    requires front { All CanTurn (seat_views A.mind front.old) }
+    requires back { All CanTurn (seat_views A.mind back.old) }
+    ensures front { seat_views A.mind front.new ≡ map after (seat_views A.mind front.old) }
+    ensures back { seat_views A.mind back.new ≡ map after (seat_views A.mind back.old) }
 {
     let mut first = ||
         requires { IsSync R.row × IsSend A.row × (0 < size)
-            × All CanTurn (all_seen A.mind front.now) }
-        ensures { all_seen A.mind front.exit.now ≡ map after (all_seen A.mind front.entry.now) }
+            × All CanTurn (seat_views A.mind front.now) }
+        ensures { seat_views A.mind front.exit.now ≡ map after (seat_views A.mind front.entry.now) }
     { run_chunks(rt, size, front) };
     let mut second = ||
         requires { IsSync R.row × IsSend A.row × (0 < size)
-            × All CanTurn (all_seen A.mind back.now) }
-        ensures { all_seen A.mind back.exit.now ≡ map after (all_seen A.mind back.entry.now) }
+            × All CanTurn (seat_views A.mind back.now) }
+        ensures { seat_views A.mind back.exit.now ≡ map after (seat_views A.mind back.entry.now) }
     { run_chunks(rt, size, back) };
     join_mut(rt, &mut first, &mut second);
 }
@@ -94,8 +92,8 @@ fn middle(seats: usize, size: usize) -> usize
 
 // The same, one after the other.
 fn run_in_turn<A: Actor>(seats: &mut [Seat<A>])
-    requires { All CanTurn (all_seen A.mind seats.old) }
-    ensures { all_seen A.mind seats.new ≡ map after (all_seen A.mind seats.old) }
+    requires { All CanTurn (seat_views A.mind seats.old) }
+    ensures { seat_views A.mind seats.new ≡ map after (seat_views A.mind seats.old) }
 {
     for i in 0..seats.len() {
         run_seat(&mut seats[i]);
@@ -104,8 +102,8 @@ fn run_in_turn<A: Actor>(seats: &mut [Seat<A>])
 
 // One turn of the actor of a seat, where it is ready.
 fn run_seat<A: Actor>(seat: &mut Seat<A>)
-    requires { CanTurn (seen A.mind seat.old) }
-    ensures { seen A.mind seat.new ≡ after (seen A.mind seat.old) }
+    requires { CanTurn (seat_view A.mind seat.old) }
+    ensures { seat_view A.mind seat.new ≡ after (seat_view A.mind seat.old) }
 {
     if seat.ready {
         seat.outbox = seat.actor.turn(seat.inbox);

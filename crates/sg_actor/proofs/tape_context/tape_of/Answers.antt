@@ -3,9 +3,9 @@ use Rattle.std.specs.Prelude.{Some, vec_len}
 use Rattle.sg_base.specs.declared.ids.ActorId.{ActorId}
 use Rattle.sg_actor.specs.Roles.{number_of, mind_of}
 use Rattle.sg_actor.specs.declared.role.Role.{Role}
-use Rattle.sg_actor.specs.Tape.{tape_mind, IsTape, FitActorsFrom}
+use Rattle.sg_actor.specs.kept.Tape.{tape_mind, IsTape, FitActorsFrom}
 use Rattle.sg_actor.proofs.Tapes.{master_tape}
-use Rattle.sg_actor.proofs.tape.tape_of.Goals as goal
+use Rattle.sg_actor.proofs.tape_context.tape_of.Goals as goal
 
 pub returns-in_ok-push_actors-in-Master : goal.returns-in_ok-push_actors-in-Master
 returns-in_ok-push_actors-in-Master c =
