@@ -101,16 +101,18 @@ resources_are capacities =
 
 -- without a bound of its own a flow over a way may be in the system
 pub way_is_flow : (capacities : Capacities) (route : List LinkId) → IsWay capacities route →
-    IsFlow (capacities_of capacities) (flow (shared_of (length capacities.hosts) capacities.links route) (sooner (route_bound capacities.links route) None))
+    IsFlow (capacities_of capacities) (flow (shared_of (length capacities.hosts) capacities.links route) 1 (sooner (route_bound capacities.links route) None))
 way_is_flow capacities route is = record {
   exist = shared_exist (length capacities.hosts) (length (capacities_of capacities)) capacities.links route (omega (arith, resources_are capacities)) is.exist;
   once = shared_once (length capacities.hosts) capacities.links route is.apart;
-  limit = λ none. subst (λ o. IsSome o) (sym (sooner_never (route_bound capacities.links route))) (bounded (length capacities.hosts) capacities.links route is.some none);
+  light = omega arith;
+  limit = record { weighs = omega arith; bounds = λ none. subst (λ o. IsSome o) (sym (sooner_never (route_bound capacities.links route))) (bounded (length capacities.hosts) capacities.links route is.some none) };
 }
 
-pub host_is_flow : (capacities : Capacities) (host : ℕ) (bound : Option ℕ) → host < length capacities.hosts → IsSome bound → IsFlow (capacities_of capacities) (flow (host ∷ []) bound)
+pub host_is_flow : (capacities : Capacities) (host : ℕ) (bound : Option ℕ) → host < length capacities.hosts → IsSome bound → IsFlow (capacities_of capacities) (flow (host ∷ []) 1 bound)
 host_is_flow capacities host bound within some = record {
   exist = all_cons (λ resource. resource < length (capacities_of capacities)) host [] (omega (arith, within, resources_are capacities)) (λ k d w. absurd (omega (arith, w)));
   once = λ i j d less w. absurd (omega (arith, less, w));
-  limit = λ _. some;
+  light = omega arith;
+  limit = record { weighs = omega arith; bounds = λ _. some };
 }

@@ -1,173 +1,125 @@
--- What the rows tell is what the definitions say.
-use Rattle.std.proofs.Common.{◌≡◌, ℕ, ◌+◌, ◌-◌, ◌*◌, ◌<◌, ◌≤◌, Bool, true, false, ◌||◌, is_some, Option, None, Some, option_map, List, [], ◌∷◌, ◌++◌, drop, filter, map, set, get_or, IsTrue, refl, sym, ap, ap₂, subst, ◌∙◌, arith}
-use Rattle.std.proofs.lemmas.List.{map-append, length-map}
-use Rattle.std.specs.List.{list_any}
-use Rattle.sg_maxmin.specs.Sharing.{Sharing}
-use Rattle.sg_activity.specs.declared.kept.Kept.{Kept}
-use Rattle.sg_activity.specs.declared.kinds.HostCap.{HostCap}
-use Rattle.sg_activity.specs.declared.kinds.LinkCap.{LinkCap}
-use Rattle.sg_activity.specs.declared.kinds.PhaseKind.{PhaseKind}
-use Rattle.sg_activity.specs.declared.kinds.PhaseKind.TheVariants as phase
-use Rattle.sg_activity.specs.declared.rows.Row.{Row}
+-- What is kept stands for what the definitions say, as a phase comes, as one follows another and as one goes.
+use Rattle.std.proofs.Common.{◌≡◌, ◌≢◌, ℕ, zero, suc, ◌+◌, ◌-◌, ◌==◌, ◌<◌, ◌≤◌, ◌⊎◌, inl, inr, Bool, true, false, cond, ◌||◌, true≢false, is_some, Option, None, Some, option_map, option_to_list, List, [], ◌∷◌, ◌++◌, length, map, set, get_or, IsTrue, IsSome, refl, sym, ap, ap₂, subst, ◌∙◌, arith}
+use Rattle.std.proofs.lemmas.List.{map-append, append-nil}
+use Rattle.std.proofs.lemmas.List.Folds.{list_any-append}
+use Rattle.sg_base.specs.MarkSet.{is_in, with_mark}
+use Rattle.sg_maxmin.specs.Fill.{Flow}
+use Rattle.sg_activity.specs.declared.lives.Live.{Live}
 use Rattle.sg_activity.specs.Links.{Capacities}
-use Rattle.sg_activity.specs.Slots.{soonest, serials, passes, is_at}
-use Rattle.sg_activity.specs.Task.{goes, goes_by, phase_after, next_phase, task_at}
-use Rattle.sg_activity.specs.Underway.{Underway, wait_in, next_in, passed}
-use Rattle.sg_activity.specs.Doing.{Doing, idle_on, drawn_in, started_in, begun_in, later_in, ended_in, ended_first, IsDue}
-use Rattle.sg_activity.specs.kept.Rows.{Ways, task_of, tasks_of, row_wait, row_later, AreRising, IsFirst, live, spread, slots_of, is_row_due, is_due}
-use Rattle.sg_activity.specs.kept.Sound.{AreKept, IsSound, capacities_in, slots_in, doing_of}
-use Rattle.sg_activity.specs.kept.Ends.{Replaces, Ends}
-use Rattle.sg_activity.proofs.Rates.{get_or-map_none, rate_kept, wait_kept, soonest-map, map_same, map_twice}
-use Rattle.sg_activity.proofs.Serials.{filter_first, filter_rest, serials_push, serials_set, serials-map}
-use Rattle.sg_activity.proofs.Spread.{spread-set, serials_spread, length-spread, rising_at, rising-set}
-use Rattle.sg_activity.proofs.Keeps.{tasks_set, tasks_pushed, slot_at}
+use Rattle.sg_activity.specs.Slots.{passes, serials}
+use Rattle.sg_activity.specs.Task.{Task, flow_in, task_at}
+use Rattle.sg_activity.specs.Underway.{Underway, started, drawn, with_task}
+use Rattle.sg_activity.specs.Doing.{Doing, started_in, begun_in}
+use Rattle.sg_activity.specs.kept.Pool.{slot_at}
+use Rattle.sg_activity.specs.kept.State.{State, task_of, is_now, is_so, serial_in, serial_at, told_at, told_by, under_of, doing_of}
+use Rattle.sg_activity.specs.kept.Sound.{IsKept}
+use Rattle.sg_activity.specs.kept.Turns.{Turns}
+use Rattle.sg_activity.proofs.Listing.{eq_cases, bool_cases, length-listed, at_listed}
+use Rattle.sg_activity.proofs.Turned.{not_there, told_here, tasks_set, tasks_pushed, due_pushed, due_stays, map_in}
 
--- what rows by serial stand for
-abbrev pub doing_from : Capacities → ℕ → Ways → List (Option Row) → Bool → ℕ → Doing
-doing_from capacities date ways slots settled room = record {
-  under = record { date = date; capacities = capacities; tasks = tasks_of ways slots };
-  due = serials is_row_due 1 slots;
-  settled = settled;
-  room = room;
-}
+-- ---- marks
+pub new_mark : (number : ℕ) (xs : List ℕ) → is_in number xs ≡ false → with_mark number xs ≡ xs ++ number ∷ []
+new_mark number xs e = rw e refl
 
-pub first_told : (hosts : List HostCap) (links : List LinkCap) (ways : Ways) → doing_from (record { hosts = hosts; links = links }) 0 ways (slots_of 0 []) false 0 ≡ idle_on hosts links
-unfolding serials spread
-first_told hosts links ways = refl
+eqb_same : (a : ℕ) → (a == a) ≡ true
+eqb_same a = grind arith
 
-goes_on : (kind : PhaseKind) → goes_by kind ≡ true
-goes_on phase.Latency = refl
-goes_on phase.Flow = refl
-goes_on phase.Exec = refl
-goes_on phase.Timer = refl
+eqb_other : (a b : ℕ) → b ≢ a → (a == b) ≡ false
+eqb_other a b ne = grind arith
 
-pub any_told : (ways : Ways) (rows : List (Option Row)) → list_any is_some rows ≡ list_any (passes goes) (tasks_of ways rows)
-any_told ways [] = refl
-any_told ways (None ∷ rows) = any_told ways rows
-any_told ways (Some row ∷ rows) = ap (λ b. b || list_any (passes goes) (tasks_of ways rows)) (sym (goes_on row.kind))
+or_none : (b : Bool) → (b || (false || false)) ≡ b
+or_none true = refl
+or_none false = refl
 
--- ---- time
-pub next_told : (kept : Kept) (doing : Doing) → IsSound kept → doing_of kept ≡ doing → IsTrue doing.settled → soonest (row_wait kept.system) (slots_in kept) ≡ next_in doing.under
-next_told kept doing is same set =
-    let capacities = capacities_in kept in
-    let ways = kept.ways.slots in
-    let rows = slots_in kept in
-    let sure : AreKept capacities rows kept.system ways kept.ahead true = subst (λ b. AreKept capacities rows kept.system ways kept.ahead b) (ap (λ (d : Doing). d.settled) same ∙ set) is.are in
-    let under : Underway = record { date = kept.date; capacities = capacities; tasks = tasks_of ways rows } in
-    soonest-map (task_of ways) (row_wait kept.system) (wait_in under) rows (wait_kept capacities rows kept.system ways kept.ahead kept.date sure)
-    ∙ ap (λ (d : Doing). next_in d.under) same
+or_one : (b : Bool) → (b || (true || false)) ≡ true
+or_one true = refl
+or_one false = refl
 
-pub later_told : (kept : Kept) (span : ℕ) (doing : Doing) → IsSound kept → doing_of kept ≡ doing → IsTrue doing.settled →
-    doing_from (capacities_in kept) (kept.date + span) kept.ways.slots (map (option_map (row_later kept.system span)) (slots_in kept)) kept.settled kept.room ≡ later_in span doing
-later_told kept span doing is same set =
-    let capacities = capacities_in kept in
-    let ways = kept.ways.slots in
-    let rows = slots_in kept in
-    let system = kept.system in
-    let sure : AreKept capacities rows system ways kept.ahead true = subst (λ b. AreKept capacities rows system ways kept.ahead b) (ap (λ (d : Doing). d.settled) same ∙ set) is.are in
-    let d = doing_of kept in
-    let task = task_of ways in
-    let tasks : tasks_of ways (map (option_map (row_later system span)) rows) ≡ map (option_map (passed d.under span)) (tasks_of ways rows) =
-    map_twice (row_later system span) task rows
-    ∙ map_same (λ row. task (row_later system span row)) (λ row. passed d.under span (task row)) rows
-    (λ i row e. ap (λ r. record (task row) { left = row.left - r * span }) (rate_kept capacities rows system ways kept.ahead kept.date sure i row e))
-    ∙ sym (map_twice task (passed d.under span) rows) in
-    let due : serials is_row_due 1 (map (option_map (row_later system span)) rows) ≡ serials (λ t. is_at (wait_in d.under t) span) 1 (tasks_of ways rows) =
-    sym (serials-map (row_later system span) (λ row. is_at (row_wait system row) span) is_row_due 1 rows (λ i row e. refl))
-    ∙ serials-map task (λ row. is_at (row_wait system row) span) (λ t. is_at (wait_in d.under t) span) 1 rows
-    (λ i row e. ap (λ w. is_at w span) (wait_kept capacities rows system ways kept.ahead kept.date sure i row e)) in
-    ap₂ (λ t l. record d { under = record d.under { date = kept.date + span; tasks = t }; due = l }) tasks due ∙ ap (later_in span) same
+pub in_more : (number k : ℕ) (xs : List ℕ) → k ≢ number → is_in k (xs ++ number ∷ []) ≡ is_in k xs
+in_more number k xs ne = list_any-append (λ member. member == k) xs (number ∷ []) ∙ ap (λ b. is_in k xs || (b || false)) (eqb_other number k ne) ∙ or_none (is_in k xs)
 
--- ---- what is due
-dues : (drawn : ℕ) (rows : List Row) → AreRising 1 (drawn + 1) rows → serials is_row_due 1 (slots_of drawn rows) ≡ map (λ (row : Row). row.serial) (filter is_due rows)
-dues drawn rows rising = serials_spread is_row_due 1 (drawn + 1) rows rising
+pub in_last : (number : ℕ) (xs : List ℕ) → is_in number (xs ++ number ∷ []) ≡ true
+in_last number xs = list_any-append (λ member. member == number) xs (number ∷ []) ∙ ap (λ b. is_in number xs || (b || false)) (eqb_same number) ∙ or_one (is_in number xs)
 
-pub none_due_told : (kept : Kept) (doing : Doing) → IsSound kept → filter is_due kept.rows.items ≡ [] → doing_of kept ≡ doing → doing.due ≡ []
-none_due_told kept doing is none same =
-    sym (ap (λ (d : Doing). d.due) same) ∙ dues kept.drawn kept.rows.items is.rising ∙ ap (map (λ (row : Row). row.serial)) none
-
-first_told_due : (drawn : ℕ) (rows : List Row) (i : ℕ) (row : Row) → AreRising 1 (drawn + 1) rows → IsFirst rows i row → serials is_row_due 1 (slots_of drawn rows) ≡ row.serial ∷ map (λ (row : Row). row.serial) (filter is_due (drop (i + 1) rows))
-first_told_due drawn rows i row rising is =
-    dues drawn rows rising
-    ∙ ap (map (λ (row : Row). row.serial)) (filter_first is_due rows i row is.within is.at is.before (ap (passes is_row_due) is.live ∙ is.due))
-
-pub due_told : (kept : Kept) (i : ℕ) (row : Row) (doing : Doing) → IsSound kept → IsFirst kept.rows.items i row → doing_of kept ≡ doing →
-    IsDue doing (record { serial = record { 0 = row.serial }; kind = row.kind })
-due_told kept i row doing sound is same =
-    let rows = kept.rows.items in
-    let task = task_of kept.ways.slots in
-    let within = subst (λ (x : Row). (1 ≤ x.serial) × (x.serial < kept.drawn + 1)) is.at (rising_at 1 (kept.drawn + 1) rows i row sound.rising is.within) in
-    let due : IsDue (doing_of kept) (record { serial = record { 0 = row.serial }; kind = row.kind }) = record {
-      rest = map (λ (row : Row). row.serial) (filter is_due (drop (i + 1) rows));
-      first = first_told_due kept.drawn rows i row sound.rising is;
-      task = task row;
-      at = get_or-map_none task (slots_in kept) (row.serial - 1) ∙ ap (option_map task) (slot_at kept.drawn rows i row sound.rising is.within is.at is.live);
-      kind = refl;
-      from = omega (arith, within.0);
-      to = omega (arith, within.1, length-map (slots_in kept) (option_map task), length-spread 1 (kept.drawn + 1) rows sound.rising);
-    } in
-    subst (λ d. IsDue d (record { serial = record { 0 = row.serial }; kind = row.kind })) same due
-
--- ---- a phase ends
-pub slots_set : (drawn : ℕ) (rows : List Row) (i : ℕ) (row next : Row) → AreRising 1 (drawn + 1) rows → IsFirst rows i row → next.serial ≡ row.serial → slots_of drawn (set rows i next) ≡ set (slots_of drawn rows) (row.serial - 1) (live next)
-slots_set drawn rows i row next rising is serial =
-    spread-set 1 (drawn + 1) rows i next row rising is.within (serial ∙ ap (λ (x : Row). x.serial) (sym is.at))
-    ∙ ap (λ n. set (slots_of drawn rows) (n - 1) (live next)) serial
-
-pub rising_next : (drawn : ℕ) (rows : List Row) (i : ℕ) (row next : Row) → AreRising 1 (drawn + 1) rows → IsFirst rows i row → next.serial ≡ row.serial → AreRising 1 (drawn + 1) (set rows i next)
-rising_next drawn rows i row next rising is serial = rising-set 1 (drawn + 1) rows i next row (serial ∙ ap (λ (x : Row). x.serial) (sym is.at)) is.within rising
-
-pub ended_told : (kept : Kept) (new : Sharing) (others : Ways) (i : ℕ) (row next : Row) (doing : Doing) → IsSound kept → IsFirst kept.rows.items i row → next.serial ≡ row.serial →
-    Replaces (capacities_in kept) kept.system new kept.ways.slots others (Some row) (live next) → option_map (task_of others) (live next) ≡ next_phase row.kind (task_of kept.ways.slots row) → passes is_row_due (live next) ≡ false → doing_of kept ≡ doing →
-    doing_from (capacities_in kept) kept.date others (slots_of kept.drawn (set kept.rows.items i next)) false kept.room ≡ ended_in doing
-ended_told kept new others i row next doing sound is serial by task undue same =
-    let rows = kept.rows.items in
-    let slots = slots_in kept in
-    let old = task_of kept.ways.slots in
-    let d = doing_of kept in
-    let at = slot_at kept.drawn rows i row sound.rising is.within is.at is.live in
-    let after : option_map (task_of others) (live next) ≡ phase_after (task_at d.under.tasks row.serial) =
-    task ∙ ap phase_after (sym (get_or-map_none old slots (row.serial - 1) ∙ ap (option_map old) at)) in
-    let tasks : tasks_of others (slots_of kept.drawn (set rows i next)) ≡ set d.under.tasks (row.serial - 1) (phase_after (task_at d.under.tasks row.serial)) =
-    ap (tasks_of others) (slots_set kept.drawn rows i row next sound.rising is serial)
-    ∙ tasks_set (capacities_in kept) slots kept.system new kept.ways.slots others kept.ahead kept.settled (row.serial - 1) (Some row) (live next) sound.are at by
-    ∙ ap (set d.under.tasks (row.serial - 1)) after in
-    let due : serials is_row_due 1 (slots_of kept.drawn (set rows i next)) ≡ map (λ (row : Row). row.serial) (filter is_due (drop (i + 1) rows)) =
-    dues kept.drawn (set rows i next) (rising_next kept.drawn rows i row next sound.rising is serial)
-    ∙ ap (map (λ (row : Row). row.serial)) (filter_rest is_due rows i next is.within is.before undue) in
-    ap₂ (λ t l. record d { under = record d.under { tasks = t }; due = l; settled = false }) tasks due
-    ∙ sym (ap (λ l. ended_first l d) (first_told_due kept.drawn rows i row sound.rising is))
-    ∙ ap (λ (e : Doing). ended_in e) same
-
--- ---- a phase begins
-pub started_told : (kept : Kept) (new : Sharing) (others : Ways) (row : Row) (doing : Doing) → IsSound kept → Replaces (capacities_in kept) kept.system new kept.ways.slots others None (Some row) → row.due ≡ false →
-    doing_of kept ≡ doing → doing_from (capacities_in kept) kept.date others (slots_in kept ++ Some row ∷ []) false (kept.room - 1) ≡ started_in (task_of others row) doing
-started_told kept new others row doing sound by undue same =
-    let d = doing_of kept in
-    ap₂ (λ t l. record d { under = record d.under { tasks = t }; due = l; settled = false; room = kept.room - 1 })
-    (tasks_pushed (capacities_in kept) (slots_in kept) kept.system new kept.ways.slots others kept.ahead kept.settled row sound.are by)
-    (serials_push is_row_due 1 (slots_in kept) (Some row) undue)
-    ∙ ap (λ (e : Doing). started_in (task_of others row) e) same
-
-pub drawn_told : (kept : Kept) (doing : Doing) → doing_of kept ≡ doing → doing_from (capacities_in kept) kept.date kept.ways.slots (slots_in kept ++ None ∷ []) kept.settled kept.room ≡ drawn_in doing
-drawn_told kept doing same =
-    let d = doing_of kept in
-    ap₂ (λ t l. record d { under = record d.under { tasks = t }; due = l }) (map-append (option_map (task_of kept.ways.slots)) (slots_in kept) (None ∷ [])) (serials_push is_row_due 1 (slots_in kept) None refl)
-    ∙ ap drawn_in same
-
--- where no task is, no row is
-pub idle_row : {X Y : Type 0} (f : X → Y) (xs : List (Option X)) (k : ℕ) → get_or (map (option_map f) xs) k None ≡ None → get_or xs k None ≡ None
-idle_row {X} {Y} f xs k e = cases (get_or xs k None) (sym (get_or-map_none f xs k) ∙ e)
+pub member_at : (xs : List ℕ) (k : ℕ) → k < length xs → is_in (get_or xs k 0) xs ≡ true
+member_at [] k h = absurd (omega (arith, h))
+member_at (x ∷ xs) zero h = head x xs
   where
-    cases : (o : Option X) → option_map f o ≡ None → o ≡ None
-    cases None z = refl
-    cases (Some x) z = absurd (cc z)
+    head : (x : ℕ) (xs : List ℕ) → is_in x (x ∷ xs) ≡ true
+    head x xs = grind arith
+member_at (x ∷ xs) (suc k) h = later (get_or xs k 0) x xs (member_at xs k (omega (arith, h)))
+  where
+    later : (y x : ℕ) (xs : List ℕ) → is_in y xs ≡ true → is_in y (x ∷ xs) ≡ true
+    later y x xs i = grind arith
 
-pub begun_told : (kept : Kept) (new : Sharing) (others : Ways) (serial : ℕ) (row : Row) (doing : Doing) → IsSound kept → get_or (slots_in kept) (serial - 1) None ≡ None → Replaces (capacities_in kept) kept.system new kept.ways.slots others None (Some row) → row.due ≡ false →
-    doing_of kept ≡ doing → doing_from (capacities_in kept) kept.date others (set (slots_in kept) (serial - 1) (Some row)) false (kept.room - 1) ≡ begun_in serial (task_of others row) doing
-begun_told kept new others serial row doing sound idle by undue same =
-    let d = doing_of kept in
-    ap₂ (λ t l. record d { under = record d.under { tasks = t }; due = l; settled = false; room = kept.room - 1 })
-    (tasks_set (capacities_in kept) (slots_in kept) kept.system new kept.ways.slots others kept.ahead kept.settled (serial - 1) None (Some row) sound.are idle by)
-    (serials_set is_row_due 1 (slots_in kept) (serial - 1) (Some row) (ap (passes is_row_due) idle) undue)
-    ∙ ap (λ (e : Doing). begun_in serial (task_of others row) e) same
+-- a key without an activity isn't marked
+pub unmarked : (s : State) (key : ℕ) → IsKept s → slot_at s.slots key ≡ None → is_in key s.fresh ≡ false
+unmarked s key is none = elim (bool_cases (is_in key s.fresh)) [
+  | inl e ↦ absurd (not_there (slot_at s.slots key) (is.fresh key e) none)
+  | inr e ↦ e
+]
+
+-- ---- records
+abbrev pub made : ℕ → Capacities → List (Option Task) → List ℕ → List Flow → Underway
+made date capacities tasks began ended = record { date = date; capacities = capacities; tasks = tasks; marks = record { began = began; ended = ended } }
+
+pub made_same : (d d' : ℕ) (c c' : Capacities) (t t' : List (Option Task)) (b b' : List ℕ) (e e' : List Flow) → d ≡ d' → c ≡ c' → t ≡ t' → b ≡ b' → e ≡ e' → made d c t b e ≡ made d' c' t' b' e'
+made_same d d' c c' t t' b b' e e' p q r u v =
+    ap (λ x. made x c t b e) p ∙ ap (λ x. made d' x t b e) q ∙ ap (λ x. made d' c' x b e) r ∙ ap (λ x. made d' c' t' x e) u ∙ ap (λ x. made d' c' t' b' x) v
+
+abbrev pub doing_from : Underway → List ℕ → Bool → ℕ → Doing
+doing_from under due settled room = record { under = under; due = due; settled = settled; room = room }
+
+pub doing_same : (u u' : Underway) (d d' : List ℕ) (b b' : Bool) (n n' : ℕ) → u ≡ u' → d ≡ d' → b ≡ b' → n ≡ n' → doing_from u d b n ≡ doing_from u' d' b' n'
+doing_same u u' d d' b b' n n' p q r v = ap (λ x. doing_from x d b n) p ∙ ap (λ x. doing_from u' x b n) q ∙ ap (λ x. doing_from u' d' x n) r ∙ ap (λ x. doing_from u' d' b' x) v
+
+-- the task under a serial
+pub task_told : (s : State) (serial : ℕ) → 0 < serial → serial ≤ s.drawn → task_at (told_by (task_of s) s) serial ≡ told_at (task_of s) s.slots serial
+task_told s serial from to =
+    let back : serial - 1 + 1 ≡ serial = omega (arith, from) in
+    at_listed s.drawn (λ i. told_at (task_of s) s.slots (i + 1)) (serial - 1) None (omega (arith, from, to)) ∙ ap (told_at (task_of s) s.slots) back
+
+module _ (s new : State) (key serial : ℕ) (slot : Option Live) (is : IsKept s) (by : Turns s new key serial slot) where
+  serials_elsewhere : (k : ℕ) → k ≢ key → serial_at new.slots k ≡ serial_at s.slots k
+  serials_elsewhere k ne = ap serial_in (by.others k ne)
+
+  not_marked : is_in key s.fresh ≡ false → (k : ℕ) → IsTrue (is_in k s.fresh) → k ≢ key
+  not_marked not k there e = true≢false (sym there ∙ ap (λ n. is_in n s.fresh) e ∙ not)
+
+  pub began_same : is_in key s.fresh ≡ false → new.fresh ≡ s.fresh → map (serial_at new.slots) new.fresh ≡ map (serial_at s.slots) s.fresh
+  began_same not same = ap (map (serial_at new.slots)) same ∙ map_in (serial_at new.slots) (serial_at s.slots) s.fresh (λ k there. serials_elsewhere k (not_marked not k there))
+
+  pub began_more : (live : Live) → slot ≡ Some live → is_in key s.fresh ≡ false → new.fresh ≡ s.fresh ++ key ∷ [] → map (serial_at new.slots) new.fresh ≡ map (serial_at s.slots) s.fresh ++ serial ∷ []
+  began_more live e not more =
+      ap (map (serial_at new.slots)) more ∙ map-append (serial_at new.slots) s.fresh (key ∷ [])
+      ∙ ap₂ (λ l n. l ++ n ∷ []) (map_in (serial_at new.slots) (serial_at s.slots) s.fresh (λ k there. serials_elsewhere k (not_marked not k there))) (ap serial_in (by.here ∙ e) ∙ by.is live e)
+
+  -- the next serial begins
+  pub started_told : (live : Live) (room : ℕ) → slot ≡ Some live → new.drawn ≡ s.drawn + 1 → serial ≡ s.drawn + 1 → slot_at s.slots key ≡ None → new.fresh ≡ s.fresh ++ key ∷ [] → new.ended ≡ s.ended →
+      doing_of new (room - 1) ≡ started_in (task_of new key live) (doing_of s room)
+  started_told live room e drawn is_next none fresh ended =
+      let count : s.drawn + 1 ≡ length (told_by (task_of s) s) + 1 = ap (λ n. n + 1) (sym (length-listed s.drawn (λ i. told_at (task_of s) s.slots (i + 1)))) in
+      let under : under_of new ≡ started (task_of new key live) (under_of s) =
+      made_same new.date s.date new.capacities s.capacities (told_by (task_of new) new) (told_by (task_of s) s ++ Some (task_of new key live) ∷ []) (map (serial_at new.slots) new.fresh) (map (serial_at s.slots) s.fresh ++ (length (told_by (task_of s) s) + 1) ∷ []) new.ended s.ended by.date by.capacities
+      (tasks_pushed s new key serial slot is by drawn is_next ∙ ap (λ o. told_by (task_of s) s ++ o ∷ []) (told_here s new key serial slot is by (task_of new) live e))
+      (began_more live e (unmarked s key is none) fresh ∙ ap (λ n. map (serial_at s.slots) s.fresh ++ n ∷ []) (is_next ∙ count)) ended in
+      doing_same (under_of new) (started (task_of new key live) (under_of s)) (cond new.arrived (serials is_so 1 (told_by (is_now new) new)) []) (cond s.arrived (serials is_so 1 (told_by (is_now s) s)) []) new.settled false (room - 1) (room - 1) under
+      (ap₂ (λ b l. cond b l []) by.arrived (due_pushed s new key serial slot is by drawn is_next)) by.unsettled refl
+
+  -- under a serial that was drawn another phase is under way, or none
+  pub under_set : (x : Option Task) → new.drawn ≡ s.drawn → 0 < serial → serial ≤ s.drawn → told_at (task_of new) new.slots serial ≡ x →
+      map (serial_at new.slots) new.fresh ≡ cond (is_some x) (map (serial_at s.slots) s.fresh ++ serial ∷ []) (map (serial_at s.slots) s.fresh) →
+      new.ended ≡ s.ended ++ option_to_list (flow_in s.capacities (told_at (task_of s) s.slots serial)) → under_of new ≡ with_task serial x (under_of s)
+  under_set x drawn from to told began ended =
+      made_same new.date s.date new.capacities s.capacities (told_by (task_of new) new) (set (told_by (task_of s) s) (serial - 1) x) (map (serial_at new.slots) new.fresh) (cond (is_some x) (map (serial_at s.slots) s.fresh ++ serial ∷ []) (map (serial_at s.slots) s.fresh))
+      new.ended (s.ended ++ option_to_list (flow_in s.capacities (task_at (told_by (task_of s) s) serial))) by.date by.capacities
+      (tasks_set s new key serial slot is by drawn from to ∙ ap (set (told_by (task_of s) s) (serial - 1)) told) began
+      (ended ∙ ap (λ o. s.ended ++ option_to_list (flow_in s.capacities o)) (sym (task_told s serial from to)))
+
+  pub begun_told : (live : Live) (room : ℕ) → slot ≡ Some live → new.drawn ≡ s.drawn → 0 < serial → serial ≤ s.drawn → told_at (task_of s) s.slots serial ≡ None → slot_at s.slots key ≡ None → new.fresh ≡ s.fresh ++ key ∷ [] → new.ended ≡ s.ended →
+      doing_of new (room - 1) ≡ begun_in serial (task_of new key live) (doing_of s room)
+  begun_told live room e drawn from to idle none fresh ended =
+      doing_same (under_of new) (with_task serial (Some (task_of new key live)) (under_of s)) (cond new.arrived (serials is_so 1 (told_by (is_now new) new)) []) (cond s.arrived (serials is_so 1 (told_by (is_now s) s)) []) new.settled false (room - 1) (room - 1)
+      (under_set (Some (task_of new key live)) drawn from to (told_here s new key serial slot is by (task_of new) live e) (began_more live e (unmarked s key is none) fresh)
+      (ended ∙ sym (append-nil s.ended) ∙ ap (λ o. s.ended ++ option_to_list (flow_in s.capacities o)) (sym idle)))
+      (ap₂ (λ b l. cond b l []) by.arrived (due_stays s new key serial slot is by drawn from to none)) by.unsettled refl

@@ -5,7 +5,7 @@ use Rattle.sg_activity.specs.declared.kinds.LinkCap.{LinkCap}
 use Rattle.sg_activity.specs.declared.kinds.Phase.{Phase}
 use Rattle.sg_activity.specs.Links.{machines}
 use Rattle.sg_activity.specs.Task.{Task, task_at}
-use Rattle.sg_activity.specs.Underway.{Underway, next_in, due_in, later, drawn, started, begun, ended, nothing_on}
+use Rattle.sg_activity.specs.Underway.{Underway, next_in, due_in, later, drawn, started, begun, ended, settled, nothing_on}
 
 -- What is under way, the serials that are due and not ended yet, whether the rates are up to date, and room for so many starts.
 pub record Doing : Type 0 where
@@ -43,9 +43,9 @@ begun_in serial task doing = record doing {
   room = doing.room - 1;
 }
 
--- the rates are up to date
+-- The rates are up to date. What was due and hasn't ended is due again at the next date that is gone to.
 abbrev pub settled_in : Doing → Doing
-settled_in doing = record doing { settled = true }
+settled_in doing = record doing { under = settled doing.under; due = []; settled = true }
 
 -- so many nanoseconds later those whose time this is are due
 abbrev pub later_in : ℕ → Doing → Doing

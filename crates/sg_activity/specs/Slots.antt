@@ -1,5 +1,5 @@
 -- Lists of what may be there, by serial from 1 on, and numbers that may be none.
-use Rattle.std.specs.Prelude.{ℕ, ◌+◌, ◌==◌, min, Bool, false, Option, None, Some, option_and_then, if◌then◌else◌, List, [], ◌∷◌}
+use Rattle.std.specs.Prelude.{ℕ, zero, suc, ◌+◌, ◌==◌, min, Bool, false, Option, None, Some, option_and_then, if◌then◌else◌, List, [], ◌∷◌}
 
 -- the less of two numbers, where none is without end
 abbrev pub sooner : Option ℕ → Option ℕ → Option ℕ
@@ -27,3 +27,8 @@ serials test serial (slot ∷ rest) =
 abbrev pub is_at : Option ℕ → ℕ → Bool
 is_at None span = false
 is_at (Some time) span = time == span
+
+-- what the function gives of each number below this one
+unfoldable pub listed : {X : Type 0} → ℕ → (ℕ → X) → List X
+listed zero f = []
+listed (suc n) f = f 0 ∷ listed n (λ i. f (suc i))

@@ -51,11 +51,11 @@ comm_of way latency bytes = record {
 -- ---- what a phase asks for
 -- An execution uses its host, and gets at most the host's speed. A flow uses the SHARED links of its way, and gets at most the bandwidth of each FATPIPE link on it. None gets more than its own bound.
 abbrev pub flow_at : Capacities → Task → Place → Flow
-flow_at capacities task nowhere = flow [] task.bound
+flow_at capacities task nowhere = flow [] 1 task.bound
 flow_at capacities task (on_host host) =
-    flow (host ∷ []) (sooner (Some (host_at capacities.hosts host).speed) task.bound)
+    flow (host ∷ []) 1 (sooner (Some (host_at capacities.hosts host).speed) task.bound)
 flow_at capacities task (over way) =
-    flow (shared_of (length capacities.hosts) capacities.links way.links)
+    flow (shared_of (length capacities.hosts) capacities.links way.links) 1
     (sooner (route_bound capacities.links way.links) task.bound)
 
 abbrev pub flow_of : Capacities → Task → Flow

@@ -1,29 +1,50 @@
 -- The part of the world that `Activities` keeps: when its phases are due, and how it changes.
-use Rattle.std.specs.Prelude.{ℕ, ◌+◌, ◌-◌, ◌*◌, ◌==◌, ◌++◌, Bool, Option, None, Some, option_map, if◌then◌else◌, List, [], ◌∷◌, length, map, slice_set, sum_by}
+use Rattle.std.specs.Prelude.{ℕ, ◌+◌, ◌-◌, ◌*◌, ◌==◌, ◌++◌, Bool, Option, None, Some, is_some, option_map, option_to_list, if◌then◌else◌, List, [], ◌∷◌, filter_map, length, map, slice_set}
 use Rattle.std.specs.Int.{div_ceil}
 use Rattle.std.specs.List.{list_any}
-use Rattle.sg_maxmin.specs.Fill.{share_of}
+use Rattle.sg_base.specs.MarkSet.{is_in}
+use Rattle.sg_maxmin.specs.Fill.{Flow, share_of}
+use Rattle.sg_lazy.specs.RunningFlow.{RunningFlow}
+use Rattle.sg_lazy.specs.Work.{work}
 use Rattle.sg_activity.specs.Links.{Capacities, capacities_of}
-use Rattle.sg_activity.specs.Slots.{soonest, passes, serials, is_at}
-use Rattle.sg_activity.specs.Task.{Task, is_filled, pace, wait_by, goes, flow_of, flows, phase_after, task_at}
+use Rattle.sg_activity.specs.Slots.{soonest, passes, serials, is_at, listed}
+use Rattle.sg_activity.specs.Task.{Task, is_filled, pace, wait_by, goes, flow_in, flow_of, flows, phase_after, task_at}
 
--- The date, the hosts and links as they are now, and by serial from 1 on the phase that is under way, or nothing.
+-- What changed since the rates were brought up to date: the serials of the phases that began, and what those asked for that ended.
+pub record Marks : Type 0 where
+  pub began : List ℕ
+  pub ended : List Flow
+
+abbrev pub no_marks : Marks
+no_marks = record { began = []; ended = [] }
+
+-- The date, the hosts and links as they are now, by serial from 1 on the phase that is under way, or nothing, and what changed since the rates were brought up to date.
 pub record Underway : Type 0 where
   pub date : ℕ
   pub capacities : Capacities
   pub tasks : List (Option Task)
+  pub marks : Marks
 
 -- at first
 abbrev pub nothing_on : Capacities → Underway
-nothing_on capacities = record { date = 0; capacities = capacities; tasks = [] }
+nothing_on capacities = record { date = 0; capacities = capacities; tasks = []; marks = no_marks }
 
 -- whether something is under way
 abbrev pub is_running : Underway → Bool
 is_running under = list_any (passes goes) under.tasks
 
--- how many uses of resources the executions and flows under way have
-abbrev pub uses_under : Underway → ℕ
-uses_under under = sum_by (λ flow. length flow.uses) (flows under.capacities under.tasks)
+-- ---- how much a change touches
+-- what runs under a serial and takes shares, and whether it began since the rates were brought up to date
+abbrev pub running_under : Underway → ℕ → Option RunningFlow
+running_under under serial = option_map (λ flow. record { flow = flow; rate = 0; began = is_in serial under.marks.began }) (flow_in under.capacities (task_at under.tasks serial))
+
+-- all that runs and takes shares, by serial
+abbrev pub runnings : Underway → List (Option RunningFlow)
+runnings under = listed (length under.tasks) (λ i. running_under under (i + 1))
+
+-- at how many uses of hosts and links may be looked to bring the rates up to date
+unfoldable pub work_of : Underway → ℕ
+work_of under = work (filter_map (λ slot. slot) (runnings under)) under.marks.ended
 
 -- ---- when phases are due
 -- units, or nanoseconds, in a nanosecond
@@ -62,9 +83,19 @@ later span under = record under {
 }
 
 -- ---- how the activities change
+-- what changed, once a phase of this serial makes way for another
+abbrev pub marked : Capacities → ℕ → Option Task → Option Task → Marks → Marks
+marked capacities serial before after marks = record {
+  began = if is_some after then marks.began ++ serial ∷ [] else marks.began;
+  ended = marks.ended ++ option_to_list (flow_in capacities before);
+}
+
 -- the one place at which the phase of a serial changes
 abbrev pub with_task : ℕ → Option Task → Underway → Underway
-with_task serial task under = record under { tasks = slice_set under.tasks (serial - 1) task }
+with_task serial task under = record under {
+  tasks = slice_set under.tasks (serial - 1) task;
+  marks = marked under.capacities serial (task_at under.tasks serial) task under.marks;
+}
 
 -- the next serial is drawn, and nothing is under way there yet
 abbrev pub drawn : Underway → Underway
@@ -72,7 +103,10 @@ drawn under = record under { tasks = under.tasks ++ None ∷ [] }
 
 -- the next serial is of this phase
 abbrev pub started : Task → Underway → Underway
-started task under = record under { tasks = under.tasks ++ Some task ∷ [] }
+started task under = record under {
+  tasks = under.tasks ++ Some task ∷ [];
+  marks = record under.marks { began = under.marks.began ++ (length under.tasks + 1) ∷ [] };
+}
 
 -- the activity of this serial, which was drawn before, begins with this phase
 abbrev pub begun : ℕ → Task → Underway → Underway
@@ -81,3 +115,7 @@ begun serial task under = with_task serial (Some task) under
 -- the phase of this serial ends, and what follows it begins
 abbrev pub ended : ℕ → Underway → Underway
 ended serial under = with_task serial (phase_after (task_at under.tasks serial)) under
+
+-- the rates are brought up to date
+abbrev pub settled : Underway → Underway
+settled under = record under { marks = no_marks }

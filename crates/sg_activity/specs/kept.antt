@@ -1,4 +1,9 @@
 -- How `Activities` keeps what is under way.
-pub mod Rows
+pub mod Stamps
+pub mod Pool
+pub mod State
 pub mod Sound
+pub mod Renewal
 pub mod Ends
+pub mod Turns
+pub mod Grows

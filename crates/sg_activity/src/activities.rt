@@ -1,22 +1,23 @@
 //! Activities under way.
 
-ghost use Rattle.std.specs.Prelude.{◌≡◌, ◌≢◌, ◌+◌, ◌-◌, ◌*◌, ◌<◌, ◌≤◌, ◌^◌, ◌++◌, false, true, None, Some, IsTrue, IfOk, OnOk, OnErr, All, AllPairs, MatchOption, [], ◌∷◌, length};
+ghost use Rattle.std.specs.Prelude.{◌≡◌, ◌≢◌, ◌+◌, ◌-◌, ◌*◌, ◌<◌, ◌≤◌, ◌^◌, ◌++◌, false, true, None, Some, IsTrue, IfOk, OnOk, OnErr, All, AllPairs, MatchOption, [], ◌∷◌, length, map};
 ghost use Rattle.sg_base.specs.declared.ids.LinkId.{LinkId};
 ghost use Rattle.sg_base.specs.Limits.{IsAmount, IsTime};
 ghost use Rattle.sg_activity.specs.Hosts.{IsHost, offers_of};
 ghost use Rattle.sg_activity.specs.Links.{IsLink, bandwidths_of};
 ghost use Rattle.sg_activity.specs.Task.{exec_of, timer_of, comm_of, task_at};
-ghost use Rattle.sg_activity.specs.Underway.{is_running, next_in, uses_under};
+ghost use Rattle.sg_activity.specs.Underway.{is_running, next_in, work_of};
 ghost use Rattle.sg_activity.specs.Doing.{idle_on, started_in, drawn_in, begun_in, settled_in, later_in, ended_in, IsDue, IsNext, IsUpTo};
 
 use crate::kept::Kept;
 use crate::kinds::{HostCap, LinkCap, Phase, PhaseKind};
-use crate::phases::end_phase;
-use crate::routes::way_over;
-use crate::rows::{self, Row, Site, flows_ahead};
-use sg_base::{LinkId, Memory, PointId, Serial, Steps};
-use sg_maxmin::System;
-use slab::Slab;
+use crate::lives::{Live, Lives};
+use crate::phases::{end_phase, first_due};
+use crate::renewal::{renew, restamp};
+use crate::room::grow;
+use sg_base::{LinkId, Marks, Memory, PointId, Serial, Steps};
+use sg_heap::Agenda;
+use sg_lazy::Lazy;
 use std::alloc::Global;
 use std::marker::Model;
 use std::sync::ledger::Ledger;
@@ -42,11 +43,12 @@ pub struct Activities {
 
 impl Model for Activities {
     ghost use Rattle.sg_activity.specs.Doing.{Doing};
-    ghost use Rattle.sg_activity.specs.kept.Sound.{doing_of, IsSound};
+    ghost use Rattle.sg_activity.specs.kept.State.{doing_of, state_of};
+    ghost use Rattle.sg_activity.specs.kept.Sound.{IsSound};
 
     ghost Value = { Doing };
 
-    ghost view = { λ s. doing_of s.kept };
+    ghost view = { λ s. doing_of (state_of s.kept) s.kept.room };
 
     ghost invariant = { λ s. IsSound s.kept };
 }
@@ -92,15 +94,18 @@ impl Activities {
             kept: Kept {
                 hosts: Vec::from_slice(alloc, hosts)?,
                 links: Vec::from_slice(alloc, links)?,
-                system: System::new(alloc, &capacities)?,
-                ways: Slab::new(alloc),
-                ahead: 0,
-                rows: Vec::new(alloc),
-                next: 0,
+                lazy: Lazy::new(alloc, &capacities)?,
+                lives: Lives::new(alloc),
+                ways: Vec::new(alloc),
+                agenda: Agenda::new(alloc)?,
+                by_flow: Vec::new(alloc),
+                fresh: Marks::new(alloc),
                 drawn: 0,
                 date: 0,
                 settled: false,
+                arrived: false,
                 room: 0,
+                flows: 0,
             },
         })
     }
@@ -113,17 +118,16 @@ impl Activities {
         ensures kept { self.new ≡ record self.old { room = self.new.room } }
     {
         let n = n.max(self.kept.room);
-        // each latency that passes is followed by a flow, which then takes its room in the system
-        let Some(flows) = n.checked_add(self.kept.ahead) else {
+        // each latency that passes is followed by a flow
+        let Some(flows) = n.checked_add(self.kept.flows - self.kept.room) else {
             return Err(Memory);
         };
         let Some(uses) = flows.checked_mul(64) else {
             return Err(Memory);
         };
-        self.kept.rows.reserve(n)?;
-        self.kept.ways.reserve(n)?;
-        self.kept.system.reserve(flows, uses)?;
+        grow(&mut self.kept, n, flows, uses)?;
         self.kept.room = n;
+        self.kept.flows = flows;
         Ok(())
     }
 
@@ -139,20 +143,23 @@ impl Activities {
         let serial = self.next_serial();
         let host = host.0 as usize;
         let bound = self.kept.hosts[host].speed;
-        let flow = self.kept.system.add(&[host], Some(bound));
-        self.kept.rows.push_reserved(Row {
+        let flow = self.kept.lazy.start(&[host], 1, Some(bound));
+        let key = self.kept.lives.put(Live {
             serial: serial.0,
             kind: PhaseKind::Exec,
-            left: u128::from(flops) * 1_000_000_000,
+            kept: u128::from(flops) * 1_000_000_000,
+            stamp: self.kept.date,
+            rate: 0,
             bytes: 0,
-            site: Site::Host(host),
+            host,
             flow,
-            due: false,
-            done: false,
         });
+        self.kept.by_flow[flow] = key;
+        self.kept.fresh.insert(key);
         self.kept.drawn += 1;
         self.kept.settled = false;
         self.kept.room -= 1;
+        self.kept.flows -= 1;
         serial
     }
 
@@ -165,19 +172,21 @@ impl Activities {
         ensures starts { self.new ≡ started_in (timer_of ns) self.old }
     {
         let serial = self.next_serial();
-        self.kept.rows.push_reserved(Row {
+        let key = self.kept.lives.put(Live {
             serial: serial.0,
             kind: PhaseKind::Timer,
-            left: u128::from(ns),
+            kept: u128::from(ns),
+            stamp: self.kept.date,
+            rate: 1,
             bytes: 0,
-            site: Site::Nowhere,
+            host: 0,
             flow: 0,
-            due: false,
-            done: false,
         });
+        self.kept.fresh.insert(key);
         self.kept.drawn += 1;
         self.kept.settled = false;
         self.kept.room -= 1;
+        self.kept.flows -= 1;
         serial
     }
 
@@ -198,20 +207,18 @@ impl Activities {
         ensures { self.new ≡
             begun_in serial.0 (comm_of (record { links = links.now }) latency bytes) self.old }
     {
-        let way = self.kept.ways.insert_reserved(way_over(links));
-        let row = Row {
+        let key = self.kept.lives.put(Live {
             serial: serial.0,
             kind: PhaseKind::Latency,
-            left: latency,
+            kept: latency,
+            stamp: self.kept.date,
+            rate: 1,
             bytes,
-            site: Site::Way(way),
+            host: 0,
             flow: 0,
-            due: false,
-            done: false,
-        };
-        rows::put(&mut self.kept.rows, row);
-        self.kept.ahead += 1;
-        self.kept.next = 0;
+        });
+        self.kept.ways[key].follow(links);
+        self.kept.fresh.insert(key);
         self.kept.settled = false;
         self.kept.room -= 1;
     }
@@ -234,16 +241,28 @@ impl Activities {
         serial
     }
 
-    /// Brings the rates up to date: that of each execution and each flow is its share of the filling of all of them.
-    /// `steps` counts the looks at uses of hosts and links: each use is looked at once at least.
+    /// Brings the rates up to date. Only what shares hosts or links with what began and ended since is looked at:
+    /// `steps` counts the looks at uses of hosts and links.
     pub fn settle<L: Ledger>(&mut self, steps: &mut Steps<L>)
         ensures settles { self.new ≡ settled_in self.old }
-        ensures looks { steps.old + uses_under self.old.under ≤ steps.new }
+        ensures looks { steps.new ≤ steps.old + work_of self.old.under }
     {
-        rows::clear_done(&mut self.kept.rows);
-        self.kept.next = 0;
-        self.kept.system.solve(steps);
+        self.kept.lazy.settle(steps);
+        restamp(
+            &mut self.kept.lives,
+            &mut self.kept.fresh,
+            &self.kept.by_flow,
+            &self.kept.lazy,
+            self.kept.date,
+        );
+        renew(
+            &mut self.kept.agenda,
+            &self.kept.lives,
+            self.kept.fresh.members(),
+        );
+        self.kept.fresh.clear();
         self.kept.settled = true;
+        self.kept.arrived = false;
     }
 
     /// The date.
@@ -257,7 +276,7 @@ impl Activities {
     pub fn running(&self) -> bool
         ensures { result ≡ is_running self.now.under }
     {
-        rows::is_any(&self.kept.rows)
+        !self.kept.lives.is_empty()
     }
 
     /// The date at which the next phase is due: now where nothing is left of it, and else once its rate has taken what
@@ -267,8 +286,8 @@ impl Activities {
         ensures { MatchOption result (next_in self.now.under ≡ None)
             (λ date. IsNext self.now date) }
     {
-        match rows::soonest(&self.kept.rows, &self.kept.system) {
-            Some(span) => Some(self.kept.date + span),
+        match self.kept.agenda.least() {
+            Some((_, date, _)) => Some(date),
             None => None,
         }
     }
@@ -282,20 +301,18 @@ impl Activities {
         requires small { date < 10 ^ 34 }
         ensures { self.new ≡ later_in (date - self.old.under.date) self.old }
     {
-        let span = date - self.kept.date;
-        rows::pass(&mut self.kept.rows, &self.kept.system, span);
-        self.kept.next = 0;
         self.kept.date = date;
+        self.kept.arrived = true;
     }
 
     /// The phase of least serial that is due and not ended yet.
     pub fn due(&self) -> Option<Phase>
         ensures { MatchOption result (self.now.due ≡ []) (λ phase. IsDue self.now phase) }
     {
-        match rows::first_due(&self.kept.rows, self.kept.next) {
-            Some((_, row)) => Some(Phase {
-                serial: Serial(row.serial),
-                kind: row.kind,
+        match first_due(&self.kept) {
+            Some((_, live)) => Some(Phase {
+                serial: Serial(live.serial),
+                kind: live.kind,
             }),
             None => None,
         }
@@ -306,18 +323,9 @@ impl Activities {
         requires { self.old.due ≢ [] }
         ensures { self.new ≡ ended_in self.old }
     {
-        let Some((i, row)) = rows::first_due(&self.kept.rows, self.kept.next) else {
+        let Some((key, live)) = first_due(&self.kept) else {
             unreachable!()
         };
-        self.kept.ahead -= flows_ahead(row.kind);
-        self.kept.rows[i] = end_phase(
-            &self.kept.hosts,
-            &self.kept.links,
-            &mut self.kept.system,
-            &mut self.kept.ways,
-            row,
-        );
-        self.kept.next = i;
-        self.kept.settled = false;
+        end_phase(&mut self.kept, key, live);
     }
 }

@@ -1,27 +1,36 @@
 //! What `Activities` keeps.
 use crate::kinds::{HostCap, LinkCap};
+use crate::lives::Lives;
 use crate::routes::Way;
-use crate::rows::Row;
-use sg_maxmin::System;
-use slab::Slab;
+use sg_base::Marks;
+use sg_heap::Agenda;
+use sg_lazy::Lazy;
 
 #[derive(Drop)]
 pub(crate) struct Kept {
     pub(crate) hosts: Vec<HostCap>,
     pub(crate) links: Vec<LinkCap>,
     /// It holds a flow for each execution and each flow under way.
-    pub(crate) system: System,
-    /// Of each communication, from its start to its end.
-    pub(crate) ways: Slab<Way>,
-    /// How many latencies pass: as many flows are to come.
-    pub(crate) ahead: usize,
-    /// By rising serial; among them those that are done since the last `settle`.
-    pub(crate) rows: Vec<Row>,
-    /// No row before this place is due.
-    pub(crate) next: usize,
+    pub(crate) lazy: Lazy,
+    /// The activities under way, by key.
+    pub(crate) lives: Lives,
+    /// By key the way of each communication.
+    pub(crate) ways: Vec<Way>,
+    /// By key when each phase is due, unless it is never or began since the rates were brought up to date.
+    pub(crate) agenda: Agenda,
+    /// By the number of a flow the key of its activity.
+    pub(crate) by_flow: Vec<usize>,
+    /// The keys of the phases that began since the rates were brought up to date.
+    pub(crate) fresh: Marks,
     /// How many serials were drawn.
     pub(crate) drawn: u64,
     pub(crate) date: u128,
     pub(crate) settled: bool,
+    /// Whether those whose date is now are due: they are from when it was gone to on until the rates are brought up to
+    /// date.
+    pub(crate) arrived: bool,
     pub(crate) room: usize,
+    /// For so many flows there is room: one for each start that there is room for, and one for each latency that
+    /// passes.
+    pub(crate) flows: usize,
 }

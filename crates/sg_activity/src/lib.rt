@@ -4,9 +4,11 @@
 mod activities;
 mod kept;
 mod kinds;
+mod lives;
 mod phases;
+mod renewal;
+mod room;
 mod routes;
-mod rows;
 #[cfg(test)]
 mod tests;
 

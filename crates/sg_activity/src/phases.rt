@@ -1,85 +1,93 @@
-//! Phases end.
+//! Phases that are due, and their ends.
 
-ghost use Rattle.std.specs.Prelude.{◌≡◌, ◌*◌, ◌<◌, ◌≤◌, true, IsTrue, IsSome};
+ghost use Rattle.std.specs.Prelude.{◌≡◌, ◌<◌, false, MatchOption, Some};
 ghost use Rattle.sg_activity.specs.declared.kinds.PhaseKind.TheVariants as phase;
-ghost use Rattle.sg_activity.specs.Links.{capacities_of, machines};
-ghost use Rattle.sg_activity.specs.kept.Sound.{IsHeld, flows_ahead};
-ghost use Rattle.sg_activity.specs.kept.Rows.{HasFlow, place_at};
-ghost use Rattle.sg_activity.specs.kept.Ends.{Ends, Leaves};
+ghost use Rattle.sg_base.specs.MarkSet.{is_in};
+ghost use Rattle.sg_activity.specs.kept.Pool.{slot_at};
+ghost use Rattle.sg_activity.specs.kept.State.{state_of};
+ghost use Rattle.sg_activity.specs.kept.Sound.{IsSound, flows_ahead};
+ghost use Rattle.sg_activity.specs.kept.Ends.{Ends, IsFirst, IsIdle};
 
-use crate::kinds::{HostCap, LinkCap, PhaseKind};
-use crate::routes::{Way, bound_of, uses_of};
-use crate::rows::{Row, Site, takes_share};
-use sg_maxmin::System;
-use slab::Slab;
+use crate::kept::Kept;
+use crate::kinds::PhaseKind;
+use crate::lives::{Live, takes_share};
+use crate::routes::{bound_of, uses_of};
 
-// The latency of a communication is over, and its bytes begin to flow over its way.
-fn begin_flow(
-    hosts: &[HostCap],
-    links: &[LinkCap],
-    system: &mut System,
-    ways: &Slab<Way>,
-    row: Row,
-) -> Row
-    requires kind { row.kind ≡ phase.Latency }
-    requires capacities { system.old.capacities ≡ capacities_of (machines hosts.now links.now) }
-    requires held { IsHeld (machines hosts.now links.now) system.old.slots ways.now.slots row }
-    requires flow_room { 0 < system.old.flow_room }
-    requires use_room { 64 ≤ system.old.use_room }
-    ensures { Ends (machines hosts.now links.now) system.old system.new
-        ways.now ways.now row result }
+/// The activity whose phase is due first, and its key.
+pub(crate) fn first_due(kept: &Kept) -> Option<(usize, Live)>
+    requires { IsSound kept.now }
+    ensures { MatchOption result (IsIdle (state_of kept.now))
+        (λ first. IsFirst (state_of kept.now) first.0 first.1) }
 {
-    let Site::Way(key) = row.site else {
-        unreachable!()
-    };
-    let Some(way) = ways.get(key) else {
-        unreachable!()
-    };
-    let route = way.links.as_slice();
-    let uses = uses_of(hosts.len(), links, route);
-    Row {
-        kind: PhaseKind::Flow,
-        left: u128::from(row.bytes) * 1_000_000_000,
-        flow: system.add(uses.as_slice(), bound_of(links, route)),
-        due: false,
-        done: false,
-        ..row
+    if !kept.arrived {
+        return None;
+    }
+    match kept.agenda.least() {
+        Some((key, date, _)) if date == kept.date => {
+            let Some(live) = kept.lives.get(key) else {
+                unreachable!()
+            };
+            Some((key, live))
+        }
+        _ => None,
     }
 }
 
-// The activity is done: its flow goes, and its way.
-fn end_last(system: &mut System, ways: &mut Slab<Way>, row: Row) -> Row
-    requires flow { HasFlow system.old row }
-    requires there { IsSome (place_at ways.old.slots row.site) }
-    ensures row { result ≡ record row { done = true } }
-    ensures leaves { Leaves system.old system.new ways.old ways.new row }
+// A latency is over, and the bytes of its communication begin to flow over its way.
+fn begin_flow(kept: &mut Kept, key: usize, live: Live)
+    requires kind { live.kind ≡ phase.Latency }
+    requires at { slot_at kept.old.lives.slots key ≡ Some live }
+    requires stale { is_in key kept.old.fresh.members ≡ false }
+    requires sound { IsSound kept.old }
+    ensures { Ends kept.old kept.new key live }
 {
-    if takes_share(row.kind) {
-        system.remove(row.flow);
-    }
-    if let Site::Way(key) = row.site {
-        ways.remove(key);
-    }
-    Row { done: true, ..row }
+    let route = kept.ways[key].route();
+    let uses = uses_of(kept.hosts.len(), &kept.links, route);
+    let bound = bound_of(&kept.links, route);
+    let flow = kept.lazy.start(uses.as_slice(), 1, bound);
+    kept.lives.set(
+        key,
+        Live {
+            kind: PhaseKind::Flow,
+            kept: u128::from(live.bytes) * 1_000_000_000,
+            stamp: kept.date,
+            rate: 0,
+            flow,
+            ..live
+        },
+    );
+    kept.agenda.clear(key);
+    kept.by_flow[flow] = key;
+    kept.fresh.insert(key);
+    kept.flows -= 1;
+    kept.settled = false;
 }
 
-/// Ends the phase of a row: a latency becomes a flow, and else the activity is done.
-pub(crate) fn end_phase(
-    hosts: &[HostCap],
-    links: &[LinkCap],
-    system: &mut System,
-    ways: &mut Slab<Way>,
-    row: Row,
-) -> Row
-    requires capacities { system.old.capacities ≡ capacities_of (machines hosts.now links.now) }
-    requires held { IsHeld (machines hosts.now links.now) system.old.slots ways.old.slots row }
-    requires flow_room { flows_ahead row.kind ≤ system.old.flow_room }
-    requires use_room { 64 * flows_ahead row.kind ≤ system.old.use_room }
-    ensures { Ends (machines hosts.now links.now) system.old system.new
-        ways.old ways.new row result }
+// The activity is done: its flow ends, and its key is free.
+fn end_last(kept: &mut Kept, key: usize, live: Live)
+    requires kind { flows_ahead live.kind ≡ 0 }
+    requires at { slot_at kept.old.lives.slots key ≡ Some live }
+    requires stale { is_in key kept.old.fresh.members ≡ false }
+    requires sound { IsSound kept.old }
+    ensures { Ends kept.old kept.new key live }
 {
-    match row.kind {
-        PhaseKind::Latency => begin_flow(hosts, links, system, ways, row),
-        PhaseKind::Flow | PhaseKind::Exec | PhaseKind::Timer => { end_last(system, ways, row) }
+    if takes_share(live.kind) {
+        kept.lazy.end(live.flow);
+    }
+    kept.lives.remove(key);
+    kept.agenda.clear(key);
+    kept.settled = false;
+}
+
+/// Ends the phase of the activity under a key: a latency becomes a flow, and else the activity is done.
+pub(crate) fn end_phase(kept: &mut Kept, key: usize, live: Live)
+    requires at { slot_at kept.old.lives.slots key ≡ Some live }
+    requires stale { is_in key kept.old.fresh.members ≡ false }
+    requires sound { IsSound kept.old }
+    ensures { Ends kept.old kept.new key live }
+{
+    match live.kind {
+        PhaseKind::Latency => begin_flow(kept, key, live),
+        PhaseKind::Flow | PhaseKind::Exec | PhaseKind::Timer => end_last(kept, key, live),
     }
 }

@@ -1,6 +1,6 @@
 //! Routes: what the flows over them use, and what bounds them.
 
-ghost use Rattle.std.specs.Prelude.{◌≡◌, ◌+◌, ◌<◌, ◌≤◌, ◌^◌, All, length};
+ghost use Rattle.std.specs.Prelude.{◌≡◌, ◌+◌, ◌<◌, ◌≤◌, ◌^◌, [], All, length};
 ghost use Rattle.sg_base.specs.declared.ids.LinkId.{LinkId};
 ghost use Rattle.sg_activity.specs.Slots.{sooner};
 ghost use Rattle.sg_activity.specs.Links.{bound_of_link, route_bound, shared_of};
@@ -8,23 +8,50 @@ ghost use Rattle.sg_activity.specs.Links.{bound_of_link, route_bound, shared_of}
 use crate::kinds::LinkCap;
 use arrayvec::ArrayVec;
 use sg_base::LinkId;
+use std::marker::Model;
 
 /// The links of a route, FATPIPE links too.
 #[derive(Drop)]
 pub(crate) struct Way {
-    pub(crate) links: ArrayVec<LinkId, 64>,
+    links: ArrayVec<LinkId, 64>,
 }
 
-/// The way over these links.
-pub(crate) fn way_over(route: &[LinkId]) -> Way
-    requires { length route.now ≤ 64 }
-    ensures { result.links.items ≡ route.now }
-{
-    let mut links = ArrayVec::new();
-    for link in route {
-        links.push(*link);
+impl Model for Way {
+    ghost use Rattle.std.specs.Prelude.{List};
+    ghost use Rattle.sg_base.specs.declared.ids.LinkId.{LinkId};
+
+    ghost Value = { List LinkId };
+
+    ghost view = { λ w. w.links.items };
+}
+
+impl Way {
+    /// No links.
+    pub(crate) fn new() -> Way
+        ensures { result ≡ [] }
+    {
+        Way {
+            links: ArrayVec::new(),
+        }
     }
-    Way { links }
+
+    /// Takes the links of this route in place of its own.
+    pub(crate) fn follow(&mut self, route: &[LinkId])
+        requires { length route.now ≤ 64 }
+        ensures { self.new ≡ route.now }
+    {
+        self.links.clear();
+        for link in route {
+            self.links.push(*link);
+        }
+    }
+
+    /// The links.
+    pub(crate) fn route(&self) -> &[LinkId]
+        ensures { result.now ≡ self.now }
+    {
+        self.links.as_slice()
+    }
 }
 
 // The less of a bound and of what bounds each flow over the link by itself.

@@ -6,7 +6,7 @@ use Rattle.std.proofs.lemmas.Grind.{common_steps}
 use Rattle.sg_base.specs.declared.ids.ActorId.{ActorId}
 use Rattle.sg_base.specs.Mind.{master_mind}
 use Rattle.sg_actor.specs.Roles.{number_of}
-use Rattle.sg_actor.specs.Tape.{tape_mind, IsTape, FitActorsFrom}
+use Rattle.sg_actor.specs.kept.Tape.{tape_mind, IsTape, FitActorsFrom}
 
 -- the number of one actor more
 pub words_more : (words : List ℕ) (actors : List ActorId) (i : ℕ) (d : ActorId) → i < length actors

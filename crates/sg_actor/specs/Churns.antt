@@ -1,5 +1,5 @@
 -- How far an actor that churns has come.
-use Rattle.std.specs.Prelude.{◌≡◌, ◌<◌, ◌≤◌, ℕ, List, length, slice_index}
+use Rattle.std.specs.Prelude.{◌≡◌, ◌<◌, ◌≤◌, ℕ, List, length, slice_index, ⊤}
 use Rattle.sg_base.specs.Mind.{Kind, Mind, replay, worker, master, churn, ended}
 
 -- its numbers: it is in one of four phases, and has done no more steps than it has to, and fewer in the midst of one
@@ -11,10 +11,10 @@ pub record IsAtStep (numbers : List ℕ) : Type 0 where
 
 abbrev pub IsAtStepIf : Kind → List ℕ → Type 0
 IsAtStepIf churn numbers = IsAtStep numbers
-IsAtStepIf replay numbers = Unit {0}
-IsAtStepIf worker numbers = Unit {0}
-IsAtStepIf master numbers = Unit {0}
-IsAtStepIf ended numbers = Unit {0}
+IsAtStepIf replay numbers = ⊤
+IsAtStepIf worker numbers = ⊤
+IsAtStepIf master numbers = ⊤
+IsAtStepIf ended numbers = ⊤
 
 -- where the mind churns, its numbers are so
 abbrev pub CountsSteps : Mind → Type 0

@@ -1,7 +1,4 @@
-pub mod Chunks
 pub mod Churns
-pub mod Fields
-pub mod Places
 pub mod Roles
-pub mod Seen
-pub mod Tape
+pub mod Seats
+pub mod kept

@@ -1,5 +1,5 @@
 -- The minds of roles.
-use Rattle.std.specs.Prelude.{ℕ, ◌+◌, ◌^◌, ◌<◌, length, map, All}
+use Rattle.std.specs.Prelude.{ℕ, ◌+◌, ◌^◌, ◌<◌, length, map, All, ⊤}
 use Rattle.sg_base.specs.declared.ids.ActorId.{ActorId}
 use Rattle.sg_base.specs.Limits.{Extent, IsActorIn, IsAmount}
 use Rattle.sg_base.specs.Mind.{Mind, replay_mind, worker_mind, master_mind, churn_mind}
@@ -18,10 +18,10 @@ mind_of (role.Churn seed steps me next prev) = churn_mind seed steps me.0 next.0
 
 -- a master has a worker, and can count the messages that it sends
 abbrev pub CanCast : Role → Type 0
-CanCast (role.Replay me) = Unit {0}
-CanCast (role.Worker me) = Unit {0}
+CanCast (role.Replay me) = ⊤
+CanCast (role.Worker me) = ⊤
 CanCast (role.Master tasks flops bytes workers) = (0 < length workers) × (tasks + length workers < 2 ^ 64)
-CanCast (role.Churn seed steps me next prev) = Unit {0}
+CanCast (role.Churn seed steps me next prev) = ⊤
 
 -- the amounts of a role keep to their limits, and the actors that it names exist; a master has a worker
 abbrev pub IsRole : Extent → Role → Type 0

@@ -2,7 +2,7 @@
 ghost use Rattle.std.specs.Prelude.{◌≡◌};
 ghost use Rattle.sg_base.specs.Mind.{mind, churn};
 ghost use Rattle.sg_base.specs.Turn.{churn_turn};
-ghost use Rattle.sg_actor.specs.Fields.{churn_numbers, is_exit, kind_now, IsChurnKept};
+ghost use Rattle.sg_actor.specs.kept.Fields.{churn_numbers, is_exit, kind_now, IsChurnKept};
 
 use crate::generator::draw;
 use sg_base::{ActorId, BoxId, Call, Msg};
@@ -42,7 +42,8 @@ impl Churn {
     pub(crate) fn turn(&mut self) -> Call
         requires { IsChurnKept self.old }
         ensures kept { IsChurnKept self.new }
-        ensures mind { mind (kind_now (is_exit result) churn) (churn_numbers self.new) ≡ (churn_turn (churn_numbers self.old)).mind }
+        ensures mind { mind (kind_now (is_exit result) churn) (churn_numbers self.new)
+            ≡ (churn_turn (churn_numbers self.old)).mind }
         ensures call { result ≡ (churn_turn (churn_numbers self.old)).call }
     {
         match self.phase {

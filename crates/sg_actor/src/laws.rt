@@ -1,4 +1,4 @@
-//! Laws of roles and rounds.
+//! Laws of roles and turns.
 ghost use Rattle.sg_base.specs.Limits.{Extent, IsCall};
 ghost use Rattle.sg_base.specs.declared.call.Answer.{Answer};
 ghost use Rattle.sg_base.specs.Mind.{Mind, IsMind};
@@ -6,7 +6,7 @@ ghost use Rattle.sg_base.specs.Turn.{turn};
 ghost use Rattle.sg_actor.specs.Churns.{CountsSteps};
 ghost use Rattle.sg_actor.specs.declared.role.Role.{Role};
 ghost use Rattle.sg_actor.specs.Roles.{mind_of, IsRole};
-ghost use Rattle.sg_actor.specs.Places.{Place, IsPlace, after};
+ghost use Rattle.sg_actor.specs.Seats.{SeatView, KeepsLimits, after};
 
 use sg_base::turns_keep_limits;
 
@@ -15,10 +15,10 @@ pub fn roles_keep_limits()
     ensures { (extent : Extent) (role : Role) → IsRole extent role → IsMind extent (mind_of role) }
 {}
 
-/// The same goes on from round to round: a place keeps to the limits behind its turn if its inbox did before.
-pub fn rounds_keep_limits()
-    ensures { (extent : Extent) (place : Place)
-        → IsPlace extent place → IsPlace extent (after place) }
+/// The same goes on from round to round: a seat keeps to the limits behind its turn if it did before.
+pub fn seats_keep_limits()
+    ensures { (extent : Extent) (seat : SeatView)
+        → KeepsLimits extent seat → KeepsLimits extent (after seat) }
 {
     turns_keep_limits();
 }

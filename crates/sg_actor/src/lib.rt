@@ -1,27 +1,29 @@
-//! Actors: what they have in mind, their turns, and rounds in which each that is ready takes a turn.
+//! Actors: what they have in mind, and the turns of a round, one of each that is ready.
 #![tactic(auto)]
 
 mod actor;
-mod calls;
 mod churn;
 mod crew;
 mod generator;
 mod laws;
-mod plain;
+mod meeter;
+mod next_call;
+mod plain_context;
 mod role;
-mod round;
 mod seat;
-mod tape;
+mod tape_context;
+mod turns;
 
 pub use actor::Actor;
 pub use crew::all_blank;
 pub use generator::draw;
-pub use laws::{churns_count_steps, roles_keep_limits, rounds_keep_limits};
-pub use plain::PlainContext;
+pub use laws::{churns_count_steps, roles_keep_limits, seats_keep_limits};
+pub use meeter::Meeter;
+pub use plain_context::PlainContext;
 pub use role::Role;
-pub use round::run_round;
 pub use seat::Seat;
-pub use tape::TapeContext;
+pub use tape_context::TapeContext;
+pub use turns::run_round;
 
 #[cfg(test)]
 mod tests;

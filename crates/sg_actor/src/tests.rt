@@ -1,10 +1,9 @@
 //! Turns of contexts, and rounds of boxed ones beside actors of the tests' own.
 ghost use Rattle.std.specs.Prelude.{◌≡◌, ◌<◌, All, IsSome, IsTrue};
-ghost use Rattle.sg_actor.specs.Places.{CanTurn};
+ghost use Rattle.sg_actor.specs.Seats.{CanTurn, seat_views, seat_view};
 ghost use Rattle.sg_actor.specs.Roles.{CanCast};
-ghost use Rattle.sg_actor.specs.Seen.{all_seen, seen};
 
-use crate::{Actor, PlainContext, Role, Seat, TapeContext, all_blank, draw, run_round};
+use crate::{Actor, Meeter, PlainContext, Role, Seat, TapeContext, all_blank, draw, run_round};
 use sg_base::{Action, ActorId, Answer, BoxId, Call, Ids, Memory, Msg};
 use std::alloc::Global;
 use std::process::Abort;
@@ -193,7 +192,12 @@ impl Actor for Counter {
 
 // A seat of an actor that was cast, with a call in its outbox that no actor of these roles makes.
 fn seat(rt: &impl Abort, actor: Box<dyn Actor + Send>, ready: bool) -> Seat
-    ensures seen { seen (λ b. mind b) result ≡ record { mind = mind actor; inbox = Answer.Start; outbox = Call.Yield; ready = ready } }
+    ensures shown { seat_view (λ b. mind b) result ≡ record {
+      mind = mind actor;
+      inbox = Answer.Start;
+      outbox = Call.Yield;
+      ready = ready;
+    } }
     ensures cast { IsSome (mind actor) }
 {
     assert!(rt; !actor.is_blank());
@@ -240,43 +244,9 @@ fn only_ready_seats_take_a_turn(rt: HostRuntime) -> Result<(), Fail> {
     Ok(())
 }
 
-/// An actor that raises its flag in its turn, and looks for those of all others.
-#[derive(Drop)]
-struct Looker {
-    inner: PlainContext,
-    /// How many flags there are to be.
-    all: u64,
-    raised: Arc<AtomicU64>,
-    /// How many actors saw all flags.
-    found: Arc<AtomicU64>,
-}
-
-impl Actor for Looker {
-    ghost mind = { λ s. s.inner };
-
-    fn is_blank(&self) -> bool {
-        self.inner.is_blank()
-    }
-
-    fn cast(&mut self, role: &Role) -> Result<(), Memory> {
-        self.inner.cast(role)
-    }
-
-    fn turn(&mut self, answer: Answer) -> Call {
-        self.raised.fetch_add(1, Ordering::SeqCst);
-        for _i in 0..100_000_000u32 {
-            if self.raised.load(Ordering::SeqCst) == self.all {
-                self.found.fetch_add(1, Ordering::SeqCst);
-                break;
-            }
-        }
-        self.inner.turn(answer)
-    }
-}
-
 // Whether no seat has a blank actor.
 fn are_cast(seats: &[Seat]) -> bool
-    ensures { IsTrue result → All CanTurn (all_seen (λ b. mind b) seats.now) }
+    ensures { IsTrue result → All CanTurn (seat_views (λ b. mind b) seats.now) }
 {
     for seat in seats {
         if !is_cast(seat) {
@@ -288,57 +258,62 @@ fn are_cast(seats: &[Seat]) -> bool
 
 // In a function of its own, so that the loop knows what it says of the mind.
 fn is_cast(seat: &Seat) -> bool
-    ensures { IsTrue result → CanTurn (seen (λ b. mind b) seat.now) }
+    ensures { IsTrue result → CanTurn (seat_view (λ b. mind b) seat.now) }
 {
     !seat.actor.is_blank()
 }
 
-// How many actors see the flags of all that are ready, in a round of so many workers.
-fn flags_found<R: Abort + Threads + Sync>(
+// How many actors meet all that are ready, in a round on so many threads.
+fn met<R: Abort + Threads + Sync>(
     rt: &R,
     alloc: Global,
     ready: &[bool],
-    workers: u32,
+    threads: u32,
 ) -> Result<u64, Fail>
-    requires { 0 < workers }
+    requires { 0 < threads }
 {
-    let raised = Arc::new(alloc, AtomicU64::new(0))?;
-    let found = Arc::new(alloc, AtomicU64::new(0))?;
+    let here = Arc::new(alloc, AtomicU64::new(0))?;
+    let missed = Arc::new(alloc, AtomicU64::new(0))?;
     let all = ready.iter().filter(|is_ready| **is_ready).count() as u64;
     let mut seats: Vec<Seat> = Vec::new(alloc);
     for is_ready in ready {
-        let looker = Looker {
-            inner: plain(alloc)?,
+        let mut meeter = Meeter::new(
+            alloc,
+            1,
             all,
-            raised: Arc::try_clone(&raised)?,
-            found: Arc::try_clone(&found)?,
-        };
+            Arc::try_clone(&here)?,
+            Arc::try_clone(&missed)?,
+        );
+        meeter.cast(&Role::Replay(ME))?;
         seats.push(Seat {
-            actor: Box::new(alloc, looker)?,
+            actor: Box::new(alloc, meeter)?,
             inbox: Answer::Start,
             outbox: Call::Yield,
             ready: *is_ready,
         })?;
     }
-    run_cast(rt, seats.as_mut_slice(), workers);
-    Ok(found.load(Ordering::SeqCst))
+    run_cast(rt, seats.as_mut_slice(), threads);
+    Ok(
+        here.load(Ordering::SeqCst)
+            .saturating_sub(missed.load(Ordering::SeqCst)),
+    )
 }
 
 // A round of seats that were filled in a loop: whether all are cast is looked at.
-fn run_cast<R: Abort + Threads + Sync>(rt: &R, seats: &mut [Seat], workers: u32)
-    requires { 0 < workers }
+fn run_cast<R: Abort + Threads + Sync>(rt: &R, seats: &mut [Seat], threads: u32)
+    requires { 0 < threads }
 {
     assert!(rt; are_cast(seats));
-    run_round(rt, seats, workers);
+    run_round(rt, seats, threads);
 }
 
 #[test]
-fn two_flags_and_more(rt: HostRuntime) -> Result<(), Fail> {
+fn turns_meet(rt: HostRuntime) -> Result<(), Fail> {
     let three = [true, false, true, false, true];
     let eight = [
         true, false, true, true, false, false, true, true, false, true, true, true,
     ];
-    // Which seats are ready, the workers, and how many actors see all flags. In one chunk none does but the last.
+    // Which seats are ready, the threads, and how many actors meet all. In one chunk none does but the last.
     let cases: [(&[bool], u32, u64); 7] = [
         (&[true, true], 2, 2),
         (&[true, true], 1, 1),
@@ -348,8 +323,8 @@ fn two_flags_and_more(rt: HostRuntime) -> Result<(), Fail> {
         (&eight, 12, 8),
         (&eight, 64, 8),
     ];
-    for (ready, workers, wanted) in cases {
-        assert_eq!(rt; flags_found(&rt, rt.alloc(), ready, workers)?, wanted);
+    for (ready, threads, wanted) in cases {
+        assert_eq!(rt; met(&rt, rt.alloc(), ready, threads)?, wanted);
     }
     Ok(())
 }

@@ -1,5 +1,5 @@
 -- The limits of amounts and times, and which numbers stand for something that exists.
-use Rattle.std.specs.Prelude.{ℕ, ◌<◌, ◌≤◌}
+use Rattle.std.specs.Prelude.{ℕ, ◌<◌, ◌≤◌, ⊤}
 use Rattle.sg_base.specs.declared.ids.ActorId.{ActorId}
 use Rattle.sg_base.specs.declared.ids.BoxId.{BoxId}
 use Rattle.sg_base.specs.declared.ids.BoxId.TheVariants as box
@@ -45,9 +45,9 @@ IsBoxIn extent (box.Pair from to) = IsActorIn extent from × IsActorIn extent to
 IsBoxIn extent (box.Named actor) = IsActorIn extent actor
 
 abbrev pub IsMsg : Msg → Type 0
-IsMsg msg.Empty = Unit {0}
+IsMsg msg.Empty = ⊤
 IsMsg (msg.Task flops) = IsAmount flops
-IsMsg msg.Stop = Unit {0}
+IsMsg msg.Stop = ⊤
 
 -- the amounts and times of an action keep to their limits, and what it names exists
 abbrev pub IsAction : Extent → Action → Type 0
@@ -57,35 +57,35 @@ IsAction extent (action.Send to bytes) = IsActorIn extent to × IsAmount bytes
 IsAction extent (action.Recv from) = IsActorIn extent from
 IsAction extent (action.ISend to bytes) = IsActorIn extent to × IsAmount bytes
 IsAction extent (action.IRecv from) = IsActorIn extent from
-IsAction extent action.Wait = Unit {0}
+IsAction extent action.Wait = ⊤
 IsAction extent (action.Lock mutex) = IsMutexIn extent mutex
 IsAction extent (action.Unlock mutex) = IsMutexIn extent mutex
 IsAction extent (action.Acquire semaphore) = IsSemaphoreIn extent semaphore
 IsAction extent (action.Release semaphore) = IsSemaphoreIn extent semaphore
-IsAction extent action.Barrier = Unit {0}
-IsAction extent action.Yield = Unit {0}
+IsAction extent action.Barrier = ⊤
+IsAction extent action.Yield = ⊤
 
 abbrev pub IsAnswer : Extent → Answer → Type 0
-IsAnswer extent answer.Start = Unit {0}
+IsAnswer extent answer.Start = ⊤
 IsAnswer extent (answer.Act what) = IsAction extent what
-IsAnswer extent answer.NoMore = Unit {0}
-IsAnswer extent answer.Done = Unit {0}
+IsAnswer extent answer.NoMore = ⊤
+IsAnswer extent answer.Done = ⊤
 IsAnswer extent (answer.Got message) = IsMsg message
-IsAnswer extent answer.Refused = Unit {0}
+IsAnswer extent answer.Refused = ⊤
 
 abbrev pub IsCall : Extent → Call → Type 0
-IsCall extent call.Ask = Unit {0}
+IsCall extent call.Ask = ⊤
 IsCall extent (call.Compute flops) = IsAmount flops
 IsCall extent (call.Sleep ns) = IsTime ns
 IsCall extent (call.Send mailbox bytes message) = IsBoxIn extent mailbox × IsAmount bytes × IsMsg message
 IsCall extent (call.Recv mailbox) = IsBoxIn extent mailbox
 IsCall extent (call.ISend mailbox bytes message) = IsBoxIn extent mailbox × IsAmount bytes × IsMsg message
 IsCall extent (call.IRecv mailbox) = IsBoxIn extent mailbox
-IsCall extent call.Wait = Unit {0}
+IsCall extent call.Wait = ⊤
 IsCall extent (call.Lock mutex) = IsMutexIn extent mutex
 IsCall extent (call.Unlock mutex) = IsMutexIn extent mutex
 IsCall extent (call.Acquire semaphore) = IsSemaphoreIn extent semaphore
 IsCall extent (call.Release semaphore) = IsSemaphoreIn extent semaphore
-IsCall extent call.Barrier = Unit {0}
-IsCall extent call.Yield = Unit {0}
-IsCall extent call.Exit = Unit {0}
+IsCall extent call.Barrier = ⊤
+IsCall extent call.Yield = ⊤
+IsCall extent call.Exit = ⊤

@@ -1,5 +1,5 @@
 -- What an actor has in mind: a kind, and a list of numbers.
-use Rattle.std.specs.Prelude.{◌≡◌, ℕ, ◌+◌, ◌-◌, ◌<◌, ◌≤◌, List, [], ◌∷◌, length, slice_index}
+use Rattle.std.specs.Prelude.{◌≡◌, ℕ, ◌+◌, ◌-◌, ◌<◌, ◌≤◌, List, [], ◌∷◌, length, slice_index, ⊤}
 use Rattle.sg_base.specs.Limits.{Extent, IsActorNumber, IsAmount}
 
 -- what an actor is: it replays its script lines; it works for a master, or is one; it churns; or it has ended
@@ -47,7 +47,7 @@ IsShaped extent master numbers =
     (4 < length numbers) × (slice_index numbers 3 ≤ slice_index numbers 0 + (length numbers - 4))
     × IsAmount (slice_index numbers 1) × IsAmount (slice_index numbers 2) × ActorsFrom extent 4 numbers
 IsShaped extent churn numbers = (length numbers ≡ 7) × ActorsFrom extent 4 numbers
-IsShaped extent ended numbers = Unit {0}
+IsShaped extent ended numbers = ⊤
 
 abbrev pub IsMind : Extent → Mind → Type 0
 IsMind extent m = IsShaped extent m.kind m.numbers

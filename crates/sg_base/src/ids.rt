@@ -1,8 +1,19 @@
 //! Identifiers: each is a place in the order in which its kind was declared.
+ghost use Rattle.std.specs.Prelude.{◌≡◌, ◌-◌, ◌<◌};
 
 /// An actor: the first actor of the deployment has the number 1.
 #[derive(Clone, Copy, Debug, PartialEq, Eq, Hash)]
 pub struct ActorId(pub u32);
+
+impl ActorId {
+    /// The row of the actor among those of the deployment, from 0 on.
+    pub fn index(self) -> usize
+        requires { 0 < self.0 }
+        ensures { result ≡ self.0 - 1 }
+    {
+        self.0 as usize - 1
+    }
+}
 
 /// A point of the platform: the hosts in declared order from 0 on, then the routers.
 #[derive(Clone, Copy, Debug, PartialEq, Eq, PartialOrd, Ord)]

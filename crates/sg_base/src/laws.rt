@@ -9,8 +9,10 @@ ghost use Rattle.sg_base.specs.Turn.{turn};
 /// A mind keeps its shape. Where the amounts of an answer keep to their limits and what it names exists, the same
 /// holds of the call that follows it.
 pub fn turns_keep_limits()
-    ensures mind { (extent : Extent) (mind : Mind) (answer : Answer) → IsMind extent mind → IsMind extent (turn mind answer).mind }
-    ensures call { (extent : Extent) (mind : Mind) (answer : Answer) → IsMind extent mind → IsAnswer extent answer → IsCall extent (turn mind answer).call }
+    ensures mind { (extent : Extent) (mind : Mind) (answer : Answer) → IsMind extent mind
+        → IsMind extent (turn mind answer).mind }
+    ensures call { (extent : Extent) (mind : Mind) (answer : Answer) → IsMind extent mind
+        → IsAnswer extent answer → IsCall extent (turn mind answer).call }
 {}
 
 /// The number that is drawn from the state 0, and the size of all that are drawn.

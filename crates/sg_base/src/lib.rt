@@ -1,12 +1,14 @@
 //! The words that every layer of the simulator speaks: identifiers, calls, actions, answers, records, how a
-//! program ends, texts, lists, and the counter of steps.
+//! program ends, texts, lists, sets of small numbers, and the counter of steps.
 #![tactic(auto)]
 
 mod actors;
+mod awaits;
 mod call;
 mod ids;
 mod laws;
 mod links;
+mod marks;
 mod memory;
 mod status;
 mod steps;
@@ -14,10 +16,12 @@ mod text;
 mod trace_record;
 
 pub use actors::Ids;
+pub use awaits::{Await, Party};
 pub use call::{Action, Answer, Call, Msg};
 pub use ids::{ActorId, BoxId, Child, LinkId, PointId, Serial, ZoneId};
 pub use laws::{draws_are_small, turns_keep_limits};
 pub use links::Links;
+pub use marks::Marks;
 pub use memory::Memory;
 pub use status::Status;
 pub use steps::Steps;

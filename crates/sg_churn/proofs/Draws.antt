@@ -2,8 +2,8 @@
 use Rattle.std.proofs.Common.{◌≡◌, ℕ, ◌+◌, ◌*◌, ◌%◌, codes, ap, ◌∙◌, refl, arith, add-one}
 use Rattle.sg_base.specs.Draw.{drawn, next_state}
 use Rattle.sg_churn.specs.Generated.{drawn_after, host_of, host_with, link_of, link_with, name_of, state_after}
-use Rattle.sg_platform.specs.declared.rows.HostRow.{HostRow}
-use Rattle.sg_platform.specs.declared.rows.LinkRow.{LinkRow}
+use Rattle.sg_rows.specs.declared.rows.HostRow.{HostRow}
+use Rattle.sg_rows.specs.declared.rows.LinkRow.{LinkRow}
 
 pub begins : (seed : ℕ) → seed ≡ state_after seed 0
 unfolding state_after

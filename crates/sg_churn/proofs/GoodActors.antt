@@ -9,9 +9,9 @@ use Rattle.sg_churn.proofs.GoodNames.{row_names}
 use Rattle.sg_churn.proofs.GoodRows.{name_short}
 use Rattle.sg_churn.proofs.NumberedRows.{all_rows, length-rows}
 use Rattle.sg_churn.specs.Generated.{actor_of, host_of, platform_of_seed, rows}
-use Rattle.sg_platform.specs.Deployment.{IsActorRow, IsDeployment, IsFunction, extent_of}
-use Rattle.sg_platform.specs.OfRows.{AreActors, AreNames, ServesWorkers, deployed_with}
-use Rattle.sg_platform.specs.Platform.{Platform}
+use Rattle.sg_rows.specs.Deployment.{IsActorRow, IsDeployment, IsFunction, extent_of}
+use Rattle.sg_rows.specs.OfRows.{AreActors, AreNames, ServesWorkers, deployed_with}
+use Rattle.sg_rows.specs.Platform.{Platform}
 
 in_ring : (n actors : ℕ) → 0 < actors → (0 < 1 + n % actors) × (1 + n % actors ≤ actors)
 in_ring n actors some = (omega arith, omega (arith, mod_below n actors some))

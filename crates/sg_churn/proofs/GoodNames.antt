@@ -7,8 +7,8 @@ use Rattle.std.proofs.lemmas.List.Folds.{list_all-append}
 use Rattle.std.specs.List.{list_all}
 use Rattle.sg_churn.proofs.NumberedRows.{all_rows, distinct_behind, distinct_rows}
 use Rattle.sg_churn.specs.Generated.{name_of, rows}
-use Rattle.sg_platform.specs.OfRows.{AreNames}
-use Rattle.sg_rules.specs.Rules.{is_name, is_name_byte}
+use Rattle.sg_rows.specs.OfRows.{AreNames}
+use Rattle.sg_tree.specs.Spelling.{is_name, is_name_byte}
 
 digit_fits : (n : ℕ) → n < 10 → is_name_byte (48 + n) ≡ true
 digit_fits n low = grind (arith, nat_tests)

@@ -11,14 +11,14 @@ use Rattle.sg_base.specs.declared.ids.PointId.{PointId}
 use Rattle.sg_churn.proofs.GoodNames.{row_names_behind}
 use Rattle.sg_churn.proofs.NumberedRows.{all_rows, distinct_rows, length-rows}
 use Rattle.sg_churn.specs.Generated.{backbone, drawn_after, host_of, link, link_of, name_of, rows, spoke_of, star, state_after}
-use Rattle.sg_platform.specs.Ends.{ends_from, link_ends}
-use Rattle.sg_platform.specs.OfRows.{AreDistinct, AreNames, AreRows, IsOfRow, names_of_link, platform_with, point_names}
-use Rattle.sg_platform.specs.Platform.{Counts, IsHostRow, IsLinkList, IsLinkRow, IsPlatform, IsSpokeRow, IsZoneRow, counts_of}
-use Rattle.sg_platform.specs.declared.rows.HostRow.{HostRow}
-use Rattle.sg_platform.specs.declared.rows.LinkRow.{LinkRow}
-use Rattle.sg_platform.specs.declared.rows.SpokeRow.{SpokeRow}
-use Rattle.sg_platform.specs.declared.rows.ZoneRow.{ZoneRow}
-use Rattle.sg_rules.specs.Rules.{is_name}
+use Rattle.sg_rows.specs.Ends.{ends_from, link_ends}
+use Rattle.sg_rows.specs.OfRows.{AreDistinct, AreNames, AreRows, IsOfRow, names_of_link, platform_with, point_names}
+use Rattle.sg_rows.specs.Platform.{Counts, IsHostRow, IsLinkList, IsLinkRow, IsPlatform, IsSpokeRow, IsZoneRow, counts_of}
+use Rattle.sg_rows.specs.declared.rows.HostRow.{HostRow}
+use Rattle.sg_rows.specs.declared.rows.LinkRow.{LinkRow}
+use Rattle.sg_rows.specs.declared.rows.SpokeRow.{SpokeRow}
+use Rattle.sg_rows.specs.declared.rows.ZoneRow.{ZoneRow}
+use Rattle.sg_tree.specs.Spelling.{is_name}
 
 one_to : (n most : ℕ) → 0 < most → (1 ≤ 1 + n % most) × (1 + n % most ≤ most)
 one_to n most some = (omega arith, omega (arith, mod_below n most some))

@@ -3,7 +3,7 @@ use Rattle.std.proofs.Common.{◌≡◌, ◌≢◌, ℕ, zero, suc, ◌+◌, ◌
 use Rattle.std.proofs.lemmas.List.FromFn.{get_or-map-range_with_len, length-map-range_with_len, map-range_with_len_more}
 use Rattle.std.specs.List.{All}
 use Rattle.sg_churn.specs.Generated.{rows}
-use Rattle.sg_platform.specs.OfRows.{AreDistinct}
+use Rattle.sg_rows.specs.OfRows.{AreDistinct}
 
 pub length-rows : {A : Type 0} (f : ℕ → A) (count : ℕ) → length (rows f count) ≡ count
 length-rows f count = length-map-range_with_len f 0 count

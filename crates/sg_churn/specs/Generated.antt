@@ -4,17 +4,17 @@ use Rattle.std.specs.List.{range_with_len}
 use Rattle.sg_base.specs.Draw.{drawn, next_state}
 use Rattle.sg_base.specs.declared.ids.Child.TheVariants.{Point}
 use Rattle.sg_base.specs.declared.ids.LinkId.{LinkId}
-use Rattle.sg_platform.specs.Deployment.{Deployed}
-use Rattle.sg_platform.specs.OfRows.{deployed_with, platform_with}
-use Rattle.sg_platform.specs.Platform.{Platform}
-use Rattle.sg_platform.specs.declared.rows.ActorRow.{ActorRow}
-use Rattle.sg_platform.specs.declared.rows.Function.TheVariants.{Churn}
-use Rattle.sg_platform.specs.declared.rows.HostRow.{HostRow}
-use Rattle.sg_platform.specs.declared.rows.LinkRow.{LinkRow}
-use Rattle.sg_platform.specs.declared.rows.Policy.TheVariants.{Shared}
-use Rattle.sg_platform.specs.declared.rows.Routing.TheVariants.{Star}
-use Rattle.sg_platform.specs.declared.rows.SpokeRow.{SpokeRow}
-use Rattle.sg_platform.specs.declared.rows.ZoneRow.{ZoneRow}
+use Rattle.sg_rows.specs.Deployment.{Deployed}
+use Rattle.sg_rows.specs.OfRows.{deployed_with, platform_with}
+use Rattle.sg_rows.specs.Platform.{Platform}
+use Rattle.sg_rows.specs.declared.rows.ActorRow.{ActorRow}
+use Rattle.sg_rows.specs.declared.rows.Function.TheVariants.{Churn}
+use Rattle.sg_rows.specs.declared.rows.HostRow.{HostRow}
+use Rattle.sg_rows.specs.declared.rows.LinkRow.{LinkRow}
+use Rattle.sg_rows.specs.declared.rows.Policy.TheVariants.{Shared}
+use Rattle.sg_rows.specs.declared.rows.Routing.TheVariants.{Star}
+use Rattle.sg_rows.specs.declared.rows.SpokeRow.{SpokeRow}
+use Rattle.sg_rows.specs.declared.rows.ZoneRow.{ZoneRow}
 
 -- the state of the generator behind so many draws
 unfoldable pub state_after : ℕ → ℕ → ℕ

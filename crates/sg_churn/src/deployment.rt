@@ -1,11 +1,11 @@
 //! The actors of a churn.
 ghost use Rattle.std.specs.Prelude.{◌≡◌, ◌<◌, ◌≤◌, ◌^◌, IfOk};
 ghost use Rattle.sg_churn.specs.Generated.{actor_of, deployed_of_seed, platform_of_seed, rows};
-ghost use Rattle.sg_platform.specs.Deployment.{IsDeployedOn};
+ghost use Rattle.sg_rows.specs.Deployment.{IsDeployedOn};
 
 use crate::names::row_name;
 use sg_base::{ActorId, Memory, PointId};
-use sg_platform::{ActorRow, Deployment, Function, PlatformText};
+use sg_rows::{ActorRow, Deployment, Function, PlatformText};
 use std::alloc::Global;
 
 fn actor_row(
@@ -60,7 +60,8 @@ pub fn churn_deployment(
     requires ring { 2 ≤ actors }
     requires few { actors ≤ 4096 }
     requires steps { steps ≤ 1000000 }
-    ensures deployment { IfOk result (λ deployment. deployment ≡ deployed_of_seed seed actors steps) }
+    ensures deployment { IfOk result
+        (λ deployment. deployment ≡ deployed_of_seed seed actors steps) }
     ensures deployed { IfOk result (IsDeployedOn platform.now) }
 {
     let rows = actor_rows(alloc, seed, actors, steps)?;

@@ -5,7 +5,7 @@ ghost use Rattle.sg_churn.specs.Generated.{backbone, host_of, host_with, link_of
 use crate::names::row_name;
 use sg_actor::draw;
 use sg_base::{Child, LinkId, Links, Memory, PointId, Text, ZoneId};
-use sg_platform::{HostRow, LinkRow, PlatformText, Policy, Routing, SpokeRow, ZoneRow};
+use sg_rows::{HostRow, LinkRow, PlatformText, Policy, Routing, SpokeRow, ZoneRow};
 use std::alloc::Global;
 
 /// The only zone.

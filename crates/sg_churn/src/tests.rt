@@ -1,6 +1,6 @@
 use crate::{churn_deployment, churn_platform};
 use sg_base::LinkId;
-use sg_platform::{ActorRow, Function, PlatformText};
+use sg_rows::{ActorRow, Function, PlatformText};
 use std::alloc::{AllocError, Global};
 use std::test::Fail;
 

@@ -1,12 +1,12 @@
 -- What the parts show, and what the calls do to them.
-use Rattle.std.specs.Prelude.{◌≡◌, ◌≢◌, ◌<◌, ◌≤◌, ◌++◌, ℕ, List, [], length, Option, None, Some, if◌then◌else◌, ◌==◌, IsSome, IfSome}
+use Rattle.std.specs.Prelude.{◌≡◌, ◌≢◌, ◌<◌, ◌≤◌, ◌++◌, ℕ, List, [], length, Option, None, Some, if◌then◌else◌, ◌==◌, IsSome, IfSome, ⊤}
 use Rattle.sg_edge.specs.declared.files.Part.{Part}
 use Rattle.sg_edge.specs.declared.files.Part.TheVariants.{Platform, Deployment, Script}
 use Rattle.sg_edge.specs.declared.files.Stage.{Stage}
 use Rattle.sg_edge.specs.declared.files.Stage.TheVariants.{Fresh, Begun, Over, Broken}
 
--- the stage of a part, the name under which it was begun and the bytes that are left, where these are told, and how
--- many of its calls have failed
+-- the stage of a part, the name under which it was begun and the bytes that are left, where these
+-- are told, and how many of its calls have failed
 pub record PartView : Type 0 where
   pub stage : Stage
   pub name : Option (List ℕ)
@@ -20,7 +20,7 @@ before bytes (Some rest) = Some (bytes ++ rest)
 
 -- no bytes are left, where they are told
 abbrev pub NoneLeft : Option (List ℕ) → Type 0
-NoneLeft None = Unit {0}
+NoneLeft None = ⊤
 NoneLeft (Some rest) = rest ≡ []
 
 -- a part that tells a name was begun under this one
@@ -55,13 +55,15 @@ Only part old new = (q : Part) → q ≢ part → new q ≡ old q
 
 -- from this part on nothing changed
 abbrev pub SameFrom : Part → (Part → PartView) → (Part → PartView) → Type 0
-SameFrom Platform old new = (new Platform ≡ old Platform) × (new Deployment ≡ old Deployment) × (new Script ≡ old Script)
+SameFrom Platform old new =
+    (new Platform ≡ old Platform) × (new Deployment ≡ old Deployment) × (new Script ≡ old Script)
 SameFrom Deployment old new = (new Deployment ≡ old Deployment) × (new Script ≡ old Script)
 SameFrom Script old new = new Script ≡ old Script
 
 -- some part is broken, and its count rose
 abbrev pub SomeBroke : (Part → PartView) → (Part → PartView) → Type 0
-SomeBroke old new = (part : Part) × ((new part).stage ≡ Broken) × ((old part).faults < (new part).faults)
+SomeBroke old new =
+    (part : Part) × ((new part).stage ≡ Broken) × ((old part).faults < (new part).faults)
 
 -- at most so many bytes were taken
 pub record TakesUpTo (most : ℕ) (old new : PartView) : Type 0 where
@@ -90,6 +92,14 @@ pub record ReadsFault (limit : ℕ) (old new : PartView) : Type 0 where
   pub left : old.left ≡ before bytes new.left
   pub fewer : length bytes < limit
   pub faults : old.faults < new.faults
+
+-- how many calls of a part have failed that fails at most once, since no call of it follows one
+-- that failed
+abbrev pub fault_count : Stage → ℕ
+fault_count Fresh = 0
+fault_count Begun = 0
+fault_count Over = 0
+fault_count Broken = 1
 
 -- a part with these bytes, none of them taken
 abbrev pub fresh_view : List ℕ → PartView

@@ -1,9 +1,9 @@
-pub mod Calls
 pub mod Cause
 pub mod Files
-pub mod Given
 pub mod MemFiles
 pub mod MemSinks
 pub mod Sinks
+pub mod Sources
 pub mod SureFiles
 pub mod SureSinks
+pub mod kept

@@ -1,18 +1,22 @@
 -- What streams in memory hold, and when their writes fail.
-use Rattle.std.specs.Prelude.{◌≡◌, ◌+◌, ◌-◌, ◌==◌, ◌||◌, ℕ, Bool, List, [], length, min}
+use Rattle.std.specs.Prelude.{◌≡◌, ◌+◌, ◌-◌, ◌==◌, ◌||◌, ℕ, Bool, List, [], length, min, Option, Some}
 use Rattle.std.specs.List.{list_any}
 use Rattle.sg_edge.specs.declared.sinks.Stream.{Stream}
 use Rattle.sg_edge.specs.declared.sinks.Stream.TheVariants.{Out, Err}
 use Rattle.sg_edge.specs.declared.mem_stream.MemStream.{MemStream}
 use Rattle.sg_edge.specs.declared.mem_sinks.MemSinks.{MemSinks}
-use Rattle.sg_edge.specs.Calls.{one_if}
+use Rattle.sg_edge.specs.Sinks.{one_if}
 
 abbrev pub mem_stream : MemSinks → Stream → MemStream
 mem_stream m Out = m.out
 mem_stream m Err = m.err
 
-abbrev pub mem_held : MemSinks → Stream → List ℕ
-mem_held m to = (mem_stream m to).bytes.items
+-- the bytes that were written
+abbrev pub mem_text : MemSinks → Stream → List ℕ
+mem_text m to = (mem_stream m to).bytes.items
+
+abbrev pub mem_contents : MemSinks → Stream → Option (List ℕ)
+mem_contents m to = Some (mem_text m to)
 
 -- how many bytes a stream can hold
 abbrev pub room_of : MemSinks → Stream → ℕ
@@ -35,16 +39,17 @@ mem_faults m = one_if m.broken
 
 -- the next write is among those that are to fail, or its stream is full
 abbrev pub write_fails : MemSinks → Stream → Bool
-write_fails m to = list_any (λ n. n == writes_of m + 1) (failing_of m) || (room_of m to == length (mem_held m to))
+write_fails m to =
+    list_any (λ n. n == writes_of m + 1) (failing_of m) || (room_of m to == length (mem_text m to))
 
 -- how many bytes of a piece of so many a write takes that doesn't fail
 abbrev pub most_taken : MemSinks → Stream → ℕ → ℕ
-most_taken m to n = min (min n (piece_of m)) (room_of m to - length (mem_held m to))
+most_taken m to n = min (min n (piece_of m)) (room_of m to - length (mem_text m to))
 
 -- nothing was written to streams of these rooms
 pub record StartsEmpty (out err : ℕ) (numbers : List ℕ) (most : ℕ) (m : MemSinks) : Type 0 where
-  pub held_out : mem_held m Out ≡ []
-  pub held_err : mem_held m Err ≡ []
+  pub out_empty : mem_text m Out ≡ []
+  pub err_empty : mem_text m Err ≡ []
   pub room_out : room_of m Out ≡ out
   pub room_err : room_of m Err ≡ err
   pub failing : failing_of m ≡ numbers

@@ -59,7 +59,8 @@ pub trait Files {
         requires begun { (shows self.old part).stage ≡ Begun }
         requires room { 0 < length buf.old }
         ensures count { IfOk result (λ n. n ≤ length buf.new) }
-        ensures took { IfOk result (λ n. Takes (take n buf.new) (shows self.old part) (shows self.new part)) }
+        ensures took { IfOk result
+            (λ n. Takes (take n buf.new) (shows self.old part) (shows self.new part)) }
         ensures failed { OnErr result (Breaks (shows self.old part) (shows self.new part)) }
         ensures others { Only part (shows self.old) (shows self.new) };
 
@@ -68,8 +69,10 @@ pub trait Files {
         ensures { result ≡ (shows self.now part).stage };
 
     /// A part that isn't begun has no name.
-    ghost unnamed: { (files : Self) (part : Part) → (shows files part).stage ≡ Fresh → (shows files part).name ≡ None };
+    ghost unnamed: { (files : Self) (part : Part)
+        → (shows files part).stage ≡ Fresh → (shows files part).name ≡ None };
 
     /// Of a part that is over nothing is left, where that is told.
-    ghost nothing_left: { (files : Self) (part : Part) → (shows files part).stage ≡ Over → NoneLeft (shows files part).left };
+    ghost nothing_left: { (files : Self) (part : Part)
+        → (shows files part).stage ≡ Over → NoneLeft (shows files part).left };
 }

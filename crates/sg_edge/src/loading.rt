@@ -3,7 +3,7 @@ ghost use Rattle.std.specs.Prelude.{◌≡◌, ◌+◌, ◌<◌, ◌^◌, IfOk, 
 ghost use Rattle.sg_edge.specs.declared.files.Stage.TheVariants.{Fresh, Begun};
 ghost use Rattle.sg_edge.specs.declared.loading.ReadError.TheVariants.{Memory, Fault};
 ghost use Rattle.sg_edge.specs.Files.{Only, KeepsTelling, IsNamed, ReadsWhole, ReadsFault, TakesUpTo};
-ghost use Rattle.sg_edge.specs.Given.{Source, Gives, LoadedIs, FaultIs, IsFew, StopsBehind};
+ghost use Rattle.sg_edge.specs.Sources.{Source, Gives, LoadedIs, FaultIs, IsFew, StopsBehind};
 
 use crate::files::{Failed, Files, Part};
 use std::alloc::{AllocError, Global};
@@ -56,9 +56,12 @@ pub fn read_whole<F: Files>(
     limit: usize,
 ) -> Result<Vec<u8>, ReadError>
     requires { (F.shows files.old part).stage ≡ Begun }
-    ensures whole { IfOk result (λ bytes. ReadsWhole limit bytes.items (F.shows files.old part) (F.shows files.new part)) }
-    ensures fault { IsErrOf result Fault → ReadsFault limit (F.shows files.old part) (F.shows files.new part) }
-    ensures memory { IsErrOf result Memory → (F.shows files.new part).faults ≡ (F.shows files.old part).faults }
+    ensures whole { IfOk result
+        (λ bytes. ReadsWhole limit bytes.items (F.shows files.old part) (F.shows files.new part)) }
+    ensures fault { IsErrOf result Fault
+        → ReadsFault limit (F.shows files.old part) (F.shows files.new part) }
+    ensures memory { IsErrOf result Memory
+        → (F.shows files.new part).faults ≡ (F.shows files.old part).faults }
     ensures most { TakesUpTo limit (F.shows files.old part) (F.shows files.new part) }
     ensures name { (F.shows files.new part).name ≡ (F.shows files.old part).name }
     ensures telling { KeepsTelling (F.shows files.old part) (F.shows files.new part) }
@@ -81,7 +84,8 @@ pub fn read_whole<F: Files>(
 fn load_begun<F: Files>(alloc: Global, files: &mut F, part: Part, most: usize) -> Loaded
     requires begun { (F.shows files.old part).stage ≡ Begun }
     requires most { most + 1 < 2 ^ 64 }
-    ensures given { (source : Source) → Gives (F.shows files.old part) (F.shows files.new part) source → LoadedIs most result source }
+    ensures given { (source : Source)
+        → Gives (F.shows files.old part) (F.shows files.new part) source → LoadedIs most result source }
     ensures fault { FaultIs result (F.shows files.old part) (F.shows files.new part) }
     ensures few { IsFew most result }
     ensures most { TakesUpTo (most + 1) (F.shows files.old part) (F.shows files.new part) }
@@ -109,7 +113,8 @@ fn load_begun<F: Files>(alloc: Global, files: &mut F, part: Part, most: usize) -
 pub fn load<F: Files>(alloc: Global, files: &mut F, part: Part, name: &str, most: usize) -> Loaded
     requires fresh { (F.shows files.old part).stage ≡ Fresh }
     requires most { most + 1 < 2 ^ 64 }
-    ensures given { (source : Source) → Gives (F.shows files.old part) (F.shows files.new part) source → LoadedIs most result source }
+    ensures given { (source : Source)
+        → Gives (F.shows files.old part) (F.shows files.new part) source → LoadedIs most result source }
     ensures fault { FaultIs result (F.shows files.old part) (F.shows files.new part) }
     ensures few { IsFew most result }
     ensures most { TakesUpTo (most + 1) (F.shows files.old part) (F.shows files.new part) }

@@ -1,9 +1,9 @@
 //! Three parts in memory, whose calls fail where they are told to.
-ghost use Rattle.std.specs.Prelude.{◌≡◌, ◌+◌, ◌<◌, ◌≤◌, length, take, min, not, is_ok, bytes_eq, IfOk, OnOk, OnErr};
+ghost use Rattle.std.specs.Prelude.{◌≡◌, ◌+◌, ◌<◌, ◌≤◌, length, take, not, is_ok, bytes_eq, IfOk, OnOk, OnErr};
 ghost use Rattle.std.specs.Option.{option_copied};
 ghost use Rattle.sg_edge.specs.declared.files.Stage.TheVariants.{Fresh, Begun};
-ghost use Rattle.sg_edge.specs.Calls.{steps_of};
 ghost use Rattle.sg_edge.specs.Files.{Begins, Breaks, Takes, Only};
+ghost use Rattle.sg_edge.specs.kept.Parts.{part_steps};
 
 use crate::files::{Failed, Files, Part, Stage};
 use crate::mem_part::MemPart;
@@ -15,7 +15,7 @@ use std::alloc::Global;
 ///
 /// A call fails exactly where its number is among those to fail, or it begins a part that isn't there, or under
 /// another name than its own. The names are `p`, `d` and `s` at first. Calls of `begin` and `read` are counted
-/// together from 1. A read takes as many bytes as there are and the buffer holds.
+/// together from 1. A read gives as many bytes as there are, the buffer holds, and one read of that part gives.
 #[derive(Drop)]
 pub struct MemFiles {
     platform: MemPart,
@@ -24,11 +24,11 @@ pub struct MemFiles {
     failing: Vec<u64>,
     calls: u128,
     // Each call takes a byte or moves a stage on, so the count of calls can't wrap.
-    ghost few: { calls ≤ (platform.taken + steps_of platform.stage) + (deployment.taken + steps_of deployment.stage) + (script.taken + steps_of script.stage) },
+    ghost few: { calls ≤ part_steps platform + part_steps deployment + part_steps script },
 }
 
 impl MemFiles {
-    ghost use Rattle.sg_edge.specs.MemFiles.{calls_of, failing_of, mem_left, mem_view, name_of, Renames, StartsAs};
+    ghost use Rattle.sg_edge.specs.MemFiles.{calls_of, failing_of, mem_left, mem_view, name_of, Renames, SetsPiece, StartsAs};
 
     /// Parts with these bytes, or none, and the numbers of the calls that are to fail.
     pub fn new(
@@ -38,9 +38,9 @@ impl MemFiles {
         script: Option<&[u8]>,
         failing: &[u64],
     ) -> Result<MemFiles, Memory>
-        ensures platform { IfOk result (λ m. StartsAs m Part.Platform (option_copied platform.entry)) }
-        ensures deployment { IfOk result (λ m. StartsAs m Part.Deployment (option_copied deployment.entry)) }
-        ensures script { IfOk result (λ m. StartsAs m Part.Script (option_copied script.entry)) }
+        ensures platform { IfOk result (StartsAs Part.Platform (option_copied platform.entry)) }
+        ensures deployment { IfOk result (StartsAs Part.Deployment (option_copied deployment.entry)) }
+        ensures script { IfOk result (StartsAs Part.Script (option_copied script.entry)) }
         ensures failing { IfOk result (λ m. failing_of m ≡ failing.now) }
         ensures calls { IfOk result (λ m. calls_of m ≡ 0) }
     {
@@ -68,6 +68,18 @@ impl MemFiles {
         Ok(())
     }
 
+    /// Sets the greatest count that one read of a part gives. At first there is none.
+    pub fn pieces(&mut self, part: Part, n: usize)
+        requires { 0 < n }
+        ensures { SetsPiece part n self.old self.new }
+    {
+        match part {
+            Part::Platform => self.platform.piece = n,
+            Part::Deployment => self.deployment.piece = n,
+            Part::Script => self.script.piece = n,
+        }
+    }
+
     fn is_named(&self, part: Part, name: &str) -> bool
         ensures { result ≡ bytes_eq (name_of self.now part) name.now }
     {
@@ -91,7 +103,7 @@ impl MemFiles {
 }
 
 impl Files for MemFiles {
-    ghost use Rattle.sg_edge.specs.MemFiles.{mem_view, mem_over, mem_unnamed, call_fails, can_begin, mem_left, CountsCall};
+    ghost use Rattle.sg_edge.specs.MemFiles.{mem_view, mem_over, mem_unnamed, call_fails, can_begin, read_count, CountsCall};
 
     ghost shows = { mem_view };
 
@@ -101,7 +113,8 @@ impl Files for MemFiles {
 
     fn begin(&mut self, part: Part, name: &str) -> Result<(), Failed>
         requires { (mem_view self.old part).stage ≡ Fresh }
-        ensures begun { OnOk result (Begins name.now (mem_view self.old part) (mem_view self.new part)) }
+        ensures begun { OnOk result
+            (Begins name.now (mem_view self.old part) (mem_view self.new part)) }
         ensures failed { OnErr result (Breaks (mem_view self.old part) (mem_view self.new part)) }
         ensures others { Only part (mem_view self.old) (mem_view self.new) }
         ensures exact { is_ok result ≡ can_begin self.old part name.now }
@@ -121,8 +134,9 @@ impl Files for MemFiles {
         requires begun { (mem_view self.old part).stage ≡ Begun }
         requires room { 0 < length buf.old }
         ensures count { IfOk result (λ n. n ≤ length buf.new) }
-        ensures most { IfOk result (λ n. n ≡ min (length buf.old) (length (mem_left self.old part))) }
-        ensures took { IfOk result (λ n. Takes (take n buf.new) (mem_view self.old part) (mem_view self.new part)) }
+        ensures most { IfOk result (λ n. n ≡ read_count self.old part (length buf.old)) }
+        ensures took { IfOk result
+            (λ n. Takes (take n buf.new) (mem_view self.old part) (mem_view self.new part)) }
         ensures failed { OnErr result (Breaks (mem_view self.old part) (mem_view self.new part)) }
         ensures others { Only part (mem_view self.old) (mem_view self.new) }
         ensures exact { is_ok result ≡ not (call_fails self.old) }

@@ -1,31 +1,32 @@
 //! One part in memory.
-ghost use Rattle.std.specs.Prelude.{◌≡◌, ◌+◌, ◌<◌, ◌≤◌, ◌&&◌, length, take, drop, min, not, is_ok, false, IfOk, OnOk, OnErr, string_bytes};
+ghost use Rattle.std.specs.Prelude.{◌≡◌, ◌+◌, ◌<◌, ◌≤◌, ◌&&◌, length, take, not, is_ok, false, IfOk, OnOk, OnErr, string_bytes};
 ghost use Rattle.std.specs.Option.{option_copied};
 ghost use Rattle.sg_edge.specs.declared.files.Stage.TheVariants.{Fresh, Begun, Over};
-ghost use Rattle.sg_edge.specs.Calls.{steps_of};
 ghost use Rattle.sg_edge.specs.Files.{Begins, Breaks, Takes};
 
 use crate::files::{Failed, Stage};
 use sg_base::Memory;
 use std::alloc::Global;
 
-/// The bytes of a part and its name, how many bytes were taken, whether it was begun, and whether there is such a
-/// part at all.
+/// The bytes of a part and its name, whether there is such a part at all, the most bytes that one read takes, how
+/// many were taken, and whether it was begun.
 #[derive(Drop)]
 pub struct MemPart {
     pub bytes: Vec<u8>,
     pub name: String,
     pub there: bool,
+    pub piece: usize,
     pub begun: bool,
     pub taken: usize,
     pub stage: Stage,
+    ghost some: { 0 < piece },
     ghost in_range: { taken ≤ length bytes.items },
     ghost unbegun: { stage ≡ Fresh → begun ≡ false },
     ghost ended: { stage ≡ Over → taken ≡ length bytes.items },
 }
 
 impl MemPart {
-    ghost use Rattle.sg_edge.specs.MemFiles.{part_view, IsFreshPart};
+    ghost use Rattle.sg_edge.specs.kept.Parts.{part_read, part_steps, part_view, IsFreshPart, KeepsPart};
 
     pub fn new(alloc: Global, bytes: Option<&[u8]>, name: &str) -> Result<MemPart, Memory>
         ensures { IfOk result (IsFreshPart (option_copied bytes.entry) name.now) }
@@ -38,6 +39,7 @@ impl MemPart {
             bytes: items,
             name: String::from_str(alloc, name)?,
             there,
+            piece: usize::MAX,
             begun: false,
             taken: 0,
             stage: Stage::Fresh,
@@ -46,12 +48,12 @@ impl MemPart {
 
     pub fn begin(&mut self, fails: bool) -> Result<(), Failed>
         requires { self.old.stage ≡ Fresh }
-        ensures begun { OnOk result (Begins (string_bytes self.old.name) (part_view self.old) (part_view self.new)) }
+        ensures begun { OnOk result
+            (Begins (string_bytes self.old.name) (part_view self.old) (part_view self.new)) }
         ensures failed { OnErr result (Breaks (part_view self.old) (part_view self.new)) }
         ensures exact { is_ok result ≡ (self.old.there && not fails) }
-        ensures there { self.new.there ≡ self.old.there }
-        ensures name { self.new.name ≡ self.old.name }
-        ensures steps { self.old.taken + steps_of self.old.stage + 1 ≤ self.new.taken + steps_of self.new.stage }
+        ensures rest { KeepsPart self.old self.new }
+        ensures steps { part_steps self.old + 1 ≤ part_steps self.new }
     {
         if fails || !self.there {
             self.stage = Stage::Broken;
@@ -66,19 +68,20 @@ impl MemPart {
         requires begun { self.old.stage ≡ Begun }
         requires room { 0 < length buf.old }
         ensures count { IfOk result (λ n. n ≤ length buf.new) }
-        ensures most { IfOk result (λ n. n ≡ min (length buf.old) (length (drop self.old.taken self.old.bytes.items))) }
-        ensures took { IfOk result (λ n. Takes (take n buf.new) (part_view self.old) (part_view self.new)) }
+        ensures most { IfOk result (λ n. n ≡ part_read self.old (length buf.old)) }
+        ensures took { IfOk result
+            (λ n. Takes (take n buf.new) (part_view self.old) (part_view self.new)) }
         ensures failed { OnErr result (Breaks (part_view self.old) (part_view self.new)) }
         ensures exact { is_ok result ≡ not fails }
-        ensures there { self.new.there ≡ self.old.there }
-        ensures name { self.new.name ≡ self.old.name }
-        ensures steps { self.old.taken + steps_of self.old.stage + 1 ≤ self.new.taken + steps_of self.new.stage }
+        ensures rest { KeepsPart self.old self.new }
+        ensures steps { part_steps self.old + 1 ≤ part_steps self.new }
     {
         if fails {
             self.stage = Stage::Broken;
             return Err(Failed);
         }
-        let n = buf.len().min(self.bytes.len() - self.taken);
+        let most = buf.len().min(self.piece);
+        let n = most.min(self.bytes.len() - self.taken);
         let end = self.taken + n;
         buf[..n].copy_from_slice(&self.bytes[self.taken..end]);
         self.taken = end;

@@ -1,7 +1,6 @@
 //! Two streams in memory, whose writes fail where they are told to, or where the room is used up.
-ghost use Rattle.std.specs.Prelude.{◌≡◌, ◌+◌, ◌<◌, ◌≤◌, length, take, not, is_ok, IfOk, OnOk, OnErr, Some};
-ghost use Rattle.sg_edge.specs.Calls.{one_if};
-ghost use Rattle.sg_edge.specs.Sinks.{gain, SameBut};
+ghost use Rattle.std.specs.Prelude.{◌≡◌, ◌+◌, ◌<◌, ◌≤◌, length, take, not, is_ok, IfOk, OnOk, OnErr};
+ghost use Rattle.sg_edge.specs.Sinks.{gain, one_if, SameBut};
 
 use crate::files::Failed;
 use crate::mem_stream::MemStream;
@@ -29,7 +28,7 @@ pub struct MemSinks {
 }
 
 impl MemSinks {
-    ghost use Rattle.sg_edge.specs.MemSinks.{mem_held, StartsEmpty};
+    ghost use Rattle.sg_edge.specs.MemSinks.{mem_text, StartsEmpty};
 
     /// Empty streams with so much room, the numbers of the writes that are to fail, and the most that one write
     /// takes. Their memory is taken here.
@@ -55,7 +54,7 @@ impl MemSinks {
 
     /// What a stream holds.
     pub fn held(&self, to: Stream) -> &[u8]
-        ensures { result.now ≡ mem_held self.now to }
+        ensures { result.now ≡ mem_text self.now to }
     {
         match to {
             Stream::Out => &self.out.bytes,
@@ -65,9 +64,9 @@ impl MemSinks {
 }
 
 impl Sinks for MemSinks {
-    ghost use Rattle.sg_edge.specs.MemSinks.{mem_held, mem_faults, write_fails, most_taken, CountsWrite};
+    ghost use Rattle.sg_edge.specs.MemSinks.{mem_contents, mem_faults, write_fails, most_taken, CountsWrite};
 
-    ghost held = { λ m s. Some (mem_held m s) };
+    ghost contents = { mem_contents };
 
     ghost faults = { mem_faults };
 
@@ -76,11 +75,12 @@ impl Sinks for MemSinks {
         requires sound { mem_faults self.old ≡ 0 }
         ensures count { IfOk result (λ n. (0 < n) × (n ≤ length piece.now)) }
         ensures most { IfOk result (λ n. n ≡ most_taken self.old to (length piece.now)) }
-        ensures wrote { IfOk result (λ n. Some (mem_held self.new to) ≡ gain (Some (mem_held self.old to)) (take n piece.now)) }
+        ensures wrote { IfOk result
+            (λ n. mem_contents self.new to ≡ gain (mem_contents self.old to) (take n piece.now)) }
         ensures sound { OnOk result (mem_faults self.new ≡ mem_faults self.old) }
-        ensures nothing { OnErr result (Some (mem_held self.new to) ≡ Some (mem_held self.old to)) }
+        ensures nothing { OnErr result (mem_contents self.new to ≡ mem_contents self.old to) }
         ensures failed { OnErr result (mem_faults self.old < mem_faults self.new) }
-        ensures other { SameBut to (λ s. Some (mem_held self.old s)) (λ s. Some (mem_held self.new s)) }
+        ensures other { SameBut to (mem_contents self.old) (mem_contents self.new) }
         ensures exact { is_ok result ≡ not (write_fails self.old to) }
         ensures counted { CountsWrite self.old self.new }
     {

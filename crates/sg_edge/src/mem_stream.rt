@@ -1,5 +1,5 @@
 //! One stream in memory.
-ghost use Rattle.std.specs.Prelude.{◌≡◌, ◌-◌, ◌<◌, ◌≤◌, ◌↔◌, ◌++◌, [], length, take, min, IsNone, IfSome, IfOk, IfNone, vec_capacity};
+ghost use Rattle.std.specs.Prelude.{◌≡◌, ◌<◌, ◌≤◌, ◌↔◌, ◌++◌, [], length, take, IsNone, IfSome, IfOk, IfNone, vec_capacity};
 
 use sg_base::Memory;
 use std::alloc::Global;
@@ -14,6 +14,8 @@ pub struct MemStream {
 }
 
 impl MemStream {
+    ghost use Rattle.sg_edge.specs.kept.Streams.{stream_taken};
+
     pub fn new(alloc: Global, room: usize) -> Result<MemStream, Memory>
         ensures { IfOk result (λ m. (m.bytes.items ≡ []) × (m.room ≡ room)) }
     {
@@ -27,8 +29,9 @@ impl MemStream {
     pub fn write(&mut self, text: &[u8], piece: usize) -> Option<usize>
         requires some { 0 < length text.now }
         requires piece { 0 < piece }
-        ensures wrote { IfSome result (λ n. self.new.bytes.items ≡ self.old.bytes.items ++ take n text.now) }
-        ensures most { IfSome result (λ n. n ≡ min (min (length text.now) piece) (self.old.room - length self.old.bytes.items)) }
+        ensures wrote { IfSome result
+            (λ n. self.new.bytes.items ≡ self.old.bytes.items ++ take n text.now) }
+        ensures most { IfSome result (λ n. n ≡ stream_taken self.old (length text.now) piece) }
         ensures count { IfSome result (λ n. (0 < n) × (n ≤ length text.now)) }
         ensures full { IsNone result ↔ (self.old.room ≡ length self.old.bytes.items) }
         ensures none { IfNone result (self.new.bytes.items ≡ self.old.bytes.items) }

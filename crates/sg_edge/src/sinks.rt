@@ -19,7 +19,7 @@ pub enum Stream {
 /// one that failed, a truth value serves an implementation as its count.
 pub trait Sinks {
     /// What each stream holds, where that is told.
-    ghost held: { Self → Stream → Option (List ℕ) };
+    ghost contents: { Self → Stream → Option (List ℕ) };
 
     /// How many writes have failed.
     ghost faults: { Self → ℕ };
@@ -31,11 +31,12 @@ pub trait Sinks {
         requires some { 0 < length piece.now }
         requires sound { faults self.old ≡ 0 }
         ensures count { IfOk result (λ n. (0 < n) × (n ≤ length piece.now)) }
-        ensures wrote { IfOk result (λ n. held self.new to ≡ gain (held self.old to) (take n piece.now)) }
+        ensures wrote { IfOk result
+            (λ n. contents self.new to ≡ gain (contents self.old to) (take n piece.now)) }
         ensures sound { OnOk result (faults self.new ≡ faults self.old) }
-        ensures nothing { OnErr result (held self.new to ≡ held self.old to) }
+        ensures nothing { OnErr result (contents self.new to ≡ contents self.old to) }
         ensures failed { OnErr result (faults self.old < faults self.new) }
-        ensures other { SameBut to (held self.old) (held self.new) };
+        ensures other { SameBut to (contents self.old) (contents self.new) };
 }
 
 /// Appends the whole text, piece by piece.
@@ -43,11 +44,11 @@ pub trait Sinks {
 /// After a failure the stream has gained a front of the text, maybe an empty one, and the count has risen.
 pub fn write_all<O: Sinks>(out: &mut O, to: Stream, text: &[u8]) -> Result<(), Failed>
     requires { O.faults out.old ≡ 0 }
-    ensures wrote { OnOk result (O.held out.new to ≡ gain (O.held out.old to) text.now) }
+    ensures wrote { OnOk result (O.contents out.new to ≡ gain (O.contents out.old to) text.now) }
     ensures sound { OnOk result (O.faults out.new ≡ 0) }
-    ensures front { OnErr result (GainsFront text.now (O.held out.old to) (O.held out.new to)) }
+    ensures front { OnErr result (GainsFront text.now (O.contents out.old to) (O.contents out.new to)) }
     ensures failed { OnErr result (0 < O.faults out.new) }
-    ensures other { SameBut to (O.held out.old) (O.held out.new) }
+    ensures other { SameBut to (O.contents out.old) (O.contents out.new) }
 {
     let mut rest = text;
     while !rest.is_empty() {

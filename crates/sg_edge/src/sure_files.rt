@@ -1,7 +1,8 @@
 //! Three parts in memory that never fail.
-ghost use Rattle.std.specs.Prelude.{◌≡◌, ◌<◌, ◌≤◌, length, take, min, IsOk, IfOk, OnOk, OnErr, true};
+ghost use Rattle.std.specs.Prelude.{◌≡◌, ◌<◌, ◌≤◌, length, take, min, IsOk, IfOk, OnOk, OnErr};
 ghost use Rattle.sg_edge.specs.declared.files.Stage.TheVariants.{Fresh, Begun};
 ghost use Rattle.sg_edge.specs.Files.{Begins, Breaks, Takes, Only};
+ghost use Rattle.sg_edge.specs.kept.Parts.{IsSurePart};
 
 use crate::files::{Failed, Files, Part, Stage};
 use crate::mem_part::MemPart;
@@ -15,9 +16,9 @@ pub struct SureFiles {
     platform: MemPart,
     deployment: MemPart,
     script: MemPart,
-    ghost platform_there: { platform.there ≡ true },
-    ghost deployment_there: { deployment.there ≡ true },
-    ghost script_there: { script.there ≡ true },
+    ghost platform_sure: { IsSurePart platform },
+    ghost deployment_sure: { IsSurePart deployment },
+    ghost script_sure: { IsSurePart script },
 }
 
 impl SureFiles {
@@ -31,9 +32,12 @@ impl SureFiles {
         deployment: &[u8],
         script: &[u8],
     ) -> Result<SureFiles, Memory>
-        ensures platform { IfOk result (λ m. sure_view m Part.Platform ≡ fresh_view platform.now) }
-        ensures deployment { IfOk result (λ m. sure_view m Part.Deployment ≡ fresh_view deployment.now) }
-        ensures script { IfOk result (λ m. sure_view m Part.Script ≡ fresh_view script.now) }
+        ensures platform { IfOk result
+            (λ m. sure_view m Part.Platform ≡ fresh_view platform.now) }
+        ensures deployment { IfOk result
+            (λ m. sure_view m Part.Deployment ≡ fresh_view deployment.now) }
+        ensures script { IfOk result
+            (λ m. sure_view m Part.Script ≡ fresh_view script.now) }
     {
         Ok(SureFiles {
             platform: MemPart::new(alloc, Some(platform), "p")?,
@@ -54,7 +58,8 @@ impl Files for SureFiles {
 
     fn begin(&mut self, part: Part, name: &str) -> Result<(), Failed>
         requires { (sure_view self.old part).stage ≡ Fresh }
-        ensures begun { OnOk result (Begins name.now (sure_view self.old part) (sure_view self.new part)) }
+        ensures begun { OnOk result
+            (Begins name.now (sure_view self.old part) (sure_view self.new part)) }
         ensures failed { OnErr result (Breaks (sure_view self.old part) (sure_view self.new part)) }
         ensures others { Only part (sure_view self.old) (sure_view self.new) }
         ensures sure { IsOk result }
@@ -70,8 +75,10 @@ impl Files for SureFiles {
         requires begun { (sure_view self.old part).stage ≡ Begun }
         requires room { 0 < length buf.old }
         ensures count { IfOk result (λ n. n ≤ length buf.new) }
-        ensures most { IfOk result (λ n. n ≡ min (length buf.old) (length (sure_left self.old part))) }
-        ensures took { IfOk result (λ n. Takes (take n buf.new) (sure_view self.old part) (sure_view self.new part)) }
+        ensures most { IfOk result
+            (λ n. n ≡ min (length buf.old) (length (sure_left self.old part))) }
+        ensures took { IfOk result
+            (λ n. Takes (take n buf.new) (sure_view self.old part) (sure_view self.new part)) }
         ensures failed { OnErr result (Breaks (sure_view self.old part) (sure_view self.new part)) }
         ensures others { Only part (sure_view self.old) (sure_view self.new) }
         ensures sure { IsOk result }

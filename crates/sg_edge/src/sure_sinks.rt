@@ -16,9 +16,9 @@ impl SureSinks {
 }
 
 impl Sinks for SureSinks {
-    ghost use Rattle.sg_edge.specs.SureSinks.{sure_held, sure_faults};
+    ghost use Rattle.sg_edge.specs.SureSinks.{sure_contents, sure_faults};
 
-    ghost held = { sure_held };
+    ghost contents = { sure_contents };
 
     ghost faults = { sure_faults };
 
@@ -26,11 +26,12 @@ impl Sinks for SureSinks {
         requires some { 0 < length piece.now }
         requires sound { sure_faults self.old ≡ 0 }
         ensures count { IfOk result (λ n. (0 < n) × (n ≤ length piece.now)) }
-        ensures wrote { IfOk result (λ n. sure_held self.new to ≡ gain (sure_held self.old to) (take n piece.now)) }
+        ensures wrote { IfOk result
+            (λ n. sure_contents self.new to ≡ gain (sure_contents self.old to) (take n piece.now)) }
         ensures sound { OnOk result (sure_faults self.new ≡ sure_faults self.old) }
-        ensures nothing { OnErr result (sure_held self.new to ≡ sure_held self.old to) }
+        ensures nothing { OnErr result (sure_contents self.new to ≡ sure_contents self.old to) }
         ensures failed { OnErr result (sure_faults self.old < sure_faults self.new) }
-        ensures other { SameBut to (sure_held self.old) (sure_held self.new) }
+        ensures other { SameBut to (sure_contents self.old) (sure_contents self.new) }
         ensures sure { result ≡ Ok (length piece.now) }
     {
         Ok(piece.len())

@@ -59,6 +59,18 @@ fn a_deployment_is_no_platform(rt: HostRuntime) -> Result<(), Fail> {
 }
 
 #[test]
+fn a_read_gives_a_piece_at_most(rt: HostRuntime) -> Result<(), Fail> {
+    let mut files = MemFiles::new(rt.alloc(), Some(b"three"), None, None, &[])?;
+    let mut buf = [0; 10];
+    files.pieces(Part::Platform, 3);
+    assert_eq!(rt; files.begin(Part::Platform, "p"), Ok(()));
+    assert_eq!(rt; files.read(Part::Platform, &mut buf), Ok(3));
+    assert_eq!(rt; files.read(Part::Platform, &mut buf), Ok(2));
+    assert_eq!(rt; files.read(Part::Platform, &mut buf), Ok(0));
+    Ok(())
+}
+
+#[test]
 fn a_part_is_loaded(rt: HostRuntime) -> Result<(), Fail> {
     let mut files = SureFiles::new(rt.alloc(), b"one", b"", b"")?;
     match load(rt.alloc(), &mut files, Part::Platform, "p", 3) {

@@ -13,9 +13,9 @@ use Rattle.sg_engine.specs.World.{World}
 use Rattle.sg_kernel.specs.Calls.{answered, told}
 use Rattle.sg_kernel.specs.Steps.{Step}
 use Rattle.sg_kernel.specs.Known.{Known, after}
-use Rattle.sg_platform.specs.Deployment.{Deployed}
+use Rattle.sg_rows.specs.Deployment.{Deployed}
 use Rattle.sg_route.specs.Roads.{Roads}
-use Rattle.sg_script.specs.Asked.{asked}
+use Rattle.sg_script.specs.Answer.{answer_of}
 use Rattle.sg_script.specs.Known.{Known as Names}
 use Rattle.sg_script.specs.declared.script.Script.{Script}
 use Rattle.sg_script.specs.Stands.{Kept, kept_of, IsAsked, Reads, one_more}
@@ -24,16 +24,16 @@ use Rattle.sg_script.proofs.Chains.{reads_none, reads_then}
 use Rattle.sg_engine.specs.declared.actor_call.ActorCall.{ActorCall}
 use Rattle.sg_engine.specs.declared.ended.Ended.{Ended}
 use Rattle.sg_engine.specs.declared.ended.Ended.TheVariants as ended
-use Rattle.sg_engine.specs.Listed.{calls_of}
-use Rattle.sg_engine.specs.Run.{Scene, scene, Answering, Progress, at_world, and_then, ended_by, in_world, ask, is_ask, tells, one_call}
-use Rattle.sg_engine.specs.Reached.{Moment, moment, moment_of, Fits, StandsFor, Reached, CutOff, ending, script_part}
+use Rattle.sg_engine.specs.kept.CallList.{calls_of}
+use Rattle.sg_engine.specs.Run.{Scene, scene, Answering, Progress, at_world, and_then, ended_by, in_world, ask_step, is_ask, answer_step, one_call}
+use Rattle.sg_engine.specs.kept.Moments.{Moment, moment, moment_of, Fits, StandsFor, IsStretch, LacksMemory, ending, script_part}
 use Rattle.sg_engine.proofs.Reaching.{matched_as, reached_then, reached_as, reached_spent, rest_as, goes_on_to, ends_at, stands_as}
 
 -- ---- one call
 -- a step of the kernel, for which nothing of the script was read
 pub stepped : (names : Names) (taken : List ℕ) (minds : List (Option Mind)) (part : PartView) (kept : Kept) (old new : Known) (room : ℕ) (world : World) (step : Core → Step) (how : Option Ended) →
     part.stage ≢ Fresh → StandsFor names taken minds (moment part kept old) world → new ≡ record (after (step old.core) old) { room = room } → how ≡ option_map ended_by (step old.core).stop →
-    Reached world.work names (λ answers. in_world world (step world.core)) (ending how) taken minds (moment part kept old) (moment part kept new)
+    IsStretch world.work names (λ answers. in_world world (step world.core)) (ending how) taken minds (moment part kept old) (moment part kept new)
 stepped names taken minds part kept old new room world step how begun stands is ends =
     let led : World = record world { core = (step world.core).core } in
     let core : new.core ≡ led.core = ap (λ (k : Known). k.core) is ∙ ap (λ (c : Core). (step c).core) stands.core in
@@ -55,7 +55,7 @@ stepped names taken minds part kept old new room world step how begun stands is 
 -- the budget is used up: nothing happens
 pub used_up : (names : Names) (taken : List ℕ) (minds : List (Option Mind)) (part : PartView) (kept : Kept) (known : Known) (world : World) (actor : ℕ) →
     part.stage ≢ Fresh → StandsFor names taken minds (moment part kept known) world → (known.core.events == known.setup.budget) ≡ true →
-    Reached world.work names (λ answers. ask known.setup answers actor world) (ending (Some ended.Budget)) taken minds (moment part kept known) (moment part kept known)
+    IsStretch world.work names (λ answers. ask_step known.setup answers actor world) (ending (Some ended.Budget)) taken minds (moment part kept known) (moment part kept known)
 used_up names taken minds part kept known world actor begun stands used = record {
   piece = [];
   reads = reads_none part begun;
@@ -67,13 +67,13 @@ used_up names taken minds part kept known world actor begun stands used = record
   records = sym (append-nil known.records);
   is = λ source goes.
       let here : (world.core.events == known.setup.budget) ≡ true = ap (λ (core : Core). core.events == known.setup.budget) (sym stands.core) ∙ used in
-      ap (λ (b : Bool). cond b (at_world (Some ended.Budget) world) (tells known.setup actor (asked names source actor (world.asks actor)) (record world { asks = one_more actor world.asks }))) here;
+      ap (λ (b : Bool). cond b (at_world (Some ended.Budget) world) (answer_step known.setup actor (answer_of names source actor (world.asks actor)) (record world { asks = one_more actor world.asks }))) here;
 }
 
 -- the script has answered an Ask
 abbrev pub asked_to : (names : Names) (taken : List ℕ) (minds : List (Option Mind)) (part part' : PartView) (kept kept' : Kept) (known : Known) (world : World) (actor : ℕ) (answer : Result (Option Action) ScriptFault) →
     StandsFor names taken minds (moment part kept known) world → (known.core.events == known.setup.budget) ≡ false → IsAsked names taken world.asks actor answer part part' kept' →
-    Reached world.work names (λ answers. ask known.setup answers actor world) (λ answers w. tells known.setup actor answer w) taken minds (moment part kept known) (moment part' kept' known)
+    IsStretch world.work names (λ answers. ask_step known.setup answers actor world) (λ answers w. answer_step known.setup actor answer w) taken minds (moment part kept known) (moment part' kept' known)
 asked_to names taken minds part part' kept kept' known world actor answer stands unused is_asked = record {
   piece = is_asked.piece;
   reads = is_asked.reads;
@@ -86,32 +86,32 @@ asked_to names taken minds part part' kept kept' known world actor answer stands
   is = λ source goes.
       let here : (world.core.events == known.setup.budget) ≡ false = ap (λ (core : Core). core.events == known.setup.budget) (sym stands.core) ∙ unused in
       let next : World = record world { asks = one_more actor world.asks } in
-      let said : asked names source actor (world.asks actor) ≡ answer = ap (λ (b : List ℕ). asked names (record { bytes = b; broken = source.broken }) actor (world.asks actor)) goes.bytes ∙ is_asked.answer_is goes.rest source.broken goes.may in
-      ap (λ (b : Bool). cond b (at_world (Some ended.Budget) world) (tells known.setup actor (asked names source actor (world.asks actor)) next)) here
-      ∙ ap (λ (a : Result (Option Action) ScriptFault). tells known.setup actor a next) said;
+      let said : answer_of names source actor (world.asks actor) ≡ answer = ap (λ (b : List ℕ). answer_of names (record { bytes = b; broken = source.broken }) actor (world.asks actor)) goes.bytes ∙ is_asked.answer_is goes.rest source.broken goes.may in
+      ap (λ (b : Bool). cond b (at_world (Some ended.Budget) world) (answer_step known.setup actor (answer_of names source actor (world.asks actor)) next)) here
+      ∙ ap (λ (a : Result (Option Action) ScriptFault). answer_step known.setup actor a next) said;
 }
 
 -- and the kernel has told it to the actor
 pub told_to : (names : Names) (taken : List ℕ) (minds : List (Option Mind)) (part part' : PartView) (kept kept' : Kept) (old new : Known) (room : ℕ) (world : World) (actor : ℕ) (action : Option Action) (how : Option Ended) →
     StandsFor names taken minds (moment part kept old) world → (old.core.events == old.setup.budget) ≡ false → IsAsked names taken world.asks actor (Ok action) part part' kept' →
     new ≡ record (after (told old.setup old.core actor action) old) { room = room } → how ≡ option_map ended_by (told old.setup old.core actor action).stop →
-    Reached world.work names (λ answers. ask old.setup answers actor world) (ending how) taken minds (moment part kept old) (moment part' kept' new)
+    IsStretch world.work names (λ answers. ask_step old.setup answers actor world) (ending how) taken minds (moment part kept old) (moment part' kept' new)
 told_to names taken minds part part' kept kept' old new room world actor action how stands unused is_asked is ends =
     let first = asked_to names taken minds part part' kept kept' old world actor (Ok action) stands unused is_asked in
     let step : Core → Step = λ c. told old.setup c actor action in
-    reached_then names (λ answers. ask old.setup answers actor world) (λ answers w. tells old.setup actor (Ok action) w) (ending how) taken minds minds (moment part kept old) (moment part' kept' old) (moment part' kept' new) first
+    reached_then names (λ answers. ask_step old.setup answers actor world) (λ answers w. answer_step old.setup actor (Ok action) w) (ending how) taken minds minds (moment part kept old) (moment part' kept' old) (moment part' kept' new) first
     (stepped names (taken ++ is_asked.piece) minds part' kept' old new room (record world { asks = one_more actor world.asks }) step how is_asked.reads.begun first.stands is ends)
 
 -- ---- who answers
 -- the script answers an Ask
 pub script_answers : {E : Type 0} (script : Bool) (names : Names) (roads : Roads) (setup : Setup) (actor : ℕ) (what : Call) (taken : List ℕ) (minds : List (Option Mind)) (world : World) (part part' : PartView) (reader reader' : Script) (old new : Known) (result : Result (Option Ended) E) →
     (script && is_ask what) ≡ true →
-    (StandsFor names taken minds (moment part (kept_of reader) old) world → MatchResult result (λ how. Reached world.work names (λ answers. ask setup answers actor world) (ending how) taken minds (moment part (kept_of reader) old) (moment part' (kept_of reader') new)) (λ _. CutOff part part')) →
+    (StandsFor names taken minds (moment part (kept_of reader) old) world → MatchResult result (λ how. IsStretch world.work names (λ answers. ask_step setup answers actor world) (ending how) taken minds (moment part (kept_of reader) old) (moment part' (kept_of reader') new)) (λ _. LacksMemory part part')) →
     StandsFor names taken minds (moment_of script part reader old) world →
-    MatchResult result (λ how. Reached world.work names (λ answers. one_call (scene roads setup script) answers actor what world) (ending how) taken minds (moment_of script part reader old) (moment_of script part' reader' new)) (λ _. CutOff (script_part script part) (script_part script part'))
+    MatchResult result (λ how. IsStretch world.work names (λ answers. one_call (scene roads setup script) answers actor what world) (ending how) taken minds (moment_of script part reader old) (moment_of script part' reader' new)) (λ _. LacksMemory (script_part script part) (script_part script part'))
 script_answers true names roads setup actor what taken minds world part part' reader reader' old new result is step stands =
-    matched_as world.work result names (λ answers. ask setup answers actor world) (λ answers. one_call (scene roads setup true) answers actor what world) taken minds _ _ _
-    (λ answers. ap (λ (b : Bool). cond b (ask setup answers actor world) (in_world world (answered roads setup world.core actor what))) is) (step stands)
+    matched_as world.work result names (λ answers. ask_step setup answers actor world) (λ answers. one_call (scene roads setup true) answers actor what world) taken minds _ _ _
+    (λ answers. ap (λ (b : Bool). cond b (ask_step setup answers actor world) (in_world world (answered roads setup world.core actor what))) is) (step stands)
 script_answers false names roads setup actor what taken minds world part part' reader reader' old new result is step stands = absurd (cc is)
 
 pub is_scripted : (script asks : Bool) → (script && asks) ≡ true → script ≡ true
@@ -152,11 +152,11 @@ at_place at made world answers = one_call at answers made.actor.0 made.call worl
 
 -- one more call was answered, and the run goes on
 pub one_more_call : {spent : ℕ} (names : Names) (whole : Answering → Progress) (roads : Roads) (setup : Setup) (script : Bool) (calls : List ActorCall) (i : ℕ) (d : ActorCall) (taken : List ℕ) (minds : List (Option Mind)) (old mid new : Moment) → i < length calls → mid.kernel.setup ≡ setup →
-    (first : Reached spent names whole (rest_from (scene roads setup script) calls i) taken minds old mid) → Reached first.world.work names (λ answers. one_call (scene roads mid.kernel.setup script) answers (get_or calls i d).actor.0 (get_or calls i d).call first.world) (ending None) (taken ++ first.piece) minds mid new →
-    Reached spent names whole (rest_from (scene roads setup script) calls (i + 1)) taken minds old new
+    (first : IsStretch spent names whole (rest_from (scene roads setup script) calls i) taken minds old mid) → IsStretch first.world.work names (λ answers. one_call (scene roads mid.kernel.setup script) answers (get_or calls i d).actor.0 (get_or calls i d).call first.world) (ending None) (taken ++ first.piece) minds mid new →
+    IsStretch spent names whole (rest_from (scene roads setup script) calls (i + 1)) taken minds old new
 one_more_call {spent} names whole roads setup script calls i d taken minds old mid new within same first step =
-    let here : Reached first.world.work names (at_place (scene roads setup script) (get_or calls i d) first.world) (ending None) (taken ++ first.piece) minds mid new =
-    subst (λ (s : Setup). Reached first.world.work names (at_place (scene roads s script) (get_or calls i d) first.world) (ending None) (taken ++ first.piece) minds mid new) same step in
+    let here : IsStretch first.world.work names (at_place (scene roads setup script) (get_or calls i d) first.world) (ending None) (taken ++ first.piece) minds mid new =
+    subst (λ (s : Setup). IsStretch first.world.work names (at_place (scene roads s script) (get_or calls i d) first.world) (ending None) (taken ++ first.piece) minds mid new) same step in
     reached_spent first.world.work spent names whole (rest_from (scene roads setup script) calls (i + 1)) taken minds old new first.work
     (reached_then names whole (rest_from (scene roads setup script) calls i) (rest_from (scene roads setup script) calls (i + 1)) taken minds minds old mid new first
     (reached_as names _ (λ answers. rest_from (scene roads setup script) calls i answers first.world) (rest_from (scene roads setup script) calls (i + 1)) (taken ++ first.piece) minds mid new (λ answers. calls_more (scene roads setup script) answers calls i d first.world within)
@@ -164,11 +164,11 @@ one_more_call {spent} names whole roads setup script calls i d taken minds old m
 
 -- one more call was answered, and the run has ended
 pub last_call : {spent : ℕ} (names : Names) (whole : Answering → Progress) (roads : Roads) (setup : Setup) (script : Bool) (calls : List ActorCall) (i : ℕ) (d : ActorCall) (how : Ended) (taken : List ℕ) (minds : List (Option Mind)) (old mid new : Moment) → i < length calls → mid.kernel.setup ≡ setup →
-    (first : Reached spent names whole (rest_from (scene roads setup script) calls i) taken minds old mid) → Reached first.world.work names (λ answers. one_call (scene roads mid.kernel.setup script) answers (get_or calls i d).actor.0 (get_or calls i d).call first.world) (ending (Some how)) (taken ++ first.piece) minds mid new →
-    Reached spent names whole (ending (Some how)) taken minds old new
+    (first : IsStretch spent names whole (rest_from (scene roads setup script) calls i) taken minds old mid) → IsStretch first.world.work names (λ answers. one_call (scene roads mid.kernel.setup script) answers (get_or calls i d).actor.0 (get_or calls i d).call first.world) (ending (Some how)) (taken ++ first.piece) minds mid new →
+    IsStretch spent names whole (ending (Some how)) taken minds old new
 last_call {spent} names whole roads setup script calls i d how taken minds old mid new within same first step =
-    let here : Reached first.world.work names (at_place (scene roads setup script) (get_or calls i d) first.world) (ending (Some how)) (taken ++ first.piece) minds mid new =
-    subst (λ (s : Setup). Reached first.world.work names (at_place (scene roads s script) (get_or calls i d) first.world) (ending (Some how)) (taken ++ first.piece) minds mid new) same step in
+    let here : IsStretch first.world.work names (at_place (scene roads setup script) (get_or calls i d) first.world) (ending (Some how)) (taken ++ first.piece) minds mid new =
+    subst (λ (s : Setup). IsStretch first.world.work names (at_place (scene roads s script) (get_or calls i d) first.world) (ending (Some how)) (taken ++ first.piece) minds mid new) same step in
     reached_spent first.world.work spent names whole (ending (Some how)) taken minds old new first.work
     (reached_then names whole (rest_from (scene roads setup script) calls i) (ending (Some how)) taken minds minds old mid new first
     (reached_as names _ (λ answers. rest_from (scene roads setup script) calls i answers first.world) (ending (Some how)) (taken ++ first.piece) minds mid new (λ answers. calls_more (scene roads setup script) answers calls i d first.world within)
@@ -176,9 +176,9 @@ last_call {spent} names whole roads setup script calls i d how taken minds old m
 
 -- no call is left
 pub all_called : {spent : ℕ} (names : Names) (whole : Answering → Progress) (at : Scene) (calls : List ActorCall) (i : ℕ) (taken : List ℕ) (minds : List (Option Mind)) (old new : Moment) → length calls ≤ i →
-    Reached spent names whole (rest_from at calls i) taken minds old new → Reached spent names whole (ending None) taken minds old new
+    IsStretch spent names whole (rest_from at calls i) taken minds old new → IsStretch spent names whole (ending None) taken minds old new
 all_called names whole at calls i taken minds old new past reached = rest_as names whole (rest_from at calls i) (ending None) taken minds old new (λ answers world. calls_none at answers calls i world past) reached
 
 -- memory was wanting at a later call
-pub cut_later : (piece : List ℕ) (old mid new : PartView) → Reads piece old mid → CutOff mid new → CutOff old new
+pub cut_later : (piece : List ℕ) (old mid new : PartView) → Reads piece old mid → LacksMemory mid new → LacksMemory old new
 cut_later piece old mid new reads cut = record { piece = piece ++ cut.piece; reads = reads_then piece cut.piece old mid new reads cut.reads }

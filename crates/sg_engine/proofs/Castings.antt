@@ -4,18 +4,18 @@ use Rattle.std.specs.Prelude.{All}
 use Rattle.std.proofs.lemmas.List.{get_or_append_left, map-append}
 use Rattle.std.proofs.Math.Seq.{get_or-append_seam}
 use Rattle.std.proofs.lemmas.List.Elements.{All-append, All-cons, All-nil}
-use Rattle.sg_actor.specs.Places.{Place}
+use Rattle.sg_actor.specs.Seats.{SeatView}
 use Rattle.sg_base.specs.Limits.{Extent, IsActorIn}
 use Rattle.sg_base.specs.Mind.{Mind, IsMind}
 use Rattle.sg_base.specs.declared.call.Answer.TheVariants.{Start}
 use Rattle.sg_base.specs.declared.call.Call.TheVariants.{Ask}
 use Rattle.sg_actor.specs.Roles.{mind_of, CanCast, IsRole}
-use Rattle.sg_platform.specs.Deployment.{IsFunction}
-use Rattle.sg_platform.specs.declared.rows.ActorRow.{ActorRow}
-use Rattle.sg_platform.specs.declared.rows.Function.{Function}
-use Rattle.sg_platform.specs.declared.rows.Function.TheVariants.{Replay, Worker, Master, Churn}
+use Rattle.sg_rows.specs.Deployment.{IsFunction}
+use Rattle.sg_rows.specs.declared.rows.ActorRow.{ActorRow}
+use Rattle.sg_rows.specs.declared.rows.Function.{Function}
+use Rattle.sg_rows.specs.declared.rows.Function.TheVariants.{Replay, Worker, Master, Churn}
 use Rattle.sg_engine.specs.Roles.{role_of, minds_from}
-use Rattle.sg_engine.specs.Seated.{mind_in, minds_of, IsSeated}
+use Rattle.sg_engine.specs.kept.SeatRules.{mind_in, minds_of, IsSeated}
 
 pub seated_first : (extent : Extent) (o : Option Mind) (m : Mind) → o ≡ Some m → IsMind extent m → IsSeated extent (record { mind = o; inbox = Start; outbox = Ask; ready = false })
 seated_first extent o m is limited = subst (λ (v : Option Mind). IsSeated extent (record { mind = v; inbox = Start; outbox = Ask; ready = false })) (sym is) (record { cast = refl; limited = (limited, tt, tt); rests = refl })
@@ -62,14 +62,14 @@ pub the_last : {X : Type 0} (P : X → Type 0) (all front : List X) (last : X) �
 the_last P all front last is each =
     subst P (get_or-append_seam front last [] last) (subst (All P) is each (length front) last (omega (arith, length-append front (last ∷ []))))
 
-pub seats_more : {S : Type 0} (see : S → Place) (items items' : List S) (s : S) (minds : List (Option Mind)) (m : Option Mind) → items' ≡ items ++ s ∷ [] → minds_of (map see items) ≡ minds → mind_in (see s) ≡ m → minds_of (map see items') ≡ minds ++ m ∷ []
+pub seats_more : {S : Type 0} (see : S → SeatView) (items items' : List S) (s : S) (minds : List (Option Mind)) (m : Option Mind) → items' ≡ items ++ s ∷ [] → minds_of (map see items) ≡ minds → mind_in (see s) ≡ m → minds_of (map see items') ≡ minds ++ m ∷ []
 seats_more {S} see items items' s minds m is before mine =
     ap (λ (l : List S). minds_of (map see l)) is
     ∙ ap minds_of (map-append see items (s ∷ []))
     ∙ map-append mind_in (map see items) (see s ∷ [])
     ∙ ap₂ (λ (l : List (Option Mind)) (n : Option Mind). l ++ n ∷ []) before mine
 
-pub all_seated_more : {S : Type 0} (see : S → Place) (extent : Extent) (items items' : List S) (s : S) → items' ≡ items ++ s ∷ [] → All (IsSeated extent) (map see items) → IsSeated extent (see s) → All (IsSeated extent) (map see items')
+pub all_seated_more : {S : Type 0} (see : S → SeatView) (extent : Extent) (items items' : List S) (s : S) → items' ≡ items ++ s ∷ [] → All (IsSeated extent) (map see items) → IsSeated extent (see s) → All (IsSeated extent) (map see items')
 all_seated_more see extent items items' s is before mine =
     subst (All (IsSeated extent)) (sym (ap (map see) is ∙ map-append see items (s ∷ [])))
     (All-append (IsSeated extent) (map see items) (see s ∷ []) before (All-cons (IsSeated extent) (see s) [] mine (All-nil (IsSeated extent))))

@@ -6,23 +6,24 @@ use Rattle.sg_edge.specs.declared.sinks.Stream.{Stream}
 use Rattle.sg_edge.specs.declared.sinks.Stream.TheVariants.{Out, Err}
 use Rattle.sg_edge.specs.declared.files.Stage.TheVariants.{Fresh, Over, Broken}
 use Rattle.sg_edge.specs.Files.{PartView, before, KeepsTelling, NoneLeft}
-use Rattle.sg_edge.specs.Given.{Source, Gives}
+use Rattle.sg_edge.specs.Sources.{Source, Gives}
 use Rattle.sg_edge.specs.Sinks.{gain}
 use Rattle.sg_kernel.specs.World.{Core}
-use Rattle.sg_platform.specs.Deployment.{Deployed}
-use Rattle.sg_platform.specs.Platform.{Platform}
-use Rattle.sg_script.specs.Asked.{asked}
+use Rattle.sg_rows.specs.Deployment.{Deployed}
+use Rattle.sg_rows.specs.Platform.{Platform}
+use Rattle.sg_script.specs.Answer.{answer_of}
 use Rattle.sg_script.specs.Known.{known_in}
 use Rattle.sg_script.specs.Stands.{Reads}
 use Rattle.sg_script.specs.Rest.{GoesOn}
 use Rattle.sg_script.proofs.Whole.{given_goes_on}
 use Rattle.sg_engine.specs.declared.ended.Ended.{Ended}
 use Rattle.sg_engine.specs.declared.show.Show.{Show}
-use Rattle.sg_engine.specs.Gains.{is_cut, Ends, GainsAll, GainsFronts, IsBroken}
+use Rattle.sg_engine.specs.Gains.{GainsAll, GainsFronts}
+use Rattle.sg_engine.specs.RunContract.{is_cut, Ends, IsBroken}
 use Rattle.sg_engine.specs.Output.{first_of, trace_of, last_lines, fault_line, written_of, run_output, scene_of}
-use Rattle.sg_engine.specs.Reached.{script_part}
+use Rattle.sg_engine.specs.kept.Moments.{script_part}
 use Rattle.sg_engine.specs.Run.{Progress, run_of}
-use Rattle.sg_engine.specs.Simulated.{CutsOff, IsOver}
+use Rattle.sg_engine.specs.kept.Stretches.{CutsOff, IsOver}
 use Rattle.sg_engine.proofs.Fronts.{front_more, fronts_out, fronts_behind, all_behind}
 
 -- the source that a run's part gives goes on from what was read
@@ -48,9 +49,9 @@ run_ends start count platform deployed script budget show how result core p0 p1 
 -- the work of a run that has come to its end
 pub run_work : (start count : ℕ) (platform : Platform) (deployed : Deployed) (script : Bool) (budget : ℕ) (show : Show) (how : Ended) (core : Core) (p0 p1 : PartView) (before after : Option (List ℕ)) (source : Source) → Going p0 p1 source →
     IsOver start count (known_in deployed) (trace_of show platform deployed) (run_of (scene_of platform deployed script budget) (first_of platform deployed budget)) how core p0 p1 before after →
-    start + (run_output platform deployed script budget show source).work ≤ count
+    count ≤ start + (run_output platform deployed script budget show source).work
 run_work start count platform deployed script budget show how core p0 p1 before after source going over =
-    let spent : Progress → Type 0 = λ p. start + p.world.work ≤ count in
+    let spent : Progress → Type 0 = λ p. count ≤ start + p.world.work in
     subst spent (sym (over.is source (going over.piece over.reads))) over.worked
 
 cut_by : (b : Bool) (out err : List ℕ) (want how : Ended) (old new : Stream → Option (List ℕ)) → b ≡ true → GainsFronts out err old new → MatchBool b (GainsFronts out err old new) ((want ≡ how) × GainsAll out err old new)
@@ -62,7 +63,7 @@ pub run_cut : (platform : Platform) (deployed : Deployed) (script : Bool) (budge
     CutsOff (known_in deployed) (trace_of show platform deployed) (run_of (scene_of platform deployed script budget) (first_of platform deployed budget)) [] p0 p1 (old Out) (new Out) → new Err ≡ old Err → let want = run_output platform deployed script budget show source in Ends want.out want.err want.ended how old new
 run_cut platform deployed script budget show how p0 p1 old new source going is cut same =
     let want = run_output platform deployed script budget show source in
-    let made = (run_of (scene_of platform deployed script budget) (first_of platform deployed budget) (asked (known_in deployed) source)).made in
+    let made = (run_of (scene_of platform deployed script budget) (first_of platform deployed budget) (answer_of (known_in deployed) source)).made in
     let front = front_more (trace_of show platform deployed made) _ (old Out) (new Out) (cut.front source (going cut.piece cut.reads)) in
     cut_by (is_cut how) want.out want.err want.ended how old new is (fronts_out want.out want.err old new front same)
 

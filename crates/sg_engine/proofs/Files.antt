@@ -2,7 +2,7 @@
 use Rattle.std.proofs.Common.{◌∙◌, ap, refl, Bool, false}
 use Rattle.sg_edge.specs.declared.files.Part.{Part}
 use Rattle.sg_edge.specs.Files.{PartView}
-use Rattle.sg_engine.specs.Reached.{ReadsScript}
+use Rattle.sg_engine.specs.kept.Moments.{ReadsScript}
 
 -- nothing was read
 pub script_unread : {F : Type 0} (shows : F → Part → PartView) (script : Bool) (files : F) → ReadsScript shows script files files

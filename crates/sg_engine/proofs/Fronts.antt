@@ -2,17 +2,18 @@
 use Rattle.std.proofs.Common.{Result, Ok, Err as Error, ◌≡◌, ◌∙◌, sym, ap, subst, refl, inl, inr, ℕ, List, [], ◌++◌, Option, append_assoc}
 use Rattle.sg_edge.specs.declared.sinks.Stream.{Stream}
 use Rattle.sg_edge.specs.declared.sinks.Stream.TheVariants.{Out, Err}
-use Rattle.sg_edge.specs.Sinks.{gain, Written, GainsFront}
+use Rattle.sg_edge.specs.Sinks.{gain, IsWritten, GainsFront}
 use Rattle.sg_edge.proofs.Writing.{gain-gain, gain-nil}
 use Rattle.sg_edge.specs.declared.files.Failed.{Failed}
-use Rattle.sg_engine.specs.Gains.{GainsAll, GainsFronts, Wrote, Broke, IsPut, Tells, Writes}
+use Rattle.sg_engine.specs.Gains.{GainsAll, GainsFronts}
+use Rattle.sg_engine.specs.kept.Writing.{Wrote, Broke, IsPut, Tells, Writes}
 
 -- nothing was written of a text yet
-pub written_none : (text : List ℕ) (now : Option (List ℕ)) → Written text text now now
+pub written_none : (text : List ℕ) (now : Option (List ℕ)) → IsWritten text text now now
 written_none text now = record { done = []; split = refl; held = sym (gain-nil now) }
 
 -- what is left begins with a text, of which a front was written then
-written_on : (whole text rest left : List ℕ) (old mid new : Option (List ℕ)) → Written whole (text ++ rest) old mid → Written text left mid new → Written whole (left ++ rest) old new
+written_on : (whole text rest left : List ℕ) (old mid new : Option (List ℕ)) → IsWritten whole (text ++ rest) old mid → IsWritten text left mid new → IsWritten whole (left ++ rest) old new
 written_on whole text rest left old mid new first then = record {
   done = first.done ++ then.done;
   split = first.split ∙ ap (λ (l : List ℕ). first.done ++ (l ++ rest)) then.split ∙ ap (λ (l : List ℕ). first.done ++ l) (append_assoc then.done left rest) ∙ sym (append_assoc first.done then.done (left ++ rest));

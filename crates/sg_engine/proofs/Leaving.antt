@@ -9,18 +9,19 @@ use Rattle.sg_base.specs.declared.call.Call.TheVariants as call
 use Rattle.sg_base.specs.declared.ids.ActorId.{ActorId}
 use Rattle.sg_edge.specs.Files.{PartView}
 use Rattle.sg_kernel.specs.declared.meetings.Comer.{Comer}
-use Rattle.sg_kernel.specs.declared.states.State.{State}
-use Rattle.sg_kernel.specs.declared.states.State.TheVariants.{Ready, Blocked, Ended}
-use Rattle.sg_kernel.specs.declared.states.Stop.{Stop}
+use Rattle.sg_states.specs.declared.state.State.{State}
+use Rattle.sg_states.specs.declared.state.State.TheVariants.{Ready, Blocked, Ended}
+use Rattle.sg_kernel.specs.declared.stop.Stop.{Stop}
 use Rattle.sg_kernel.specs.Known.{Known, after}
-use Rattle.sg_kernel.specs.World.{Setup, Core, Blocking, is_ready, extent}
+use Rattle.sg_kernel.specs.World.{Setup, Core, extent}
+use Rattle.sg_states.specs.Actors.{Blocking, is_ready}
 use Rattle.sg_kernel.specs.Steps.{Step, counted, each, follows, and_then}
 use Rattle.sg_kernel.specs.Calls.{answered, answered_call}
 use Rattle.sg_kernel.specs.Locks.{caller_gets, wakes_from, wakes, all_wake, caller_first, caller_last}
 use Rattle.sg_kernel.specs.Meetings.{takes_part, joins_over, comes_by, waits_until, waits_by}
 use Rattle.sg_mailbox.specs.Posts.{Post}
-use Rattle.sg_platform.specs.Deployment.{Deployed}
-use Rattle.sg_requests.specs.declared.request.Await.{Await}
+use Rattle.sg_rows.specs.Deployment.{Deployed}
+use Rattle.sg_base.specs.declared.awaits.Await.{Await}
 use Rattle.sg_route.specs.declared.router.RouteFault.{RouteFault}
 use Rattle.sg_route.specs.Roads.{Roads}
 use Rattle.sg_route.specs.Route.{Route}
@@ -28,7 +29,7 @@ use Rattle.sg_script.specs.Stands.{Kept}
 use Rattle.sg_sync.specs.declared.outcome.Outcome.{Outcome}
 use Rattle.sg_sync.specs.declared.outcome.Outcome.TheVariants.{GoesOn, Waits, Refused}
 use Rattle.sg_sync.specs.Objects.{Done}
-use Rattle.sg_engine.specs.Reached.{moment, Fits, LeavesFree}
+use Rattle.sg_engine.specs.kept.Moments.{moment, Fits, LeavesFree}
 
 -- there are as many actors, and each other one that was ready is
 record Leaves (actor : ℕ) (old new : List State) : Type 0 where

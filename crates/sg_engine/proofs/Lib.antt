@@ -12,8 +12,9 @@ pub mod Parts
 pub mod PutLines
 pub mod Queues
 pub mod Reaching
-pub mod Rounds
+pub mod SeatSteps
 pub mod Simulating
 pub mod Starting
 pub mod Stepping
 pub mod Uncut
+pub mod Working

@@ -5,7 +5,7 @@ use Rattle.std.proofs.lemmas.List.{append-nil, drop_all, length-map, map-append,
 use Rattle.std.proofs.lemmas.List.Elements.{All-append, All-drop, All-set, All-take}
 use Rattle.std.proofs.Math.ListN.{get_or-map}
 use Rattle.std.proofs.Math.Seq.{drop-append_seam, take-append_seam}
-use Rattle.sg_actor.proofs.Turns.{all_front, all_back}
+use Rattle.sg_actor.proofs.SeatLists.{all_front, all_back}
 
 -- the first so many of the new list, and the others of the old one
 abbrev pub merged : {X : Type 0} → ℕ → List X → List X → List X

@@ -5,11 +5,11 @@ use Rattle.sg_activity.specs.declared.kinds.LinkCap.{LinkCap}
 use Rattle.sg_base.specs.declared.ids.LinkId.{LinkId}
 use Rattle.sg_kernel.specs.Roads.{AreOver, IsOver}
 use Rattle.sg_kernel.specs.Start.{caps_of, link_cap, link_caps}
-use Rattle.sg_platform.specs.Ends.{ends_from, ends_of, link_end, link_ends}
-use Rattle.sg_platform.specs.Platform.{Platform}
-use Rattle.sg_platform.specs.declared.rows.LinkRow.{LinkRow}
-use Rattle.sg_platform.specs.declared.rows.Policy.{Policy}
-use Rattle.sg_platform.specs.declared.rows.Policy.TheVariants.{Shared, Fatpipe, SplitDuplex}
+use Rattle.sg_rows.specs.Ends.{ends_from, ends_of, link_end, link_ends}
+use Rattle.sg_rows.specs.Platform.{Platform}
+use Rattle.sg_rows.specs.declared.rows.LinkRow.{LinkRow}
+use Rattle.sg_rows.specs.declared.rows.Policy.{Policy}
+use Rattle.sg_rows.specs.declared.rows.Policy.TheVariants.{Shared, Fatpipe, SplitDuplex}
 use Rattle.sg_route.specs.Roads.{Roads, roads_of}
 use Rattle.sg_route.specs.Route.{Route, route_of}
 use Rattle.sg_route.specs.Good.{IsGoodRoute, RoutesAreGood}

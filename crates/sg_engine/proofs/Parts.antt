@@ -2,45 +2,45 @@
 use Rattle.std.proofs.Common.{◌≡◌, ◌≤◌, ◌∙◌, sym, ap, ap₂, subst, ℕ, ◌<◌, List, length, map, Option, Result, arith}
 use Rattle.std.specs.Prelude.{All, AllPairs, MatchResult}
 use Rattle.std.proofs.lemmas.List.{length-map}
-use Rattle.sg_actor.specs.Places.{Place}
+use Rattle.sg_actor.specs.Seats.{SeatView}
 use Rattle.sg_base.specs.Limits.{Extent, IsCall}
 use Rattle.sg_base.specs.Mind.{Mind}
 use Rattle.sg_edge.specs.Files.{PartView}
 use Rattle.sg_kernel.specs.Known.{Known}
-use Rattle.sg_platform.specs.Deployment.{Deployed, extent_of}
+use Rattle.sg_rows.specs.Deployment.{Deployed, extent_of}
 use Rattle.sg_engine.specs.declared.simulation.Simulation.{Simulation}
-use Rattle.sg_engine.specs.Keeping.{HasRoom, IsKept}
+use Rattle.sg_engine.specs.kept.Invariant.{HasRoom, IsKept}
 use Rattle.sg_kernel.specs.World.{Setup, Core, MayCall, extent}
 use Rattle.sg_engine.specs.World.{World}
 use Rattle.sg_script.specs.Known.{Known as Names}
 use Rattle.sg_engine.specs.declared.actor_call.ActorCall.{ActorCall}
 use Rattle.sg_engine.specs.declared.ended.Ended.{Ended}
-use Rattle.sg_engine.specs.Listed.{listed, calls_of}
-use Rattle.sg_engine.specs.Reached.{Moment, StandsFor, Reached, ending}
+use Rattle.sg_engine.specs.kept.CallList.{call_list, calls_of}
+use Rattle.sg_engine.specs.kept.Moments.{Moment, StandsFor, IsStretch, ending}
 use Rattle.sg_engine.specs.Run.{Scene, Answering, zip_with, mind_after, call_after, inboxes, round, calls_from}
-use Rattle.sg_engine.specs.Seated.{mind_in, minds_of, IsSeated}
+use Rattle.sg_engine.specs.kept.SeatRules.{mind_in, minds_of, IsSeated}
 use Rattle.sg_engine.proofs.Listing.{calls_listed, listed_may, listed_rises, listed_short, row_short}
 use Rattle.sg_engine.proofs.Reaching.{matched_as}
 
 -- ---- the calls of a round
-pub calls_may : (minds : List (Option Mind)) (core : Core) (extent : Extent) (calls : List ActorCall) → calls ≡ listed 1 (zip_with call_after minds (inboxes core)) → All (λ (made : ActorCall). IsCall extent made.call) calls → All (λ (made : ActorCall). MayCall core made.actor.0 × IsCall extent made.call) calls
+pub calls_may : (minds : List (Option Mind)) (core : Core) (extent : Extent) (calls : List ActorCall) → calls ≡ call_list 1 (zip_with call_after minds (inboxes core)) → All (λ (made : ActorCall). IsCall extent made.call) calls → All (λ (made : ActorCall). MayCall core made.actor.0 × IsCall extent made.call) calls
 calls_may minds core extent calls are limited =
     let may = subst (All (λ (made : ActorCall). MayCall core made.actor.0)) (sym are) (listed_may minds core) in
     λ k d within. (may k d within, limited k d within)
 
-pub calls_rise : (minds : List (Option Mind)) (core : Core) (calls : List ActorCall) → calls ≡ listed 1 (zip_with call_after minds (inboxes core)) → AllPairs (λ (a b : ActorCall). a.actor.0 < b.actor.0) calls
+pub calls_rise : (minds : List (Option Mind)) (core : Core) (calls : List ActorCall) → calls ≡ call_list 1 (zip_with call_after minds (inboxes core)) → AllPairs (λ (a b : ActorCall). a.actor.0 < b.actor.0) calls
 calls_rise minds core calls are = subst (AllPairs (λ (a b : ActorCall). a.actor.0 < b.actor.0)) (sym are) (listed_rises 1 (zip_with call_after minds (inboxes core)))
 
-pub calls_few : {S : Type 0} (see : S → Place) (seats : List S) (core : Core) (calls : List ActorCall) (n : ℕ) → calls ≡ listed 1 (zip_with call_after (minds_of (map see seats)) (inboxes core)) → length (map see seats) ≤ n → length calls ≤ n
+pub calls_few : {S : Type 0} (see : S → SeatView) (seats : List S) (core : Core) (calls : List ActorCall) (n : ℕ) → calls ≡ call_list 1 (zip_with call_after (minds_of (map see seats)) (inboxes core)) → length (map see seats) ≤ n → length calls ≤ n
 calls_few see seats core calls n are few =
     let places = map see seats in
     omega (arith, ap length are, listed_short 1 (zip_with call_after (minds_of places) (inboxes core)), row_short (minds_of places) (inboxes core), length-map places mind_in, few)
 
-pub seats_few : {S : Type 0} (see : S → Place) (seats : List S) (n : ℕ) → length seats ≤ n → length (map see seats) ≤ n
+pub seats_few : {S : Type 0} (see : S → SeatView) (seats : List S) (n : ℕ) → length seats ≤ n → length (map see seats) ≤ n
 seats_few see seats n few = omega (arith, length-map seats see)
 
 -- behind a reserve there is room for a round
-pub room_for : {deployed : Deployed} {part : PartView} {sim : Simulation} {places : List Place} (mid : Known) → IsKept deployed part sim places → mid ≡ record sim.kernel { room = mid.room } → length places ≤ mid.room → HasRoom (record sim { kernel = mid }) places
+pub room_for : {deployed : Deployed} {part : PartView} {sim : Simulation} {places : List SeatView} (mid : Known) → IsKept deployed part sim places → mid ≡ record sim.kernel { room = mid.room } → length places ≤ mid.room → HasRoom (record sim { kernel = mid }) places
 room_for {deployed} {part} {sim} {places} mid kept same room =
     let actors : length mid.core.actors ≡ length deployed.actors = ap (λ (k : Known). length k.core.actors) same ∙ kept.fits.actors in
     let limits : extent mid.setup ≡ extent_of deployed = ap (λ (k : Known). extent k.setup) same ∙ kept.fits.extent in
@@ -53,17 +53,17 @@ room_for {deployed} {part} {sim} {places} mid kept same room =
 
 -- ---- the whole of a round
 pub round_as : {E : Type 0} (result : Result (Option Ended) E) (names : Names) (at : Scene) (taken : List ℕ) (had new : List (Option Mind)) (calls : List ActorCall) (world : World) (old mid : Moment) (cut : E → Type 0) → StandsFor names taken had old world →
-    new ≡ zip_with mind_after had (inboxes old.kernel.core) → calls ≡ listed 1 (zip_with call_after had (inboxes old.kernel.core)) →
-    ((next : World) → StandsFor names taken new old next → MatchResult result (λ how. Reached next.work names (λ answers. calls_of at answers calls next) (ending how) taken new old mid) cut) →
-    MatchResult result (λ how. Reached world.work names (λ answers. round at answers world) (ending how) taken new old mid) cut
+    new ≡ zip_with mind_after had (inboxes old.kernel.core) → calls ≡ call_list 1 (zip_with call_after had (inboxes old.kernel.core)) →
+    ((next : World) → StandsFor names taken new old next → MatchResult result (λ how. IsStretch next.work names (λ answers. calls_of at answers calls next) (ending how) taken new old mid) cut) →
+    MatchResult result (λ how. IsStretch world.work names (λ answers. round at answers world) (ending how) taken new old mid) cut
 round_as result names at taken had new calls world old mid cut stands turned made step =
     let next : World = record world { minds = zip_with mind_after world.minds (inboxes world.core) } in
     let minds : new ≡ next.minds = turned ∙ ap₂ (λ (m : List (Option Mind)) (core : Core). zip_with mind_after m (inboxes core)) stands.minds stands.core in
-    let are : calls ≡ listed 1 (zip_with call_after world.minds (inboxes world.core)) = made ∙ ap₂ (λ (m : List (Option Mind)) (core : Core). listed 1 (zip_with call_after m (inboxes core))) stands.minds stands.core in
+    let are : calls ≡ call_list 1 (zip_with call_after world.minds (inboxes world.core)) = made ∙ ap₂ (λ (m : List (Option Mind)) (core : Core). call_list 1 (zip_with call_after m (inboxes core))) stands.minds stands.core in
     let whole : (answers : Answering) → calls_from at answers 1 (zip_with call_after world.minds (inboxes world.core)) next ≡ calls_of at answers calls next =
     λ answers. sym (ap (λ (l : List ActorCall). calls_of at answers l next) are ∙ calls_listed at answers 1 (zip_with call_after world.minds (inboxes world.core)) next) in
     matched_as world.work result names (λ answers. calls_of at answers calls next) (λ answers. calls_from at answers 1 (zip_with call_after world.minds (inboxes world.core)) next) taken new old mid cut whole (step next (record { script = stands.script; core = stands.core; minds = minds }))
 
 -- the same seats, where the setup is the same
-pub seated_as : (old new : Setup) (places : List Place) → new ≡ old → All (IsSeated (extent old)) places → All (IsSeated (extent new)) places
+pub seated_as : (old new : Setup) (places : List SeatView) → new ≡ old → All (IsSeated (extent old)) places → All (IsSeated (extent new)) places
 seated_as old new places same seated = subst (λ (s : Setup). All (IsSeated (extent s)) places) (sym same) seated

@@ -4,13 +4,13 @@ use Rattle.std.proofs.lemmas.List.{append-nil, at_drop_more, at_drop_all}
 use Rattle.sg_base.specs.declared.trace_record.Record.{Record}
 use Rattle.sg_edge.specs.declared.files.Failed.{Failed}
 use Rattle.sg_edge.specs.declared.sinks.Stream.{Stream}
-use Rattle.sg_kernel.specs.declared.states.State.{State}
-use Rattle.sg_kernel.specs.declared.states.State.TheVariants.{Ended}
-use Rattle.sg_platform.specs.Deployment.{Deployed}
-use Rattle.sg_platform.specs.Platform.{Platform}
+use Rattle.sg_states.specs.declared.state.State.{State}
+use Rattle.sg_states.specs.declared.state.State.TheVariants.{Ended}
+use Rattle.sg_rows.specs.Deployment.{Deployed}
+use Rattle.sg_rows.specs.Platform.{Platform}
 use Rattle.sg_trace.specs.Line.{line_of}
 use Rattle.sg_engine.specs.declared.show.Show.TheVariants.{All}
-use Rattle.sg_engine.specs.Gains.{IsPut, Broke, Writes}
+use Rattle.sg_engine.specs.kept.Writing.{IsPut, Broke, Writes}
 use Rattle.sg_engine.specs.Output.{trace_of, blocked_line, blocked_lines}
 use Rattle.sg_engine.proofs.Fronts.{put_on, put_as, broke_more, broke_on, wrote_all}
 

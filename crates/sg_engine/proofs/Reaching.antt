@@ -4,17 +4,17 @@ use Rattle.std.specs.Prelude.{MatchResult}
 use Rattle.std.proofs.lemmas.List.{append-nil}
 use Rattle.sg_base.specs.declared.trace_record.Record.{Record}
 use Rattle.sg_base.specs.Mind.{Mind}
-use Rattle.sg_edge.specs.Given.{Source}
+use Rattle.sg_edge.specs.Sources.{Source}
 use Rattle.sg_edge.specs.Files.{PartView}
 use Rattle.sg_engine.specs.World.{World}
-use Rattle.sg_script.specs.Asked.{asked}
+use Rattle.sg_script.specs.Answer.{answer_of}
 use Rattle.sg_script.specs.Known.{Known as Names}
 use Rattle.sg_script.specs.Stands.{Reads}
 use Rattle.sg_script.specs.Rest.{GoesOn}
 use Rattle.sg_script.proofs.Chains.{may_back, reads_then}
 use Rattle.sg_engine.specs.declared.ended.Ended.{Ended}
 use Rattle.sg_engine.specs.Run.{Answering, Progress, with_front, and_then}
-use Rattle.sg_engine.specs.Reached.{Moment, StandsFor, Reached, ending}
+use Rattle.sg_engine.specs.kept.Moments.{Moment, StandsFor, IsStretch, ending}
 
 -- a source that goes on from a later moment goes on from an earlier one
 pub goes_back : (taken piece : List ℕ) (old new : PartView) (source : Source) → Reads piece old new → GoesOn (taken ++ piece) new.stage source → GoesOn taken old.stage source
@@ -32,7 +32,7 @@ stands_as names taken other minds now world same stands = subst (λ (t : List �
 
 -- one stretch, and then another from where it led
 abbrev pub reached_then : {spent next : ℕ} (names : Names) (whole : Answering → Progress) (middle rest : Answering → World → Progress) (taken : List ℕ) (minds then_minds : List (Option Mind)) (old mid new : Moment) →
-    (first : Reached spent names whole middle taken minds old mid) → Reached next names (λ answers. middle answers first.world) rest (taken ++ first.piece) then_minds mid new → Reached next names whole rest taken then_minds old new
+    (first : IsStretch spent names whole middle taken minds old mid) → IsStretch next names (λ answers. middle answers first.world) rest (taken ++ first.piece) then_minds mid new → IsStretch next names whole rest taken then_minds old new
 reached_then names whole middle rest taken minds then_minds old mid new first second =
     let joined : (taken ++ first.piece) ++ second.piece ≡ taken ++ (first.piece ++ second.piece) = append_assoc taken first.piece second.piece in
     record {
@@ -46,7 +46,7 @@ reached_then names whole middle rest taken minds then_minds old mid new first se
       records = second.records ∙ ap (λ (l : List Record). l ++ second.made) first.records ∙ append_assoc old.kernel.records first.made second.made;
       is = λ source goes.
           let there : GoesOn ((taken ++ first.piece) ++ second.piece) new.part.stage source = subst (λ (t : List ℕ). GoesOn t new.part.stage source) (sym joined) goes in
-          let answers = asked names source in
+          let answers = answer_of names source in
           first.is source (goes_back (taken ++ first.piece) second.piece mid.part new.part source second.reads there)
           ∙ ap (with_front first.made) (second.is source there)
           ∙ front-front first.made second.made (rest answers second.world);
@@ -54,7 +54,7 @@ reached_then names whole middle rest taken minds then_minds old mid new first se
 
 -- the whole in other words
 abbrev pub reached_as : {spent : ℕ} (names : Names) (whole other : Answering → Progress) (rest : Answering → World → Progress) (taken : List ℕ) (minds : List (Option Mind)) (old new : Moment) →
-    ((answers : Answering) → other answers ≡ whole answers) → Reached spent names whole rest taken minds old new → Reached spent names other rest taken minds old new
+    ((answers : Answering) → other answers ≡ whole answers) → IsStretch spent names whole rest taken minds old new → IsStretch spent names other rest taken minds old new
 reached_as names whole other rest taken minds old new same reached = record {
   piece = reached.piece;
   reads = reached.reads;
@@ -64,17 +64,17 @@ reached_as names whole other rest taken minds old new same reached = record {
   work = reached.work;
   made = reached.made;
   records = reached.records;
-  is = λ source goes. same (asked names source) ∙ reached.is source goes;
+  is = λ source goes. same (answer_of names source) ∙ reached.is source goes;
 }
 
 pub matched_as : {E : Type 0} (spent : ℕ) (result : Result (Option Ended) E) (names : Names) (whole other : Answering → Progress) (taken : List ℕ) (minds : List (Option Mind)) (old new : Moment) (cut : E → Type 0) → ((answers : Answering) → other answers ≡ whole answers) →
-    MatchResult result (λ how. Reached spent names whole (ending how) taken minds old new) cut → MatchResult result (λ how. Reached spent names other (ending how) taken minds old new) cut
+    MatchResult result (λ how. IsStretch spent names whole (ending how) taken minds old new) cut → MatchResult result (λ how. IsStretch spent names other (ending how) taken minds old new) cut
 matched_as spent (Ok how) names whole other taken minds old new cut same reached = reached_as names whole other (ending how) taken minds old new same reached
 matched_as spent (Err why) names whole other taken minds old new cut same step = step
 
 -- the rest in other words
 abbrev pub rest_as : {spent : ℕ} (names : Names) (whole : Answering → Progress) (rest other : Answering → World → Progress) (taken : List ℕ) (minds : List (Option Mind)) (old new : Moment) →
-    ((answers : Answering) (world : World) → rest answers world ≡ other answers world) → Reached spent names whole rest taken minds old new → Reached spent names whole other taken minds old new
+    ((answers : Answering) (world : World) → rest answers world ≡ other answers world) → IsStretch spent names whole rest taken minds old new → IsStretch spent names whole other taken minds old new
 rest_as names whole rest other taken minds old new same reached = record {
   piece = reached.piece;
   reads = reached.reads;
@@ -84,12 +84,12 @@ rest_as names whole rest other taken minds old new same reached = record {
   work = reached.work;
   made = reached.made;
   records = reached.records;
-  is = λ source goes. reached.is source goes ∙ ap (with_front reached.made) (same (asked names source) reached.world);
+  is = λ source goes. reached.is source goes ∙ ap (with_front reached.made) (same (answer_of names source) reached.world);
 }
 
 -- a first stretch that doesn't end the run
 abbrev pub goes_on_to : {spent : ℕ} (names : Names) (first : Answering → Progress) (next : Answering → World → Progress) (taken : List ℕ) (minds : List (Option Mind)) (old new : Moment) →
-    Reached spent names first (ending None) taken minds old new → Reached spent names (λ answers. and_then (first answers) (next answers)) next taken minds old new
+    IsStretch spent names first (ending None) taken minds old new → IsStretch spent names (λ answers. and_then (first answers) (next answers)) next taken minds old new
 goes_on_to names first next taken minds old new reached = record {
   piece = reached.piece;
   reads = reached.reads;
@@ -100,14 +100,14 @@ goes_on_to names first next taken minds old new reached = record {
   made = reached.made;
   records = reached.records;
   is = λ source goes.
-      let answers = asked names source in
+      let answers = answer_of names source in
       ap (λ (p : Progress). and_then p (next answers)) (reached.is source goes)
       ∙ ap (λ (l : List Record). with_front l (next answers reached.world)) (append-nil reached.made);
 }
 
 -- a first stretch that ends the run
 abbrev pub ends_at : {spent : ℕ} (names : Names) (first : Answering → Progress) (next : Answering → World → Progress) (how : Ended) (taken : List ℕ) (minds : List (Option Mind)) (old new : Moment) →
-    Reached spent names first (ending (Some how)) taken minds old new → Reached spent names (λ answers. and_then (first answers) (next answers)) (ending (Some how)) taken minds old new
+    IsStretch spent names first (ending (Some how)) taken minds old new → IsStretch spent names (λ answers. and_then (first answers) (next answers)) (ending (Some how)) taken minds old new
 ends_at names first next how taken minds old new reached = record {
   piece = reached.piece;
   reads = reached.reads;
@@ -117,11 +117,11 @@ ends_at names first next how taken minds old new reached = record {
   work = reached.work;
   made = reached.made;
   records = reached.records;
-  is = λ source goes. ap (λ (p : Progress). and_then p (next (asked names source))) (reached.is source goes);
+  is = λ source goes. ap (λ (p : Progress). and_then p (next (answer_of names source))) (reached.is source goes);
 }
 
 -- nothing has happened yet
-pub reached_none : (names : Names) (rest : Answering → World → Progress) (taken : List ℕ) (minds : List (Option Mind)) (now : Moment) (world : World) → Reads [] now.part now.part → StandsFor names taken minds now world → Reached world.work names (λ answers. rest answers world) rest taken minds now now
+pub reached_none : (names : Names) (rest : Answering → World → Progress) (taken : List ℕ) (minds : List (Option Mind)) (now : Moment) (world : World) → Reads [] now.part now.part → StandsFor names taken minds now world → IsStretch world.work names (λ answers. rest answers world) rest taken minds now now
 reached_none names rest taken minds now world reads stands = record {
   piece = [];
   reads = reads;
@@ -135,5 +135,5 @@ reached_none names rest taken minds now world reads stands = record {
 }
 
 -- the work in other words
-pub reached_spent : (spent other : ℕ) (names : Names) (whole : Answering → Progress) (rest : Answering → World → Progress) (taken : List ℕ) (minds : List (Option Mind)) (old new : Moment) → spent ≡ other → Reached spent names whole rest taken minds old new → Reached other names whole rest taken minds old new
-reached_spent spent other names whole rest taken minds old new same reached = subst (λ (n : ℕ). Reached n names whole rest taken minds old new) same reached
+pub reached_spent : (spent other : ℕ) (names : Names) (whole : Answering → Progress) (rest : Answering → World → Progress) (taken : List ℕ) (minds : List (Option Mind)) (old new : Moment) → spent ≡ other → IsStretch spent names whole rest taken minds old new → IsStretch other names whole rest taken minds old new
+reached_spent spent other names whole rest taken minds old new same reached = subst (λ (n : ℕ). IsStretch n names whole rest taken minds old new) same reached

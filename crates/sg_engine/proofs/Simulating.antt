@@ -11,37 +11,38 @@ use Rattle.sg_edge.specs.declared.files.Stage.TheVariants.{Fresh}
 use Rattle.sg_edge.specs.Sinks.{gain, GainsFront}
 use Rattle.sg_edge.proofs.Writing.{gain-gain, gain-nil}
 use Rattle.sg_kernel.specs.Known.{Known}
-use Rattle.sg_actor.specs.Places.{Place}
+use Rattle.sg_actor.specs.Seats.{SeatView}
 use Rattle.sg_base.specs.Limits.{Extent}
-use Rattle.sg_kernel.specs.World.{Setup, Core, extent, is_ended}
+use Rattle.sg_kernel.specs.World.{Setup, Core, extent}
+use Rattle.sg_states.specs.Actors.{is_ended}
 use Rattle.sg_engine.specs.World.{World}
 use Rattle.sg_route.specs.Roads.{Roads}
-use Rattle.sg_platform.specs.Deployment.{Deployed, extent_of}
-use Rattle.sg_platform.specs.Platform.{Platform}
-use Rattle.sg_script.specs.Asked.{asked}
+use Rattle.sg_rows.specs.Deployment.{Deployed, extent_of}
+use Rattle.sg_rows.specs.Platform.{Platform}
+use Rattle.sg_script.specs.Answer.{answer_of}
 use Rattle.sg_script.specs.Known.{Known as Names}
 use Rattle.sg_script.specs.Stands.{Kept, kept_of}
 use Rattle.sg_script.proofs.Chains.{reads_then, reads_none}
 use Rattle.sg_engine.specs.declared.ended.Ended.{Ended}
 use Rattle.sg_engine.specs.declared.ended.Ended.TheVariants as ended
-use Rattle.sg_engine.specs.Reached.{Moment, moment, Fits, StandsFor, Reached, CutOff, ending}
-use Rattle.sg_engine.specs.Run.{Scene, scene, Answering, Progress, at_world, with_front, and_then, and_then_by, round_or_pass, run_from}
+use Rattle.sg_engine.specs.kept.Moments.{Moment, moment, Fits, StandsFor, IsStretch, LacksMemory, ending, cuts}
+use Rattle.sg_engine.specs.Run.{Scene, scene, Answering, Progress, at_world, with_front, and_then, and_then_by, round_or_pass, run_from, work_behind}
 use Rattle.sg_engine.specs.declared.show.Show.{Show}
 use Rattle.sg_engine.specs.declared.show.Show.TheVariants as show
-use Rattle.sg_engine.specs.Gains.{cuts}
 use Rattle.sg_engine.specs.Output.{trace_of}
 use Rattle.sg_trace.specs.Line.{line_of}
 use Rattle.sg_engine.specs.declared.simulation.Simulation.{Simulation}
-use Rattle.sg_engine.specs.Keeping.{IsKept, PartIs}
-use Rattle.sg_engine.specs.Seated.{IsSeated}
-use Rattle.sg_engine.specs.Simulated.{Trace, Advances, CutsOff, IsOver}
+use Rattle.sg_engine.specs.kept.Invariant.{IsKept, PartIs}
+use Rattle.sg_engine.specs.kept.SeatRules.{IsSeated}
+use Rattle.sg_engine.specs.kept.Stretches.{Trace, Advances, CutsOff, IsCutOff, IsOver}
 use Rattle.sg_engine.proofs.Reaching.{goes_back, reached_then, reached_as, goes_on_to, ends_at}
+use Rattle.sg_engine.proofs.Working.{run_rises_behind}
 
 -- ---- one part
 -- the records of a stretch stand behind others that were cleared since, and there is other room
 abbrev pub with_records : {spent : ℕ} (names : Names) (whole : Answering → Progress) (rest : Answering → World → Progress) (taken : List ℕ) (minds : List (Option Mind)) (part part' : PartView) (kept kept' : Kept) (old new old' new' : Known) (front : List Record) →
-    (reached : Reached spent names whole rest taken minds (moment part kept old) (moment part' kept' new)) → old'.records ≡ front → old'.setup ≡ old.setup → new'.core ≡ new.core → new'.setup ≡ new.setup → new'.records ≡ front ++ reached.made →
-    Reached spent names whole rest taken minds (moment part kept old') (moment part' kept' new')
+    (reached : IsStretch spent names whole rest taken minds (moment part kept old) (moment part' kept' new)) → old'.records ≡ front → old'.setup ≡ old.setup → new'.core ≡ new.core → new'.setup ≡ new.setup → new'.records ≡ front ++ reached.made →
+    IsStretch spent names whole rest taken minds (moment part kept old') (moment part' kept' new')
 with_records names whole rest taken minds part part' kept kept' old new old' new' front reached before setup core setup' after = record {
   piece = reached.piece;
   reads = reached.reads;
@@ -56,17 +57,13 @@ with_records names whole rest taken minds part part' kept kept' old new old' new
 
 -- the same of a scene whose setup is the same
 pub scene_as : {spent : ℕ} (names : Names) (roads : Roads) (script : Bool) (setup setup' : Setup) (how : Option Ended) (taken : List ℕ) (minds : List (Option Mind)) (world : World) (old new : Moment) → setup' ≡ setup →
-    Reached spent names (λ answers. round_or_pass (scene roads setup' script) answers world) (ending how) taken minds old new → Reached spent names (λ answers. round_or_pass (scene roads setup script) answers world) (ending how) taken minds old new
+    IsStretch spent names (λ answers. round_or_pass (scene roads setup' script) answers world) (ending how) taken minds old new → IsStretch spent names (λ answers. round_or_pass (scene roads setup script) answers world) (ending how) taken minds old new
 scene_as {spent} names roads script setup setup' how taken minds world old new same reached =
-    subst (λ (s : Setup). Reached spent names (λ answers. round_or_pass (scene roads s script) answers world) (ending how) taken minds old new) same reached
-
--- a moment with other room stands for the same worlds
-pub stands_with : (names : Names) (taken : List ℕ) (minds : List (Option Mind)) (part : PartView) (kept : Kept) (old new : Known) (world : World) → new.core ≡ old.core → StandsFor names taken minds (moment part kept old) world → StandsFor names taken minds (moment part kept new) world
-stands_with names taken minds part kept old new world core stands = record { script = stands.script; core = core ∙ stands.core; minds = stands.minds }
+    subst (λ (s : Setup). IsStretch spent names (λ answers. round_or_pass (scene roads s script) answers world) (ending how) taken minds old new) same reached
 
 -- a part was made and printed
 pub advances : {spent : ℕ} (names : Names) (trace : Trace) (whole : Answering → Progress) (how : Option Ended) (taken : List ℕ) (minds : List (Option Mind)) (part part' : PartView) (kept kept' : Kept) (old mid new : Known) (before after : Option (List ℕ)) →
-    Reached spent names whole (ending how) taken minds (moment part kept mid) (moment part' kept' new) → mid.records ≡ [] → old.records ≡ [] → mid.setup ≡ old.setup → after ≡ gain before (trace new.records) → (new' : Known) → new'.core ≡ new.core → new'.setup ≡ new.setup →
+    IsStretch spent names whole (ending how) taken minds (moment part kept mid) (moment part' kept' new) → mid.records ≡ [] → old.records ≡ [] → mid.setup ≡ old.setup → after ≡ gain before (trace new.records) → (new' : Known) → new'.core ≡ new.core → new'.setup ≡ new.setup →
     Advances spent names trace whole how taken minds (moment part kept old) (moment part' kept' new') before after
 advances names trace whole how taken minds part part' kept kept' old mid new before after reached none none' setup printed new' core setup' =
     let made : new.records ≡ reached.made = reached.records ∙ ap (λ (l : List Record). l ++ reached.made) none in
@@ -78,21 +75,21 @@ advances names trace whole how taken minds part part' kept kept' old mid new bef
 
 -- a write failed in the lines of a part
 pub cuts_off_at : {spent : ℕ} (names : Names) (trace : Trace) (whole : Answering → Progress) (how : Option Ended) (taken : List ℕ) (minds : List (Option Mind)) (part part' : PartView) (kept kept' : Kept) (mid new : Known) (before after : Option (List ℕ)) →
-    Reached spent names whole (ending how) taken minds (moment part kept mid) (moment part' kept' new) → mid.records ≡ [] → GainsFront (trace new.records) before after → CutsOff names trace whole taken part part' before after
+    IsStretch spent names whole (ending how) taken minds (moment part kept mid) (moment part' kept' new) → mid.records ≡ [] → GainsFront (trace new.records) before after → CutsOff names trace whole taken part part' before after
 cuts_off_at names trace whole how taken minds part part' kept kept' mid new before after reached none front = record {
   piece = reached.piece;
   reads = reached.reads;
   front = λ source goes.
-      let made : new.records ≡ (whole (asked names source)).made = reached.records ∙ ap (λ (l : List Record). l ++ reached.made) none ∙ sym (ap (λ (p : Progress). p.made) (reached.is source goes) ∙ append-nil reached.made) in
+      let made : new.records ≡ (whole (answer_of names source)).made = reached.records ∙ ap (λ (l : List Record). l ++ reached.made) none ∙ sym (ap (λ (p : Progress). p.made) (reached.is source goes) ∙ append-nil reached.made) in
       subst (λ (l : List Record). GainsFront (trace l) before after) made front;
 }
 
 -- memory was wanting, and nothing was written
-pub cuts_off_by : (names : Names) (trace : Trace) (whole : Answering → Progress) (taken : List ℕ) (part part' : PartView) (before : Option (List ℕ)) → CutOff part part' → CutsOff names trace whole taken part part' before before
+pub cuts_off_by : (names : Names) (trace : Trace) (whole : Answering → Progress) (taken : List ℕ) (part part' : PartView) (before : Option (List ℕ)) → LacksMemory part part' → CutsOff names trace whole taken part part' before before
 cuts_off_by names trace whole taken part part' before cut = record {
   piece = cut.piece;
   reads = cut.reads;
-  front = λ source goes. (trace (whole (asked names source)).made, record { done = []; split = refl; held = sym (gain-nil before) });
+  front = λ source goes. (trace (whole (answer_of names source)).made, record { done = []; split = refl; held = sym (gain-nil before) });
 }
 
 -- a part of a scene is that of the same one
@@ -105,7 +102,7 @@ pub part_is : {spent : ℕ} (names : Names) (trace : Trace) (whole : Answering �
 part_is names trace whole how taken minds old new before after uncut advances = rw uncut advances
 
 -- what a simulation keeps behind a part whose records are written and cleared
-pub kept_on : (deployed : Deployed) (part : PartView) (sim : Simulation) (places : List Place) (known : Known) → Fits deployed (moment part (kept_of sim.script) known) → sim.kernel ≡ record known { records = [] } → length known.setup.homes ≡ length deployed.actors →
+pub kept_on : (deployed : Deployed) (part : PartView) (sim : Simulation) (places : List SeatView) (known : Known) → Fits deployed (moment part (kept_of sim.script) known) → sim.kernel ≡ record known { records = [] } → length known.setup.homes ≡ length deployed.actors →
     All (IsSeated (extent known.setup)) places → length places ≡ length deployed.actors → length deployed.actors ≤ vec_capacity sim.calls → length deployed.actors ≤ 65536 → sim.buffer ≡ [] → IsKept deployed part sim places
 kept_on deployed part sim places known fits is homes seated number calls few empty = record {
   fits = record {
@@ -141,16 +138,16 @@ run_out n at answers world none = ap (λ (k : ℕ). run_from k at answers world)
 abbrev pub rest_of : ℕ → Scene → Answering → World → Progress
 rest_of n at answers world = run_from n at answers world
 
-pub worked_as : (start spent count n : ℕ) → n ≡ spent → start + spent ≤ count → start + n ≤ count
+pub worked_as : (start spent count n : ℕ) → n ≡ spent → count ≤ start + spent → count ≤ start + n
 worked_as start spent count n is worked = omega arith
 
 -- what comes next is counted, and so is what came before
-pub work_more : (start count later spent work mine its : ℕ) → start + spent ≤ count → work ≡ spent → mine ≡ its → count + mine ≤ later → start + (work + its) ≤ later
+pub work_more : (start count later spent work mine its : ℕ) → count ≤ start + spent → work ≡ spent → mine ≡ its → later ≤ count + mine → later ≤ start + (work + its)
 work_more start count later spent work mine its worked is same more = omega arith
 
 -- the run has come to its end
 abbrev pub over_by : {spent : ℕ} (start count : ℕ) (names : Names) (trace : Trace) (whole : Answering → Progress) (how : Ended) (minds : List (Option Mind)) (p0 p1 : PartView) (q0 q1 : Kept) (k0 k1 : Known) (core : Core) (before after : Option (List ℕ)) →
-    (reached : Reached spent names whole (ending (Some how)) [] minds (moment p0 q0 k0) (moment p1 q1 k1)) → core ≡ k1.core → after ≡ gain before (trace reached.made) → start + spent ≤ count → IsOver start count names trace whole how core p0 p1 before after
+    (reached : IsStretch spent names whole (ending (Some how)) [] minds (moment p0 q0 k0) (moment p1 q1 k1)) → core ≡ k1.core → after ≡ gain before (trace reached.made) → count ≤ start + spent → IsOver start count names trace whole how core p0 p1 before after
 over_by {spent} start count names trace whole how minds p0 p1 q0 q1 k0 k1 core before after reached same printed worked = record {
   piece = reached.piece;
   reads = reached.reads;
@@ -166,7 +163,7 @@ over_by {spent} start count names trace whole how minds p0 p1 q0 q1 k0 k1 core b
 
 -- all actors have ended
 pub completed : {spent : ℕ} (start count : ℕ) (names : Names) (trace : Trace) (whole : Answering → Progress) (n m : ℕ) (at : Scene) (minds : List (Option Mind)) (p0 p1 : PartView) (q0 q1 : Kept) (k0 k1 : Known) (core : Core) (before after : Option (List ℕ)) →
-    (reached : Reached spent names whole (rest_of n at) [] minds (moment p0 q0 k0) (moment p1 q1 k1)) → n ≡ suc m → core ≡ k1.core → list_all is_ended core.actors ≡ true → after ≡ gain before (trace reached.made) → start + spent ≤ count → IsOver start count names trace whole ended.Completed core p0 p1 before after
+    (reached : IsStretch spent names whole (rest_of n at) [] minds (moment p0 q0 k0) (moment p1 q1 k1)) → n ≡ suc m → core ≡ k1.core → list_all is_ended core.actors ≡ true → after ≡ gain before (trace reached.made) → count ≤ start + spent → IsOver start count names trace whole ended.Completed core p0 p1 before after
 completed start count names trace whole n m at minds p0 p1 q0 q1 k0 k1 core before after reached more same all printed worked =
     let all_here : list_all is_ended reached.world.core.actors ≡ true = ap (λ (c : Core). list_all is_ended c.actors) (sym (same ∙ reached.stands.core)) ∙ all in
     over_by start count names trace whole ended.Completed minds p0 p1 q0 q1 k0 k1 core before after (record {
@@ -178,12 +175,12 @@ completed start count names trace whole n m at minds p0 p1 q0 q1 k0 k1 core befo
       work = reached.work;
       made = reached.made;
       records = reached.records;
-      is = λ source goes. reached.is source goes ∙ ap (with_front reached.made) (run_done n m at (asked names source) reached.world more all_here);
+      is = λ source goes. reached.is source goes ∙ ap (with_front reached.made) (run_done n m at (answer_of names source) reached.world more all_here);
     }) same printed worked
 
 -- no round and no pass is left
 pub used_up : {spent : ℕ} (start count : ℕ) (names : Names) (trace : Trace) (whole : Answering → Progress) (n : ℕ) (at : Scene) (minds : List (Option Mind)) (p0 p1 : PartView) (q0 q1 : Kept) (k0 k1 : Known) (core : Core) (before after : Option (List ℕ)) →
-    (reached : Reached spent names whole (rest_of n at) [] minds (moment p0 q0 k0) (moment p1 q1 k1)) → n ≡ 0 → core ≡ k1.core → after ≡ gain before (trace reached.made) → start + spent ≤ count → IsOver start count names trace whole ended.Budget core p0 p1 before after
+    (reached : IsStretch spent names whole (rest_of n at) [] minds (moment p0 q0 k0) (moment p1 q1 k1)) → n ≡ 0 → core ≡ k1.core → after ≡ gain before (trace reached.made) → count ≤ start + spent → IsOver start count names trace whole ended.Budget core p0 p1 before after
 used_up start count names trace whole n at minds p0 p1 q0 q1 k0 k1 core before after reached none same printed worked =
     over_by start count names trace whole ended.Budget minds p0 p1 q0 q1 k0 k1 core before after (record {
       piece = reached.piece;
@@ -194,19 +191,19 @@ used_up start count names trace whole n at minds p0 p1 q0 q1 k0 k1 core before a
       work = reached.work;
       made = reached.made;
       records = reached.records;
-      is = λ source goes. reached.is source goes ∙ ap (with_front reached.made) (run_out n at (asked names source) reached.world none);
+      is = λ source goes. reached.is source goes ∙ ap (with_front reached.made) (run_out n at (answer_of names source) reached.world none);
     }) same printed worked
 
 -- one part more, and the run goes on
 abbrev pub part_on : {spent next : ℕ} (names : Names) (trace : Trace) (whole : Answering → Progress) (n m : ℕ) (at : Scene) (minds minds' : List (Option Mind)) (p0 p1 p2 : PartView) (q0 q1 q2 : Kept) (k0 k1 k1' k2 : Known) (before after : Option (List ℕ)) →
-    (reached : Reached spent names whole (rest_of n at) [] minds (moment p0 q0 k0) (moment p1 q1 k1')) → n ≡ suc m → k1'.core ≡ k1.core → k1'.setup ≡ k1.setup → list_all is_ended k1.core.actors ≡ false → k0.records ≡ [] →
+    (reached : IsStretch spent names whole (rest_of n at) [] minds (moment p0 q0 k0) (moment p1 q1 k1')) → n ≡ suc m → k1'.core ≡ k1.core → k1'.setup ≡ k1.setup → list_all is_ended k1.core.actors ≡ false → k0.records ≡ [] →
     (part : Advances next names trace (λ answers. round_or_pass at answers reached.world) None reached.piece minds' (moment p1 q1 k1) (moment p2 q2 k2) before after) → k1.records ≡ [] →
-    Reached next names whole (rest_of m at) [] minds' (moment p0 q0 k0) (moment p2 q2 (record k2 { records = reached.made ++ part.records }))
+    IsStretch next names whole (rest_of m at) [] minds' (moment p0 q0 k0) (moment p2 q2 (record k2 { records = reached.made ++ part.records }))
 part_on {next} names trace whole n m at minds minds' p0 p1 p2 q0 q1 q2 k0 k1 k1' k2 before after reached more core same some first part cleared =
     let made : part.records ≡ part.reached.made = part.reached.records ∙ ap (λ (l : List Record). l ++ part.reached.made) cleared in
     let here : k1'.records ≡ reached.made = reached.records ∙ ap (λ (l : List Record). l ++ reached.made) first in
     let some_here : list_all is_ended reached.world.core.actors ≡ false = ap (λ (c : Core). list_all is_ended c.actors) (sym (sym core ∙ reached.stands.core)) ∙ some in
-    let shifted : Reached next names (λ answers. round_or_pass at answers reached.world) (ending None) reached.piece minds' (moment p1 q1 k1') (moment p2 q2 (record k2 { records = reached.made ++ part.records })) =
+    let shifted : IsStretch next names (λ answers. round_or_pass at answers reached.world) (ending None) reached.piece minds' (moment p1 q1 k1') (moment p2 q2 (record k2 { records = reached.made ++ part.records })) =
     with_records names (λ answers. round_or_pass at answers reached.world) (ending None) reached.piece minds' p1 p2 q1 q2 k1 (record k2 { records = part.records }) k1' (record k2 { records = reached.made ++ part.records }) reached.made part.reached here same refl refl (ap (λ (l : List Record). reached.made ++ l) made) in
     reached_then names whole (rest_of n at) (rest_of m at) [] minds minds' (moment p0 q0 k0) (moment p1 q1 k1') (moment p2 q2 (record k2 { records = reached.made ++ part.records })) reached
     (reached_as names (λ answers. and_then (round_or_pass at answers reached.world) (rest_of m at answers)) (λ answers. rest_of n at answers reached.world) (rest_of m at) reached.piece minds' (moment p1 q1 k1') (moment p2 q2 (record k2 { records = reached.made ++ part.records }))
@@ -215,14 +212,14 @@ part_on {next} names trace whole n m at minds minds' p0 p1 p2 q0 q1 q2 k0 k1 k1'
 
 -- one part more, which has ended the run
 abbrev pub part_last : {spent next : ℕ} (names : Names) (trace : Trace) (whole : Answering → Progress) (how : Ended) (n m : ℕ) (at : Scene) (minds minds' : List (Option Mind)) (p0 p1 p2 : PartView) (q0 q1 q2 : Kept) (k0 k1 k1' k2 : Known) (before after : Option (List ℕ)) →
-    (reached : Reached spent names whole (rest_of n at) [] minds (moment p0 q0 k0) (moment p1 q1 k1')) → n ≡ suc m → k1'.core ≡ k1.core → k1'.setup ≡ k1.setup → list_all is_ended k1.core.actors ≡ false → k0.records ≡ [] →
+    (reached : IsStretch spent names whole (rest_of n at) [] minds (moment p0 q0 k0) (moment p1 q1 k1')) → n ≡ suc m → k1'.core ≡ k1.core → k1'.setup ≡ k1.setup → list_all is_ended k1.core.actors ≡ false → k0.records ≡ [] →
     (part : Advances next names trace (λ answers. round_or_pass at answers reached.world) (Some how) reached.piece minds' (moment p1 q1 k1) (moment p2 q2 k2) before after) → k1.records ≡ [] →
-    Reached next names whole (ending (Some how)) [] minds' (moment p0 q0 k0) (moment p2 q2 (record k2 { records = reached.made ++ part.records }))
+    IsStretch next names whole (ending (Some how)) [] minds' (moment p0 q0 k0) (moment p2 q2 (record k2 { records = reached.made ++ part.records }))
 part_last {next} names trace whole how n m at minds minds' p0 p1 p2 q0 q1 q2 k0 k1 k1' k2 before after reached more core same some first part cleared =
     let made : part.records ≡ part.reached.made = part.reached.records ∙ ap (λ (l : List Record). l ++ part.reached.made) cleared in
     let here : k1'.records ≡ reached.made = reached.records ∙ ap (λ (l : List Record). l ++ reached.made) first in
     let some_here : list_all is_ended reached.world.core.actors ≡ false = ap (λ (c : Core). list_all is_ended c.actors) (sym (sym core ∙ reached.stands.core)) ∙ some in
-    let shifted : Reached next names (λ answers. round_or_pass at answers reached.world) (ending (Some how)) reached.piece minds' (moment p1 q1 k1') (moment p2 q2 (record k2 { records = reached.made ++ part.records })) =
+    let shifted : IsStretch next names (λ answers. round_or_pass at answers reached.world) (ending (Some how)) reached.piece minds' (moment p1 q1 k1') (moment p2 q2 (record k2 { records = reached.made ++ part.records })) =
     with_records names (λ answers. round_or_pass at answers reached.world) (ending (Some how)) reached.piece minds' p1 p2 q1 q2 k1 (record k2 { records = part.records }) k1' (record k2 { records = reached.made ++ part.records }) reached.made part.reached here same refl refl (ap (λ (l : List Record). reached.made ++ l) made) in
     reached_then names whole (rest_of n at) (ending (Some how)) [] minds minds' (moment p0 q0 k0) (moment p1 q1 k1') (moment p2 q2 (record k2 { records = reached.made ++ part.records })) reached
     (reached_as names (λ answers. and_then (round_or_pass at answers reached.world) (rest_of m at answers)) (λ answers. rest_of n at answers reached.world) (ending (Some how)) reached.piece minds' (moment p1 q1 k1') (moment p2 q2 (record k2 { records = reached.made ++ part.records }))
@@ -252,13 +249,13 @@ made_and_then (Some how) first next = ([], sym (append-nil first.made))
 
 -- a part was cut off, and so is the run
 pub part_cut : {spent : ℕ} (names : Names) (trace : Trace) → Appends trace → (whole : Answering → Progress) (n m : ℕ) (at : Scene) (minds : List (Option Mind)) (p0 p1 p2 : PartView) (q0 q1 : Kept) (k0 k1 : Known) (start before after : Option (List ℕ)) →
-    (reached : Reached spent names whole (rest_of n at) [] minds (moment p0 q0 k0) (moment p1 q1 k1)) → n ≡ suc m → list_all is_ended k1.core.actors ≡ false → before ≡ gain start (trace reached.made) →
+    (reached : IsStretch spent names whole (rest_of n at) [] minds (moment p0 q0 k0) (moment p1 q1 k1)) → n ≡ suc m → list_all is_ended k1.core.actors ≡ false → before ≡ gain start (trace reached.made) →
     CutsOff names trace (λ answers. round_or_pass at answers reached.world) reached.piece p1 p2 before after → CutsOff names trace whole [] p0 p2 start after
 part_cut names trace appends whole n m at minds p0 p1 p2 q0 q1 k0 k1 start before after reached more some printed cut = record {
   piece = reached.piece ++ cut.piece;
   reads = reads_then reached.piece cut.piece p0 p1 p2 reached.reads cut.reads;
   front = λ source goes.
-      let answers = asked names source in
+      let answers = answer_of names source in
       let first = round_or_pass at answers reached.world in
       let some_here : list_all is_ended reached.world.core.actors ≡ false = ap (λ (c : Core). list_all is_ended c.actors) (sym reached.stands.core) ∙ some in
       let rest = made_and_then first.ended first (rest_of m at answers) in
@@ -280,12 +277,27 @@ part_cut names trace appends whole n m at minds p0 p1 p2 q0 q1 k0 k1 start befor
       );
 }
 
+-- a part was cut off that looked no oftener than it may
+pub cut_off : {spent : ℕ} (from later : ℕ) (names : Names) (trace : Trace) → Appends trace → (whole : Answering → Progress) (n m : ℕ) (at : Scene) (minds : List (Option Mind)) (p0 p1 p2 : PartView) (q0 q1 : Kept) (k0 k1 : Known) (start before after : Option (List ℕ)) →
+    (reached : IsStretch spent names whole (rest_of n at) [] minds (moment p0 q0 k0) (moment p1 q1 k1)) → n ≡ suc m → list_all is_ended k1.core.actors ≡ false → before ≡ gain start (trace reached.made) →
+    CutsOff names trace (λ answers. round_or_pass at answers reached.world) reached.piece p1 p2 before after → later ≤ from + work_behind reached.world → IsCutOff from later names trace whole p0 p2 start after
+unfolding part_cut
+cut_off from later names trace appends whole n m at minds p0 p1 p2 q0 q1 k0 k1 start before after reached more some printed cut worked = record {
+  cut = part_cut names trace appends whole n m at minds p0 p1 p2 q0 q1 k0 k1 start before after reached more some printed cut;
+  worked = λ source goes.
+      let answers = answer_of names source in
+      let some_here : list_all is_ended reached.world.core.actors ≡ false = ap (λ (c : Core). list_all is_ended c.actors) (sym reached.stands.core) ∙ some in
+      let all : (whole answers).world.work ≡ (and_then (round_or_pass at answers reached.world) (rest_of m at answers)).world.work =
+      ap (λ (p : Progress). p.world.work) (reached.is source (goes_back reached.piece cut.piece p1 p2 source cut.reads goes) ∙ ap (with_front reached.made) (run_goes n m at answers reached.world more some_here)) in
+      omega (arith, all, worked, run_rises_behind m at answers reached.world);
+}
+
 -- ---- the run so far, with its trace lines
 pub record SoFar (start count : ℕ) (names : Names) (trace : Trace) (whole : Answering → Progress) (rest : Answering → World → Progress) (minds : List (Option Mind)) (p0 p1 : PartView) (q0 q1 : Kept) (k0 k1 : Known) (before after : Option (List ℕ)) : Type 0 where
   pub records : List Record
   pub spent : ℕ
-  pub worked : start + spent ≤ count
-  pub reached : Reached spent names whole rest [] minds (moment p0 q0 k0) (moment p1 q1 (record k1 { records = records }))
+  pub worked : count ≤ start + spent
+  pub reached : IsStretch spent names whole rest [] minds (moment p0 q0 k0) (moment p1 q1 (record k1 { records = records }))
   pub printed : after ≡ gain before (trace reached.made)
 
 -- at the beginning
@@ -304,7 +316,7 @@ far_first start names trace whole rest minds part kept known before world begun 
     work = idle;
     made = [];
     records = sym (append-nil known.records);
-    is = λ source goes. same (asked names source);
+    is = λ source goes. same (answer_of names source);
   };
   printed = sym (gain-nil before) ∙ ap (gain before) (sym none);
 }
@@ -312,7 +324,7 @@ far_first start names trace whole rest minds part kept known before world begun 
 -- one part more
 pub far_on : {next : ℕ} (from count later : ℕ) (names : Names) (trace : Trace) → Appends trace → (whole : Answering → Progress) (n m : ℕ) (at : Scene) (minds minds' : List (Option Mind)) (p0 p1 p2 : PartView) (q0 q1 q2 : Kept) (k0 k1 k2 : Known) (start before after : Option (List ℕ)) →
     (far : SoFar from count names trace whole (rest_of n at) minds p0 p1 q0 q1 k0 k1 start before) → n ≡ suc m → list_all is_ended k1.core.actors ≡ false → k0.records ≡ [] → k1.records ≡ [] →
-    Advances next names trace (λ answers. round_or_pass at answers far.reached.world) None far.reached.piece minds' (moment p1 q1 k1) (moment p2 q2 k2) before after → from + next ≤ later → SoFar from later names trace whole (rest_of m at) minds' p0 p2 q0 q2 k0 k2 start after
+    Advances next names trace (λ answers. round_or_pass at answers far.reached.world) None far.reached.piece minds' (moment p1 q1 k1) (moment p2 q2 k2) before after → later ≤ from + next → SoFar from later names trace whole (rest_of m at) minds' p0 p2 q0 q2 k0 k2 start after
 far_on {next} from count later names trace appends whole n m at minds minds' p0 p1 p2 q0 q1 q2 k0 k1 k2 start before after far more some first cleared part worked =
     let made : part.records ≡ part.reached.made = part.reached.records ∙ ap (λ (l : List Record). l ++ part.reached.made) cleared in
     record {
@@ -326,7 +338,7 @@ far_on {next} from count later names trace appends whole n m at minds minds' p0 
 -- the last part
 pub far_over : {next : ℕ} (from count later : ℕ) (names : Names) (trace : Trace) → Appends trace → (whole : Answering → Progress) (how : Ended) (n m : ℕ) (at : Scene) (minds minds' : List (Option Mind)) (p0 p1 p2 : PartView) (q0 q1 q2 : Kept) (k0 k1 k2 : Known) (start before after : Option (List ℕ)) →
     (far : SoFar from count names trace whole (rest_of n at) minds p0 p1 q0 q1 k0 k1 start before) → n ≡ suc m → list_all is_ended k1.core.actors ≡ false → k0.records ≡ [] → k1.records ≡ [] →
-    Advances next names trace (λ answers. round_or_pass at answers far.reached.world) (Some how) far.reached.piece minds' (moment p1 q1 k1) (moment p2 q2 k2) before after → from + next ≤ later → IsOver from later names trace whole how k2.core p0 p2 start after
+    Advances next names trace (λ answers. round_or_pass at answers far.reached.world) (Some how) far.reached.piece minds' (moment p1 q1 k1) (moment p2 q2 k2) before after → later ≤ from + next → IsOver from later names trace whole how k2.core p0 p2 start after
 far_over from count later names trace appends whole how n m at minds minds' p0 p1 p2 q0 q1 q2 k0 k1 k2 start before after far more some first cleared part worked =
     let made : part.records ≡ part.reached.made = part.reached.records ∙ ap (λ (l : List Record). l ++ part.reached.made) cleared in
     over_by from later names trace whole how minds' p0 p2 q0 q2 k0 (record k2 { records = far.reached.made ++ part.records }) k2.core start after
@@ -334,9 +346,9 @@ far_over from count later names trace appends whole how n m at minds minds' p0 p
     (part.printed ∙ ap₂ (λ (h : Option (List ℕ)) (l : List Record). gain h (trace l)) far.printed made ∙ gain-gain start (trace far.reached.made) (trace part.reached.made) ∙ ap (gain start) (sym (appends far.reached.made part.reached.made))) worked
 
 -- what a part did that ended the run or cut it off
-pub far_ends : (next from count later : ℕ) (names : Names) (trace : Trace) → Appends trace → (whole : Answering → Progress) (how : Ended) (b : Bool) (n m : ℕ) (at : Scene) (minds minds' : List (Option Mind)) (p0 p1 p2 : PartView) (q0 q1 q2 : Kept) (k0 k1 k2 : Known) (start before after : Option (List ℕ)) →
+pub far_ends : (from count later : ℕ) (names : Names) (trace : Trace) → Appends trace → (whole : Answering → Progress) (how : Ended) (b : Bool) (n m : ℕ) (at : Scene) (minds minds' : List (Option Mind)) (p0 p1 p2 : PartView) (q0 q1 q2 : Kept) (k0 k1 k2 : Known) (start before after : Option (List ℕ)) →
     (far : SoFar from count names trace whole (rest_of n at) minds p0 p1 q0 q1 k0 k1 start before) → n ≡ suc m → list_all is_ended k1.core.actors ≡ false → k0.records ≡ [] → k1.records ≡ [] →
-    MatchBool b (CutsOff names trace (λ answers. round_or_pass at answers far.reached.world) far.reached.piece p1 p2 before after) (Advances next names trace (λ answers. round_or_pass at answers far.reached.world) (Some how) far.reached.piece minds' (moment p1 q1 k1) (moment p2 q2 k2) before after) →
-    (b ≡ false → from + next ≤ later) → MatchBool b (CutsOff names trace whole [] p0 p2 start after) (IsOver from later names trace whole how k2.core p0 p2 start after)
-far_ends next from count later names trace appends whole how true n m at minds minds' p0 p1 p2 q0 q1 q2 k0 k1 k2 start before after far more some first cleared cut worked = part_cut names trace appends whole n m at minds p0 p1 p2 q0 q1 k0 (record k1 { records = far.records }) start before after far.reached more some far.printed cut
-far_ends next from count later names trace appends whole how false n m at minds minds' p0 p1 p2 q0 q1 q2 k0 k1 k2 start before after far more some first cleared part worked = far_over from count later names trace appends whole how n m at minds minds' p0 p1 p2 q0 q1 q2 k0 k1 k2 start before after far more some first cleared part (worked refl)
+    MatchBool b (CutsOff names trace (λ answers. round_or_pass at answers far.reached.world) far.reached.piece p1 p2 before after) (Advances (work_behind far.reached.world) names trace (λ answers. round_or_pass at answers far.reached.world) (Some how) far.reached.piece minds' (moment p1 q1 k1) (moment p2 q2 k2) before after) →
+    later ≤ from + work_behind far.reached.world → MatchBool b (IsCutOff from later names trace whole p0 p2 start after) (IsOver from later names trace whole how k2.core p0 p2 start after)
+far_ends from count later names trace appends whole how true n m at minds minds' p0 p1 p2 q0 q1 q2 k0 k1 k2 start before after far more some first cleared cut worked = cut_off from later names trace appends whole n m at minds p0 p1 p2 q0 q1 k0 (record k1 { records = far.records }) start before after far.reached more some far.printed cut worked
+far_ends from count later names trace appends whole how false n m at minds minds' p0 p1 p2 q0 q1 q2 k0 k1 k2 start before after far more some first cleared part worked = far_over from count later names trace appends whole how n m at minds minds' p0 p1 p2 q0 q1 q2 k0 k1 k2 start before after far more some first cleared part worked

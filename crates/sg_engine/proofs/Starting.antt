@@ -2,24 +2,24 @@
 use Rattle.std.proofs.Common.{◌≡◌, ◌≢◌, ◌≤◌, length, ◌∙◌, sym, ap, ap₂, subst, refl, ℕ, ◌+◌, List, [], ◌∷◌, map, All, arith}
 use Rattle.std.specs.Prelude.{vec_capacity}
 use Rattle.std.proofs.lemmas.List.{length-map, length-replicate}
-use Rattle.sg_actor.specs.Places.{Place}
+use Rattle.sg_actor.specs.Seats.{SeatView}
 use Rattle.sg_base.specs.declared.call.Answer.TheVariants as answer
 use Rattle.sg_edge.specs.Files.{PartView}
 use Rattle.sg_edge.specs.declared.files.Stage.TheVariants.{Fresh}
 use Rattle.sg_kernel.specs.Known.{Known, first_known}
 use Rattle.sg_kernel.specs.Start.{capacities_in, setup_of, home_of, capacity_of}
 use Rattle.sg_kernel.specs.World.{extent}
-use Rattle.sg_kernel.specs.declared.states.State.TheVariants.{Ready}
-use Rattle.sg_platform.specs.Deployment.{Deployed, extent_of}
-use Rattle.sg_platform.specs.declared.rows.ActorRow.{ActorRow}
-use Rattle.sg_platform.specs.Platform.{Platform}
+use Rattle.sg_states.specs.declared.state.State.TheVariants.{Ready}
+use Rattle.sg_rows.specs.Deployment.{Deployed, extent_of}
+use Rattle.sg_rows.specs.declared.rows.ActorRow.{ActorRow}
+use Rattle.sg_rows.specs.Platform.{Platform}
 use Rattle.sg_script.specs.Known.{known_in}
 use Rattle.sg_script.specs.Stands.{AreLimited, Stands, kept_of, actors_of}
 use Rattle.sg_engine.specs.declared.simulation.Simulation.{Simulation}
-use Rattle.sg_engine.specs.Keeping.{at_moment, IsFirst, IsKept}
-use Rattle.sg_engine.specs.Reached.{Fits}
+use Rattle.sg_engine.specs.kept.Invariant.{at_moment, IsFirst, IsKept}
+use Rattle.sg_engine.specs.kept.Moments.{Fits}
 use Rattle.sg_engine.specs.Roles.{first_minds, minds_from}
-use Rattle.sg_engine.specs.Seated.{mind_in, minds_of, IsSeated}
+use Rattle.sg_engine.specs.kept.SeatRules.{mind_in, minds_of, IsSeated}
 
 length-minds_from : (me : ℕ) (rows : List ActorRow) → length (minds_from me rows) ≡ length rows
 length-minds_from me [] = refl
@@ -43,7 +43,7 @@ first_fits platform deployed budget part sim new queues begun waiting = record {
   waiting = waiting;
 }
 
-first_kept : (platform : Platform) (deployed : Deployed) (budget : ℕ) (part : PartView) (sim : Simulation) (places : List Place) → sim.kernel ≡ first_known (capacities_in platform) (setup_of platform deployed budget) → Fits deployed (at_moment part sim) →
+first_kept : (platform : Platform) (deployed : Deployed) (budget : ℕ) (part : PartView) (sim : Simulation) (places : List SeatView) → sim.kernel ≡ first_known (capacities_in platform) (setup_of platform deployed budget) → Fits deployed (at_moment part sim) →
     minds_of places ≡ first_minds deployed → All (IsSeated (extent_of deployed)) places → length deployed.actors ≤ vec_capacity sim.calls → length deployed.actors ≤ 65536 → sim.buffer ≡ [] → IsKept deployed part sim places
 first_kept platform deployed budget part sim places new fits minds seated calls few empty = record {
   fits = fits;
@@ -57,7 +57,7 @@ first_kept platform deployed budget part sim places new fits minds seated calls 
 }
 
 -- the simulation at its beginning
-pub is_first : (platform : Platform) (deployed : Deployed) (budget : ℕ) (part : PartView) (sim : Simulation) (places : List Place) → sim.kernel ≡ first_known (capacities_in platform) (setup_of platform deployed budget) → actors_of sim.script ≡ length deployed.actors →
+pub is_first : (platform : Platform) (deployed : Deployed) (budget : ℕ) (part : PartView) (sim : Simulation) (places : List SeatView) → sim.kernel ≡ first_known (capacities_in platform) (setup_of platform deployed budget) → actors_of sim.script ≡ length deployed.actors →
     part.stage ≢ Fresh → AreLimited (extent_of deployed) (kept_of sim.script) → Stands (known_in deployed) [] part.stage (λ _. 0) (kept_of sim.script) →
     minds_of places ≡ first_minds deployed → All (IsSeated (extent_of deployed)) places → length deployed.actors ≤ vec_capacity sim.calls → length deployed.actors ≤ 65536 → sim.buffer ≡ [] → IsFirst platform deployed budget part sim places
 is_first platform deployed budget part sim places new queues begun waiting stands minds seated calls few empty = record {
@@ -67,7 +67,7 @@ is_first platform deployed budget part sim places new queues begun waiting stand
 }
 
 -- the same of the seats, as they are lent
-pub first_as : {S : Type 0} (see : S → Place) (seats lent : List S) (platform : Platform) (deployed : Deployed) (budget : ℕ) (part : PartView) (sim : Simulation) → lent ≡ seats →
-    ((part : PartView) (places : List Place) → part.stage ≢ Fresh → minds_of places ≡ first_minds deployed → All (IsSeated (extent_of deployed)) places → IsFirst platform deployed budget part sim places) →
+pub first_as : {S : Type 0} (see : S → SeatView) (seats lent : List S) (platform : Platform) (deployed : Deployed) (budget : ℕ) (part : PartView) (sim : Simulation) → lent ≡ seats →
+    ((part : PartView) (places : List SeatView) → part.stage ≢ Fresh → minds_of places ≡ first_minds deployed → All (IsSeated (extent_of deployed)) places → IsFirst platform deployed budget part sim places) →
     part.stage ≢ Fresh → minds_of (map see seats) ≡ first_minds deployed → All (IsSeated (extent_of deployed)) (map see seats) → IsFirst platform deployed budget part sim (map see lent)
 first_as {S} see seats lent platform deployed budget part sim same first begun minds seated = subst (λ (l : List S). IsFirst platform deployed budget part sim (map see l)) (sym same) (first part (map see seats) begun minds seated)

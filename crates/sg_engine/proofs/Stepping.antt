@@ -7,26 +7,26 @@ use Rattle.sg_base.specs.declared.call.Answer.{Answer}
 use Rattle.sg_base.specs.declared.call.Answer.TheVariants.{Start}
 use Rattle.sg_base.specs.declared.call.Call.{Call}
 use Rattle.sg_base.specs.declared.call.Call.TheVariants.{Ask}
-use Rattle.sg_actor.specs.Places.{Place, after}
-use Rattle.sg_kernel.specs.declared.states.State.{State}
-use Rattle.sg_kernel.specs.declared.states.State.TheVariants.{Ready, Blocked, Ended}
-use Rattle.sg_kernel.specs.Queue.{IsQueue}
-use Rattle.sg_kernel.specs.World.{inbox_of, is_ready}
+use Rattle.sg_actor.specs.Seats.{SeatView, after}
+use Rattle.sg_states.specs.declared.state.State.{State}
+use Rattle.sg_states.specs.declared.state.State.TheVariants.{Ready, Blocked, Ended}
+use Rattle.sg_states.specs.Queue.{IsQueue}
+use Rattle.sg_states.specs.Actors.{inbox_of, is_ready}
 use Rattle.sg_engine.specs.declared.actor_call.ActorCall.{ActorCall}
-use Rattle.sg_engine.specs.Listed.{listed, listed_one}
+use Rattle.sg_engine.specs.kept.CallList.{call_list, with_call}
 use Rattle.sg_engine.specs.Run.{zip_with}
-use Rattle.sg_engine.specs.Seated.{readiness, offered, call_in}
+use Rattle.sg_engine.specs.kept.SeatRules.{readiness, with_answer, call_in}
 use Rattle.sg_engine.proofs.Listing.{calls_next, skipped_calls, all_listed}
 use Rattle.sg_engine.proofs.Merging.{merged, merged_all, skipped, was, placed, mapped_on}
 use Rattle.sg_engine.proofs.Queues.{last_id, last_at, last_before, last_next, last_within, quiet, quiet_end}
-use Rattle.sg_engine.proofs.Rounds.{length-zip_with, zip_at, idle_calls, idle_stays}
+use Rattle.sg_engine.proofs.SeatSteps.{length-zip_with, zip_at, idle_calls, idle_stays}
 
 -- the id that stands at a place of the queue
 abbrev pub id_at : List ActorId → ℕ → ℕ
 id_at queue k = (get_or queue k (record { 0 = 0 })).0
 
 -- a place of nobody
-abbrev pub no_place : Place
+abbrev pub no_place : SeatView
 no_place = record { mind = None; inbox = Start; outbox = Ask; ready = false }
 
 -- who isn't ready stays
@@ -69,32 +69,32 @@ none_for (Blocked what since on) idle = refl
 none_for Ended idle = refl
 
 -- what is offered at a place
-pub offered_at : (places : List Place) (states : List State) (j : ℕ) (d : Place) → length states ≡ length places → j < length states → get_or (zip_with offered places (map inbox_of states)) j d ≡ offered (get_or places j d) (inbox_of (get_or states j Ended))
+pub offered_at : (places : List SeatView) (states : List State) (j : ℕ) (d : SeatView) → length states ≡ length places → j < length states → get_or (zip_with with_answer places (map inbox_of states)) j d ≡ with_answer (get_or places j d) (inbox_of (get_or states j Ended))
 offered_at places states j d same within =
     let long : length (map inbox_of states) ≡ length places = length-map states inbox_of ∙ same in
-    zip_at offered places (map inbox_of states) j d None d (omega (arith, within, same)) long
-    ∙ ap (offered (get_or places j d)) (get_or-map inbox_of states j Ended None within)
+    zip_at with_answer places (map inbox_of states) j d None d (omega (arith, within, same)) long
+    ∙ ap (with_answer (get_or places j d)) (get_or-map inbox_of states j Ended None within)
 
-pub offers_stay : (places : List Place) (states : List State) (d : Place) → length states ≡ length places → IdleStay states (zip_with offered places (map inbox_of states)) places d
-offers_stay places states d same j within idle = offered_at places states j d same within ∙ ap (offered (get_or places j d)) (none_for (get_or states j Ended) idle)
+pub offers_stay : (places : List SeatView) (states : List State) (d : SeatView) → length states ≡ length places → IdleStay states (zip_with with_answer places (map inbox_of states)) places d
+offers_stay places states d same j within idle = offered_at places states j d same within ∙ ap (with_answer (get_or places j d)) (none_for (get_or states j Ended) idle)
 
-pub offers_number : (places : List Place) (states : List State) → length states ≡ length places → length (zip_with offered places (map inbox_of states)) ≡ length places
-offers_number places states same = length-zip_with offered places (map inbox_of states) (length-map states inbox_of ∙ same)
+pub offers_number : (places : List SeatView) (states : List State) → length states ≡ length places → length (zip_with with_answer places (map inbox_of states)) ≡ length places
+offers_number places states same = length-zip_with with_answer places (map inbox_of states) (length-map states inbox_of ∙ same)
 
 -- ---- turns and rests
-ready_at : (places : List Place) (states : List State) (j : ℕ) (d : Place) → map readiness places ≡ map is_ready states → j < length states → (get_or places j d).ready ≡ is_ready (get_or states j Ended)
+ready_at : (places : List SeatView) (states : List State) (j : ℕ) (d : SeatView) → map readiness places ≡ map is_ready states → j < length states → (get_or places j d).ready ≡ is_ready (get_or states j Ended)
 ready_at places states j d ready within =
     let same : length places ≡ length states = sym (length-map places readiness) ∙ ap length ready ∙ length-map states is_ready in
     sym (get_or-map readiness places j d false (omega (arith, within, same)))
     ∙ ap (λ (l : List Bool). get_or l j false) ready
     ∙ get_or-map is_ready states j Ended false within
 
-pub mapped_stay : (f : Place → Place) → ((place : Place) → place.ready ≡ false → f place ≡ place) → (places : List Place) (states : List State) (d : Place) → map readiness places ≡ map is_ready states → length places ≡ length states → IdleStay states (map f places) places d
+pub mapped_stay : (f : SeatView → SeatView) → ((place : SeatView) → place.ready ≡ false → f place ≡ place) → (places : List SeatView) (states : List State) (d : SeatView) → map readiness places ≡ map is_ready states → length places ≡ length states → IdleStay states (map f places) places d
 mapped_stay f stays places states d ready same j within idle =
     get_or-map f places j d d (omega (arith, within, same)) ∙ stays (get_or places j d) (ready_at places states j d ready within ∙ idle)
 
 -- several take their turns in one go
-pub turned_on : (states : List State) (queue : List ActorId) (k to : ℕ) (now new old : List Place) (d : Place) → IsQueue states queue → k < to → to ≤ length queue → length old ≡ length states → map readiness old ≡ map is_ready states → IdleStay states (map after old) old d →
+pub turned_on : (states : List State) (queue : List ActorId) (k to : ℕ) (now new old : List SeatView) (d : SeatView) → IsQueue states queue → k < to → to ≤ length queue → length old ≡ length states → map readiness old ≡ map is_ready states → IdleStay states (map after old) old d →
     now ≡ merged (last_id queue k) (map after old) old → new ≡ take (id_at queue k - 1) now ++ (map after (drop (id_at queue k - 1) (take (id_at queue (to - 1)) now)) ++ drop (id_at queue (to - 1)) now) → new ≡ merged (last_id queue to) (map after old) old
 turned_on states queue k to now new old d is less within number ready stay inv made =
     let a = id_at queue k - 1 in
@@ -108,18 +108,18 @@ turned_on states queue k to now new old d is less within number ready stay inv m
     ] in
     let here : now ≡ merged a (map after old) old = inv ∙ reach states queue k (map after old) old d is (omega (arith, less, within)) same stay in
     made
-    ∙ ap (λ (l : List Place). take a l ++ (map after (drop a (take b l)) ++ drop b l)) here
+    ∙ ap (λ (l : List SeatView). take a l ++ (map after (drop a (take b l)) ++ drop b l)) here
     ∙ mapped_on after old a b le (omega (arith, last.1, number))
     ∙ ap (λ (n : ℕ). merged n (map after old) old) (sym (last_at queue to (omega (arith, less))))
 
 -- ---- calls
-none_called : (places : List Place) (states : List State) (j : ℕ) (d : Place) → map readiness places ≡ map is_ready states → length places ≡ length states → j < length states → is_ready (get_or states j Ended) ≡ false → get_or (map call_in places) j None ≡ None
+none_called : (places : List SeatView) (states : List State) (j : ℕ) (d : SeatView) → map readiness places ≡ map is_ready states → length places ≡ length states → j < length states → is_ready (get_or states j Ended) ≡ false → get_or (map call_in places) j None ≡ None
 none_called places states j d ready same within idle =
     get_or-map call_in places j d None (omega (arith, within, same)) ∙ idle_calls (get_or places j d) (ready_at places states j d ready within ∙ idle)
 
 -- one call more
-pub called_on : (places : List Place) (states : List State) (queue : List ActorId) (k : ℕ) (items items' : List ActorCall) (call : Option Call) (d : Place) → IsQueue states queue → k < length queue → map readiness places ≡ map is_ready states → length places ≡ length states →
-    items ≡ listed 1 (take (last_id queue k) (map call_in places)) → items' ≡ items ++ listed_one (id_at queue k) call [] → call ≡ call_in (get_or places (id_at queue k - 1) d) → items' ≡ listed 1 (take (last_id queue (k + 1)) (map call_in places))
+pub called_on : (places : List SeatView) (states : List State) (queue : List ActorId) (k : ℕ) (items items' : List ActorCall) (call : Option Call) (d : SeatView) → IsQueue states queue → k < length queue → map readiness places ≡ map is_ready states → length places ≡ length states →
+    items ≡ call_list 1 (take (last_id queue k) (map call_in places)) → items' ≡ items ++ with_call (id_at queue k) call [] → call ≡ call_in (get_or places (id_at queue k - 1) d) → items' ≡ call_list 1 (take (last_id queue (k + 1)) (map call_in places))
 called_on places states queue k items items' call d is within ready same before added made =
     let ids = is.ids k (record { 0 = 0 }) within in
     let i = id_at queue k - 1 in
@@ -127,39 +127,39 @@ called_on places states queue k items items' call d is within ready same before 
     calls_next (map call_in places) items items' i (id_at queue k) call (omega (arith, place, length-map places call_in))
     (before ∙ skipped_calls 1 (map call_in places) (last_id queue k) i (last_before states queue k is within) (λ j from to. none_called places states j d ready same (within_states states queue k j is within to) (quiet states queue k j is within from to)))
     added (omega (arith, ids.0)) (made ∙ sym (get_or-map call_in places i d None place))
-    ∙ ap (λ (n : ℕ). listed 1 (take n (map call_in places))) (sym (last_next queue k ids.0))
+    ∙ ap (λ (n : ℕ). call_list 1 (take n (map call_in places))) (sym (last_next queue k ids.0))
 
 -- all calls
-pub all_called : (places : List Place) (states : List State) (queue : List ActorId) (k : ℕ) → IsQueue states queue → k ≤ length queue → length queue ≤ k → map readiness places ≡ map is_ready states → length places ≡ length states →
-    listed 1 (take (last_id queue k) (map call_in places)) ≡ listed 1 (map call_in places)
+pub all_called : (places : List SeatView) (states : List State) (queue : List ActorId) (k : ℕ) → IsQueue states queue → k ≤ length queue → length queue ≤ k → map readiness places ≡ map is_ready states → length places ≡ length states →
+    call_list 1 (take (last_id queue k) (map call_in places)) ≡ call_list 1 (map call_in places)
 all_called places states queue k is within past ready same =
     skipped_calls 1 (map call_in places) (last_id queue k) (length states) (last_within states queue k is within) (λ j from to. none_called places states j no_place ready same to (quiet_end states queue k j is within past from to))
     ∙ all_listed (map call_in places) (length states) (omega (arith, length-map places call_in, same))
 
 -- ---- as the loops have it, where a seat is read and then written
-pub offer_next : {S : Type 0} (see : S → Place) (old now : List S) (states : List State) (queue : List ActorId) (k : ℕ) (r s : S) (answer : Option Answer) → IsQueue states queue → k < length queue → length old ≡ length states →
-    map see now ≡ merged (last_id queue k) (zip_with offered (map see old) (map inbox_of states)) (map see old) → answer ≡ inbox_of (get_or states (id_at queue k - 1) Ended) → see s ≡ offered (see (get_or now (id_at queue k - 1) r)) answer →
-    map see (set now (id_at queue k - 1) s) ≡ merged (last_id queue (k + 1)) (zip_with offered (map see old) (map inbox_of states)) (map see old)
+pub offer_next : {S : Type 0} (see : S → SeatView) (old now : List S) (states : List State) (queue : List ActorId) (k : ℕ) (r s : S) (answer : Option Answer) → IsQueue states queue → k < length queue → length old ≡ length states →
+    map see now ≡ merged (last_id queue k) (zip_with with_answer (map see old) (map inbox_of states)) (map see old) → answer ≡ inbox_of (get_or states (id_at queue k - 1) Ended) → see s ≡ with_answer (see (get_or now (id_at queue k - 1) r)) answer →
+    map see (set now (id_at queue k - 1) s) ≡ merged (last_id queue (k + 1)) (zip_with with_answer (map see old) (map inbox_of states)) (map see old)
 offer_next see old now states queue k r s answer is within number inv has made =
     let places = map see old in
-    let new = zip_with offered places (map inbox_of states) in
+    let new = zip_with with_answer places (map inbox_of states) in
     let long : length places ≡ length states = length-map old see ∙ number in
     let same : length new ≡ length places = offers_number places states (sym long) in
     let stay : IdleStay states new places (see r) = offers_stay places states (see r) (sym long) in
     let ids = is.ids k (record { 0 = 0 }) within in
     let mine : see (get_or now (id_at queue k - 1) r) ≡ get_or places (id_at queue k - 1) (see r) = was_at see states queue k now new places r is within long same stay inv in
     stepped_on see states queue k now new places s (see r) is within long same stay inv
-    (made ∙ ap₂ offered mine has ∙ sym (offered_at places states (id_at queue k - 1) (see r) (sym long) (omega (arith, ids.0, ids.1))))
+    (made ∙ ap₂ with_answer mine has ∙ sym (offered_at places states (id_at queue k - 1) (see r) (sym long) (omega (arith, ids.0, ids.1))))
 
-pub offers_end : {S : Type 0} (see : S → Place) (old now : List S) (states : List State) (queue : List ActorId) (k : ℕ) → IsQueue states queue → k ≤ length queue → length queue ≤ k → length old ≡ length states →
-    map see now ≡ merged (last_id queue k) (zip_with offered (map see old) (map inbox_of states)) (map see old) → map see now ≡ zip_with offered (map see old) (map inbox_of states)
+pub offers_end : {S : Type 0} (see : S → SeatView) (old now : List S) (states : List State) (queue : List ActorId) (k : ℕ) → IsQueue states queue → k ≤ length queue → length queue ≤ k → length old ≡ length states →
+    map see now ≡ merged (last_id queue k) (zip_with with_answer (map see old) (map inbox_of states)) (map see old) → map see now ≡ zip_with with_answer (map see old) (map inbox_of states)
 offers_end see old now states queue k is within past number inv =
     let places = map see old in
     let long : length places ≡ length states = length-map old see ∙ number in
-    inv ∙ all_stepped states queue k (zip_with offered places (map inbox_of states)) places no_place is within past long (offers_number places states (sym long)) (offers_stay places states no_place (sym long))
+    inv ∙ all_stepped states queue k (zip_with with_answer places (map inbox_of states)) places no_place is within past long (offers_number places states (sym long)) (offers_stay places states no_place (sym long))
 
 -- a change of each place, by which those that aren't ready stay
-pub change_next : {S : Type 0} (see : S → Place) (f : Place → Place) → ((place : Place) → place.ready ≡ false → f place ≡ place) → (old now : List S) (states : List State) (queue : List ActorId) (k : ℕ) (r s : S) → IsQueue states queue → k < length queue → length old ≡ length states → map readiness (map see old) ≡ map is_ready states →
+pub change_next : {S : Type 0} (see : S → SeatView) (f : SeatView → SeatView) → ((place : SeatView) → place.ready ≡ false → f place ≡ place) → (old now : List S) (states : List State) (queue : List ActorId) (k : ℕ) (r s : S) → IsQueue states queue → k < length queue → length old ≡ length states → map readiness (map see old) ≡ map is_ready states →
     map see now ≡ merged (last_id queue k) (map f (map see old)) (map see old) → see s ≡ f (see (get_or now (id_at queue k - 1) r)) → map see (set now (id_at queue k - 1) s) ≡ merged (last_id queue (k + 1)) (map f (map see old)) (map see old)
 change_next see f stays old now states queue k r s is within number ready inv made =
     let places = map see old in
@@ -171,7 +171,7 @@ change_next see f stays old now states queue k r s is within number ready inv ma
     stepped_on see states queue k now (map f places) places s (see r) is within long same stay inv
     (made ∙ ap f mine ∙ sym (get_or-map f places (id_at queue k - 1) (see r) (see r) (omega (arith, ids.0, ids.1, long))))
 
-pub changes_end : {S : Type 0} (see : S → Place) (f : Place → Place) → ((place : Place) → place.ready ≡ false → f place ≡ place) → (old now : List S) (states : List State) (queue : List ActorId) (k : ℕ) → IsQueue states queue → k ≤ length queue → length queue ≤ k → length old ≡ length states → map readiness (map see old) ≡ map is_ready states →
+pub changes_end : {S : Type 0} (see : S → SeatView) (f : SeatView → SeatView) → ((place : SeatView) → place.ready ≡ false → f place ≡ place) → (old now : List S) (states : List State) (queue : List ActorId) (k : ℕ) → IsQueue states queue → k ≤ length queue → length queue ≤ k → length old ≡ length states → map readiness (map see old) ≡ map is_ready states →
     map see now ≡ merged (last_id queue k) (map f (map see old)) (map see old) → map see now ≡ map f (map see old)
 changes_end see f stays old now states queue k is within past number ready inv =
     let places = map see old in
@@ -179,7 +179,7 @@ changes_end see f stays old now states queue k is within past number ready inv =
     inv ∙ all_stepped states queue k (map f places) places no_place is within past long (length-map places f) (mapped_stay f stays places states no_place ready long)
 
 -- what such a seat shows when its turn comes
-pub change_was : {S : Type 0} (see : S → Place) (f : Place → Place) → ((place : Place) → place.ready ≡ false → f place ≡ place) → (old now : List S) (states : List State) (queue : List ActorId) (k : ℕ) (r : S) → IsQueue states queue → k < length queue → length old ≡ length states → map readiness (map see old) ≡ map is_ready states →
+pub change_was : {S : Type 0} (see : S → SeatView) (f : SeatView → SeatView) → ((place : SeatView) → place.ready ≡ false → f place ≡ place) → (old now : List S) (states : List State) (queue : List ActorId) (k : ℕ) (r : S) → IsQueue states queue → k < length queue → length old ≡ length states → map readiness (map see old) ≡ map is_ready states →
     map see now ≡ merged (last_id queue k) (map f (map see old)) (map see old) → see (get_or now (id_at queue k - 1) r) ≡ get_or (map see old) (id_at queue k - 1) (see r)
 change_was see f stays old now states queue k r is within number ready inv =
     let places = map see old in
@@ -187,7 +187,7 @@ change_was see f stays old now states queue k r is within number ready inv =
     was_at see states queue k now (map f places) places r is within long (length-map places f) (mapped_stay f stays places states (see r) ready long) inv
 
 -- several seats in one go
-pub turns_next : {S : Type 0} (see : S → Place) (old now new : List S) (states : List State) (queue : List ActorId) (k to : ℕ) → IsQueue states queue → k < to → to ≤ length queue → length old ≡ length states → map readiness (map see old) ≡ map is_ready states →
+pub turns_next : {S : Type 0} (see : S → SeatView) (old now new : List S) (states : List State) (queue : List ActorId) (k to : ℕ) → IsQueue states queue → k < to → to ≤ length queue → length old ≡ length states → map readiness (map see old) ≡ map is_ready states →
     map see now ≡ merged (last_id queue k) (map after (map see old)) (map see old) →
     map see new ≡ take (id_at queue k - 1) (map see now) ++ (map after (drop (id_at queue k - 1) (take (id_at queue (to - 1)) (map see now))) ++ drop (id_at queue (to - 1)) (map see now)) →
     map see new ≡ merged (last_id queue to) (map after (map see old)) (map see old)

@@ -4,8 +4,8 @@ use Rattle.std.specs.Prelude.{IfOk}
 use Rattle.sg_base.specs.declared.memory.Memory.{Memory}
 use Rattle.sg_engine.specs.declared.ended.Ended.{Ended}
 use Rattle.sg_engine.specs.declared.ended.Ended.TheVariants as ended
-use Rattle.sg_engine.specs.Gains.{is_cut, cuts}
-use Rattle.sg_engine.specs.Reached.{IsUncut}
+use Rattle.sg_engine.specs.RunContract.{is_cut}
+use Rattle.sg_engine.specs.kept.Moments.{cuts, IsUncut}
 
 uncut_not : (b : Bool) → b ≡ true → b ≡ false → ⊥
 uncut_not b is isnt = absurd (let e : true ≡ false = sym is ∙ isnt in cc e)

@@ -1,12 +1,9 @@
-pub mod Faults
+pub mod FaultLines
 pub mod Fuel
 pub mod Gains
-pub mod Keeping
-pub mod Listed
 pub mod Output
-pub mod Reached
 pub mod Roles
 pub mod Run
-pub mod Seated
-pub mod Simulated
+pub mod RunContract
 pub mod World
+pub mod kept

@@ -3,16 +3,17 @@ use Rattle.std.specs.Prelude.{ℕ, ◌+◌, ◌++◌, unwrap_or, Bool, Option, o
 use Rattle.std.specs.List.{flat_map}
 use Rattle.std.specs.Option.{option_map_or}
 use Rattle.sg_base.specs.declared.trace_record.Record.{Record}
-use Rattle.sg_edge.specs.Given.{Source}
-use Rattle.sg_kernel.specs.declared.states.State.{State}
+use Rattle.sg_edge.specs.Sources.{Source}
+use Rattle.sg_states.specs.declared.state.State.{State}
 use Rattle.sg_kernel.specs.Start.{capacities_in, setup_of}
-use Rattle.sg_kernel.specs.World.{Core, blocked_of}
-use Rattle.sg_platform.specs.Platform.{Platform}
-use Rattle.sg_platform.specs.Deployment.{Deployed}
+use Rattle.sg_kernel.specs.World.{Core}
+use Rattle.sg_states.specs.Actors.{blocked_of}
+use Rattle.sg_rows.specs.Platform.{Platform}
+use Rattle.sg_rows.specs.Deployment.{Deployed}
 use Rattle.sg_route.specs.Roads.{roads_of}
-use Rattle.sg_script.specs.Asked.{asked}
+use Rattle.sg_script.specs.Answer.{answer_of}
 use Rattle.sg_script.specs.Known.{known_in}
-use Rattle.sg_engine.specs.Faults.{script_line, no_route_line, too_long_line}
+use Rattle.sg_engine.specs.FaultLines.{script_line, no_route_line, too_long_line}
 use Rattle.sg_trace.specs.Ending.{ending_of}
 use Rattle.sg_trace.specs.Line.{line_of}
 use Rattle.sg_trace.specs.declared.last.Last.{Last}
@@ -40,21 +41,19 @@ contexts_of deployed = length deployed.actors
 -- a trace line for each record, where all is shown
 abbrev pub trace_of : Show → Platform → Deployed → List Record → List ℕ
 trace_of show.All platform deployed records = flat_map (λ r. line_of r platform deployed) records
-trace_of show.Quiet platform deployed records = []
-trace_of show.Summary platform deployed records = []
+trace_of other platform deployed records = []
 
 -- how many actors and events there were, where that is shown
 abbrev pub summary_line : Show → Platform → Deployed → ℕ → List ℕ
-summary_line show.All platform deployed events = []
-summary_line show.Quiet platform deployed events = []
 summary_line show.Summary platform deployed events = ending_of (last.Summary (length deployed.actors) events) platform deployed
+summary_line other platform deployed events = []
 
 -- what is told of an actor for which the run can't go on
-abbrev pub stuck : ℕ → State → Option Last
-stuck actor state = option_map (λ what. last.Blocked (record { 0 = actor }) what) (blocked_of state)
+abbrev pub blocked_last : ℕ → State → Option Last
+blocked_last actor state = option_map (λ what. last.Blocked (record { 0 = actor }) what) (blocked_of state)
 
 abbrev pub blocked_line : Platform → Deployed → ℕ → State → List ℕ
-blocked_line platform deployed actor state = option_map_or (λ told. ending_of told platform deployed) (stuck actor state) []
+blocked_line platform deployed actor state = option_map_or (λ told. ending_of told platform deployed) (blocked_last actor state) []
 
 -- a line for each actor that is blocked, in rising id from this one on
 abbrev pub blocked_lines : Platform → Deployed → ℕ → List State → List ℕ
@@ -67,26 +66,17 @@ last_lines show platform deployed budget core ended.Completed = summary_line sho
 last_lines show platform deployed budget core ended.Deadlock = ending_of (last.Deadlock core.under.date) platform deployed ++ blocked_lines platform deployed 1 core.actors
 last_lines show platform deployed budget core ended.Starved = ending_of (last.Starved core.under.date) platform deployed ++ blocked_lines platform deployed 1 core.actors
 last_lines show platform deployed budget core ended.Budget = ending_of (last.Budget budget core.under.date) platform deployed
-last_lines show platform deployed budget core (ended.Script number kind) = []
-last_lines show platform deployed budget core (ended.NoRoute from to zone a b) = []
-last_lines show platform deployed budget core (ended.TooLong from to) = []
-last_lines show platform deployed budget core ended.ReadFault = []
-last_lines show platform deployed budget core ended.WriteFault = []
-last_lines show platform deployed budget core ended.Memory = []
+last_lines show platform deployed budget core other = []
 
 -- what stands on Err
 abbrev pub fault_line : Platform → Ended → List ℕ
-fault_line platform ended.Completed = []
-fault_line platform ended.Deadlock = []
-fault_line platform ended.Starved = []
-fault_line platform ended.Budget = []
 fault_line platform (ended.Script number kind) = script_line number kind
 fault_line platform (ended.NoRoute from to zone a b) = no_route_line platform from to zone a b
 fault_line platform (ended.TooLong from to) = too_long_line platform from to
 fault_line platform ended.ReadFault = codes "cannot read the script\n"
-fault_line platform ended.WriteFault = []
-fault_line platform ended.Memory = []
+fault_line platform other = []
 
+-- what a run writes, how it ends, at how many uses its passes may look, and how many contexts it takes
 pub record Output : Type 0 where
   pub out : List ℕ
   pub err : List ℕ
@@ -110,4 +100,4 @@ written_of show platform deployed budget progress = record {
 -- what a run writes and how it ends, with or without a script, by what that gives
 abbrev pub run_output : Platform → Deployed → Bool → ℕ → Show → Source → Output
 run_output platform deployed script budget show source =
-    written_of show platform deployed budget (run_of (scene_of platform deployed script budget) (first_of platform deployed budget) (asked (known_in deployed) source))
+    written_of show platform deployed budget (run_of (scene_of platform deployed script budget) (first_of platform deployed budget) (answer_of (known_in deployed) source))

@@ -1,17 +1,14 @@
 -- What actors are to be, and what they have in mind at first.
 use Rattle.std.specs.Prelude.{ℕ, ◌+◌, Option, Some, List, [], ◌∷◌}
-use Rattle.sg_base.specs.declared.ids.ActorId.{ActorId}
 use Rattle.sg_base.specs.Mind.{Mind}
+use Rattle.sg_base.specs.Turn.{actor_of}
 use Rattle.sg_actor.specs.declared.role.Role.{Role}
 use Rattle.sg_actor.specs.declared.role.Role.TheVariants as role
 use Rattle.sg_actor.specs.Roles.{mind_of}
-use Rattle.sg_platform.specs.Deployment.{Deployed}
-use Rattle.sg_platform.specs.declared.rows.ActorRow.{ActorRow}
-use Rattle.sg_platform.specs.declared.rows.Function.{Function}
-use Rattle.sg_platform.specs.declared.rows.Function.TheVariants.{Replay, Worker, Master, Churn}
-
-abbrev pub actor_of : ℕ → ActorId
-actor_of number = record { 0 = number }
+use Rattle.sg_rows.specs.Deployment.{Deployed}
+use Rattle.sg_rows.specs.declared.rows.ActorRow.{ActorRow}
+use Rattle.sg_rows.specs.declared.rows.Function.{Function}
+use Rattle.sg_rows.specs.declared.rows.Function.TheVariants.{Replay, Worker, Master, Churn}
 
 -- what an actor is to be, by what its row says; the actor has this number
 abbrev pub role_of : ℕ → Function → Role

@@ -9,10 +9,11 @@ use Rattle.sg_base.specs.declared.trace_record.Record.{Record}
 use Rattle.sg_base.specs.Mind.{Mind}
 use Rattle.sg_base.specs.Turn.{turn}
 use Rattle.sg_activity.specs.Links.{Capacities}
-use Rattle.sg_activity.specs.Underway.{uses_under}
-use Rattle.sg_kernel.specs.declared.states.Stop.{Stop}
-use Rattle.sg_kernel.specs.declared.states.Stop.TheVariants as stop
-use Rattle.sg_kernel.specs.World.{Setup, Core, inbox_of, is_ready, is_ended}
+use Rattle.sg_activity.specs.Underway.{work_of}
+use Rattle.sg_kernel.specs.declared.stop.Stop.{Stop}
+use Rattle.sg_kernel.specs.declared.stop.Stop.TheVariants as stop
+use Rattle.sg_kernel.specs.World.{Setup, Core}
+use Rattle.sg_states.specs.Actors.{inbox_of, is_ready, is_ended}
 use Rattle.sg_engine.specs.World.{World}
 use Rattle.sg_kernel.specs.Calls.{answered, told}
 use Rattle.sg_kernel.specs.Start.{first_core}
@@ -102,15 +103,15 @@ ended_at (fault.Line number kind) = ended.Script number kind
 ended_at fault.Read = ended.ReadFault
 ended_at fault.Memory = ended.Memory
 
-abbrev pub tells : Setup → ℕ → Result (Option Action) ScriptFault → World → Progress
-tells setup actor (Ok action) world = in_world world (told setup world.core actor action)
-tells setup actor (Err why) world = at_world (Some (ended_at why)) world
+abbrev pub answer_step : Setup → ℕ → Result (Option Action) ScriptFault → World → Progress
+answer_step setup actor (Ok action) world = in_world world (told setup world.core actor action)
+answer_step setup actor (Err why) world = at_world (Some (ended_at why)) world
 
 -- An Ask has the script's answer, or ends the run; an event is next, so that the budget is tested first.
-abbrev pub ask : Setup → Answering → ℕ → World → Progress
-ask setup answers actor world =
+abbrev pub ask_step : Setup → Answering → ℕ → World → Progress
+ask_step setup answers actor world =
     if world.core.events == setup.budget then at_world (Some ended.Budget) world
-    else tells setup actor (answers actor (world.asks actor)) (record world { asks = one_more actor world.asks })
+    else answer_step setup actor (answers actor (world.asks actor)) (record world { asks = one_more actor world.asks })
 
 abbrev pub is_ask : Call → Bool
 is_ask call.Ask = true
@@ -118,7 +119,7 @@ is_ask other = false
 
 -- where there is a script, it answers an Ask; the kernel answers any other call
 abbrev pub one_call : Scene → Answering → ℕ → Call → World → Progress
-one_call at answers actor what world = if at.script && is_ask what then ask at.setup answers actor world else in_world world (answered at.roads at.setup world.core actor what)
+one_call at answers actor what world = if at.script && is_ask what then ask_step at.setup answers actor world else in_world world (answered at.roads at.setup world.core actor what)
 
 abbrev pub if_call : Scene → Answering → ℕ → Option Call → World → Progress
 if_call at answers actor None world = at_world None world
@@ -135,18 +136,18 @@ round at answers world =
     calls_from at answers 1 (zip_with call_after world.minds (inboxes world.core)) (record world { minds = zip_with mind_after world.minds (inboxes world.core) })
 
 -- ---- rounds and passes
--- the work of what comes next: of a pass, where nobody is ready, the uses of what is under way
+-- the work of what comes next: of a pass, where nobody is ready, the looks that its rates may take
 abbrev pub next_work : Core → ℕ
-next_work core = if anyone_ready core then 0 else uses_under core.under
+next_work core = if anyone_ready core then 0 else work_of core.under
 
--- the work behind it
+-- the work with it
 abbrev pub work_behind : World → ℕ
 work_behind world = world.work + next_work world.core
 
 abbrev pub round_or_pass : Scene → Answering → World → Progress
 round_or_pass at answers world =
     if anyone_ready world.core then round at answers world
-    else in_world (record world { work = world.work + uses_under world.core.under }) (pass_of at.setup world.core)
+    else in_world (record world { work = world.work + work_of world.core.under }) (pass_of at.setup world.core)
 
 -- So many rounds and passes. Each has an event at least or ends the run, so that one more than the budget is enough.
 unfoldable pub run_from : ℕ → Scene → Answering → World → Progress

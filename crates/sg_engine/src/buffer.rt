@@ -1,7 +1,7 @@
 //! Lines that wait to be written.
 ghost use Rattle.std.specs.Prelude.{◌≡◌, ◌≤◌, ◌+◌, ◌++◌, [], List, ℕ, length, vec_capacity, IfOk, OnOk};
 ghost use Rattle.sg_engine.specs.declared.buffer.TheConstants.{ROOM};
-ghost use Rattle.sg_engine.specs.Gains.{Writes, Puts};
+ghost use Rattle.sg_engine.specs.kept.Writing.{Writes, Puts};
 
 use sg_base::Memory;
 use sg_edge::{Failed, Sinks, Stream, write_all};
@@ -39,7 +39,7 @@ impl Buffer {
         requires line { length line.now ≤ 512 }
         requires sound { O.faults out.old ≡ 0 }
         ensures { Puts (self.old ++ line.now) self.new result
-            (O.held out.old) (O.held out.new) (O.faults out.new) }
+            (O.contents out.old) (O.contents out.new) (O.faults out.new) }
     {
         if self.bytes.len() + line.len() > ROOM {
             match self.flush(out) {
@@ -65,7 +65,7 @@ impl Buffer {
     pub fn flush<O: Sinks>(&mut self, out: &mut O) -> Result<(), Failed>
         requires { O.faults out.old ≡ 0 }
         ensures writes { Writes self.old result
-            (O.held out.old) (O.held out.new) (O.faults out.new) }
+            (O.contents out.old) (O.contents out.new) (O.faults out.new) }
         ensures empty { OnOk result (self.new ≡ []) }
     {
         match write_all(out, Stream::Out, &self.bytes) {

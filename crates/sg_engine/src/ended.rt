@@ -1,8 +1,8 @@
 //! How a run ends.
 ghost use Rattle.std.specs.Prelude.{◌≡◌, ◌≢◌, false, Option, option_map};
-ghost use Rattle.sg_kernel.specs.declared.states.Stop.{Stop};
+ghost use Rattle.sg_kernel.specs.declared.stop.Stop.{Stop};
 ghost use Rattle.sg_kernel.specs.Steps.{result_of};
-ghost use Rattle.sg_engine.specs.Gains.{cuts};
+ghost use Rattle.sg_engine.specs.kept.Moments.{cuts};
 ghost use Rattle.sg_engine.specs.Run.{ended_by};
 
 use sg_base::{Child, PointId, ZoneId};

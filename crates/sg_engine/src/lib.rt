@@ -4,29 +4,30 @@
 
 mod actor_call;
 mod advance;
+mod answers;
 mod buffer;
 mod ended;
-mod faults;
+mod fault_lines;
 mod finish;
 mod laws;
-mod part;
+mod plan;
 mod printing;
 mod roles;
-mod round;
-mod running;
+mod rounds;
 mod seating;
 mod setup;
 mod show;
 mod simulation;
 mod start;
-mod terms;
 mod turns;
+mod whole_run;
 
 pub use ended::Ended;
 pub use laws::more_parts_change_nothing;
-pub use running::run;
+pub use plan::Terms;
 pub use setup::Setup;
 pub use show::Show;
+pub use whole_run::run;
 
 #[cfg(test)]
 mod tests;

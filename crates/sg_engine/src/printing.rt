@@ -1,16 +1,17 @@
 //! The lines on Out.
 ghost use Rattle.std.specs.Prelude.{◌≡◌, ◌++◌, [], OnOk};
-ghost use Rattle.sg_kernel.specs.Records.{AreRecords, IsRecord};
+ghost use Rattle.sg_states.specs.Records.{AreRecords, IsRecord};
 ghost use Rattle.sg_kernel.specs.World.{IsActor, state_of};
-ghost use Rattle.sg_platform.specs.Deployment.{extent_of};
+ghost use Rattle.sg_rows.specs.Deployment.{extent_of};
 ghost use Rattle.sg_trace.specs.Ending.{IsLastOf, ending_of};
 ghost use Rattle.sg_trace.specs.Line.{line_of};
-ghost use Rattle.sg_engine.specs.Gains.{Writes, Puts};
-ghost use Rattle.sg_engine.specs.Keeping.{IsOfSetup};
+ghost use Rattle.sg_engine.specs.kept.Writing.{Writes, Puts};
+ghost use Rattle.sg_engine.specs.kept.Invariant.{IsOfSetup};
 ghost use Rattle.sg_engine.specs.Output.{trace_of, blocked_line, blocked_lines};
+ghost use Rattle.sg_engine.specs.kept.Stretches.{trace_in};
 
 use crate::buffer::Buffer;
-use crate::setup::Setup;
+use crate::plan::Plan;
 use crate::show::Show;
 use sg_base::{ActorId, Record};
 use sg_edge::{Failed, Sinks, Stream, write_all};
@@ -19,36 +20,38 @@ use sg_trace::{Last, ending_line, line};
 
 // Puts the trace line of a record into the buffer.
 fn put_record<O: Sinks>(
-    setup: &Setup,
+    plan: &Plan<'_>,
     answered: &Record,
     buffer: &mut Buffer,
     out: &mut O,
 ) -> Result<(), Failed>
-    requires answered { IsRecord (extent_of setup.now.deployment) answered.now }
+    requires answered { IsRecord (extent_of plan.now.deployment.now) answered.now }
     requires sound { O.faults out.old ≡ 0 }
-    ensures { Puts (buffer.old ++ line_of answered.now setup.now.platform setup.now.deployment)
+    ensures { Puts
+        (buffer.old ++ line_of answered.now plan.now.platform.now plan.now.deployment.now)
         buffer.new result
-        (O.held out.old) (O.held out.new) (O.faults out.new) }
+        (O.contents out.old) (O.contents out.new) (O.faults out.new) }
 {
-    let text = line(answered, &setup.platform, &setup.deployment);
+    let text = line(answered, plan.platform, plan.deployment);
     buffer.put(text.as_bytes(), out)
 }
 
 // Puts a trace line for each record into the buffer.
 fn put_records<O: Sinks>(
-    setup: &Setup,
+    plan: &Plan<'_>,
     records: &[Record],
     buffer: &mut Buffer,
     out: &mut O,
 ) -> Result<(), Failed>
-    requires records { AreRecords (extent_of setup.now.deployment) records.now }
+    requires records { AreRecords (extent_of plan.now.deployment.now) records.now }
     requires sound { O.faults out.old ≡ 0 }
     ensures { Puts (buffer.old
-        ++ trace_of Show.All setup.now.platform setup.now.deployment records.now) buffer.new result
-        (O.held out.old) (O.held out.new) (O.faults out.new) }
+        ++ trace_of Show.All plan.now.platform.now plan.now.deployment.now records.now)
+        buffer.new result
+        (O.contents out.old) (O.contents out.new) (O.faults out.new) }
 {
     for answered in records {
-        match put_record(setup, answered, buffer, out) {
+        match put_record(plan, answered, buffer, out) {
             Ok(()) => {}
             Err(Failed) => return Err(Failed),
         }
@@ -58,37 +61,36 @@ fn put_records<O: Sinks>(
 
 /// Writes a trace line for each record where all is shown, in one write where the stream takes it.
 pub fn print_records<O: Sinks>(
-    setup: &Setup,
-    show: Show,
+    plan: &Plan<'_>,
     records: &[Record],
     buffer: &mut Buffer,
     out: &mut O,
 ) -> Result<(), Failed>
-    requires records { AreRecords (extent_of setup.now.deployment) records.now }
+    requires records { AreRecords (extent_of plan.now.deployment.now) records.now }
     requires empty { buffer.old ≡ [] }
     requires sound { O.faults out.old ≡ 0 }
-    ensures writes { Writes (trace_of show setup.now.platform setup.now.deployment records.now)
-        result (O.held out.old) (O.held out.new) (O.faults out.new) }
+    ensures writes { Writes (trace_in plan.now records.now)
+        result (O.contents out.old) (O.contents out.new) (O.faults out.new) }
     ensures empty { OnOk result (buffer.new ≡ []) }
 {
-    match show {
+    match plan.terms.show {
         Show::All => {}
         Show::Quiet | Show::Summary => return Ok(()),
     }
-    match put_records(setup, records, buffer, out) {
+    match put_records(plan, records, buffer, out) {
         Ok(()) => buffer.flush(out),
         Err(Failed) => Err(Failed),
     }
 }
 
 /// Writes a last line.
-pub fn print_last<O: Sinks>(setup: &Setup, last: Last, out: &mut O) -> Result<(), Failed>
-    requires last { IsLastOf setup.now.deployment last }
+pub fn print_last<O: Sinks>(plan: &Plan<'_>, last: Last, out: &mut O) -> Result<(), Failed>
+    requires last { IsLastOf plan.now.deployment.now last }
     requires sound { O.faults out.old ≡ 0 }
-    ensures { Writes (ending_of last setup.now.platform setup.now.deployment) result
-        (O.held out.old) (O.held out.new) (O.faults out.new) }
+    ensures { Writes (ending_of last plan.now.platform.now plan.now.deployment.now) result
+        (O.contents out.old) (O.contents out.new) (O.faults out.new) }
 {
-    let text = ending_line(&last, &setup.platform, &setup.deployment);
+    let text = ending_line(&last, plan.platform, plan.deployment);
     match write_all(out, Stream::Out, text.as_bytes()) {
         Ok(()) => Ok(()),
         Err(Failed) => Err(Failed),
@@ -97,42 +99,42 @@ pub fn print_last<O: Sinks>(setup: &Setup, last: Last, out: &mut O) -> Result<()
 
 // Puts a last line into the buffer.
 fn put_last<O: Sinks>(
-    setup: &Setup,
+    plan: &Plan<'_>,
     last: Last,
     buffer: &mut Buffer,
     out: &mut O,
 ) -> Result<(), Failed>
-    requires last { IsLastOf setup.now.deployment last }
+    requires last { IsLastOf plan.now.deployment.now last }
     requires sound { O.faults out.old ≡ 0 }
-    ensures { Puts (buffer.old ++ ending_of last setup.now.platform setup.now.deployment)
+    ensures { Puts (buffer.old ++ ending_of last plan.now.platform.now plan.now.deployment.now)
         buffer.new result
-        (O.held out.old) (O.held out.new) (O.faults out.new) }
+        (O.contents out.old) (O.contents out.new) (O.faults out.new) }
 {
-    let text = ending_line(&last, &setup.platform, &setup.deployment);
+    let text = ending_line(&last, plan.platform, plan.deployment);
     buffer.put(text.as_bytes(), out)
 }
 
 /// Writes two last lines.
 pub fn print_two<O: Sinks>(
-    setup: &Setup,
+    plan: &Plan<'_>,
     first: Last,
     second: Last,
     buffer: &mut Buffer,
     out: &mut O,
 ) -> Result<(), Failed>
-    requires first { IsLastOf setup.now.deployment first }
-    requires second { IsLastOf setup.now.deployment second }
+    requires first { IsLastOf plan.now.deployment.now first }
+    requires second { IsLastOf plan.now.deployment.now second }
     requires empty { buffer.old ≡ [] }
     requires sound { O.faults out.old ≡ 0 }
-    ensures { Writes (ending_of first setup.now.platform setup.now.deployment
-        ++ ending_of second setup.now.platform setup.now.deployment) result
-        (O.held out.old) (O.held out.new) (O.faults out.new) }
+    ensures { Writes (ending_of first plan.now.platform.now plan.now.deployment.now
+        ++ ending_of second plan.now.platform.now plan.now.deployment.now) result
+        (O.contents out.old) (O.contents out.new) (O.faults out.new) }
 {
-    match put_last(setup, first, buffer, out) {
+    match put_last(plan, first, buffer, out) {
         Ok(()) => {}
         Err(Failed) => return Err(Failed),
     }
-    match put_last(setup, second, buffer, out) {
+    match put_last(plan, second, buffer, out) {
         Ok(()) => {}
         Err(Failed) => return Err(Failed),
     }
@@ -141,40 +143,40 @@ pub fn print_two<O: Sinks>(
 
 // Puts the line of an actor into the buffer, if it is blocked.
 fn put_blocked<O: Sinks>(
-    setup: &Setup,
+    plan: &Plan<'_>,
     kernel: &Kernel,
     actor: ActorId,
     buffer: &mut Buffer,
     out: &mut O,
 ) -> Result<(), Failed>
     requires actor { IsActor kernel.now.core actor.0 }
-    requires of { IsOfSetup setup.now.deployment kernel.now }
+    requires of { IsOfSetup plan.now.deployment.now kernel.now }
     requires sound { O.faults out.old ≡ 0 }
-    ensures { Puts (buffer.old ++ blocked_line setup.now.platform setup.now.deployment actor.0
+    ensures { Puts (buffer.old ++ blocked_line plan.now.platform.now plan.now.deployment.now actor.0
         (state_of kernel.now.core actor.0)) buffer.new result
-        (O.held out.old) (O.held out.new) (O.faults out.new) }
+        (O.contents out.old) (O.contents out.new) (O.faults out.new) }
 {
     match kernel.blocked(actor) {
-        Some(call) => put_last(setup, Last::Blocked(actor, call), buffer, out),
+        Some(call) => put_last(plan, Last::Blocked(actor, call), buffer, out),
         None => Ok(()),
     }
 }
 
 // Puts a line for each blocked actor into the buffer, in rising id.
 fn put_all_blocked<O: Sinks>(
-    setup: &Setup,
+    plan: &Plan<'_>,
     kernel: &Kernel,
     buffer: &mut Buffer,
     out: &mut O,
 ) -> Result<(), Failed>
-    requires of { IsOfSetup setup.now.deployment kernel.now }
+    requires of { IsOfSetup plan.now.deployment.now kernel.now }
     requires sound { O.faults out.old ≡ 0 }
-    ensures { Puts (buffer.old ++ blocked_lines setup.now.platform setup.now.deployment 1
+    ensures { Puts (buffer.old ++ blocked_lines plan.now.platform.now plan.now.deployment.now 1
         kernel.now.core.actors) buffer.new result
-        (O.held out.old) (O.held out.new) (O.faults out.new) }
+        (O.contents out.old) (O.contents out.new) (O.faults out.new) }
 {
     for i in 0..kernel.actors() {
-        match put_blocked(setup, kernel, ActorId(i as u32 + 1), buffer, out) {
+        match put_blocked(plan, kernel, ActorId(i as u32 + 1), buffer, out) {
             Ok(()) => {}
             Err(Failed) => return Err(Failed),
         }
@@ -184,25 +186,26 @@ fn put_all_blocked<O: Sinks>(
 
 /// Writes a last line, and behind it one for each blocked actor, in rising id.
 pub fn print_stuck<O: Sinks>(
-    setup: &Setup,
+    plan: &Plan<'_>,
     kernel: &Kernel,
     last: Last,
     buffer: &mut Buffer,
     out: &mut O,
 ) -> Result<(), Failed>
-    requires last { IsLastOf setup.now.deployment last }
-    requires of { IsOfSetup setup.now.deployment kernel.now }
+    requires last { IsLastOf plan.now.deployment.now last }
+    requires of { IsOfSetup plan.now.deployment.now kernel.now }
     requires empty { buffer.old ≡ [] }
     requires sound { O.faults out.old ≡ 0 }
-    ensures { Writes (ending_of last setup.now.platform setup.now.deployment
-        ++ blocked_lines setup.now.platform setup.now.deployment 1 kernel.now.core.actors) result
-        (O.held out.old) (O.held out.new) (O.faults out.new) }
+    ensures { Writes (ending_of last plan.now.platform.now plan.now.deployment.now
+        ++ blocked_lines plan.now.platform.now plan.now.deployment.now 1 kernel.now.core.actors)
+        result
+        (O.contents out.old) (O.contents out.new) (O.faults out.new) }
 {
-    match put_last(setup, last, buffer, out) {
+    match put_last(plan, last, buffer, out) {
         Ok(()) => {}
         Err(Failed) => return Err(Failed),
     }
-    match put_all_blocked(setup, kernel, buffer, out) {
+    match put_all_blocked(plan, kernel, buffer, out) {
         Ok(()) => {}
         Err(Failed) => return Err(Failed),
     }

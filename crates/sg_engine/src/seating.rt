@@ -2,15 +2,15 @@
 ghost use Rattle.std.specs.Prelude.{◌≡◌, ◌≤◌, length, take, drop, reverse, All, Some, None, IfOk, OnOk, vec_len};
 ghost use Rattle.sg_base.specs.Limits.{Extent};
 ghost use Rattle.sg_actor.specs.Roles.{mind_of, CanCast, IsRole};
-ghost use Rattle.sg_actor.specs.Seen.{seen, all_seen};
-ghost use Rattle.sg_platform.specs.Deployment.{extent_of};
+ghost use Rattle.sg_actor.specs.Seats.{seat_view, seat_views};
+ghost use Rattle.sg_rows.specs.Deployment.{extent_of};
 ghost use Rattle.sg_engine.specs.Roles.{role_of, first_minds};
-ghost use Rattle.sg_engine.specs.Seated.{mind_in, minds_of, IsSeated};
+ghost use Rattle.sg_engine.specs.kept.SeatRules.{mind_in, minds_of, IsSeated};
 
 use crate::roles::role;
 use sg_actor::{Actor, Seat, roles_keep_limits};
 use sg_base::{ActorId, Answer, Call, Memory};
-use sg_platform::{Deployment, Function};
+use sg_rows::{Deployment, Function};
 use std::alloc::Global;
 use std::mem;
 
@@ -41,10 +41,10 @@ fn seat(
 ) -> Result<Seat, Memory>
     requires blank { mind context ≡ None }
     requires role { CanCast (role_of me.0 function.now) }
-    ensures mind { IfOk result (λ seat. mind_in (seen (λ b. mind b) seat)
+    ensures mind { IfOk result (λ seat. mind_in (seat_view (λ b. mind b) seat)
         ≡ Some (mind_of (role_of me.0 function.now))) }
     ensures seated { (extent : Extent) → IsRole extent (role_of me.0 function.now) →
-        IfOk result (λ seat. IsSeated extent (seen (λ b. mind b) seat)) }
+        IfOk result (λ seat. IsSeated extent (seat_view (λ b. mind b) seat)) }
 {
     roles_keep_limits();
     let mut actor = context;
@@ -66,10 +66,10 @@ pub fn seat_all(
 ) -> Result<Vec<Seat>, Memory>
     requires blank { All (λ b. mind b ≡ None) crew.old.items }
     requires enough { length deployment.now.actors ≤ length crew.old.items }
-    ensures minds { IfOk result (λ seats. minds_of (all_seen (λ b. mind b) seats.items)
+    ensures minds { IfOk result (λ seats. minds_of (seat_views (λ b. mind b) seats.items)
         ≡ first_minds deployment.now) }
     ensures seated { IfOk result (λ seats. All (IsSeated (extent_of deployment.now))
-        (all_seen (λ b. mind b) seats.items)) }
+        (seat_views (λ b. mind b) seats.items)) }
     ensures rest { OnOk result (crew.new.items
         ≡ drop (length deployment.now.actors) crew.old.items) }
 {

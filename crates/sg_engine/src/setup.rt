@@ -2,11 +2,11 @@
 ghost use Rattle.std.specs.Prelude.{◌≡◌, length};
 ghost use Rattle.sg_kernel.specs.Roads.{AreOver};
 ghost use Rattle.sg_kernel.specs.Start.{link_caps};
-ghost use Rattle.sg_platform.specs.Deployment.{IsDeployedOn};
+ghost use Rattle.sg_rows.specs.Deployment.{IsDeployedOn};
 ghost use Rattle.sg_route.specs.Roads.{roads_of};
 
-use sg_platform::{Deployment, PlatformText};
 use sg_route::{Router, routes_are_good};
+use sg_rows::{Deployment, PlatformText};
 
 /// A platform, the actors that are deployed on it, the routes between its hosts, and whether there is a script.
 #[derive(Drop)]

@@ -7,8 +7,9 @@ use crate::{Ended, Setup, Show, run};
 use sg_actor::{Actor, PlainContext, Role, TapeContext, all_blank};
 use sg_base::{Answer, Call, Child, Memory, PointId, Steps, ZoneId};
 use sg_edge::{Files, MemFiles, MemSinks, Part, Sinks, Stream};
-use sg_platform::{PlatformText, read_deployment, read_platform};
+use sg_platform::{read_deployment, read_platform};
 use sg_route::Router;
+use sg_rows::PlatformText;
 use sg_script::LineFault;
 use sg_zones::Zones;
 use std::alloc::Global;
@@ -161,45 +162,188 @@ fn crew(alloc: Global, kinds: Kinds) -> Result<Vec<Box<dyn Actor + Send>>, Fail>
     Ok(crew)
 }
 
-/// A run, and what it writes.
-#[derive(Clone, Copy)]
-struct Row {
-    actors: &'static str,
-    /// Without one each Ask is refused.
-    script: Option<&'static str>,
-    kinds: Kinds,
-    workers: u32,
-    budget: u64,
-    show: Show,
-    end: Ended,
-    out: &'static str,
-    err: &'static str,
-}
+/// The actors, a script where there is one, the crew, the threads, the budget and what is shown; how the run ends, and
+/// what it writes on Out and on Err.
+type Row = (
+    &'static str,
+    Option<&'static str>,
+    Kinds,
+    u32,
+    u64,
+    Show,
+    Ended,
+    &'static str,
+    &'static str,
+);
 
-/// One actor that computes for a second.
-const COMPUTES: Row = Row {
-    actors: FIRST,
-    script: Some("p0 compute 1e9\n"),
-    kinds: Kinds::Both,
-    workers: 1,
-    budget: 1000,
-    show: Show::All,
-    end: Ended::Completed,
-    out: "[h1:p0:(1) 1.000000000] compute 1000000000 1.000000000\nSimulation time 1.000000000\n",
-    err: "",
-};
+/// A second of work.
+const SECOND: &str = "p0 compute 1e9\n";
 
-/// A master and its worker.
-const TASKS: Row = Row {
-    actors: MASTER,
-    script: None,
-    kinds: Kinds::Both,
-    workers: 1,
-    budget: 100,
-    show: Show::All,
-    end: Ended::Completed,
-    out: TASK,
-    err: "",
+const ROWS: [Row; 14] = [
+    (
+        FIRST,
+        Some(SECOND),
+        Kinds::Both,
+        1,
+        5,
+        Show::All,
+        Ended::Completed,
+        "[h1:p0:(1) 1.000000000] compute 1000000000 1.000000000\nSimulation time 1.000000000\n",
+        "",
+    ),
+    (
+        FIRST,
+        Some(SECOND),
+        Kinds::Both,
+        1,
+        4,
+        Show::All,
+        Ended::Budget,
+        "[h1:p0:(1) 1.000000000] compute 1000000000 1.000000000\nbudget of 4 events used at 1.000000000\n",
+        "",
+    ),
+    (
+        FIRST,
+        Some(SECOND),
+        Kinds::Both,
+        1,
+        2,
+        Show::All,
+        Ended::Budget,
+        "budget of 2 events used at 0.000000000\n",
+        "",
+    ),
+    (
+        FIRST,
+        Some(SECOND),
+        Kinds::Both,
+        1,
+        1,
+        Show::All,
+        Ended::Budget,
+        "budget of 1 events used at 0.000000000\n",
+        "",
+    ),
+    // It stops between two ends of a date.
+    (
+        APART,
+        Some("p0 sleep 1\np1 sleep 1\n"),
+        Kinds::Both,
+        1,
+        5,
+        Show::All,
+        Ended::Budget,
+        "[h1:p0:(1) 1.000000000] sleep 1.000000000\nbudget of 5 events used at 1.000000000\n",
+        "",
+    ),
+    (
+        FIRST,
+        Some("p0 sleep 1\np0 fly 1\n"),
+        Kinds::Both,
+        1,
+        1000,
+        Show::All,
+        Ended::Script(2, LineFault::UnknownAction),
+        "[h1:p0:(1) 1.000000000] sleep 1.000000000\n",
+        "script line 2: unknown action\n",
+    ),
+    (
+        APART,
+        Some("p0 send p1 1\np1 recv p0\n"),
+        Kinds::Both,
+        1,
+        1000,
+        Show::All,
+        NO_ROUTE,
+        "",
+        "no route from h1 to h3: zone z, h1 to h3\n",
+    ),
+    (
+        FIRST,
+        None,
+        Kinds::Both,
+        1,
+        5,
+        Show::All,
+        Ended::Budget,
+        "budget of 5 events used at 0.000000000\n",
+        "",
+    ),
+    (
+        MASTER,
+        None,
+        Kinds::Fields,
+        1,
+        100,
+        Show::All,
+        Ended::Completed,
+        TASK,
+        "",
+    ),
+    (
+        MASTER,
+        None,
+        Kinds::Tapes,
+        2,
+        100,
+        Show::All,
+        Ended::Completed,
+        TASK,
+        "",
+    ),
+    (
+        MASTER,
+        None,
+        Kinds::Both,
+        64,
+        100,
+        Show::All,
+        Ended::Completed,
+        TASK,
+        "",
+    ),
+    (
+        MASTER,
+        None,
+        Kinds::Both,
+        1,
+        100,
+        Show::Quiet,
+        Ended::Completed,
+        "Simulation time 2.020000000\n",
+        "",
+    ),
+    (
+        MASTER,
+        None,
+        Kinds::Both,
+        1,
+        100,
+        Show::Summary,
+        Ended::Completed,
+        "2 actors, 12 events\nSimulation time 2.020000000\n",
+        "",
+    ),
+    (
+        MASTER,
+        None,
+        Kinds::Both,
+        1,
+        11,
+        Show::Summary,
+        Ended::Budget,
+        "budget of 11 events used at 2.020000000\n",
+        "",
+    ),
+];
+
+/// From the first host to the third.
+const NO_ROUTE: Ended = Ended::NoRoute {
+    from: PointId(0),
+    to: PointId(2),
+    zone: ZoneId(0),
+    a: Child::Point(PointId(0)),
+    b: Child::Point(PointId(2)),
 };
 
 // A run that counts its own steps.
@@ -209,7 +353,7 @@ fn run_counted<R: Threads + Sync + Abort, F: Files, O: Sinks, L: Ledger>(
     setup: &Setup,
     files: &mut F,
     crew: &mut Vec<Box<dyn Actor + Send>>,
-    row: Row,
+    terms: (u32, u64, Show),
     out: &mut O,
     blank: Blank,
 ) -> Ended
@@ -220,152 +364,52 @@ fn run_counted<R: Threads + Sync + Abort, F: Files, O: Sinks, L: Ledger>(
     requires some { 0 < blank.parts }
 {
     let mut steps = Steps::<L>::new(blank);
-    let Row {
-        workers,
-        budget,
-        show,
-        ..
-    } = row;
-    assert!(rt; budget <= 1000 && 0 < workers);
+    let (threads, budget, show) = terms;
+    assert!(rt; budget <= 1000 && 0 < threads);
     assert!(rt; setup.deployment.actors().len() <= crew.len());
     assert!(rt; all_blank(crew.as_slice()));
     run(
-        rt, alloc, setup, files, crew, workers, budget, show, out, &mut steps,
+        rt, alloc, setup, files, crew, threads, budget, show, out, &mut steps,
     )
 }
 
-/// How the run of a row ends with this crew, and what it writes.
+/// How a run of these actors ends with this crew, and what it writes.
 fn ends_with<R: Threads + Sync + Abort>(
     rt: &R,
     alloc: Global,
-    setup: &Setup,
+    actors: &str,
+    script: Option<&str>,
     crew: &mut Vec<Box<dyn Actor + Send>>,
-    row: Row,
+    terms: (u32, u64, Show),
 ) -> Result<(Ended, MemSinks), Fail> {
-    let script = row.script.unwrap_or("");
-    let mut files = MemFiles::new(alloc, None, None, Some(script.as_bytes()), &[])?;
+    let setup = setup(alloc, actors, script.is_some())?;
+    let lines = script.unwrap_or("");
+    let mut files = MemFiles::new(alloc, None, None, Some(lines.as_bytes()), &[])?;
     let _ = files.begin(Part::Script, "s");
     let mut out = MemSinks::new(alloc, 1000, 1000, &[], 7)?;
     let ended = run_counted::<R, MemFiles, MemSinks, Brand>(
         rt,
         alloc,
-        setup,
+        &setup,
         &mut files,
         crew,
-        row,
+        terms,
         &mut out,
         Blank::new(1),
     );
     Ok((ended, out))
 }
 
-/// A row's run ends as it says and writes just that, and the crew keeps the contexts that no actor took.
-fn check<R: Threads + Sync + Abort>(rt: &R, alloc: Global, row: Row) -> Result<(), Fail> {
-    let setup = setup(alloc, row.actors, row.script.is_some())?;
-    let mut crew = crew(alloc, row.kinds)?;
-    let (ended, out) = ends_with(rt, alloc, &setup, &mut crew, row)?;
-    assert_eq!(rt; ended, row.end);
-    assert_eq!(rt; crew.len() + setup.deployment.actors().len(), 4);
-    assert_eq!(rt; out.held(Stream::Out), row.out.as_bytes());
-    assert_eq!(rt; out.held(Stream::Err), row.err.as_bytes());
-    Ok(())
-}
-
 #[test]
 fn runs_write_their_rows(rt: HostRuntime) -> Result<(), Fail> {
-    let rows = [
-        Row {
-            budget: 5,
-            ..COMPUTES
-        },
-        Row {
-            budget: 4,
-            end: Ended::Budget,
-            out: "[h1:p0:(1) 1.000000000] compute 1000000000 1.000000000\nbudget of 4 events used at 1.000000000\n",
-            ..COMPUTES
-        },
-        Row {
-            budget: 2,
-            end: Ended::Budget,
-            out: "budget of 2 events used at 0.000000000\n",
-            ..COMPUTES
-        },
-        Row {
-            budget: 1,
-            end: Ended::Budget,
-            out: "budget of 1 events used at 0.000000000\n",
-            ..COMPUTES
-        },
-        // It stops between two ends of a date.
-        Row {
-            actors: APART,
-            script: Some("p0 sleep 1\np1 sleep 1\n"),
-            budget: 5,
-            end: Ended::Budget,
-            out: "[h1:p0:(1) 1.000000000] sleep 1.000000000\nbudget of 5 events used at 1.000000000\n",
-            ..COMPUTES
-        },
-        Row {
-            script: Some("p0 sleep 1\np0 fly 1\n"),
-            end: Ended::Script(2, LineFault::UnknownAction),
-            out: "[h1:p0:(1) 1.000000000] sleep 1.000000000\n",
-            err: "script line 2: unknown action\n",
-            ..COMPUTES
-        },
-        Row {
-            actors: APART,
-            script: Some("p0 send p1 1\np1 recv p0\n"),
-            end: Ended::NoRoute {
-                from: PointId(0),
-                to: PointId(2),
-                zone: ZoneId(0),
-                a: Child::Point(PointId(0)),
-                b: Child::Point(PointId(2)),
-            },
-            out: "",
-            err: "no route from h1 to h3: zone z, h1 to h3\n",
-            ..COMPUTES
-        },
-        Row {
-            script: None,
-            budget: 5,
-            end: Ended::Budget,
-            out: "budget of 5 events used at 0.000000000\n",
-            ..COMPUTES
-        },
-        Row {
-            kinds: Kinds::Fields,
-            ..TASKS
-        },
-        Row {
-            kinds: Kinds::Tapes,
-            workers: 2,
-            ..TASKS
-        },
-        Row {
-            workers: 64,
-            ..TASKS
-        },
-        Row {
-            show: Show::Quiet,
-            out: "Simulation time 2.020000000\n",
-            ..TASKS
-        },
-        Row {
-            show: Show::Summary,
-            out: "2 actors, 12 events\nSimulation time 2.020000000\n",
-            ..TASKS
-        },
-        Row {
-            show: Show::Summary,
-            budget: 11,
-            end: Ended::Budget,
-            out: "budget of 11 events used at 2.020000000\n",
-            ..TASKS
-        },
-    ];
-    for row in rows {
-        check(&rt, rt.alloc(), row)?;
+    let alloc = rt.alloc();
+    for (actors, script, kinds, threads, budget, show, end, out, err) in ROWS {
+        let mut crew = crew(alloc, kinds)?;
+        let terms = (threads, budget, show);
+        let (ended, sinks) = ends_with(&rt, alloc, actors, script, &mut crew, terms)?;
+        assert_eq!(rt; ended, end);
+        assert_eq!(rt; sinks.held(Stream::Out), out.as_bytes());
+        assert_eq!(rt; sinks.held(Stream::Err), err.as_bytes());
     }
     Ok(())
 }
@@ -384,14 +428,9 @@ fn numbered_crew(alloc: Global, sum: &Arc<AtomicU64>) -> Result<Vec<Box<dyn Acto
 #[test]
 fn each_actor_takes_the_context_of_its_place(rt: HostRuntime) -> Result<(), Fail> {
     let alloc = rt.alloc();
-    let setup = setup(alloc, THREE, true)?;
     let sum = Arc::new(alloc, AtomicU64::new(0))?;
     let mut crew = numbered_crew(alloc, &sum)?;
-    let row = Row {
-        script: Some(""),
-        ..COMPUTES
-    };
-    let (ended, _) = ends_with(&rt, alloc, &setup, &mut crew, row)?;
+    let (ended, _) = ends_with(&rt, alloc, THREE, Some(""), &mut crew, (1, 1000, Show::All))?;
     assert_eq!(rt; ended, Ended::Completed);
     assert_eq!(rt; crew.len(), 1);
     assert_eq!(rt; sum.load(Ordering::SeqCst), 321);

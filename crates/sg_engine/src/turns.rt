@@ -1,23 +1,23 @@
-//! The first half of a round: the turns.
+//! The turns of a round.
 ghost use Rattle.std.specs.Prelude.{◌≡◌, ◌+◌, ◌<◌, ◌≤◌, ◌++◌, [], length, map, take, drop, All, vec_capacity};
 ghost use Rattle.sg_base.specs.Limits.{IsCall};
-ghost use Rattle.sg_actor.specs.Places.{after, CanTurn, IsPlace};
-ghost use Rattle.sg_actor.specs.Seen.{seen, all_seen};
-ghost use Rattle.sg_kernel.specs.World.{extent, is_ready};
+ghost use Rattle.sg_actor.specs.Seats.{after, CanTurn, KeepsLimits, seat_view, seat_views};
+ghost use Rattle.sg_kernel.specs.World.{extent};
+ghost use Rattle.sg_states.specs.Actors.{is_ready};
 ghost use Rattle.sg_engine.specs.declared.actor_call.ActorCall.{ActorCall};
-ghost use Rattle.sg_engine.specs.Listed.{listed, listed_one};
+ghost use Rattle.sg_engine.specs.kept.CallList.{call_list, with_call};
 ghost use Rattle.sg_engine.specs.Run.{zip_with, mind_after, call_after, inboxes};
-ghost use Rattle.sg_engine.specs.Seated.{minds_of, IsCast, IsSeated, readiness, offered, call_in, rested};
+ghost use Rattle.sg_engine.specs.kept.SeatRules.{minds_of, IsCast, IsSeated, readiness, with_answer, call_in, at_rest};
 
 use crate::actor_call::ActorCall;
-use sg_actor::{Actor, Seat, rounds_keep_limits, run_round};
+use sg_actor::{Actor, Seat, run_round, seats_keep_limits};
 use sg_base::{ActorId, Answer, Call};
 use sg_kernel::Kernel;
 use std::thread::Threads;
 
 // Puts an answer into a seat, if there is one.
 fn offer_one<A: Actor>(seat: &mut Seat<A>, answer: Option<Answer>)
-    ensures { seen A.mind seat.new ≡ offered (seen A.mind seat.old) answer }
+    ensures { seat_view A.mind seat.new ≡ with_answer (seat_view A.mind seat.old) answer }
 {
     match answer {
         Some(answer) => {
@@ -31,10 +31,10 @@ fn offer_one<A: Actor>(seat: &mut Seat<A>, answer: Option<Answer>)
 // Puts the answers of the kernel into the seats of their actors. Only who is in its queue is asked.
 fn offer<A: Actor>(kernel: &Kernel, seats: &mut [Seat<A>])
     requires number { length seats.old ≡ length kernel.now.core.actors }
-    requires limited { All (IsPlace (extent kernel.now.setup)) (all_seen A.mind seats.old) }
-    ensures offered { all_seen A.mind seats.new
-        ≡ zip_with offered (all_seen A.mind seats.old) (inboxes kernel.now.core) }
-    ensures limited { All (IsPlace (extent kernel.now.setup)) (all_seen A.mind seats.new) }
+    requires limited { All (KeepsLimits (extent kernel.now.setup)) (seat_views A.mind seats.old) }
+    ensures with_answer { seat_views A.mind seats.new
+        ≡ zip_with with_answer (seat_views A.mind seats.old) (inboxes kernel.now.core) }
+    ensures limited { All (KeepsLimits (extent kernel.now.setup)) (seat_views A.mind seats.new) }
 {
     let queue = kernel.run_queue();
     for actor in queue {
@@ -56,11 +56,11 @@ fn end_of_run(queue: &[ActorId], from: usize) -> usize
 }
 
 // How far one go of turns reaches that begins at this place of a queue.
-fn end_of_turns(queue: &[ActorId], from: usize, workers: u32) -> usize
+fn end_of_turns(queue: &[ActorId], from: usize, threads: u32) -> usize
     requires { from < length queue.now }
     ensures { (from < result) × (result ≤ length queue.now) }
 {
-    if workers == 1 {
+    if threads == 1 {
         end_of_run(queue, from)
     } else {
         queue.len()
@@ -68,35 +68,35 @@ fn end_of_turns(queue: &[ActorId], from: usize, workers: u32) -> usize
 }
 
 // The turns of those who sit from one place to another.
-fn turn_some<R: Threads + Sync>(rt: &R, seats: &mut [Seat], from: usize, to: usize, workers: u32)
-    requires workers { 0 < workers }
+fn turn_some<R: Threads + Sync>(rt: &R, seats: &mut [Seat], from: usize, to: usize, threads: u32)
+    requires threads { 0 < threads }
     requires range { (from ≤ to) × (to ≤ length seats.old) }
-    requires ready { All CanTurn (all_seen (λ b. mind b) seats.old) }
-    ensures { let places = all_seen (λ b. mind b) seats.old in all_seen (λ b. mind b) seats.new
+    requires ready { All CanTurn (seat_views (λ b. mind b) seats.old) }
+    ensures { let places = seat_views (λ b. mind b) seats.old in seat_views (λ b. mind b) seats.new
         ≡ take from places ++ (map after (drop from (take to places)) ++ drop to places) }
 {
     let (_, rest) = seats.split_at_mut(from);
     let (some, _) = rest.split_at_mut(to - from);
-    run_round(rt, some, workers);
+    run_round(rt, some, threads);
 }
 
-// The turns of all who are ready. With one worker each run of neighbours in the queue takes its turns in one go, so
+// The turns of all who are ready. With one thread each run of neighbours in the queue takes its turns in one go, so
 // that the seats between cost nothing; with more, all from the first to the last do, side by side.
-fn turn_all<R: Threads + Sync>(rt: &R, kernel: &Kernel, seats: &mut [Seat], workers: u32)
-    requires workers { 0 < workers }
+fn turn_all<R: Threads + Sync>(rt: &R, kernel: &Kernel, seats: &mut [Seat], threads: u32)
+    requires threads { 0 < threads }
     requires number { length seats.old ≡ length kernel.now.core.actors }
-    requires ready { map readiness (all_seen (λ b. mind b) seats.old)
+    requires ready { map readiness (seat_views (λ b. mind b) seats.old)
         ≡ map is_ready kernel.now.core.actors }
-    requires cast { All IsCast (all_seen (λ b. mind b) seats.old) }
-    ensures { all_seen (λ b. mind b) seats.new ≡ map after (all_seen (λ b. mind b) seats.old) }
+    requires cast { All IsCast (seat_views (λ b. mind b) seats.old) }
+    ensures { seat_views (λ b. mind b) seats.new ≡ map after (seat_views (λ b. mind b) seats.old) }
 {
     let queue = kernel.run_queue();
     let mut from = 0;
     while from < queue.len() {
-        let to = end_of_turns(queue, from, workers);
+        let to = end_of_turns(queue, from, threads);
         let first = queue[from].0 as usize - 1;
         let end = queue[to - 1].0 as usize;
-        turn_some(rt, seats, first, end, workers);
+        turn_some(rt, seats, first, end, threads);
         from = to;
     }
 }
@@ -104,7 +104,7 @@ fn turn_all<R: Threads + Sync>(rt: &R, kernel: &Kernel, seats: &mut [Seat], work
 // Keeps a call, where there is one.
 fn keep(calls: &mut Vec<ActorCall>, actor: ActorId, call: Option<Call>)
     requires room { length calls.old.items < vec_capacity calls.old }
-    ensures items { calls.new.items ≡ calls.old.items ++ listed_one actor.0 call [] }
+    ensures items { calls.new.items ≡ calls.old.items ++ with_call actor.0 call [] }
     ensures room { vec_capacity calls.new ≡ vec_capacity calls.old }
 {
     match call {
@@ -115,8 +115,8 @@ fn keep(calls: &mut Vec<ActorCall>, actor: ActorId, call: Option<Call>)
 
 // The call of a seat whose actor has taken its turn, and which rests then.
 fn collect_one<A: Actor>(seat: &mut Seat<A>) -> Option<Call>
-    ensures seat { seen A.mind seat.new ≡ rested (seen A.mind seat.old) }
-    ensures call { result ≡ call_in (seen A.mind seat.old) }
+    ensures seat { seat_view A.mind seat.new ≡ at_rest (seat_view A.mind seat.old) }
+    ensures call { result ≡ call_in (seat_view A.mind seat.old) }
 {
     if !seat.ready {
         return None;
@@ -128,11 +128,11 @@ fn collect_one<A: Actor>(seat: &mut Seat<A>) -> Option<Call>
 // The calls that were made take the place of those before, and their actors rest.
 fn collect<A: Actor>(kernel: &Kernel, seats: &mut [Seat<A>], calls: &mut Vec<ActorCall>)
     requires number { length seats.old ≡ length kernel.now.core.actors }
-    requires ready { map readiness (all_seen A.mind seats.old)
+    requires ready { map readiness (seat_views A.mind seats.old)
         ≡ map is_ready kernel.now.core.actors }
     requires room { length seats.old ≤ vec_capacity calls.old }
-    ensures seats { all_seen A.mind seats.new ≡ map rested (all_seen A.mind seats.old) }
-    ensures calls { calls.new.items ≡ listed 1 (map call_in (all_seen A.mind seats.old)) }
+    ensures seats { seat_views A.mind seats.new ≡ map at_rest (seat_views A.mind seats.old) }
+    ensures calls { calls.new.items ≡ call_list 1 (map call_in (seat_views A.mind seats.old)) }
     ensures room { vec_capacity calls.new ≡ vec_capacity calls.old }
 {
     calls.clear();
@@ -150,25 +150,26 @@ pub fn take_turns<R: Threads + Sync>(
     kernel: &Kernel,
     seats: &mut [Seat],
     calls: &mut Vec<ActorCall>,
-    workers: u32,
+    threads: u32,
 )
-    requires workers { 0 < workers }
+    requires threads { 0 < threads }
     requires number { length seats.old ≡ length kernel.now.core.actors }
-    requires seated { All (IsSeated (extent kernel.now.setup)) (all_seen (λ b. mind b) seats.old) }
+    requires seated { All (IsSeated (extent kernel.now.setup))
+        (seat_views (λ b. mind b) seats.old) }
     requires room { length seats.old ≤ vec_capacity calls.old }
-    ensures seated { All (IsSeated (extent kernel.now.setup)) (all_seen (λ b. mind b) seats.new) }
-    ensures minds { minds_of (all_seen (λ b. mind b) seats.new)
-        ≡ zip_with mind_after (minds_of (all_seen (λ b. mind b) seats.old))
+    ensures seated { All (IsSeated (extent kernel.now.setup)) (seat_views (λ b. mind b) seats.new) }
+    ensures minds { minds_of (seat_views (λ b. mind b) seats.new)
+        ≡ zip_with mind_after (minds_of (seat_views (λ b. mind b) seats.old))
         (inboxes kernel.now.core) }
-    ensures calls { calls.new.items ≡ listed 1
-        (zip_with call_after (minds_of (all_seen (λ b. mind b) seats.old))
+    ensures calls { calls.new.items ≡ call_list 1
+        (zip_with call_after (minds_of (seat_views (λ b. mind b) seats.old))
         (inboxes kernel.now.core)) }
     ensures limited { All (λ (made : ActorCall). IsCall (extent kernel.now.setup) made.call)
         calls.new.items }
     ensures room { vec_capacity calls.new ≡ vec_capacity calls.old }
 {
-    rounds_keep_limits();
+    seats_keep_limits();
     offer(kernel, seats);
-    turn_all(rt, kernel, seats, workers);
+    turn_all(rt, kernel, seats, threads);
     collect(kernel, seats, calls);
 }

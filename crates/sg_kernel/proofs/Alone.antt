@@ -1,14 +1,12 @@
 -- Calls that are sides of communications, and others.
-use Rattle.std.proofs.Common.{◌≡◌, ℕ, true, false, Option, None, Some, refl, subst, arith}
+use Rattle.std.proofs.Common.{◌≡◌, ℕ, true, false, Option, None, Some, refl, sym, ap, subst, arith}
 use Rattle.sg_base.specs.declared.call.Answer.{Answer}
 use Rattle.sg_base.specs.declared.call.Call.{Call}
 use Rattle.sg_base.specs.declared.call.Call.TheVariants as call
 use Rattle.sg_base.specs.Limits.{Extent, IsActorNumber, IsCall}
-use Rattle.sg_requests.specs.declared.request.Await.{Await}
+use Rattle.sg_base.specs.declared.awaits.Await.{Await}
 use Rattle.sg_requests.specs.Requested.{oldest, queue_at, taken}
 use Rattle.sg_route.specs.Roads.{Roads}
-use Rattle.sg_sync.specs.declared.outcome.Outcome.{Outcome}
-use Rattle.sg_sync.specs.declared.outcome.Outcome.TheVariants.{GoesOn, Waits, Refused}
 use Rattle.sg_sync.specs.Objects.{Done, locked, unlocked, acquired, released, arrived}
 use Rattle.sg_kernel.specs.declared.meetings.Comer.{Comer}
 use Rattle.sg_kernel.specs.World.{Setup, Core, whose_at}
@@ -16,39 +14,57 @@ use Rattle.sg_kernel.specs.Steps.{counted}
 use Rattle.sg_kernel.specs.Meetings.{comer_of, sends_by, receives_by, answer_of_over, waits_by, waits_until}
 use Rattle.sg_kernel.specs.Locks.{caller_gets, all_wake, caller_first, caller_last, with_objects}
 use Rattle.sg_kernel.specs.Calls.{answered_call, actor_of}
-use Rattle.sg_kernel.specs.Sound.{IsSide}
+use Rattle.sg_kernel.specs.kept.Sound.{IsComer}
 use Rattle.sg_kernel.proofs.Each.{both_on}
-use Rattle.sg_kernel.proofs.Woken.{all_on}
+use Rattle.sg_kernel.proofs.Woken.{all_on, caller_goes}
 
 -- ---- a side that comes keeps to the limits
-sent : (ex : Extent) (one two : Comer) → Some one ≡ Some two → IsSide ex one.side → IsSide ex two.side
-sent ex one two e is =
+comes_limited : (ex : Extent) (one two : Comer) → Some one ≡ Some two → IsComer ex one → IsComer ex two
+comes_limited ex one two e is =
     let same : one ≡ two = cc e in
-    subst (λ (x : Comer). IsSide ex x.side) same is
+    subst (IsComer ex) same is
 
-pub side_limited : (ex : Extent) (actor : ℕ) (what : Call) (comer : Comer) → IsActorNumber ex actor → IsCall ex what → comer_of actor what ≡ Some comer → IsSide ex comer.side
-side_limited ex actor call.Ask comer a h e = absurd (cc e)
-side_limited ex actor (call.Compute n) comer a h e = absurd (cc e)
-side_limited ex actor (call.Sleep n) comer a h e = absurd (cc e)
-side_limited ex actor (call.Send b n m) comer a h e = sent ex (sends_by actor (call.Send b n m) true b n m) comer e (record { actor = a; bytes = h.1; message = h.2 })
-side_limited ex actor (call.Recv b) comer a h e = sent ex (receives_by actor (call.Recv b) true b) comer e (record { actor = a; bytes = omega arith; message = tt })
-side_limited ex actor (call.ISend b n m) comer a h e = sent ex (sends_by actor (call.ISend b n m) false b n m) comer e (record { actor = a; bytes = h.1; message = h.2 })
-side_limited ex actor (call.IRecv b) comer a h e = sent ex (receives_by actor (call.IRecv b) false b) comer e (record { actor = a; bytes = omega arith; message = tt })
-side_limited ex actor call.Wait comer a h e = absurd (cc e)
-side_limited ex actor (call.Lock n) comer a h e = absurd (cc e)
-side_limited ex actor (call.Unlock n) comer a h e = absurd (cc e)
-side_limited ex actor (call.Acquire n) comer a h e = absurd (cc e)
-side_limited ex actor (call.Release n) comer a h e = absurd (cc e)
-side_limited ex actor call.Barrier comer a h e = absurd (cc e)
-side_limited ex actor call.Yield comer a h e = absurd (cc e)
-side_limited ex actor call.Exit comer a h e = absurd (cc e)
+pub comer_limited : (ex : Extent) (actor : ℕ) (what : Call) (comer : Comer) → IsActorNumber ex actor → IsCall ex what → comer_of actor what ≡ Some comer → IsComer ex comer
+comer_limited ex actor call.Ask comer a h e = absurd (cc e)
+comer_limited ex actor (call.Compute n) comer a h e = absurd (cc e)
+comer_limited ex actor (call.Sleep n) comer a h e = absurd (cc e)
+comer_limited ex actor (call.Send b n m) comer a h e = comes_limited ex (sends_by actor (call.Send b n m) true b n m) comer e (record { what = record { told = tt; call = h }; side = record { actor = a; bytes = h.1; message = h.2 } })
+comer_limited ex actor (call.Recv b) comer a h e = comes_limited ex (receives_by actor (call.Recv b) true b) comer e (record { what = record { told = tt; call = h }; side = record { actor = a; bytes = omega arith; message = tt } })
+comer_limited ex actor (call.ISend b n m) comer a h e = comes_limited ex (sends_by actor (call.ISend b n m) false b n m) comer e (record { what = record { told = tt; call = h }; side = record { actor = a; bytes = h.1; message = h.2 } })
+comer_limited ex actor (call.IRecv b) comer a h e = comes_limited ex (receives_by actor (call.IRecv b) false b) comer e (record { what = record { told = tt; call = h }; side = record { actor = a; bytes = omega arith; message = tt } })
+comer_limited ex actor call.Wait comer a h e = absurd (cc e)
+comer_limited ex actor (call.Lock n) comer a h e = absurd (cc e)
+comer_limited ex actor (call.Unlock n) comer a h e = absurd (cc e)
+comer_limited ex actor (call.Acquire n) comer a h e = absurd (cc e)
+comer_limited ex actor (call.Release n) comer a h e = absurd (cc e)
+comer_limited ex actor call.Barrier comer a h e = absurd (cc e)
+comer_limited ex actor call.Yield comer a h e = absurd (cc e)
+comer_limited ex actor call.Exit comer a h e = absurd (cc e)
+
+same_actor : (one two : Comer) → Some one ≡ Some two → two.side.actor.0 ≡ one.side.actor.0
+same_actor one two e =
+    let same : one ≡ two = cc e in
+    ap (λ (x : Comer). x.side.actor.0) (sym same)
+
+-- the one that comes is the caller
+pub comer_actor : (actor : ℕ) (what : Call) (comer : Comer) → comer_of actor what ≡ Some comer → comer.side.actor.0 ≡ actor
+comer_actor actor call.Ask comer e = absurd (cc e)
+comer_actor actor (call.Compute n) comer e = absurd (cc e)
+comer_actor actor (call.Sleep n) comer e = absurd (cc e)
+comer_actor actor (call.Send b n m) comer e = same_actor (sends_by actor (call.Send b n m) true b n m) comer e
+comer_actor actor (call.Recv b) comer e = same_actor (receives_by actor (call.Recv b) true b) comer e
+comer_actor actor (call.ISend b n m) comer e = same_actor (sends_by actor (call.ISend b n m) false b n m) comer e
+comer_actor actor (call.IRecv b) comer e = same_actor (receives_by actor (call.IRecv b) false b) comer e
+comer_actor actor call.Wait comer e = absurd (cc e)
+comer_actor actor (call.Lock n) comer e = absurd (cc e)
+comer_actor actor (call.Unlock n) comer e = absurd (cc e)
+comer_actor actor (call.Acquire n) comer e = absurd (cc e)
+comer_actor actor (call.Release n) comer e = absurd (cc e)
+comer_actor actor call.Barrier comer e = absurd (cc e)
+comer_actor actor call.Yield comer e = absurd (cc e)
+comer_actor actor call.Exit comer e = absurd (cc e)
 
 -- ---- any other call goes on
-caller_goes : (outcome : Outcome) (actor : ℕ) (what : Call) (core : Core) → (caller_gets outcome actor what core).stop ≡ None
-caller_goes GoesOn actor what core = refl
-caller_goes Waits actor what core = refl
-caller_goes Refused actor what core = refl
-
 first_goes : (done : Done) (actor : ℕ) (what : Call) (core : Core) → (caller_first done actor what core).stop ≡ None
 first_goes done actor what core = both_on (caller_gets done.outcome actor what (with_objects done core)) (all_wake done.after.others) (caller_goes done.outcome actor what (with_objects done core)) (all_on done.after.others)
 

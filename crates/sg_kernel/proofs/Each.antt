@@ -1,7 +1,7 @@
 -- Steps one after another.
 use Rattle.std.proofs.Common.{◌≡◌, ◌≢◌, ℕ, ◌==◌, true, false, Option, None, Some, List, [], ◌∷◌, refl, sym, ap, ◌∙◌, arith, append_assoc, append-nil}
 use Rattle.sg_base.specs.declared.trace_record.Record.{Record}
-use Rattle.sg_kernel.specs.declared.states.Stop.{Stop}
+use Rattle.sg_kernel.specs.declared.stop.Stop.{Stop}
 use Rattle.sg_kernel.specs.World.{Core}
 use Rattle.sg_kernel.specs.Steps.{Step, follows, and_then, each, all_of}
 use Rattle.sg_kernel.specs.Known.{Known, after}

@@ -3,14 +3,15 @@ use Rattle.std.proofs.Common.{◌≡◌, ◌≢◌, ℕ, Bool, true, false, cond
 use Rattle.sg_base.specs.declared.call.Msg.TheVariants as msg
 use Rattle.sg_activity.specs.Task.{Task, phase_after, task_at}
 use Rattle.sg_mailbox.specs.declared.sides.Side.{Side}
-use Rattle.sg_requests.specs.declared.request.End.{End}
-use Rattle.sg_requests.specs.declared.request.End.TheVariants as end
-use Rattle.sg_kernel.specs.declared.states.How.{How}
-use Rattle.sg_kernel.specs.declared.states.How.TheVariants as how
-use Rattle.sg_kernel.specs.declared.states.Whose.{Whose}
-use Rattle.sg_kernel.specs.declared.states.Whose.TheVariants.{Over, Alone, Posted, Pair}
-use Rattle.sg_kernel.specs.declared.states.Stop.TheVariants.{Budget}
-use Rattle.sg_kernel.specs.World.{Setup, Core, Blocking, blocking_in, state_of, whose_at}
+use Rattle.sg_base.specs.declared.awaits.Party.{Party}
+use Rattle.sg_base.specs.declared.awaits.Party.TheVariants as party
+use Rattle.sg_kernel.specs.declared.owners.How.{How}
+use Rattle.sg_kernel.specs.declared.owners.How.TheVariants as how
+use Rattle.sg_kernel.specs.declared.owners.Whose.{Whose}
+use Rattle.sg_kernel.specs.declared.owners.Whose.TheVariants.{Over, Alone, Posted, Pair}
+use Rattle.sg_kernel.specs.declared.stop.Stop.TheVariants.{Budget}
+use Rattle.sg_kernel.specs.World.{Setup, Core, state_of, whose_at}
+use Rattle.sg_states.specs.Actors.{Blocking, blocking_in}
 use Rattle.sg_kernel.specs.Steps.{Step, stops, counted, each}
 use Rattle.sg_kernel.specs.Meetings.{side_of}
 use Rattle.sg_kernel.specs.Passes.{is_on, for_receiver, answers_by, answers_side, answers, with_over, ends_in, ends_one, ends_by, ends}
@@ -18,7 +19,7 @@ use Rattle.sg_kernel.specs.Known.{Known, after}
 use Rattle.sg_kernel.proofs.Each.{eq_no, eq_yes, then_after, both_on, still, still_stops, still_one, stops_one, each_stops}
 
 -- ---- a phase end goes on
-answers_by_goes : (over : How) (serial : ℕ) (side : End) (given : Side) (blocking : Option Blocking) (core : Core) → (answers_by over serial side given blocking core).stop ≡ None
+answers_by_goes : (over : How) (serial : ℕ) (side : Party) (given : Side) (blocking : Option Blocking) (core : Core) → (answers_by over serial side given blocking core).stop ≡ None
 answers_by_goes over serial side given None core = refl
 answers_by_goes over serial side given (Some blocking) core = cases (is_on serial side blocking.on) _ _ refl refl
   where
@@ -26,23 +27,23 @@ answers_by_goes over serial side given (Some blocking) core = cases (is_on seria
     cases true one other e f = e
     cases false one other e f = f
 
-answers_side_goes : (over : How) (serial : ℕ) (side : End) (given : Side) (core : Core) → (answers_side over serial side given core).stop ≡ None
+answers_side_goes : (over : How) (serial : ℕ) (side : Party) (given : Side) (core : Core) → (answers_side over serial side given core).stop ≡ None
 answers_side_goes over serial side given core = answers_by_goes over serial side given (blocking_in (state_of core given.actor.0)) core
 
 -- a communication's two sides are answered one after another
 pub after_both : (over : How) (serial : ℕ) (sender receiver : Side) (known : Known) →
-    after (answers_side over serial end.Receiver (for_receiver sender receiver) (after (answers_side over serial end.Sender sender known.core) known).core) (after (answers_side over serial end.Sender sender known.core) known)
+    after (answers_side over serial party.Receiver (for_receiver sender receiver) (after (answers_side over serial party.Sender sender known.core) known).core) (after (answers_side over serial party.Sender sender known.core) known)
     ≡ after (answers over serial (Pair sender receiver) known.core) known
 after_both over serial sender receiver known =
-    then_after (answers_side over serial end.Sender sender known.core) (answers_side over serial end.Receiver (for_receiver sender receiver)) known (answers_side_goes over serial end.Sender sender known.core)
+    then_after (answers_side over serial party.Sender sender known.core) (answers_side over serial party.Receiver (for_receiver sender receiver)) known (answers_side_goes over serial party.Sender sender known.core)
 
 answers_goes : (over : How) (serial : ℕ) (whose : Whose) (core : Core) → (answers over serial whose core).stop ≡ None
 answers_goes over serial (Over before) core = refl
-answers_goes over serial (Alone actor) core = answers_side_goes over serial end.Alone (side_of actor.0 0 msg.Empty) core
+answers_goes over serial (Alone actor) core = answers_side_goes over serial party.Alone (side_of actor.0 0 msg.Empty) core
 answers_goes over serial (Posted mailbox sends side) core = refl
 answers_goes over serial (Pair sender receiver) core =
-    both_on (answers_side over serial end.Sender sender core) (answers_side over serial end.Receiver (for_receiver sender receiver)) (answers_side_goes over serial end.Sender sender core)
-    (answers_side_goes over serial end.Receiver (for_receiver sender receiver))
+    both_on (answers_side over serial party.Sender sender core) (answers_side over serial party.Receiver (for_receiver sender receiver)) (answers_side_goes over serial party.Sender sender core)
+    (answers_side_goes over serial party.Receiver (for_receiver sender receiver))
 
 ends_goes_in : (serial : ℕ) (after : Option Task) (core : Core) → (ends_in serial after core).stop ≡ None
 ends_goes_in serial None core = answers_goes how.Done serial (whose_at core serial) (with_over how.Done serial core)

@@ -1,6 +1,6 @@
 -- Where a simulation begins, all that is kept holds.
 use Rattle.std.proofs.Common.{◌≡◌, ◌<◌, ◌≤◌, ◌+◌, ◌^◌, ℕ, suc, None, List, [], ◌∷◌, length, map, replicate, get_or, refl, sym, ap, subst, ◌∙◌, arith, true, false}
-use Rattle.std.specs.Prelude.{All, vec_len}
+use Rattle.std.specs.Prelude.{All}
 use Rattle.std.specs.List.{count_by, flat_map}
 use Rattle.std.proofs.lemmas.List.{length-map, length-replicate}
 use Rattle.std.proofs.lemmas.List.Elements.{All-nil, All-cons, All-append, All-map, All-replicate}
@@ -8,33 +8,32 @@ use Rattle.sg_base.specs.declared.ids.ActorId.{ActorId}
 use Rattle.sg_base.specs.declared.ids.BoxId.{BoxId}
 use Rattle.sg_base.specs.declared.ids.PointId.{PointId}
 use Rattle.sg_base.specs.declared.call.Answer.TheVariants as answer
-use Rattle.sg_base.specs.declared.trace_record.Record.{Record}
+use Rattle.sg_base.specs.Limits.{Extent}
 use Rattle.sg_activity.specs.Doing.{Doing, idle_on}
 use Rattle.sg_activity.specs.declared.kinds.LinkCap.{LinkCap}
 use Rattle.sg_activity.specs.Links.{IsLink}
 use Rattle.sg_mailbox.specs.Posts.{waiting}
-use Rattle.sg_platform.specs.Deployment.{Deployed, IsDeployment, IsDeployedOn}
-use Rattle.sg_platform.specs.Platform.{Platform, IsLinkRow}
-use Rattle.sg_platform.specs.declared.rows.ActorRow.{ActorRow}
-use Rattle.sg_platform.specs.declared.rows.LinkRow.{LinkRow}
-use Rattle.sg_platform.specs.declared.rows.Policy.{Policy}
-use Rattle.sg_platform.specs.declared.rows.Policy.TheVariants.{Shared, Fatpipe, SplitDuplex}
-use Rattle.sg_requests.specs.declared.request.Await.{Await}
+use Rattle.sg_rows.specs.Deployment.{Deployed, IsDeployment, IsDeployedOn}
+use Rattle.sg_rows.specs.Platform.{Platform, IsLinkRow}
+use Rattle.sg_rows.specs.declared.rows.ActorRow.{ActorRow}
+use Rattle.sg_rows.specs.declared.rows.LinkRow.{LinkRow}
+use Rattle.sg_rows.specs.declared.rows.Policy.{Policy}
+use Rattle.sg_rows.specs.declared.rows.Policy.TheVariants.{Shared, Fatpipe, SplitDuplex}
+use Rattle.sg_base.specs.declared.awaits.Await.{Await}
 use Rattle.sg_requests.specs.Requested.{Requested}
 use Rattle.sg_sync.specs.Objects as sync
 use Rattle.sg_sync.specs.Objects.{Objects}
 use Rattle.sg_sync.proofs.Counts.{nobody_waits}
-use Rattle.sg_kernel.specs.declared.parts.Parts.{Parts}
-use Rattle.sg_kernel.specs.declared.states.State.{State}
-use Rattle.sg_kernel.specs.declared.states.State.TheVariants.{Ready}
-use Rattle.sg_kernel.specs.declared.states.Whose.{Whose}
+use Rattle.sg_kernel.specs.declared.fields.Fields.{Fields}
+use Rattle.sg_states.specs.declared.state.State.TheVariants.{Ready}
+use Rattle.sg_kernel.specs.declared.owners.Whose.{Whose}
 use Rattle.sg_kernel.specs.Known.{Known, first_known}
 use Rattle.sg_kernel.specs.Meetings.{posts_from}
-use Rattle.sg_kernel.specs.Owners.{Owned}
+use Rattle.sg_kernel.specs.kept.Owners.{Owned}
 use Rattle.sg_kernel.specs.Start.{host_cap, link_cap, caps_of, link_caps, home_of, capacity_of, replays, capacities_in, setup_of, first_objects}
-use Rattle.sg_kernel.specs.World.{extent, is_ready, is_ended}
-use Rattle.sg_kernel.specs.Sound.{point_number, blocked_count, IsSound, known_of, setup_in, IsMade, IsOwner, AreMeeting, AreHeld, AreLimited, KeepsLimits}
-use Rattle.sg_kernel.specs.Records.{IsRecord}
+use Rattle.sg_kernel.specs.World.{extent}
+use Rattle.sg_kernel.specs.kept.Sound.{point_number, IsSound, HasRoom, known_of, setup_in, IsMade, IsOwner, AreMeeting, AreHeld, AreLimited}
+use Rattle.sg_states.specs.States.{ActorStates}
 
 -- ---- links keep to their limits
 one_fits : (bandwidth : ℕ) → bandwidth ≤ 10 ^ 15 → All IsLink (link_cap bandwidth false ∷ [])
@@ -56,79 +55,84 @@ rows_fit (row ∷ rows) fit =
 pub links_fit : (rows : List LinkRow) → All IsLinkRow rows → All IsLink (link_caps rows)
 links_fit rows fit = All-append IsLink (flat_map caps_in rows) (link_cap 498000000 true ∷ []) (rows_fit rows fit) (All-cons IsLink (link_cap 498000000 true) [] (omega arith) (All-nil IsLink))
 
--- ---- the parts at first
-pub record IsFirst (platform : Platform) (deployed : Deployed) (parts : Parts) : Type 0 where
-  pub doing : parts.doing ≡ idle_on (map host_cap platform.hosts) (link_caps platform.links)
-  pub states : parts.states.items ≡ replicate (length deployed.actors) (Ready answer.Start)
-  pub whose : parts.whose ≡ record { whose = []; room = 0 }
-  pub boxes : (mailbox : BoxId) → waiting parts.boxes mailbox ≡ []
-  pub requests : parts.requests ≡ record { queues = replicate (length deployed.actors) []; asked = 0; room = 0 }
-  pub objects : parts.objects ≡ first_objects (setup_of platform deployed parts.budget)
-  pub records : parts.records.items ≡ []
-  pub hosts : parts.hosts ≡ length (map host_cap platform.hosts)
-  pub links : parts.links ≡ length (link_caps platform.links)
-  pub homes : parts.homes.items ≡ map (λ (actor : ActorRow). actor.host) deployed.actors
-  pub mutexes : parts.mutexes ≡ length deployed.mutexes
-  pub semaphores : parts.semaphores.items ≡ map capacity_of deployed.semaphores
-  pub members : parts.members ≡ count_by replays deployed.actors
-  pub events : parts.events ≡ 0
-  pub room : parts.room ≡ 0
+-- ---- the fields at first
+abbrev pub first_states : ℕ → ℕ → ℕ → ActorStates
+first_states actors mutexes semaphores = record {
+  extent = record { actors = actors; mutexes = mutexes; semaphores = semaphores };
+  actors = replicate actors (Ready answer.Start);
+  records = [];
+  room = 0;
+  passing = false;
+}
 
-abbrev made_of : Doing → List State → List Whose → List (List Await) → Objects → List Record → ℕ → ℕ → List ℕ → ℕ → List ℕ → ℕ → ℕ → ℕ → ℕ → Known
-made_of doing states whose queues objects records hosts links homes mutexes semaphores members budget events room = record {
+pub record IsFirst (platform : Platform) (deployed : Deployed) (fields : Fields) : Type 0 where
+  pub doing : fields.doing ≡ idle_on (map host_cap platform.hosts) (link_caps platform.links)
+  pub states : fields.states ≡ first_states (length deployed.actors) (length deployed.mutexes) (length deployed.semaphores)
+  pub whose : fields.whose ≡ record { whose = []; room = 0 }
+  pub boxes : (mailbox : BoxId) → waiting fields.boxes mailbox ≡ []
+  pub requests : fields.requests ≡ record { queues = replicate (length deployed.actors) []; asked = 0; room = 0 }
+  pub objects : fields.objects ≡ first_objects (setup_of platform deployed fields.budget)
+  pub hosts : fields.hosts ≡ length (map host_cap platform.hosts)
+  pub links : fields.links ≡ length (link_caps platform.links)
+  pub homes : fields.homes.items ≡ map (λ (actor : ActorRow). actor.host) deployed.actors
+  pub mutexes : fields.mutexes ≡ length deployed.mutexes
+  pub semaphores : fields.semaphores.items ≡ map capacity_of deployed.semaphores
+  pub members : fields.members ≡ count_by replays deployed.actors
+  pub events : fields.events ≡ 0
+
+abbrev made_of : Doing → ActorStates → List Whose → List (List Await) → Objects → ℕ → ℕ → List ℕ → ℕ → List ℕ → ℕ → ℕ → ℕ → Known
+made_of doing states whose queues objects hosts links homes mutexes semaphores members budget events = record {
   setup = record { hosts = hosts; links = links; homes = homes; mutexes = mutexes; semaphores = semaphores; members = members; budget = budget };
-  core = record { under = doing.under; actors = states; whose = whose; requests = queues; objects = objects; events = events };
-  records = records;
-  room = room;
+  core = record { under = doing.under; actors = states.actors; whose = whose; requests = queues; objects = objects; events = events };
+  records = states.records;
+  room = states.room;
 }
 
 homes_first : (actors : List ActorRow) → map point_number (map (λ (actor : ActorRow). actor.host) actors) ≡ map home_of actors
 homes_first [] = refl
 homes_first (actor ∷ rest) = ap (λ l. actor.host.0 ∷ l) (homes_first rest)
 
-pub first_is : (platform : Platform) (deployed : Deployed) (parts : Parts) → IsFirst platform deployed parts → known_of parts ≡ first_known (capacities_in platform) (setup_of platform deployed parts.budget)
-first_is platform deployed parts is =
-    let b = parts.budget in
+pub first_is : (platform : Platform) (deployed : Deployed) (fields : Fields) → IsFirst platform deployed fields → known_of fields ≡ first_known (capacities_in platform) (setup_of platform deployed fields.budget)
+first_is platform deployed fields is =
+    let b = fields.budget in
     let n : length deployed.actors ≡ length (map home_of deployed.actors) = sym (length-map deployed.actors home_of) in
     let d = idle_on (map host_cap platform.hosts) (link_caps platform.links) in
-    let s = replicate (length (map home_of deployed.actors)) (Ready answer.Start) in
+    let s = first_states (length (map home_of deployed.actors)) (length deployed.mutexes) (length deployed.semaphores) in
     let r : List (List Await) = replicate (length (map home_of deployed.actors)) [] in
     let o = first_objects (setup_of platform deployed b) in
     let h = map home_of deployed.actors in
     let m = length deployed.mutexes in
     let c = map capacity_of deployed.semaphores in
     let e = count_by replays deployed.actors in
-    let p = parts in
+    let p = fields in
     let x = length platform.hosts in
     let y = length (link_caps platform.links) in
-    ap (λ v. made_of v p.states.items p.whose.whose p.requests.queues p.objects p.records.items p.hosts p.links (map point_number p.homes.items) p.mutexes p.semaphores.items p.members b p.events p.room) is.doing
-    ∙ ap (λ v. made_of d v p.whose.whose p.requests.queues p.objects p.records.items p.hosts p.links (map point_number p.homes.items) p.mutexes p.semaphores.items p.members b p.events p.room) (is.states ∙ ap (λ k. replicate k (Ready answer.Start)) n)
-    ∙ ap (λ (v : Owned). made_of d s v.whose p.requests.queues p.objects p.records.items p.hosts p.links (map point_number p.homes.items) p.mutexes p.semaphores.items p.members b p.events p.room) is.whose
-    ∙ ap (λ v. made_of d s [] v p.objects p.records.items p.hosts p.links (map point_number p.homes.items) p.mutexes p.semaphores.items p.members b p.events p.room) (ap (λ (q : Requested). q.queues) is.requests ∙ ap (λ k. replicate k []) n)
-    ∙ ap (λ v. made_of d s [] r v p.records.items p.hosts p.links (map point_number p.homes.items) p.mutexes p.semaphores.items p.members b p.events p.room) is.objects
-    ∙ ap (λ v. made_of d s [] r o v p.hosts p.links (map point_number p.homes.items) p.mutexes p.semaphores.items p.members b p.events p.room) is.records
-    ∙ ap (λ v. made_of d s [] r o [] v p.links (map point_number p.homes.items) p.mutexes p.semaphores.items p.members b p.events p.room) (is.hosts ∙ length-map platform.hosts host_cap)
-    ∙ ap (λ v. made_of d s [] r o [] x v (map point_number p.homes.items) p.mutexes p.semaphores.items p.members b p.events p.room) is.links
-    ∙ ap (λ v. made_of d s [] r o [] x y v p.mutexes p.semaphores.items p.members b p.events p.room) (ap (map point_number) is.homes ∙ homes_first deployed.actors)
-    ∙ ap (λ v. made_of d s [] r o [] x y h v p.semaphores.items p.members b p.events p.room) is.mutexes
-    ∙ ap (λ v. made_of d s [] r o [] x y h m v p.members b p.events p.room) is.semaphores
-    ∙ ap (λ v. made_of d s [] r o [] x y h m c v b p.events p.room) is.members
-    ∙ ap (λ v. made_of d s [] r o [] x y h m c e b v p.room) is.events
-    ∙ ap (λ v. made_of d s [] r o [] x y h m c e b 0 v) is.room
+    ap (λ v. made_of v p.states p.whose.whose p.requests.queues p.objects p.hosts p.links (map point_number p.homes.items) p.mutexes p.semaphores.items p.members b p.events) is.doing
+    ∙ ap (λ v. made_of d v p.whose.whose p.requests.queues p.objects p.hosts p.links (map point_number p.homes.items) p.mutexes p.semaphores.items p.members b p.events) (is.states ∙ ap (λ k. first_states k (length deployed.mutexes) (length deployed.semaphores)) n)
+    ∙ ap (λ (v : Owned). made_of d s v.whose p.requests.queues p.objects p.hosts p.links (map point_number p.homes.items) p.mutexes p.semaphores.items p.members b p.events) is.whose
+    ∙ ap (λ v. made_of d s [] v p.objects p.hosts p.links (map point_number p.homes.items) p.mutexes p.semaphores.items p.members b p.events) (ap (λ (q : Requested). q.queues) is.requests ∙ ap (λ k. replicate k []) n)
+    ∙ ap (λ v. made_of d s [] r v p.hosts p.links (map point_number p.homes.items) p.mutexes p.semaphores.items p.members b p.events) is.objects
+    ∙ ap (λ v. made_of d s [] r o v p.links (map point_number p.homes.items) p.mutexes p.semaphores.items p.members b p.events) (is.hosts ∙ length-map platform.hosts host_cap)
+    ∙ ap (λ v. made_of d s [] r o x v (map point_number p.homes.items) p.mutexes p.semaphores.items p.members b p.events) is.links
+    ∙ ap (λ v. made_of d s [] r o x y v p.mutexes p.semaphores.items p.members b p.events) (ap (map point_number) is.homes ∙ homes_first deployed.actors)
+    ∙ ap (λ v. made_of d s [] r o x y h v p.semaphores.items p.members b p.events) is.mutexes
+    ∙ ap (λ v. made_of d s [] r o x y h m v p.members b p.events) is.semaphores
+    ∙ ap (λ v. made_of d s [] r o x y h m c v b p.events) is.members
+    ∙ ap (λ v. made_of d s [] r o x y h m c e b v) is.events
 
-pub first_hosts : (platform : Platform) (deployed : Deployed) (parts : Parts) → IsFirst platform deployed parts → IsDeployedOn platform deployed → All (λ (home : PointId). home.0 < length parts.doing.under.capacities.hosts) parts.homes.items
-first_hosts platform deployed parts is on =
-    let many : length parts.doing.under.capacities.hosts ≡ length platform.hosts = ap (λ (d : Doing). length d.under.capacities.hosts) is.doing ∙ length-map platform.hosts host_cap in
-    subst (All (λ (home : PointId). home.0 < length parts.doing.under.capacities.hosts)) (sym is.homes)
-    (All-map (λ (home : PointId). home.0 < length parts.doing.under.capacities.hosts) (λ (actor : ActorRow). actor.host) deployed.actors (λ k x within. omega (arith, on k x within, many)))
+pub first_hosts : (platform : Platform) (deployed : Deployed) (fields : Fields) → IsFirst platform deployed fields → IsDeployedOn platform deployed → All (λ (home : PointId). home.0 < length fields.doing.under.capacities.hosts) fields.homes.items
+first_hosts platform deployed fields is on =
+    let many : length fields.doing.under.capacities.hosts ≡ length platform.hosts = ap (λ (d : Doing). length d.under.capacities.hosts) is.doing ∙ length-map platform.hosts host_cap in
+    subst (All (λ (home : PointId). home.0 < length fields.doing.under.capacities.hosts)) (sym is.homes)
+    (All-map (λ (home : PointId). home.0 < length fields.doing.under.capacities.hosts) (λ (actor : ActorRow). actor.host) deployed.actors (λ k x within. omega (arith, on k x within, many)))
 
-pub first_meeting : (platform : Platform) (deployed : Deployed) (parts : Parts) → IsFirst platform deployed parts → AreMeeting parts
+pub first_meeting : (platform : Platform) (deployed : Deployed) (fields : Fields) → IsFirst platform deployed fields → AreMeeting fields
 unfolding posts_from
-first_meeting platform deployed parts is = record {
+first_meeting platform deployed fields is = record {
   posts = λ mailbox. is.boxes mailbox ∙ sym (ap (λ (o : Owned). posts_from mailbox 1 o.whose) is.whose);
   idle = λ place posted. ap (λ (d : Doing). get_or d.under.tasks place None) is.doing;
   asked =
-      let made = IsMade (length parts.whose.whose) in
+      let made = IsMade (length fields.whose.whose) in
       subst (All (λ (queue : List Await). All made queue)) (sym (ap (λ (q : Requested). q.queues) is.requests))
       (All-replicate (λ (queue : List Await). All made queue) (length deployed.actors) [] (All-nil made));
 }
@@ -136,27 +140,23 @@ first_meeting platform deployed parts is = record {
 nobody : (platform : Platform) (deployed : Deployed) (budget : ℕ) (actor : ActorId) → sync.waiting (first_objects (setup_of platform deployed budget)) actor ≡ 0
 nobody platform deployed budget actor = omega (arith, nobody_waits actor (length deployed.mutexes), nobody_waits actor (length (map capacity_of deployed.semaphores)))
 
-pub first_held : (platform : Platform) (deployed : Deployed) (parts : Parts) → IsFirst platform deployed parts → IsDeployment deployed → AreHeld parts
-first_held platform deployed parts is kept =
-    let setup = setup_of platform deployed parts.budget in
-    let none : (actor : ActorId) → sync.waiting parts.objects actor ≡ 0 = λ actor. ap (λ o. sync.waiting o actor) is.objects ∙ nobody platform deployed parts.budget actor in
+pub first_held : (platform : Platform) (deployed : Deployed) (fields : Fields) → IsFirst platform deployed fields → IsDeployment deployed → AreHeld fields
+first_held platform deployed fields is kept =
+    let setup = setup_of platform deployed fields.budget in
+    let none : (actor : ActorId) → sync.waiting fields.objects actor ≡ 0 = λ actor. ap (λ o. sync.waiting o actor) is.objects ∙ nobody platform deployed fields.budget actor in
     record {
       owners = ap (λ (o : Objects). length o.owners) is.objects ∙ length-replicate (length deployed.mutexes) None ∙ sym is.mutexes;
       counts = ap (λ (o : Objects). length o.counts) is.objects ∙ ap length (sym is.semaphores);
-      actors = ap (λ (o : Objects). o.actors) is.objects ∙ length-map deployed.actors home_of ∙ sym (ap length is.states ∙ length-replicate (length deployed.actors) (Ready answer.Start));
-      few = subst (All (λ count. count ≤ 10 ^ 9 + parts.events)) (sym (ap (λ (o : Objects). o.counts) is.objects)) (All-map (λ count. count ≤ 10 ^ 9 + parts.events) capacity_of deployed.semaphores (λ k x within. omega (arith, (kept.semaphores k x within).capacity)));
+      actors = ap (λ (o : Objects). o.actors) is.objects ∙ length-map deployed.actors home_of ∙ sym (ap (λ (q : ActorStates). length q.actors) is.states ∙ length-replicate (length deployed.actors) (Ready answer.Start));
+      few = subst (All (λ count. count ≤ 10 ^ 9 + fields.events)) (sym (ap (λ (o : Objects). o.counts) is.objects)) (All-map (λ count. count ≤ 10 ^ 9 + fields.events) capacity_of deployed.semaphores (λ k x within. omega (arith, (kept.semaphores k x within).capacity)));
       once = λ actor. omega (arith, none actor);
       held = λ actor some. absurd (omega (arith, none actor, some));
       locking = ap (λ (o : Objects). length o.locking) is.objects ∙ length-replicate (length deployed.mutexes) [] ∙ sym is.mutexes;
       acquiring = ap (λ (o : Objects). length o.acquiring) is.objects ∙ length-replicate (length (map capacity_of deployed.semaphores)) [] ∙ ap length (sym is.semaphores);
     }
 
-pub first_limited : (platform : Platform) (deployed : Deployed) (parts : Parts) → IsFirst platform deployed parts → All (KeepsLimits (extent (setup_in parts))) parts.states.items → AreLimited parts
-first_limited platform deployed parts is states = record {
-  states = states;
-  owners = subst (λ (o : Owned). All (IsOwner (extent (setup_in parts))) o.whose) (sym is.whose) (All-nil (IsOwner (extent (setup_in parts))));
-  records = subst (All (IsRecord (extent (setup_in parts)))) (sym is.records) (All-nil (IsRecord (extent (setup_in parts))));
-}
+pub first_limited : (platform : Platform) (deployed : Deployed) (fields : Fields) → IsFirst platform deployed fields → AreLimited fields
+first_limited platform deployed fields is = subst (λ (o : Owned). All (IsOwner (extent (setup_in fields))) o.whose) (sym is.whose) (All-nil (IsOwner (extent (setup_in fields))))
 
 abbrev pub objects_of : ℕ → ℕ → List ℕ → ℕ → Objects
 objects_of actors mutexes semaphores members = record {
@@ -180,10 +180,22 @@ objects_first platform deployed budget n m c e actors mutexes semaphores members
     ∙ ap (λ v. objects_of long many v e) semaphores
     ∙ ap (objects_of long many counts) members
 
-pub first_sound : (platform : Platform) (deployed : Deployed) (parts : Parts) → IsFirst platform deployed parts → IsDeployedOn platform deployed → parts.budget ≤ 10 ^ 9 → parts.ready ≡ count_by is_ready parts.states.items → parts.ended ≡ count_by is_ended parts.states.items → blocked_count parts.states.items ≡ 0 → vec_len parts.records ≡ 0 → IsSound parts
-first_sound platform deployed parts is on budget ready ended blocked none =
-    let tasks : length parts.doing.under.tasks ≡ 0 = ap (λ (d : Doing). length d.under.tasks) is.doing in
-    let states : length parts.states.items ≡ length deployed.actors = ap length is.states ∙ length-replicate (length deployed.actors) (Ready answer.Start) in
+abbrev extent_of : ℕ → ℕ → ℕ → Extent
+extent_of actors mutexes semaphores = record { actors = actors; mutexes = mutexes; semaphores = semaphores }
+
+first_extent : (platform : Platform) (deployed : Deployed) (fields : Fields) → IsFirst platform deployed fields → fields.states.extent ≡ extent (setup_in fields)
+first_extent platform deployed fields is =
+    let homes : length (map point_number fields.homes.items) ≡ length deployed.actors = length-map fields.homes.items point_number ∙ ap length is.homes ∙ length-map deployed.actors (λ (actor : ActorRow). actor.host) in
+    let semaphores : length fields.semaphores.items ≡ length deployed.semaphores = ap length is.semaphores ∙ length-map deployed.semaphores capacity_of in
+    ap (λ (q : ActorStates). q.extent) is.states
+    ∙ ap (λ n. extent_of n (length deployed.mutexes) (length deployed.semaphores)) (sym homes)
+    ∙ ap (λ n. extent_of (length (map point_number fields.homes.items)) n (length deployed.semaphores)) (sym is.mutexes)
+    ∙ ap (λ n. extent_of (length (map point_number fields.homes.items)) fields.mutexes n) (sym semaphores)
+
+pub first_sound : (platform : Platform) (deployed : Deployed) (fields : Fields) → IsFirst platform deployed fields → IsDeployedOn platform deployed → fields.budget ≤ 10 ^ 9 → IsSound fields
+first_sound platform deployed fields is on budget =
+    let tasks : length fields.doing.under.tasks ≡ 0 = ap (λ (d : Doing). length d.under.tasks) is.doing in
+    let states : length fields.states.actors ≡ length deployed.actors = ap (λ (q : ActorStates). length q.actors) is.states ∙ length-replicate (length deployed.actors) (Ready answer.Start) in
     record {
       numbered = ap (λ (o : Owned). length o.whose) is.whose ∙ sym tasks;
       few = omega (arith, tasks);
@@ -192,14 +204,13 @@ first_sound platform deployed parts is on budget ready ended blocked none =
       hosts_counted = ap (λ (d : Doing). length d.under.capacities.hosts) is.doing ∙ sym is.hosts;
       links_counted = ap (λ (d : Doing). length d.under.capacities.links) is.doing ∙ sym is.links;
       homes_known = ap length is.homes ∙ length-map deployed.actors (λ (actor : ActorRow). actor.host) ∙ sym states;
-      hosts_known = first_hosts platform deployed parts is on;
+      hosts_known = first_hosts platform deployed fields is on;
       requests_known = ap (λ (q : Requested). length q.queues) is.requests ∙ length-replicate (length deployed.actors) [] ∙ sym states;
       requests_few = omega (arith, ap (λ (q : Requested). q.asked) is.requests);
-      ready_count = ready;
-      ended_count = ended;
-      start_room = omega (arith, is.room);
-      whose_room = omega (arith, is.room);
-      boxes_room = omega (arith, is.room);
-      requests_room = omega (arith, is.room);
-      records_fit = omega (arith, is.room, blocked, none);
+      extent_is = first_extent platform deployed fields is;
     }
+
+pub first_roomy : (platform : Platform) (deployed : Deployed) (fields : Fields) → IsFirst platform deployed fields → HasRoom fields.states.room fields
+first_roomy platform deployed fields is =
+    let none : fields.states.room ≡ 0 = ap (λ (q : ActorStates). q.room) is.states in
+    record { starts = omega (arith, none); owners = omega (arith, none); mailboxes = omega (arith, none); requests = omega (arith, none) }

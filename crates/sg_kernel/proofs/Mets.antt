@@ -12,48 +12,48 @@ use Rattle.sg_mailbox.specs.Posts.{Post, is_other, waiting, meets, met}
 use Rattle.sg_route.specs.declared.router.RouteFault.{RouteFault}
 use Rattle.sg_route.specs.Roads.{Roads}
 use Rattle.sg_route.specs.Route.{Route, route_of}
-use Rattle.sg_route.specs.Walked.{Routed}
+use Rattle.sg_route.specs.Route.{LeavesRoute}
 use Rattle.sg_kernel.specs.declared.meetings.Comer.{Comer}
-use Rattle.sg_kernel.specs.declared.parts.Parts.{Parts}
-use Rattle.sg_kernel.specs.declared.states.How.TheVariants as how
-use Rattle.sg_kernel.specs.declared.states.Whose.TheVariants.{Over, Posted}
+use Rattle.sg_kernel.specs.declared.fields.Fields.{Fields}
+use Rattle.sg_kernel.specs.declared.owners.How.TheVariants as how
+use Rattle.sg_kernel.specs.declared.owners.Whose.TheVariants.{Over, Posted}
 use Rattle.sg_kernel.specs.Meetings.{posts_from, sender_of, receiver_of, point_of, joins_over, comes, comes_by, takes_part}
 use Rattle.sg_kernel.specs.World.{Core, extent}
-use Rattle.sg_kernel.specs.Sound.{core_of, setup_in, is_posted, IsSide, IsOwner, IsSound, AreLimited, AreMeeting}
+use Rattle.sg_kernel.specs.kept.Sound.{core_of, setup_in, is_posted, IsSide, IsOwner, IsSound, AreLimited, AreMeeting}
 use Rattle.sg_kernel.proofs.Postings.{FoundAt, found_post, posts_below}
 
 -- all that wait have lower serials than the next one
-pub waiting_below : (parts : Parts) (mailbox : BoxId) (next : ℕ) → next ≡ length parts.doing.under.tasks + 1 → IsSound parts → AreMeeting parts → All (λ (p : Post). p.serial.0 < next) (waiting parts.boxes mailbox)
-waiting_below parts mailbox next is sound meeting =
-    All-same (λ (p : Post). p.serial.0 < next) (waiting parts.boxes mailbox) (posts_from mailbox 1 parts.whose.whose) (meeting.posts mailbox) (λ k d lt. below k d (posts_below mailbox 1 parts.whose.whose k d lt))
+pub waiting_below : (fields : Fields) (mailbox : BoxId) (next : ℕ) → next ≡ length fields.doing.under.tasks + 1 → IsSound fields → AreMeeting fields → All (λ (p : Post). p.serial.0 < next) (waiting fields.boxes mailbox)
+waiting_below fields mailbox next is sound meeting =
+    All-same (λ (p : Post). p.serial.0 < next) (waiting fields.boxes mailbox) (posts_from mailbox 1 fields.whose.whose) (meeting.posts mailbox) (λ k d lt. below k d (posts_below mailbox 1 fields.whose.whose k d lt))
   where
-    below : (k : ℕ) (d : Post) → (get_or (posts_from mailbox 1 parts.whose.whose) k d).serial.0 < 1 + length parts.whose.whose → (get_or (posts_from mailbox 1 parts.whose.whose) k d).serial.0 < next
+    below : (k : ℕ) (d : Post) → (get_or (posts_from mailbox 1 fields.whose.whose) k d).serial.0 < 1 + length fields.whose.whose → (get_or (posts_from mailbox 1 fields.whose.whose) k d).serial.0 < next
     below k d h = omega (arith, h, is, sound.numbered)
 
 -- the one that a side meets: nothing of its communication is under way
-pub record IsMet (parts : Parts) (comer : Comer) (serial : Serial) (other : Side) : Type 0 where
+pub record IsMet (fields : Fields) (comer : Comer) (serial : Serial) (other : Side) : Type 0 where
   pub post : Post
-  pub found : meets comer.sends (waiting parts.boxes comer.mailbox) ≡ Some post
+  pub found : meets comer.sends (waiting fields.boxes comer.mailbox) ≡ Some post
   pub serial_is : post.serial ≡ serial
   pub side_is : post.side ≡ other
   pub from : 0 < serial.0
-  pub to : serial.0 ≤ length parts.whose.whose
-  pub idle : get_or parts.doing.under.tasks (serial.0 - 1) None ≡ None
-  pub limited : IsSide (extent (setup_in parts)) other
+  pub to : serial.0 ≤ length fields.whose.whose
+  pub idle : get_or fields.doing.under.tasks (serial.0 - 1) None ≡ None
+  pub limited : IsSide (extent (setup_in fields)) other
 
 some_same : {X : Type 0} {x y : X} → Some x ≡ Some y → x ≡ y
 some_same e = cc e
 
-pub is_met : (parts : Parts) (comer : Comer) (serial : Serial) (other : Side) → met (meets comer.sends (waiting parts.boxes comer.mailbox)) ≡ Some (serial, other) → AreLimited parts → AreMeeting parts → IsMet parts comer serial other
-is_met parts comer serial other is limited meeting = go (meets comer.sends (waiting parts.boxes comer.mailbox)) (refl) is
+pub is_met : (fields : Fields) (comer : Comer) (serial : Serial) (other : Side) → met (meets comer.sends (waiting fields.boxes comer.mailbox)) ≡ Some (serial, other) → AreLimited fields → AreMeeting fields → IsMet fields comer serial other
+is_met fields comer serial other is limited meeting = go (meets comer.sends (waiting fields.boxes comer.mailbox)) (refl) is
   where
-    go : (o : Option Post) → meets comer.sends (waiting parts.boxes comer.mailbox) ≡ o → met o ≡ Some (serial, other) → IsMet parts comer serial other
+    go : (o : Option Post) → meets comer.sends (waiting fields.boxes comer.mailbox) ≡ o → met o ≡ Some (serial, other) → IsMet fields comer serial other
     go None there e = absurd (cc e)
     go (Some p) there e =
         let same = some_same e in
         let serials : p.serial ≡ serial = ap (λ (pair : Serial × Side). pair.0) same in
         let sides : p.side ≡ other = ap (λ (pair : Serial × Side). pair.1) same in
-        let whose = parts.whose.whose in
+        let whose = fields.whose.whose in
         let test = is_other comer.sends in
         let at : FoundAt test comer.mailbox 1 whose p = found_post test comer.mailbox 1 whose p (ap (find test) (sym (meeting.posts comer.mailbox)) ∙ there) in
         let number : p.serial.0 ≡ serial.0 = ap (λ (s : Serial). s.0) serials in
@@ -67,7 +67,7 @@ is_met parts comer serial other is limited meeting = go (meets comer.sends (wait
           from = omega (arith, at.from, number);
           to = omega (arith, at.to, number);
           idle = meeting.idle (serial.0 - 1) (ap is_posted posted);
-          limited = subst (IsSide (extent (setup_in parts))) sides (subst (IsOwner (extent (setup_in parts))) at.is (limited.owners (p.serial.0 - 1) (Over how.Done) place));
+          limited = subst (IsSide (extent (setup_in fields))) sides (subst (IsOwner (extent (setup_in fields))) at.is (limited (p.serial.0 - 1) (Over how.Done) place));
         }
 
 -- both sides keep to their limits, whichever came
@@ -79,11 +79,11 @@ sides_limited e comer other mine theirs = go comer.sends
     go false = (theirs, mine)
 
 -- ---- how both sides join
-pub routed_ok : (r : Result Route RouteFault) (latency : ℕ) (links : List LinkId) → Routed r (Ok latency) links → r ≡ Ok (record { links = links; latency = latency })
+pub routed_ok : (r : Result Route RouteFault) (latency : ℕ) (links : List LinkId) → LeavesRoute r (Ok latency) links → r ≡ Ok (record { links = links; latency = latency })
 routed_ok (Ok route) latency links is = (let same : route.latency ≡ latency = cc is.0 in ap₂ (λ l n. Ok (record { links = l; latency = n })) (sym is.1) same)
 routed_ok (Err fault) latency links is = absurd (cc is.0)
 
-pub routed_err : (r : Result Route RouteFault) (fault : RouteFault) (links : List LinkId) → Routed r (Err fault) links → r ≡ Err fault
+pub routed_err : (r : Result Route RouteFault) (fault : RouteFault) (links : List LinkId) → LeavesRoute r (Err fault) links → r ≡ Err fault
 routed_err (Ok route) fault links is = absurd (cc is.0)
 routed_err (Err why) fault links is = (let same : why ≡ fault = cc is.0 in ap (λ f. Err f) same)
 
@@ -93,14 +93,14 @@ takes_part_on true comer serial core = refl
 takes_part_on false comer serial core = refl
 
 -- with the one that a side meets, the hosts of both and the route between them, it is told what follows
-pub comes_met : (parts : Parts) (roads : Roads) (comer : Comer) (serial : Serial) (other sender receiver : Side) (start end : PointId) (r : Result Route RouteFault)
-    → IsMet parts comer serial other → AreMeeting parts → sender ≡ sender_of comer other → receiver ≡ receiver_of comer other
-    → start ≡ point_of (setup_in parts) sender → end ≡ point_of (setup_in parts) receiver → route_of roads start end ≡ r
-    → (sends : Bool) × (comes roads (setup_in parts) comer (core_of parts) ≡ joins_over r (setup_in parts) comer (record { serial = serial; sends = sends; side = other }) (core_of parts))
-comes_met parts roads comer serial other sender receiver start end r m meeting from to starts ends is =
-    let setup = setup_in parts in
-    let core = core_of parts in
-    let found : meets comer.sends (posts_from comer.mailbox 1 parts.whose.whose) ≡ Some m.post = ap (meets comer.sends) (sym (meeting.posts comer.mailbox)) ∙ m.found in
+pub comes_met : (fields : Fields) (roads : Roads) (comer : Comer) (serial : Serial) (other sender receiver : Side) (start end : PointId) (r : Result Route RouteFault)
+    → IsMet fields comer serial other → AreMeeting fields → sender ≡ sender_of comer other → receiver ≡ receiver_of comer other
+    → start ≡ point_of (setup_in fields) sender → end ≡ point_of (setup_in fields) receiver → route_of roads start end ≡ r
+    → (sends : Bool) × (comes roads (setup_in fields) comer (core_of fields) ≡ joins_over r (setup_in fields) comer (record { serial = serial; sends = sends; side = other }) (core_of fields))
+comes_met fields roads comer serial other sender receiver start end r m meeting from to starts ends is =
+    let setup = setup_in fields in
+    let core = core_of fields in
+    let found : meets comer.sends (posts_from comer.mailbox 1 fields.whose.whose) ≡ Some m.post = ap (meets comer.sends) (sym (meeting.posts comer.mailbox)) ∙ m.found in
     let post : m.post ≡ record { serial = serial; sends = m.post.sends; side = other } = ap₂ (λ (s : Serial) (d : Side). record { serial = s; sends = m.post.sends; side = d }) m.serial_is m.side_is in
     let way : route_of roads (point_of setup (sender_of comer other)) (point_of setup (receiver_of comer other)) ≡ r = sym (ap₂ (route_of roads) (starts ∙ ap (point_of setup) from) (ends ∙ ap (point_of setup) to)) ∙ is in (
       m.post.sends,

@@ -9,11 +9,11 @@ use Rattle.sg_base.specs.declared.ids.BoxId.{BoxId}
 use Rattle.sg_base.specs.declared.ids.BoxId.TheVariants as box
 use Rattle.sg_mailbox.specs.declared.sides.Side.{Side}
 use Rattle.sg_mailbox.specs.Posts.{Post, box_eq, without}
-use Rattle.sg_kernel.specs.declared.states.How.TheVariants as how
-use Rattle.sg_kernel.specs.declared.states.Whose.{Whose}
-use Rattle.sg_kernel.specs.declared.states.Whose.TheVariants.{Over, Alone, Posted, Pair}
+use Rattle.sg_kernel.specs.declared.owners.How.TheVariants as how
+use Rattle.sg_kernel.specs.declared.owners.Whose.{Whose}
+use Rattle.sg_kernel.specs.declared.owners.Whose.TheVariants.{Over, Alone, Posted, Pair}
 use Rattle.sg_kernel.specs.Meetings.{post_in, posts_from}
-use Rattle.sg_kernel.specs.Sound.{is_posted}
+use Rattle.sg_kernel.specs.kept.Sound.{is_posted}
 
 -- ---- mailboxes
 pub box_found : (a b : BoxId) → box_eq a b ≡ true → a ≡ b

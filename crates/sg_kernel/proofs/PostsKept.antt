@@ -8,14 +8,14 @@ use Rattle.sg_activity.specs.Doing.{Doing}
 use Rattle.sg_activity.specs.Task.{Task, next_phase}
 use Rattle.sg_activity.specs.declared.kinds.PhaseKind.{PhaseKind}
 use Rattle.sg_activity.specs.declared.kinds.PhaseKind.TheVariants as phase
-use Rattle.sg_requests.specs.declared.request.Await.{Await}
-use Rattle.sg_kernel.specs.declared.parts.Parts.{Parts}
-use Rattle.sg_kernel.specs.declared.states.How.TheVariants as how
-use Rattle.sg_kernel.specs.declared.states.Whose.{Whose}
-use Rattle.sg_kernel.specs.declared.states.Whose.TheVariants.{Over, Alone}
+use Rattle.sg_base.specs.declared.awaits.Await.{Await}
+use Rattle.sg_kernel.specs.declared.fields.Fields.{Fields}
+use Rattle.sg_kernel.specs.declared.owners.How.TheVariants as how
+use Rattle.sg_kernel.specs.declared.owners.Whose.{Whose}
+use Rattle.sg_kernel.specs.declared.owners.Whose.TheVariants.{Over, Alone}
 use Rattle.sg_kernel.specs.Meetings.{posts_from}
-use Rattle.sg_kernel.specs.Owners.{Owned}
-use Rattle.sg_kernel.specs.Sound.{is_posted, IsMade, AreMeeting}
+use Rattle.sg_kernel.specs.kept.Owners.{Owned}
+use Rattle.sg_kernel.specs.kept.Sound.{is_posted, IsMade, AreMeeting}
 use Rattle.sg_kernel.proofs.Postings.{posts-push, posts_kept}
 
 -- nothing of what is posted is under way
@@ -54,13 +54,13 @@ last_phase task last = cases task.kind last
     cases phase.Timer isnt = refl
 
 -- what was under way is nobody's
-pub meeting_gone : (parts : Parts) (whose : Owned) (doing : Doing) (place : ℕ) (task : Task) → get_or parts.doing.under.tasks place None ≡ Some task → whose.whose ≡ set parts.whose.whose place (Over how.Done) → doing.under.tasks ≡ set parts.doing.under.tasks place None → AreMeeting parts → AreMeeting (record parts { whose = whose; doing = doing })
-meeting_gone parts whose doing place task at owned over old =
-    let isnt = under_way parts.whose.whose parts.doing.under.tasks place task old.idle at in
+pub meeting_gone : (fields : Fields) (whose : Owned) (doing : Doing) (place : ℕ) (task : Task) → get_or fields.doing.under.tasks place None ≡ Some task → whose.whose ≡ set fields.whose.whose place (Over how.Done) → doing.under.tasks ≡ set fields.doing.under.tasks place None → AreMeeting fields → AreMeeting (record fields { whose = whose; doing = doing })
+meeting_gone fields whose doing place task at owned over old =
+    let isnt = under_way fields.whose.whose fields.doing.under.tasks place task old.idle at in
     record {
-      posts = λ mailbox. old.posts mailbox ∙ sym (ap (posts_from mailbox 1) owned ∙ posts_kept mailbox place parts.whose.whose (Over how.Done) isnt refl);
-      idle = subst (λ w. AreIdle w doing.under.tasks) (sym owned) (subst (λ t. AreIdle (set parts.whose.whose place (Over how.Done)) t) (sym over) (idle_gone parts.whose.whose parts.doing.under.tasks place old.idle));
-      asked = subst (λ n. All (λ (queue : List Await). All (IsMade n) queue) parts.requests.queues) (sym (ap length owned ∙ length-set parts.whose.whose place (Over how.Done))) old.asked;
+      posts = λ mailbox. old.posts mailbox ∙ sym (ap (posts_from mailbox 1) owned ∙ posts_kept mailbox place fields.whose.whose (Over how.Done) isnt refl);
+      idle = subst (λ w. AreIdle w doing.under.tasks) (sym owned) (subst (λ t. AreIdle (set fields.whose.whose place (Over how.Done)) t) (sym over) (idle_gone fields.whose.whose fields.doing.under.tasks place old.idle));
+      asked = subst (λ n. All (λ (queue : List Await). All (IsMade n) queue) fields.requests.queues) (sym (ap length owned ∙ length-set fields.whose.whose place (Over how.Done))) old.asked;
     }
 
 -- ---- an activity begins
@@ -75,11 +75,11 @@ idle_more whose tasks actor task numbered idle place posted = elim (cases_lt pla
 ]
 
 -- one more is under way, an actor's alone
-pub meeting_more : (parts : Parts) (whose : Owned) (doing : Doing) (actor : ActorId) (task : Task) → length parts.whose.whose ≡ length parts.doing.under.tasks → whose.whose ≡ parts.whose.whose ++ Alone actor ∷ [] → doing.under.tasks ≡ parts.doing.under.tasks ++ Some task ∷ [] → AreMeeting parts → AreMeeting (record parts { whose = whose; doing = doing })
-meeting_more parts whose doing actor task numbered owned begun old =
-    let more = ap length owned ∙ length-append parts.whose.whose (Alone actor ∷ []) in
+pub meeting_more : (fields : Fields) (whose : Owned) (doing : Doing) (actor : ActorId) (task : Task) → length fields.whose.whose ≡ length fields.doing.under.tasks → whose.whose ≡ fields.whose.whose ++ Alone actor ∷ [] → doing.under.tasks ≡ fields.doing.under.tasks ++ Some task ∷ [] → AreMeeting fields → AreMeeting (record fields { whose = whose; doing = doing })
+meeting_more fields whose doing actor task numbered owned begun old =
+    let more = ap length owned ∙ length-append fields.whose.whose (Alone actor ∷ []) in
     record {
-      posts = λ mailbox. old.posts mailbox ∙ sym (ap (posts_from mailbox 1) owned ∙ posts-push mailbox 1 parts.whose.whose (Alone actor) ∙ append-nil (posts_from mailbox 1 parts.whose.whose));
-      idle = subst (λ w. AreIdle w doing.under.tasks) (sym owned) (subst (λ t. AreIdle (parts.whose.whose ++ Alone actor ∷ []) t) (sym begun) (idle_more parts.whose.whose parts.doing.under.tasks actor (Some task) numbered old.idle));
+      posts = λ mailbox. old.posts mailbox ∙ sym (ap (posts_from mailbox 1) owned ∙ posts-push mailbox 1 fields.whose.whose (Alone actor) ∙ append-nil (posts_from mailbox 1 fields.whose.whose));
+      idle = subst (λ w. AreIdle w doing.under.tasks) (sym owned) (subst (λ t. AreIdle (fields.whose.whose ++ Alone actor ∷ []) t) (sym begun) (idle_more fields.whose.whose fields.doing.under.tasks actor (Some task) numbered old.idle));
       asked = λ k d within j e inside. let made = old.asked k d within j e inside in record { from = made.from; to = omega (arith, made.to, more) };
     }

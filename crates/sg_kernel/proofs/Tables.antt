@@ -1,7 +1,7 @@
 -- Whose the activities are, by serial, as one is begun and as one is done.
 use Rattle.std.proofs.Common.{◌≡◌, ◌≢◌, ℕ, zero, suc, ◌+◌, ◌-◌, ◌<◌, ◌≤◌, Option, [], ◌∷◌, ◌++◌, length, set, get_or, refl, ap, ap₂, ◌∙◌, arith}
-use Rattle.sg_kernel.specs.declared.states.Whose.{Whose}
-use Rattle.sg_kernel.specs.Owners.{whose_of, table}
+use Rattle.sg_kernel.specs.declared.owners.Whose.{Whose}
+use Rattle.sg_kernel.specs.kept.Owners.{whose_of, table}
 
 pub table_none : (f : ℕ → Option Whose) (from : ℕ) → table f from 0 ≡ []
 unfolding table

@@ -13,14 +13,14 @@ use Rattle.sg_sync.specs.Laws.{KeepsAll, comers}
 use Rattle.sg_sync.specs.Objects.{Objects, Done, waiting, owner_of, count_of, locked, locked_by, unlocked, unlocked_by, acquired, released, released_to, arrived}
 use Rattle.sg_sync.specs.Queues.{front, queue_at, times}
 use Rattle.sg_sync.proofs.Counts.{one, one_same, one_other, times_cons}
-use Rattle.sg_kernel.specs.declared.parts.Parts.{Parts}
-use Rattle.sg_kernel.specs.declared.states.State.{State}
-use Rattle.sg_kernel.specs.declared.states.State.TheVariants.{Ready, Blocked, Ended}
-use Rattle.sg_kernel.specs.World.{IsActor, MayCall, is_ready, extent, state_of}
-use Rattle.sg_kernel.specs.Steps.{counted}
-use Rattle.sg_kernel.specs.Known.{Known}
-use Rattle.sg_kernel.specs.Sound.{core_of, known_of, setup_in, point_number, is_held, IsSound, AreHeld}
-use Rattle.sg_kernel.specs.Waking.{AreWaking}
+use Rattle.sg_kernel.specs.declared.fields.Fields.{Fields}
+use Rattle.sg_states.specs.declared.state.State.{State}
+use Rattle.sg_states.specs.declared.state.State.TheVariants.{Ready, Blocked, Ended}
+use Rattle.sg_kernel.specs.World.{IsActor, MayCall, extent, state_of}
+use Rattle.sg_states.specs.Actors.{is_ready}
+use Rattle.sg_kernel.specs.kept.Sound.{core_of, setup_in, point_number, IsSound, AreHeld}
+use Rattle.sg_states.specs.Actors.{is_held}
+use Rattle.sg_kernel.specs.kept.Waking.{AreWaking}
 
 -- ---- who is blocked, and who is to go on
 pub still_held : (states : List State) (a b : ActorId) (s : State) → 0 < a.0 → 0 < b.0 → b.0 ≢ a.0 → IsTrue (is_held (get_or states (b.0 - 1) Ended)) → IsTrue (is_held (get_or (set states (a.0 - 1) s) (b.0 - 1) Ended))
@@ -52,21 +52,21 @@ comes_once caller actor Waits = elim (cases_eq actor.0 caller.0) [
   | inr apart ↦ omega (arith, comes_alone caller actor Waits apart)
 ]
 
-actor_in : (parts : Parts) (actor : ActorId) → IsSound parts → IsActorIn (extent (setup_in parts)) actor → IsActor (core_of parts) actor.0
-actor_in parts actor sound is = record { from = is.0; to = omega (arith, is.1, sound.homes_known, length-map parts.homes.items point_number) }
+actor_in : (fields : Fields) (actor : ActorId) → IsSound fields → IsActorIn (extent (setup_in fields)) actor → IsActor (core_of fields) actor.0
+actor_in fields actor sound is = record { from = is.0; to = omega (arith, is.1, sound.homes_known, length-map fields.homes.items point_number) }
 
-pub wakers_exist : (parts : Parts) (caller : ActorId) (outcome : Outcome) (others : List ActorId) → IsSound parts → MayCall (core_of parts) caller.0 → AreWaking parts (comers caller outcome) others → (actor : ActorId) → Contains others actor → IsActor (core_of parts) actor.0
-wakers_exist parts caller outcome others sound may waking actor has = elim (cases_eq actor.0 caller.0) [
+pub wakers_exist : (fields : Fields) (caller : ActorId) (outcome : Outcome) (others : List ActorId) → IsSound fields → MayCall (core_of fields) caller.0 → AreWaking fields (comers caller outcome) others → (actor : ActorId) → Contains others actor → IsActor (core_of fields) actor.0
+wakers_exist fields caller outcome others sound may waking actor has = elim (cases_eq actor.0 caller.0) [
   | inl same ↦ record { from = omega (arith, same, may.from); to = omega (arith, same, may.to) }
-  | inr apart ↦ actor_in parts actor sound (waking.held actor (omega (arith, comes_alone caller actor outcome apart, times_some actor others has))).0
+  | inr apart ↦ actor_in fields actor sound (waking.held actor (omega (arith, comes_alone caller actor outcome apart, times_some actor others has))).0
 ]
 
-pub answered_wakers : (parts : Parts) (others : List ActorId) → IsSound parts → AreWaking parts [] others → (actor : ActorId) → Contains others actor → IsActor (core_of parts) actor.0
-answered_wakers parts others sound waking actor has = actor_in parts actor sound (waking.held actor (omega (arith, times_some actor others has))).0
+pub answered_wakers : (fields : Fields) (others : List ActorId) → IsSound fields → AreWaking fields [] others → (actor : ActorId) → Contains others actor → IsActor (core_of fields) actor.0
+answered_wakers fields others sound waking actor has = actor_in fields actor sound (waking.held actor (omega (arith, times_some actor others has))).0
 
 -- once all are answered
-pub held_again : (parts : Parts) → AreWaking parts [] [] → AreHeld parts
-held_again parts waking = record {
+pub held_again : (fields : Fields) → AreWaking fields [] [] → AreHeld fields
+held_again fields waking = record {
   owners = waking.owners;
   counts = waking.counts;
   actors = waking.actors;
@@ -151,9 +151,9 @@ arrived_like actor o = elim (cases_Bool (nat_lt (length o.arrived + 1) o.members
 ]
 
 -- a ready actor waits nowhere
-pub caller_free : (parts : Parts) (actor : ActorId) → MayCall (core_of parts) actor.0 → AreHeld parts → waiting parts.objects actor ≡ 0
-caller_free parts actor may held = elim (cases_lt 0 (waiting parts.objects actor)) [
-  | inl some ↦ absurd (never (state_of (core_of parts) actor.0) may.ready (held.held actor some).1)
+pub caller_free : (fields : Fields) (actor : ActorId) → MayCall (core_of fields) actor.0 → AreHeld fields → waiting fields.objects actor ≡ 0
+caller_free fields actor may held = elim (cases_lt 0 (waiting fields.objects actor)) [
+  | inl some ↦ absurd (never (state_of (core_of fields) actor.0) may.ready (held.held actor some).1)
   | inr none ↦ omega (arith, none)
 ]
   where
@@ -169,10 +169,10 @@ once_with o caller actor outcome free once = elim (cases_eq actor.0 caller.0) [
 ]
 
 -- the call leaves some that are to go on, and perhaps one that comes to wait
-pub waking_after : (old parts : Parts) (actor : ActorId) (done : Done) → MayCall (core_of old) actor.0 → AreHeld old → KeepsAll actor old.objects done → IsLike old.objects done.after → parts.objects ≡ done.after →
-    parts.mutexes ≡ old.mutexes → parts.semaphores.items ≡ old.semaphores.items → parts.states.items ≡ old.states.items → map point_number parts.homes.items ≡ map point_number old.homes.items → parts.events ≡ old.events + 1 →
-    AreWaking parts (comers actor done.outcome) done.after.others
-waking_after old parts actor done may held keeps like is mutexes semaphores states homes events =
+pub waking_after : (old fields : Fields) (actor : ActorId) (done : Done) → MayCall (core_of old) actor.0 → AreHeld old → KeepsAll actor old.objects done → IsLike old.objects done.after → fields.objects ≡ done.after →
+    fields.mutexes ≡ old.mutexes → fields.semaphores.items ≡ old.semaphores.items → fields.states.actors ≡ old.states.actors → map point_number fields.homes.items ≡ map point_number old.homes.items → fields.events ≡ old.events + 1 →
+    AreWaking fields (comers actor done.outcome) done.after.others
+waking_after old fields actor done may held keeps like is mutexes semaphores states homes events =
     let free = caller_free old actor may held in
     record {
       owners = ap (λ (o : Objects). length o.owners) is ∙ like.owners ∙ held.owners ∙ sym mutexes;
@@ -187,14 +187,10 @@ waking_after old parts actor done may held keeps like is mutexes semaphores stat
       acquiring = ap (λ (o : Objects). length o.acquiring) is ∙ like.acquiring ∙ held.acquiring ∙ sym (ap length semaphores);
     }
 
-pub waking_called : (old mid : Parts) (objects : Objects) (outcome : Outcome) (actor : ActorId) (done : Objects → Done) → MayCall (core_of old) actor.0 → AreHeld old → KeepsAll actor old.objects (done old.objects) → IsLike old.objects (done old.objects).after →
-    known_of mid ≡ record (known_of old) { core = counted (core_of old); room = old.room - 1 } → outcome ≡ (done mid.objects).outcome → objects ≡ (done mid.objects).after →
-    AreWaking (record mid { objects = objects }) (comers actor outcome) objects.others
-waking_called old mid objects outcome actor done may held keeps like known is_outcome is_after =
-    let same : mid.objects ≡ old.objects = ap (λ (k : Known). k.core.objects) known in
-    let answers : outcome ≡ (done old.objects).outcome = is_outcome ∙ ap (λ (o : Objects). (done o).outcome) same in
-    let leaves : objects ≡ (done old.objects).after = is_after ∙ ap (λ (o : Objects). (done o).after) same in
-    let waking = waking_after old (record mid { objects = objects }) actor (done old.objects) may held keeps like leaves
-    (ap (λ (k : Known). k.setup.mutexes) known) (ap (λ (k : Known). k.setup.semaphores) known) (ap (λ (k : Known). k.core.actors) known) (ap (λ (k : Known). k.setup.homes) known) (ap (λ (k : Known). k.core.events) known) in
-    let first = subst (λ (o : Outcome). AreWaking (record mid { objects = objects }) (comers actor o) (done old.objects).after.others) (sym answers) waking in
-    subst (λ (q : List ActorId). AreWaking (record mid { objects = objects }) (comers actor outcome) q) (sym (ap (λ (o : Objects). o.others) leaves)) first
+pub waking_called : (old : Fields) (objects : Objects) (outcome : Outcome) (actor : ActorId) (done : Objects → Done) → MayCall (core_of old) actor.0 → AreHeld old → KeepsAll actor old.objects (done old.objects) → IsLike old.objects (done old.objects).after
+    → outcome ≡ (done old.objects).outcome → objects ≡ (done old.objects).after → AreWaking (record old { events = old.events + 1; objects = objects }) (comers actor outcome) objects.others
+waking_called old objects outcome actor done may held keeps like answers leaves =
+    let now = record old { events = old.events + 1; objects = objects } in
+    let waking = waking_after old now actor (done old.objects) may held keeps like leaves refl refl refl refl refl in
+    let first = subst (λ (o : Outcome). AreWaking now (comers actor o) (done old.objects).after.others) (sym answers) waking in
+    subst (λ (q : List ActorId). AreWaking now (comers actor outcome) q) (sym (ap (λ (o : Objects). o.others) leaves)) first

@@ -1,23 +1,15 @@
 -- Those that go on are answered one after another.
-use Rattle.std.proofs.Common.{◌≡◌, ℕ, suc, ◌+◌, ◌-◌, ◌<◌, Option, None, Some, List, [], ◌∷◌, length, drop, get_or, refl, sym, subst, ap, ◌∙◌, drop-cons, add-one, arith}
+use Rattle.std.proofs.Common.{◌≡◌, ℕ, suc, ◌+◌, ◌-◌, ◌<◌, true, Option, None, Some, List, [], ◌∷◌, length, drop, get_or, refl, sym, ap, ◌∙◌, drop-cons, add-one, arith}
 use Rattle.sg_base.specs.declared.ids.ActorId.{ActorId}
 use Rattle.sg_base.specs.declared.call.Call.{Call}
-use Rattle.sg_requests.specs.declared.request.Await.{Await}
+use Rattle.sg_states.specs.Actors.{Blocking, blocking_in}
 use Rattle.sg_sync.specs.declared.outcome.Outcome.{Outcome}
-use Rattle.sg_kernel.specs.declared.parts.Parts.{Parts}
-use Rattle.sg_kernel.specs.declared.states.State.TheVariants.{Blocked, Ended}
-use Rattle.sg_kernel.specs.World.{Core, Blocking, IsActor, blocking_in, extent, state_of}
+use Rattle.sg_sync.specs.declared.outcome.Outcome.TheVariants.{GoesOn, Waits, Refused}
+use Rattle.sg_kernel.specs.World.{Core, state_of}
 use Rattle.sg_kernel.specs.Steps.{and_then}
 use Rattle.sg_kernel.specs.Locks.{all_wake, caller_gets, wakes, wakes_from}
-use Rattle.sg_kernel.specs.Known.{Known, after}
-use Rattle.sg_kernel.specs.Records.{IsTellable}
-use Rattle.sg_kernel.specs.Sound.{core_of, setup_in, AreLimited, KeepsLimits}
+use Rattle.sg_kernel.specs.Known.{Known, after, after_call}
 use Rattle.sg_kernel.proofs.Each.{then_after, still_none, still_one, each_on}
-
--- the call of one that is blocked is told
-pub blocked_told : (parts : Parts) (actor : ℕ) (what : Call) (since : ℕ) (on : Option Await) → AreLimited parts → IsActor (core_of parts) actor → state_of (core_of parts) actor ≡ Blocked what since on → IsTellable (extent (setup_in parts)) what
-blocked_told parts actor what since on limited is at =
-    subst (KeepsLimits (extent (setup_in parts))) at (limited.states (actor - 1) Ended (omega (arith, is.from, is.to)))
 
 wakes_on : (blocking : Option Blocking) (actor : ActorId) (core : Core) → (wakes_from blocking actor core).stop ≡ None
 wakes_on None actor core = refl
@@ -43,8 +35,24 @@ wake_more others now i d known next same within is =
 pub all_on : (others : List ActorId) (core : Core) → (all_wake others core).stop ≡ None
 all_on others core = each_on wakes wakes_goes others core
 
+pub caller_goes : (outcome : Outcome) (actor : ℕ) (what : Call) (core : Core) → (caller_gets outcome actor what core).stop ≡ None
+caller_goes GoesOn actor what core = refl
+caller_goes Waits actor what core = refl
+caller_goes Refused actor what core = refl
+
+-- the caller is answered, and then all wake
+pub then_others : (known mid next : Known) (others now : List ActorId) (outcome : Outcome) (actor : ℕ) (what : Call) → now ≡ others → mid ≡ after_call true (caller_gets outcome actor what known.core) known → next ≡ after (all_wake now mid.core) mid →
+    next ≡ after_call true (and_then (caller_gets outcome actor what known.core) (all_wake others)) known
+then_others known mid next others now outcome actor what same answered woken =
+    woken
+    ∙ ap (λ (q : List ActorId). after (all_wake q mid.core) mid) same
+    ∙ ap (λ (k : Known). after (all_wake others k.core) k) answered
+    ∙ ap (λ (k : Known). record k { room = known.room - 1 }) (then_after (caller_gets outcome actor what known.core) (all_wake others) known (caller_goes outcome actor what known.core))
+
 -- all wake, and then the caller is answered
-pub then_caller : (known mid next : Known) (others : List ActorId) (outcome : Outcome) (actor : ℕ) (what : Call) → mid ≡ after (all_wake others known.core) known → next ≡ after (caller_gets outcome actor what mid.core) mid →
-    next ≡ after (and_then (all_wake others known.core) (caller_gets outcome actor what)) known
+pub then_caller : (known mid next : Known) (others : List ActorId) (outcome : Outcome) (actor : ℕ) (what : Call) → mid ≡ after (all_wake others known.core) known → next ≡ after_call true (caller_gets outcome actor what mid.core) mid →
+    next ≡ after_call true (and_then (all_wake others known.core) (caller_gets outcome actor what)) known
 then_caller known mid next others outcome actor what woken answered =
-    answered ∙ ap (λ (k : Known). after (caller_gets outcome actor what k.core) k) woken ∙ then_after (all_wake others known.core) (caller_gets outcome actor what) known (all_on others known.core)
+    answered
+    ∙ ap (λ (k : Known). after_call true (caller_gets outcome actor what k.core) k) woken
+    ∙ ap (λ (k : Known). record k { room = known.room - 1 }) (then_after (all_wake others known.core) (caller_gets outcome actor what) known (all_on others known.core))

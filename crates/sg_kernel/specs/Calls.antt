@@ -8,12 +8,12 @@ use Rattle.sg_base.specs.declared.call.Action.{Action}
 use Rattle.sg_base.specs.declared.ids.ActorId.{ActorId}
 use Rattle.sg_activity.specs.Task.{Task, exec_of, timer_of}
 use Rattle.sg_activity.specs.Underway.{started}
-use Rattle.sg_requests.specs.declared.request.Await.{Await}
-use Rattle.sg_requests.specs.declared.request.End.TheVariants as end
+use Rattle.sg_base.specs.declared.awaits.Await.{Await}
+use Rattle.sg_base.specs.declared.awaits.Party.TheVariants as party
 use Rattle.sg_route.specs.Roads.{Roads}
 use Rattle.sg_sync.specs.Objects.{locked, unlocked, acquired, released, arrived}
-use Rattle.sg_kernel.specs.declared.states.State.TheVariants.{Ended}
-use Rattle.sg_kernel.specs.declared.states.Whose.TheVariants.{Alone}
+use Rattle.sg_states.specs.declared.state.State.TheVariants.{Ended}
+use Rattle.sg_kernel.specs.declared.owners.Whose.TheVariants.{Alone}
 use Rattle.sg_kernel.specs.World.{Setup, Core, host_of, with_state}
 use Rattle.sg_kernel.specs.Steps.{Step, goes_on, counted, unless_used, readied, blocked_by, at_once}
 use Rattle.sg_kernel.specs.Meetings.{sends_by, receives_by, comes, waits}
@@ -23,7 +23,7 @@ abbrev pub actor_of : ℕ → ActorId
 actor_of number = record { 0 = number }
 
 abbrev pub alone : ℕ → Await
-alone serial = record { serial = record { 0 = serial }; end = end.Alone }
+alone serial = record { serial = record { 0 = serial }; party = party.Alone }
 
 -- a new activity, on which the actor is blocked by this call
 abbrev pub blocks_on : Task → ℕ → Call → Core → Core

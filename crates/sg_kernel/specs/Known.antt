@@ -1,11 +1,11 @@
 -- What contracts see of a `Kernel`, and for which worlds it stands.
-use Rattle.std.specs.Prelude.{◌≡◌, ◌≢◌, ℕ, ◌-◌, ◌<◌, Bool, if◌then◌else◌, Option, List, [], ◌++◌}
+use Rattle.std.specs.Prelude.{◌≡◌, ℕ, ◌-◌, Bool, if◌then◌else◌, Option, List, [], ◌++◌}
 use Rattle.sg_base.specs.declared.call.Action.{Action}
 use Rattle.sg_base.specs.declared.call.Call.{Call}
 use Rattle.sg_base.specs.declared.trace_record.Record.{Record}
 use Rattle.sg_activity.specs.Links.{Capacities}
 use Rattle.sg_route.specs.Roads.{Roads}
-use Rattle.sg_kernel.specs.World.{Setup, Core, World, MayCall}
+use Rattle.sg_kernel.specs.World.{Setup, Core, World}
 use Rattle.sg_kernel.specs.Calls.{answered, told}
 use Rattle.sg_kernel.specs.Passes.{pass_of}
 use Rattle.sg_kernel.specs.Start.{first_core}
@@ -24,12 +24,6 @@ after step known = record known { core = step.core; records = known.records ++ s
 -- after a call: one that is answered took its room
 abbrev pub after_call : Bool → Step → Known → Known
 after_call is_answered step known = record (after step known) { room = known.room - (if is_answered then 1 else 0) }
-
--- a call of the actor can be answered: it may make one, there is room for it, and the budget isn't used up
-pub record CanAnswer (known : Known) (actor : ℕ) : Type 0 where
-  pub caller : MayCall known.core actor
-  pub room : 0 < known.room
-  pub budget : known.core.events ≢ known.setup.budget
 
 abbrev pub first_known : Capacities → Setup → Known
 first_known capacities setup = record { setup = setup; core = first_core capacities setup; records = []; room = 0 }

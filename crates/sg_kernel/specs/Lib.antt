@@ -7,9 +7,4 @@ pub mod Passes
 pub mod Start
 pub mod Known
 pub mod Roads
-pub mod Records
-pub mod Owners
-pub mod Sound
-pub mod Queue
-pub mod Waking
-pub mod Whole
+pub mod kept

@@ -6,7 +6,8 @@ use Rattle.sg_base.specs.declared.ids.ActorId.{ActorId}
 use Rattle.sg_sync.specs.declared.outcome.Outcome.{Outcome}
 use Rattle.sg_sync.specs.declared.outcome.Outcome.TheVariants.{GoesOn, Waits, Refused}
 use Rattle.sg_sync.specs.Objects.{Done}
-use Rattle.sg_kernel.specs.World.{Core, Blocking, blocking_in, state_of}
+use Rattle.sg_kernel.specs.World.{Core, state_of}
+use Rattle.sg_states.specs.Actors.{Blocking, blocking_in}
 use Rattle.sg_kernel.specs.Steps.{Step, goes_on, and_then, each, blocked_by, replied, at_once}
 
 -- the one that made the call

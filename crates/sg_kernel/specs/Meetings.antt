@@ -14,20 +14,20 @@ use Rattle.sg_activity.specs.Task.{comm_of}
 use Rattle.sg_activity.specs.Underway.{begun, drawn}
 use Rattle.sg_mailbox.specs.declared.sides.Side.{Side}
 use Rattle.sg_mailbox.specs.Posts.{Post, box_eq, meets}
-use Rattle.sg_requests.specs.declared.request.Await.{Await}
-use Rattle.sg_requests.specs.declared.request.End.{End}
-use Rattle.sg_requests.specs.declared.request.End.TheVariants.{Sender, Receiver}
+use Rattle.sg_base.specs.declared.awaits.Await.{Await}
+use Rattle.sg_base.specs.declared.awaits.Party.{Party}
+use Rattle.sg_base.specs.declared.awaits.Party.TheVariants.{Sender, Receiver}
 use Rattle.sg_requests.specs.Requested.{queue_at, oldest, queued, taken}
 use Rattle.sg_route.specs.declared.router.RouteFault.{RouteFault}
 use Rattle.sg_route.specs.declared.router.RouteFault.TheVariants as fault
 use Rattle.sg_route.specs.Roads.{Roads}
 use Rattle.sg_route.specs.Route.{Route, route_of}
 use Rattle.sg_kernel.specs.declared.meetings.Comer.{Comer}
-use Rattle.sg_kernel.specs.declared.states.How.TheVariants as how
-use Rattle.sg_kernel.specs.declared.states.Stop.{Stop}
-use Rattle.sg_kernel.specs.declared.states.Stop.TheVariants as stop
-use Rattle.sg_kernel.specs.declared.states.Whose.{Whose}
-use Rattle.sg_kernel.specs.declared.states.Whose.TheVariants.{Over, Alone, Posted, Pair}
+use Rattle.sg_kernel.specs.declared.owners.How.TheVariants as how
+use Rattle.sg_kernel.specs.declared.stop.Stop.{Stop}
+use Rattle.sg_kernel.specs.declared.stop.Stop.TheVariants as stop
+use Rattle.sg_kernel.specs.declared.owners.Whose.{Whose}
+use Rattle.sg_kernel.specs.declared.owners.Whose.TheVariants.{Over, Alone, Posted, Pair}
 use Rattle.sg_kernel.specs.World.{Setup, Core, host_of, whose_at}
 use Rattle.sg_kernel.specs.Steps.{Step, goes_on, stops, counted, blocked_by, at_once}
 
@@ -50,12 +50,12 @@ posts_at mailbox core = posts_from mailbox 1 core.whose
 abbrev pub side_of : ℕ → ℕ → Msg → Side
 side_of actor bytes message = record { actor = record { 0 = actor }; bytes = bytes; msg = message }
 
-abbrev pub end_of : Bool → End
-end_of true = Sender
-end_of false = Receiver
+abbrev pub party_of : Bool → Party
+party_of true = Sender
+party_of false = Receiver
 
 abbrev pub await : ℕ → Bool → Await
-await serial sends = record { serial = record { 0 = serial }; end = end_of sends }
+await serial sends = record { serial = record { 0 = serial }; party = party_of sends }
 
 -- the communication becomes the actor's newest request
 abbrev pub asks_for : ℕ → Await → Core → Core

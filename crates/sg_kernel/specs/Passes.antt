@@ -7,30 +7,32 @@ use Rattle.sg_base.specs.declared.call.Call.TheVariants as call
 use Rattle.sg_base.specs.declared.call.Msg.{Msg}
 use Rattle.sg_base.specs.declared.call.Msg.TheVariants as msg
 use Rattle.sg_activity.specs.Task.{Task, phase_after, task_at}
+use Rattle.sg_activity.specs.Underway as underway
 use Rattle.sg_activity.specs.Underway.{due_in, is_running, later, next_in, with_task}
 use Rattle.sg_mailbox.specs.declared.sides.Side.{Side}
-use Rattle.sg_requests.specs.declared.request.Await.{Await}
-use Rattle.sg_requests.specs.declared.request.End.{End}
-use Rattle.sg_requests.specs.declared.request.End.TheVariants.{Sender, Receiver}
-use Rattle.sg_requests.specs.declared.request.End.TheVariants as end
-use Rattle.sg_requests.specs.contracts.request.EndPartialEq.TheImpl as end_eq_impl
-use Rattle.sg_kernel.specs.declared.states.How.{How}
-use Rattle.sg_kernel.specs.declared.states.How.TheVariants as how
-use Rattle.sg_kernel.specs.declared.states.Whose.{Whose}
-use Rattle.sg_kernel.specs.declared.states.Whose.TheVariants.{Over, Alone, Posted, Pair}
-use Rattle.sg_kernel.specs.declared.states.Stop.TheVariants.{Deadlock, Starved}
-use Rattle.sg_kernel.specs.World.{Setup, Core, Blocking, blocking_in, state_of, whose_at}
+use Rattle.sg_base.specs.declared.awaits.Await.{Await}
+use Rattle.sg_base.specs.declared.awaits.Party.{Party}
+use Rattle.sg_base.specs.declared.awaits.Party.TheVariants.{Sender, Receiver}
+use Rattle.sg_base.specs.declared.awaits.Party.TheVariants as party
+use Rattle.sg_base.specs.contracts.awaits.PartyPartialEq.TheImpl as party_eq_impl
+use Rattle.sg_kernel.specs.declared.owners.How.{How}
+use Rattle.sg_kernel.specs.declared.owners.How.TheVariants as how
+use Rattle.sg_kernel.specs.declared.owners.Whose.{Whose}
+use Rattle.sg_kernel.specs.declared.owners.Whose.TheVariants.{Over, Alone, Posted, Pair}
+use Rattle.sg_kernel.specs.declared.stop.Stop.TheVariants.{Deadlock, Starved}
+use Rattle.sg_kernel.specs.World.{Setup, Core, state_of, whose_at}
+use Rattle.sg_states.specs.Actors.{Blocking, blocking_in}
 use Rattle.sg_kernel.specs.Steps.{Step, goes_on, stops, counted, unless_used, and_then, each, all_of, replied}
 use Rattle.sg_kernel.specs.Meetings.{side_of}
 
 -- ---- who is answered when an activity is done
-abbrev pub end_eq : End → End → Bool
-end_eq = (end_eq_impl.ghosts).eq
+abbrev pub party_eq : Party → Party → Bool
+party_eq = (party_eq_impl.ghosts).eq
 
 -- whether that is this side of the activity of this serial
-abbrev pub is_on : ℕ → End → Option Await → Bool
+abbrev pub is_on : ℕ → Party → Option Await → Bool
 is_on serial side None = false
-is_on serial side (Some on) = (on.serial.0 == serial) && end_eq on.end side
+is_on serial side (Some on) = (on.serial.0 == serial) && party_eq on.party side
 
 -- whether a call is a send or a receive that waits, whose record tells the bytes
 abbrev pub tells_bytes : Call → Bool
@@ -48,15 +50,15 @@ abbrev pub answer_to : How → Call → Msg → Answer
 answer_to how.Done what message = answer_of_done what message
 
 -- the actor is answered where it is blocked on this side of this activity
-abbrev pub answers_by : How → ℕ → End → Side → Option Blocking → Core → Step
-answers_by over serial end given None core = goes_on core []
-answers_by over serial end given (Some blocking) core =
-    if is_on serial end blocking.on
+abbrev pub answers_by : How → ℕ → Party → Side → Option Blocking → Core → Step
+answers_by over serial party given None core = goes_on core []
+answers_by over serial party given (Some blocking) core =
+    if is_on serial party blocking.on
     then replied given.actor.0 blocking.what blocking.since (if tells_bytes blocking.what then given.bytes else 0) (answer_to over blocking.what given.msg) core
     else goes_on core []
 
-abbrev pub answers_side : How → ℕ → End → Side → Core → Step
-answers_side over serial end given core = answers_by over serial end given (blocking_in (state_of core given.actor.0)) core
+abbrev pub answers_side : How → ℕ → Party → Side → Core → Step
+answers_side over serial party given core = answers_by over serial party given (blocking_in (state_of core given.actor.0)) core
 
 -- what the sender sent, for the receiver
 abbrev pub for_receiver : Side → Side → Side
@@ -65,7 +67,7 @@ for_receiver sender receiver = record sender { actor = receiver.actor }
 -- of a communication the sending side is answered, and then the receiving side
 abbrev pub answers : How → ℕ → Whose → Core → Step
 answers over serial (Over before) core = goes_on core []
-answers over serial (Alone actor) core = answers_side over serial end.Alone (side_of actor.0 0 msg.Empty) core
+answers over serial (Alone actor) core = answers_side over serial party.Alone (side_of actor.0 0 msg.Empty) core
 answers over serial (Posted mailbox sends side) core = goes_on core []
 answers over serial (Pair sender receiver) core = and_then (answers_side over serial Sender sender core) (answers_side over serial Receiver (for_receiver sender receiver))
 
@@ -108,10 +110,13 @@ abbrev pub pass_at : Setup → Core → Option ℕ → Step
 pass_at setup core None = stops core [] (if is_running core.under then Starved else Deadlock)
 pass_at setup core (Some span) = unless_used setup.budget core (all_of (stretches setup span core) (core_later span core))
 
--- the world in which a pass begins, whatever stops it: the rates are up to date, and that changes nothing of it
+-- Before all else the rates are brought up to date. That marks all changes as seen, whatever stops the pass, and changes nothing else.
 abbrev pub settled : Core → Core
-settled core = core
+settled core = record core { under = underway.settled core.under }
 
--- a pass
+-- a pass of a world whose rates are up to date
+abbrev pub settled_pass : Setup → Core → Step
+settled_pass setup core = pass_at setup core (next_in core.under)
+
 abbrev pub pass_of : Setup → Core → Step
-pass_of setup core = pass_at setup (settled core) (next_in core.under)
+pass_of setup core = settled_pass setup (settled core)

@@ -1,13 +1,13 @@
 -- What a step of a simulation leads to. Each call that is answered and each end of a phase is one event.
-use Rattle.std.specs.Prelude.{ℕ, ◌+◌, ◌-◌, ◌==◌, Option, None, Some, Ok, Err, Result, if◌then◌else◌, List, [], ◌∷◌, ◌++◌}
+use Rattle.std.specs.Prelude.{ℕ, ◌+◌, ◌==◌, Option, None, Some, Ok, Err, Result, if◌then◌else◌, List, [], ◌∷◌, ◌++◌}
 use Rattle.sg_base.specs.declared.call.Call.{Call}
 use Rattle.sg_base.specs.declared.call.Answer.{Answer}
-use Rattle.sg_base.specs.declared.call.Answer.TheVariants as answer
 use Rattle.sg_base.specs.declared.trace_record.Record.{Record}
-use Rattle.sg_requests.specs.declared.request.Await.{Await}
-use Rattle.sg_kernel.specs.declared.states.State.TheVariants.{Ready, Blocked}
-use Rattle.sg_kernel.specs.declared.states.Stop.{Stop}
-use Rattle.sg_kernel.specs.declared.states.Stop.TheVariants.{Budget}
+use Rattle.sg_base.specs.declared.awaits.Await.{Await}
+use Rattle.sg_states.specs.declared.state.State.TheVariants.{Ready, Blocked}
+use Rattle.sg_states.specs.Records.{record_of}
+use Rattle.sg_kernel.specs.declared.stop.Stop.{Stop}
+use Rattle.sg_kernel.specs.declared.stop.Stop.TheVariants.{Budget}
 use Rattle.sg_kernel.specs.World.{Core, with_state}
 
 -- the core, the records made, and why it stopped, if it did
@@ -59,18 +59,6 @@ readied actor answer core = with_state actor (Ready answer) core
 -- the actor is blocked by this call until its side of an activity is done, or, with none, until another's call lets it go on
 abbrev pub blocked_by : ℕ → Call → Option Await → Core → Core
 blocked_by actor what on core = with_state actor (Blocked what core.under.date on) core
-
--- how long a call took, by its answer; none: it was refused
-abbrev pub took_by : Answer → ℕ → Option ℕ
-took_by answer.Start ns = Some ns
-took_by (answer.Act action) ns = Some ns
-took_by answer.NoMore ns = Some ns
-took_by answer.Done ns = Some ns
-took_by (answer.Got message) ns = Some ns
-took_by answer.Refused ns = None
-
-abbrev pub record_of : ℕ → Call → ℕ → ℕ → Answer → ℕ → Record
-record_of actor what since bytes answer date = record { actor = record { 0 = actor }; date = date; what = what; bytes = bytes; took = took_by answer (date - since) }
 
 -- The call that it made at that date is answered now. No record is made elsewhere.
 abbrev pub replied : ℕ → Call → ℕ → ℕ → Answer → Core → Step

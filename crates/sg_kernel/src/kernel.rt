@@ -3,29 +3,28 @@
 ghost use Rattle.std.specs.Prelude.{◌≡◌, ◌≢◌, [], ◌==◌, ◌+◌, ◌-◌, ◌<◌, ◌≤◌, ◌^◌, ◌++◌, false, IfOk, OnOk, IfSome, All, length, Some, None, is_ok, if◌then◌else◌};
 ghost use Rattle.std.specs.List.{list_all, list_any};
 ghost use Rattle.sg_base.specs.Limits.{IsCall, IsAction, IsAnswer};
-ghost use Rattle.sg_activity.specs.Underway.{uses_under};
-ghost use Rattle.sg_platform.specs.Deployment.{IsDeployedOn};
-ghost use Rattle.sg_kernel.specs.declared.states.State.TheVariants.{Ready, Ended};
-ghost use Rattle.sg_kernel.specs.World.{extent, is_ready, is_ended, state_of, inbox_of, blocked_of, IsActor, MayCall};
+ghost use Rattle.sg_activity.specs.Underway.{work_of};
+ghost use Rattle.sg_rows.specs.Deployment.{IsDeployedOn};
+ghost use Rattle.sg_states.specs.Actors.{blocked_of, inbox_of, is_ended, is_ready};
+ghost use Rattle.sg_states.specs.Queue.{IsQueue};
+ghost use Rattle.sg_states.specs.Records.{IsTellable, AreRecords};
+ghost use Rattle.sg_kernel.specs.World.{extent, state_of, IsActor, MayCall};
 ghost use Rattle.sg_kernel.specs.Calls.{answered, told};
 ghost use Rattle.sg_kernel.specs.Steps.{result_of};
 ghost use Rattle.sg_kernel.specs.Start.{capacities_in, setup_of};
 ghost use Rattle.sg_kernel.specs.Roads.{AreOver};
 ghost use Rattle.sg_kernel.specs.Passes.{pass_of};
 ghost use Rattle.sg_kernel.specs.Known.{after, after_call, first_known};
-ghost use Rattle.sg_kernel.specs.Queue.{IsQueue};
-ghost use Rattle.sg_kernel.specs.Records.{IsTellable, AreRecords};
 
-use crate::answers::go_on;
+use crate::at_once::go_on;
+use crate::beginning::first_fields;
 use crate::calls::answer_call;
-use crate::parts::Parts;
+use crate::fields::Fields;
 use crate::passes::{end_due, none_next};
-use crate::queue::sort;
-use crate::starts::{first_parts, reserve};
-use crate::states::{State, Stop};
+use crate::stop::Stop;
 use sg_base::{Action, ActorId, Answer, Call, Memory, Record, Steps};
-use sg_platform::{Deployment, PlatformText};
 use sg_route::Router;
+use sg_rows::{Deployment, PlatformText};
 use std::alloc::Global;
 use std::marker::Model;
 use std::sync::ledger::Ledger;
@@ -39,10 +38,11 @@ use std::sync::ledger::Ledger;
 /// activities that are done, and no record once it is cleared.
 ///
 /// After a `Stop` it is as before the event that was refused. A pass that the budget stops in its middle keeps the
-/// events before that one, and one that it stops before its first event leaves the date.
+/// events before that one, and one that it stops before its first event leaves the date. Either has brought the rates
+/// up to date.
 #[derive(Drop)]
 pub struct Kernel {
-    parts: Parts,
+    fields: Fields,
 }
 
 impl Model for Kernel {
@@ -50,12 +50,12 @@ impl Model for Kernel {
 
     ghost Value = { Known };
 
-    ghost use Rattle.sg_kernel.specs.Sound.{known_of};
-    ghost use Rattle.sg_kernel.specs.Whole.{IsWhole};
+    ghost use Rattle.sg_kernel.specs.kept.Sound.{known_of};
+    ghost use Rattle.sg_kernel.specs.kept.Whole.{IsWhole};
 
-    ghost view = { λ s. known_of s.parts };
+    ghost view = { λ s. known_of s.fields };
 
-    ghost invariant = { λ s. IsWhole s.parts };
+    ghost invariant = { λ s. IsWhole s.fields };
 }
 
 impl Kernel {
@@ -73,8 +73,8 @@ impl Kernel {
             ≡ first_known (capacities_in platform.now)
             (setup_of platform.now deployment.now budget)) }
     {
-        let parts = first_parts(alloc, platform, deployment, budget)?;
-        Ok(Kernel { parts })
+        let fields = first_fields(alloc, platform, deployment, budget)?;
+        Ok(Kernel { fields })
     }
 
     /// Makes room for so many calls, and for all passes up to the next round. The calls and the passes then take
@@ -83,7 +83,12 @@ impl Kernel {
         ensures room { OnOk result (n ≤ self.new.room) }
         ensures kept { self.new ≡ record self.old { room = self.new.room } }
     {
-        reserve(&mut self.parts, n)
+        let n = n.max(self.fields.states.room());
+        self.fields.doing.reserve(n)?;
+        self.fields.whose.reserve(n)?;
+        self.fields.boxes.reserve(n)?;
+        self.fields.requests.reserve(n)?;
+        self.fields.states.reserve_round(n)
     }
 
     /// Answers a call of a ready actor. An Ask is refused: `tell` is its answer where there is a script. `router` has
@@ -98,7 +103,7 @@ impl Kernel {
         ensures result { result
             ≡ result_of (answered router.now self.old.setup self.old.core actor.0 call).stop }
     {
-        answer_call(&mut self.parts, actor, call, router)
+        answer_call(&mut self.fields, actor, call, router)
     }
 
     /// Tells an actor that asked its next line, or that there is none.
@@ -111,38 +116,38 @@ impl Kernel {
         ensures result { result
             ≡ result_of (told self.old.setup self.old.core actor.0 action).stop }
     {
-        if self.parts.events == self.parts.budget {
+        if self.fields.events == self.fields.budget {
             return Err(Stop::Budget);
         }
         match action {
-            Some(action) => go_on(&mut self.parts, actor, Answer::Act(action)),
-            None => go_on(&mut self.parts, actor, Answer::NoMore),
+            Some(action) => go_on(&mut self.fields, actor, Answer::Act(action)),
+            None => go_on(&mut self.fields, actor, Answer::NoMore),
         }
         Ok(())
     }
 
     /// Moves the date to where the next activities are done, and ends them by rising serial: each answers its actor,
-    /// with a record. `steps` counts the looks of the filling: at least one at each use of a host or link by what is
-    /// under way.
+    /// with a record. `steps` counts the looks of the filling, at uses of what shares hosts or links with what began
+    /// and ended since the pass before.
     pub fn pass<L: Ledger>(&mut self, steps: &mut Steps<L>) -> Result<(), Stop>
         requires idle { list_any is_ready self.old.core.actors ≡ false }
         requires going { list_all is_ended self.old.core.actors ≡ false }
         ensures step { self.new ≡ after (pass_of self.old.setup self.old.core) self.old }
         ensures result { result ≡ result_of (pass_of self.old.setup self.old.core).stop }
-        ensures looks { steps.old + uses_under self.old.core.under ≤ steps.new }
+        ensures looks { steps.new ≤ steps.old + work_of self.old.core.under }
         ensures actors { length self.new.core.actors ≡ length self.old.core.actors }
     {
-        self.parts.doing.settle(steps);
-        let Some(date) = self.parts.doing.next_date() else {
-            return Err(none_next(&self.parts.doing));
+        self.fields.doing.settle(steps);
+        let Some(date) = self.fields.doing.next_date() else {
+            return Err(none_next(&self.fields.doing));
         };
-        if self.parts.events == self.parts.budget {
+        if self.fields.events == self.fields.budget {
             return Err(Stop::Budget);
         }
-        self.parts.doing.advance_to(date);
-        self.parts.queue.clear();
-        let stopped = end_due(&mut self.parts);
-        sort(&mut self.parts.queue);
+        self.fields.doing.advance_to(date);
+        self.fields.states.begin_pass();
+        let stopped = end_due(&mut self.fields);
+        self.fields.states.end_pass();
         stopped
     }
 
@@ -151,7 +156,7 @@ impl Kernel {
         ensures is { result ≡ length self.now.core.actors }
         ensures homes { result ≡ length self.now.setup.homes }
     {
-        self.parts.states.len()
+        self.fields.states.actors()
     }
 
     /// Who is to take a turn: by rising id all actors that are ready, and perhaps some that have called since
@@ -159,7 +164,7 @@ impl Kernel {
     pub fn run_queue(&self) -> &[ActorId]
         ensures { IsQueue self.now.core.actors result.now }
     {
-        self.parts.queue.as_slice()
+        self.fields.states.run_queue()
     }
 
     /// The answer of a ready actor.
@@ -168,10 +173,7 @@ impl Kernel {
         ensures is { result ≡ inbox_of (state_of self.now.core actor.0) }
         ensures limited { IfSome result (IsAnswer (extent self.now.setup)) }
     {
-        match self.parts.states[actor.0 as usize - 1] {
-            State::Ready(answer) => Some(answer),
-            _ => None,
-        }
+        self.fields.states.inbox(actor)
     }
 
     /// The call on which an actor is blocked.
@@ -180,17 +182,14 @@ impl Kernel {
         ensures is { result ≡ blocked_of (state_of self.now.core actor.0) }
         ensures limited { IfSome result (IsTellable (extent self.now.setup)) }
     {
-        match self.parts.states[actor.0 as usize - 1] {
-            State::Blocked(what, _, _) => Some(what),
-            _ => None,
-        }
+        self.fields.states.blocked(actor)
     }
 
     /// Whether an actor is ready.
     pub fn any_ready(&self) -> bool
         ensures { result ≡ list_any is_ready self.now.core.actors }
     {
-        self.parts.ready > 0
+        self.fields.states.any_ready()
     }
 
     /// Whether all actors have ended.
@@ -198,14 +197,14 @@ impl Kernel {
         ensures is { result ≡ list_all is_ended self.now.core.actors }
         ensures number { length self.now.core.actors ≡ length self.now.setup.homes }
     {
-        self.parts.ended == self.parts.states.len()
+        self.fields.states.all_ended()
     }
 
     /// Whether as many events were counted as there may be.
     pub fn is_used_up(&self) -> bool
         ensures { result ≡ (self.now.core.events == self.now.setup.budget) }
     {
-        self.parts.events == self.parts.budget
+        self.fields.events == self.fields.budget
     }
 
     /// The date, in nanoseconds.
@@ -213,14 +212,14 @@ impl Kernel {
         ensures is { result ≡ self.now.core.under.date }
         ensures below { result < 10 ^ 33 }
     {
-        self.parts.doing.date()
+        self.fields.doing.date()
     }
 
     /// How many events there were.
     pub fn events(&self) -> u64
         ensures { result ≡ self.now.core.events }
     {
-        self.parts.events
+        self.fields.events
     }
 
     /// The records that aren't cleared, in the order in which they were made.
@@ -228,13 +227,13 @@ impl Kernel {
         ensures are { result.now ≡ self.now.records }
         ensures limited { AreRecords (extent self.now.setup) self.now.records }
     {
-        self.parts.records.as_slice()
+        self.fields.states.records()
     }
 
     /// Clears the records.
     pub fn clear_records(&mut self)
         ensures { self.new ≡ record self.old { records = [] } }
     {
-        self.parts.records.clear();
+        self.fields.states.clear_records();
     }
 }

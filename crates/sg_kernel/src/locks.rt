@@ -1,216 +1,176 @@
 //! Calls on mutexes, semaphores and the barrier.
 
-ghost use Rattle.std.specs.Prelude.{◌≡◌, ◌≢◌, ◌<◌, [], ◌∷◌, Contains, List, length};
+ghost use Rattle.std.specs.Prelude.{◌≡◌, ◌<◌, [], ◌∷◌, true, Contains, List, length};
 ghost use Rattle.sg_base.specs.declared.ids.ActorId.{ActorId};
+ghost use Rattle.sg_states.specs.Records.{IsTellable};
+ghost use Rattle.sg_states.specs.States.{CanCall};
 ghost use Rattle.sg_sync.specs.Laws.{comers};
 ghost use Rattle.sg_sync.specs.Objects.{locked, unlocked, acquired, released, arrived};
-ghost use Rattle.sg_kernel.specs.World.{IsActor, MayCall, extent};
+ghost use Rattle.sg_kernel.specs.World.{IsActor, extent};
 ghost use Rattle.sg_kernel.specs.Locks.{all_wake, caller_first, caller_gets, caller_last, gets_first, gets_last, wakes};
-ghost use Rattle.sg_kernel.specs.Known.{CanAnswer};
-ghost use Rattle.sg_kernel.specs.Records.{IsTellable};
-ghost use Rattle.sg_kernel.specs.Sound.{core_of, known_of, setup_in, CallsBy, CountsBy, HasSpare, StepsBy};
-ghost use Rattle.sg_kernel.specs.Waking.{AreWaking};
-ghost use Rattle.sg_kernel.specs.Whole.{IsSteady, IsWhole};
+ghost use Rattle.sg_kernel.specs.Known.{after_call};
+ghost use Rattle.sg_kernel.specs.kept.Sound.{core_of, known_of, setup_in, CallsBy, StepsBy};
+ghost use Rattle.sg_kernel.specs.kept.Waking.{AreWaking, LeavesCallers};
+ghost use Rattle.sg_kernel.specs.kept.Whole.{CanStep, IsSteady, IsWhole};
 
-use crate::answers::record_of;
-use crate::parts::Parts;
-use crate::queue::join_in_order;
-use crate::states::State;
+use crate::fields::Fields;
 use sg_base::{ActorId, Answer, Call};
+use sg_states::State;
 use sg_sync::Outcome;
 
-// One more event, and room for one call less.
-fn count(parts: &mut Parts)
-    requires room { 0 < parts.old.room }
-    requires budget { parts.old.events ≢ parts.old.budget }
-    requires whole { IsWhole parts.old }
-    ensures known { CountsBy (λ core. core) parts.old parts.new }
-    ensures spare { HasSpare parts.new }
-    ensures whole { IsWhole parts.new }
+// What the one that made the call gets; that takes the room of the call.
+fn answer_caller(fields: &mut Fields, outcome: Outcome, actor: ActorId, what: Call)
+    requires able { CanCall fields.old.states actor.0 }
+    requires what { IsTellable (extent (setup_in fields.old)) what }
+    requires steady { IsSteady fields.old }
+    ensures known { known_of fields.new ≡ after_call true
+        (caller_gets outcome actor.0 what (core_of fields.old)) (known_of fields.old) }
+    ensures objects { fields.new.objects ≡ fields.old.objects }
+    ensures waking { (others : List ActorId) → AreWaking fields.old (comers actor outcome) others
+        → AreWaking fields.new [] others }
+    ensures steady { IsSteady fields.new }
 {
-    parts.events += 1;
-    parts.room -= 1;
-}
-
-// What the one that made the call gets.
-fn answer_caller(parts: &mut Parts, outcome: Outcome, actor: ActorId, what: Call)
-    requires caller { MayCall (core_of parts.old) actor.0 }
-    requires what { IsTellable (extent (setup_in parts.old)) what }
-    requires spare { HasSpare parts.old }
-    requires steady { IsSteady parts.old }
-    ensures known { StepsBy (caller_gets outcome actor.0 what) parts.old parts.new }
-    ensures objects { parts.new.objects ≡ parts.old.objects }
-    ensures waking { (others : List ActorId) → AreWaking parts.old (comers actor outcome) others
-        → AreWaking parts.new [] others }
-    ensures steady { IsSteady parts.new }
-{
-    let place = actor.0 as usize - 1;
-    let date = parts.doing.date();
+    let date = fields.doing.date();
     match outcome {
-        Outcome::GoesOn => {
-            parts
-                .records
-                .push_reserved(record_of(actor, what, date, 0, Answer::Done, date));
-            parts.states[place] = State::Ready(Answer::Done);
-        }
-        Outcome::Waits => {
-            parts.states[place] = State::Blocked(what, date, None);
-            parts.ready -= 1;
-        }
-        Outcome::Refused => {
-            parts
-                .records
-                .push_reserved(record_of(actor, what, date, 0, Answer::Refused, date));
-            parts.states[place] = State::Ready(Answer::Refused);
-        }
+        Outcome::GoesOn => fields.states.answer(actor, what, 0, Answer::Done, date),
+        Outcome::Waits => fields.states.block(actor, what, date, None),
+        Outcome::Refused => fields.states.answer(actor, what, 0, Answer::Refused, date),
     }
 }
 
 // One that waited goes on.
-fn wake(parts: &mut Parts, actor: ActorId)
-    requires actor { IsActor (core_of parts.old) actor.0 }
-    requires steady { IsSteady parts.old }
-    ensures known { StepsBy (wakes actor) parts.old parts.new }
-    ensures objects { parts.new.objects ≡ parts.old.objects }
-    ensures actors { length parts.new.states.items ≡ length parts.old.states.items }
-    ensures callers { (caller : ActorId) → MayCall (core_of parts.old) caller.0
-        → MayCall (core_of parts.new) caller.0 }
-    ensures waking { (comers others : List ActorId) → AreWaking parts.old comers (actor ∷ others)
-        → AreWaking parts.new comers others }
-    ensures spare { HasSpare parts.old → HasSpare parts.new }
-    ensures steady { IsSteady parts.new }
+fn wake(fields: &mut Fields, actor: ActorId)
+    requires actor { IsActor (core_of fields.old) actor.0 }
+    requires steady { IsSteady fields.old }
+    ensures known { StepsBy (wakes actor) fields.old fields.new }
+    ensures objects { fields.new.objects ≡ fields.old.objects }
+    ensures waking { (comers others : List ActorId) → AreWaking fields.old comers (actor ∷ others)
+        → AreWaking fields.new comers others }
+    ensures frees { LeavesCallers fields.old.states fields.new.states }
+    ensures steady { IsSteady fields.new }
 {
-    let place = actor.0 as usize - 1;
-    if let State::Blocked(what, since, _) = parts.states[place] {
-        let date = parts.doing.date();
-        parts
-            .records
-            .push_reserved(record_of(actor, what, since, 0, Answer::Done, date));
-        parts.states[place] = State::Ready(Answer::Done);
-        parts.ready += 1;
-        join_in_order(&mut parts.queue, actor);
+    if let State::Blocked(what, since, _) = fields.states.state(actor) {
+        let date = fields.doing.date();
+        fields
+            .states
+            .reply(actor, what, since, 0, Answer::Done, date);
     }
 }
 
 // Those that go on by the last call.
-fn wake_others(parts: &mut Parts)
-    requires wakers { (actor : ActorId) → Contains parts.old.objects.others actor
-        → IsActor (core_of parts.old) actor.0 }
-    requires steady { IsSteady parts.old }
-    ensures known { StepsBy (all_wake parts.old.objects.others) parts.old parts.new }
-    ensures callers { (caller : ActorId) → MayCall (core_of parts.old) caller.0
-        → MayCall (core_of parts.new) caller.0 }
-    ensures waking { (comers : List ActorId) → AreWaking parts.old comers parts.old.objects.others
-        → AreWaking parts.new comers [] }
-    ensures spare { HasSpare parts.old → HasSpare parts.new }
-    ensures steady { IsSteady parts.new }
+fn wake_others(fields: &mut Fields)
+    requires wakers { (actor : ActorId) → Contains fields.old.objects.others actor
+        → IsActor (core_of fields.old) actor.0 }
+    requires steady { IsSteady fields.old }
+    ensures known { StepsBy (all_wake fields.old.objects.others) fields.old fields.new }
+    ensures waking { (comers : List ActorId) → AreWaking fields.old comers fields.old.objects.others
+        → AreWaking fields.new comers [] }
+    ensures frees { LeavesCallers fields.old.states fields.new.states }
+    ensures steady { IsSteady fields.new }
 {
-    for i in 0..parts.objects.others().len() {
-        let actor = parts.objects.others()[i];
-        wake(parts, actor);
+    for i in 0..fields.objects.others().len() {
+        let actor = fields.objects.others()[i];
+        wake(fields, actor);
     }
 }
 
 // The caller is answered before those that go on by its call.
-fn answer_first(parts: &mut Parts, outcome: Outcome, actor: ActorId, what: Call)
-    requires caller { MayCall (core_of parts.old) actor.0 }
-    requires what { IsTellable (extent (setup_in parts.old)) what }
-    requires spare { HasSpare parts.old }
-    requires steady { IsSteady parts.old }
-    requires waking { AreWaking parts.old (comers actor outcome) parts.old.objects.others }
-    ensures known { StepsBy (gets_first outcome parts.old.objects.others actor.0 what)
-        parts.old parts.new }
-    ensures whole { IsWhole parts.new }
+fn answer_first(fields: &mut Fields, outcome: Outcome, actor: ActorId, what: Call)
+    requires able { CanCall fields.old.states actor.0 }
+    requires what { IsTellable (extent (setup_in fields.old)) what }
+    requires steady { IsSteady fields.old }
+    requires waking { AreWaking fields.old (comers actor outcome) fields.old.objects.others }
+    ensures known { known_of fields.new ≡ after_call true
+        (gets_first outcome fields.old.objects.others actor.0 what (core_of fields.old))
+        (known_of fields.old) }
+    ensures whole { IsWhole fields.new }
 {
-    answer_caller(parts, outcome, actor, what);
-    wake_others(parts);
+    answer_caller(fields, outcome, actor, what);
+    wake_others(fields);
 }
 
 // The caller is answered after them: so at the barrier.
-fn answer_last(parts: &mut Parts, outcome: Outcome, actor: ActorId, what: Call)
-    requires caller { MayCall (core_of parts.old) actor.0 }
-    requires what { IsTellable (extent (setup_in parts.old)) what }
-    requires spare { HasSpare parts.old }
-    requires steady { IsSteady parts.old }
-    requires waking { AreWaking parts.old (comers actor outcome) parts.old.objects.others }
-    ensures known { StepsBy (gets_last outcome parts.old.objects.others actor.0 what)
-        parts.old parts.new }
-    ensures whole { IsWhole parts.new }
+fn answer_last(fields: &mut Fields, outcome: Outcome, actor: ActorId, what: Call)
+    requires able { CanCall fields.old.states actor.0 }
+    requires what { IsTellable (extent (setup_in fields.old)) what }
+    requires steady { IsSteady fields.old }
+    requires waking { AreWaking fields.old (comers actor outcome) fields.old.objects.others }
+    ensures known { known_of fields.new ≡ after_call true
+        (gets_last outcome fields.old.objects.others actor.0 what (core_of fields.old))
+        (known_of fields.old) }
+    ensures whole { IsWhole fields.new }
 {
-    wake_others(parts);
-    answer_caller(parts, outcome, actor, what);
+    wake_others(fields);
+    answer_caller(fields, outcome, actor, what);
 }
 
 /// The actor locks a mutex.
-pub(crate) fn lock(parts: &mut Parts, actor: ActorId, mutex: u32)
-    requires able { CanAnswer (known_of parts.old) actor.0 }
-    requires mutex { mutex < parts.old.mutexes }
-    requires whole { IsWhole parts.old }
+pub(crate) fn lock(fields: &mut Fields, actor: ActorId, mutex: u32)
+    requires able { CanStep fields.old actor.0 }
+    requires mutex { mutex < fields.old.mutexes }
     ensures known { CallsBy
-        (caller_first (locked actor mutex parts.old.objects) actor.0 (Call.Lock mutex))
-        parts.old parts.new }
-    ensures whole { IsWhole parts.new }
+        (caller_first (locked actor mutex fields.old.objects) actor.0 (Call.Lock mutex))
+        fields.old fields.new }
+    ensures whole { IsWhole fields.new }
 {
-    count(parts);
-    let outcome = parts.objects.lock(actor, mutex);
-    answer_first(parts, outcome, actor, Call::Lock(mutex));
+    fields.events += 1;
+    let outcome = fields.objects.lock(actor, mutex);
+    answer_first(fields, outcome, actor, Call::Lock(mutex));
 }
 
 /// The actor gives a mutex up.
-pub(crate) fn unlock(parts: &mut Parts, actor: ActorId, mutex: u32)
-    requires able { CanAnswer (known_of parts.old) actor.0 }
-    requires mutex { mutex < parts.old.mutexes }
-    requires whole { IsWhole parts.old }
+pub(crate) fn unlock(fields: &mut Fields, actor: ActorId, mutex: u32)
+    requires able { CanStep fields.old actor.0 }
+    requires mutex { mutex < fields.old.mutexes }
     ensures known { CallsBy
-        (caller_first (unlocked actor mutex parts.old.objects) actor.0 (Call.Unlock mutex))
-        parts.old parts.new }
-    ensures whole { IsWhole parts.new }
+        (caller_first (unlocked actor mutex fields.old.objects) actor.0 (Call.Unlock mutex))
+        fields.old fields.new }
+    ensures whole { IsWhole fields.new }
 {
-    count(parts);
-    let outcome = parts.objects.unlock(actor, mutex);
-    answer_first(parts, outcome, actor, Call::Unlock(mutex));
+    fields.events += 1;
+    let outcome = fields.objects.unlock(actor, mutex);
+    answer_first(fields, outcome, actor, Call::Unlock(mutex));
 }
 
 /// The actor acquires a semaphore.
-pub(crate) fn acquire(parts: &mut Parts, actor: ActorId, semaphore: u32)
-    requires able { CanAnswer (known_of parts.old) actor.0 }
-    requires semaphore { semaphore < length parts.old.semaphores.items }
-    requires whole { IsWhole parts.old }
+pub(crate) fn acquire(fields: &mut Fields, actor: ActorId, semaphore: u32)
+    requires able { CanStep fields.old actor.0 }
+    requires semaphore { semaphore < length fields.old.semaphores.items }
     ensures known { CallsBy
-        (caller_first (acquired actor semaphore parts.old.objects) actor.0 (Call.Acquire semaphore))
-        parts.old parts.new }
-    ensures whole { IsWhole parts.new }
+        (caller_first (acquired actor semaphore fields.old.objects)
+        actor.0 (Call.Acquire semaphore))
+        fields.old fields.new }
+    ensures whole { IsWhole fields.new }
 {
-    count(parts);
-    let outcome = parts.objects.acquire(actor, semaphore);
-    answer_first(parts, outcome, actor, Call::Acquire(semaphore));
+    fields.events += 1;
+    let outcome = fields.objects.acquire(actor, semaphore);
+    answer_first(fields, outcome, actor, Call::Acquire(semaphore));
 }
 
 /// The actor releases a semaphore.
-pub(crate) fn release(parts: &mut Parts, actor: ActorId, semaphore: u32)
-    requires able { CanAnswer (known_of parts.old) actor.0 }
-    requires semaphore { semaphore < length parts.old.semaphores.items }
-    requires whole { IsWhole parts.old }
+pub(crate) fn release(fields: &mut Fields, actor: ActorId, semaphore: u32)
+    requires able { CanStep fields.old actor.0 }
+    requires semaphore { semaphore < length fields.old.semaphores.items }
     ensures known { CallsBy
-        (caller_first (released semaphore parts.old.objects) actor.0 (Call.Release semaphore))
-        parts.old parts.new }
-    ensures whole { IsWhole parts.new }
+        (caller_first (released semaphore fields.old.objects)
+        actor.0 (Call.Release semaphore))
+        fields.old fields.new }
+    ensures whole { IsWhole fields.new }
 {
-    count(parts);
-    let outcome = parts.objects.release(semaphore);
-    answer_first(parts, outcome, actor, Call::Release(semaphore));
+    fields.events += 1;
+    let outcome = fields.objects.release(semaphore);
+    answer_first(fields, outcome, actor, Call::Release(semaphore));
 }
 
 /// The actor arrives at the barrier.
-pub(crate) fn arrive(parts: &mut Parts, actor: ActorId)
-    requires able { CanAnswer (known_of parts.old) actor.0 }
-    requires whole { IsWhole parts.old }
+pub(crate) fn arrive(fields: &mut Fields, actor: ActorId)
+    requires able { CanStep fields.old actor.0 }
     ensures known { CallsBy
-        (caller_last (arrived actor parts.old.objects) actor.0 Call.Barrier)
-        parts.old parts.new }
-    ensures whole { IsWhole parts.new }
+        (caller_last (arrived actor fields.old.objects) actor.0 Call.Barrier)
+        fields.old fields.new }
+    ensures whole { IsWhole fields.new }
 {
-    count(parts);
-    let outcome = parts.objects.arrive(actor);
-    answer_last(parts, outcome, actor, Call::Barrier);
+    fields.events += 1;
+    let outcome = fields.objects.arrive(actor);
+    answer_last(fields, outcome, actor, Call::Barrier);
 }

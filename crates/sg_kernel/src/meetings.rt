@@ -1,25 +1,26 @@
 //! Sides of communications come to mailboxes, and actors wait for their requests.
 
-ghost use Rattle.std.specs.Prelude.{◌≡◌, ◌≢◌, ◌-◌, ◌<◌, ◌≤◌, AllPairs, None, Some, is_ok, length};
+ghost use Rattle.std.specs.Prelude.{◌≡◌, ◌≢◌, ◌-◌, ◌<◌, ◌≤◌, AllPairs, None, Some, is_ok, length, true};
 ghost use Rattle.sg_base.specs.declared.ids.BoxId.{BoxId};
-ghost use Rattle.sg_base.specs.Limits.{IsActorIn, IsAmount};
+ghost use Rattle.sg_base.specs.Limits.{IsActorIn};
 ghost use Rattle.sg_mailbox.specs.Posts.{meets, met, arrives, waiting, AreBelow};
-ghost use Rattle.sg_kernel.specs.World.{MayCall, extent};
-ghost use Rattle.sg_kernel.specs.Steps.{result_of};
-ghost use Rattle.sg_kernel.specs.Meetings.{answer_of_over as answer_of_over_spec, comer_of, end_of, joins_with, point_of, posts, receiver_of, receives_by, sender_of, sends_by, stop_of, takes_part, waits as waits_spec};
-ghost use Rattle.sg_kernel.specs.Known.{after_call, CanAnswer};
-ghost use Rattle.sg_kernel.specs.Records.{IsTellable};
+ghost use Rattle.sg_states.specs.Records.{IsTellable};
+ghost use Rattle.sg_states.specs.States.{CanCall};
+ghost use Rattle.sg_kernel.specs.World.{extent};
+ghost use Rattle.sg_kernel.specs.Steps.{blocked_by, result_of};
+ghost use Rattle.sg_kernel.specs.Meetings.{answer_of_over as answer_of_over_spec, comer_of, joins_with, party_of, point_of, posts, receiver_of, receives_by, sender_of, sends_by, stop_of, takes_part, waits as waits_spec};
+ghost use Rattle.sg_kernel.specs.Known.{after_call};
 ghost use Rattle.sg_kernel.specs.Roads.{AreOver, IsOver};
-ghost use Rattle.sg_kernel.specs.Sound.{core_of, known_of, setup_in, comes_in, CallsBy, HasSpare, IsSide, StepsBy};
-ghost use Rattle.sg_kernel.specs.Whole.{IsWhole};
+ghost use Rattle.sg_kernel.specs.kept.Sound.{core_of, known_of, setup_in, comes_in, CallsBy, CountsBy, IsComer};
+ghost use Rattle.sg_kernel.specs.kept.Whole.{CanStep, IsWhole, IsWholeFor};
 
-use crate::answers::{answer_now, block, make_blocked, reply};
-use crate::parts::Parts;
-use crate::states::{How, Stop, Whose};
+use crate::at_once::answer_now;
+use crate::fields::Fields;
+use crate::owners::{How, Whose};
+use crate::stop::Stop;
 use arrayvec::ArrayVec;
-use sg_base::{ActorId, Answer, BoxId, Call, LinkId, Msg, PointId, Serial};
+use sg_base::{ActorId, Answer, Await, BoxId, Call, LinkId, Msg, Party, PointId, Serial};
 use sg_mailbox::{Boxes, Side};
-use sg_requests::{Await, End};
 use sg_route::{RouteFault, Router};
 
 /// A side of a communication that comes to a mailbox.
@@ -75,46 +76,52 @@ pub(crate) fn comer_of(actor: ActorId, call: Call) -> Option<Comer>
     }
 }
 
-fn end_of(sends: bool) -> End
-    ensures { result ≡ end_of sends }
+fn party_of(sends: bool) -> Party
+    ensures { result ≡ party_of sends }
 {
-    if sends { End::Sender } else { End::Receiver }
+    if sends {
+        Party::Sender
+    } else {
+        Party::Receiver
+    }
 }
 
-// The actor of a call that is counted takes part in the communication of this serial.
-fn take_part(parts: &mut Parts, comer: Comer, serial: Serial)
-    requires caller { MayCall (core_of parts.old) comer.side.actor.0 }
-    requires what { IsTellable (extent (setup_in parts.old)) comer.what }
-    requires bytes { IsAmount comer.side.bytes }
-    requires made { (0 < serial.0) × (serial.0 ≤ length parts.old.whose.whose) }
-    requires room { parts.old.room < parts.old.requests.room }
-    requires few { parts.old.requests.asked < parts.old.events }
-    requires spare { HasSpare parts.old }
-    requires whole { IsWhole parts.old }
-    ensures known { StepsBy (takes_part comer.waits comer serial.0) parts.old parts.new }
-    ensures whole { IsWhole parts.new }
+// The actor of a call that is counted takes part in the communication of this serial; that takes the room of the call.
+fn take_part(fields: &mut Fields, comer: Comer, serial: Serial)
+    requires able { CanCall fields.old.states comer.side.actor.0 }
+    requires comer { IsComer (extent (setup_in fields.old)) comer }
+    requires made { (0 < serial.0) × (serial.0 ≤ length fields.old.whose.whose) }
+    requires room { fields.old.states.room ≤ fields.old.requests.room }
+    requires few { fields.old.requests.asked < fields.old.events }
+    requires whole { IsWholeFor (fields.old.states.room - 1) fields.old }
+    ensures known { known_of fields.new ≡ after_call true
+        (takes_part comer.waits comer serial.0 (core_of fields.old)) (known_of fields.old) }
+    ensures whole { IsWhole fields.new }
 {
     let actor = comer.side.actor;
     let on = Await {
         serial,
-        end: end_of(comer.sends),
+        party: party_of(comer.sends),
     };
+    let date = fields.doing.date();
     if comer.waits {
-        make_blocked(parts, actor, comer.what, on);
+        fields.states.block(actor, comer.what, date, Some(on))
     } else {
-        parts.requests.push(actor, on);
-        reply(parts, actor, comer.what, comer.side.bytes, Answer::Done);
+        fields.requests.push(actor, on);
+        fields
+            .states
+            .answer(actor, comer.what, comer.side.bytes, Answer::Done, date)
     }
 }
 
 // Whom a side meets.
-fn whom(parts: &Parts, comer: Comer) -> Option<(Serial, Side)>
-    ensures { result ≡ met (meets comer.sends (waiting parts.now.boxes comer.mailbox)) }
+fn whom(fields: &Fields, comer: Comer) -> Option<(Serial, Side)>
+    ensures { result ≡ met (meets comer.sends (waiting fields.now.boxes comer.mailbox)) }
 {
     if comer.sends {
-        parts.boxes.meets_send(comer.mailbox)
+        fields.boxes.meets_send(comer.mailbox)
     } else {
-        parts.boxes.meets_recv(comer.mailbox)
+        fields.boxes.meets_recv(comer.mailbox)
     }
 }
 
@@ -137,23 +144,20 @@ fn enter(boxes: &mut Boxes, comer: Comer, serial: Serial)
 }
 
 // The side is posted, as a communication with the next serial.
-fn post(parts: &mut Parts, comer: Comer)
-    requires able { CanAnswer (known_of parts.old) comer.side.actor.0 }
-    requires what { IsTellable (extent (setup_in parts.old)) comer.what }
-    requires side { IsSide (extent (setup_in parts.old)) comer.side }
-    requires alone { meets comer.sends (waiting parts.old.boxes comer.mailbox) ≡ None }
-    requires whole { IsWhole parts.old }
-    ensures known { CallsBy (posts comer) parts.old parts.new }
-    ensures whole { IsWhole parts.new }
+fn post(fields: &mut Fields, comer: Comer)
+    requires able { CanStep fields.old comer.side.actor.0 }
+    requires comer { IsComer (extent (setup_in fields.old)) comer }
+    requires alone { meets comer.sends (waiting fields.old.boxes comer.mailbox) ≡ None }
+    ensures known { CallsBy (posts comer) fields.old fields.new }
+    ensures whole { IsWhole fields.new }
 {
-    parts.events += 1;
-    parts.room -= 1;
-    let serial = parts.doing.take_serial();
-    parts
+    fields.events += 1;
+    let serial = fields.doing.take_serial();
+    fields
         .whose
         .push(Whose::Posted(comer.mailbox, comer.sends, comer.side));
-    enter(&mut parts.boxes, comer, serial);
-    take_part(parts, comer, serial);
+    enter(&mut fields.boxes, comer, serial);
+    take_part(fields, comer, serial);
 }
 
 fn stop_of(from: PointId, to: PointId, fault: RouteFault) -> Stop
@@ -188,75 +192,72 @@ fn receiver_of(comer: Comer, other: Side) -> Side
 }
 
 // The host of a side.
-fn point_of(parts: &Parts, side: Side) -> PointId
-    requires { IsActorIn (extent (setup_in parts.now)) side.actor }
-    ensures { result ≡ point_of (setup_in parts.now) side }
+fn point_of(fields: &Fields, side: Side) -> PointId
+    requires { IsActorIn (extent (setup_in fields.now)) side.actor }
+    ensures { result ≡ point_of (setup_in fields.now) side }
 {
-    parts.homes[side.actor.0 as usize - 1]
+    fields.homes[side.actor.index()]
 }
 
 // Both sides are there, and the communication begins over these links.
 fn begin(
-    parts: &mut Parts,
+    fields: &mut Fields,
     comer: Comer,
     serial: Serial,
     other: Side,
     links: &[LinkId],
     latency: u128,
 )
-    requires able { CanAnswer (known_of parts.old) comer.side.actor.0 }
-    requires what { IsTellable (extent (setup_in parts.old)) comer.what }
-    requires side { IsSide (extent (setup_in parts.old)) comer.side }
-    requires met { met (meets comer.sends (waiting parts.old.boxes comer.mailbox))
+    requires able { CanStep fields.old comer.side.actor.0 }
+    requires comer { IsComer (extent (setup_in fields.old)) comer }
+    requires met { met (meets comer.sends (waiting fields.old.boxes comer.mailbox))
         ≡ Some (serial, other) }
-    requires route { IsOver parts.old.links
+    requires route { IsOver fields.old.links
         (record { links = links.now; latency = latency }) }
     requires apart { AllPairs (λ a b. a ≢ b) links.now }
-    requires whole { IsWhole parts.old }
     ensures known { CallsBy
-        (joins_with (record { links = links.now; latency = latency }) (setup_in parts.old)
+        (joins_with (record { links = links.now; latency = latency }) (setup_in fields.old)
         comer serial other)
-        parts.old parts.new }
-    ensures whole { IsWhole parts.new }
+        fields.old fields.new }
+    ensures whole { IsWhole fields.new }
 {
-    parts.events += 1;
-    parts.room -= 1;
-    let next = parts.doing.next_serial();
-    enter(&mut parts.boxes, comer, next);
+    fields.events += 1;
+    let next = fields.doing.next_serial();
+    enter(&mut fields.boxes, comer, next);
     let sender = sender_of(comer, other);
-    parts.doing.start_comm(serial, links, latency, sender.bytes);
-    parts
+    fields
+        .doing
+        .start_comm(serial, links, latency, sender.bytes);
+    fields
         .whose
         .put(serial, Whose::Pair(sender, receiver_of(comer, other)));
-    take_part(parts, comer, serial);
+    take_part(fields, comer, serial);
 }
 
 // Both sides are there, and the communication begins over its route.
 fn join(
-    parts: &mut Parts,
+    fields: &mut Fields,
     router: &Router,
     comer: Comer,
     serial: Serial,
     other: Side,
 ) -> Result<(), Stop>
-    requires able { CanAnswer (known_of parts.old) comer.side.actor.0 }
-    requires what { IsTellable (extent (setup_in parts.old)) comer.what }
-    requires side { IsSide (extent (setup_in parts.old)) comer.side }
-    requires met { met (meets comer.sends (waiting parts.old.boxes comer.mailbox))
+    requires able { CanStep fields.old comer.side.actor.0 }
+    requires comer { IsComer (extent (setup_in fields.old)) comer }
+    requires met { met (meets comer.sends (waiting fields.old.boxes comer.mailbox))
         ≡ Some (serial, other) }
-    requires roads { AreOver parts.old.links router.now }
-    requires whole { IsWhole parts.old }
-    ensures known { known_of parts.new ≡ after_call (is_ok result)
-        (comes_in router.now comer parts.old) (known_of parts.old) }
-    ensures result { result ≡ result_of (comes_in router.now comer parts.old).stop }
-    ensures whole { IsWhole parts.new }
+    requires roads { AreOver fields.old.links router.now }
+    ensures known { known_of fields.new ≡ after_call (is_ok result)
+        (comes_in router.now comer fields.old) (known_of fields.old) }
+    ensures result { result ≡ result_of (comes_in router.now comer fields.old).stop }
+    ensures whole { IsWhole fields.new }
 {
-    let from = point_of(parts, sender_of(comer, other));
-    let to = point_of(parts, receiver_of(comer, other));
+    let from = point_of(fields, sender_of(comer, other));
+    let to = point_of(fields, receiver_of(comer, other));
     let mut links: ArrayVec<LinkId, 64> = ArrayVec::new();
     match router.route(from, to, &mut links) {
         Ok(latency) => {
-            begin(parts, comer, serial, other, links.as_slice(), latency);
+            begin(fields, comer, serial, other, links.as_slice(), latency);
             Ok(())
         }
         Err(fault) => Err(stop_of(from, to, fault)),
@@ -264,24 +265,34 @@ fn join(
 }
 
 /// A side comes to its mailbox. A missing or too long route stops the run, with all as it was.
-pub(crate) fn come(parts: &mut Parts, router: &Router, comer: Comer) -> Result<(), Stop>
-    requires able { CanAnswer (known_of parts.old) comer.side.actor.0 }
-    requires what { IsTellable (extent (setup_in parts.old)) comer.what }
-    requires side { IsSide (extent (setup_in parts.old)) comer.side }
-    requires roads { AreOver parts.old.links router.now }
-    requires whole { IsWhole parts.old }
-    ensures known { known_of parts.new ≡ after_call (is_ok result)
-        (comes_in router.now comer parts.old) (known_of parts.old) }
-    ensures result { result ≡ result_of (comes_in router.now comer parts.old).stop }
-    ensures whole { IsWhole parts.new }
+pub(crate) fn come(fields: &mut Fields, router: &Router, comer: Comer) -> Result<(), Stop>
+    requires able { CanStep fields.old comer.side.actor.0 }
+    requires comer { IsComer (extent (setup_in fields.old)) comer }
+    requires roads { AreOver fields.old.links router.now }
+    ensures known { known_of fields.new ≡ after_call (is_ok result)
+        (comes_in router.now comer fields.old) (known_of fields.old) }
+    ensures result { result ≡ result_of (comes_in router.now comer fields.old).stop }
+    ensures whole { IsWhole fields.new }
 {
-    match whom(parts, comer) {
-        Some((serial, other)) => join(parts, router, comer, serial, other),
+    match whom(fields, comer) {
+        Some((serial, other)) => join(fields, router, comer, serial, other),
         None => {
-            post(parts, comer);
+            post(fields, comer);
             Ok(())
         }
     }
+}
+
+// The actor is blocked by its call until its side of an activity is done.
+fn block(fields: &mut Fields, actor: ActorId, what: Call, on: Await)
+    requires able { CanStep fields.old actor.0 }
+    requires what { IsTellable (extent (setup_in fields.old)) what }
+    ensures known { CountsBy (blocked_by actor.0 what (Some on)) fields.old fields.new }
+    ensures whole { IsWhole fields.new }
+{
+    let date = fields.doing.date();
+    fields.states.block(actor, what, date, Some(on));
+    fields.events += 1;
 }
 
 // What an actor that waits for an activity is answered at once, where it is over.
@@ -295,17 +306,16 @@ fn answer_of_over(whose: Whose) -> Option<Answer>
 }
 
 /// The actor waits for its oldest request.
-pub(crate) fn wait(parts: &mut Parts, actor: ActorId)
-    requires able { CanAnswer (known_of parts.old) actor.0 }
-    requires whole { IsWhole parts.old }
-    ensures known { CallsBy (waits_spec actor.0) parts.old parts.new }
-    ensures whole { IsWhole parts.new }
+pub(crate) fn wait(fields: &mut Fields, actor: ActorId)
+    requires able { CanStep fields.old actor.0 }
+    ensures known { CallsBy (waits_spec actor.0) fields.old fields.new }
+    ensures whole { IsWhole fields.new }
 {
-    match parts.requests.take(actor) {
-        None => answer_now(parts, actor, Call::Wait, 0, Answer::Refused),
-        Some(on) => match answer_of_over(parts.whose.of(on.serial)) {
-            Some(answer) => answer_now(parts, actor, Call::Wait, 0, answer),
-            None => block(parts, actor, Call::Wait, on),
+    match fields.requests.take(actor) {
+        None => answer_now(fields, actor, Call::Wait, 0, Answer::Refused),
+        Some(on) => match answer_of_over(fields.whose.of(on.serial)) {
+            Some(answer) => answer_now(fields, actor, Call::Wait, 0, answer),
+            None => block(fields, actor, Call::Wait, on),
         },
     }
 }

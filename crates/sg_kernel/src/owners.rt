@@ -1,14 +1,34 @@
 //! Whose each activity is.
 ghost use Rattle.std.specs.Prelude.{◌≡◌, ◌+◌, ◌-◌, ◌<◌, ◌≤◌, ◌^◌, ◌++◌, ◌∷◌, [], length, slice_index_or, slice_set, OnOk};
-ghost use Rattle.sg_kernel.specs.declared.states.How.TheVariants as how;
-ghost use Rattle.sg_kernel.specs.declared.states.Whose.TheVariants.{Over};
-ghost use Rattle.sg_kernel.specs.Owners.{whose_of as whose_of_spec};
+ghost use Rattle.sg_kernel.specs.declared.owners.How.TheVariants as how;
+ghost use Rattle.sg_kernel.specs.declared.owners.Whose.TheVariants.{Over};
+ghost use Rattle.sg_kernel.specs.kept.Owners.{whose_of as whose_of_spec};
 
-use crate::states::{How, Whose};
-use sg_base::{Memory, Serial};
+use sg_base::{ActorId, BoxId, Memory, Serial};
+use sg_mailbox::Side;
 use std::alloc::Global;
 use std::collections::HashMap;
 use std::marker::Model;
+
+/// How an activity is over.
+#[derive(Clone, Copy, Debug, PartialEq, Eq)]
+pub enum How {
+    /// All of it is done.
+    Done,
+}
+
+/// Whose an activity is.
+#[derive(Clone, Copy, Debug, PartialEq, Eq)]
+pub enum Whose {
+    /// Nobody's: it is over.
+    Over(How),
+    /// It is what this actor computes or sleeps.
+    Alone(ActorId),
+    /// It is a communication of which one side is there, in this mailbox, and whether that one sends.
+    Posted(BoxId, bool, Side),
+    /// It is a communication of a sender and a receiver.
+    Pair(Side, Side),
+}
 
 /// Whose each activity is. It keeps nothing of one that is done, and contracts see a list by serial.
 #[derive(Drop)]
@@ -21,7 +41,7 @@ pub(crate) struct Owners {
 impl Model for Owners {
     ghost use Rattle.std.specs.Prelude.{◌≤◌, nat_eq};
     ghost use Rattle.std.specs.HashMap as hash;
-    ghost use Rattle.sg_kernel.specs.Owners.{Owned, table};
+    ghost use Rattle.sg_kernel.specs.kept.Owners.{Owned, table};
 
     ghost Value = { Owned };
 

@@ -5,21 +5,21 @@ ghost use Rattle.sg_activity.specs.declared.kinds.PhaseKind.TheVariants as phase
 ghost use Rattle.sg_activity.specs.Doing.{IsDue};
 ghost use Rattle.sg_activity.specs.Underway.{is_running};
 ghost use Rattle.sg_base.specs.declared.call.Msg.TheVariants as msg;
-ghost use Rattle.sg_kernel.specs.declared.states.How.TheVariants as how;
+ghost use Rattle.sg_kernel.specs.declared.owners.How.TheVariants as how;
 ghost use Rattle.sg_kernel.specs.World.{extent};
 ghost use Rattle.sg_kernel.specs.Steps.{each, result_of};
 ghost use Rattle.sg_kernel.specs.Meetings.{side_of};
 ghost use Rattle.sg_kernel.specs.Passes.{answer_of_done as answer_of_done_spec, answers, answers_side, ends, ends_one, tells_bytes as tells_bytes_spec};
-ghost use Rattle.sg_kernel.specs.Sound.{core_of, setup_in, IsOwner, IsSide, StepsBy};
-ghost use Rattle.sg_kernel.specs.Whole.{IsPassing};
+ghost use Rattle.sg_kernel.specs.kept.Sound.{core_of, setup_in, IsOwner, IsSide, StepsBy};
+ghost use Rattle.sg_kernel.specs.kept.Whole.{IsPassing};
 
-use crate::answers::record_of;
-use crate::parts::Parts;
-use crate::states::{State, Stop, Whose};
+use crate::fields::Fields;
+use crate::owners::Whose;
+use crate::stop::Stop;
 use sg_activity::{Activities, Phase, PhaseKind};
-use sg_base::{ActorId, Answer, Call, Msg, Serial};
+use sg_base::{ActorId, Answer, Call, Msg, Party, Serial};
 use sg_mailbox::Side;
-use sg_requests::End;
+use sg_states::State;
 
 /// Why there is no next date.
 pub(crate) fn none_next(doing: &Activities) -> Stop
@@ -58,26 +58,22 @@ fn answer_of_done(what: Call, msg: Msg) -> Answer
 }
 
 // Answers the actor of a side, where it is blocked on this side of this activity: with what the side gives.
-fn answer_side(parts: &mut Parts, serial: Serial, end: End, given: Side)
-    requires given { IsSide (extent (setup_in parts.old)) given }
-    requires passing { IsPassing parts.old }
-    ensures known { StepsBy (answers_side how.Done serial.0 end given) parts.old parts.new }
-    ensures passing { IsPassing parts.new }
-    ensures doing { parts.new.doing ≡ parts.old.doing }
-    ensures events { parts.new.events ≡ parts.old.events }
+fn answer_side(fields: &mut Fields, serial: Serial, party: Party, given: Side)
+    requires given { IsSide (extent (setup_in fields.old)) given }
+    requires passing { IsPassing fields.old }
+    ensures known { StepsBy (answers_side how.Done serial.0 party given) fields.old fields.new }
+    ensures passing { IsPassing fields.new }
+    ensures doing { fields.new.doing ≡ fields.old.doing }
+    ensures events { fields.new.events ≡ fields.old.events }
 {
-    let place = given.actor.0 as usize - 1;
-    match parts.states[place] {
-        State::Blocked(what, since, Some(on)) if on.serial.0 == serial.0 && on.end == end => {
+    match fields.states.state(given.actor) {
+        State::Blocked(what, since, Some(on)) if on.serial.0 == serial.0 && on.party == party => {
             let bytes = bytes_told(what, given.bytes);
             let answer = answer_of_done(what, given.msg);
-            let date = parts.doing.date();
-            parts
-                .records
-                .push_reserved(record_of(given.actor, what, since, bytes, answer, date));
-            parts.states[place] = State::Ready(answer);
-            parts.queue.push_reserved(given.actor);
-            parts.ready += 1;
+            let date = fields.doing.date();
+            fields
+                .states
+                .reply(given.actor, what, since, bytes, answer, date);
         }
         _ => {}
     }
@@ -94,98 +90,98 @@ fn side_of(actor: ActorId) -> Side
 }
 
 // Answers those whose activity is done: the sender, and then the receiver.
-fn answer_owners(parts: &mut Parts, serial: Serial, whose: Whose)
-    requires whose { IsOwner (extent (setup_in parts.old)) whose }
-    requires passing { IsPassing parts.old }
-    ensures known { StepsBy (answers how.Done serial.0 whose) parts.old parts.new }
-    ensures passing { IsPassing parts.new }
-    ensures doing { parts.new.doing ≡ parts.old.doing }
-    ensures events { parts.new.events ≡ parts.old.events }
+fn answer_owners(fields: &mut Fields, serial: Serial, whose: Whose)
+    requires whose { IsOwner (extent (setup_in fields.old)) whose }
+    requires passing { IsPassing fields.old }
+    ensures known { StepsBy (answers how.Done serial.0 whose) fields.old fields.new }
+    ensures passing { IsPassing fields.new }
+    ensures doing { fields.new.doing ≡ fields.old.doing }
+    ensures events { fields.new.events ≡ fields.old.events }
 {
     match whose {
-        Whose::Alone(actor) => answer_side(parts, serial, End::Alone, side_of(actor)),
+        Whose::Alone(actor) => answer_side(fields, serial, Party::Alone, side_of(actor)),
         Whose::Pair(sender, receiver) => {
-            answer_side(parts, serial, End::Sender, sender);
+            answer_side(fields, serial, Party::Sender, sender);
             let given = Side {
                 actor: receiver.actor,
                 ..sender
             };
-            answer_side(parts, serial, End::Receiver, given);
+            answer_side(fields, serial, Party::Receiver, given);
         }
         Whose::Over(_) | Whose::Posted(..) => {}
     }
 }
 
 // A latency that is due has passed, and its flow begins.
-fn begin_flow(parts: &mut Parts, phase: Phase)
-    requires due { IsDue parts.old.doing phase }
+fn begin_flow(fields: &mut Fields, phase: Phase)
+    requires due { IsDue fields.old.doing phase }
     requires latency { phase.kind ≡ phase_kind.Latency }
-    requires passing { IsPassing parts.old }
-    requires budget { parts.old.events ≢ parts.old.budget }
-    ensures known { StepsBy (ends_one phase.serial.0) parts.old parts.new }
-    ensures passing { IsPassing parts.new }
-    ensures due { parts.new.doing.due ≡ drop 1 parts.old.doing.due }
-    ensures date { parts.new.doing.under.date ≡ parts.old.doing.under.date }
-    ensures events { parts.new.events ≡ parts.old.events + 1 }
+    requires passing { IsPassing fields.old }
+    requires budget { fields.old.events ≢ fields.old.budget }
+    ensures known { StepsBy (ends_one phase.serial.0) fields.old fields.new }
+    ensures passing { IsPassing fields.new }
+    ensures due { fields.new.doing.due ≡ drop 1 fields.old.doing.due }
+    ensures date { fields.new.doing.under.date ≡ fields.old.doing.under.date }
+    ensures events { fields.new.events ≡ fields.old.events + 1 }
 {
-    parts.doing.finish();
-    parts.events += 1;
+    fields.doing.finish();
+    fields.events += 1;
 }
 
 // The last phase of an activity that is due ends: it is done, and whose it was is answered.
-fn end_activity(parts: &mut Parts, phase: Phase)
-    requires due { IsDue parts.old.doing phase }
+fn end_activity(fields: &mut Fields, phase: Phase)
+    requires due { IsDue fields.old.doing phase }
     requires last { phase.kind ≢ phase_kind.Latency }
-    requires passing { IsPassing parts.old }
-    requires budget { parts.old.events ≢ parts.old.budget }
-    ensures known { StepsBy (ends_one phase.serial.0) parts.old parts.new }
-    ensures passing { IsPassing parts.new }
-    ensures due { parts.new.doing.due ≡ drop 1 parts.old.doing.due }
-    ensures date { parts.new.doing.under.date ≡ parts.old.doing.under.date }
-    ensures events { parts.new.events ≡ parts.old.events + 1 }
+    requires passing { IsPassing fields.old }
+    requires budget { fields.old.events ≢ fields.old.budget }
+    ensures known { StepsBy (ends_one phase.serial.0) fields.old fields.new }
+    ensures passing { IsPassing fields.new }
+    ensures due { fields.new.doing.due ≡ drop 1 fields.old.doing.due }
+    ensures date { fields.new.doing.under.date ≡ fields.old.doing.under.date }
+    ensures events { fields.new.events ≡ fields.old.events + 1 }
 {
-    let whose = parts.whose.take(phase.serial);
-    parts.doing.finish();
-    parts.events += 1;
-    answer_owners(parts, phase.serial, whose);
+    let whose = fields.whose.take(phase.serial);
+    fields.doing.finish();
+    fields.events += 1;
+    answer_owners(fields, phase.serial, whose);
 }
 
 // Ends the first phase that is due.
-fn end_phase(parts: &mut Parts, phase: Phase)
-    requires due { IsDue parts.old.doing phase }
-    requires passing { IsPassing parts.old }
-    requires budget { parts.old.events ≢ parts.old.budget }
-    ensures known { StepsBy (ends_one phase.serial.0) parts.old parts.new }
-    ensures passing { IsPassing parts.new }
-    ensures due { parts.new.doing.due ≡ drop 1 parts.old.doing.due }
-    ensures date { parts.new.doing.under.date ≡ parts.old.doing.under.date }
-    ensures events { parts.new.events ≡ parts.old.events + 1 }
+fn end_phase(fields: &mut Fields, phase: Phase)
+    requires due { IsDue fields.old.doing phase }
+    requires passing { IsPassing fields.old }
+    requires budget { fields.old.events ≢ fields.old.budget }
+    ensures known { StepsBy (ends_one phase.serial.0) fields.old fields.new }
+    ensures passing { IsPassing fields.new }
+    ensures due { fields.new.doing.due ≡ drop 1 fields.old.doing.due }
+    ensures date { fields.new.doing.under.date ≡ fields.old.doing.under.date }
+    ensures events { fields.new.events ≡ fields.old.events + 1 }
 {
     match phase.kind {
-        PhaseKind::Latency => begin_flow(parts, phase),
-        _ => end_activity(parts, phase),
+        PhaseKind::Latency => begin_flow(fields, phase),
+        _ => end_activity(fields, phase),
     }
 }
 
 /// Ends the phases that are due, as far as the budget goes.
-pub(crate) fn end_due(parts: &mut Parts) -> Result<(), Stop>
-    requires passing { IsPassing parts.old }
-    requires some { parts.old.doing.due ≢ [] }
-    requires budget { parts.old.events ≢ parts.old.budget }
-    ensures known { StepsBy (each (ends (setup_in parts.old)) parts.old.doing.due)
-        parts.old parts.new }
+pub(crate) fn end_due(fields: &mut Fields) -> Result<(), Stop>
+    requires passing { IsPassing fields.old }
+    requires some { fields.old.doing.due ≢ [] }
+    requires budget { fields.old.events ≢ fields.old.budget }
+    ensures known { StepsBy (each (ends (setup_in fields.old)) fields.old.doing.due)
+        fields.old fields.new }
     ensures result { result
-        ≡ result_of (each (ends (setup_in parts.old)) parts.old.doing.due
-        (core_of parts.old)).stop }
-    ensures passing { IsPassing parts.new }
-    ensures date { parts.new.doing.under.date ≡ parts.old.doing.under.date }
-    ensures events { parts.old.events < parts.new.events }
+        ≡ result_of (each (ends (setup_in fields.old)) fields.old.doing.due
+        (core_of fields.old)).stop }
+    ensures passing { IsPassing fields.new }
+    ensures date { fields.new.doing.under.date ≡ fields.old.doing.under.date }
+    ensures events { fields.old.events < fields.new.events }
 {
-    while let Some(phase) = parts.doing.due() {
-        if parts.events == parts.budget {
+    while let Some(phase) = fields.doing.due() {
+        if fields.events == fields.budget {
             return Err(Stop::Budget);
         }
-        end_phase(parts, phase);
+        end_phase(fields, phase);
     }
     Ok(())
 }

@@ -5,7 +5,7 @@ ghost use Rattle.sg_kernel.specs.Start.{capacity_of, host_cap, is_replay, link_c
 
 use sg_activity::{HostCap, LinkCap};
 use sg_base::{Memory, PointId};
-use sg_platform::{ActorRow, Function, HostRow, LinkRow, Policy, SemaphoreRow};
+use sg_rows::{ActorRow, Function, HostRow, LinkRow, Policy, SemaphoreRow};
 use std::alloc::Global;
 
 /// The bandwidth of the loopback, in bytes a second.

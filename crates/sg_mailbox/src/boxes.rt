@@ -60,8 +60,10 @@ impl Boxes {
         requires serial { 0 < serial.0 }
         requires above { AreBelow serial (waiting self.old mailbox) }
         ensures meeting { result ≡ meeting (meets true (waiting self.old mailbox)) serial }
-        ensures there { waiting self.new mailbox ≡ arrives true side serial (waiting self.old mailbox) }
-        ensures elsewhere { (other : BoxId) → other ≢ mailbox → waiting self.new other ≡ waiting self.old other }
+        ensures there { waiting self.new mailbox
+            ≡ arrives true side serial (waiting self.old mailbox) }
+        ensures elsewhere { (other : BoxId) → other ≢ mailbox
+            → waiting self.new other ≡ waiting self.old other }
         ensures room { self.new.room ≡ self.old.room - 1 }
     {
         arrive(&mut self.kept, true, mailbox, side, serial)
@@ -73,8 +75,10 @@ impl Boxes {
         requires serial { 0 < serial.0 }
         requires above { AreBelow serial (waiting self.old mailbox) }
         ensures meeting { result ≡ meeting (meets false (waiting self.old mailbox)) serial }
-        ensures there { waiting self.new mailbox ≡ arrives false side serial (waiting self.old mailbox) }
-        ensures elsewhere { (other : BoxId) → other ≢ mailbox → waiting self.new other ≡ waiting self.old other }
+        ensures there { waiting self.new mailbox
+            ≡ arrives false side serial (waiting self.old mailbox) }
+        ensures elsewhere { (other : BoxId) → other ≢ mailbox
+            → waiting self.new other ≡ waiting self.old other }
         ensures room { self.new.room ≡ self.old.room - 1 }
     {
         arrive(&mut self.kept, false, mailbox, side, serial)

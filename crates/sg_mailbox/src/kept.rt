@@ -73,7 +73,8 @@ pub(crate) fn front(kept: &Kept, sends: bool, mailbox: BoxId) -> Option<(Serial,
 fn put(kept: &mut Kept, mailbox: BoxId, at: u64, waiting: Waiting)
     requires { 0 < spare kept.old.waiting }
     ensures is { places kept.new mailbox at ≡ Some waiting }
-    ensures others { (other : BoxId) (i : ℕ) → other ≢ mailbox ⊎ i ≢ at → places kept.new other i ≡ places kept.old other i }
+    ensures others { (other : BoxId) (i : ℕ) → other ≢ mailbox ⊎ i ≢ at
+        → places kept.new other i ≡ places kept.old other i }
     ensures kept { kept.new ≡ record kept.old { waiting = kept.new.waiting } }
     ensures spare { spare kept.old.waiting ≤ spare kept.new.waiting + 1 }
 {
@@ -86,7 +87,8 @@ fn put(kept: &mut Kept, mailbox: BoxId, at: u64, waiting: Waiting)
 // Who waited at this place goes.
 fn take(kept: &mut Kept, mailbox: BoxId, at: u64) -> Option<Waiting>
     ensures was { result ≡ places kept.old mailbox at }
-    ensures others { (other : BoxId) (i : ℕ) → other ≢ mailbox ⊎ i ≢ at → places kept.new other i ≡ places kept.old other i }
+    ensures others { (other : BoxId) (i : ℕ) → other ≢ mailbox ⊎ i ≢ at
+        → places kept.new other i ≡ places kept.old other i }
     ensures kept { kept.new ≡ record kept.old { waiting = kept.new.waiting } }
     ensures spare { spare kept.old.waiting ≤ spare kept.new.waiting }
 {
@@ -97,7 +99,8 @@ fn take(kept: &mut Kept, mailbox: BoxId, at: u64) -> Option<Waiting>
 fn set_queue(kept: &mut Kept, mailbox: BoxId, queue: Queue)
     requires { 0 < spare kept.old.queues }
     ensures is { queue_in kept.new mailbox ≡ Some queue }
-    ensures others { (other : BoxId) → other ≢ mailbox → queue_in kept.new other ≡ queue_in kept.old other }
+    ensures others { (other : BoxId) → other ≢ mailbox
+        → queue_in kept.new other ≡ queue_in kept.old other }
     ensures kept { kept.new ≡ record kept.old { queues = kept.new.queues } }
     ensures spare { spare kept.old.queues ≤ spare kept.new.queues + 1 }
 {
@@ -110,7 +113,8 @@ fn set_queue(kept: &mut Kept, mailbox: BoxId, queue: Queue)
 // A mailbox has no queue.
 fn drop_queue(kept: &mut Kept, mailbox: BoxId)
     ensures is { queue_in kept.new mailbox ≡ None }
-    ensures others { (other : BoxId) → other ≢ mailbox → queue_in kept.new other ≡ queue_in kept.old other }
+    ensures others { (other : BoxId) → other ≢ mailbox
+        → queue_in kept.new other ≡ queue_in kept.old other }
     ensures kept { kept.new ≡ record kept.old { queues = kept.new.queues } }
     ensures spare { spare kept.old.queues ≤ spare kept.new.queues }
 {
@@ -123,9 +127,11 @@ fn place(kept: &mut Kept, mailbox: BoxId, at: u64, waiting: Waiting, queue: Queu
     requires queues_fit { kept.old.room ≤ spare kept.old.queues }
     requires waiting_fit { kept.old.room ≤ spare kept.old.waiting }
     ensures is { places kept.new mailbox at ≡ Some waiting }
-    ensures others { (other : BoxId) (i : ℕ) → other ≢ mailbox ⊎ i ≢ at → places kept.new other i ≡ places kept.old other i }
+    ensures others { (other : BoxId) (i : ℕ) → other ≢ mailbox ⊎ i ≢ at
+        → places kept.new other i ≡ places kept.old other i }
     ensures queue { queue_in kept.new mailbox ≡ Some queue }
-    ensures other_queues { (other : BoxId) → other ≢ mailbox → queue_in kept.new other ≡ queue_in kept.old other }
+    ensures other_queues { (other : BoxId) → other ≢ mailbox
+        → queue_in kept.new other ≡ queue_in kept.old other }
     ensures room { kept.new.room ≡ kept.old.room - 1 }
     ensures queues_fit { kept.new.room ≤ spare kept.new.queues }
     ensures waiting_fit { kept.new.room ≤ spare kept.new.waiting }
@@ -142,7 +148,8 @@ fn open(kept: &mut Kept, mailbox: BoxId, sends: bool, waiting: Waiting)
     requires queue { queue_in kept.old mailbox ≡ None }
     requires serial { 0 < waiting.serial.0 }
     ensures there { waits kept.new mailbox ≡ post_of sends waiting ∷ [] }
-    ensures elsewhere { (other : BoxId) → other ≢ mailbox → waits kept.new other ≡ waits kept.old other }
+    ensures elsewhere { (other : BoxId) → other ≢ mailbox
+        → waits kept.new other ≡ waits kept.old other }
     ensures room { kept.new.room ≡ kept.old.room - 1 }
     ensures kept { IsKept kept.new }
 {
@@ -160,8 +167,10 @@ fn join(kept: &mut Kept, mailbox: BoxId, queue: Queue, waiting: Waiting)
     requires room { 0 < kept.old.room }
     requires queue { queue_in kept.old mailbox ≡ Some queue }
     requires above { AreBelow waiting.serial (waits kept.old mailbox) }
-    ensures there { waits kept.new mailbox ≡ waits kept.old mailbox ++ post_of queue.sends waiting ∷ [] }
-    ensures elsewhere { (other : BoxId) → other ≢ mailbox → waits kept.new other ≡ waits kept.old other }
+    ensures there { waits kept.new mailbox
+        ≡ waits kept.old mailbox ++ post_of queue.sends waiting ∷ [] }
+    ensures elsewhere { (other : BoxId) → other ≢ mailbox
+        → waits kept.new other ≡ waits kept.old other }
     ensures room { kept.new.room ≡ kept.old.room - 1 }
     ensures kept { IsKept kept.new }
 {
@@ -176,8 +185,11 @@ fn join(kept: &mut Kept, mailbox: BoxId, queue: Queue, waiting: Waiting)
 fn shorten(kept: &mut Kept, mailbox: BoxId, queue: Queue)
     requires some { queue.from < queue.to }
     requires room { 0 < spare kept.old.queues }
-    ensures is { queue_in kept.new mailbox ≡ (if queue.from + 1 == queue.to then None else Some (record queue { from = queue.from + 1 })) }
-    ensures others { (other : BoxId) → other ≢ mailbox → queue_in kept.new other ≡ queue_in kept.old other }
+    ensures is { queue_in kept.new mailbox
+        ≡ (if queue.from + 1 == queue.to then None
+        else Some (record queue { from = queue.from + 1 })) }
+    ensures others { (other : BoxId) → other ≢ mailbox
+        → queue_in kept.new other ≡ queue_in kept.old other }
     ensures kept { kept.new ≡ record kept.old { queues = kept.new.queues } }
     ensures spare { spare kept.old.queues ≤ spare kept.new.queues + 1 }
 {
@@ -194,8 +206,10 @@ fn leave(kept: &mut Kept, mailbox: BoxId, queue: Queue) -> Option<Waiting>
     requires kept { IsKept kept.old }
     requires room { 0 < kept.old.room }
     requires queue { queue_in kept.old mailbox ≡ Some queue }
-    ensures first { MatchOption result ⊥ (λ first. waits kept.old mailbox ≡ post_of queue.sends first ∷ waits kept.new mailbox) }
-    ensures elsewhere { (other : BoxId) → other ≢ mailbox → waits kept.new other ≡ waits kept.old other }
+    ensures first { MatchOption result ⊥
+        (λ first. waits kept.old mailbox ≡ post_of queue.sends first ∷ waits kept.new mailbox) }
+    ensures elsewhere { (other : BoxId) → other ≢ mailbox
+        → waits kept.new other ≡ waits kept.old other }
     ensures room { kept.new.room ≡ kept.old.room - 1 }
     ensures kept { IsKept kept.new }
 {
@@ -219,7 +233,8 @@ pub(crate) fn arrive(
     requires above { AreBelow serial (waits kept.old mailbox) }
     ensures meeting { result ≡ meeting (meets sends (waits kept.old mailbox)) serial }
     ensures there { waits kept.new mailbox ≡ arrives sends side serial (waits kept.old mailbox) }
-    ensures elsewhere { (other : BoxId) → other ≢ mailbox → waits kept.new other ≡ waits kept.old other }
+    ensures elsewhere { (other : BoxId) → other ≢ mailbox
+        → waits kept.new other ≡ waits kept.old other }
     ensures room { kept.new.room ≡ kept.old.room - 1 }
     ensures kept { IsKept kept.new }
 {

@@ -1,23 +1,26 @@
 -- The passes over the rows are the steps of filling.
-use Rattle.std.proofs.Common.{◌≡◌, ℕ, zero, suc, ◌+◌, ◌-◌, ◌/◌, ◌<◌, ◌≤◌, ◌⊎◌, inl, inr, true, false, cond, ◌&&◌, is_none, is_some, Option, None, Some, option_map, option_to_list, List, [], ◌∷◌, ◌++◌, map, filter, flat_map, length, get_or, sum_by, count_by, All, refl, sym, ap, ap₂, subst, ◌∙◌, arith}
+use Rattle.std.proofs.Common.{◌≡◌, ℕ, zero, suc, ◌+◌, ◌-◌, ◌*◌, ◌/◌, ◌^◌, min, IsSome, IfSome, ◌<◌, ◌≤◌, ◌⊎◌, inl, inr, true, false, cond, ◌&&◌, is_none, is_some, Option, None, Some, option_map, option_to_list, List, [], ◌∷◌, ◌++◌, map, filter, flat_map, length, get_or, sum_by, count_by, All, refl, sym, ap, ap₂, subst, ◌∙◌, arith}
 use Rattle.std.specs.Option.{unwrap_or}
 use Rattle.std.proofs.lemmas.List.Sums.{sum_by-cons, count_by-le-length}
 use Rattle.sg_maxmin.specs.declared.flow_row.FlowRow.{FlowRow}
-use Rattle.sg_maxmin.specs.declared.uses.Use.{Use}
-use Rattle.sg_maxmin.specs.Fill.{Flow, Fixed, is_on, taken, waiting, level, limits, least, lowest, step, steps_from, unfixed, share_of}
+use Rattle.sg_chains.specs.declared.uses.Use.{Use}
+use Rattle.sg_maxmin.specs.Fill.{Flow, Fixed, is_on, taken, waiting, level, limits, least, lowest, step, steps_from, unfixed, bounded, bound_level, share_at, share_of_fixed, level_of, share_of}
 use Rattle.sg_maxmin.specs.Laws.{HaveLimits}
 use Rattle.sg_maxmin.specs.Sharing.{Sharing, HasLimit, held, flow_at}
-use Rattle.sg_maxmin.specs.kept.Uses.{IsChain, resources, flow_of, flows_of, share_in, AreRows}
-use Rattle.sg_maxmin.proofs.Chains.{length-resources}
+use Rattle.sg_chains.specs.Chain.{IsChain, resources}
+use Rattle.sg_maxmin.specs.kept.Uses.{flow_of, flows_of, share_in, AreRows}
+use Rattle.sg_chains.proofs.ChainLemmas.{length-resources}
 use Rattle.sg_maxmin.proofs.Rows.{flow_at-flows_of}
 use Rattle.std.proofs.Math.ListN.{get_or-map}
-use Rattle.sg_maxmin.specs.kept.Counting.{rows_held, taken_on, waiting_on, AreCounted, row_limits, all_limits, IsLeast, RowSteps, IsStepped, with_share, SameRows, AreFixed, AreRowShares, row_count, count_of}
+use Rattle.sg_maxmin.specs.kept.Counting.{rows_held, row_share, taken_on, waiting_on, AreCounted, row_limits, all_limits, IsLeast, RowSteps, IsStepped, with_level, SameRows, AreFixed, AreRowLevels, row_count, count_of}
 use Rattle.sg_maxmin.proofs.Members.{In, In-map, In-map_back, In-from_contains, contains_from_In, In-filter, In-flat_map}
-use Rattle.sg_maxmin.proofs.Sums.{sum_by_same}
+use Rattle.sg_maxmin.proofs.Sums.{sum_by_same, le-sum_by}
+use Rattle.sg_maxmin.proofs.Rises.{is_on_uses}
+use Rattle.sg_maxmin.proofs.Fairness.{share_le_bound}
 use Rattle.sg_maxmin.proofs.OneStep.{least_le, least_in, lowest_le, step_fixed, step_at, was, gets, waits, step_cases}
 use Rattle.sg_maxmin.proofs.Leveled.{all_fixed}
 use Rattle.sg_maxmin.proofs.Counts.{row_facts}
-use Rattle.sg_maxmin.proofs.Proved.{limited_from, share_fixed}
+use Rattle.sg_maxmin.proofs.Proved.{is_fair_lem, limited_from, level_fixed}
 
 -- ---- the flows of the rows
 pub held_flows : (rows : List (Option FlowRow)) (uses : List (Option Use)) → held (flows_of rows uses) ≡ map (flow_of uses) (rows_held rows)
@@ -34,7 +37,7 @@ same_flows uses (o ∷ old) (n ∷ new) same len =
     ap₂ (λ f fs. f ∷ fs) (sym (through n) ∙ ap (option_map (flow_of uses)) (same 0) ∙ through o)
     (same_flows uses old new (λ key. same (suc key)) (omega (arith, len)))
   where
-    through : (p : Option FlowRow) → option_map (flow_of uses) (option_map (with_share None) p) ≡ option_map (flow_of uses) p
+    through : (p : Option FlowRow) → option_map (flow_of uses) (option_map (with_level None) p) ≡ option_map (flow_of uses) p
     through None = refl
     through (Some row) = refl
 
@@ -59,24 +62,34 @@ sum_by-map : {X Y : Type 0} (h : Y → ℕ) (f : X → Y) (xs : List X) → sum_
 sum_by-map h f [] = refl
 sum_by-map h f (x ∷ xs) = sum_by-cons h (f x) (map f xs) ∙ ap (λ s. h (f x) + s) (sum_by-map h f xs) ∙ sym (sum_by-cons (λ y. h (f y)) x xs)
 
-fixed_in : (rows : List (Option FlowRow)) (uses : List (Option Use)) (fixed : Fixed) → AreFixed uses rows fixed → (row : FlowRow) → In row (rows_held rows) → fixed (flow_of uses row) ≡ row.share
+fixed_in : (rows : List (Option FlowRow)) (uses : List (Option Use)) (fixed : Fixed) → AreFixed uses rows fixed → (row : FlowRow) → In row (rows_held rows) → fixed (flow_of uses row) ≡ row.level
 fixed_in rows uses fixed are row i = let r = In-rows_back rows row i in sym (are r.0 row r.1)
+
+-- the share and the weight of a row are those of its flow
+share_row : (uses : List (Option Use)) (row : FlowRow) (o : Option ℕ) → share_of_fixed (flow_of uses row) o ≡ row_share row o
+unfolding flow_of share_at
+share_row uses row None = refl
+share_row uses row (Some level') = refl
+
+weight_row : (uses : List (Option Use)) (row : FlowRow) → (flow_of uses row).weight ≡ row.weight
+unfolding flow_of
+weight_row uses row = refl
 
 pub taken_is : (rows : List (Option FlowRow)) (uses : List (Option Use)) (fixed : Fixed) (c : ℕ) → AreFixed uses rows fixed → taken (held (flows_of rows uses)) fixed c ≡ taken_on rows uses c
 unfolding taken
 taken_is rows uses fixed c are =
-    ap (λ fs. sum_by (λ flow. cond (is_on c flow) (unwrap_or (fixed flow) 0) 0) fs) (held_flows rows uses)
-    ∙ sum_by-map (λ flow. cond (is_on c flow) (unwrap_or (fixed flow) 0) 0) (flow_of uses) (rows_held rows)
-    ∙ sum_by_same (λ row. cond (is_on c (flow_of uses row)) (unwrap_or (fixed (flow_of uses row)) 0) 0) (λ row. cond (is_on c (flow_of uses row)) (unwrap_or row.share 0) 0) (rows_held rows)
-    (λ row i. ap (λ o. cond (is_on c (flow_of uses row)) (unwrap_or o 0) 0) (fixed_in rows uses fixed are row i))
+    ap (λ fs. sum_by (λ flow. cond (is_on c flow) (share_of_fixed flow (fixed flow)) 0) fs) (held_flows rows uses)
+    ∙ sum_by-map (λ flow. cond (is_on c flow) (share_of_fixed flow (fixed flow)) 0) (flow_of uses) (rows_held rows)
+    ∙ sum_by_same (λ row. cond (is_on c (flow_of uses row)) (share_of_fixed (flow_of uses row) (fixed (flow_of uses row))) 0) (λ row. cond (is_on c (flow_of uses row)) (row_share row row.level) 0) (rows_held rows)
+    (λ row i. ap (λ s. cond (is_on c (flow_of uses row)) s 0) (ap (share_of_fixed (flow_of uses row)) (fixed_in rows uses fixed are row i) ∙ share_row uses row row.level))
 
 pub waiting_is : (rows : List (Option FlowRow)) (uses : List (Option Use)) (fixed : Fixed) (c : ℕ) → AreFixed uses rows fixed → waiting (held (flows_of rows uses)) fixed c ≡ waiting_on rows uses c
 unfolding waiting
 waiting_is rows uses fixed c are =
-    ap (λ fs. count_by (λ flow. is_on c flow && is_none (fixed flow)) fs) (held_flows rows uses)
-    ∙ sum_by-map (λ flow. cond (is_on c flow && is_none (fixed flow)) 1 0) (flow_of uses) (rows_held rows)
-    ∙ sum_by_same (λ row. cond (is_on c (flow_of uses row) && is_none (fixed (flow_of uses row))) 1 0) (λ row. cond (is_on c (flow_of uses row) && is_none row.share) 1 0) (rows_held rows)
-    (λ row i. ap (λ o. cond (is_on c (flow_of uses row) && is_none o) 1 0) (fixed_in rows uses fixed are row i))
+    ap (λ fs. sum_by (λ flow. cond (is_on c flow && is_none (fixed flow)) flow.weight 0) fs) (held_flows rows uses)
+    ∙ sum_by-map (λ flow. cond (is_on c flow && is_none (fixed flow)) flow.weight 0) (flow_of uses) (rows_held rows)
+    ∙ sum_by_same (λ row. cond (is_on c (flow_of uses row) && is_none (fixed (flow_of uses row))) (flow_of uses row).weight 0) (λ row. cond (is_on c (flow_of uses row) && is_none row.level) row.weight 0) (rows_held rows)
+    (λ row i. ap₂ (λ o w. cond (is_on c (flow_of uses row) && is_none o) w 0) (fixed_in rows uses fixed are row i) (weight_row uses row))
 
 pub level_is : (caps : List ℕ) (rows : List (Option FlowRow)) (uses : List (Option Use)) (left waiting' : List ℕ) (fixed : Fixed) (c : ℕ) → AreFixed uses rows fixed → AreCounted caps rows uses left waiting' → c < length caps →
     level caps (held (flows_of rows uses)) fixed c ≡ get_or left c 0 / get_or waiting' c 0
@@ -98,22 +111,22 @@ pub limits_are : (caps : List ℕ) (rows : List (Option FlowRow)) (uses : List (
 unfolding limits flow_of
 limits_are caps rows uses left waiting' fixed sound are counted id row e =
     let exist = (row_facts caps rows uses id row sound e).exist in
-    ap (λ ls. option_to_list row.bound ++ ls)
+    ap (λ ls. option_to_list (option_map (bound_level row.weight) row.bound) ++ ls)
     (map_same (level caps (held (flows_of rows uses)) fixed) (λ c. get_or left c 0 / get_or waiting' c 0) (resources row.count uses row.first)
     (λ c i. level_is caps rows uses left waiting' fixed c are counted (all_in (λ r. r < length caps) (resources row.count uses row.first) exist c i)))
 
 -- ---- the lowest level
 flat_same : (uses : List (Option Use)) (fixed : Fixed) (f : Flow → List ℕ) (g : FlowRow → List ℕ) (rows : List FlowRow) →
-    ((row : FlowRow) → In row rows → (fixed (flow_of uses row) ≡ row.share) × (f (flow_of uses row) ≡ g row)) →
-    flat_map f (filter (λ flow. is_none (fixed flow)) (map (flow_of uses) rows)) ≡ flat_map g (filter (λ row. is_none row.share) rows)
+    ((row : FlowRow) → In row rows → (fixed (flow_of uses row) ≡ row.level) × (f (flow_of uses row) ≡ g row)) →
+    flat_map f (filter (λ flow. is_none (fixed flow)) (map (flow_of uses) rows)) ≡ flat_map g (filter (λ row. is_none row.level) rows)
 flat_same uses fixed f g [] h = refl
 flat_same uses fixed f g (row ∷ rows) h =
     let rest = flat_same uses fixed f g rows (λ r i. h r (inr i)) in
     let here = h row (inl refl) in
     let fs = filter (λ flow. is_none (fixed flow)) (map (flow_of uses) rows) in
-    let rs = filter (λ r. is_none r.share) rows in
-    subst (λ b. flat_map f (cond b (flow_of uses row ∷ fs) fs) ≡ flat_map g (cond (is_none row.share) (row ∷ rs) rs)) (sym (ap is_none here.0))
-    (elim (is_none row.share) as (λ b. flat_map f (cond b (flow_of uses row ∷ fs) fs) ≡ flat_map g (cond b (row ∷ rs) rs)) [
+    let rs = filter (λ r. is_none r.level) rows in
+    subst (λ b. flat_map f (cond b (flow_of uses row ∷ fs) fs) ≡ flat_map g (cond (is_none row.level) (row ∷ rs) rs)) (sym (ap is_none here.0))
+    (elim (is_none row.level) as (λ b. flat_map f (cond b (flow_of uses row ∷ fs) fs) ≡ flat_map g (cond b (row ∷ rs) rs)) [
       | true ↦ ap₂ (λ a b. a ++ b) here.1 rest
       | false ↦ rest
     ])
@@ -158,14 +171,14 @@ some_row a b h = cc h
 
 row_steps : (caps : List ℕ) (old : List (Option FlowRow)) (uses : List (Option Use)) (left waiting' : List ℕ) (fixed : Fixed) (low : ℕ) → AreRows caps old uses → AreFixed uses old fixed → AreCounted caps old uses left waiting' →
     IsLeast (Some low) (all_limits left waiting' uses old) → (key : ℕ) (row before : FlowRow) → get_or old key None ≡ Some before → RowSteps low (row_limits left waiting' uses) (Some before) (Some row) →
-    row.share ≡ step caps (held (flows_of old uses)) fixed (flow_of uses row)
+    row.level ≡ step caps (held (flows_of old uses)) fixed (flow_of uses row)
 unfolding flow_of
 row_steps caps old uses left waiting' fixed low sound are counted least' key row before there h =
-    let same : row ≡ with_share h.0 before = some_row row (with_share h.0 before) h.1 in
+    let same : row ≡ with_level h.0 before = some_row row (with_level h.0 before) h.1 in
     let flows = held (flows_of old uses) in
     let is_flow : flow_of uses row ≡ flow_of uses before = ap (λ w. flow_of uses w) same in
-    ap (λ w. w.share) same
-    ∙ step_case caps flows fixed (flow_of uses before) low (row_limits left waiting' uses before) before.share h.0 (sym (are key before there))
+    ap (λ w. w.level) same
+    ∙ step_case caps flows fixed (flow_of uses before) low (row_limits left waiting' uses before) before.level h.0 (sym (are key before there))
     (limits_are caps old uses left waiting' fixed sound are counted key before there) (In-flows old uses key before there) (lowest_is caps old uses left waiting' fixed low sound are counted least') h.2
     ∙ ap (λ w. step caps flows fixed w) (sym is_flow)
 
@@ -174,7 +187,7 @@ pub step_is : (caps : List ℕ) (old new : List (Option FlowRow)) (uses : List (
     AreFixed uses new (step caps (held (flows_of old uses)) fixed)
 step_is caps old new uses left waiting' fixed low sound are counted least' steps = λ key row e. one key row e (get_or old key None) refl (subst (λ o. RowSteps low (row_limits left waiting' uses) (get_or old key None) o) e (steps key))
   where
-    one : (key : ℕ) (row : FlowRow) → get_or new key None ≡ Some row → (o : Option FlowRow) → get_or old key None ≡ o → RowSteps low (row_limits left waiting' uses) (get_or old key None) (Some row) → row.share ≡ step caps (held (flows_of old uses)) fixed (flow_of uses row)
+    one : (key : ℕ) (row : FlowRow) → get_or new key None ≡ Some row → (o : Option FlowRow) → get_or old key None ≡ o → RowSteps low (row_limits left waiting' uses) (get_or old key None) (Some row) → row.level ≡ step caps (held (flows_of old uses)) fixed (flow_of uses row)
     one key row e None there h = cc (subst (λ o. RowSteps low (row_limits left waiting' uses) o (Some row)) there h)
     one key row e (Some before) there h = row_steps caps old uses left waiting' fixed low sound are counted least' key row before there (subst (λ o. RowSteps low (row_limits left waiting' uses) o (Some row)) there h)
 
@@ -184,48 +197,48 @@ fixed_cases None = inl refl
 fixed_cases (Some x) = inr (x, refl)
 
 -- once no row is unfixed, or after as many steps as there are flows, the shares are there
-pub shares_at : (n : ℕ) (caps : List ℕ) (rows : List (Option FlowRow)) (uses : List (Option Use)) → n ≤ length (held (flows_of rows uses)) → AreFixed uses rows (steps_from n caps (held (flows_of rows uses)) unfixed) →
-    ((key : ℕ) (row : FlowRow) → get_or rows key None ≡ Some row → row.share ≡ None → ⊥) → AreRowShares caps uses rows
-shares_at n caps rows uses few are none = λ key row e.
-    elim (fixed_cases row.share) [
+pub levels_at : (n : ℕ) (caps : List ℕ) (rows : List (Option FlowRow)) (uses : List (Option Use)) → n ≤ length (held (flows_of rows uses)) → AreFixed uses rows (steps_from n caps (held (flows_of rows uses)) unfixed) →
+    ((key : ℕ) (row : FlowRow) → get_or rows key None ≡ Some row → row.level ≡ None → ⊥) → AreRowLevels caps uses rows
+levels_at n caps rows uses few are none = λ key row e.
+    elim (fixed_cases row.level) [
       | inl z ↦ absurd (none key row e z)
-      | inr s ↦ s.1 ∙ ap (λ w. Some w) (sym (share_fixed n caps (held (flows_of rows uses)) (flow_of uses row) s.0 few (sym (are key row e) ∙ s.1)))
+      | inr s ↦ s.1 ∙ ap (λ w. Some w) (sym (level_fixed n caps (held (flows_of rows uses)) (flow_of uses row) s.0 few (sym (are key row e) ∙ s.1)))
     ]
 
-pub shares_end : (caps : List ℕ) (rows : List (Option FlowRow)) (uses : List (Option Use)) → HaveLimits (held (flows_of rows uses)) → AreFixed uses rows (steps_from (length (held (flows_of rows uses))) caps (held (flows_of rows uses)) unfixed) → AreRowShares caps uses rows
-shares_end caps rows uses h are =
+pub levels_end : (caps : List ℕ) (rows : List (Option FlowRow)) (uses : List (Option Use)) → HaveLimits (held (flows_of rows uses)) → AreFixed uses rows (steps_from (length (held (flows_of rows uses))) caps (held (flows_of rows uses)) unfixed) → AreRowLevels caps uses rows
+levels_end caps rows uses h are =
     let flows = held (flows_of rows uses) in
-    shares_at (length flows) caps rows uses (omega arith) are
+    levels_at (length flows) caps rows uses (omega arith) are
     (λ key row e none. all_fixed (length flows) caps flows unfixed (limited_from caps flows h) (count_by-le-length (λ f. true) flows) (flow_of uses row) (In-flows rows uses key row e) (sym (are key row e) ∙ none))
 
-pub shares_early : (n : ℕ) (caps : List ℕ) (rows : List (Option FlowRow)) (uses : List (Option Use)) (left waiting' : List ℕ) → AreRows caps rows uses → HaveLimits (held (flows_of rows uses)) → n ≤ length (held (flows_of rows uses)) →
-    AreFixed uses rows (steps_from n caps (held (flows_of rows uses)) unfixed) → AreCounted caps rows uses left waiting' → IsLeast None (all_limits left waiting' uses rows) → AreRowShares caps uses rows
-shares_early n caps rows uses left waiting' sound h few are counted none =
+pub levels_early : (n : ℕ) (caps : List ℕ) (rows : List (Option FlowRow)) (uses : List (Option Use)) (left waiting' : List ℕ) → AreRows caps rows uses → HaveLimits (held (flows_of rows uses)) → n ≤ length (held (flows_of rows uses)) →
+    AreFixed uses rows (steps_from n caps (held (flows_of rows uses)) unfixed) → AreCounted caps rows uses left waiting' → IsLeast None (all_limits left waiting' uses rows) → AreRowLevels caps uses rows
+levels_early n caps rows uses left waiting' sound h few are counted none =
     let flows = held (flows_of rows uses) in
     let fixed = steps_from n caps flows unfixed in
-    shares_at n caps rows uses few are
+    levels_at n caps rows uses few are
     (λ key row e z.
     let f = flow_of uses row in
     let i = In-flows rows uses key row e in
-    let limit = limited_from caps flows h f i fixed in
+    let limit = (limited_from caps flows h f i).1 fixed in
     let in' = In-flat_map (limits caps flows fixed) (filter (λ flow. is_none (fixed flow)) flows) f limit.0 (In-filter (λ flow. is_none (fixed flow)) flows f i (ap is_none (sym (are key row e) ∙ z))) limit.1 in
     subst (λ ys. In limit.0 ys) (all_limits_are caps rows uses left waiting' fixed sound are counted ∙ none) in')
 
 -- ---- the beginning, and the number of flows
-pub unfix_same : (old new : List (Option FlowRow)) → ((key : ℕ) → get_or new key None ≡ option_map (with_share None) (get_or old key None)) → SameRows old new
-unfix_same old new h = λ key. ap (option_map (with_share None)) (h key) ∙ twice (get_or old key None)
+pub unfix_same : (old new : List (Option FlowRow)) → ((key : ℕ) → get_or new key None ≡ option_map (with_level None) (get_or old key None)) → SameRows old new
+unfix_same old new h = λ key. ap (option_map (with_level None)) (h key) ∙ twice (get_or old key None)
   where
-    twice : (o : Option FlowRow) → option_map (with_share None) (option_map (with_share None) o) ≡ option_map (with_share None) o
+    twice : (o : Option FlowRow) → option_map (with_level None) (option_map (with_level None) o) ≡ option_map (with_level None) o
     twice None = refl
     twice (Some row) = refl
 
-pub unfix_fixed : (caps : List ℕ) (flows : List Flow) (uses : List (Option Use)) (old new : List (Option FlowRow)) → ((key : ℕ) → get_or new key None ≡ option_map (with_share None) (get_or old key None)) → AreFixed uses new (steps_from 0 caps flows unfixed)
+pub unfix_fixed : (caps : List ℕ) (flows : List Flow) (uses : List (Option Use)) (old new : List (Option FlowRow)) → ((key : ℕ) → get_or new key None ≡ option_map (with_level None) (get_or old key None)) → AreFixed uses new (steps_from 0 caps flows unfixed)
 unfolding steps_from
 unfix_fixed caps flows uses old new h = λ key row e. none (get_or old key None) row (sym (h key) ∙ e)
   where
-    none : (o : Option FlowRow) (row : FlowRow) → option_map (with_share None) o ≡ Some row → row.share ≡ None
+    none : (o : Option FlowRow) (row : FlowRow) → option_map (with_level None) o ≡ Some row → row.level ≡ None
     none None row e = cc e
-    none (Some r) row e = ap (λ w. w.share) (sym (some_row (with_share None r) row e))
+    none (Some r) row e = ap (λ w. w.level) (sym (some_row (with_level None r) row e))
 
 pub length-held : (rows : List (Option FlowRow)) (uses : List (Option Use)) → length (held (flows_of rows uses)) ≡ count_by is_some rows
 length-held [] uses = refl
@@ -248,7 +261,7 @@ count_same [] (n ∷ new) same len = absurd (omega (arith, len))
 count_same (o ∷ old) [] same len = absurd (omega (arith, len))
 count_same (o ∷ old) (n ∷ new) same len = count-cons n new ∙ ap₂ (λ a b. a + b) (sym (through n) ∙ ap row_count (same 0) ∙ through o) (count_same old new (λ key. same (suc key)) (omega (arith, len))) ∙ sym (count-cons o old)
   where
-    through : (p : Option FlowRow) → row_count (option_map (with_share None) p) ≡ row_count p
+    through : (p : Option FlowRow) → row_count (option_map (with_level None) p) ≡ row_count p
     through None = refl
     through (Some row) = refl
 
@@ -269,17 +282,44 @@ have_limits caps rows uses are = λ flow among.
     let b = In-rows_back rows r.0 r.1 in
     subst (λ f. HasLimit f) r.2 (are.flows b.0 r.0 b.1).limit
 
-pub shares_shown : (caps : List ℕ) (rows : List (Option FlowRow)) (uses : List (Option Use)) → AreRowShares caps uses rows → (id : ℕ) (flow : Flow) → flow_at (flows_of rows uses) id ≡ Some flow → get_or (map share_in rows) id 0 ≡ share_of caps (held (flows_of rows uses)) flow
-shares_shown caps rows uses are id flow e =
+-- a share fits 64 bits
+share_fits : (caps : List ℕ) (flows : List Flow) → HaveLimits flows → ((c : ℕ) → get_or caps c 0 < 2 ^ 64) → (f : Flow) → In f flows → IfSome f.bound (λ b. b < 2 ^ 64) → share_of caps flows f < 2 ^ 64
+share_fits caps flows limits' fit f i bound = by_uses f.uses refl
+  where
+    of_bound : (o : Option ℕ) → f.bound ≡ o → IsSome o → IfSome o (λ b. b < 2 ^ 64) → share_of caps flows f < 2 ^ 64
+    of_bound None e some h = absurd (cc some)
+    of_bound (Some b) e some h = omega (arith, h, share_le_bound f (level_of caps flows f) b e)
+
+    by_uses : (us : List ℕ) → f.uses ≡ us → share_of caps flows f < 2 ^ 64
+    by_uses [] e = of_bound f.bound refl ((limits' f (contains_from_In flows f i)).bounds e) bound
+    by_uses (c ∷ us) e =
+        let on : is_on c f ≡ true = is_on_uses c f (subst (λ w. In c w) (sym e) (inl refl)) in
+        let part : Flow → ℕ = λ g. cond (is_on c g) (share_of caps flows g) 0 in
+        let here : part f ≡ share_of caps flows f = ap (λ b. cond b (share_of caps flows f) 0) on in
+        omega (arith, fit c, (is_fair_lem caps flows limits').within c, le-sum_by part flows f i, here)
+
+pub shares_shown : (caps : List ℕ) (rows : List (Option FlowRow)) (uses : List (Option Use)) → AreRows caps rows uses → ((c : ℕ) → get_or caps c 0 < 2 ^ 64) → AreRowLevels caps uses rows →
+    (id : ℕ) (flow : Flow) → flow_at (flows_of rows uses) id ≡ Some flow → get_or (map share_in rows) id 0 ≡ share_of caps (held (flows_of rows uses)) flow
+unfolding share_at flow_of
+shares_shown caps rows uses sound fit are id flow e =
     let shown = sym (flow_at-flows_of rows uses id) ∙ e in
     get_or-map share_in rows id None ∙ at (get_or rows id None) refl shown
   where
     some_flow : {a b : Flow} → Some a ≡ Some b → a ≡ b
     some_flow h = cc
 
+    whole : (a : ℕ) → a < 2 ^ 64 → min (2 ^ 64 - 1) a ≡ a
+    whole a h = omega arith
+
     at : (o : Option FlowRow) → get_or rows id None ≡ o → option_map (flow_of uses) (get_or rows id None) ≡ Some flow → share_in o ≡ share_of caps (held (flows_of rows uses)) flow
     at None there h = cc (sym (ap (option_map (flow_of uses)) there) ∙ h)
-    at (Some row) there h = ap (λ o. unwrap_or o 0) (are id row there) ∙ ap (λ f. share_of caps (held (flows_of rows uses)) f) (some_flow (sym (ap (option_map (flow_of uses)) there) ∙ h))
+    at (Some row) there h =
+        let flows = held (flows_of rows uses) in
+        let f = flow_of uses row in
+        let l = level_of caps flows f in
+        ap (λ o. min (2 ^ 64 - 1) (bounded row.bound (row.weight * unwrap_or o 0))) (are id row there)
+        ∙ whole (share_of caps flows f) (share_fits caps flows (have_limits caps rows uses sound) fit f (In-flows rows uses id row there) (sound.bounds_fit id row there))
+        ∙ ap (λ g. share_of caps flows g) (some_flow (sym (ap (option_map (flow_of uses)) there) ∙ h))
 
 length_flow : (uses : List (Option Use)) (row : FlowRow) (id : ℕ) → IsChain id row.count uses row.first → length (flow_of uses row).uses ≡ row.count
 unfolding flow_of
@@ -294,6 +334,6 @@ count_is caps rows uses are =
 pub len_same : (old new : List (Option FlowRow)) → SameRows old new → length new ≡ length old → count_by is_some new ≡ count_by is_some old
 len_same old new same len = sym (length-held new []) ∙ ap (λ fs. length (held fs)) (same_flows [] old new same len) ∙ length-held old []
 
-pub sharing_same : (a b : List ℕ) (s t : List (Option Flow)) (xs : List ℕ) (m n p q : ℕ) → a ≡ b → s ≡ t → m ≡ n → p ≡ q →
-    ◌≡◌ {A = Sharing} (record { capacities = a; slots = s; shares = xs; flow_room = m; use_room = p }) (record { capacities = b; slots = t; shares = xs; flow_room = n; use_room = q })
-sharing_same a b s t xs m n p q e f g h = rw (e, f, g, h) refl
+pub sharing_same : (a b : List ℕ) (s t : List (Option Flow)) (xs : List ℕ) (us vs : List (Option Use)) (js ks : List (List ℕ)) (m n p q : ℕ) → a ≡ b → s ≡ t → us ≡ vs → js ≡ ks → m ≡ n → p ≡ q →
+    ◌≡◌ {A = Sharing} (record { capacities = a; slots = s; shares = xs; uses = us; users = js; flow_room = m; use_room = p }) (record { capacities = b; slots = t; shares = xs; uses = vs; users = ks; flow_room = n; use_room = q })
+sharing_same a b s t xs us vs js ks m n p q e f u w g h = rw (e, f, u, w, g, h) refl

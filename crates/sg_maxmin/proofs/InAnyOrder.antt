@@ -1,11 +1,11 @@
 -- Filling doesn't depend on the order in which the resources are listed: step by step, what is fixed is the same.
-use Rattle.std.proofs.Common.{◌≡◌, ℕ, zero, suc, ◌+◌, ◌-◌, ◌/◌, inl, inr, Bool, true, false, cond, ◌&&◌, Option, Some, is_none, true≢false, List, [], ◌∷◌, ◌++◌, map, filter, flat_map, length, sum_by, refl, sym, ap, ap₂, subst, ◌∙◌, arith}
+use Rattle.std.proofs.Common.{◌≡◌, ℕ, zero, suc, ◌+◌, ◌-◌, ◌*◌, ◌/◌, inl, inr, Bool, true, false, cond, ◌&&◌, Option, None, Some, is_none, true≢false, List, [], ◌∷◌, ◌++◌, map, filter, flat_map, length, sum_by, refl, sym, ap, ap₂, subst, ◌∙◌, arith}
 use Rattle.std.specs.Option.{unwrap_or}
 use Rattle.std.specs.List.{AllZip}
 use Rattle.std.proofs.lemmas.List.Sums.{sum_by-cons}
 use Rattle.std.proofs.lemmas.List.Sorted.{Contains-permutation, IsPermutation-sym}
 use Rattle.std.proofs.lemmas.Slice.Zip.{AllZip-long}
-use Rattle.sg_maxmin.specs.Fill.{Flow, Fixed, is_on, taken, waiting, level, limits, least, lowest, is_at, step, steps_from, unfixed, level_of}
+use Rattle.sg_maxmin.specs.Fill.{Flow, Fixed, is_on, taken, waiting, level, limits, least, lowest, is_at, step, steps_from, unfixed, level_of, share_of, share_at, share_of_fixed, bounded, bound_level}
 use Rattle.sg_maxmin.specs.Relisted.{IsUsed, IsMoved, AreRelisted, FillsInAnyOrder}
 use Rattle.sg_maxmin.proofs.Members.{In, In-from_contains, contains_from_In, In-append_left, In-append_right, In-append_cases, In-map, In-map_back, list_any_in}
 use Rattle.sg_maxmin.proofs.OneStep.{limit_bound, limit_level, limit_cases, least_le, least_in, is_at_in, is_at_back}
@@ -97,28 +97,35 @@ module _ (place : ℕ → ℕ) (caps relisted : List ℕ) (flows moved : List Fl
       let r = use_moved place f g is (place c) (uses_is_on (place c) g on) in
       is_on_uses c f (subst (λ d. In d f.uses) (are.own r.0 c (used flows f r.0 i r.1) u r.2) r.1))
 
-  sum_same : (x : Bool → Option ℕ → ℕ) (a b : Fixed) (c : ℕ) → AreFixedAlike flows moved a b → IsUsed flows c → sum_by (λ f. x (is_on c f) (a f)) flows ≡ sum_by (λ g. x (is_on (place c) g) (b g)) moved
-  sum_same x a b c alike u =
-      sums_zip (λ f. x (is_on c f) (a f)) (λ g. x (is_on (place c) g) (b g)) flows moved
-      (both (IsMoved place) (λ f g. a f ≡ b g) (λ f g. x (is_on c f) (a f) ≡ x (is_on (place c) g) (b g)) flows moved (λ f g i is e. ap₂ x (on_same f g c i is u) e) are.each alike)
+  share_moved : (f g : Flow) → IsMoved place f g → (o : Option ℕ) → share_of_fixed f o ≡ share_of_fixed g o
+  unfolding share_at
+  share_moved f g is None = refl
+  share_moved f g is (Some l) = ap₂ (λ bound weight. bounded bound (weight * l)) (sym is.bound) (sym is.weight)
+
+  sum_same : (x : Flow → Bool → Option ℕ → ℕ) → ((f g : Flow) → IsMoved place f g → (on : Bool) (o : Option ℕ) → x f on o ≡ x g on o) →
+      (a b : Fixed) (c : ℕ) → AreFixedAlike flows moved a b → IsUsed flows c → sum_by (λ f. x f (is_on c f) (a f)) flows ≡ sum_by (λ g. x g (is_on (place c) g) (b g)) moved
+  sum_same x same a b c alike u =
+      sums_zip (λ f. x f (is_on c f) (a f)) (λ g. x g (is_on (place c) g) (b g)) flows moved
+      (both (IsMoved place) (λ f g. a f ≡ b g) (λ f g. x f (is_on c f) (a f) ≡ x g (is_on (place c) g) (b g)) flows moved
+      (λ f g i is e. ap₂ (x f) (on_same f g c i is u) e ∙ same f g is (is_on (place c) g) (b g)) are.each alike)
 
   level_same : (a b : Fixed) (c : ℕ) → AreFixedAlike flows moved a b → IsUsed flows c → level caps flows a c ≡ level relisted moved b (place c)
   unfolding level taken waiting
   level_same a b c alike u =
       ap₂ (λ n d. n / d)
-      (ap₂ (λ n d. n - d) (sym (are.capacity c u)) (sum_same (λ on o. cond on (unwrap_or o 0) 0) a b c alike u))
-      (sum_same (λ on o. cond (on && is_none o) 1 0) a b c alike u)
+      (ap₂ (λ n d. n - d) (sym (are.capacity c u)) (sum_same (λ f on o. cond on (share_of_fixed f o) 0) (λ f g is on o. ap (λ s. cond on s 0) (share_moved f g is o)) a b c alike u))
+      (sum_same (λ f on o. cond (on && is_none o) f.weight 0) (λ f g is on o. ap (λ w. cond (on && is_none o) w 0) (sym is.weight)) a b c alike u)
 
   limits_same : (a b : Fixed) (f g : Flow) → AreFixedAlike flows moved a b → In f flows → IsMoved place f g → HaveSame (limits caps flows a f) (limits relisted moved b g)
   limits_same a b f g alike i is l = (
     λ m. elim (limit_cases caps flows a f l m) [
-      | inl e ↦ limit_bound relisted moved b g l (is.bound ∙ e)
+      | inl e ↦ subst (λ n. In n (limits relisted moved b g)) (ap (λ w. bound_level w e.0) is.weight ∙ e.2) (limit_bound relisted moved b g e.0 (is.bound ∙ e.1))
       | inr r ↦
           subst (λ n. In n (limits relisted moved b g)) (sym (level_same a b r.0 alike (used flows f r.0 i r.1)) ∙ r.2)
           (limit_level relisted moved b g (place r.0) (moved_use place f g is r.0 r.1))
     ],
     λ m. elim (limit_cases relisted moved b g l m) [
-      | inl e ↦ limit_bound caps flows a f l (sym is.bound ∙ e)
+      | inl e ↦ subst (λ n. In n (limits caps flows a f)) (ap (λ w. bound_level w e.0) (sym is.weight) ∙ e.2) (limit_bound caps flows a f e.0 (sym is.bound ∙ e.1))
       | inr r ↦
           let u = use_moved place f g is r.0 r.1 in
           subst (λ n. In n (limits caps flows a f)) (level_same a b u.0 alike (used flows f u.0 i u.1) ∙ ap (level relisted moved b) u.2 ∙ r.2)
@@ -166,5 +173,10 @@ module _ (place : ℕ → ℕ) (caps relisted : List ℕ) (flows moved : List Fl
       (λ f g. unwrap_or (steps_from (length flows) caps flows unfixed f) 0 ≡ unwrap_or (steps_from (length moved) relisted moved unfixed g) 0) flows moved
       (λ f g i is e. ap (λ o. unwrap_or o 0) e ∙ ap (λ n. unwrap_or (steps_from n relisted moved unfixed g) 0) (sym long)) are.each (steps_same (length flows) unfixed unfixed start)
 
+  shares_same : AllZip (λ f g. share_of caps flows f ≡ share_of relisted moved g) flows moved
+  shares_same =
+      both (IsMoved place) (λ f g. level_of caps flows f ≡ level_of relisted moved g) (λ f g. share_of caps flows f ≡ share_of relisted moved g) flows moved
+      (λ f g i is e. ap (share_at f) e ∙ share_moved f g is (Some (level_of relisted moved g))) are.each levels_same
+
 pub fills_in_any_order_lem : FillsInAnyOrder
-fills_in_any_order_lem place caps relisted flows moved are = sym (maps_zip (level_of caps flows) (level_of relisted moved) flows moved (levels_same place caps relisted flows moved are))
+fills_in_any_order_lem place caps relisted flows moved are = sym (maps_zip (share_of caps flows) (share_of relisted moved) flows moved (shares_same place caps relisted flows moved are))

@@ -2,7 +2,7 @@
 use Rattle.std.proofs.Common.{◌≡◌, ℕ, zero, suc, ◌+◌, ◌<◌, ◌≤◌, ◌⊎◌, inl, inr, Bool, true, false, cond, ltb, lt-ltb, le-ltb, true≢false, Option, None, Some, is_none, List, [], ◌∷◌, length, count_by, refl, sym, ap, subst, ◌∙◌, arith, if◌then◌else◌}
 use Rattle.std.specs.Option.{unwrap_or}
 use Rattle.std.proofs.lemmas.List.Sums.{sum_by-cons, count_by-le-length}
-use Rattle.sg_maxmin.specs.Fill.{Flow, Fixed, limits, lowest, step, steps_from, unfixed, share_of, level_of}
+use Rattle.sg_maxmin.specs.Fill.{Flow, Fixed, limits, lowest, step, steps_from, unfixed, level_of}
 use Rattle.sg_maxmin.proofs.Members.{In}
 use Rattle.sg_maxmin.proofs.Sums.{sum_by_le, sum_by_lt, le-sum_by}
 use Rattle.sg_maxmin.proofs.OneStep.{limits_same, lowest_le, lowest_in, Stepped, was, gets, waits, step_cases, step_fixed, step_at}
@@ -28,7 +28,7 @@ below_no t share f h = rw (le-ltb (share f) t h) refl
 
 -- each flow has something that holds it back
 abbrev pub Limited : List ℕ → List Flow → Type 0
-Limited caps flows = (f : Flow) → In f flows → (a : Fixed) → (l : ℕ) × In l (limits caps flows a f)
+Limited caps flows = (f : Flow) → In f flows → (0 < f.weight) × ((a : Fixed) → (l : ℕ) × In l (limits caps flows a f))
 
 -- ---- all are fixed in the end
 abbrev pub left : List Flow → Fixed → ℕ
@@ -64,7 +64,7 @@ left_falls : (caps : List ℕ) (flows : List Flow) (a : Fixed) → Limited caps 
 left_falls caps flows a limited pos =
     let some = count_some (λ f. is_none (a f)) flows pos in
     let none = none_from_test (a some.0) some.2 in
-    let limit = limited some.0 some.1 a in
+    let limit = (limited some.0 some.1).1 a in
     let r = lowest_in caps flows a some.0 limit.0 some.1 none limit.1 in
     sum_by_lt (λ f. cond (is_none (step caps flows a f)) 1 0) (λ f. cond (is_none (a f)) 1 0) flows r.0 r.1 (rw (step_at caps flows a r.0 r.2 r.3, r.2) (omega arith))
     (λ f i. test_le (lowest caps flows a) (a f) (step caps flows a f) (In (lowest caps flows a) (limits caps flows a f)) (step_cases caps flows a f))
@@ -114,7 +114,7 @@ held_from (suc n) caps flows a low small high all limited f i e =
     let b = step caps flows a in
     let lowest' = lowest caps flows a in
     let share = result_of n caps flows b in
-    let limit = limited f i a in
+    let limit = (limited f i).1 a in
     let first = lowest_in caps flows a f limit.0 i e limit.1 in
     let low_le : low ≤ lowest' = high first.0 first.1 first.2 lowest' first.3 in
     let small' = λ (g : Flow) (j : In g flows) (x : ℕ) (k : b g ≡ Some x).
@@ -125,7 +125,7 @@ held_from (suc n) caps flows a low small high all limited f i e =
       | waits p q away ↦ cc (sym k ∙ q)
     ] in goal in
     let high' = λ (g : Flow) (j : In g flows) (k : b g ≡ None) (l : ℕ) (m : In l (limits caps flows b g)).
-    let goal : lowest' + 1 ≤ l = omega (arith, limits_rise caps flows a g l j k m) in goal in
+    let goal : lowest' + 1 ≤ l = omega (arith, limits_rise caps flows a g l j (limited g j).0 k m) in goal in
     let later = λ (g : Flow) (j : In g flows) (k : b g ≡ None). held_from n caps flows b (lowest' + 1) small' high' all limited g j k in
     let same = λ (t : ℕ) (at_least : low ≤ t) (at_most : t ≤ lowest') (g : Flow) (j : In g flows).
     let goal : below t share g ≡ a g =
@@ -171,13 +171,13 @@ held_from (suc n) caps flows a low small high all limited f i e =
           }
     ]
 
-pub share_of_held : (caps : List ℕ) (flows : List Flow) → Limited caps flows → (f : Flow) → In f flows → IsHeld caps flows (share_of caps flows) 0 f
+pub share_of_held : (caps : List ℕ) (flows : List Flow) → Limited caps flows → (f : Flow) → In f flows → IsHeld caps flows (level_of caps flows) 0 f
 unfolding level_of
 share_of_held caps flows limited f i =
     held_from (length flows) caps flows unfixed 0 (λ g j x e. cc e) (λ g j e l m. omega arith)
     (all_fixed (length flows) caps flows unfixed limited (count_by-le-length (λ g. true) flows)) limited f i refl
 
-pub share_of_leveled : (caps : List ℕ) (flows : List Flow) → Limited caps flows → IsLeveled caps flows (share_of caps flows)
+pub share_of_leveled : (caps : List ℕ) (flows : List Flow) → Limited caps flows → IsLeveled caps flows (level_of caps flows)
 share_of_leveled caps flows limited = record {
   met = λ f i. (share_of_held caps flows limited f i).met;
   above = λ f i t under l m. (share_of_held caps flows limited f i).above t (omega arith) under l m;

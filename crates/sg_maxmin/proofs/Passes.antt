@@ -1,12 +1,11 @@
 -- A pass over the rows, one more at a time.
-use Rattle.std.proofs.Common.{◌≡◌, ℕ, zero, suc, ◌+◌, ◌-◌, ◌≤◌, true, false, cond, ◌&&◌, is_none, Option, None, Some, option_to_list, List, [], ◌∷◌, ◌++◌, filter, flat_map, length, get_or, take, sum_by, add-one, append-nil, append_assoc, refl, sym, ap, ◌∙◌, arith}
-use Rattle.std.specs.Option.{unwrap_or}
+use Rattle.std.proofs.Common.{◌≡◌, ℕ, zero, suc, ◌+◌, ◌-◌, ◌^◌, ◌<◌, true, false, cond, ◌&&◌, is_none, Option, None, Some, option_to_list, List, [], ◌∷◌, ◌++◌, filter, flat_map, length, get_or, take, sum_by, add-one, append-nil, append_assoc, refl, sym, ap, ◌∙◌, arith}
 use Rattle.std.proofs.lemmas.List.Sums.{sum_by-cons, sum_by-append}
 use Rattle.sg_maxmin.specs.declared.flow_row.FlowRow.{FlowRow}
-use Rattle.sg_maxmin.specs.declared.uses.Use.{Use}
+use Rattle.sg_chains.specs.declared.uses.Use.{Use}
 use Rattle.sg_maxmin.specs.Fill.{is_on}
 use Rattle.sg_maxmin.specs.kept.Uses.{flow_of}
-use Rattle.sg_maxmin.specs.kept.Counting.{rows_held, taken_on, waiting_on, row_taken, row_waiting, row_count, count_of, unfixed_limits, all_limits, row_limits, AreCounted}
+use Rattle.sg_maxmin.specs.kept.Counting.{rows_held, row_share, taken_on, waiting_on, row_taken, row_waiting, row_count, count_of, unfixed_limits, all_limits, row_limits, AreCounted}
 
 pub held_suc : (rows : List (Option FlowRow)) (k : ℕ) → rows_held (take (suc k) rows) ≡ rows_held (take k rows) ++ option_to_list (get_or rows k None)
 held_suc [] zero = refl
@@ -31,32 +30,32 @@ sum_more h part rows k none some = ap (λ xs. sum_by h xs) (held_more rows k) �
     each (Some row) = omega (arith, sum_one h (rows_held (take k rows)) row, some row)
 
 pub taken_more : (rows : List (Option FlowRow)) (uses : List (Option Use)) (c k : ℕ) → taken_on (take (k + 1) rows) uses c ≡ taken_on (take k rows) uses c + row_taken uses (get_or rows k None) c
-taken_more rows uses c k = sum_more (λ row. cond (is_on c (flow_of uses row)) (unwrap_or row.share 0) 0) (λ o. row_taken uses o c) rows k refl (λ row. refl)
+taken_more rows uses c k = sum_more (λ row. cond (is_on c (flow_of uses row)) (row_share row row.level) 0) (λ o. row_taken uses o c) rows k refl (λ row. refl)
 
 pub waiting_more : (rows : List (Option FlowRow)) (uses : List (Option Use)) (c k : ℕ) → waiting_on (take (k + 1) rows) uses c ≡ waiting_on (take k rows) uses c + row_waiting uses (get_or rows k None) c
-waiting_more rows uses c k = sum_more (λ row. cond (is_on c (flow_of uses row) && is_none row.share) 1 0) (λ o. row_waiting uses o c) rows k refl (λ row. refl)
+waiting_more rows uses c k = sum_more (λ row. cond (is_on c (flow_of uses row) && is_none row.level) row.weight 0) (λ o. row_waiting uses o c) rows k refl (λ row. refl)
 
 pub count_more : (rows : List (Option FlowRow)) (k : ℕ) → count_of (take (k + 1) rows) ≡ count_of (take k rows) + row_count (get_or rows k None)
 count_more rows k = sum_more (λ row. row.count) row_count rows k refl (λ row. refl)
 
 flat_unfixed : (limits : FlowRow → List ℕ) (xs : List FlowRow) (o : Option FlowRow) →
-    flat_map limits (filter (λ row. is_none row.share) (xs ++ option_to_list o)) ≡ flat_map limits (filter (λ row. is_none row.share) xs) ++ unfixed_limits limits o
+    flat_map limits (filter (λ row. is_none row.level) (xs ++ option_to_list o)) ≡ flat_map limits (filter (λ row. is_none row.level) xs) ++ unfixed_limits limits o
 flat_unfixed limits [] None = refl
-flat_unfixed limits [] (Some row) = elim (is_none row.share) as (λ b. flat_map limits (cond b (row ∷ []) []) ≡ cond b (limits row) []) [ true ↦ append-nil (limits row) | false ↦ refl ]
+flat_unfixed limits [] (Some row) = elim (is_none row.level) as (λ b. flat_map limits (cond b (row ∷ []) []) ≡ cond b (limits row) []) [ true ↦ append-nil (limits row) | false ↦ refl ]
 flat_unfixed limits (x ∷ xs) o =
-    elim (is_none x.share) as (λ b. flat_map limits (cond b (x ∷ filter (λ row. is_none row.share) (xs ++ option_to_list o)) (filter (λ row. is_none row.share) (xs ++ option_to_list o))) ≡ flat_map limits (cond b (x ∷ filter (λ row. is_none row.share) xs) (filter (λ row. is_none row.share) xs)) ++ unfixed_limits limits o) [
-      | true ↦ ap (λ ys. limits x ++ ys) (flat_unfixed limits xs o) ∙ sym (append_assoc (limits x) (flat_map limits (filter (λ row. is_none row.share) xs)) (unfixed_limits limits o))
+    elim (is_none x.level) as (λ b. flat_map limits (cond b (x ∷ filter (λ row. is_none row.level) (xs ++ option_to_list o)) (filter (λ row. is_none row.level) (xs ++ option_to_list o))) ≡ flat_map limits (cond b (x ∷ filter (λ row. is_none row.level) xs) (filter (λ row. is_none row.level) xs)) ++ unfixed_limits limits o) [
+      | true ↦ ap (λ ys. limits x ++ ys) (flat_unfixed limits xs o) ∙ sym (append_assoc (limits x) (flat_map limits (filter (λ row. is_none row.level) xs)) (unfixed_limits limits o))
       | false ↦ flat_unfixed limits xs o
     ]
 
 pub limits_of_more : (left waiting : List ℕ) (uses : List (Option Use)) (rows : List (Option FlowRow)) (k : ℕ) →
     all_limits left waiting uses (take (k + 1) rows) ≡ all_limits left waiting uses (take k rows) ++ unfixed_limits (row_limits left waiting uses) (get_or rows k None)
 limits_of_more left waiting uses rows k =
-    ap (λ xs. flat_map (row_limits left waiting uses) (filter (λ row. is_none row.share) xs)) (held_more rows k) ∙ flat_unfixed (row_limits left waiting uses) (rows_held (take k rows)) (get_or rows k None)
+    ap (λ xs. flat_map (row_limits left waiting uses) (filter (λ row. is_none row.level) xs)) (held_more rows k) ∙ flat_unfixed (row_limits left waiting uses) (rows_held (take k rows)) (get_or rows k None)
 
-pub row_waiting-le : (uses : List (Option Use)) (o : Option FlowRow) (c : ℕ) → row_waiting uses o c ≤ 1
-row_waiting-le uses None c = omega arith
-row_waiting-le uses (Some row) c = elim (is_on c (flow_of uses row) && is_none row.share) as (λ b. cond b 1 0 ≤ 1) [ true ↦ omega arith | false ↦ omega arith ]
+pub row_waiting-lt : (uses : List (Option Use)) (o : Option FlowRow) (c : ℕ) → ((row : FlowRow) → o ≡ Some row → row.weight < 2 ^ 32) → row_waiting uses o c < 2 ^ 32
+row_waiting-lt uses None c light = omega arith
+row_waiting-lt uses (Some row) c light = elim (is_on c (flow_of uses row) && is_none row.level) as (λ b. cond b row.weight 0 < 2 ^ 32) [ true ↦ light row refl | false ↦ omega arith ]
 
 -- one more row counted
 pub counted_more : (caps : List ℕ) (rows : List (Option FlowRow)) (uses : List (Option Use)) (left waiting left' waiting' : List ℕ) (k : ℕ) → AreCounted caps (take k rows) uses left waiting →

@@ -1,12 +1,17 @@
 -- Rows of flows, as one comes or goes.
-use Rattle.std.proofs.Common.{◌≡◌, ◌≢◌, ℕ, zero, suc, ◌⊎◌, inl, inr, Option, None, Some, List, [], ◌∷◌, map, get_or, option_map, refl, sym, ap, subst, ◌∙◌, arith}
-use Rattle.sg_maxmin.specs.declared.uses.Use.{Use}
+use Rattle.std.proofs.Common.{◌≡◌, ◌≢◌, ℕ, zero, suc, ◌+◌, ◌-◌, ◌*◌, ◌<◌, ◌≤◌, ◌^◌, ◌==◌, true, false, cond, min, length, IfSome, ◌⊎◌, inl, inr, Option, None, Some, List, [], ◌∷◌, map, get_or, option_map, refl, sym, ap, subst, ◌∙◌, arith}
+use Rattle.sg_chains.specs.declared.uses.Use.{Use}
+use Rattle.sg_chains.specs.Walk.{Leads, next_of_flow, resource_of}
+use Rattle.sg_chains.proofs.ChainLemmas.{chain_leads, chain_few, length-resources}
 use Rattle.sg_maxmin.specs.declared.flow_row.FlowRow.{FlowRow}
-use Rattle.sg_maxmin.specs.Fill.{flow}
-use Rattle.sg_maxmin.specs.Sharing.{flow_at, IsFlow, Changes}
-use Rattle.sg_maxmin.specs.kept.Uses.{IsChain, flow_of, flows_of, share_in, AreRows, KeepsOthers}
+use Rattle.std.specs.Option.{unwrap_or}
+use Rattle.std.proofs.lemmas.List.{length-map}
+use Rattle.sg_maxmin.specs.Fill.{Flow, flow, bounded}
+use Rattle.sg_maxmin.specs.Sharing.{flow_at, IsFlow, Changes, IsExtended, uses_in, uses_at, AreBothWays}
+use Rattle.sg_chains.specs.Chain.{IsChain, IsSameChain, KeepsChains}
+use Rattle.sg_chains.specs.Chained.{Chained, times, users_on, GainsUses}
+use Rattle.sg_maxmin.specs.kept.Uses.{flow_of, flows_of, share_in, AreRows, IsKept}
 use Rattle.std.proofs.Math.ListN.{get_or-map}
-use Rattle.sg_maxmin.proofs.Chains.{chain_kept}
 
 get_or-map_none : {X Y : Type 0} (f : X → Y) (xs : List (Option X)) (k : ℕ) → get_or (map (option_map f) xs) k None ≡ option_map f (get_or xs k None)
 get_or-map_none f [] k = refl
@@ -16,39 +21,45 @@ get_or-map_none f (x ∷ xs) (suc k) = get_or-map_none f xs k
 pub flow_at-flows_of : (rows : List (Option FlowRow)) (uses : List (Option Use)) (id : ℕ) → flow_at (flows_of rows uses) id ≡ option_map (flow_of uses) (get_or rows id None)
 flow_at-flows_of rows uses id = get_or-map_none (flow_of uses) rows id
 
--- a row's flow, where its own uses stay
-flow_of_kept : (id : ℕ) (old new : List (Option Use)) (row : FlowRow) →
-    ((i : ℕ) (s : Use) → get_or old i None ≡ Some s → s.flow ≡ id → get_or new i None ≡ Some s) →
-    IsChain id row.count old row.first → IsChain id row.count new row.first × (flow_of new row ≡ flow_of old row)
+-- a row's flow, where its own chain stays
+flow_of_kept : (id : ℕ) (old new : List (Option Use)) (row : FlowRow) → IsSameChain old new id row.count row.first → flow_of new row ≡ flow_of old row
 unfolding flow_of
-flow_of_kept id old new row h c =
-    let kept = chain_kept id row.count old new row.first h c in
-    (kept.0, ap (λ us. flow us row.bound) kept.1)
+flow_of_kept id old new row h = ap (λ us. flow us row.weight row.bound) h.over
 
 eq_cases : (a b : ℕ) → (a ≡ b) ⊎ (a ≢ b)
 eq_cases a b = grind arith
 
--- where the uses of each row but one stay, and the other rows are as they were
-pub others_kept : (caps : List ℕ) (rows rows' : List (Option FlowRow)) (uses uses' : List (Option Use)) (id : ℕ) → AreRows caps rows uses → KeepsOthers id uses uses' →
-    ((other : ℕ) → other ≢ id → get_or rows' other None ≡ get_or rows other None) →
+-- where the chain of each row but one stays, and the other rows are as they were
+pub others_kept : (caps : List ℕ) (rows : List (Option FlowRow)) (uses uses' : List (Option Use)) (id : ℕ) → AreRows caps rows uses → KeepsChains uses uses' id →
     (other : ℕ) → other ≢ id → (row : FlowRow) → get_or rows other None ≡ Some row → IsChain other row.count uses' row.first × (flow_of uses' row ≡ flow_of uses row)
-others_kept caps rows rows' uses uses' id are kept others other away row e =
-    flow_of_kept other uses uses' row (λ i s there mine. kept i s there (λ z. away (sym mine ∙ z))) (are.chains other row e)
+others_kept caps rows uses uses' id are kept other away row e =
+    let same = kept other row.count row.first away (are.chains other row e) in
+    (same.chain, flow_of_kept other uses uses' row same)
 
-pub rows_changed : (caps : List ℕ) (rows rows' : List (Option FlowRow)) (uses uses' : List (Option Use)) (id : ℕ) (slot : Option FlowRow) → AreRows caps rows uses → KeepsOthers id uses uses' →
+-- what is to hold of a row that is new
+pub record IsNewRow (caps : List ℕ) (uses : List (Option Use)) (id : ℕ) (row : FlowRow) : Type 0 where
+  pub chain : IsChain id row.count uses row.first
+  pub is_flow : IsFlow caps (flow_of uses row)
+  pub bound_fits : IfSome row.bound (λ bound. bound < 2 ^ 64)
+
+pub rows_changed : (caps : List ℕ) (rows rows' : List (Option FlowRow)) (uses uses' : List (Option Use)) (id : ℕ) (slot : Option FlowRow) → AreRows caps rows uses → KeepsChains uses uses' id →
     get_or rows' id None ≡ slot → ((other : ℕ) → other ≢ id → get_or rows' other None ≡ get_or rows other None) →
-    ((row : FlowRow) → slot ≡ Some row → IsChain id row.count uses' row.first × IsFlow caps (flow_of uses' row)) →
+    ((row : FlowRow) → slot ≡ Some row → IsNewRow caps uses' id row) →
     AreRows caps rows' uses' × Changes (flows_of rows uses) (flows_of rows' uses') id (option_map (flow_of uses') slot)
 rows_changed caps rows rows' uses uses' id slot are kept changed others new =
-    let other = others_kept caps rows rows' uses uses' id are kept others in (
+    let other = others_kept caps rows uses uses' id are kept in (
       record {
         chains = λ k row e. elim (eq_cases k id) [
-          | inl z ↦ subst (λ w. IsChain w row.count uses' row.first) (sym z) (new row (sym changed ∙ ap (λ w. get_or rows' w None) (sym z) ∙ e)).0
+          | inl z ↦ subst (λ w. IsChain w row.count uses' row.first) (sym z) (new row (sym changed ∙ ap (λ w. get_or rows' w None) (sym z) ∙ e)).chain
           | inr away ↦ (other k away row (sym (others k away) ∙ e)).0
         ];
         flows = λ k row e. elim (eq_cases k id) [
-          | inl z ↦ (new row (sym changed ∙ ap (λ w. get_or rows' w None) (sym z) ∙ e)).1
+          | inl z ↦ (new row (sym changed ∙ ap (λ w. get_or rows' w None) (sym z) ∙ e)).is_flow
           | inr away ↦ subst (λ w. IsFlow caps w) (sym (other k away row (sym (others k away) ∙ e)).1) (are.flows k row (sym (others k away) ∙ e))
+        ];
+        bounds_fit = λ k row e. elim (eq_cases k id) [
+          | inl z ↦ (new row (sym changed ∙ ap (λ w. get_or rows' w None) (sym z) ∙ e)).bound_fits
+          | inr away ↦ are.bounds_fit k row (sym (others k away) ∙ e)
         ];
       },
       record {
@@ -67,3 +78,110 @@ rows_changed caps rows rows' uses uses' id slot are kept changed others new =
 -- where a row stays, so does its share
 pub share_kept : (old new : List (Option FlowRow)) (id : ℕ) → get_or new id None ≡ get_or old id None → get_or (map share_in new) id 0 ≡ get_or (map share_in old) id 0
 share_kept old new id e = get_or-map share_in new id None ∙ ap share_in e ∙ sym (get_or-map share_in old id None)
+
+-- more numbers, and nothing under them
+pub extended : (rows rows' : List (Option FlowRow)) (uses : List (Option Use)) (more : ℕ) → ((id : ℕ) → get_or rows' id None ≡ get_or rows id None) → length rows ≤ length rows' → length rows' ≤ length rows + more →
+    IsExtended (flows_of rows uses) (flows_of rows' uses) more
+extended rows rows' uses more kept longer few = record {
+  same = λ id. flow_at-flows_of rows' uses id ∙ ap (option_map (flow_of uses)) (kept id) ∙ sym (flow_at-flows_of rows uses id);
+  longer = omega (arith, longer, length-map rows (option_map (flow_of uses)), length-map rows' (option_map (flow_of uses)));
+  few = omega (arith, few, length-map rows (option_map (flow_of uses)), length-map rows' (option_map (flow_of uses)));
+}
+
+-- a row that isn't fixed has no share
+pub share_none : (rows : List (Option FlowRow)) (id : ℕ) (row : FlowRow) → get_or rows id None ≡ Some row → row.level ≡ None → get_or (map share_in rows) id 0 ≡ 0
+share_none rows id row there none = get_or-map share_in rows id None ∙ ap share_in there ∙ ap (λ o. min (2 ^ 64 - 1) (bounded row.bound (row.weight * unwrap_or o 0))) none ∙ nothing row.bound row.weight
+  where
+    nothing : (o : Option ℕ) (w : ℕ) → min (2 ^ 64 - 1) (bounded o (w * 0)) ≡ 0
+    nothing None w = omega arith
+    nothing (Some b) w = omega arith
+
+-- ---- the chains agree, as a flow comes or goes
+same_test : (a : ℕ) → (a == a) ≡ true
+same_test a = grind arith
+
+other_test : (a b : ℕ) → a ≢ b → (a == b) ≡ false
+other_test a b ne = grind arith
+
+plus_none : (n : ℕ) → n + 0 ≡ n
+plus_none n = omega arith
+
+pub both_with : (old new : List (Option Flow)) (users users' : List (List ℕ)) (id : ℕ) (added : Flow) → AreBothWays old users → flow_at old id ≡ None → Changes old new id (Some added) → GainsUses users users' id added.uses → AreBothWays new users'
+both_with old new users users' id added both free ch gains = λ other r. elim (eq_cases other id) [
+  | inl e ↦ subst (λ k. times k (users_on users' r) ≡ times r (uses_at new k)) (sym e)
+      (gains id r ∙ ap (λ b. times id (users_on users r) + cond b (times r added.uses) 0) (same_test id)
+      ∙ ap (λ n. n + times r added.uses) (both id r ∙ ap (λ o. times r (uses_in o)) free) ∙ none_plus (times r added.uses) ∙ sym (ap (λ o. times r (uses_in o)) ch.changed))
+  | inr ne ↦ gains other r ∙ ap (λ b. times other (users_on users r) + cond b (times r added.uses) 0) (other_test other id ne) ∙ plus_none (times other (users_on users r))
+      ∙ both other r ∙ sym (ap (λ o. times r (uses_in o)) (ch.others other ne))
+]
+  where
+    none_plus : (n : ℕ) → 0 + n ≡ n
+    none_plus n = omega arith
+
+pub both_without : (old new : List (Option Flow)) (users users' : List (List ℕ)) (id : ℕ) (gone : Flow) → AreBothWays old users → flow_at old id ≡ Some gone → Changes old new id None → GainsUses users' users id gone.uses → AreBothWays new users'
+both_without old new users users' id gone both there ch gains = λ other r. elim (eq_cases other id) [
+  | inl e ↦ subst (λ k. times k (users_on users' r) ≡ times r (uses_at new k)) (sym e)
+      (none (times id (users_on users' r)) (times r gone.uses) (sym (both id r ∙ ap (λ o. times r (uses_in o)) there) ∙ gains id r ∙ ap (λ b. times id (users_on users' r) + cond b (times r gone.uses) 0) (same_test id))
+      ∙ sym (ap (λ o. times r (uses_in o)) ch.changed))
+  | inr ne ↦ sym (gains other r ∙ ap (λ b. times other (users_on users' r) + cond b (times r gone.uses) 0) (other_test other id ne) ∙ plus_none (times other (users_on users' r)))
+      ∙ both other r ∙ sym (ap (λ o. times r (uses_in o)) (ch.others other ne))
+]
+  where
+    none : (n t : ℕ) → t ≡ n + t → n ≡ 0
+    none n t e = omega (arith, e)
+
+pub both_same : (old new : List (Option Flow)) (users : List (List ℕ)) → ((id : ℕ) → flow_at new id ≡ flow_at old id) → AreBothWays old users → AreBothWays new users
+both_same old new users same both = λ id r. both id r ∙ sym (ap (λ o. times r (uses_in o)) (same id))
+
+-- ---- what is read of a flow
+pub flow_held : (rows : List (Option FlowRow)) (uses : List (Option Use)) (id : ℕ) (row : FlowRow) → get_or rows id None ≡ Some row → flow_at (flows_of rows uses) id ≡ Some (flow_of uses row)
+flow_held rows uses id row e = flow_at-flows_of rows uses id ∙ ap (option_map (flow_of uses)) e
+
+pub flow_none : (rows : List (Option FlowRow)) (uses : List (Option Use)) (id : ℕ) → get_or rows id None ≡ None → flow_at (flows_of rows uses) id ≡ None
+flow_none rows uses id e = flow_at-flows_of rows uses id ∙ ap (option_map (flow_of uses)) e
+
+-- the first use of a flow leads to each of its resources
+pub record IsLed (uses : List (Option Use)) (at : Option ℕ) (list : List ℕ) : Type 0 where
+  pub leads : Leads next_of_flow resource_of uses at list
+  pub few : length list ≤ length uses
+
+pub first_leads : (caps : List ℕ) (rows : List (Option FlowRow)) (uses : List (Option Use)) (id : ℕ) (row : FlowRow) → AreRows caps rows uses → get_or rows id None ≡ Some row → IsLed uses row.first (uses_at (flows_of rows uses) id)
+unfolding flow_of
+first_leads caps rows uses id row are e =
+    let chain = are.chains id row e in
+    subst (λ o. IsLed uses row.first (uses_in o)) (sym (flow_held rows uses id row e)) (record {
+      leads = chain_leads id row.count uses row.first chain;
+      few = omega (arith, length-resources id row.count uses row.first chain, chain_few id row.count uses row.first chain);
+    })
+
+pub first_none : (rows : List (Option FlowRow)) (uses : List (Option Use)) (id : ℕ) → get_or rows id None ≡ None → IsLed uses None (uses_at (flows_of rows uses) id)
+unfolding Leads
+first_none rows uses id e = subst (λ o. IsLed uses None (uses_in o)) (sym (flow_none rows uses id e)) (record { leads = refl; few = omega arith })
+
+pub flows_are : (caps : List ℕ) (rows : List (Option FlowRow)) (uses : List (Option Use)) → AreRows caps rows uses → (id : ℕ) (held : Flow) → flow_at (flows_of rows uses) id ≡ Some held → IsFlow caps held
+flows_are caps rows uses are id held e = at (get_or rows id None) refl
+  where
+    some_flow : {a b : Flow} → Some a ≡ Some b → a ≡ b
+    some_flow h = cc
+
+    at : (o : Option FlowRow) → get_or rows id None ≡ o → IsFlow caps held
+    at None there = absurd (cc (sym (flow_none rows uses id there) ∙ e))
+    at (Some row) there = subst (λ f. IsFlow caps f) (some_flow (sym (flow_held rows uses id row there) ∙ e)) (are.flows id row there)
+
+-- ---- what is kept stays so with more numbers and more room
+pub kept_extended : (caps : List ℕ) (rows rows' : List (Option FlowRow)) (chains : Chained) (left waiting : List ℕ) → IsKept caps rows chains left waiting → ((id : ℕ) → get_or rows' id None ≡ get_or rows id None) → IsKept caps rows' chains left waiting
+kept_extended caps rows rows' chains left waiting k same = record {
+  are_rows = record {
+    chains = λ id row e. k.are_rows.chains id row (sym (same id) ∙ e);
+    flows = λ id row e. k.are_rows.flows id row (sym (same id) ∙ e);
+    bounds_fit = λ id row e. k.are_rows.bounds_fit id row (sym (same id) ∙ e);
+  };
+  both = both_same (flows_of rows chains.uses) (flows_of rows' chains.uses) chains.users
+      (λ id. flow_at-flows_of rows' chains.uses id ∙ ap (option_map (flow_of chains.uses)) (same id) ∙ sym (flow_at-flows_of rows chains.uses id)) k.both;
+  users_len = k.users_len;
+  left_len = k.left_len;
+  waiting_len = k.waiting_len;
+}
+
+pub kept_room : (caps : List ℕ) (rows : List (Option FlowRow)) (chains : Chained) (room : ℕ) (left waiting : List ℕ) → IsKept caps rows chains left waiting → IsKept caps rows (record chains { room = room }) left waiting
+kept_room caps rows chains room left waiting k = record { are_rows = k.are_rows; both = k.both; users_len = k.users_len; left_len = k.left_len; waiting_len = k.waiting_len }

@@ -1,5 +1,5 @@
 -- Where sums over two lists of flows are the same, so are the shares.
-use Rattle.std.proofs.Common.{◌≡◌, ℕ, zero, suc, ◌<◌, inl, inr, Bool, true, false, cond, ◌&&◌, ◌==◌, true≢false, Option, None, Some, List, [], ◌∷◌, sum_by, refl, sym, ap, ap₂, subst, arith}
+use Rattle.std.proofs.Common.{◌≡◌, ℕ, zero, suc, ◌<◌, inl, inr, Bool, true, false, cond, ◌&&◌, ◌==◌, true≢false, Option, None, Some, List, [], ◌∷◌, sum_by, refl, sym, ap, ap₂, subst, ◌∙◌, arith}
 use Rattle.std.proofs.lemmas.List.Sums.{sum_by-cons}
 use Rattle.sg_maxmin.specs.Fill.{Flow, flow, is_on, share_of}
 use Rattle.sg_maxmin.specs.Laws.{HaveLimits, HaveSameSums, SharesSame}
@@ -21,7 +21,7 @@ same_bound (Some x) None = false
 same_bound (Some x) (Some y) = x == y
 
 abbrev same_flow : Flow → Flow → Bool
-same_flow f g = same_nats f.uses g.uses && same_bound f.bound g.bound
+same_flow f g = same_nats f.uses g.uses && ((f.weight == g.weight) && same_bound f.bound g.bound)
 
 eq_self : (n : ℕ) → (n == n) ≡ true
 eq_self n = grind arith
@@ -56,12 +56,14 @@ bound_from (Some x) None e = absurd (true≢false (sym e))
 bound_from (Some x) (Some y) e = ap (λ n. Some n) (eq_from x y e)
 
 flow_self : (f : Flow) → same_flow f f ≡ true
-flow_self f = rw (nats_self f.uses) (bound_self f.bound)
+flow_self f = rw (nats_self f.uses, eq_self f.weight) (bound_self f.bound)
 
 flow_from : (f g : Flow) → same_flow f g ≡ true → g ≡ f
 flow_from f g e =
-    let both = and_parts (same_nats f.uses g.uses) (same_bound f.bound g.bound) e in
-    ap₂ flow (sym (nats_from f.uses g.uses both.0)) (sym (bound_from f.bound g.bound both.1))
+    let both = and_parts (same_nats f.uses g.uses) ((f.weight == g.weight) && same_bound f.bound g.bound) e in
+    let rest = and_parts (f.weight == g.weight) (same_bound f.bound g.bound) both.1 in
+    ap₂ (λ uses weight. flow uses weight g.bound) (sym (nats_from f.uses g.uses both.0)) (sym (eq_from f.weight g.weight rest.0))
+    ∙ ap (λ bound. flow f.uses f.weight bound) (sym (bound_from f.bound g.bound rest.1))
 
 sum_some : {X : Type 0} (h : X → ℕ) (xs : List X) → 0 < sum_by h xs → (x : X) × In x xs × (0 < h x)
 sum_some h [] pos = absurd (omega (arith, pos))

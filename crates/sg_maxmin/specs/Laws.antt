@@ -4,7 +4,7 @@ use Rattle.sg_maxmin.specs.Fill.{Flow, is_on, lowest, steps_from, level_of, shar
 use Rattle.sg_maxmin.specs.Fair.{IsFair}
 use Rattle.sg_maxmin.specs.Sharing.{HasLimit, Changes, flow_at, held, slot_part}
 
--- each flow that uses no resource has a bound
+-- something limits each flow
 abbrev pub HaveLimits : List Flow → Type 0
 HaveLimits flows = (flow : Flow) → Contains flows flow → HasLimit flow
 

@@ -8,9 +8,10 @@ use Rattle.sg_maxmin.specs.Fill.{Flow, is_on, fill}
 abbrev pub IsUsed : List Flow → ℕ → Type 0
 IsUsed flows resource = IsTrue (list_any (is_on resource) flows)
 
--- the flow uses the same resources at their new places, in whatever order, and has the same bound
+-- the flow uses the same resources at their new places, in whatever order, and has the same weight and bound
 pub record IsMoved (place : ℕ → ℕ) (flow moved : Flow) : Type 0 where
   pub uses : IsPermutation (map place flow.uses) moved.uses
+  pub weight : moved.weight ≡ flow.weight
   pub bound : moved.bound ≡ flow.bound
 
 -- Each resource that is used has a place of its own among the other capacities, and its capacity there; each flow uses the resources at these places.

@@ -1,13 +1,19 @@
 //! Laws of filling, each the contract of a function that does nothing.
 ghost use Rattle.sg_maxmin.specs.Relisted.{FillsInAnyOrder};
+ghost use Rattle.sg_maxmin.specs.Unweighted.{FillsEqually};
 ghost use Rattle.sg_maxmin.specs.Worked.{AreWorked};
 ghost use Rattle.sg_maxmin.specs.Laws.{FillsApart, FillsFairly, FixesAll, FixesOnce, IsHeld, KeepsBound, KeepsShare, LevelRises, SharesSame, SumsChange};
 
 /// Progressive filling is max-min fair in whole units: on each resource the shares add up to at most its capacity,
-/// and each flow has its bound as its share, or uses a resource on which its share is the greatest and on which
-/// fewer units are left than flows use it.
+/// and each flow has its bound as its share, or uses a resource on which its share is the greatest for its weight
+/// and on which fewer units are left than the sum of `2w - 1` over the weights w of the flows on it.
 pub fn is_fair()
     ensures { FillsFairly }
+{}
+
+/// Where each flow weighs 1, filling with weights is filling without.
+pub fn fills_equally()
+    ensures { FillsEqually }
 {}
 
 /// No flow gets more than its bound.

@@ -1,14 +1,16 @@
 //! The system of capacities and flows: which flow uses which resources, and the share that each gets.
-ghost use Rattle.std.specs.Prelude.{◌≡◌, ◌≤◌, ◌<◌, ◌+◌, [], length, Some, None, IsSome, IfSome, IfOk, OnOk, slice_index};
+ghost use Rattle.std.specs.Prelude.{◌≡◌, ◌≤◌, ◌<◌, ◌+◌, ℕ, [], length, Some, None, IsSome, IfSome, IfOk, OnOk, slice_index, slice_index_or};
 ghost use Rattle.sg_maxmin.specs.Fair.{IsFair};
 ghost use Rattle.sg_maxmin.specs.Fill.{flow, share_of};
-ghost use Rattle.sg_maxmin.specs.Sharing.{flow_at, held, AreShares, Changes, IsFlow, KeepsShares, use_count};
+ghost use Rattle.sg_chains.specs.Chained.{users_on};
+ghost use Rattle.sg_chains.specs.Walk.{Leads, next_of_flow, next_on, resource_of, user_of};
+ghost use Rattle.sg_maxmin.specs.Sharing.{IsSound, uses_at, flow_at, held, AreShares, Changes, IsExtended, IsFlow, KeepsShares, use_count};
 
-use crate::filling::fill;
+use crate::filling::{fill, share_at};
 use crate::flow_row::FlowRow;
-use crate::uses::{Use, chain, unchain};
+use crate::numbers::Rows;
 use sg_base::{Memory, Steps};
-use slab::Slab;
+use sg_chains::{Chains, Use};
 use std::alloc::Global;
 use std::marker::Model;
 use std::sync::ledger::Ledger;
@@ -19,15 +21,18 @@ pub type FlowId = usize;
 /// Resources with their capacities, and flows that use them. The units are the caller's: flops or bytes per
 /// second, say.
 ///
-/// Contracts see the capacities, the flow under each number or nothing, the share under each number, and for how
-/// many flows and uses more there is room.
+/// Contracts see the capacities, the flow under each number or nothing, the share under each number, the use under
+/// each number of a use or nothing, the flows on each resource, and for how many flows and uses more there is room.
+///
+/// From outside a use is read by `look` alone, which counts. From `first_of` on, `next_of_flow` leads to each use
+/// of the flow once; from `first_on` on, `next_on` to each use on the resource.
 #[derive(Drop)]
 pub struct System {
     capacities: Vec<u64>,
-    flows: Slab<FlowRow>,
-    // lent to `solve` alone, which reads them by a counted look
-    uses: Slab<Use>,
-    // for each resource what is left of it and how many flows wait there, in one step of `solve`
+    flows: Rows,
+    // read by counted looks alone, by `solve` too
+    chains: Chains,
+    // for each resource what is left of it and the weights that wait there, in one step of `solve`
     left: Vec<u64>,
     waiting: Vec<u64>,
 }
@@ -39,20 +44,22 @@ impl Model for System {
 
     ghost coded = { sharing_code };
 
-    ghost use Rattle.std.specs.Prelude.{◌-◌, map};
-    ghost use Rattle.slab.specs.Slab.{slab_len};
+    ghost use Rattle.std.specs.Prelude.{map};
     ghost use Rattle.sg_maxmin.specs.kept.Uses.{flows_of, share_in, IsKept};
+    ghost use Rattle.sg_maxmin.specs.kept.Numbers.{free_count};
 
     ghost view = { λ s. record {
       capacities = s.capacities.items;
-      slots = flows_of s.flows.slots s.uses.slots;
-      shares = map share_in s.flows.slots;
-      flow_room = s.flows.capacity - slab_len s.flows;
-      use_room = s.uses.capacity - slab_len s.uses;
+      slots = flows_of s.flows s.chains.uses;
+      shares = map share_in s.flows;
+      uses = s.chains.uses;
+      users = s.chains.users;
+      flow_room = free_count s.flows;
+      use_room = s.chains.room;
     } };
 
     ghost invariant = { λ s.
-        IsKept s.capacities.items s.flows s.uses s.left.items s.waiting.items };
+        IsKept s.capacities.items s.flows s.chains s.left.items s.waiting.items };
 }
 
 impl System {
@@ -63,52 +70,56 @@ impl System {
     {
         Ok(System {
             capacities: Vec::from_slice(alloc, capacities)?,
-            flows: Slab::new(alloc),
-            uses: Slab::new(alloc),
+            flows: Rows::new(alloc),
+            chains: Chains::new(alloc, capacities.len())?,
             left: Vec::from_slice(alloc, capacities)?,
             waiting: Vec::from_slice(alloc, capacities)?,
         })
     }
 
-    /// Makes room for so many flows more, with so many uses in all. Nothing but the room changes, also where there
-    /// is no memory, and the room doesn't shrink.
+    /// Makes room for so many flows more, with so many uses in all: at most so many numbers of flows more. Nothing
+    /// but the room changes, also where there is no memory, and the room doesn't shrink. For 2^32 flows there is
+    /// none.
     pub fn reserve(&mut self, flows: usize, uses: usize) -> Result<(), Memory>
         ensures flow_room { OnOk result (flows ≤ self.new.flow_room) }
         ensures use_room { OnOk result (uses ≤ self.new.use_room) }
         ensures grows { (self.old.flow_room ≤ self.new.flow_room)
             × (self.old.use_room ≤ self.new.use_room) }
-        ensures kept { self.new ≡
-            record self.old { flow_room = self.new.flow_room; use_room = self.new.use_room } }
+        ensures slots { IsExtended self.old.slots self.new.slots flows }
+        ensures shares { (id : ℕ) →
+            slice_index self.new.shares id ≡ slice_index self.old.shares id }
+        ensures capacities { self.new.capacities ≡ self.old.capacities }
     {
         self.flows.reserve(flows)?;
-        self.uses.reserve(uses)?;
+        self.chains.reserve(uses)?;
         Ok(())
     }
 
-    /// Adds a flow that uses these resources, each at its place among the capacities, and returns its number. The
-    /// bound limits its share. The room that it takes was made by `reserve`.
+    /// Adds a flow that uses these resources, each at its place among the capacities, and returns its number. Where
+    /// flows compete their shares are as their weights; the bound limits the share. The room that it takes was made
+    /// by `reserve`.
     ///
     /// Until the next `solve` the new flow has the share 0, and each other flow the one that it had.
-    pub fn add(&mut self, uses: &[usize], bound: Option<u64>) -> FlowId
-        requires flow { IsFlow self.old.capacities (flow uses.now bound) }
+    pub fn add(&mut self, uses: &[usize], weight: u32, bound: Option<u64>) -> FlowId
+        requires flow { IsFlow self.old.capacities (flow uses.now weight bound) }
         requires flow_room { 0 < self.old.flow_room }
         requires use_room { length uses.now ≤ self.old.use_room }
         ensures free { flow_at self.old.slots result ≡ None }
-        ensures added { Changes self.old.slots self.new.slots result (Some (flow uses.now bound)) }
+        ensures in_range { result < length self.old.slots }
+        ensures added { Changes self.old.slots self.new.slots result
+            (Some (flow uses.now weight bound)) }
+        ensures numbers { length self.new.slots ≡ length self.old.slots }
         ensures share { slice_index self.new.shares result ≡ 0 }
         ensures shares { KeepsShares self.old.shares self.new.shares result }
         ensures capacities { self.new.capacities ≡ self.old.capacities }
         ensures flow_room { self.new.flow_room + 1 ≡ self.old.flow_room }
         ensures use_room { self.new.use_room + length uses.now ≡ self.old.use_room }
     {
-        let id = self.flows.vacant_key();
-        let first = chain(&mut self.uses, id, uses);
-        self.flows.insert_reserved(FlowRow {
-            first,
-            count: uses.len(),
-            bound,
-            share: None,
-        })
+        let mut row = FlowRow::new(uses.len(), weight, bound);
+        let id = self.flows.insert(row);
+        row.first = self.chains.add(id, uses);
+        self.flows.replace(id, row);
+        id
     }
 
     /// Removes a flow; its number and its room are free again. Until the next `solve` each other flow has the
@@ -116,6 +127,7 @@ impl System {
     pub fn remove(&mut self, flow: FlowId)
         requires { IsSome (flow_at self.old.slots flow) }
         ensures removed { Changes self.old.slots self.new.slots flow None }
+        ensures numbers { length self.new.slots ≡ length self.old.slots }
         ensures shares { KeepsShares self.old.shares self.new.shares flow }
         ensures capacities { self.new.capacities ≡ self.old.capacities }
         ensures flow_room { self.new.flow_room ≡ self.old.flow_room + 1 }
@@ -123,7 +135,7 @@ impl System {
             (λ old. self.new.use_room ≡ self.old.use_room + length old.uses) }
     {
         let row = self.flows.remove(flow);
-        unchain(&mut self.uses, flow, row.count, row.first);
+        self.chains.remove(flow, row.count, row.first);
     }
 
     /// Gives each flow its share by progressive filling over the whole system; the shares are max-min fair.
@@ -137,7 +149,7 @@ impl System {
     {
         fill(
             &mut self.flows,
-            &self.uses,
+            &self.chains,
             &self.capacities,
             &mut self.left,
             &mut self.waiting,
@@ -151,8 +163,83 @@ impl System {
         ensures { result ≡ slice_index self.now.shares flow }
     {
         match self.flows.get(flow) {
-            Some(row) => row.share.unwrap_or(0),
+            Some(row) => share_at(row, row.level.unwrap_or(0)),
             None => 0,
         }
+    }
+
+    /// The first use of a flow; None exactly where there is no flow or it uses no resource.
+    pub fn first_of(&self, flow: FlowId) -> Option<usize>
+        ensures leads { Leads next_of_flow resource_of self.now.uses result
+            (uses_at self.now.slots flow) }
+        ensures few { length (uses_at self.now.slots flow) ≤ length self.now.uses }
+    {
+        match self.flows.get(flow) {
+            Some(row) => row.first,
+            None => None,
+        }
+    }
+
+    /// The first use on a resource; None exactly where no flow uses it.
+    pub fn first_on(&self, resource: usize) -> Option<usize>
+        requires { resource < length self.now.capacities }
+        ensures leads { Leads next_on user_of self.now.uses result
+            (users_on self.now.users resource) }
+        ensures few { length (users_on self.now.users resource) ≤ length self.now.uses }
+    {
+        self.chains.first_on(resource)
+    }
+
+    /// The use under a number. It is one step.
+    pub fn look<L: Ledger>(&self, i: usize, steps: &mut Steps<L>) -> Use
+        requires { IsSome (slice_index_or self.now.uses i None) }
+        ensures there { slice_index_or self.now.uses i None ≡ Some result }
+        ensures looks { steps.new ≡ steps.old + 1 }
+    {
+        self.chains.look(i, steps)
+    }
+
+    /// The capacity of a resource.
+    pub fn capacity(&self, resource: usize) -> u64
+        requires { resource < length self.now.capacities }
+        ensures { result ≡ slice_index self.now.capacities resource }
+    {
+        self.capacities[resource]
+    }
+
+    /// A flow's weight.
+    pub fn weight(&self, flow: FlowId) -> u32
+        requires { IsSome (flow_at self.now.slots flow) }
+        ensures { IfSome (flow_at self.now.slots flow) (λ held. result ≡ held.weight) }
+    {
+        match self.flows.get(flow) {
+            Some(row) => row.weight,
+            None => 0,
+        }
+    }
+
+    /// A flow's bound; None exactly where `add` was given none.
+    pub fn bound(&self, flow: FlowId) -> Option<u64>
+        requires { IsSome (flow_at self.now.slots flow) }
+        ensures { IfSome (flow_at self.now.slots flow) (λ held. result ≡ held.bound) }
+    {
+        match self.flows.get(flow) {
+            Some(row) => row.bound,
+            None => None,
+        }
+    }
+
+    /// How many numbers of flows there are; each flow's number is below.
+    pub fn numbers(&self) -> usize
+        ensures { result ≡ length self.now.slots }
+    {
+        self.flows.numbers()
+    }
+
+    /// What holds of every system: each flow is one, the chains agree, and the numbers are few.
+    pub fn is_sound(&self)
+        ensures { IsSound self.now }
+    {
+        let _numbers = self.flows.numbers();
     }
 }

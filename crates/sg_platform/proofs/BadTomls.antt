@@ -3,7 +3,7 @@ use Rattle.std.proofs.Common.{◌≡◌, ℕ, ◌≤◌, false, List, length, Op
 use Rattle.std.proofs.lemmas.Bool.Decides.{nat_tests}
 use Rattle.sg_platform.specs.DeploymentOf as on
 use Rattle.sg_platform.specs.Laws.{BadTomlExactly}
-use Rattle.sg_platform.specs.Platform.{Platform}
+use Rattle.sg_rows.specs.Platform.{Platform}
 use Rattle.sg_platform.specs.PlatformOf as of
 use Rattle.sg_platform.specs.PlatformOf.{greatest_text, platform_of, tree_platform}
 use Rattle.sg_platform.specs.DeploymentOf.{deployment_of, tree_deployment}

@@ -8,14 +8,16 @@ use Rattle.sg_base.specs.Limits.{Extent}
 use Rattle.sg_platform.proofs.KeptFunctions.{FindsWorkers, actor_function_kept}
 use Rattle.sg_platform.proofs.KeptRows.{actor_kept, mutex_kept, semaphore_kept}
 use Rattle.sg_platform.specs.Build.{actor_row, mutex_row, semaphore_row}
-use Rattle.sg_platform.specs.Deployment.{IsActorRow, IsDeployedOn, IsDeployment, IsFunction, IsSemaphoreRow}
+use Rattle.sg_rows.specs.Deployment.{IsActorRow, IsDeployedOn, IsDeployment, IsFunction, IsSemaphoreRow}
 use Rattle.sg_platform.specs.DeploymentOf.{rows_of}
-use Rattle.sg_platform.specs.Platform.{Platform}
+use Rattle.sg_rows.specs.Platform.{Platform}
 use Rattle.sg_rules.proofs.Kept.{rows_few, rows_kept}
 use Rattle.sg_rules.proofs.KeptArguments.{workers_below}
+use Rattle.sg_rules.proofs.Small.{bound_of}
 use Rattle.sg_rules.specs.Arguments.{worker_numbers}
 use Rattle.sg_rules.specs.Faults.{faults_of, table_faults}
-use Rattle.sg_rules.specs.Names.{AreSmall, FitsIn32, Known, deployment_known}
+use Rattle.sg_rules.specs.Names.{Known, deployment_known}
+use Rattle.sg_rules.specs.kept.NamesView.{AreSmall, FitsIn32}
 use Rattle.sg_rules.specs.Tables.{deployment_tables}
 use Rattle.sg_rules.specs.declared.tables.Table.TheVariants.{Actor, Mutex, Semaphore}
 use Rattle.sg_tree.proofs.Kept.{empty_left, empty_right, none_empty}
@@ -52,13 +54,12 @@ deployment_small hosts points tree fits few =
     let rows = rows_at (codes "actor") tree in
     record {
       points = fits;
-      links = λ q. tt;
-      workers = λ q. next_small (lookup (bytes_eq q) (worker_numbers rows)) (length rows) few (workers_below rows q);
+      links = λ q i is. cc;
+      workers = λ q row is. next_small (lookup (bytes_eq q) (worker_numbers rows)) (length rows) few (workers_below rows q) row is;
     }
   where
-    next_small : (o : Option ℕ) (n : ℕ) → n ≤ 65536 → IfSome o (λ i. i < n) → IfSome o (λ i. i + 1 < 4294967296)
-    next_small None n few below = tt
-    next_small (Some i) n few below = omega (arith, few, below)
+    next_small : (o : Option ℕ) (n : ℕ) → n ≤ 65536 → IfSome o (λ i. i < n) → (i : ℕ) → o ≡ Some i → i + 1 < 4294967296
+    next_small o n few below i is = let bound = bound_of o n below i is in omega (arith, few, bound)
 
 -- a tree without faults has few actors
 pub actors_few : (names : Known) (tree : Members) → first (faults_of names deployment_tables tree) ≡ None → length (rows_at (codes "actor") tree) ≤ 65536

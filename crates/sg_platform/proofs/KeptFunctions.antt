@@ -10,9 +10,9 @@ use Rattle.sg_base.specs.Limits.{Extent, IsActorIn}
 use Rattle.sg_base.specs.declared.ids.ActorId.{ActorId}
 use Rattle.sg_platform.proofs.LinkLists.{and_left, and_right}
 use Rattle.sg_platform.specs.Build.{actor_row}
-use Rattle.sg_platform.specs.Deployment.{IsFunction}
+use Rattle.sg_rows.specs.Deployment.{IsFunction}
 use Rattle.sg_platform.specs.Functions.{amount_of, arguments_at, function_of, master_of, worker_id}
-use Rattle.sg_platform.specs.declared.rows.Function.TheVariants.{Replay, Worker}
+use Rattle.sg_rows.specs.declared.rows.Function.TheVariants.{Replay, Worker}
 use Rattle.sg_rules.proofs.Greatest.{amount_within}
 use Rattle.sg_rules.proofs.Kept.{KeysKept}
 use Rattle.sg_rules.proofs.KeptArguments.{HasWorkers, arguments_fit, master_fits, tasks_within, workers_below, workers_fit}

@@ -3,14 +3,14 @@ use Rattle.std.proofs.Common.{◌≡◌, ℕ, ◌+◌, ◌-◌, ◌<◌, ◌≤�
 use Rattle.std.proofs.lemmas.Bool.{cases_Bool}
 use Rattle.std.proofs.lemmas.Bool.Decides.{nat_tests}
 use Rattle.sg_base.specs.declared.ids.Child.TheVariants.{Point as PointChild, Zone as ZoneChild}
-use Rattle.sg_platform.proofs.EndsBelow.{way_back_kept}
+use Rattle.sg_rows.proofs.EndsBelow.{way_back_kept}
 use Rattle.sg_platform.proofs.LinkLists.{required_links, value_link_list}
 use Rattle.sg_platform.specs.Build.{actor_row, capacity_or_zero, child_of, core_or_one, gateway, host_row, latency_or_zero, link_row, links_at, links_or_back, mutex_row, point_id, route_row, router_row, semaphore_row, spoke_row, zone_id, zone_route_row, zone_row}
-use Rattle.sg_platform.specs.Deployment.{IsActorRow, IsSemaphoreRow}
-use Rattle.sg_platform.specs.Ends.{link_ends}
-use Rattle.sg_platform.specs.Platform.{Counts, IsChild, IsHostRow, IsLinkList, IsLinkRow, IsRouteRow, IsRouterRow, IsSpokeRow, IsZoneRouteRow, IsZoneRow}
-use Rattle.sg_platform.specs.declared.rows.ActorRow.{ActorRow}
-use Rattle.sg_platform.specs.declared.rows.LinkRow.{LinkRow}
+use Rattle.sg_rows.specs.Deployment.{IsActorRow, IsSemaphoreRow}
+use Rattle.sg_rows.specs.Ends.{link_ends}
+use Rattle.sg_rows.specs.Platform.{Counts, IsChild, IsHostRow, IsLinkList, IsLinkRow, IsRouteRow, IsRouterRow, IsSpokeRow, IsZoneRouteRow, IsZoneRow}
+use Rattle.sg_rows.specs.declared.rows.ActorRow.{ActorRow}
+use Rattle.sg_rows.specs.declared.rows.LinkRow.{LinkRow}
 use Rattle.sg_rules.proofs.Greatest.{bandwidth_within, latency_within, speed_within}
 use Rattle.sg_rules.proofs.Kept.{KeysKept, child_end, end_there, host_there, latency_there, link_name_short, name_short, optional_text, point_there, rate_there, required_text, route_end_point, unbroken, zone_route_end_end, zone_there}
 use Rattle.sg_rules.specs.LinkNames.{is_split}

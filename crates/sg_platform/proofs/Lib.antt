@@ -1,9 +1,6 @@
 pub mod BadTomls
 pub mod Deployed
-pub mod EndsBelow
 pub mod KeptFunctions
 pub mod KeptRows
 pub mod LinkLists
-pub mod Numbers
-pub mod WayBack
 pub mod Whole

@@ -7,7 +7,7 @@ use Rattle.std.proofs.lemmas.List.Elements.{All-cons, All-nil}
 use Rattle.std.specs.List.{All, list_all, list_any}
 use Rattle.sg_base.specs.declared.ids.LinkId.{LinkId}
 use Rattle.sg_platform.specs.Build.{link_id, link_of, links_at}
-use Rattle.sg_platform.specs.Platform.{Counts, IsLinkList}
+use Rattle.sg_rows.specs.Platform.{Counts, IsLinkList}
 use Rattle.sg_rules.proofs.Kept.{unbroken}
 use Rattle.sg_rules.specs.Names.{Known}
 use Rattle.sg_rules.specs.Rules.{is_text, is_unknown, key_kinds, kinds_at, link_list_kinds, list_kinds, value_kinds}

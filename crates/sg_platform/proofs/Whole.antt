@@ -3,18 +3,19 @@ use Rattle.std.proofs.Common.{◌≡◌, ℕ, ◌+◌, ◌≤◌, Bool, true, fa
 use Rattle.std.proofs.lemmas.List.{length-map}
 use Rattle.std.proofs.lemmas.List.Elements.{All-map}
 use Rattle.std.specs.List.{All, flat_map}
-use Rattle.sg_platform.proofs.EndsBelow.{link_ends_count}
+use Rattle.sg_rows.proofs.EndsBelow.{link_ends_count}
 use Rattle.sg_platform.proofs.KeptRows.{IsCounted, host_kept, link_kept, route_kept, router_kept, spoke_kept, zone_kept, zone_route_kept}
 use Rattle.sg_platform.specs.Build.{host_row, link_row, route_row, router_row, spoke_row, zone_route_row, zone_row}
-use Rattle.sg_platform.specs.Ends.{ends_from, ends_of, link_ends}
-use Rattle.sg_platform.specs.Platform.{Counts, IsHostRow, IsLinkRow, IsPlatform, IsRouteRow, IsRouterRow, IsSpokeRow, IsZoneRouteRow, IsZoneRow, counts_of}
+use Rattle.sg_rows.specs.Ends.{ends_from, ends_of, link_ends}
+use Rattle.sg_rows.specs.Platform.{Counts, IsHostRow, IsLinkRow, IsPlatform, IsRouteRow, IsRouterRow, IsSpokeRow, IsZoneRouteRow, IsZoneRow, counts_of}
 use Rattle.sg_platform.specs.PlatformOf.{links_of, rows_of}
-use Rattle.sg_platform.specs.declared.rows.Policy.TheVariants.{Shared, Fatpipe, SplitDuplex}
+use Rattle.sg_rows.specs.declared.rows.Policy.TheVariants.{Shared, Fatpipe, SplitDuplex}
 use Rattle.sg_rules.proofs.Kept.{rows_few, rows_kept}
 use Rattle.sg_rules.proofs.Small.{known_links, known_points, links_below, platform_small, points_below}
 use Rattle.sg_rules.specs.Faults.{faults_of, table_faults}
 use Rattle.sg_rules.specs.LinkNames.{is_split, link_names, names_by}
-use Rattle.sg_rules.specs.Names.{AreSmall, Known, platform_known}
+use Rattle.sg_rules.specs.Names.{Known, platform_known}
+use Rattle.sg_rules.specs.kept.NamesView.{AreSmall}
 use Rattle.sg_rules.specs.Tables.{platform_tables}
 use Rattle.sg_rules.specs.declared.tables.Table.TheVariants.{Zone, Host, Router, Link, Route, ZoneRoute, Spoke}
 use Rattle.sg_tree.proofs.Bounds.{below_all}

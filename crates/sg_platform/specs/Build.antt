@@ -6,23 +6,23 @@ use Rattle.sg_base.specs.declared.ids.Child.TheVariants.{Point as PointChild, Zo
 use Rattle.sg_base.specs.declared.ids.LinkId.{LinkId}
 use Rattle.sg_base.specs.declared.ids.PointId.{PointId}
 use Rattle.sg_base.specs.declared.ids.ZoneId.{ZoneId}
-use Rattle.sg_platform.specs.Ends.{way_back}
+use Rattle.sg_rows.specs.Ends.{way_back}
 use Rattle.sg_platform.specs.Functions.{function_of}
-use Rattle.sg_platform.specs.declared.ends.LinkEnd.{LinkEnd}
-use Rattle.sg_platform.specs.declared.rows.ActorRow.{ActorRow}
-use Rattle.sg_platform.specs.declared.rows.HostRow.{HostRow}
-use Rattle.sg_platform.specs.declared.rows.LinkRow.{LinkRow}
-use Rattle.sg_platform.specs.declared.rows.MutexRow.{MutexRow}
-use Rattle.sg_platform.specs.declared.rows.Policy.{Policy}
-use Rattle.sg_platform.specs.declared.rows.Policy.TheVariants.{Shared, Fatpipe, SplitDuplex}
-use Rattle.sg_platform.specs.declared.rows.RouteRow.{RouteRow}
-use Rattle.sg_platform.specs.declared.rows.RouterRow.{RouterRow}
-use Rattle.sg_platform.specs.declared.rows.Routing.{Routing}
-use Rattle.sg_platform.specs.declared.rows.Routing.TheVariants.{Full, Star}
-use Rattle.sg_platform.specs.declared.rows.SemaphoreRow.{SemaphoreRow}
-use Rattle.sg_platform.specs.declared.rows.SpokeRow.{SpokeRow}
-use Rattle.sg_platform.specs.declared.rows.ZoneRouteRow.{ZoneRouteRow}
-use Rattle.sg_platform.specs.declared.rows.ZoneRow.{ZoneRow}
+use Rattle.sg_rows.specs.declared.ends.LinkEnd.{LinkEnd}
+use Rattle.sg_rows.specs.declared.rows.ActorRow.{ActorRow}
+use Rattle.sg_rows.specs.declared.rows.HostRow.{HostRow}
+use Rattle.sg_rows.specs.declared.rows.LinkRow.{LinkRow}
+use Rattle.sg_rows.specs.declared.rows.MutexRow.{MutexRow}
+use Rattle.sg_rows.specs.declared.rows.Policy.{Policy}
+use Rattle.sg_rows.specs.declared.rows.Policy.TheVariants.{Shared, Fatpipe, SplitDuplex}
+use Rattle.sg_rows.specs.declared.rows.RouteRow.{RouteRow}
+use Rattle.sg_rows.specs.declared.rows.RouterRow.{RouterRow}
+use Rattle.sg_rows.specs.declared.rows.Routing.{Routing}
+use Rattle.sg_rows.specs.declared.rows.Routing.TheVariants.{Full, Star}
+use Rattle.sg_rows.specs.declared.rows.SemaphoreRow.{SemaphoreRow}
+use Rattle.sg_rows.specs.declared.rows.SpokeRow.{SpokeRow}
+use Rattle.sg_rows.specs.declared.rows.ZoneRouteRow.{ZoneRouteRow}
+use Rattle.sg_rows.specs.declared.rows.ZoneRow.{ZoneRow}
 use Rattle.sg_rules.specs.Pairs.{truth_or}
 use Rattle.sg_rules.specs.Names.{Known}
 use Rattle.sg_rules.specs.Units.{bandwidth_value, latency_value, speed_value}

@@ -1,9 +1,9 @@
 -- The deployment that a text describes on a platform, or its fault of least place, and there of least kind.
 use Rattle.std.specs.Prelude.{ℕ, List, map, length, codes, if◌then◌else◌, nat_lt, Option, Some, None, Result, Ok, Err}
 use Rattle.sg_platform.specs.Build.{actor_row, mutex_row, semaphore_row}
-use Rattle.sg_platform.specs.Deployment.{Deployed}
-use Rattle.sg_platform.specs.Index.{host_number}
-use Rattle.sg_platform.specs.Platform.{Platform}
+use Rattle.sg_rows.specs.Deployment.{Deployed}
+use Rattle.sg_rows.specs.Index.{host_number}
+use Rattle.sg_rows.specs.Platform.{Platform}
 use Rattle.sg_platform.specs.PlatformOf.{greatest_text, whole_text}
 use Rattle.sg_platform.specs.declared.deployment.DeploymentFault.{DeploymentFault}
 use Rattle.sg_platform.specs.declared.deployment.DeploymentFault.TheVariants.{BadToml, MissingKey, WrongType, BadValue, BadName, Duplicate, Unknown, Limit, Function, Arguments}

@@ -1,8 +1,8 @@
 -- What the actors of a tree do, where it has no fault.
 use Rattle.std.specs.Prelude.{ℕ, ◌+◌, List, [], ◌∷◌, map, if◌then◌else◌, option_and_then, unwrap_or, codes}
 use Rattle.sg_base.specs.declared.ids.ActorId.{ActorId}
-use Rattle.sg_platform.specs.declared.rows.Function.{Function}
-use Rattle.sg_platform.specs.declared.rows.Function.TheVariants.{Replay, Worker, Master}
+use Rattle.sg_rows.specs.declared.rows.Function.{Function}
+use Rattle.sg_rows.specs.declared.rows.Function.TheVariants.{Replay, Worker, Master}
 use Rattle.sg_rules.specs.Arguments.{has_function, text_of}
 use Rattle.sg_rules.specs.Names.{Known}
 use Rattle.sg_rules.specs.Units.{amount_value}

@@ -1,7 +1,7 @@
 -- Laws of both readers.
 use Rattle.std.specs.Prelude.{◌≡◌, ◌≤◌, ◌↔◌, ℕ, List, length, None, Err}
 use Rattle.sg_platform.specs.DeploymentOf.{deployment_of}
-use Rattle.sg_platform.specs.Platform.{Platform}
+use Rattle.sg_rows.specs.Platform.{Platform}
 use Rattle.sg_platform.specs.PlatformOf.{greatest_text, platform_of}
 use Rattle.sg_platform.specs.declared.deployment.DeploymentFault.TheVariants as deployment
 use Rattle.sg_platform.specs.declared.platform.PlatformFault.TheVariants as platform

@@ -1,11 +1,11 @@
 -- The platform that a text describes, or its fault of least place, and there of least kind.
 use Rattle.std.specs.Prelude.{ℕ, List, map, length, codes, if◌then◌else◌, nat_lt, Option, Some, None, Result, Ok, Err}
 use Rattle.sg_platform.specs.Build.{host_row, link_row, route_row, router_row, spoke_row, zone_route_row, zone_row}
-use Rattle.sg_platform.specs.Ends.{link_ends}
-use Rattle.sg_platform.specs.Platform.{Platform}
+use Rattle.sg_rows.specs.Ends.{link_ends}
+use Rattle.sg_rows.specs.Platform.{Platform}
 use Rattle.sg_platform.specs.declared.platform.PlatformFault.{PlatformFault}
 use Rattle.sg_platform.specs.declared.platform.PlatformFault.TheVariants.{BadToml, MissingKey, WrongType, BadValue, BadName, Duplicate, Unknown, Limit}
-use Rattle.sg_platform.specs.declared.rows.LinkRow.{LinkRow}
+use Rattle.sg_rows.specs.declared.rows.LinkRow.{LinkRow}
 use Rattle.sg_rules.specs.Faults.{faults_of}
 use Rattle.sg_rules.specs.Names.{Known, platform_known}
 use Rattle.sg_rules.specs.Tables.{platform_tables}

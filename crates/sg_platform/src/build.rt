@@ -2,17 +2,16 @@
 ghost use Rattle.std.specs.Prelude.{◌≡◌, IfOk, map};
 ghost use Rattle.std.specs.HashMap.{get_by_text};
 ghost use Rattle.sg_platform.specs.Build.{actor_row, bandwidth_of, capacity_of, child_of, core_count, down_links, gateway, host_row, latency_of, link_id, link_of, link_row, links_at, mutex_row, number_of, point_id, policy_of, route_row, router_row, routing_of, semaphore_row, speed_of, spoke_row, zone_id, zone_route_row, zone_row};
-ghost use Rattle.sg_rules.specs.Names.{AreSmall, FitsIn32, names_view};
+ghost use Rattle.sg_rules.specs.kept.NamesView.{AreSmall, FitsIn32, names_view};
 ghost use Rattle.toml.specs.View.{view};
 
-use crate::ends::{LinkEnd, way_back};
 use crate::functions::function_of;
-use crate::rows::{
-    ActorRow, HostRow, LinkRow, MutexRow, Policy, RouteRow, RouterRow, Routing, SemaphoreRow,
-    SpokeRow, ZoneRouteRow, ZoneRow,
-};
 use indexmap::IndexMap;
 use sg_base::{Child, LinkId, Links, Memory, PointId, Text, ZoneId};
+use sg_rows::{
+    ActorRow, HostRow, LinkEnd, LinkRow, MutexRow, Policy, RouteRow, RouterRow, Routing,
+    SemaphoreRow, SpokeRow, ZoneRouteRow, ZoneRow, way_back,
+};
 use sg_rules::{Names, bandwidth_value, is_symmetrical, latency_value, speed_value};
 use sg_tree::{text_at, text_or_empty};
 use std::alloc::Global;

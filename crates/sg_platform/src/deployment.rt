@@ -1,21 +1,18 @@
-//! Deployments, and their reader.
+//! Reads deployments.
 ghost use Rattle.std.specs.Prelude.{◌≡◌, ◌≢◌, ◌+◌, ◌≤◌, Err, IfOk};
-ghost use Rattle.sg_platform.specs.Deployment.{IsDeployedOn, IsDeployment, mutex_named, replay_actor_named, semaphore_named};
+ghost use Rattle.sg_rows.specs.Deployment.{IsDeployedOn, IsDeployment};
+ghost use Rattle.sg_platform.specs.FaultWords.{deployment_place, deployment_rule, deployment_words};
 ghost use Rattle.sg_platform.specs.DeploymentOf.{deployment_of, fault_of, names_on, rows_of, tree_deployment};
 ghost use Rattle.sg_platform.specs.declared.deployment.DeploymentFault.TheVariants.{Memory};
-ghost use Rattle.sg_rules.specs.Names.{AreSmall, names_view};
+ghost use Rattle.sg_rules.specs.kept.NamesView.{AreSmall, names_view};
 ghost use Rattle.toml.specs.View.{table_view};
 
 use crate::build::{actor_rows, mutex_rows, semaphore_rows};
-use crate::index::{hosts_by_name, mutexes_by_name, replay_by_name, semaphores_by_name};
-use crate::platform::PlatformText;
-use crate::rows::{ActorRow, MutexRow, SemaphoreRow};
-use indexmap::IndexMap;
-use sg_base::ActorId;
+use crate::platform::GREATEST_TEXT;
+use sg_rows::{Deployment, PlatformText, hosts_by_name};
 use sg_rules::{DEPLOYMENT, Names, deployment_names, first_fault};
 use sg_tree::{Fault, Kind, NoTree, Place, read_tree, rows_at};
 use std::alloc::Global;
-use std::marker::Model;
 use thiserror::Error;
 
 /// Why a text is no deployment.
@@ -23,23 +20,23 @@ use thiserror::Error;
 pub enum DeploymentFault {
     #[error("not TOML")]
     BadToml,
-    #[error("missing key")]
+    #[error("{words}", words = Kind::MissingKey.words())]
     MissingKey(Place),
-    #[error("wrong type")]
+    #[error("{words}", words = Kind::WrongType.words())]
     WrongType(Place),
-    #[error("bad value")]
+    #[error("{words}", words = Kind::BadValue.words())]
     BadValue(Place),
-    #[error("bad name")]
+    #[error("{words}", words = Kind::BadName.words())]
     BadName(Place),
-    #[error("duplicate")]
+    #[error("{words}", words = Kind::Duplicate.words())]
     Duplicate(Place),
-    #[error("unknown name")]
+    #[error("{words}", words = Kind::Unknown.words())]
     Unknown(Place),
-    #[error("over a limit")]
+    #[error("{words}", words = Kind::Limit.words())]
     Limit(Place),
-    #[error("unknown function")]
+    #[error("{words}", words = Kind::Function.words())]
     Function(Place),
-    #[error("bad arguments")]
+    #[error("{words}", words = Kind::Arguments.words())]
     Arguments(Place),
     #[error("out of memory")]
     Memory,
@@ -53,105 +50,45 @@ impl From<sg_base::Memory> for DeploymentFault {
     }
 }
 
-/// A deployment, which contracts see as its rows.
-#[derive(Drop)]
-pub struct Deployment {
-    actors: Vec<ActorRow>,
-    mutexes: Vec<MutexRow>,
-    semaphores: Vec<SemaphoreRow>,
-    replay: IndexMap<Vec<u8>, usize>,
-    named_mutexes: IndexMap<Vec<u8>, usize>,
-    named_semaphores: IndexMap<Vec<u8>, usize>,
-}
-
-impl Model for Deployment {
-    ghost use Rattle.sg_platform.specs.Deployment.{Deployed, IsDeployment};
-    ghost use Rattle.sg_platform.specs.Index.{FindsAs, mutex_number, replay_number, semaphore_number};
-
-    ghost Value = { Deployed };
-
-    ghost view = { λ d. record { actors = d.actors.items; mutexes = d.mutexes.items; semaphores = d.semaphores.items } };
-
-    ghost invariant = { λ d. FindsAs d.replay (replay_number d.actors.items)
-        × FindsAs d.named_mutexes (mutex_number d.mutexes.items)
-        × FindsAs d.named_semaphores (semaphore_number d.semaphores.items)
-        × IsDeployment (record { actors = d.actors.items; mutexes = d.mutexes.items; semaphores = d.semaphores.items }) };
-}
-
-impl Deployment {
-    /// The deployment with these rows.
-    pub(crate) fn with_rows(
-        alloc: Global,
-        actors: Vec<ActorRow>,
-        mutexes: Vec<MutexRow>,
-        semaphores: Vec<SemaphoreRow>,
-    ) -> Result<Deployment, sg_base::Memory>
-        requires { IsDeployment (record { actors = actors.items; mutexes = mutexes.items; semaphores = semaphores.items }) }
-        ensures { IfOk result (λ d. d ≡ record { actors = actors.items; mutexes = mutexes.items; semaphores = semaphores.items }) }
+impl DeploymentFault {
+    /// The rule that the text breaks, if it breaks one.
+    fn rule(&self) -> Option<Fault>
+        ensures { result ≡ deployment_rule self.now }
     {
-        let replay = replay_by_name(alloc, actors.as_slice())?;
-        let named_mutexes = mutexes_by_name(alloc, mutexes.as_slice())?;
-        let named_semaphores = semaphores_by_name(alloc, semaphores.as_slice())?;
-        Ok(Deployment {
-            actors,
-            mutexes,
-            semaphores,
-            replay,
-            named_mutexes,
-            named_semaphores,
-        })
+        let (kind, place) = match self {
+            DeploymentFault::BadToml | DeploymentFault::Memory => return None,
+            DeploymentFault::MissingKey(place) => (Kind::MissingKey, *place),
+            DeploymentFault::WrongType(place) => (Kind::WrongType, *place),
+            DeploymentFault::BadValue(place) => (Kind::BadValue, *place),
+            DeploymentFault::BadName(place) => (Kind::BadName, *place),
+            DeploymentFault::Duplicate(place) => (Kind::Duplicate, *place),
+            DeploymentFault::Unknown(place) => (Kind::Unknown, *place),
+            DeploymentFault::Limit(place) => (Kind::Limit, *place),
+            DeploymentFault::Function(place) => (Kind::Function, *place),
+            DeploymentFault::Arguments(place) => (Kind::Arguments, *place),
+        };
+        Some(Fault { place, kind })
     }
 
-    /// The actors, in declared order. The first has the identifier 1.
-    pub fn actors(&self) -> &[ActorRow]
-        ensures rows { result.now ≡ self.now.actors }
-        ensures kept { IsDeployment self.now }
+    /// What is wrong, in words; of want of memory no word.
+    pub fn words(&self) -> &'static str
+        ensures { result.now ≡ deployment_words self.now }
     {
-        self.actors.as_slice()
-    }
-
-    /// The mutexes, in declared order from 0 on.
-    pub fn mutexes(&self) -> &[MutexRow]
-        ensures rows { result.now ≡ self.now.mutexes }
-        ensures kept { IsDeployment self.now }
-    {
-        self.mutexes.as_slice()
-    }
-
-    /// The semaphores, in declared order from 0 on.
-    pub fn semaphores(&self) -> &[SemaphoreRow]
-        ensures rows { result.now ≡ self.now.semaphores }
-        ensures kept { IsDeployment self.now }
-    {
-        self.semaphores.as_slice()
-    }
-
-    /// The number of the mutex of this name, from 0 on.
-    pub fn mutex_named(&self, name: &[u8]) -> Option<u32>
-        ensures { result ≡ mutex_named self.now name.now }
-    {
-        match self.named_mutexes.get(name) {
-            Some(row) => Some(*row as u32),
-            None => None,
+        match self {
+            DeploymentFault::BadToml => "not TOML",
+            fault => match fault.rule() {
+                Some(rule) => rule.kind.words(),
+                None => "",
+            },
         }
     }
 
-    /// The number of the semaphore of this name, from 0 on.
-    pub fn semaphore_named(&self, name: &[u8]) -> Option<u32>
-        ensures { result ≡ semaphore_named self.now name.now }
+    /// Where the text breaks a rule.
+    pub fn place(&self) -> Option<Place>
+        ensures { result ≡ deployment_place self.now }
     {
-        match self.named_semaphores.get(name) {
-            Some(row) => Some(*row as u32),
-            None => None,
-        }
-    }
-
-    /// The actor of this name, if it replays.
-    pub fn replay_actor(&self, name: &[u8]) -> Option<ActorId>
-        ensures { result ≡ replay_actor_named self.now name.now }
-    {
-        match self.replay.get(name) {
-            Some(row) => Some(ActorId(*row as u32 + 1)),
+        match self.rule() {
+            Some(rule) => Some(rule.place),
             None => None,
         }
     }
@@ -230,9 +167,6 @@ fn tree_deployment(
     let names = names_on(alloc, tree, platform)?;
     deployment_in(alloc, &names, tree, platform)
 }
-
-/// The greatest text that is read, in bytes.
-const GREATEST_TEXT: usize = 16_777_216;
 
 /// Reads a deployment on a platform.
 ///

@@ -1,11 +1,11 @@
 //! What the actors of a tree do, where it has no fault.
 ghost use Rattle.std.specs.Prelude.{◌≡◌, ◌+◌, IfOk, map};
 ghost use Rattle.sg_platform.specs.Functions.{amount_of, arguments_at, function_of, master_of, worker_id};
-ghost use Rattle.sg_rules.specs.Names.{AreSmall, names_view};
+ghost use Rattle.sg_rules.specs.kept.NamesView.{AreSmall, names_view};
 ghost use Rattle.toml.specs.View.{view};
 
-use crate::rows::Function;
 use sg_base::{ActorId, Ids, Memory};
+use sg_rows::Function;
 use sg_rules::{Names, amount_value, has_function, text_of};
 use std::alloc::Global;
 use toml::Value;

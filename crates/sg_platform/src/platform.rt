@@ -1,20 +1,20 @@
-//! Platforms, and their reader.
+//! Reads platforms.
 ghost use Rattle.std.specs.Prelude.{◌≡◌, ◌≢◌, ◌+◌, ◌<◌, ◌^◌, Err, IfOk};
-ghost use Rattle.sg_platform.specs.Platform.{IsPlatform};
+ghost use Rattle.sg_rows.specs.Platform.{IsPlatform};
+ghost use Rattle.sg_platform.specs.FaultWords.{platform_place, platform_rule, platform_words};
 ghost use Rattle.sg_platform.specs.PlatformOf.{fault_of, platform_of, rows_of, tree_platform};
 ghost use Rattle.sg_platform.specs.declared.platform.PlatformFault.TheVariants.{Memory};
-ghost use Rattle.sg_rules.specs.Names.{AreSmall, names_view, platform_known};
+ghost use Rattle.sg_rules.specs.Names.{platform_known};
+ghost use Rattle.sg_rules.specs.kept.NamesView.{AreSmall, names_view};
 ghost use Rattle.toml.specs.View.{table_view};
 
 use crate::build::{
     host_rows, link_rows, route_rows, router_rows, spoke_rows, zone_route_rows, zone_rows,
 };
-use crate::ends::link_ends;
-use crate::rows::{HostRow, LinkRow, RouteRow, RouterRow, SpokeRow, ZoneRouteRow, ZoneRow};
+use sg_rows::{PlatformRows, PlatformText, link_ends};
 use sg_rules::{Names, PLATFORM, first_fault, platform_names};
 use sg_tree::{Fault, Kind, NoTree, Place, read_tree, rows_at};
 use std::alloc::Global;
-use std::marker::Model;
 use thiserror::Error;
 
 /// Why a text is no platform.
@@ -22,19 +22,19 @@ use thiserror::Error;
 pub enum PlatformFault {
     #[error("not TOML")]
     BadToml,
-    #[error("missing key")]
+    #[error("{words}", words = Kind::MissingKey.words())]
     MissingKey(Place),
-    #[error("wrong type")]
+    #[error("{words}", words = Kind::WrongType.words())]
     WrongType(Place),
-    #[error("bad value")]
+    #[error("{words}", words = Kind::BadValue.words())]
     BadValue(Place),
-    #[error("bad name")]
+    #[error("{words}", words = Kind::BadName.words())]
     BadName(Place),
-    #[error("duplicate")]
+    #[error("{words}", words = Kind::Duplicate.words())]
     Duplicate(Place),
-    #[error("unknown name")]
+    #[error("{words}", words = Kind::Unknown.words())]
     Unknown(Place),
-    #[error("over a limit")]
+    #[error("{words}", words = Kind::Limit.words())]
     Limit(Place),
     #[error("out of memory")]
     Memory,
@@ -48,99 +48,45 @@ impl From<sg_base::Memory> for PlatformFault {
     }
 }
 
-/// A platform, which contracts see as its rows.
-#[derive(Drop)]
-pub struct PlatformText {
-    pub(crate) zones: Vec<ZoneRow>,
-    pub(crate) hosts: Vec<HostRow>,
-    pub(crate) routers: Vec<RouterRow>,
-    pub(crate) links: Vec<LinkRow>,
-    pub(crate) routes: Vec<RouteRow>,
-    pub(crate) zone_routes: Vec<ZoneRouteRow>,
-    pub(crate) spokes: Vec<SpokeRow>,
-}
-
-impl Model for PlatformText {
-    ghost use Rattle.sg_platform.specs.Platform.{IsPlatform, Platform};
-
-    ghost Value = { Platform };
-
-    ghost view = { λ p. record {
-      zones = p.zones.items;
-      hosts = p.hosts.items;
-      routers = p.routers.items;
-      links = p.links.items;
-      routes = p.routes.items;
-      zone_routes = p.zone_routes.items;
-      spokes = p.spokes.items;
-    } };
-
-    ghost invariant = { λ p. IsPlatform (record {
-      zones = p.zones.items;
-      hosts = p.hosts.items;
-      routers = p.routers.items;
-      links = p.links.items;
-      routes = p.routes.items;
-      zone_routes = p.zone_routes.items;
-      spokes = p.spokes.items;
-    }) };
-}
-
-impl PlatformText {
-    /// The zones, in declared order.
-    pub fn zones(&self) -> &[ZoneRow]
-        ensures rows { result.now ≡ self.now.zones }
-        ensures kept { IsPlatform self.now }
+impl PlatformFault {
+    /// The rule that the text breaks, if it breaks one.
+    fn rule(&self) -> Option<Fault>
+        ensures { result ≡ platform_rule self.now }
     {
-        self.zones.as_slice()
+        let (kind, place) = match self {
+            PlatformFault::BadToml | PlatformFault::Memory => return None,
+            PlatformFault::MissingKey(place) => (Kind::MissingKey, *place),
+            PlatformFault::WrongType(place) => (Kind::WrongType, *place),
+            PlatformFault::BadValue(place) => (Kind::BadValue, *place),
+            PlatformFault::BadName(place) => (Kind::BadName, *place),
+            PlatformFault::Duplicate(place) => (Kind::Duplicate, *place),
+            PlatformFault::Unknown(place) => (Kind::Unknown, *place),
+            PlatformFault::Limit(place) => (Kind::Limit, *place),
+        };
+        Some(Fault { place, kind })
     }
 
-    /// The hosts, in declared order.
-    pub fn hosts(&self) -> &[HostRow]
-        ensures rows { result.now ≡ self.now.hosts }
-        ensures kept { IsPlatform self.now }
+    /// What is wrong, in words; of want of memory no word.
+    pub fn words(&self) -> &'static str
+        ensures { result.now ≡ platform_words self.now }
     {
-        self.hosts.as_slice()
+        match self {
+            PlatformFault::BadToml => "not TOML",
+            fault => match fault.rule() {
+                Some(rule) => rule.kind.words(),
+                None => "",
+            },
+        }
     }
 
-    /// The routers, in declared order. They are points after the hosts.
-    pub fn routers(&self) -> &[RouterRow]
-        ensures rows { result.now ≡ self.now.routers }
-        ensures kept { IsPlatform self.now }
+    /// Where the text breaks a rule.
+    pub fn place(&self) -> Option<Place>
+        ensures { result ≡ platform_place self.now }
     {
-        self.routers.as_slice()
-    }
-
-    /// The links, in declared order.
-    pub fn links(&self) -> &[LinkRow]
-        ensures rows { result.now ≡ self.now.links }
-        ensures kept { IsPlatform self.now }
-    {
-        self.links.as_slice()
-    }
-
-    /// The routes between points.
-    pub fn routes(&self) -> &[RouteRow]
-        ensures rows { result.now ≡ self.now.routes }
-        ensures kept { IsPlatform self.now }
-    {
-        self.routes.as_slice()
-    }
-
-    /// The routes between children of a zone, of which at least one is a zone.
-    pub fn zone_routes(&self) -> &[ZoneRouteRow]
-        ensures rows { result.now ≡ self.now.zone_routes }
-        ensures kept { IsPlatform self.now }
-    {
-        self.zone_routes.as_slice()
-    }
-
-    /// The spokes of Star zones.
-    pub fn spokes(&self) -> &[SpokeRow]
-        ensures rows { result.now ≡ self.now.spokes }
-        ensures kept { IsPlatform self.now }
-    {
-        self.spokes.as_slice()
+        match self.rule() {
+            Some(rule) => Some(rule.place),
+            None => None,
+        }
     }
 }
 
@@ -178,7 +124,7 @@ fn rows_of(
     let routes = route_rows(alloc, names, rows_at(tree, "route"))?;
     let zone_routes = zone_route_rows(alloc, names, rows_at(tree, "zone_route"))?;
     let spokes = spoke_rows(alloc, names, ends.as_slice(), rows_at(tree, "spoke"))?;
-    Ok(PlatformText {
+    Ok(PlatformText::with_rows(PlatformRows {
         zones,
         hosts,
         routers,
@@ -186,7 +132,7 @@ fn rows_of(
         routes,
         zone_routes,
         spokes,
-    })
+    }))
 }
 
 /// The platform of a tree whose names these are.
@@ -214,7 +160,7 @@ fn tree_platform(alloc: Global, tree: &toml::Table) -> Result<PlatformText, Plat
 }
 
 /// The greatest text that is read, in bytes.
-const GREATEST_TEXT: usize = 16_777_216;
+pub const GREATEST_TEXT: usize = 16_777_216;
 
 /// Reads a platform.
 ///

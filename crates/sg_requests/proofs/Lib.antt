@@ -1,1 +1,1 @@
-pub mod SpanLemmas
+pub mod Values

@@ -1,2 +1,2 @@
 pub mod Requested
-pub mod Spans
+pub mod kept

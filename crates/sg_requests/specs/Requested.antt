@@ -1,6 +1,6 @@
 -- The requests of actors.
 use Rattle.std.specs.Prelude.{ℕ, ◌-◌, Option, None, Some, List, [], ◌∷◌, ◌++◌, slice_index_or, slice_set}
-use Rattle.sg_requests.specs.declared.request.Await.{Await}
+use Rattle.sg_base.specs.declared.awaits.Await.{Await}
 
 -- what each actor may wait for, by actor from 1 on, oldest first; how many requests were made in all; and room for so many more
 pub record Requested : Type 0 where

@@ -2,23 +2,24 @@
 ghost use Rattle.std.specs.Prelude.{◌≡◌, ◌+◌, ◌-◌, ◌^◌, ◌<◌, ◌≤◌, [], length, replicate, IfOk, OnOk};
 ghost use Rattle.sg_requests.specs.Requested.{oldest, queue_at, queued, taken};
 
-use crate::request::{Await, Span, Spot};
-use sg_base::{ActorId, Memory};
+use sg_base::{ActorId, Await, Memory, Party, Serial};
+use sg_queues::Queues;
 use std::alloc::Global;
-use std::collections::HashMap;
 use std::marker::Model;
 
-const NONE: Span = Span { from: 0, to: 0 };
+// What stands where there is no request.
+const BLANK: Await = Await {
+    serial: Serial(0),
+    party: Party::Alone,
+};
 
 /// What each actor asked for without waiting, and hasn't waited for yet: oldest first.
 ///
-/// A request is kept under its actor and its place among that actor's requests, so pushing and taking cost the same
-/// however many actors and requests there are.
+/// Pushing and taking cost the same however many actors and requests there are.
 #[derive(Drop)]
 pub struct Requests {
-    /// The places of each actor's requests, by actor from 1 on.
-    spans: Vec<Span>,
-    kept: HashMap<Spot, Await>,
+    /// A queue for each actor.
+    queues: Queues<Await>,
     /// How many requests were made in all.
     asked: u64,
     /// Room for so many more.
@@ -26,26 +27,40 @@ pub struct Requests {
 }
 
 impl Model for Requests {
-    ghost use Rattle.std.specs.HashMap.{spare};
+    ghost use Rattle.std.specs.Prelude.{◌≤◌};
     ghost use Rattle.sg_requests.specs.Requested.{Requested};
-    ghost use Rattle.sg_requests.specs.Spans.{queues_of, request_at, IsKept};
+    ghost use Rattle.sg_requests.specs.kept.Entries.{values_of};
 
     ghost Value = { Requested };
 
-    ghost view = { λ s. record { queues = queues_of (request_at s.kept) 1 s.spans.items; asked = s.asked; room = s.room } };
+    ghost view = { λ s. record {
+      queues = values_of s.queues.queues;
+      asked = s.asked;
+      room = s.room;
+    } };
 
-    ghost invariant = { λ s. IsKept (request_at s.kept) s.spans.items s.asked s.room (spare s.kept) };
+    ghost invariant = { λ s. s.room ≤ s.queues.room };
+}
+
+// A queue for each of so many actors.
+fn queues_of(alloc: Global, actors: usize) -> Result<Queues<Await>, Memory>
+    ensures { IfOk result (λ q. q ≡ record { queues = replicate actors []; room = 0 }) }
+{
+    let mut queues = Queues::new(alloc, BLANK)?;
+    for _i in 0..actors {
+        queues.add_queue()?;
+    }
+    Ok(queues)
 }
 
 impl Requests {
     /// No request of so many actors, and no room.
     pub fn new(alloc: Global, actors: usize) -> Result<Requests, Memory>
-        ensures { IfOk result (λ r. r ≡ record { queues = replicate actors []; asked = 0; room = 0 }) }
+        ensures { IfOk result (λ r. r
+            ≡ record { queues = replicate actors []; asked = 0; room = 0 }) }
     {
-        let spans = vec![in alloc; NONE; actors]?;
         Ok(Requests {
-            spans,
-            kept: HashMap::new(alloc),
+            queues: queues_of(alloc, actors)?,
             asked: 0,
             room: 0,
         })
@@ -57,9 +72,8 @@ impl Requests {
         ensures grows { self.old.room ≤ self.new.room }
         ensures kept { self.new ≡ record self.old { room = self.new.room } }
     {
-        let n = n.max(self.room);
-        self.kept.reserve(n)?;
-        self.room = n;
+        self.queues.reserve(n)?;
+        self.room = n.max(self.room);
         Ok(())
     }
 
@@ -68,22 +82,13 @@ impl Requests {
         requires actor { (0 < actor.0) × (actor.0 ≤ length self.old.queues) }
         requires few { self.old.asked < 10 ^ 18 }
         requires room { 0 < self.old.room }
-        ensures { self.new ≡ record { queues = queued self.old.queues actor.0 request; asked = self.old.asked + 1; room = self.old.room - 1 } }
+        ensures { self.new ≡ record {
+          queues = queued self.old.queues actor.0 request;
+          asked = self.old.asked + 1;
+          room = self.old.room - 1;
+        } }
     {
-        let index = actor.0 as usize - 1;
-        let span = self.spans[index];
-        let spot = Spot {
-            actor,
-            place: span.to,
-        };
-        match self.kept.insert(spot, request) {
-            Ok(_) => {}
-            Err(_) => unreachable!(),
-        }
-        self.spans[index] = Span {
-            to: span.to + 1,
-            ..span
-        };
+        let _ = self.queues.push_back(actor.index(), request);
         self.asked += 1;
         self.room -= 1;
     }
@@ -94,20 +99,6 @@ impl Requests {
         ensures oldest { result ≡ oldest (queue_at self.old.queues actor.0) }
         ensures rest { self.new ≡ record self.old { queues = taken self.old.queues actor.0 } }
     {
-        let index = actor.0 as usize - 1;
-        let span = self.spans[index];
-        if span.from == span.to {
-            return None;
-        }
-        let spot = Spot {
-            actor,
-            place: span.from,
-        };
-        let oldest = self.kept.remove(&spot);
-        self.spans[index] = Span {
-            from: span.from + 1,
-            ..span
-        };
-        oldest
+        self.queues.pop_front(actor.index())
     }
 }

@@ -1,6 +1,6 @@
 //! Requests of two actors in turn.
-use crate::{Await, End, Requests};
-use sg_base::{ActorId, Memory, Serial};
+use crate::Requests;
+use sg_base::{ActorId, Await, Memory, Party, Serial};
 use std::alloc::Global;
 use std::test::Fail;
 
@@ -11,14 +11,14 @@ const SECOND: ActorId = ActorId(2);
 fn sent(serial: u64) -> Await {
     Await {
         serial: Serial(serial),
-        end: End::Sender,
+        party: Party::Sender,
     }
 }
 
 fn received(serial: u64) -> Await {
     Await {
         serial: Serial(serial),
-        end: End::Receiver,
+        party: Party::Receiver,
     }
 }
 

@@ -7,9 +7,8 @@ use Rattle.sg_base.specs.declared.ids.PointId.{PointId}
 use Rattle.sg_route.specs.declared.router.RouteFault.{RouteFault}
 use Rattle.sg_route.specs.declared.router.RouteFault.TheVariants.{TooLong}
 use Rattle.sg_route.specs.Roads.{Roads}
-use Rattle.sg_route.specs.Route.{Way, whole, route_of, judged, latency_of}
+use Rattle.sg_route.specs.Route.{Way, whole_way, route_of, route_or_fault, latency_of, LeavesRoute}
 use Rattle.sg_route.specs.Firsts.{is_among, firsts}
-use Rattle.sg_route.specs.Walked.{Routed}
 
 -- no link stands twice
 abbrev pub AreOnce : List LinkId → Type 0
@@ -81,15 +80,15 @@ pairs_apart (x ∷ rest) once i zero d less few = absurd (omega arith)
 pairs_apart (x ∷ rest) once zero (suc j) d less few = apart_at x rest j d once.0 (omega arith)
 pairs_apart (x ∷ rest) once (suc i) (suc j) d less few = pairs_apart rest once.1 i j d (omega arith) (omega arith)
 
-once_of : (m : Roads) (w : Way) (result : Result ℕ RouteFault) (links : List LinkId) → Routed (judged m w) result links → AreOnce links
+once_of : (m : Roads) (w : Way) (result : Result ℕ RouteFault) (links : List LinkId) → LeavesRoute (route_or_fault m w) result links → AreOnce links
 once_of m (Err missing) result links h = let P : List LinkId → Type 0 = AreOnce in subst P (sym h.1) tt
 once_of m (Ok all) result links h = go (nat_lt 64 (length (firsts [] all))) h
   where
-    go : (t : Bool) → Routed (cond t (Err TooLong) (Ok (record { links = firsts [] all; latency = sum_by (latency_of m) (firsts [] all) }))) result links → AreOnce links
+    go : (t : Bool) → LeavesRoute (cond t (Err TooLong) (Ok (record { links = firsts [] all; latency = sum_by (latency_of m) (firsts [] all) }))) result links → AreOnce links
     go true h = let P : List LinkId → Type 0 = AreOnce in subst P (sym h.1) tt
     go false h = let P : List LinkId → Type 0 = AreOnce in subst P (sym h.1) (firsts_once [] all)
 
 -- the links that a route leaves
-pub routed_apart : (m : Roads) (a b : PointId) (result : Result ℕ RouteFault) (links : List LinkId) → Routed (route_of m a b) result links → AllPairs (λ x y. x ≢ y) links
+pub routed_apart : (m : Roads) (a b : PointId) (result : Result ℕ RouteFault) (links : List LinkId) → LeavesRoute (route_of m a b) result links → AllPairs (λ x y. x ≢ y) links
 unfolding route_of
-routed_apart m a b result links h = pairs_apart links (once_of m (whole m a b) result links h)
+routed_apart m a b result links h = pairs_apart links (once_of m (whole_way m a b) result links h)

@@ -13,11 +13,11 @@ use Rattle.std.specs.declared.cmp.Ordering.{Ordering}
 use Rattle.std.specs.declared.cmp.Ordering.TheVariants.{Less, Equal, Greater}
 use Rattle.sg_base.specs.declared.ids.Child.{Child}
 use Rattle.sg_base.specs.declared.ids.Child.TheVariants.{Point, Zone}
-use Rattle.sg_platform.specs.declared.rows.SpokeRow.{SpokeRow}
+use Rattle.sg_rows.specs.declared.rows.SpokeRow.{SpokeRow}
 use Rattle.sg_route.specs.declared.locals.Local.{Local}
 use Rattle.sg_route.specs.declared.locals.Pair.{Pair}
 use Rattle.sg_route.specs.Equal.{child_eq, pair_eq}
-use Rattle.sg_route.specs.Index.{child_cmp, pair_cmp, PairsFrom, ChildrenFrom}
+use Rattle.sg_route.specs.kept.Index.{child_cmp, pair_cmp, PairsFrom, ChildrenFrom}
 
 -- ---- the order of keys tells equal ones
 

@@ -5,7 +5,7 @@ use Rattle.std.proofs.lemmas.Bool.Decides.{nat_tests}
 use Rattle.std.specs.Prelude.{nat_lt, ◌==◌}
 use Rattle.sg_base.specs.declared.ids.LinkId.{LinkId}
 use Rattle.sg_route.specs.Firsts.{is_among, firsts}
-use Rattle.sg_route.specs.Kept.{Kept, keep_one, keep_all}
+use Rattle.sg_route.specs.kept.Kept.{Kept, keep_one, keep_all}
 
 -- links in two parts
 pub keep_all-append : (kept : Kept) (xs ys : List LinkId) → keep_all kept (xs ++ ys) ≡ keep_all (keep_all kept xs) ys

@@ -4,15 +4,15 @@ use Rattle.std.proofs.lemmas.Bool.Decides.{nat_tests}
 use Rattle.std.specs.Prelude.{fold, nat_lt, sum_by}
 use Rattle.sg_base.specs.declared.ids.LinkId.{LinkId}
 use Rattle.sg_base.specs.declared.ids.PointId.{PointId}
-use Rattle.sg_platform.specs.Ends.{ends_from, ends_of, link_end, link_ends}
-use Rattle.sg_platform.specs.Platform.{IsPlatform, Platform}
-use Rattle.sg_platform.specs.declared.ends.LinkEnd.{LinkEnd}
-use Rattle.sg_platform.specs.declared.rows.LinkRow.{LinkRow}
-use Rattle.sg_platform.specs.declared.rows.Policy.{Policy}
-use Rattle.sg_platform.specs.declared.rows.Policy.TheVariants.{Shared, Fatpipe, SplitDuplex}
+use Rattle.sg_rows.specs.Ends.{ends_from, ends_of, link_end, link_ends}
+use Rattle.sg_rows.specs.Platform.{IsPlatform, Platform}
+use Rattle.sg_rows.specs.declared.ends.LinkEnd.{LinkEnd}
+use Rattle.sg_rows.specs.declared.rows.LinkRow.{LinkRow}
+use Rattle.sg_rows.specs.declared.rows.Policy.{Policy}
+use Rattle.sg_rows.specs.declared.rows.Policy.TheVariants.{Shared, Fatpipe, SplitDuplex}
 use Rattle.sg_route.specs.Firsts.{firsts}
 use Rattle.sg_route.specs.Roads.{Roads, roads_of}
-use Rattle.sg_route.specs.Route.{Route, Way, judged, latency_of, route_of, whole}
+use Rattle.sg_route.specs.Route.{Route, Way, route_or_fault, latency_of, route_of, whole_way}
 use Rattle.sg_route.specs.declared.router.RouteFault.TheVariants.{TooLong}
 use Rattle.sg_route.proofs.Each.{each_at, each_from}
 use Rattle.sg_zones.proofs.Each.{Each, each_append}
@@ -53,7 +53,7 @@ pub record IsQuick (r : Route) : Type 0 where
   pub few : length r.links ≤ 64
   pub latency : r.latency ≤ 64000000000000000
 
-judged_quick : (m : Roads) (w : Way) (r : Route) → ((link : LinkId) → latency_of m link ≤ 1000000000000000) → judged m w ≡ Ok r → IsQuick r
+judged_quick : (m : Roads) (w : Way) (r : Route) → ((link : LinkId) → latency_of m link ≤ 1000000000000000) → route_or_fault m w ≡ Ok r → IsQuick r
 judged_quick m (Err e) r h is = absurd (cc)
 judged_quick m (Ok links) r h is = go (nat_lt 64 (length (firsts [] links))) refl is
   where
@@ -70,4 +70,4 @@ judged_quick m (Ok links) r h is = go (nat_lt 64 (length (firsts [] links))) ref
 
 pub route_quick : (p : Platform) → IsPlatform p → (a b : PointId) (r : Route) → route_of (roads_of p) a b ≡ Ok r → IsQuick r
 unfolding route_of
-route_quick p kept a b r is = judged_quick (roads_of p) (whole (roads_of p) a b) r (link_quick p kept) is
+route_quick p kept a b r is = judged_quick (roads_of p) (whole_way (roads_of p) a b) r (link_quick p kept) is

@@ -5,19 +5,19 @@ use Rattle.sg_base.specs.declared.ids.Child.{Child}
 use Rattle.sg_base.specs.declared.ids.Child.TheVariants.{Point}
 use Rattle.sg_base.specs.declared.ids.LinkId.{LinkId}
 use Rattle.sg_base.specs.declared.ids.PointId.{PointId}
-use Rattle.sg_platform.proofs.EndsBelow.{link_ends_count, way_back_kept}
-use Rattle.sg_platform.specs.Ends.{link_ends, way_back}
-use Rattle.sg_platform.specs.Platform.{IsLinkList, IsPlatform, Platform, counts_of}
-use Rattle.sg_platform.specs.declared.rows.RouteRow.{RouteRow}
-use Rattle.sg_platform.specs.declared.rows.Routing.{Routing}
-use Rattle.sg_platform.specs.declared.rows.Routing.TheVariants.{Full, Star}
-use Rattle.sg_platform.specs.declared.rows.SpokeRow.{SpokeRow}
-use Rattle.sg_platform.specs.declared.rows.ZoneRouteRow.{ZoneRouteRow}
+use Rattle.sg_rows.proofs.EndsBelow.{link_ends_count, way_back_kept}
+use Rattle.sg_rows.specs.Ends.{link_ends, way_back}
+use Rattle.sg_rows.specs.Platform.{IsLinkList, IsPlatform, Platform, counts_of}
+use Rattle.sg_rows.specs.declared.rows.RouteRow.{RouteRow}
+use Rattle.sg_rows.specs.declared.rows.Routing.{Routing}
+use Rattle.sg_rows.specs.declared.rows.Routing.TheVariants.{Full, Star}
+use Rattle.sg_rows.specs.declared.rows.SpokeRow.{SpokeRow}
+use Rattle.sg_rows.specs.declared.rows.ZoneRouteRow.{ZoneRouteRow}
 use Rattle.sg_route.specs.Equal.{child_eq, pair_eq}
 use Rattle.sg_route.specs.Firsts.{firsts, is_among}
-use Rattle.sg_route.specs.Local.{declared, declared_route, route_local, routes_declared, spoke_at, zone_route_local, zone_routes_declared}
+use Rattle.sg_route.specs.Local.{row_locals, declared_route, route_local, routes_declared, spoke_at, zone_route_local, zone_routes_declared}
 use Rattle.sg_route.specs.Roads.{Roads, roads_of}
-use Rattle.sg_route.specs.Route.{Passage, Route, Way, by_declared, by_passage, by_spokes, joined, latency_of, leg, judged, or_loopback, passage, passage_on, route_of, to_itself, unless_there, way, whole}
+use Rattle.sg_route.specs.Route.{Passage, Route, Way, by_declared, by_passage, by_spokes, way_over, latency_of, leg, route_or_fault, or_loopback, passage, passage_on, route_of, to_itself, unless_there, way, whole_way}
 use Rattle.sg_route.specs.declared.leg.Leg.{Leg}
 use Rattle.sg_route.specs.declared.locals.Local.{Local}
 use Rattle.sg_route.specs.declared.locals.Pair.{Pair}
@@ -40,7 +40,7 @@ from_list p links kept = record { some = let s = kept.some in omega arith; each 
 
 -- ---- local routes
 
-declared_links : (p : Platform) (both : Bool) (l : Local) → IsLinkList (counts_of p) l.links → Each (λ l. Good p l.links) (declared (link_ends p.links) both l)
+declared_links : (p : Platform) (both : Bool) (l : Local) → IsLinkList (counts_of p) l.links → Each (λ l. Good p l.links) (row_locals (link_ends p.links) both l)
 declared_links p false l kept = (from_list p l.links kept, tt)
 declared_links p true l kept =
     (from_list p l.links kept, (from_list p (way_back (link_ends p.links) l.links) (way_back_kept (counts_of p) p.links l.links refl kept), tt))
@@ -51,9 +51,9 @@ locals_links p kept =
     let R : RouteRow → Type 0 = λ r. IsLinkList (counts_of p) r.links in
     let Z : ZoneRouteRow → Type 0 = λ r. IsLinkList (counts_of p) r.links in
     each_append G (routes_declared (link_ends p.links) p.routes) (zone_routes_declared (link_ends p.links) p.zone_routes)
-    (each_flat G R (λ row. declared (link_ends p.links) row.symmetrical (route_local row)) p.routes (λ r k. declared_links p r.symmetrical (route_local r) k)
+    (each_flat G R (λ row. row_locals (link_ends p.links) row.symmetrical (route_local row)) p.routes (λ r k. declared_links p r.symmetrical (route_local r) k)
     (each_from R p.routes (λ k d few. (kept.routes k d few).links)))
-    (each_flat G Z (λ row. declared (link_ends p.links) row.symmetrical (zone_route_local row)) p.zone_routes (λ r k. declared_links p r.symmetrical (zone_route_local r) k)
+    (each_flat G Z (λ row. row_locals (link_ends p.links) row.symmetrical (zone_route_local row)) p.zone_routes (λ r k. declared_links p r.symmetrical (zone_route_local r) k)
     (each_from Z p.zone_routes (λ k d few. (kept.zone_routes k d few).links)))
 
 record GoodSpoke (p : Platform) (s : SpokeRow) : Type 0 where
@@ -104,7 +104,7 @@ forget : (p : Platform) (w : Way) → WayGood p w → WayExists p w
 forget p (Err e) g = tt
 forget p (Ok links) g = g.each
 
-joined_good : (p : Platform) (front behind : Way) (own : List LinkId) → WayExists p front → Good p own → WayExists p behind → WayGood p (joined front own behind)
+joined_good : (p : Platform) (front behind : Way) (own : List LinkId) → WayExists p front → Good p own → WayExists p behind → WayGood p (way_over front own behind)
 joined_good p (Err e) behind own f o b = tt
 joined_good p (Ok links) (Err e) own f o b = tt
 joined_good p (Ok links) (Ok rest) own f o b =
@@ -152,8 +152,8 @@ loop_good p kept Full a = go (declared_route (roads_of p).locals (record { from 
         let pair : Pair = record { from = Point a; to = Point a } in
         (each_found (λ l. Good p l.links) (λ x. pair_eq pair x.pair) (roads_of p).locals l e (locals_links p kept)).0
 
-whole_good : (p : Platform) → IsPlatform p → (a b : PointId) → WayGood p (whole (roads_of p) a b)
-unfolding whole
+whole_good : (p : Platform) → IsPlatform p → (a b : PointId) → WayGood p (whole_way (roads_of p) a b)
+unfolding whole_way
 whole_good p kept a b = go (a.0 == b.0)
   where
     go : (t : Bool) → WayGood p (cond t (Ok (to_itself (roads_of p) (routing_in (tree_of p) (home (tree_of p) a)) a)) (way 16 (roads_of p) a b))
@@ -174,7 +174,7 @@ firsts_some : (xs : List LinkId) → 0 < length xs → 0 < length (firsts [] xs)
 firsts_some [] some = absurd (omega arith)
 firsts_some (x ∷ xs) some = omega arith
 
-judged_good : (p : Platform) (m : Roads) (w : Way) (r : Route) → WayGood p w → judged m w ≡ Ok r → Good p r.links
+judged_good : (p : Platform) (m : Roads) (w : Way) (r : Route) → WayGood p w → route_or_fault m w ≡ Ok r → Good p r.links
 judged_good p m (Err e) r g is = absurd (cc)
 judged_good p m (Ok links) r g is = go (nat_lt 64 (length (firsts [] links))) is
   where
@@ -187,7 +187,7 @@ judged_good p m (Ok links) r g is = go (nat_lt 64 (length (firsts [] links))) is
 
 route_good : (p : Platform) → IsPlatform p → (a b : PointId) (r : Route) → route_of (roads_of p) a b ≡ Ok r → Good p r.links
 unfolding route_of
-route_good p kept a b r is = judged_good p (roads_of p) (whole (roads_of p) a b) r (whole_good p kept a b) is
+route_good p kept a b r is = judged_good p (roads_of p) (whole_way (roads_of p) a b) r (whole_good p kept a b) is
 
 pub routes_are_good : (p : Platform) → IsPlatform p → RoutesAreGood p
 routes_are_good p kept a b r is =

@@ -6,9 +6,8 @@ use Rattle.sg_base.specs.declared.ids.PointId.{PointId}
 use Rattle.sg_base.specs.declared.ids.LinkId.{LinkId}
 use Rattle.sg_route.specs.declared.leg.Leg.{Leg}
 use Rattle.sg_route.specs.Roads.{Roads}
-use Rattle.sg_route.specs.Route.{Way, Passage, leg, passage_on, joined, unless_there, by_passage, through_lowest, way}
-use Rattle.sg_route.specs.Kept.{Kept, keep_all}
-use Rattle.sg_route.specs.Walked.{Walked}
+use Rattle.sg_route.specs.Route.{Way, Passage, leg, passage_on, way_over, unless_there, by_passage, through_lowest, way}
+use Rattle.sg_route.specs.kept.Kept.{Kept, keep_all, KeepsWay}
 use Rattle.sg_route.proofs.KeptLemmas.{keep_all-append}
 
 pub way_zero : (levels : ℕ) (m : Roads) (a b : PointId) → levels ≡ 0 → way levels m a b ≡ Ok []
@@ -35,12 +34,12 @@ elsewhere w a b apart = go (a.0 == b.0) (grind (arith, nat_tests))
     go t e = rw e refl
 
 -- nothing to walk
-pub walked_there : (w : PointId → PointId → Way) (a b : PointId) (kept : Kept) → a.0 ≡ b.0 → Walked (unless_there w a b) (Ok tt) kept kept
-walked_there w a b kept same = let P : Way → Type 0 = λ x. Walked x (Ok tt) kept kept in subst P (sym (there w a b same)) (refl, refl)
+pub walked_there : (w : PointId → PointId → Way) (a b : PointId) (kept : Kept) → a.0 ≡ b.0 → KeepsWay (unless_there w a b) (Ok tt) kept kept
+walked_there w a b kept same = let P : Way → Type 0 = λ x. KeepsWay x (Ok tt) kept kept in subst P (sym (there w a b same)) (refl, refl)
 
-pub walked_zero : (levels : ℕ) (m : Roads) (a b : PointId) (kept : Kept) → a.0 ≢ b.0 → levels ≡ 0 → Walked (unless_there (way levels m) a b) (Ok tt) kept kept
+pub walked_zero : (levels : ℕ) (m : Roads) (a b : PointId) (kept : Kept) → a.0 ≢ b.0 → levels ≡ 0 → KeepsWay (unless_there (way levels m) a b) (Ok tt) kept kept
 walked_zero levels m a b kept apart none =
-    let P : Way → Type 0 = λ x. Walked x (Ok tt) kept kept in
+    let P : Way → Type 0 = λ x. KeepsWay x (Ok tt) kept kept in
     subst P (sym (elsewhere (way levels m) a b apart ∙ way_zero levels m a b none)) (refl, refl)
 
 -- the way by a passage, or without one
@@ -52,17 +51,17 @@ way_by levels m a b found apart some is =
 
 pub walked_none : (levels : ℕ) (m : Roads) (a b : PointId) (old new : Kept) → a.0 ≢ b.0 → 0 < levels
     → passage_on m (leg m a b) ≡ None
-    → Walked (unless_there (way levels m) a b) (Err (leg m a b)) old new
+    → KeepsWay (unless_there (way levels m) a b) (Err (leg m a b)) old new
 walked_none levels m a b old new apart some is =
-    let P : Way → Type 0 = λ x. Walked x (Err (leg m a b)) old new in
+    let P : Way → Type 0 = λ x. KeepsWay x (Err (leg m a b)) old new in
     subst P (sym (way_by levels m a b None apart some is)) refl
 
-front_fails : (front behind : Way) (own : List LinkId) (e : Leg) (old mid new : Kept) → Walked front (Err e) old mid → Walked (joined front own behind) (Err e) old new
+front_fails : (front behind : Way) (own : List LinkId) (e : Leg) (old mid new : Kept) → KeepsWay front (Err e) old mid → KeepsWay (way_over front own behind) (Err e) old new
 front_fails (Ok links) behind own e old mid new h = absurd (let q = h.0 in cc)
 front_fails (Err missing) behind own e old mid new h = h
 
-all_walked : (front behind : Way) (own : List LinkId) (result : Result (Unit {0}) Leg) (old mid next new : Kept) → Walked front (Ok tt) old mid → next ≡ keep_all mid own → Walked behind result next new
-    → Walked (joined front own behind) result old new
+all_walked : (front behind : Way) (own : List LinkId) (result : Result (Unit {0}) Leg) (old mid next new : Kept) → KeepsWay front (Ok tt) old mid → next ≡ keep_all mid own → KeepsWay behind result next new
+    → KeepsWay (way_over front own behind) result old new
 all_walked (Err missing) behind own result old mid next new f k h = absurd (cc)
 all_walked (Ok links) (Err missing) own result old mid next new f k h = h
 all_walked (Ok links) (Ok rest) own result old mid next new f k h =
@@ -70,19 +69,19 @@ all_walked (Ok links) (Ok rest) own result old mid next new f k h =
 
 pub walked_front : (levels : ℕ) (m : Roads) (a b : PointId) (p : Passage) (e : Leg) (old mid new : Kept) → a.0 ≢ b.0 → 0 < levels
     → passage_on m (leg m a b) ≡ Some p
-    → Walked (unless_there (way (levels - 1) m) a p.start) (Err e) old mid
-    → Walked (unless_there (way levels m) a b) (Err e) old new
+    → KeepsWay (unless_there (way (levels - 1) m) a p.start) (Err e) old mid
+    → KeepsWay (unless_there (way levels m) a b) (Err e) old new
 walked_front levels m a b p e old mid new apart some is front =
-    let P : Way → Type 0 = λ x. Walked x (Err e) old new in
+    let P : Way → Type 0 = λ x. KeepsWay x (Err e) old new in
     subst P (sym (way_by levels m a b (Some p) apart some is))
     (front_fails (unless_there (way (levels - 1) m) a p.start) (unless_there (way (levels - 1) m) p.end b) p.links e old mid new front)
 
 pub walked_through : (levels : ℕ) (m : Roads) (a b : PointId) (p : Passage) (result : Result (Unit {0}) Leg) (old mid next new : Kept) → a.0 ≢ b.0 → 0 < levels
     → passage_on m (leg m a b) ≡ Some p
-    → Walked (unless_there (way (levels - 1) m) a p.start) (Ok tt) old mid → next ≡ keep_all mid p.links → Walked (unless_there (way (levels - 1) m) p.end b) result next new
-    → Walked (unless_there (way levels m) a b) result old new
+    → KeepsWay (unless_there (way (levels - 1) m) a p.start) (Ok tt) old mid → next ≡ keep_all mid p.links → KeepsWay (unless_there (way (levels - 1) m) p.end b) result next new
+    → KeepsWay (unless_there (way levels m) a b) result old new
 walked_through levels m a b p result old mid next new apart some is front own behind =
-    let P : Way → Type 0 = λ x. Walked x result old new in
+    let P : Way → Type 0 = λ x. KeepsWay x result old new in
     subst P (sym (way_by levels m a b (Some p) apart some is))
     (all_walked (unless_there (way (levels - 1) m) a p.start) (unless_there (way (levels - 1) m) p.end b) p.links result old mid next new front own behind)
 

@@ -1,11 +1,8 @@
 pub mod Equal
 pub mod Firsts
-pub mod Kept
 pub mod Leg
 pub mod Local
-pub mod Index
 pub mod Roads
 pub mod Route
-pub mod Found
 pub mod Good
-pub mod Walked
+pub mod kept

@@ -3,11 +3,11 @@ use Rattle.std.specs.Prelude.{Bool, true, false, Option, List, [], ◌∷◌, �
 use Rattle.std.specs.List.{flat_map}
 use Rattle.sg_base.specs.declared.ids.Child.{Child}
 use Rattle.sg_base.specs.declared.ids.Child.TheVariants.{Point}
-use Rattle.sg_platform.specs.Ends.{way_back}
-use Rattle.sg_platform.specs.declared.ends.LinkEnd.{LinkEnd}
-use Rattle.sg_platform.specs.declared.rows.RouteRow.{RouteRow}
-use Rattle.sg_platform.specs.declared.rows.SpokeRow.{SpokeRow}
-use Rattle.sg_platform.specs.declared.rows.ZoneRouteRow.{ZoneRouteRow}
+use Rattle.sg_rows.specs.Ends.{way_back}
+use Rattle.sg_rows.specs.declared.ends.LinkEnd.{LinkEnd}
+use Rattle.sg_rows.specs.declared.rows.RouteRow.{RouteRow}
+use Rattle.sg_rows.specs.declared.rows.SpokeRow.{SpokeRow}
+use Rattle.sg_rows.specs.declared.rows.ZoneRouteRow.{ZoneRouteRow}
 use Rattle.sg_route.specs.declared.locals.Local.{Local}
 use Rattle.sg_route.specs.declared.locals.Pair.{Pair}
 use Rattle.sg_route.specs.Equal.{child_eq, pair_eq}
@@ -20,19 +20,19 @@ abbrev pub zone_route_local : ZoneRouteRow → Local
 zone_route_local row = record { pair = record { from = row.src; to = row.dst }; start = row.gw_src; end = row.gw_dst; links = row.links }
 
 -- the way back of a local route: its ends exchanged, its gateways exchanged, and the way back over its links
-abbrev pub turned : List LinkEnd → Local → Local
-turned ends l = record { pair = record { from = l.pair.to; to = l.pair.from }; start = l.end; end = l.start; links = way_back ends l.links }
+abbrev pub local_back : List LinkEnd → Local → Local
+local_back ends l = record { pair = record { from = l.pair.to; to = l.pair.from }; start = l.end; end = l.start; links = way_back ends l.links }
 
 -- a local route, and behind it its way back where it is symmetrical
-abbrev pub declared : List LinkEnd → Bool → Local → List Local
-declared ends false l = l ∷ []
-declared ends true l = l ∷ (turned ends l ∷ [])
+abbrev pub row_locals : List LinkEnd → Bool → Local → List Local
+row_locals ends false l = l ∷ []
+row_locals ends true l = l ∷ (local_back ends l ∷ [])
 
 abbrev pub routes_declared : List LinkEnd → List RouteRow → List Local
-routes_declared ends rows = flat_map (λ row. declared ends row.symmetrical (route_local row)) rows
+routes_declared ends rows = flat_map (λ row. row_locals ends row.symmetrical (route_local row)) rows
 
 abbrev pub zone_routes_declared : List LinkEnd → List ZoneRouteRow → List Local
-zone_routes_declared ends rows = flat_map (λ row. declared ends row.symmetrical (zone_route_local row)) rows
+zone_routes_declared ends rows = flat_map (λ row. row_locals ends row.symmetrical (zone_route_local row)) rows
 
 -- all local routes that rows declare, in the order of the rows
 abbrev pub locals_of : List LinkEnd → List RouteRow → List ZoneRouteRow → List Local

@@ -1,9 +1,9 @@
 -- What a router knows of a platform.
 use Rattle.std.specs.Prelude.{List}
-use Rattle.sg_platform.specs.Ends.{link_ends}
-use Rattle.sg_platform.specs.Platform.{Platform}
-use Rattle.sg_platform.specs.declared.ends.LinkEnd.{LinkEnd}
-use Rattle.sg_platform.specs.declared.rows.SpokeRow.{SpokeRow}
+use Rattle.sg_rows.specs.Ends.{link_ends}
+use Rattle.sg_rows.specs.Platform.{Platform}
+use Rattle.sg_rows.specs.declared.ends.LinkEnd.{LinkEnd}
+use Rattle.sg_rows.specs.declared.rows.SpokeRow.{SpokeRow}
 use Rattle.sg_route.specs.declared.locals.Local.{Local}
 use Rattle.sg_route.specs.Local.{locals_of}
 use Rattle.sg_zones.specs.Tree.{Tree, tree_of}

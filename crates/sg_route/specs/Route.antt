@@ -1,13 +1,13 @@
 -- The route between two points.
-use Rattle.std.specs.Prelude.{◌==◌, ℕ, suc, zero, ◌-◌, if◌then◌else◌, nat_lt, Option, None, Some, option_map, Result, Ok, Err, List, [], ◌∷◌, ◌++◌, length, slice_index_or, sum_by}
+use Rattle.std.specs.Prelude.{◌≡◌, ◌==◌, ℕ, suc, zero, ◌-◌, if◌then◌else◌, nat_lt, Option, None, Some, option_map, Result, Ok, Err, List, [], ◌∷◌, ◌++◌, length, slice_index_or, sum_by}
 use Rattle.sg_base.specs.declared.ids.LinkId.{LinkId}
 use Rattle.sg_base.specs.declared.ids.PointId.{PointId}
 use Rattle.sg_base.specs.declared.ids.Child.{Child}
 use Rattle.sg_base.specs.declared.ids.Child.TheVariants.{Point}
-use Rattle.sg_platform.specs.declared.rows.Routing.{Routing}
-use Rattle.sg_platform.specs.declared.rows.Routing.TheVariants.{Full, Star}
-use Rattle.sg_platform.specs.declared.rows.SpokeRow.{SpokeRow}
-use Rattle.sg_platform.specs.Ends.{link_end}
+use Rattle.sg_rows.specs.declared.rows.Routing.{Routing}
+use Rattle.sg_rows.specs.declared.rows.Routing.TheVariants.{Full, Star}
+use Rattle.sg_rows.specs.declared.rows.SpokeRow.{SpokeRow}
+use Rattle.sg_rows.specs.Ends.{link_end}
 use Rattle.sg_route.specs.declared.locals.Local.{Local}
 use Rattle.sg_route.specs.declared.leg.Leg.{Leg}
 use Rattle.sg_route.specs.declared.router.RouteFault.{RouteFault}
@@ -53,10 +53,10 @@ abbrev pub Way : Type 0
 Way = Result (List LinkId) Leg
 
 -- in front, the local route, behind: what is missing in front is told before what is missing behind
-abbrev pub joined : Way → List LinkId → Way → Way
-joined (Err missing) links behind = Err missing
-joined (Ok front) links (Err missing) = Err missing
-joined (Ok front) links (Ok behind) = Ok (front ++ links ++ behind)
+abbrev pub way_over : Way → List LinkId → Way → Way
+way_over (Err missing) links behind = Err missing
+way_over (Ok front) links (Err missing) = Err missing
+way_over (Ok front) links (Ok behind) = Ok (front ++ links ++ behind)
 
 -- no links from a point to itself
 abbrev pub unless_there : (PointId → PointId → Way) → PointId → PointId → Way
@@ -65,7 +65,7 @@ unless_there way a b = if a.0 == b.0 then Ok [] else way a b
 -- the zone's own local route, where it is missing, is told before all others
 abbrev pub by_passage : (PointId → PointId → Way) → PointId → PointId → Leg → Option Passage → Way
 by_passage way a b l None = Err l
-by_passage way a b l (Some p) = joined (unless_there way a p.start) p.links (unless_there way p.end b)
+by_passage way a b l (Some p) = way_over (unless_there way a p.start) p.links (unless_there way p.end b)
 
 -- The route from a to another point b: the local route of the lowest zone that holds both, between its children that
 -- hold them; in front of it the way from a to its first gateway, and behind it the way from its second gateway to b.
@@ -102,15 +102,20 @@ pub record Route : Type 0 where
   pub latency : ℕ
 
 -- each link counts once, at its first place; a route that misses nothing and has over 64 links is too long
-abbrev pub judged : Roads → Way → Result Route RouteFault
-judged m (Err missing) = Err (NoRoute missing.zone missing.from missing.to)
-judged m (Ok links) =
+abbrev pub route_or_fault : Roads → Way → Result Route RouteFault
+route_or_fault m (Err missing) = Err (NoRoute missing.zone missing.from missing.to)
+route_or_fault m (Ok links) =
     if nat_lt 64 (length (firsts [] links)) then Err TooLong
     else Ok (record { links = firsts [] links; latency = sum_by (latency_of m) (firsts [] links) })
 
 -- the links from a point to another, or from a host to itself; zones are at most 16 deep
-unfoldable pub whole : Roads → PointId → PointId → Way
-whole m a b = if a.0 == b.0 then Ok (to_itself m (routing_in m.tree (home m.tree a)) a) else way 16 m a b
+unfoldable pub whole_way : Roads → PointId → PointId → Way
+whole_way m a b = if a.0 == b.0 then Ok (to_itself m (routing_in m.tree (home m.tree a)) a) else way 16 m a b
 
 unfoldable pub route_of : Roads → PointId → PointId → Result Route RouteFault
-route_of m a b = judged m (whole m a b)
+route_of m a b = route_or_fault m (whole_way m a b)
+
+-- the latency and the links of the route, or the fault and no links
+abbrev pub LeavesRoute : Result Route RouteFault → Result ℕ RouteFault → List LinkId → Type 0
+LeavesRoute (Ok route) result links = (result ≡ Ok route.latency) × (links ≡ route.links)
+LeavesRoute (Err fault) result links = (result ≡ Err fault) × (links ≡ [])

@@ -1,6 +1,6 @@
 //! A router from the rows of a platform.
 ghost use Rattle.std.specs.Prelude.{◌≡◌, ◌++◌, IfOk, OnOk};
-ghost use Rattle.sg_route.specs.Local.{turned, declared, routes_declared, zone_routes_declared, locals_of};
+ghost use Rattle.sg_route.specs.Local.{local_back, row_locals, routes_declared, zone_routes_declared, locals_of};
 ghost use Rattle.sg_route.specs.Roads.{roads_of};
 ghost use Rattle.sg_zones.specs.Tree.{tree_of};
 
@@ -8,7 +8,7 @@ use crate::locals::{Local, Locals, Pair};
 use crate::router::Router;
 use crate::spokes::Spokes;
 use sg_base::{Child, LinkId, Links, Memory};
-use sg_platform::{LinkEnd, PlatformText, RouteRow, SpokeRow, ZoneRouteRow, link_ends, way_back};
+use sg_rows::{LinkEnd, PlatformText, RouteRow, SpokeRow, ZoneRouteRow, link_ends, way_back};
 use sg_zones::Zones;
 use std::alloc::Global;
 
@@ -20,8 +20,8 @@ fn copy_of(alloc: Global, links: &Links) -> Result<Links, Memory>
 }
 
 /// The way back of a local route.
-fn turned(alloc: Global, ends: &[LinkEnd], local: &Local) -> Result<Local, Memory>
-    ensures { IfOk result (λ back. back ≡ turned ends.now local.now) }
+fn local_back(alloc: Global, ends: &[LinkEnd], local: &Local) -> Result<Local, Memory>
+    ensures { IfOk result (λ back. back ≡ local_back ends.now local.now) }
 {
     Ok(Local {
         pair: Pair {
@@ -42,10 +42,11 @@ fn add_declared(
     local: Local,
     locals: &mut Vec<Local>,
 ) -> Result<(), Memory>
-    ensures { OnOk result (locals.new.items ≡ locals.old.items ++ declared ends.now symmetrical local) }
+    ensures { OnOk result
+        (locals.new.items ≡ locals.old.items ++ row_locals ends.now symmetrical local) }
 {
     if symmetrical {
-        let back = turned(alloc, ends, &local)?;
+        let back = local_back(alloc, ends, &local)?;
         locals.push(local)?;
         locals.push(back)?;
         return Ok(());
@@ -61,7 +62,8 @@ fn add_routes(
     rows: &[RouteRow],
     locals: &mut Vec<Local>,
 ) -> Result<(), Memory>
-    ensures { OnOk result (locals.new.items ≡ locals.old.items ++ routes_declared ends.now rows.now) }
+    ensures { OnOk result
+        (locals.new.items ≡ locals.old.items ++ routes_declared ends.now rows.now) }
 {
     for row in rows {
         let local = Local {
@@ -85,7 +87,8 @@ fn add_zone_routes(
     rows: &[ZoneRouteRow],
     locals: &mut Vec<Local>,
 ) -> Result<(), Memory>
-    ensures { OnOk result (locals.new.items ≡ locals.old.items ++ zone_routes_declared ends.now rows.now) }
+    ensures { OnOk result
+        (locals.new.items ≡ locals.old.items ++ zone_routes_declared ends.now rows.now) }
 {
     for row in rows {
         let local = Local {

@@ -1,7 +1,7 @@
 //! The links of a route, each once.
 ghost use Rattle.std.specs.Prelude.{◌≡◌, [], Err};
 ghost use Rattle.sg_route.specs.Firsts.{is_among};
-ghost use Rattle.sg_route.specs.Kept.{keep_one, keep_all};
+ghost use Rattle.sg_route.specs.kept.Kept.{keep_one, keep_all};
 
 use crate::router::RouteFault;
 use arrayvec::ArrayVec;
@@ -15,7 +15,8 @@ fn is_among(link: LinkId, links: &[LinkId]) -> bool
 
 /// Keeps a link, unless it is kept already or there is no room.
 fn keep_one(links: &mut ArrayVec<LinkId, 64>, over: &mut bool, link: LinkId)
-    ensures { record { links = links.new.items; over = over.new } ≡ keep_one (record { links = links.old.items; over = over.old }) link }
+    ensures { record { links = links.new.items; over = over.new }
+        ≡ keep_one (record { links = links.old.items; over = over.old }) link }
 {
     if is_among(link, links.as_slice()) {
         return;
@@ -29,7 +30,8 @@ fn keep_one(links: &mut ArrayVec<LinkId, 64>, over: &mut bool, link: LinkId)
 
 /// Keeps these links in their order. Where there was no room for one, `over` is raised, and it goes on.
 pub(crate) fn keep_all(links: &mut ArrayVec<LinkId, 64>, over: &mut bool, more: &[LinkId])
-    ensures { record { links = links.new.items; over = over.new } ≡ keep_all (record { links = links.old.items; over = over.old }) more.now }
+    ensures { record { links = links.new.items; over = over.new }
+        ≡ keep_all (record { links = links.old.items; over = over.old }) more.now }
 {
     for link in more {
         keep_one(links, over, *link);

@@ -8,8 +8,6 @@ mod leg;
 mod locals;
 mod router;
 mod spokes;
-#[cfg(test)]
-mod tests;
 
 pub use laws::routes_are_good;
 pub use router::{RouteFault, Router};

@@ -1,7 +1,7 @@
 //! Declared local routes, found by their pair of children.
 ghost use Rattle.std.specs.Prelude.{◌≡◌, IfOk};
 ghost use Rattle.std.specs.Option.{option_copied};
-ghost use Rattle.sg_route.specs.Index.{IsIndexOfPairs};
+ghost use Rattle.sg_route.specs.kept.Index.{IsIndexOfPairs};
 ghost use Rattle.sg_route.specs.Local.{declared_route};
 
 use sg_base::{Child, Links, Memory, PointId};
@@ -37,7 +37,7 @@ pub(crate) struct Locals {
 impl Model for Locals {
     ghost use Rattle.std.specs.Prelude.{List};
     ghost use Rattle.sg_route.specs.declared.locals.Local.{Local};
-    ghost use Rattle.sg_route.specs.Index.{IsIndexOfPairs};
+    ghost use Rattle.sg_route.specs.kept.Index.{IsIndexOfPairs};
 
     ghost Value = { List Local };
 

@@ -1,9 +1,8 @@
 //! Routes between points.
 ghost use Rattle.std.specs.Prelude.{◌≡◌, ◌≢◌, ◌≤◌, AllPairs, length, option_map, sum_by};
-ghost use Rattle.sg_route.specs.Found.{found_passage};
-ghost use Rattle.sg_route.specs.Kept.{keep_all};
-ghost use Rattle.sg_route.specs.Route.{latency_of, leg, loopback, passage_on, route_of, to_itself, unless_there, way, whole};
-ghost use Rattle.sg_route.specs.Walked.{Routed, Walked};
+ghost use Rattle.sg_route.specs.kept.Found.{found_passage};
+ghost use Rattle.sg_route.specs.kept.Kept.{keep_all, KeepsWay};
+ghost use Rattle.sg_route.specs.Route.{latency_of, leg, loopback, passage_on, route_of, to_itself, unless_there, way, whole_way, LeavesRoute};
 ghost use Rattle.sg_zones.specs.Tree.{home, routing_in};
 
 use crate::kept::{keep_all, refuse};
@@ -12,7 +11,7 @@ use crate::locals::{Locals, Pair};
 use crate::spokes::Spokes;
 use arrayvec::ArrayVec;
 use sg_base::{Child, LinkId, PointId, ZoneId};
-use sg_platform::{LinkEnd, Routing};
+use sg_rows::{LinkEnd, Routing};
 use sg_zones::Zones;
 use std::marker::Model;
 
@@ -113,7 +112,9 @@ impl Router {
         links: &mut ArrayVec<LinkId, 64>,
         over: &mut bool,
     ) -> Result<(), Leg>
-        ensures { Walked (unless_there (way levels self.now) a b) result (record { links = links.old.items; over = over.old }) (record { links = links.new.items; over = over.new }) }
+        ensures { KeepsWay (unless_there (way levels self.now) a b) result
+            (record { links = links.old.items; over = over.old })
+            (record { links = links.new.items; over = over.new }) }
     {
         if a.0 == b.0 {
             return Ok(());
@@ -141,7 +142,9 @@ impl Router {
 
     /// Keeps the links from a host to itself.
     fn keep_to_itself(&self, a: PointId, links: &mut ArrayVec<LinkId, 64>, over: &mut bool)
-        ensures { record { links = links.new.items; over = over.new } ≡ keep_all (record { links = links.old.items; over = over.old }) (to_itself self.now (routing_in self.now.tree (home self.now.tree a)) a) }
+        ensures { record { links = links.new.items; over = over.new }
+            ≡ keep_all (record { links = links.old.items; over = over.old })
+            (to_itself self.now (routing_in self.now.tree (home self.now.tree a)) a) }
     {
         match self.zones.routing(self.zones.home(a)) {
             Routing::Full => {
@@ -166,7 +169,9 @@ impl Router {
         links: &mut ArrayVec<LinkId, 64>,
         over: &mut bool,
     ) -> Result<(), Leg>
-        ensures { Walked (whole self.now a b) result (record { links = links.old.items; over = over.old }) (record { links = links.new.items; over = over.new }) }
+        ensures { KeepsWay (whole_way self.now a b) result
+            (record { links = links.old.items; over = over.old })
+            (record { links = links.new.items; over = over.new }) }
     {
         if a.0 == b.0 {
             self.keep_to_itself(a, links, over);
@@ -209,7 +214,7 @@ impl Router {
         b: PointId,
         links: &mut ArrayVec<LinkId, 64>,
     ) -> Result<u128, RouteFault>
-        ensures route { Routed (route_of self.now a b) result links.new.items }
+        ensures route { LeavesRoute (route_of self.now a b) result links.new.items }
         ensures apart { AllPairs (λ x y. x ≢ y) links.new.items }
     {
         links.clear();

@@ -1,11 +1,11 @@
 //! Spokes, found by their child.
 ghost use Rattle.std.specs.Prelude.{◌≡◌, IfOk};
 ghost use Rattle.std.specs.Option.{option_copied};
-ghost use Rattle.sg_route.specs.Index.{IsIndexOfChildren};
+ghost use Rattle.sg_route.specs.kept.Index.{IsIndexOfChildren};
 ghost use Rattle.sg_route.specs.Local.{spoke_at};
 
 use sg_base::{Child, Memory};
-use sg_platform::SpokeRow;
+use sg_rows::SpokeRow;
 use std::alloc::Global;
 use std::collections::BTreeMap;
 use std::marker::Model;
@@ -19,8 +19,8 @@ pub(crate) struct Spokes {
 
 impl Model for Spokes {
     ghost use Rattle.std.specs.Prelude.{List};
-    ghost use Rattle.sg_platform.specs.declared.rows.SpokeRow.{SpokeRow};
-    ghost use Rattle.sg_route.specs.Index.{IsIndexOfChildren};
+    ghost use Rattle.sg_rows.specs.declared.rows.SpokeRow.{SpokeRow};
+    ghost use Rattle.sg_route.specs.kept.Index.{IsIndexOfChildren};
 
     ghost Value = { List SpokeRow };
 

@@ -4,9 +4,9 @@ use Rattle.std.proofs.lemmas.Bool.Decides.{nat_tests}
 use Rattle.std.specs.Prelude.{◌==◌}
 use Rattle.sg_base.specs.declared.ids.LinkId.{LinkId}
 use Rattle.sg_base.specs.declared.ids.PointId.{PointId}
-use Rattle.sg_platform.specs.Platform.{Platform}
+use Rattle.sg_rows.specs.Platform.{Platform}
 use Rattle.sg_route.specs.Roads.{Roads, roads_of}
-use Rattle.sg_route.specs.Route.{Passage, Way, by_passage, joined, leg, passage_on, to_itself, unless_there, way, whole}
+use Rattle.sg_route.specs.Route.{Passage, Way, by_passage, way_over, leg, passage_on, to_itself, unless_there, way, whole_way}
 use Rattle.sg_route.specs.declared.leg.Leg.{Leg}
 use Rattle.sg_route_laws.specs.Laws.{HasRoutes, IsComplete, IsPoint}
 use Rattle.sg_route_laws.proofs.Nested.{IsNested, home, routing}
@@ -16,7 +16,7 @@ abbrev IsThere : Way → Type 0
 IsThere (Ok links) = Unit {0}
 IsThere (Err missing) = ⊥
 
-joined_there : (front behind : Way) (own : List LinkId) → IsThere front → IsThere behind → IsThere (joined front own behind)
+joined_there : (front behind : Way) (own : List LinkId) → IsThere front → IsThere behind → IsThere (way_over front own behind)
 joined_there (Err e) behind own f b = absurd f
 joined_there (Ok links) (Err e) own f b = absurd b
 joined_there (Ok links) (Ok rest) own f b = tt
@@ -42,8 +42,8 @@ way_there (suc levels) m nested complete a b there here far =
       unless_missing (way levels m) q.end b (λ other. way_there levels m nested complete q.end b (nested.end a b q there here is) here other),
     ))
 
-whole_there : (m : Roads) → IsNested m → IsComplete m → (a b : PointId) → IsPoint m a → IsPoint m b → IsThere (whole m a b)
-unfolding whole
+whole_there : (m : Roads) → IsNested m → IsComplete m → (a b : PointId) → IsPoint m a → IsPoint m b → IsThere (whole_way m a b)
+unfolding whole_way
 whole_there m nested complete a b there here = go (a.0 == b.0) (λ f. way_there 16 m nested complete a b there here (λ e. grind (arith, nat_tests)))
   where
     go : (t : Bool) → (t ≡ false → IsThere (way 16 m a b)) → IsThere (cond t (Ok (to_itself m (routing m (home m a)) a)) (way 16 m a b))

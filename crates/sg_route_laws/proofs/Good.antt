@@ -8,16 +8,16 @@ use Rattle.sg_base.specs.declared.ids.Child.{Child}
 use Rattle.sg_base.specs.declared.ids.Child.TheVariants.{Point, Zone}
 use Rattle.sg_base.specs.declared.ids.PointId.{PointId}
 use Rattle.sg_base.specs.declared.ids.ZoneId.{ZoneId}
-use Rattle.sg_platform.specs.Ends.{link_ends}
-use Rattle.sg_platform.specs.Platform.{IsPlatform, Platform}
-use Rattle.sg_platform.specs.declared.ends.LinkEnd.{LinkEnd}
-use Rattle.sg_platform.specs.declared.rows.Routing.{Routing}
-use Rattle.sg_platform.specs.declared.rows.Routing.TheVariants.{Full, Star}
-use Rattle.sg_platform.specs.declared.rows.SpokeRow.{SpokeRow}
-use Rattle.sg_platform.specs.declared.rows.ZoneRow.{ZoneRow}
+use Rattle.sg_rows.specs.Ends.{link_ends}
+use Rattle.sg_rows.specs.Platform.{IsPlatform, Platform}
+use Rattle.sg_rows.specs.declared.ends.LinkEnd.{LinkEnd}
+use Rattle.sg_rows.specs.declared.rows.Routing.{Routing}
+use Rattle.sg_rows.specs.declared.rows.Routing.TheVariants.{Full, Star}
+use Rattle.sg_rows.specs.declared.rows.SpokeRow.{SpokeRow}
+use Rattle.sg_rows.specs.declared.rows.ZoneRow.{ZoneRow}
 use Rattle.sg_route.specs.Equal.{child_eq, pair_eq}
 use Rattle.sg_route.specs.Local as local
-use Rattle.sg_route.specs.Local.{declared, declared_route, route_local, zone_route_local}
+use Rattle.sg_route.specs.Local.{row_locals, declared_route, route_local, zone_route_local}
 use Rattle.sg_route.specs.Roads.{Roads, roads_of}
 use Rattle.sg_route.specs.Route.{Passage, by_declared, by_spokes, leg, passage}
 use Rattle.sg_route.specs.declared.locals.Local.{Local}
@@ -80,7 +80,7 @@ pub record GoodLocal (p : Platform) (l : Local) : Type 0 where
 itself : (p : Platform) (point : PointId) → point.0 < length (roads_of p).tree.homes → Stands p (Point point) point
 itself p point exists = record { held = grind (arith, nat_tests); exists = exists }
 
-declared_good : (p : Platform) (ends : List LinkEnd) (both : Bool) (l : Local) → GoodLocal p l → Each (GoodLocal p) (declared ends both l)
+declared_good : (p : Platform) (ends : List LinkEnd) (both : Bool) (l : Local) → GoodLocal p l → Each (GoodLocal p) (row_locals ends both l)
 declared_good p ends false l g = (g, tt)
 declared_good p ends true l g = (g, (record { start = g.end; end = g.start }, tt))
 
@@ -110,9 +110,9 @@ locals_good p kept none =
       end = record { held = not_false _ (not_told _ _ two.1); exists = omega (arith, n, s.gw_dst) };
     }) in
     each_append (GoodLocal p) (local.routes_declared (link_ends p.links) p.routes) (local.zone_routes_declared (link_ends p.links) p.zone_routes)
-    (each_flat (GoodLocal p) (λ r. GoodLocal p (route_local r)) (λ row. declared (link_ends p.links) row.symmetrical (route_local row)) p.routes
+    (each_flat (GoodLocal p) (λ r. GoodLocal p (route_local r)) (λ row. row_locals (link_ends p.links) row.symmetrical (route_local row)) p.routes
     (λ r g. declared_good p (link_ends p.links) r.symmetrical (route_local r) g) points)
-    (each_flat (GoodLocal p) (λ r. GoodLocal p (zone_route_local r)) (λ row. declared (link_ends p.links) row.symmetrical (zone_route_local row)) p.zone_routes
+    (each_flat (GoodLocal p) (λ r. GoodLocal p (zone_route_local r)) (λ row. row_locals (link_ends p.links) row.symmetrical (zone_route_local row)) p.zone_routes
     (λ r g. declared_good p (link_ends p.links) r.symmetrical (zone_route_local r) g) rows)
 
 abbrev pub GoodSpoke : Platform → SpokeRow → Type 0

@@ -5,7 +5,7 @@ use Rattle.std.proofs.lemmas.Bool.Decides.{nat_tests}
 use Rattle.sg_base.specs.declared.ids.PointId.{PointId}
 use Rattle.sg_route.specs.declared.leg.Leg.{Leg}
 use Rattle.sg_route.specs.Roads.{Roads}
-use Rattle.sg_route.specs.Route.{Way, Passage, leg, joined, unless_there, by_passage, through_lowest, to_itself, way, whole}
+use Rattle.sg_route.specs.Route.{Way, Passage, leg, way_over, unless_there, by_passage, through_lowest, to_itself, way, whole_way}
 use Rattle.sg_route_laws.specs.Laws.{IsPoint, FollowsLowestZone}
 use Rattle.sg_route_laws.proofs.Nested.{IsNested, depth_of_both, home, passage_between, routing}
 
@@ -25,7 +25,7 @@ passage_same : (w v : PointId → PointId → Way) (a b : PointId) (l : Leg) (o 
 passage_same w v a b l None h = refl
 passage_same w v a b l (Some p) h =
     let same = h p refl in
-    ap (λ x. joined x p.links (unless_there w p.end b)) same.0 ∙ ap (λ y. joined (unless_there v a p.start) p.links y) same.1
+    ap (λ x. way_over x p.links (unless_there w p.end b)) same.0 ∙ ap (λ y. way_over (unless_there v a p.start) p.links y) same.1
 
 -- one level more gives the same way, where the levels reach down to the deepest zones
 pub same_deeper : (n : ℕ) (m : Roads) → IsNested m → (a b : PointId) → IsPoint m a → IsPoint m b → 17 ≤ n + depth_of_both m a b → way n m a b ≡ way (suc n) m a b
@@ -39,8 +39,8 @@ same_deeper (suc n) m nested a b there here deep =
           same_deeper n m nested p.end b (nested.end a b p there here is) here (let d = nested.behind a b p there here is far in omega arith)),
     ))
 
-pub whole_apart : (m : Roads) (a b : PointId) → a.0 ≢ b.0 → whole m a b ≡ way 16 m a b
-unfolding whole
+pub whole_apart : (m : Roads) (a b : PointId) → a.0 ≢ b.0 → whole_way m a b ≡ way 16 m a b
+unfolding whole_way
 whole_apart m a b far = go (a.0 == b.0) (grind (arith, nat_tests))
   where
     go : (t : Bool) → t ≡ false → cond t (Ok (to_itself m (routing m (home m a)) a)) (way 16 m a b) ≡ way 16 m a b
@@ -53,7 +53,7 @@ one_more m nested a b there here = let d = nested.root a b there here in same_de
 pub follows_lowest_zone : (m : Roads) → IsNested m → FollowsLowestZone m
 follows_lowest_zone m nested a b there here far =
     whole_apart m a b far ∙ one_more m nested a b there here
-    ∙ passage_same (way 16 m) (whole m) a b (leg m a b) (passage_between m a b) (λ p is. (
-      unless_same (way 16 m) (whole m) a p.start (λ other. sym (whole_apart m a p.start other)),
-      unless_same (way 16 m) (whole m) p.end b (λ other. sym (whole_apart m p.end b other)),
+    ∙ passage_same (way 16 m) (whole_way m) a b (leg m a b) (passage_between m a b) (λ p is. (
+      unless_same (way 16 m) (whole_way m) a p.start (λ other. sym (whole_apart m a p.start other)),
+      unless_same (way 16 m) (whole_way m) p.end b (λ other. sym (whole_apart m p.end b other)),
     ))

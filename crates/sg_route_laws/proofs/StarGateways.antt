@@ -8,13 +8,13 @@ use Rattle.sg_base.specs.declared.ids.Child.{Child}
 use Rattle.sg_base.specs.declared.ids.Child.TheVariants.{Point, Zone}
 use Rattle.sg_base.specs.declared.ids.PointId.{PointId}
 use Rattle.sg_base.specs.declared.ids.ZoneId.{ZoneId}
-use Rattle.sg_platform.specs.Platform.{Platform}
-use Rattle.sg_platform.specs.declared.rows.ZoneRow.{ZoneRow}
+use Rattle.sg_rows.specs.Platform.{Platform}
+use Rattle.sg_rows.specs.declared.rows.ZoneRow.{ZoneRow}
 use Rattle.sg_route.specs.Equal.{child_eq}
 use Rattle.sg_route.specs.Leg.{next, parting}
 use Rattle.sg_route.specs.Local.{spoke_at}
 use Rattle.sg_route.specs.Roads.{Roads, roads_of}
-use Rattle.sg_route.specs.Route.{Passage, by_passage, by_spokes, leg, passage, passage_on, way, whole}
+use Rattle.sg_route.specs.Route.{Passage, by_passage, by_spokes, leg, passage, passage_on, way, whole_way}
 use Rattle.sg_route.specs.declared.leg.Leg.{Leg}
 use Rattle.sg_route_laws.specs.Laws.{StarJoinsGateways}
 use Rattle.sg_route.proofs.Each.{each_found}
@@ -53,11 +53,11 @@ parted_now last a b (x ∷ xs) (y ∷ ys) far = go (x.0 == y.0) far
 -- ---- the path of a gateway goes through the zone to the child
 
 -- behind the path of the zone the path goes on at this child
-pub record GoesOn (zones : List ZoneRow) (zone : ZoneId) (child : Child) (point : PointId) (whole : List ZoneId) : Type 0 where
+pub record GoesOn (zones : List ZoneRow) (zone : ZoneId) (child : Child) (point : PointId) (whole_way : List ZoneId) : Type 0 where
   pub depth : ℕ
   pub is : IsDepth (suc depth) zones zone
   pub rest : List ZoneId
-  pub same : whole ≡ path (suc depth) zones zone ++ rest
+  pub same : whole_way ≡ path (suc depth) zones zone ++ rest
   pub on : next point rest ≡ child
 
 above_depth : (zones : List ZoneRow) (x zone : ZoneId) (k : ℕ) → parent zones x ≡ Some zone → IsDepth (suc k) zones x → IsDepth k zones zone
@@ -69,16 +69,16 @@ above_path : (zones : List ZoneRow) (x zone : ZoneId) (k : ℕ) → parent zones
 unfolding path
 above_path zones x zone k up = ap (λ o. option_map_or (path k zones) o [] ++ x ∷ []) up
 
-through_zone : (zones : List ZoneRow) (x zone : ZoneId) (point : PointId) (d k : ℕ) (whole : List ZoneId) → parent zones x ≡ Some zone → IsDepth (suc k) zones x
-    → path (suc k) zones x ≡ take (suc k) whole → GoesOn zones zone (Zone x) point whole
-through_zone zones x zone point d zero whole up is front = absurd (above_depth zones x zone zero up is)
-through_zone zones x zone point d (suc k) whole up is front =
-    let rest = drop (suc (suc k)) whole in
+through_zone : (zones : List ZoneRow) (x zone : ZoneId) (point : PointId) (d k : ℕ) (whole_way : List ZoneId) → parent zones x ≡ Some zone → IsDepth (suc k) zones x
+    → path (suc k) zones x ≡ take (suc k) whole_way → GoesOn zones zone (Zone x) point whole_way
+through_zone zones x zone point d zero whole_way up is front = absurd (above_depth zones x zone zero up is)
+through_zone zones x zone point d (suc k) whole_way up is front =
+    let rest = drop (suc (suc k)) whole_way in
     record {
       depth = k;
       is = above_depth zones x zone (suc k) up is;
       rest = x ∷ rest;
-      same = sym (take-append-drop (suc (suc k)) whole) ∙ ap (λ xs. xs ++ rest) (sym front ∙ above_path zones x zone (suc k) up) ∙ append_assoc (path (suc k) zones zone) (x ∷ []) rest;
+      same = sym (take-append-drop (suc (suc k)) whole_way) ∙ ap (λ xs. xs ++ rest) (sym front ∙ above_path zones x zone (suc k) up) ∙ append_assoc (path (suc k) zones zone) (x ∷ []) rest;
       on = refl;
     }
 

@@ -7,13 +7,13 @@ use Rattle.sg_base.specs.declared.ids.Child.{Child}
 use Rattle.sg_base.specs.declared.ids.Child.TheVariants.{Point, Zone}
 use Rattle.sg_base.specs.declared.ids.PointId.{PointId}
 use Rattle.sg_base.specs.declared.ids.ZoneId.{ZoneId}
-use Rattle.sg_platform.specs.Platform.{Platform}
-use Rattle.sg_platform.specs.declared.rows.SpokeRow.{SpokeRow}
+use Rattle.sg_rows.specs.Platform.{Platform}
+use Rattle.sg_rows.specs.declared.rows.SpokeRow.{SpokeRow}
 use Rattle.sg_route.specs.Equal.{child_eq}
 use Rattle.sg_route.specs.Leg.{parting}
 use Rattle.sg_route.specs.Local.{spoke_at}
 use Rattle.sg_route.specs.Roads.{Roads, roads_of}
-use Rattle.sg_route.specs.Route.{Passage, Way, by_passage, by_spokes, joined, leg, passage, passage_on, unless_there, way}
+use Rattle.sg_route.specs.Route.{Passage, Way, by_passage, by_spokes, way_over, leg, passage, passage_on, unless_there, way}
 use Rattle.sg_route.specs.declared.leg.Leg.{Leg}
 use Rattle.sg_route_laws.specs.Laws.{IsPoint, StarGoesUpAndDown}
 use Rattle.sg_route.proofs.Each.{each_found}
@@ -66,8 +66,8 @@ there w a b same = go (a.0 == b.0) (grind (arith, nat_tests))
 pub direct : (w : PointId → PointId → Way) (a b : PointId) (l : Leg) (q : Passage) → a.0 ≡ q.start.0 → q.end.0 ≡ b.0 → by_passage w a b l (Some q) ≡ Ok q.links
 direct w a b l q e f = go (unless_there w a q.start) (unless_there w q.end b) (there w a q.start e) (there w q.end b f)
   where
-    go : (x y : Way) → x ≡ Ok [] → y ≡ Ok [] → joined x q.links y ≡ Ok q.links
-    go x y g h = ap (λ z. joined z q.links y) g ∙ ap (λ z. joined (Ok []) q.links z) h ∙ ap (λ xs. Ok xs) (append-nil q.links)
+    go : (x y : Way) → x ≡ Ok [] → y ≡ Ok [] → way_over x q.links y ≡ Ok q.links
+    go x y g h = ap (λ z. way_over z q.links y) g ∙ ap (λ z. way_over (Ok []) q.links z) h ∙ ap (λ xs. Ok xs) (append-nil q.links)
 
 -- the gateway of a point is itself
 own_gateway : (p : Platform) → IsGood p → (a : PointId) (s : SpokeRow) → spoke_at p.spokes (Point a) ≡ Some s → a.0 ≡ s.gateway.0

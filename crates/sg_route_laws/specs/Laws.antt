@@ -5,16 +5,16 @@ use Rattle.sg_base.specs.declared.ids.Child.TheVariants.{Point}
 use Rattle.sg_base.specs.declared.ids.LinkId.{LinkId}
 use Rattle.sg_base.specs.declared.ids.PointId.{PointId}
 use Rattle.sg_base.specs.declared.ids.ZoneId.{ZoneId}
-use Rattle.sg_platform.specs.Ends.{link_ends, way_back}
-use Rattle.sg_platform.specs.Platform.{Platform}
-use Rattle.sg_platform.specs.declared.rows.Routing.TheVariants.{Full, Star}
-use Rattle.sg_platform.specs.declared.rows.SpokeRow.{SpokeRow}
+use Rattle.sg_rows.specs.Ends.{link_ends, way_back}
+use Rattle.sg_rows.specs.Platform.{Platform}
+use Rattle.sg_rows.specs.declared.rows.Routing.TheVariants.{Full, Star}
+use Rattle.sg_rows.specs.declared.rows.SpokeRow.{SpokeRow}
 use Rattle.sg_route.specs.declared.leg.Leg.{Leg}
 use Rattle.sg_route.specs.declared.locals.Local.{Local}
 use Rattle.sg_route.specs.Equal.{child_eq}
 use Rattle.sg_route.specs.Local.{declared_route, spoke_at}
 use Rattle.sg_route.specs.Roads.{Roads, roads_of}
-use Rattle.sg_route.specs.Route.{leg, passage_on, through_lowest, whole}
+use Rattle.sg_route.specs.Route.{leg, passage_on, through_lowest, whole_way}
 use Rattle.sg_zones.specs.Faults.{child_holds, zone_above}
 use Rattle.sg_zones.specs.Tree.{Tree, depth, holds, home, routing_in, tree_of}
 
@@ -24,7 +24,7 @@ IsPoint m point = point.0 < length m.tree.homes
 
 -- whole routes, and the routes to and from gateways within them, are those of one rule
 abbrev pub FollowsLowestZone : Roads → Type 0
-FollowsLowestZone m = (a b : PointId) → IsPoint m a → IsPoint m b → a.0 ≢ b.0 → whole m a b ≡ through_lowest (whole m) m a b
+FollowsLowestZone m = (a b : PointId) → IsPoint m a → IsPoint m b → a.0 ≢ b.0 → whole_way m a b ≡ through_lowest (whole_way m) m a b
 
 -- the child of the zone that holds the point
 pub record IsChildOver (t : Tree) (zone : ZoneId) (point : PointId) (child : Child) : Type 0 where
@@ -47,27 +47,27 @@ abbrev pub StarGoesUpAndDown : Platform → Type 0
 StarGoesUpAndDown p = (a b : PointId) (from to : SpokeRow) → IsPoint (roads_of p) a → IsPoint (roads_of p) b → a.0 ≢ b.0
     → home (tree_of p) a ≡ home (tree_of p) b → routing_in (tree_of p) (home (tree_of p) a) ≡ Star
     → spoke_at p.spokes (Point a) ≡ Some from → spoke_at p.spokes (Point b) ≡ Some to
-    → whole (roads_of p) a b ≡ Ok (from.up ++ to.down)
+    → whole_way (roads_of p) a b ≡ Ok (from.up ++ to.down)
 
 -- the links between the gateways of two children of one Star zone
 abbrev pub StarJoinsGateways : Platform → Type 0
 StarJoinsGateways p = (from to : SpokeRow) (zone : ZoneId) → spoke_at p.spokes from.child ≡ Some from → spoke_at p.spokes to.child ≡ Some to
     → child_eq from.child to.child ≡ false → zone_above (tree_of p) from.child ≡ Some zone → zone_above (tree_of p) to.child ≡ Some zone
-    → routing_in (tree_of p) zone ≡ Star → whole (roads_of p) from.gateway to.gateway ≡ Ok (from.up ++ to.down)
+    → routing_in (tree_of p) zone ≡ Star → whole_way (roads_of p) from.gateway to.gateway ≡ Ok (from.up ++ to.down)
 
 -- the links between two points that stand in one Full zone, where it declares a local route
 abbrev pub FullGoesAsDeclared : Platform → Type 0
 FullGoesAsDeclared p = (a b : PointId) (l : Local) → IsPoint (roads_of p) a → IsPoint (roads_of p) b → a.0 ≢ b.0
     → home (tree_of p) a ≡ home (tree_of p) b → routing_in (tree_of p) (home (tree_of p) a) ≡ Full
     → declared_route (roads_of p).locals (record { from = Point a; to = Point b }) ≡ Some l
-    → whole (roads_of p) a b ≡ Ok l.links
+    → whole_way (roads_of p) a b ≡ Ok l.links
 
 -- the links between the gateways of two children of one Full zone, where it declares a local route
 abbrev pub FullJoinsGateways : Platform → Type 0
 FullJoinsGateways p = (from to : Child) (l : Local) (zone : ZoneId)
     → declared_route (roads_of p).locals (record { from = from; to = to }) ≡ Some l → child_eq from to ≡ false
     → zone_above (tree_of p) from ≡ Some zone → zone_above (tree_of p) to ≡ Some zone
-    → routing_in (tree_of p) zone ≡ Full → whole (roads_of p) l.start l.end ≡ Ok l.links
+    → routing_in (tree_of p) zone ≡ Full → whole_way (roads_of p) l.start l.end ≡ Ok l.links
 
 abbrev pub WayBackReturns : Platform → Type 0
 WayBackReturns p = (links : List LinkId) → All (λ link. link.0 < length (link_ends p.links)) links
@@ -80,4 +80,4 @@ IsComplete m = (a b : PointId) → IsPoint m a → IsPoint m b → a.0 ≢ b.0 �
 -- on such a platform nothing is missing between any two points
 abbrev pub HasRoutes : Platform → Type 0
 HasRoutes p = IsComplete (roads_of p) → (a b : PointId) (missing : Leg) → IsPoint (roads_of p) a → IsPoint (roads_of p) b
-    → whole (roads_of p) a b ≢ Err missing
+    → whole_way (roads_of p) a b ≢ Err missing

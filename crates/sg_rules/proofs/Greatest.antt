@@ -3,7 +3,7 @@ use Rattle.std.proofs.Common.{◌≡◌, ℕ, ◌≤◌, ◌==◌, Bool, true, f
 use Rattle.std.proofs.lemmas.Bool.{cases_Bool}
 use Rattle.std.proofs.lemmas.Bool.Decides.{nat_tests}
 use Rattle.sg_rules.specs.Units.{amount_value, bandwidth_value, if_latency, latency_value, speed_value, value_of}
-use Rattle.sg_units.specs.Amount.{up_to, sized, amount_of, bandwidth_of, read_by, speed_of, time_of, is_short, value_of as amount}
+use Rattle.sg_units.specs.Amount.{up_to, value_in_unit, amount_of, bandwidth_of, amount_by, speed_of, time_of, is_short, value_of as amount}
 use Rattle.sg_units.specs.Number.{Number, number_of}
 use Rattle.sg_units.specs.Units.{Units, amount_units, bandwidth_units, size_of, speed_units}
 use Rattle.sg_units.specs.declared.fault.AmountFault.{AmountFault}
@@ -24,14 +24,14 @@ within_up_to greatest value =
       | inr over ↦ rw over tt
     ]
 
-within_sized : (greatest : ℕ) (n : Number) (size : Option Ratio) → Within greatest (sized greatest n size)
+within_sized : (greatest : ℕ) (n : Number) (size : Option Ratio) → Within greatest (value_in_unit greatest n size)
 within_sized greatest n None = tt
 within_sized greatest n (Some size) = chosen (is_short n) (up_to greatest (amount n size)) (Err TooLarge) greatest (within_up_to greatest (amount n size)) tt
 
-pub within_read : (units : Units) (greatest : ℕ) (text : List ℕ) → Within greatest (read_by units greatest text)
+pub within_read : (units : Units) (greatest : ℕ) (text : List ℕ) → Within greatest (amount_by units greatest text)
 within_read units greatest text =
     let n = number_of text in
-    chosen (length n.whole == 0) (Err NotANumber) (sized greatest n (size_of units n.unit)) greatest tt (within_sized greatest n (size_of units n.unit))
+    chosen (length n.whole == 0) (Err NotANumber) (value_in_unit greatest n (size_of units n.unit)) greatest tt (within_sized greatest n (size_of units n.unit))
 
 pub value_within : (greatest : ℕ) (r : Result ℕ AmountFault) (n : ℕ) → Within greatest r → value_of r ≡ Some n → n ≤ greatest
 value_within greatest (Ok value) n within same = let e : value ≡ n = cc in omega (arith, within, e)

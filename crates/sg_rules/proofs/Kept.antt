@@ -5,7 +5,7 @@ use Rattle.std.specs.List.{All, AllByRecursion, list_all}
 use Rattle.sg_rules.proofs.TableLemmas.{few_rows}
 use Rattle.sg_rules.specs.Faults.{key_faults, row_faults, row_faults_at, rows_before, table_faults, table_kinds}
 use Rattle.sg_rules.specs.Names.{Known}
-use Rattle.sg_rules.specs.Rules.{child_kinds, end_kinds, host_kinds, id_kinds, is_between, is_from, is_name, is_name_byte, is_positive, key_kinds, kinds_at, latency_kinds, link_id_kinds, point_kinds, rate_kinds, route_end_kinds, text_kinds, value_kinds, zone_kinds, zone_route_end_kinds}
+use Rattle.sg_rules.specs.Rules.{child_kinds, end_kinds, host_kinds, id_kinds, is_between, is_from, is_positive, key_kinds, kinds_at, latency_kinds, link_id_kinds, point_kinds, rate_kinds, route_end_kinds, text_kinds, value_kinds, zone_kinds, zone_route_end_kinds}
 use Rattle.sg_rules.specs.Tables.{key, keys_of, row_limit, shape_of, table_number, table_text, word_text}
 use Rattle.sg_rules.specs.declared.tables.Key.{Key}
 use Rattle.sg_rules.specs.declared.tables.Need.TheVariants.{Required, Optional}
@@ -15,14 +15,15 @@ use Rattle.sg_rules.specs.declared.tables.Table.{Table}
 use Rattle.sg_rules.specs.declared.tables.Word.{Word}
 use Rattle.sg_tree.proofs.Kept.{all_kept, empty_at, empty_left, empty_right}
 use Rattle.sg_tree.specs.Along.{along}
-use Rattle.sg_tree.specs.Faults.{broken, of_type}
+use Rattle.sg_tree.specs.Faults.{kind_if, of_type}
 use Rattle.sg_tree.specs.Names.{Finds}
+use Rattle.sg_tree.specs.Spelling.{is_name, is_name_byte}
 use Rattle.sg_tree.specs.Tree.{rows_at, text_at}
 use Rattle.sg_tree.specs.declared.fault.Kind.{Kind}
 use Rattle.toml.specs.Data.{Data, Members, get, get_member, as_str}
 
 -- a rule that gives no kind is kept
-pub unbroken : (b : Bool) (kind : Kind) → broken b kind ≡ [] → b ≡ false
+pub unbroken : (b : Bool) (kind : Kind) → kind_if b kind ≡ [] → b ≡ false
 unbroken true kind empty = cc
 unbroken false kind empty = refl
 

@@ -11,7 +11,7 @@ use Rattle.std.specs.Map.{lookup}
 use Rattle.std.specs.Str.{bytes_eq}
 use Rattle.sg_rules.proofs.Kept.{unbroken}
 use Rattle.sg_rules.proofs.Repeats.{distinct}
-use Rattle.sg_rules.specs.Arguments.{are_workers, argument_kinds, has_function, is_task_count, repeats, are_for_master, text_of, worker_names, worker_numbers}
+use Rattle.sg_rules.specs.Arguments.{are_workers, argument_kinds, has_function, is_task_count, has_repeat, are_for_master, text_of, worker_names, worker_numbers}
 use Rattle.sg_rules.specs.Names.{Known, deployment_known}
 use Rattle.sg_rules.specs.Rules.{is_text, key_kinds, kinds_at, list_kinds, value_kinds}
 use Rattle.sg_rules.specs.Tables.{key}
@@ -21,7 +21,7 @@ use Rattle.sg_rules.specs.declared.tables.Word.TheVariants.{Argument}
 use Rattle.sg_tree.proofs.Bounds.{along_below, below_all, numbered_below}
 use Rattle.sg_tree.specs.Along.{along}
 use Rattle.sg_tree.specs.Faults.{of_type}
-use Rattle.sg_tree.specs.Names.{Finds, numbered}
+use Rattle.sg_tree.specs.Names.{Finds, with_number}
 use Rattle.sg_tree.specs.Tree.{items_or_none, list_of, rows_at, text_at}
 use Rattle.toml.specs.Data.{Data, Items, Members, as_array, get}
 
@@ -86,11 +86,11 @@ names_one row = one (has_function (codes "worker") row) (text_at (codes "name") 
     one false o = omega arith
 
 -- no more workers than rows
-numbers_few : (i : ℕ) (rows : List Data) → length (along (λ i row. numbered i (worker_names row)) i rows) ≤ length rows
+numbers_few : (i : ℕ) (rows : List Data) → length (along (λ i row. with_number i (worker_names row)) i rows) ≤ length rows
 numbers_few i [] = omega arith
 numbers_few i (row ∷ rows) =
     let under : List ℕ → List ℕ × ℕ = λ name. (name, i) in
-    omega (arith, length-append (numbered i (worker_names row)) (along (λ i row. numbered i (worker_names row)) (i + 1) rows), length-map (worker_names row) under, names_one row, numbers_few (i + 1) rows)
+    omega (arith, length-append (with_number i (worker_names row)) (along (λ i row. with_number i (worker_names row)) (i + 1) rows), length-map (worker_names row) under, names_one row, numbers_few (i + 1) rows)
 
 -- what workers a master has: some, no more than there are rows, and each is known
 pub record HasWorkers (workers : Finds) (rows : List Data) (names : List (List ℕ)) : Type 0 where
@@ -107,7 +107,7 @@ workers_fit rows names fits =
     let found : Finds = λ q. lookup (bytes_eq q) (worker_numbers rows) in
     let front = both_left _ _ fits in
     let known = both_right _ _ front in
-    let apart = distinct names (unbroken_not (repeats names) (both_right _ _ fits)) in
+    let apart = distinct names (unbroken_not (has_repeat names) (both_right _ _ fits)) in
     record {
       some = some_names (length names) (both_left _ _ front);
       few = omega (arith, numbers_few 0 rows, length-le_from_keys nat_list_eq_equiv names (worker_numbers rows) apart (found_among found names known));
@@ -122,7 +122,7 @@ workers_fit rows names fits =
 pub workers_below : (rows : List Data) (q : List ℕ) → IfSome (lookup (bytes_eq q) (worker_numbers rows)) (λ row. row < length rows)
 workers_below rows q =
     below_all _ (0 + 0 + length rows) (length rows) (omega arith)
-    (along_below (bytes_eq q) (λ i row. numbered i (worker_names row)) 0 (λ j row. below_all _ (j + 1) (0 + j + 1) (omega arith) (numbered_below (bytes_eq q) j (worker_names row))) 0 rows)
+    (along_below (bytes_eq q) (λ i row. with_number i (worker_names row)) 0 (λ j row. below_all _ (j + 1) (0 + j + 1) (omega arith) (numbered_below (bytes_eq q) j (worker_names row))) 0 rows)
 
 pub known_workers : (hosts : ℕ) (points : Finds) (tree : Members) → (deployment_known hosts points tree).workers ≡ (λ q. lookup (bytes_eq q) (worker_numbers (rows_at (codes "actor") tree)))
 unfolding deployment_known

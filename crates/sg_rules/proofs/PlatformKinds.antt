@@ -14,7 +14,7 @@ use Rattle.sg_rules.specs.declared.tables.Shape.{Shape}
 use Rattle.sg_rules.specs.declared.tables.Shape.TheVariants as shape
 use Rattle.sg_rules.specs.declared.tables.Table.{Table}
 use Rattle.sg_tree.specs.Along.{along}
-use Rattle.sg_tree.specs.Faults.{at_place, broken, kind_number, of_type}
+use Rattle.sg_tree.specs.Faults.{at_place, kind_if, kind_number, of_type}
 use Rattle.sg_tree.specs.Tree.{rows_at}
 use Rattle.sg_tree.specs.declared.fault.Fault.{Fault}
 use Rattle.sg_tree.specs.declared.fault.Kind.{Kind}
@@ -27,15 +27,15 @@ IsSmall k = kind_number k ≤ 8
 abbrev AreSmall : List Kind → Type 0
 AreSmall kinds = Each IsSmall kinds
 
-one : (b : Bool) (k : Kind) → IsSmall k → AreSmall (broken b k)
+one : (b : Bool) (k : Kind) → IsSmall k → AreSmall (kind_if b k)
 one true k h = (h, tt)
 one false k h = tt
 
-two : (b c : Bool) (k j : Kind) → IsSmall k → IsSmall j → AreSmall (broken b k ++ broken c j)
-two b c k j h i = each_append IsSmall (broken b k) (broken c j) (one b k h) (one c j i)
+two : (b c : Bool) (k j : Kind) → IsSmall k → IsSmall j → AreSmall (kind_if b k ++ kind_if c j)
+two b c k j h i = each_append IsSmall (kind_if b k) (kind_if c j) (one b k h) (one c j i)
 
-three : (b c d : Bool) (k j m : Kind) → IsSmall k → IsSmall j → IsSmall m → AreSmall (broken b k ++ broken c j ++ broken d m)
-three b c d k j m h i g = each_append IsSmall (broken b k ++ broken c j) (broken d m) (two b c k j h i) (one d m g)
+three : (b c d : Bool) (k j m : Kind) → IsSmall k → IsSmall j → IsSmall m → AreSmall (kind_if b k ++ kind_if c j ++ kind_if d m)
+three b c d k j m h i g = each_append IsSmall (kind_if b k ++ kind_if c j) (kind_if d m) (two b c k j h i) (one d m g)
 
 typed : {A : Type 0} (kinds : A → List Kind) (o : Option A) → ((x : A) → AreSmall (kinds x)) → AreSmall (of_type kinds o)
 typed kinds None h = (omega arith, tt)

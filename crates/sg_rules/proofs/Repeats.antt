@@ -4,7 +4,7 @@ use Rattle.std.proofs.lemmas.Cmp.{nat_list_eq_equiv}
 use Rattle.std.proofs.lemmas.List.{drop_more}
 use Rattle.std.specs.List.{AllByRecursion, IsDistinct, list_any}
 use Rattle.std.specs.Str.{bytes_eq}
-use Rattle.sg_rules.specs.Arguments.{repeats, text_of}
+use Rattle.sg_rules.specs.Arguments.{has_repeat, text_of}
 use Rattle.sg_tree.specs.Names.{Finds, or_else}
 use Rattle.toml.specs.View.{view}
 use Rattle.toml.specs.declared.value.Value.{Value}
@@ -26,7 +26,7 @@ any_or f g h same (q ∷ texts) = rw (same q, any_or f g h same texts) (or_shuff
 
 -- a text has been seen, or stands twice among those to come
 abbrev pub repeats_after : Finds → List (List ℕ) → Bool
-repeats_after seen texts = list_any (λ q. is_some (seen q)) texts || repeats texts
+repeats_after seen texts = list_any (λ q. is_some (seen q)) texts || has_repeat texts
 
 now_seen : (old : Option ℕ) (b : Bool) (n : ℕ) → is_some (or_else old (cond b (Some n) None)) ≡ (is_some old || b)
 now_seen None true n = refl
@@ -37,7 +37,7 @@ pub text_turn : (old new : Finds) (text : List ℕ) (texts : List (List ℕ)) (n
     → repeats_after new texts ≡ repeats_after old (text ∷ texts)
 text_turn old new text texts n fresh step =
     let same : (q : List ℕ) → is_some (new q) ≡ (is_some (old q) || bytes_eq text q) = λ q. rw (step q, nat_list_eq_equiv.symm text q) (now_seen (old q) (bytes_eq q text) n) in
-    rw (fresh, any_or (λ q. is_some (old q)) (bytes_eq text) (λ q. is_some (new q)) same texts) (or_assoc (list_any (λ q. is_some (old q)) texts) (list_any (bytes_eq text) texts) (repeats texts))
+    rw (fresh, any_or (λ q. is_some (old q)) (bytes_eq text) (λ q. is_some (new q)) same texts) (or_assoc (list_any (λ q. is_some (old q)) texts) (list_any (bytes_eq text) texts) (has_repeat texts))
 
 -- the texts from an item on
 abbrev pub rest_of : List Value → ℕ → List (List ℕ)
@@ -47,7 +47,7 @@ pub rest_step : (items : List Value) (i : ℕ) (item : Value) → i < length ite
 rest_step items i item within same =
     ap (λ vs. map text_of (map view vs)) (drop_more items i item within) ∙ ap (λ v. text_of (view v) ∷ rest_of items (i + 1)) (sym same)
 
-pub nothing_seen : (seen : Finds) → ((q : List ℕ) → seen q ≡ None) → (texts : List (List ℕ)) → repeats_after seen texts ≡ repeats texts
+pub nothing_seen : (seen : Finds) → ((q : List ℕ) → seen q ≡ None) → (texts : List (List ℕ)) → repeats_after seen texts ≡ has_repeat texts
 nothing_seen seen none texts = rw (none_among texts)
   where
     none_among : (texts : List (List ℕ)) → list_any (λ q. is_some (seen q)) texts ≡ false
@@ -75,7 +75,7 @@ none_equal : (text : List ℕ) (texts : List (List ℕ)) → list_any (bytes_eq 
 none_equal text [] none = tt
 none_equal text (other ∷ texts) none = (or_left _ _ none, none_equal text texts (or_right _ _ none))
 
-pub distinct : (texts : List (List ℕ)) → repeats texts ≡ false → IsDistinct bytes_eq texts
+pub distinct : (texts : List (List ℕ)) → has_repeat texts ≡ false → IsDistinct bytes_eq texts
 unfolding IsDistinct
 distinct [] none = tt
 distinct (text ∷ texts) none = (none_equal text texts (or_left _ _ none), distinct texts (or_right _ _ none))

@@ -14,7 +14,7 @@ use Rattle.sg_rules.specs.declared.tables.Shape.{Shape}
 use Rattle.sg_rules.specs.declared.tables.Shape.TheVariants as shape
 use Rattle.sg_rules.specs.declared.tables.Table.{Table}
 use Rattle.sg_tree.specs.Along.{along}
-use Rattle.sg_tree.specs.Faults.{at_place, broken, kind_number, of_type}
+use Rattle.sg_tree.specs.Faults.{at_place, kind_if, kind_number, of_type}
 use Rattle.sg_tree.specs.Tree.{rows_at}
 use Rattle.sg_tree.specs.declared.fault.Fault.{Fault}
 use Rattle.sg_tree.specs.declared.fault.Kind.{Kind}
@@ -45,16 +45,16 @@ abbrev KindsRise : List Kind → Type 0
 KindsRise [] = Unit {0}
 KindsRise (k ∷ ks) = Each (λ j. kind_number k < kind_number j) ks × KindsRise ks
 
-one : (b : Bool) (k : Kind) → KindsRise (broken b k)
+one : (b : Bool) (k : Kind) → KindsRise (kind_if b k)
 one true k = (tt, tt)
 one false k = tt
 
-two : (b c : Bool) (k j : Kind) → kind_number k < kind_number j → KindsRise (broken b k ++ broken c j)
+two : (b c : Bool) (k j : Kind) → kind_number k < kind_number j → KindsRise (kind_if b k ++ kind_if c j)
 two true true k j h = ((h, tt), (tt, tt))
 two true false k j h = (tt, tt)
 two false c k j h = one c j
 
-three : (b c d : Bool) (k j m : Kind) → kind_number k < kind_number j → kind_number j < kind_number m → KindsRise (broken b k ++ broken c j ++ broken d m)
+three : (b c d : Bool) (k j m : Kind) → kind_number k < kind_number j → kind_number j < kind_number m → KindsRise (kind_if b k ++ kind_if c j ++ kind_if d m)
 three true true true k j m h i = ((h, (omega arith, tt)), ((i, tt), (tt, tt)))
 three true true false k j m h i = ((h, tt), (tt, tt))
 three true false true k j m h i = ((omega arith, tt), (tt, tt))

@@ -1,20 +1,21 @@
 -- Where no limit is broken, the numbers of names fit 32 bits.
-use Rattle.std.proofs.Common.{◌≡◌, ℕ, ◌+◌, ◌*◌, ◌<◌, ◌≤◌, Bool, true, false, IfSome, List, [], ◌∷◌, ◌++◌, Option, Some, None, length, codes, refl, length-append, arith}
+use Rattle.std.proofs.Common.{◌≡◌, ℕ, ◌+◌, ◌*◌, ◌<◌, ◌≤◌, Bool, true, false, IfSome, List, [], ◌∷◌, ◌++◌, Option, Some, None, length, codes, refl, sym, ◌∙◌, length-append, arith}
 use Rattle.std.specs.List.{flat_map}
 use Rattle.std.specs.Map.{lookup}
 use Rattle.std.specs.Str.{bytes_eq}
 use Rattle.sg_rules.specs.LinkNames.{declared_numbers, is_split, link_names, names_by, one_name}
-use Rattle.sg_rules.specs.Names.{AreSmall, platform_known, point_numbers, points_in}
+use Rattle.sg_rules.specs.Names.{platform_known, point_numbers, points_in}
+use Rattle.sg_rules.specs.kept.NamesView.{AreSmall}
 use Rattle.sg_tree.proofs.Bounds.{along_below, below_all, below_or, numbered_below}
 use Rattle.sg_tree.proofs.NameLemmas.{lookup_append}
-use Rattle.sg_tree.specs.Names.{names_from, numbered, texts_at}
+use Rattle.sg_tree.specs.Names.{names_from, with_number, texts_at}
 use Rattle.sg_tree.specs.Tree.{rows_at, text_at}
 use Rattle.toml.specs.Data.{Data, Members}
 
 pub names_below : (key : List ℕ) (before : ℕ) (rows : List Data) (q : List ℕ) → IfSome (lookup (bytes_eq q) (names_from key before rows)) (λ n. n < before + length rows)
 names_below key before rows q =
     below_all _ (before + 0 + length rows) (before + length rows) (omega arith)
-    (along_below (bytes_eq q) (λ i row. numbered (before + i) (texts_at key row)) before (λ j row. numbered_below (bytes_eq q) (before + j) (texts_at key row)) 0 rows)
+    (along_below (bytes_eq q) (λ i row. with_number (before + i) (texts_at key row)) before (λ j row. numbered_below (bytes_eq q) (before + j) (texts_at key row)) 0 rows)
 
 -- points are numbered below the count of the rows of all three tables
 pub points_below : (zones hosts routers : List Data) (q : List ℕ) → IfSome (lookup (bytes_eq q) (point_numbers zones hosts routers)) (λ i. i < length zones + length hosts + length routers)
@@ -61,6 +62,13 @@ known_workers : (tree : Members) (q : List ℕ) → (platform_known tree).worker
 unfolding platform_known
 known_workers tree q = refl
 
+-- a bound of the value there is, as a fact of each value that it is
+pub bound_of : (o : Option ℕ) (n : ℕ) → IfSome o (λ i. i < n) → (i : ℕ) → o ≡ Some i → i < n
+bound_of o n below i is = let bound = rw is at below in bound
+
+none_some : {i : ℕ} → None ≡ Some i → ⊥
+none_some e = cc
+
 pub platform_small : (tree : Members) → FewRows tree → AreSmall (platform_known tree)
 platform_small tree few =
     let zones = rows_at (codes "zone") tree in
@@ -68,7 +76,7 @@ platform_small tree few =
     let routers = rows_at (codes "router") tree in
     let links = rows_at (codes "link") tree in
     record {
-      points = λ q. rw (known_points tree q) (below_all _ (length zones + length hosts + length routers) 4294967296 (omega (arith, few.zones, few.hosts, few.routers)) (points_below zones hosts routers q));
-      links = λ q. rw (known_links tree q) (below_all _ (length (flat_map link_names links)) 4294967296 (omega (arith, few.links, two_each links)) (links_below links q));
-      workers = λ q. rw (known_workers tree q) tt;
+      points = λ q. bound_of _ 4294967296 (rw (known_points tree q) (below_all _ (length zones + length hosts + length routers) 4294967296 (omega (arith, few.zones, few.hosts, few.routers)) (points_below zones hosts routers q)));
+      links = λ q. bound_of _ 4294967296 (rw (known_links tree q) (below_all _ (length (flat_map link_names links)) 4294967296 (omega (arith, few.links, two_each links)) (links_below links q)));
+      workers = λ q row is. absurd (none_some (sym (known_workers tree q) ∙ is));
     }

@@ -1,13 +1,12 @@
 -- The first fault of a table.
 use Rattle.std.proofs.Common.{◌≡◌, ◌<◌, ◌≤◌, true, nat_lt, List, map, length, Option, Some, None, option_and_then, ap, ◌∙◌, sym, inl, inr, arith}
 use Rattle.std.proofs.lemmas.List.{length-map}
-use Rattle.toml.specs.Data.{Members, get_member}
+use Rattle.toml.specs.Data.{Members, get_member, Data, Items, as_array}
 use Rattle.toml.specs.View.{view}
 use Rattle.toml.specs.declared.value.Value.{Value}
-use Rattle.sg_tree.specs.Tree.{rows_at}
+use Rattle.sg_tree.specs.Tree.{rows_at, items_or_none, list_of}
 use Rattle.sg_rules.specs.Names.{Known}
-use Rattle.sg_tree.specs.Along.{first}
-use Rattle.sg_tree.specs.Along.{along}
+use Rattle.sg_tree.specs.Along.{first, along}
 use Rattle.sg_rules.specs.Faults.{row_faults_at, table_kinds, table_faults, rows_before}
 use Rattle.sg_rules.specs.Tables.{table_text, table_number, keys_of, row_limit}
 use Rattle.sg_tree.specs.declared.fault.Kind.{Kind}
@@ -16,20 +15,18 @@ use Rattle.sg_rules.specs.declared.tables.Table.TheVariants.{Zone, Host, Router,
 use Rattle.sg_tree.proofs.Along.{first_append_none, first_append_some, first_at_none, first_at_some, along_map}
 use Rattle.std.proofs.lemmas.Bool.{cases_Bool}
 use Rattle.std.proofs.lemmas.Bool.Decides.{nat_tests}
-use Rattle.sg_tree.specs.Faults.{broken, of_type}
-use Rattle.sg_tree.specs.Tree.{items_or_none, list_of}
+use Rattle.sg_tree.specs.Faults.{kind_if, of_type}
 use Rattle.sg_tree.specs.declared.fault.Kind.TheVariants.{Limit}
-use Rattle.toml.specs.Data.{Data, Items, as_array}
 
 pub few_rows : (table : Table) (o : Option Data) → first (table_kinds table o) ≡ None → length (items_or_none (option_and_then as_array o)) ≤ row_limit table
 few_rows table None none = omega arith
 few_rows table (Some d) none = few_items table (as_array d) none
   where
-    few_items : (table : Table) (o : Option Items) → first (of_type (λ items. broken (nat_lt (row_limit table) (length (list_of items))) Limit) o) ≡ None → length (items_or_none o) ≤ row_limit table
+    few_items : (table : Table) (o : Option Items) → first (of_type (λ items. kind_if (nat_lt (row_limit table) (length (list_of items))) Limit) o) ≡ None → length (items_or_none o) ≤ row_limit table
     few_items table None none = omega arith
     few_items table (Some items) none =
         elim (cases_Bool (nat_lt (row_limit table) (length (list_of items)))) [
-          | inl over ↦ let told : first (broken true Limit) ≡ None = rw over at none in cc
+          | inl over ↦ let told : first (kind_if true Limit) ≡ None = rw over at none in cc
           | inr within ↦ grind (arith, nat_tests)
         ]
 

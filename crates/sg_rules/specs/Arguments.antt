@@ -4,8 +4,8 @@ use Rattle.std.specs.List.{list_all, list_any}
 use Rattle.std.specs.Str.{bytes_eq}
 use Rattle.sg_rules.specs.Units.{amount_value}
 use Rattle.sg_tree.specs.Along.{along}
-use Rattle.sg_tree.specs.Faults.{broken}
-use Rattle.sg_tree.specs.Names.{Finds, numbered, texts_at}
+use Rattle.sg_tree.specs.Faults.{kind_if}
+use Rattle.sg_tree.specs.Names.{Finds, with_number, texts_at}
 use Rattle.sg_tree.specs.Tree.{text_or_empty}
 use Rattle.sg_tree.specs.declared.fault.Kind.{Kind}
 use Rattle.sg_tree.specs.declared.fault.Kind.TheVariants.{Arguments}
@@ -21,16 +21,16 @@ worker_names row = if has_function (codes "worker") row then texts_at (codes "na
 
 -- the names of workers, under the numbers of their rows
 abbrev pub worker_numbers : List Data → List (List ℕ × ℕ)
-worker_numbers rows = along (λ i row. numbered i (worker_names row)) 0 rows
+worker_numbers rows = along (λ i row. with_number i (worker_names row)) 0 rows
 
 -- the text of an item
 abbrev pub text_of : Data → List ℕ
 text_of d = unwrap_or (as_str d) []
 
 -- a text stands twice
-abbrev pub repeats : List (List ℕ) → Bool
-repeats [] = false
-repeats (text ∷ texts) = list_any (bytes_eq text) texts || repeats texts
+abbrev pub has_repeat : List (List ℕ) → Bool
+has_repeat [] = false
+has_repeat (text ∷ texts) = list_any (bytes_eq text) texts || has_repeat texts
 
 -- how many tasks a master may hand out
 abbrev pub is_task_count : Option ℕ → Bool
@@ -39,7 +39,7 @@ is_task_count (Some n) = nat_le n 1000000000
 
 -- the names of workers: some, and none twice
 unfoldable pub are_workers : Finds → List (List ℕ) → Bool
-are_workers workers names = (not (length names == 0) && list_all (λ name. is_some (workers name)) names) && not (repeats names)
+are_workers workers names = (not (length names == 0) && list_all (λ name. is_some (workers name)) names) && not (has_repeat names)
 
 -- what a master is given: the count of its tasks, the flops and the bytes of each, and its workers
 abbrev pub are_for_master : Finds → List (List ℕ) → Bool
@@ -56,4 +56,4 @@ takes_none row = has_function (codes "replay") row || has_function (codes "worke
 -- the arguments of an actor, where its function is known
 unfoldable pub argument_kinds : Finds → Data → List Data → List Kind
 argument_kinds workers row items =
-    broken ((takes_none row && not (length items == 0)) || (has_function (codes "master") row && not (are_for_master workers (map text_of items)))) Arguments
+    kind_if ((takes_none row && not (length items == 0)) || (has_function (codes "master") row && not (are_for_master workers (map text_of items)))) Arguments

@@ -7,7 +7,7 @@ use Rattle.sg_rules.specs.declared.tables.Key.{Key}
 use Rattle.sg_rules.specs.declared.tables.Table.{Table}
 use Rattle.sg_rules.specs.declared.tables.Table.TheVariants.{Host, Router}
 use Rattle.sg_tree.specs.Along.{along}
-use Rattle.sg_tree.specs.Faults.{at_place, broken, of_type}
+use Rattle.sg_tree.specs.Faults.{at_place, kind_if, of_type}
 use Rattle.sg_tree.specs.Tree.{has_only, list_of, rows_at}
 use Rattle.sg_tree.specs.declared.fault.Fault.{Fault}
 use Rattle.sg_tree.specs.declared.fault.Kind.{Kind}
@@ -16,7 +16,7 @@ use Rattle.toml.specs.Data.{Data, Members, get_member, as_array, as_table}
 
 -- a row as a whole
 abbrev pub row_kinds : List Key → Data → List Kind
-row_kinds keys row = of_type (λ members. broken (not (has_only (map key_text keys) members)) Unknown) (as_table row)
+row_kinds keys row = of_type (λ members. kind_if (not (has_only (map key_text keys) members)) Unknown) (as_table row)
 
 -- the key of index i of row r, which has this number in its space of names
 abbrev pub key_faults : Known → ℕ → ℕ → ℕ → Data → ℕ → Key → List Fault
@@ -40,7 +40,7 @@ rows_before names _ = 0
 -- a table as a whole
 abbrev pub table_kinds : Table → Option Data → List Kind
 table_kinds table None = []
-table_kinds table (Some d) = of_type (λ items. broken (nat_lt (row_limit table) (length (list_of items))) Limit) (as_array d)
+table_kinds table (Some d) = of_type (λ items. kind_if (nat_lt (row_limit table) (length (list_of items))) Limit) (as_array d)
 
 -- a table and its rows
 unfoldable pub table_faults : Known → Members → Table → List Fault
@@ -51,7 +51,7 @@ table_faults names tree table =
 
 -- a text as a whole
 abbrev pub top_kinds : List Table → Members → List Kind
-top_kinds tables tree = broken (not (has_only (map table_text tables) tree)) Unknown
+top_kinds tables tree = kind_if (not (has_only (map table_text tables) tree)) Unknown
 
 -- all faults of a tree that may have these tables
 unfoldable pub faults_of : Known → List Table → Members → List Fault

@@ -8,3 +8,4 @@ pub mod Rules
 pub mod Faults
 pub mod Rising
 pub mod PlatformKinds
+pub mod kept

@@ -1,12 +1,10 @@
 -- What is known of the names of a whole tree: under which number each stands first.
-use Rattle.std.specs.Prelude.{ℕ, ◌+◌, ◌<◌, ◌^◌, IfSome, List, ◌++◌, Option, None, length, codes}
-use Rattle.std.specs.HashMap.{get_by, get_by_text}
+use Rattle.std.specs.Prelude.{ℕ, ◌+◌, List, ◌++◌, Option, None, length, codes}
 use Rattle.std.specs.Map.{lookup}
 use Rattle.std.specs.Str.{bytes_eq}
 use Rattle.sg_rules.specs.Arguments.{worker_numbers}
 use Rattle.sg_rules.specs.LinkNames.{declared_numbers, taken_numbers}
 use Rattle.sg_rules.specs.Pairs.{pair_numbers}
-use Rattle.sg_rules.specs.declared.names.Names.{Names}
 use Rattle.sg_tree.specs.Names.{Finds, Pair, names_from, pair_eq}
 use Rattle.sg_tree.specs.Tree.{rows_at}
 use Rattle.toml.specs.Data.{Data, Members}
@@ -76,30 +74,3 @@ deployment_known hosts points tree = record {
   mutexes = λ q. lookup (bytes_eq q) (names_from (codes "id") 0 (rows_at (codes "mutex") tree));
   semaphores = λ q. lookup (bytes_eq q) (names_from (codes "id") 0 (rows_at (codes "semaphore") tree));
 }
-
--- what the code has collected
-abbrev pub names_view : Names → Known
-names_view names = record {
-  zones = names.zones;
-  hosts = names.hosts;
-  points = λ q. get_by_text names.points q;
-  taken = λ q. get_by_text names.taken q;
-  links = λ q. get_by_text names.links q;
-  pairs = λ q. get_by (pair_eq q) names.pairs;
-  zone_pairs = λ q. get_by (pair_eq q) names.zone_pairs;
-  children = λ q. get_by_text names.children q;
-  actors = λ q. get_by_text names.actors q;
-  workers = λ q. get_by_text names.workers q;
-  mutexes = λ q. get_by_text names.mutexes q;
-  semaphores = λ q. get_by_text names.semaphores q;
-}
-
--- each number fits 32 bits
-abbrev pub FitsIn32 : Finds → Type 0
-FitsIn32 found = (name : List ℕ) → IfSome (found name) (λ i. i < 2 ^ 32)
-
--- so does each that a row keeps; actors are numbered from 1 on
-pub record AreSmall (names : Known) : Type 0 where
-  pub points : FitsIn32 names.points
-  pub links : FitsIn32 names.links
-  pub workers : (name : List ℕ) → IfSome (names.workers name) (λ row. row + 1 < 2 ^ 32)

@@ -1,7 +1,7 @@
 -- The ordered pairs that routes give.
 use Rattle.std.specs.Prelude.{Bool, true, false, ℕ, List, [], ◌∷◌, if◌then◌else◌, Option, Some, None, option_and_then, unwrap_or, codes}
 use Rattle.sg_tree.specs.Along.{along}
-use Rattle.sg_tree.specs.Names.{Finds, Pair, numbered}
+use Rattle.sg_tree.specs.Names.{Finds, Pair, with_number}
 use Rattle.sg_tree.specs.Tree.{text_at}
 use Rattle.toml.specs.Data.{Data, get, as_bool}
 
@@ -22,4 +22,4 @@ pairs_of points row =
 
 -- the pairs that rows give, under the numbers of the rows
 abbrev pub pair_numbers : Finds → List Data → List (Pair × ℕ)
-pair_numbers points rows = along (λ i row. numbered i (pairs_of points row)) 0 rows
+pair_numbers points rows = along (λ i row. with_number i (pairs_of points row)) 0 rows

@@ -1,6 +1,6 @@
 -- The faults of a text rise: by table, then row, then key, then kind. So the first is that of least place, and there of
 -- least kind.
-use Rattle.std.specs.Prelude.{◌≡◌, ℕ, ◌<◌, ◌⊎◌, List, [], ◌∷◌}
+use Rattle.std.specs.Prelude.{◌≡◌, ℕ, ◌<◌, ◌⊎◌, List, [], ◌∷◌, ⊤}
 use Rattle.std.specs.List.{AllByRecursion}
 use Rattle.sg_rules.specs.Faults.{faults_of}
 use Rattle.sg_rules.specs.Names.{Known}
@@ -23,7 +23,7 @@ IsBefore f g = IsBelow (numbers_of f) (numbers_of g)
 
 -- each is before all those behind it
 abbrev pub IsRising : List Fault → Type 0
-IsRising [] = Unit {0}
+IsRising [] = ⊤
 IsRising (f ∷ fs) = AllByRecursion (IsBefore f) fs × IsRising fs
 
 pub record FaultsRise : Type 0 where

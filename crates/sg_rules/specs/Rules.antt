@@ -1,10 +1,9 @@
 -- The rules that the values of keys keep, each asked by itself of the whole tree.
 use Rattle.std.specs.Prelude.{is_none, is_some, ℕ, ◌+◌, ◌==◌, ℤ, pos, negsuc, Bool, true, false, not, ◌&&◌, ◌||◌, nat_lt, nat_le, List, [], ◌∷◌, ◌++◌, if◌then◌else◌, Option, Some, None, length, codes}
-use Rattle.std.specs.Char.{is_ascii_alphanumeric}
 use Rattle.std.specs.List.{list_all, list_any}
 use Rattle.std.specs.Str.{bytes_eq}
 use Rattle.sg_rules.specs.Arguments.{argument_kinds}
-use Rattle.sg_rules.specs.LinkNames.{is_split, taken_by}
+use Rattle.sg_rules.specs.LinkNames.{is_split}
 use Rattle.sg_rules.specs.Names.{Known}
 use Rattle.sg_rules.specs.Pairs.{pairs_of}
 use Rattle.sg_rules.specs.Tables.{shape_of, word_text}
@@ -16,19 +15,13 @@ use Rattle.sg_rules.specs.declared.tables.Rule.{Rule}
 use Rattle.sg_rules.specs.declared.tables.Rule.TheVariants.{NewPoint, NewLink, NewActor, NewMutex, NewSemaphore, ZoneName, PointName, EndName, HostName, RouteEnd, ZoneRouteEnd, SpokeChild, RoutingWord, PolicyWord, FunctionWord, SpeedText, BandwidthText, LatencyText, CoreCount, CapacityCount, TruthValue, LinkList, ArgumentList}
 use Rattle.sg_rules.specs.declared.tables.Shape.{Shape}
 use Rattle.sg_rules.specs.declared.tables.Shape.TheVariants.{Text, Whole, Truth, Texts}
-use Rattle.sg_tree.specs.Faults.{broken, of_type}
+use Rattle.sg_tree.specs.Faults.{kind_if, of_type}
 use Rattle.sg_tree.specs.Names.{Finds, Pair}
+use Rattle.sg_tree.specs.Spelling.{is_name, taken_by}
 use Rattle.sg_tree.specs.Tree.{list_of, text_at}
 use Rattle.sg_tree.specs.declared.fault.Kind.{Kind}
 use Rattle.sg_tree.specs.declared.fault.Kind.TheVariants.{MissingKey, WrongType, BadValue, BadName, Duplicate, Unknown, Limit, Function}
 use Rattle.toml.specs.Data.{Data, get, as_str, as_integer, as_bool, as_array}
-
--- a name: 1 to 64 letters, digits, underscores, points and hyphens
-abbrev pub is_name_byte : ℕ → Bool
-is_name_byte byte = ((is_ascii_alphanumeric byte || byte == 95) || byte == 46) || byte == 45
-
-unfoldable pub is_name : List ℕ → Bool
-is_name text = (not (length text == 0) && nat_le (length text) 64) && list_all is_name_byte text
 
 -- the number under which a name stands first is below this one
 abbrev pub is_taken : Option ℕ → ℕ → Bool
@@ -41,17 +34,17 @@ is_between least end (Some first) = nat_le least first && nat_lt first end
 
 -- a new name, of the row of this number in its space
 unfoldable pub id_kinds : Finds → ℕ → List ℕ → List Kind
-id_kinds numbers number name = broken (not (is_name name)) BadName ++ broken (is_taken (numbers name) number) Duplicate
+id_kinds numbers number name = kind_if (not (is_name name)) BadName ++ kind_if (is_taken (numbers name) number) Duplicate
 
 -- the name of a link, which takes three names where it is SPLITDUPLEX, and then has at most 59 bytes
 unfoldable pub link_id_kinds : Finds → ℕ → Bool → List ℕ → List Kind
 link_id_kinds taken number split id =
-    broken (not (is_name id) || (split && nat_lt 59 (length id))) BadName
-    ++ broken (list_any (λ name. is_taken (taken name) number) (taken_by split (Some id))) Duplicate
+    kind_if (not (is_name id) || (split && nat_lt 59 (length id))) BadName
+    ++ kind_if (list_any (λ name. is_taken (taken name) number) (taken_by split (Some id))) Duplicate
 
 -- the name of a zone
 unfoldable pub zone_kinds : Known → List ℕ → List Kind
-zone_kinds names name = broken (not (is_between 0 names.zones (names.points name))) Unknown
+zone_kinds names name = kind_if (not (is_between 0 names.zones (names.points name))) Unknown
 
 -- the name of a point: its number is not that of a zone
 abbrev pub is_from : ℕ → Option ℕ → Bool
@@ -59,32 +52,32 @@ is_from least None = false
 is_from least (Some first) = nat_le least first
 
 unfoldable pub point_kinds : Known → List ℕ → List Kind
-point_kinds names name = broken (not (is_from names.zones (names.points name))) Unknown
+point_kinds names name = kind_if (not (is_from names.zones (names.points name))) Unknown
 
 -- the name of a zone or a point
 unfoldable pub end_kinds : Known → List ℕ → List Kind
-end_kinds names name = broken (is_none (names.points name)) Unknown
+end_kinds names name = kind_if (is_none (names.points name)) Unknown
 
 -- a pair that the row gives was given by an earlier row
 unfoldable pub is_pair_taken : (Pair → Option ℕ) → Finds → ℕ → Data → Bool
 is_pair_taken pairs points number row = list_any (λ p. is_taken (pairs p) number) (pairs_of points row)
 
 unfoldable pub route_end_kinds : Known → ℕ → Data → List ℕ → List Kind
-route_end_kinds names number row name = broken (is_pair_taken names.pairs names.points number row) Duplicate ++ point_kinds names name
+route_end_kinds names number row name = kind_if (is_pair_taken names.pairs names.points number row) Duplicate ++ point_kinds names name
 
 unfoldable pub zone_route_end_kinds : Known → ℕ → Data → List ℕ → List Kind
-zone_route_end_kinds names number row name = broken (is_pair_taken names.zone_pairs names.points number row) Duplicate ++ end_kinds names name
+zone_route_end_kinds names number row name = kind_if (is_pair_taken names.zone_pairs names.points number row) Duplicate ++ end_kinds names name
 
 unfoldable pub child_kinds : Known → ℕ → List ℕ → List Kind
-child_kinds names number name = broken (is_taken (names.children name) number) Duplicate ++ end_kinds names name
+child_kinds names number name = kind_if (is_taken (names.children name) number) Duplicate ++ end_kinds names name
 
 -- the name of a host
 unfoldable pub host_kinds : Known → List ℕ → List Kind
-host_kinds names name = broken (not (is_between names.zones (names.zones + names.hosts) (names.points name))) Unknown
+host_kinds names name = kind_if (not (is_between names.zones (names.zones + names.hosts) (names.points name))) Unknown
 
 -- one of these words, else this kind
 unfoldable pub word_kinds : List (List ℕ) → Kind → List ℕ → List Kind
-word_kinds words kind text = broken (not (list_any (λ word. bytes_eq text word) words)) kind
+word_kinds words kind text = kind_if (not (list_any (λ word. bytes_eq text word) words)) kind
 
 abbrev pub routings : List (List ℕ)
 routings = codes "Full" ∷ codes "Star" ∷ []
@@ -101,11 +94,11 @@ is_positive None = false
 is_positive (Some n) = nat_lt 0 n
 
 unfoldable pub rate_kinds : Option ℕ → List Kind
-rate_kinds value = broken (not (is_positive value)) BadValue
+rate_kinds value = kind_if (not (is_positive value)) BadValue
 
 -- a latency, where its reader takes the text
 unfoldable pub latency_kinds : Option ℕ → List Kind
-latency_kinds value = broken (is_none value) BadValue
+latency_kinds value = kind_if (is_none value) BadValue
 
 -- what is wrong with a text
 abbrev pub text_kinds : Known → ℕ → Data → Rule → List ℕ → List Kind
@@ -143,8 +136,8 @@ is_capacity (negsuc n) = false
 
 -- what is wrong with a whole number
 abbrev pub whole_kinds : Rule → ℤ → List Kind
-whole_kinds CoreCount z = broken (not (is_core_count z)) BadValue
-whole_kinds CapacityCount z = broken (not (is_capacity z)) BadValue
+whole_kinds CoreCount z = kind_if (not (is_core_count z)) BadValue
+whole_kinds CapacityCount z = kind_if (not (is_capacity z)) BadValue
 whole_kinds _ z = []
 
 abbrev pub is_text : Data → Bool
@@ -157,9 +150,9 @@ is_unknown numbers (Some name) = is_none (numbers name)
 
 unfoldable pub link_list_kinds : Finds → List Data → List Kind
 link_list_kinds links items =
-    broken (length items == 0) BadValue
-    ++ broken (list_any (λ d. is_unknown links (as_str d)) items) Unknown
-    ++ broken (nat_lt 64 (length items)) Limit
+    kind_if (length items == 0) BadValue
+    ++ kind_if (list_any (λ d. is_unknown links (as_str d)) items) Unknown
+    ++ kind_if (nat_lt 64 (length items)) Limit
 
 -- what is wrong with a list of texts
 abbrev pub texts_kinds : Known → Data → Rule → List Data → List Kind

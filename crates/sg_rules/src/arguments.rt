@@ -4,10 +4,10 @@ ghost use Rattle.std.specs.HashMap.{get_by_text};
 ghost use Rattle.std.specs.List.{list_all};
 ghost use Rattle.std.specs.Map.{lookup};
 ghost use Rattle.std.specs.Str.{bytes_eq};
-ghost use Rattle.sg_rules.specs.Arguments.{are_for_master, are_workers, argument_kinds, has_function, is_task_count, repeats, takes_none, text_of, worker_names, worker_numbers};
+ghost use Rattle.sg_rules.specs.Arguments.{are_for_master, are_workers, argument_kinds, has_function, is_task_count, has_repeat, takes_none, text_of, worker_names, worker_numbers};
 ghost use Rattle.sg_rules.specs.Units.{amount_value};
 ghost use Rattle.sg_tree.specs.Along.{along, first};
-ghost use Rattle.sg_tree.specs.Names.{numbered, or_else};
+ghost use Rattle.sg_tree.specs.Names.{with_number, or_else};
 ghost use Rattle.toml.specs.View.{view};
 
 use crate::units::amount_value;
@@ -31,7 +31,11 @@ fn add_worker(
     number: usize,
     row: &Value,
 ) -> Result<(), Memory>
-    ensures { OnOk result ((q : List ℕ) → get_by_text space.new q ≡ or_else (get_by_text space.old q) (lookup (bytes_eq q) (numbered number (worker_names (view row.now))))) }
+    ensures { OnOk result
+        ((q : List ℕ)
+        → get_by_text space.new q
+        ≡ or_else (get_by_text space.old q)
+        (lookup (bytes_eq q) (with_number number (worker_names (view row.now))))) }
 {
     if !has_function(row, "worker") {
         return Ok(());
@@ -49,7 +53,12 @@ fn add_workers(
     space: &mut IndexMap<String, usize>,
     rows: &[Value],
 ) -> Result<(), Memory>
-    ensures { OnOk result ((q : List ℕ) → get_by_text space.new q ≡ or_else (get_by_text space.old q) (lookup (bytes_eq q) (along (λ i row. numbered i (worker_names (view row))) 0 rows.now))) }
+    ensures { OnOk result
+        ((q : List ℕ)
+        → get_by_text space.new q
+        ≡ or_else (get_by_text space.old q)
+        (lookup (bytes_eq q)
+        (along (λ i row. with_number i (worker_names (view row))) 0 rows.now))) }
 {
     for (i, row) in rows.iter().enumerate() {
         add_worker(alloc, space, i, row)?;
@@ -59,7 +68,9 @@ fn add_workers(
 
 /// The names of workers, under the numbers of their rows.
 pub fn workers_in(alloc: Global, rows: &[Value]) -> Result<IndexMap<String, usize>, Memory>
-    ensures { IfOk result (λ made. (q : List ℕ) → get_by_text made q ≡ lookup (bytes_eq q) (worker_numbers (map view rows.now))) }
+    ensures { IfOk result
+        (λ made. (q : List ℕ)
+        → get_by_text made q ≡ lookup (bytes_eq q) (worker_numbers (map view rows.now))) }
 {
     let mut made = IndexMap::new(alloc);
     add_workers(alloc, &mut made, rows)?;
@@ -77,8 +88,8 @@ pub fn text_of(item: &Value) -> &str
 }
 
 /// Whether a text stands twice in a list.
-fn repeats(alloc: Global, items: &[Value]) -> Result<bool, Memory>
-    ensures { IfOk result (λ twice. twice ≡ repeats (map text_of (map view items.now))) }
+fn has_repeat(alloc: Global, items: &[Value]) -> Result<bool, Memory>
+    ensures { IfOk result (λ twice. twice ≡ has_repeat (map text_of (map view items.now))) }
 {
     let mut seen = IndexMap::new(alloc);
     for (i, item) in items.iter().enumerate() {
@@ -92,7 +103,9 @@ fn repeats(alloc: Global, items: &[Value]) -> Result<bool, Memory>
 }
 
 fn are_known(workers: &IndexMap<String, usize>, items: &[Value]) -> bool
-    ensures { result ≡ list_all (λ name. is_some (get_by_text workers.now name)) (map text_of (map view items.now)) }
+    ensures { result
+        ≡ list_all (λ name. is_some (get_by_text workers.now name))
+        (map text_of (map view items.now)) }
 {
     for item in items {
         if !workers.contains_key(text_of(item)) {
@@ -109,12 +122,14 @@ fn are_workers(
     workers: &IndexMap<String, usize>,
     items: &[Value],
 ) -> Result<bool, Memory>
-    ensures { IfOk result (λ fine. fine ≡ are_workers (λ name. get_by_text workers.now name) (map text_of (map view items.now))) }
+    ensures { IfOk result
+        (λ fine. fine
+        ≡ are_workers (λ name. get_by_text workers.now name) (map text_of (map view items.now))) }
 {
     if items.len() == 0 || !are_known(workers, items) {
         return Ok(false);
     }
-    let twice = repeats(alloc, items)?;
+    let twice = has_repeat(alloc, items)?;
     Ok(!twice)
 }
 
@@ -142,7 +157,10 @@ fn are_for_master(
     workers: &IndexMap<String, usize>,
     items: &[Value],
 ) -> Result<bool, Memory>
-    ensures { IfOk result (λ fine. fine ≡ are_for_master (λ name. get_by_text workers.now name) (map text_of (map view items.now))) }
+    ensures { IfOk result
+        (λ fine. fine
+        ≡ are_for_master (λ name. get_by_text workers.now name)
+        (map text_of (map view items.now))) }
 {
     match items {
         [tasks, flops, bytes, names @ ..] => {
@@ -171,7 +189,10 @@ pub fn argument_fault(
     row: &Value,
     items: &[Value],
 ) -> Result<Option<Kind>, Memory>
-    ensures { IfOk result (λ fault. fault ≡ first (argument_kinds (λ name. get_by_text workers.now name) (view row.now) (map view items.now))) }
+    ensures { IfOk result
+        (λ fault. fault
+        ≡ first (argument_kinds (λ name. get_by_text workers.now name) (view row.now)
+        (map view items.now))) }
 {
     if takes_none(row) && items.len() != 0 {
         return Ok(Some(Kind::Arguments));

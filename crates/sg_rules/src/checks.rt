@@ -4,13 +4,13 @@ ghost use Rattle.std.specs.HashMap.{get_by, get_by_text};
 ghost use Rattle.std.specs.List.{list_all, list_any};
 ghost use Rattle.sg_tree.specs.Along.{first};
 ghost use Rattle.sg_tree.specs.declared.fault.Kind.TheVariants as kind;
-ghost use Rattle.sg_rules.specs.LinkNames.{split_names};
-ghost use Rattle.sg_rules.specs.Names.{names_view};
+ghost use Rattle.sg_rules.specs.kept.NamesView.{names_view};
 ghost use Rattle.sg_rules.specs.Pairs.{pairs_of};
 ghost use Rattle.sg_tree.specs.Names.{Pair, pair_eq};
+ghost use Rattle.sg_tree.specs.Spelling.{is_name, is_name_byte, split_names};
 ghost use Rattle.sg_tree.specs.Tree.{text_at};
 ghost use Rattle.toml.specs.Data.{as_str};
-ghost use Rattle.sg_rules.specs.Rules.{child_kinds, default_kinds, end_kinds, functions, host_kinds, id_kinds, is_capacity, is_core_count, is_name, is_name_byte, is_pair_taken, is_required, is_taken, is_text, is_unknown, key_kinds, latency_kinds, link_id_kinds, link_list_kinds, list_kinds, names_zone, point_kinds, policies, rate_kinds, route_end_kinds, routings, text_kinds, texts_kinds, value_kinds, whole_kinds, word_kinds, zone_kinds, zone_route_end_kinds};
+ghost use Rattle.sg_rules.specs.Rules.{child_kinds, default_kinds, end_kinds, functions, host_kinds, id_kinds, is_capacity, is_core_count, is_pair_taken, is_required, is_taken, is_text, is_unknown, key_kinds, latency_kinds, link_id_kinds, link_list_kinds, list_kinds, names_zone, point_kinds, policies, rate_kinds, route_end_kinds, routings, text_kinds, texts_kinds, value_kinds, whole_kinds, word_kinds, zone_kinds, zone_route_end_kinds};
 ghost use Rattle.toml.specs.View.{view};
 
 use crate::arguments::argument_fault;
@@ -39,7 +39,7 @@ fn are_name_bytes(text: &[u8]) -> bool
 }
 
 /// Whether a text is a name: 1 to 64 letters, digits, underscores, points and hyphens.
-#[tactic(auto, unfolding(crate::specs::Rules::is_name))]
+#[tactic(auto, unfolding(sg_tree::specs::Spelling::is_name))]
 fn is_name(text: &[u8]) -> bool
     ensures { result ≡ is_name text.now }
 {
@@ -84,7 +84,8 @@ fn is_end_given(space: &IndexMap<String, usize>, number: usize, name: &str, end:
 /// Whether an earlier row than this has a name of a direction of the link.
 fn is_split_given(space: &IndexMap<String, usize>, number: usize, id: &str) -> bool
     requires { length id.now ≤ 59 }
-    ensures { result ≡ list_any (λ name. is_taken (get_by_text space.now name) number) (split_names id.now) }
+    ensures { result
+        ≡ list_any (λ name. is_taken (get_by_text space.now name) number) (split_names id.now) }
 {
     let up = is_end_given(space, number, id, "_UP");
     let down = is_end_given(space, number, id, "_DOWN");
@@ -98,7 +99,8 @@ fn link_id_fault(
     split: bool,
     id: &str,
 ) -> Option<Kind>
-    ensures { result ≡ first (link_id_kinds (λ name. get_by_text taken.now name) number split id.now) }
+    ensures { result
+        ≡ first (link_id_kinds (λ name. get_by_text taken.now name) number split id.now) }
 {
     if !is_name(id.as_bytes()) {
         return Some(Kind::BadName);
@@ -169,7 +171,9 @@ fn is_pair_taken(
     number: usize,
     row: &Value,
 ) -> bool
-    ensures { result ≡ is_pair_taken (λ p. get_by (pair_eq p) pairs.now) (λ q. get_by_text points.now q) number (view row.now) }
+    ensures { result
+        ≡ is_pair_taken (λ p. get_by (pair_eq p) pairs.now) (λ q. get_by_text points.now q) number
+        (view row.now) }
 {
     match (point_at(points, row, "src"), point_at(points, row, "dst")) {
         (Some(a), Some(b)) => {
@@ -186,7 +190,8 @@ fn is_pair_taken(
 
 #[tactic(auto, unfolding(crate::specs::Rules::route_end_kinds))]
 fn route_end_fault(names: &Names, number: usize, row: &Value, name: &str) -> Option<Kind>
-    ensures { result ≡ first (route_end_kinds (names_view names.now) number (view row.now) name.now) }
+    ensures { result
+        ≡ first (route_end_kinds (names_view names.now) number (view row.now) name.now) }
 {
     if is_pair_taken(&names.pairs, &names.points, number, row) {
         Some(Kind::Duplicate)
@@ -197,7 +202,8 @@ fn route_end_fault(names: &Names, number: usize, row: &Value, name: &str) -> Opt
 
 #[tactic(auto, unfolding(crate::specs::Rules::zone_route_end_kinds))]
 fn zone_route_end_fault(names: &Names, number: usize, row: &Value, name: &str) -> Option<Kind>
-    ensures { result ≡ first (zone_route_end_kinds (names_view names.now) number (view row.now) name.now) }
+    ensures { result
+        ≡ first (zone_route_end_kinds (names_view names.now) number (view row.now) name.now) }
 {
     if is_pair_taken(&names.zone_pairs, &names.points, number, row) {
         Some(Kind::Duplicate)
@@ -279,7 +285,8 @@ fn function_fault(text: &str) -> Option<Kind>
 }
 
 fn text_fault(names: &Names, number: usize, row: &Value, rule: Rule, text: &str) -> Option<Kind>
-    ensures { result ≡ first (text_kinds (names_view names.now) number (view row.now) rule text.now) }
+    ensures { result
+        ≡ first (text_kinds (names_view names.now) number (view row.now) rule text.now) }
 {
     match rule {
         Rule::NewPoint => id_fault(&names.points, number, text),
@@ -351,7 +358,9 @@ fn is_unknown(links: &IndexMap<String, usize>, item: &Value) -> bool
 }
 
 fn has_unknown(links: &IndexMap<String, usize>, items: &[Value]) -> bool
-    ensures { result ≡ list_any (λ d. is_unknown (λ name. get_by_text links.now name) (as_str d)) (map view items.now) }
+    ensures { result
+        ≡ list_any (λ d. is_unknown (λ name. get_by_text links.now name) (as_str d))
+        (map view items.now) }
 {
     for item in items {
         if is_unknown(links, item) {
@@ -363,7 +372,8 @@ fn has_unknown(links: &IndexMap<String, usize>, items: &[Value]) -> bool
 
 #[tactic(auto, unfolding(crate::specs::Rules::link_list_kinds))]
 fn link_list_fault(links: &IndexMap<String, usize>, items: &[Value]) -> Option<Kind>
-    ensures { result ≡ first (link_list_kinds (λ name. get_by_text links.now name) (map view items.now)) }
+    ensures { result
+        ≡ first (link_list_kinds (λ name. get_by_text links.now name) (map view items.now)) }
 {
     if items.len() == 0 {
         Some(Kind::BadValue)
@@ -383,7 +393,9 @@ fn texts_fault(
     rule: Rule,
     items: &[Value],
 ) -> Result<Option<Kind>, Memory>
-    ensures { IfOk result (λ fault. fault ≡ first (texts_kinds (names_view names.now) (view row.now) rule (map view items.now))) }
+    ensures { IfOk result
+        (λ fault. fault
+        ≡ first (texts_kinds (names_view names.now) (view row.now) rule (map view items.now))) }
 {
     match rule {
         Rule::LinkList => Ok(link_list_fault(&names.links, items)),
@@ -400,7 +412,9 @@ fn list_fault(
     rule: Rule,
     items: &[Value],
 ) -> Result<Option<Kind>, Memory>
-    ensures { IfOk result (λ fault. fault ≡ first (list_kinds (names_view names.now) (view row.now) rule (map view items.now))) }
+    ensures { IfOk result
+        (λ fault. fault
+        ≡ first (list_kinds (names_view names.now) (view row.now) rule (map view items.now))) }
 {
     if are_texts(items) {
         texts_fault(alloc, names, row, rule, items)
@@ -418,7 +432,9 @@ fn value_fault(
     rule: Rule,
     value: &Value,
 ) -> Result<Option<Kind>, Memory>
-    ensures { IfOk result (λ fault. fault ≡ first (value_kinds (names_view names.now) number (view row.now) rule (view value.now))) }
+    ensures { IfOk result
+        (λ fault. fault
+        ≡ first (value_kinds (names_view names.now) number (view row.now) rule (view value.now))) }
 {
     match rule.shape() {
         Shape::Text => match value.as_str() {
@@ -468,7 +484,8 @@ fn default_fault(
     row: &Value,
     rule: Rule,
 ) -> Result<Option<Kind>, Memory>
-    ensures { IfOk result (λ fault. fault ≡ first (default_kinds (names_view names.now) (view row.now) rule)) }
+    ensures { IfOk result
+        (λ fault. fault ≡ first (default_kinds (names_view names.now) (view row.now) rule)) }
 {
     match rule {
         Rule::ArgumentList => argument_fault(alloc, &names.workers, row, &[]),
@@ -485,7 +502,8 @@ pub fn key_fault(
     row: &Value,
     key: Key,
 ) -> Result<Option<Kind>, Memory>
-    ensures { IfOk result (λ fault. fault ≡ first (key_kinds (names_view names.now) number (view row.now) key)) }
+    ensures { IfOk result
+        (λ fault. fault ≡ first (key_kinds (names_view names.now) number (view row.now) key)) }
 {
     match row.get(key.word.text()) {
         None => if is_required(names, row, key.need) {

@@ -1,12 +1,11 @@
 //! The first fault of a tree.
-ghost use Rattle.std.specs.Prelude.{◌≡◌, IfOk, ◌<◌, ◌≤◌, ◌+◌, ◌^◌, length, map, codes};
-ghost use Rattle.std.specs.Prelude.{string_bytes};
+ghost use Rattle.std.specs.Prelude.{◌≡◌, IfOk, ◌<◌, ◌≤◌, ◌+◌, ◌^◌, length, map, codes, string_bytes};
 ghost use Rattle.toml.specs.Data.{get_member};
 ghost use Rattle.std.specs.List.{list_any, list_all};
 ghost use Rattle.std.specs.BTreeMap.{keys as map_keys};
 ghost use Rattle.std.specs.Str.{bytes_eq};
 ghost use Rattle.toml.specs.View.{view, table_view};
-ghost use Rattle.sg_rules.specs.Names.{names_view};
+ghost use Rattle.sg_rules.specs.kept.NamesView.{names_view};
 ghost use Rattle.sg_tree.specs.Along.{first, along};
 ghost use Rattle.sg_tree.specs.Tree.{has_only};
 ghost use Rattle.sg_rules.specs.Rules.{key_text};
@@ -32,7 +31,10 @@ fn keys_fault(
     row: &Value,
 ) -> Result<Option<Fault>, Memory>
     requires { length keys.now < 100 }
-    ensures { IfOk result (λ fault. fault ≡ first (along (key_faults (names_view names.now) number table row_number (view row.now)) 0 keys.now)) }
+    ensures { IfOk result
+        (λ fault. fault
+        ≡ first (along
+        (key_faults (names_view names.now) number table row_number (view row.now)) 0 keys.now)) }
 {
     for (i, key) in keys.iter().enumerate() {
         if let Some(kind) = key_fault(alloc, names, number, row, *key)? {
@@ -59,7 +61,9 @@ fn is_key(keys: &[Key], name: &str) -> bool
 }
 
 fn are_keys(keys: &[Key], members: &toml::Table) -> bool
-    ensures { result ≡ list_all (λ k. list_any (λ t. bytes_eq (string_bytes k) t) (map key_text keys.now)) (map_keys members.now) }
+    ensures { result
+        ≡ list_all (λ k. list_any (λ t. bytes_eq (string_bytes k) t) (map key_text keys.now))
+        (map_keys members.now) }
 {
     members.keys().all(|name| is_key(keys, name.as_str()))
 }
@@ -98,7 +102,10 @@ fn row_fault(
     row: &Value,
 ) -> Result<Option<Fault>, Memory>
     requires { length keys.now < 100 }
-    ensures { IfOk result (λ fault. fault ≡ first (row_faults (names_view names.now) keys.now number table row_number (view row.now))) }
+    ensures { IfOk result
+        (λ fault. fault
+        ≡ first (row_faults (names_view names.now) keys.now number table row_number
+        (view row.now))) }
 {
     if let Some(kind) = whole_fault(keys, row) {
         let place = Place {
@@ -123,7 +130,11 @@ fn rows_fault(
     requires few_keys { length keys.now < 100 }
     requires few_rows { length rows.now < 2 ^ 20 }
     requires few_before { before < 2 ^ 63 }
-    ensures { IfOk result (λ fault. fault ≡ first (along (λ i row. row_faults_at (names_view names.now) keys.now before table i (view row)) 0 rows.now)) }
+    ensures { IfOk result
+        (λ fault. fault
+        ≡ first (along
+        (λ i row. row_faults_at (names_view names.now) keys.now before table i
+        (view row)) 0 rows.now)) }
 {
     for (i, row) in rows.iter().enumerate() {
         let found = row_fault(alloc, names, keys, before + i, table, i as u32 + 1, row)?;
@@ -137,7 +148,8 @@ fn rows_fault(
 /// The first rule that a table breaks as a whole.
 #[tactic(auto, using(sg_tree::proofs::TreeLemmas::length_of_items))]
 fn head_fault(tree: &toml::Table, table: Table) -> Option<Kind>
-    ensures { result ≡ first (table_kinds table (get_member (table_text table) (table_view tree.now))) }
+    ensures { result
+        ≡ first (table_kinds table (get_member (table_text table) (table_view tree.now))) }
 {
     match value_at(tree, table.text()) {
         None => None,
@@ -174,7 +186,8 @@ fn table_fault(
     table: Table,
 ) -> Result<Option<Fault>, Memory>
     requires { names.now.zones + names.now.hosts < 2 ^ 63 }
-    ensures { IfOk result (λ fault. fault ≡ first (table_faults (names_view names.now) (table_view tree.now) table)) }
+    ensures { IfOk result
+        (λ fault. fault ≡ first (table_faults (names_view names.now) (table_view tree.now) table)) }
 {
     match head_fault(tree, table) {
         Some(kind) => {
@@ -211,7 +224,9 @@ fn is_table(tables: &[Table], name: &str) -> bool
 }
 
 fn are_tables(tables: &[Table], members: &toml::Table) -> bool
-    ensures { result ≡ list_all (λ k. list_any (λ t. bytes_eq (string_bytes k) t) (map table_text tables.now)) (map_keys members.now) }
+    ensures { result
+        ≡ list_all (λ k. list_any (λ t. bytes_eq (string_bytes k) t) (map table_text tables.now))
+        (map_keys members.now) }
 {
     members.keys().all(|name| is_table(tables, name.as_str()))
 }
@@ -230,7 +245,11 @@ fn tables_fault(
     tables: &[Table],
 ) -> Result<Option<Fault>, Memory>
     requires { names.now.zones + names.now.hosts < 2 ^ 63 }
-    ensures { IfOk result (λ fault. fault ≡ first (along (λ i table. table_faults (names_view names.now) (table_view tree.now) table) 0 tables.now)) }
+    ensures { IfOk result
+        (λ fault. fault
+        ≡ first (along
+        (λ i table. table_faults (names_view names.now)
+        (table_view tree.now) table) 0 tables.now)) }
 {
     for table in tables {
         let found = table_fault(alloc, names, tree, *table)?;
@@ -250,7 +269,9 @@ pub fn first_fault(
     tree: &toml::Table,
 ) -> Result<Option<Fault>, Memory>
     requires { names.now.zones + names.now.hosts < 2 ^ 63 }
-    ensures { IfOk result (λ fault. fault ≡ first (faults_of (names_view names.now) tables.now (table_view tree.now))) }
+    ensures { IfOk result
+        (λ fault. fault
+        ≡ first (faults_of (names_view names.now) tables.now (table_view tree.now))) }
 {
     if !has_only_tables(tables, tree) {
         let place = Place {

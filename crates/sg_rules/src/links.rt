@@ -6,7 +6,7 @@ ghost use Rattle.std.specs.Map.{lookup};
 ghost use Rattle.std.specs.Str.{bytes_eq};
 ghost use Rattle.sg_rules.specs.LinkNames.{declared_numbers, is_split, link_names, one_name, taken_names, taken_numbers};
 ghost use Rattle.sg_tree.specs.Along.{along};
-ghost use Rattle.sg_tree.specs.Names.{numbered, or_else};
+ghost use Rattle.sg_tree.specs.Names.{with_number, or_else};
 ghost use Rattle.toml.specs.View.{view};
 
 use indexmap::IndexMap;
@@ -34,7 +34,12 @@ fn add_split(
     up: usize,
     down: usize,
 ) -> Result<(), Memory>
-    ensures { OnOk result ((q : List ℕ) → get_by_text space.new q ≡ or_else (get_by_text space.old q) (lookup (bytes_eq q) ((id.now ++ codes "_UP", up) ∷ (id.now ++ codes "_DOWN", down) ∷ []))) }
+    ensures { OnOk result
+        ((q : List ℕ)
+        → get_by_text space.new q
+        ≡ or_else (get_by_text space.old q)
+        (lookup (bytes_eq q)
+        ((id.now ++ codes "_UP", up) ∷ (id.now ++ codes "_DOWN", down) ∷ []))) }
 {
     let mut name = String::from_str(alloc, id)?;
     name.push_str("_UP")?;
@@ -51,7 +56,11 @@ fn add_taken(
     number: usize,
     row: &Value,
 ) -> Result<(), Memory>
-    ensures { OnOk result ((q : List ℕ) → get_by_text space.new q ≡ or_else (get_by_text space.old q) (lookup (bytes_eq q) (numbered number (taken_names (view row.now))))) }
+    ensures { OnOk result
+        ((q : List ℕ)
+        → get_by_text space.new q
+        ≡ or_else (get_by_text space.old q)
+        (lookup (bytes_eq q) (with_number number (taken_names (view row.now))))) }
 {
     match text_at(row, "id") {
         Some(id) => {
@@ -72,7 +81,12 @@ fn add_all_taken(
     space: &mut IndexMap<String, usize>,
     rows: &[Value],
 ) -> Result<(), Memory>
-    ensures { OnOk result ((q : List ℕ) → get_by_text space.new q ≡ or_else (get_by_text space.old q) (lookup (bytes_eq q) (along (λ i row. numbered i (taken_names (view row))) 0 rows.now))) }
+    ensures { OnOk result
+        ((q : List ℕ)
+        → get_by_text space.new q
+        ≡ or_else (get_by_text space.old q)
+        (lookup (bytes_eq q)
+        (along (λ i row. with_number i (taken_names (view row))) 0 rows.now))) }
 {
     for (i, row) in rows.iter().enumerate() {
         add_taken(alloc, space, i, row)?;
@@ -88,7 +102,11 @@ fn add_link(
     row: &Value,
 ) -> Result<usize, Memory>
     requires { next + 2 < 2 ^ 64 }
-    ensures given { OnOk result ((q : List ℕ) → get_by_text space.new q ≡ or_else (get_by_text space.old q) (lookup (bytes_eq q) (along one_name next (link_names (view row.now))))) }
+    ensures given { OnOk result
+        ((q : List ℕ)
+        → get_by_text space.new q
+        ≡ or_else (get_by_text space.old q)
+        (lookup (bytes_eq q) (along one_name next (link_names (view row.now))))) }
     ensures count { IfOk result (λ n. n ≡ length (link_names (view row.now))) }
 {
     match text_at(row, "id") {
@@ -112,7 +130,12 @@ fn add_links(
     rows: &[Value],
 ) -> Result<(), Memory>
     requires { length rows.now < 2 ^ 62 }
-    ensures { OnOk result ((q : List ℕ) → get_by_text space.new q ≡ or_else (get_by_text space.old q) (lookup (bytes_eq q) (along one_name 0 (flat_map (λ row. link_names (view row)) rows.now)))) }
+    ensures { OnOk result
+        ((q : List ℕ)
+        → get_by_text space.new q
+        ≡ or_else (get_by_text space.old q)
+        (lookup (bytes_eq q)
+        (along one_name 0 (flat_map (λ row. link_names (view row)) rows.now)))) }
 {
     let mut next = 0;
     for row in rows {
@@ -123,7 +146,9 @@ fn add_links(
 
 /// The names that link rows take, under the numbers of the rows.
 pub fn taken_links(alloc: Global, rows: &[Value]) -> Result<IndexMap<String, usize>, Memory>
-    ensures { IfOk result (λ made. (q : List ℕ) → get_by_text made q ≡ lookup (bytes_eq q) (taken_numbers (map view rows.now))) }
+    ensures { IfOk result
+        (λ made. (q : List ℕ)
+        → get_by_text made q ≡ lookup (bytes_eq q) (taken_numbers (map view rows.now))) }
 {
     let mut made = IndexMap::new(alloc);
     add_all_taken(alloc, &mut made, rows)?;
@@ -132,7 +157,9 @@ pub fn taken_links(alloc: Global, rows: &[Value]) -> Result<IndexMap<String, usi
 
 /// The names by which lists name links, under the numbers of the links.
 pub fn declared_links(alloc: Global, rows: &[Value]) -> Result<IndexMap<String, usize>, Memory>
-    ensures { IfOk result (λ made. (q : List ℕ) → get_by_text made q ≡ lookup (bytes_eq q) (declared_numbers (map view rows.now))) }
+    ensures { IfOk result
+        (λ made. (q : List ℕ)
+        → get_by_text made q ≡ lookup (bytes_eq q) (declared_numbers (map view rows.now))) }
 {
     let mut made = IndexMap::new(alloc);
     add_links(alloc, &mut made, rows)?;

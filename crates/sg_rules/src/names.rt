@@ -6,7 +6,8 @@ ghost use Rattle.std.specs.Str.{bytes_eq};
 ghost use Rattle.sg_rules.specs.LinkNames.{declared_numbers, taken_numbers};
 ghost use Rattle.sg_rules.specs.Pairs.{pair_numbers};
 ghost use Rattle.sg_tree.specs.Names.{Pair, pair_eq};
-ghost use Rattle.sg_rules.specs.Names.{deployment_known, names_view, platform_known, point_numbers};
+ghost use Rattle.sg_rules.specs.Names.{deployment_known, platform_known, point_numbers};
+ghost use Rattle.sg_rules.specs.kept.NamesView.{names_view};
 ghost use Rattle.toml.specs.View.{view, table_view};
 
 use crate::arguments::workers_in;
@@ -50,7 +51,11 @@ fn points_of(
     hosts: &[Value],
     routers: &[Value],
 ) -> Result<IndexMap<String, usize>, Memory>
-    ensures { IfOk result (λ made. (q : List ℕ) → get_by_text made q ≡ lookup (bytes_eq q) (point_numbers (map view zones.now) (map view hosts.now) (map view routers.now))) }
+    ensures { IfOk result
+        (λ made. (q : List ℕ)
+        → get_by_text made q
+        ≡ lookup (bytes_eq q)
+        (point_numbers (map view zones.now) (map view hosts.now) (map view routers.now))) }
 {
     let mut made = names_at(alloc, "id", zones)?;
     add_names(alloc, &mut made, "id", zones.len(), hosts)?;
@@ -63,8 +68,12 @@ fn link_names(
     alloc: Global,
     rows: &[Value],
 ) -> Result<(IndexMap<String, usize>, IndexMap<String, usize>), Memory>
-    ensures taken { IfOk result (λ made. (q : List ℕ) → get_by_text made.0 q ≡ lookup (bytes_eq q) (taken_numbers (map view rows.now))) }
-    ensures declared { IfOk result (λ made. (q : List ℕ) → get_by_text made.1 q ≡ lookup (bytes_eq q) (declared_numbers (map view rows.now))) }
+    ensures taken { IfOk result
+        (λ made. (q : List ℕ)
+        → get_by_text made.0 q ≡ lookup (bytes_eq q) (taken_numbers (map view rows.now))) }
+    ensures declared { IfOk result
+        (λ made. (q : List ℕ)
+        → get_by_text made.1 q ≡ lookup (bytes_eq q) (declared_numbers (map view rows.now))) }
 {
     let taken = taken_links(alloc, rows)?;
     let declared = declared_links(alloc, rows)?;
@@ -84,8 +93,15 @@ fn route_pairs(
     ),
     Memory,
 >
-    ensures pairs { IfOk result (λ made. (q : Pair) → get_by (pair_eq q) made.0 ≡ lookup (pair_eq q) (pair_numbers (λ q. get_by_text points.now q) (map view routes.now))) }
-    ensures zone_pairs { IfOk result (λ made. (q : Pair) → get_by (pair_eq q) made.1 ≡ lookup (pair_eq q) (pair_numbers (λ q. get_by_text points.now q) (map view zone_routes.now))) }
+    ensures pairs { IfOk result
+        (λ made. (q : Pair)
+        → get_by (pair_eq q) made.0
+        ≡ lookup (pair_eq q) (pair_numbers (λ q. get_by_text points.now q) (map view routes.now))) }
+    ensures zone_pairs { IfOk result
+        (λ made. (q : Pair)
+        → get_by (pair_eq q) made.1
+        ≡ lookup (pair_eq q)
+        (pair_numbers (λ q. get_by_text points.now q) (map view zone_routes.now))) }
 {
     let pairs = pairs_in(alloc, points, routes)?;
     let zone_pairs = pairs_in(alloc, points, zone_routes)?;
@@ -128,7 +144,9 @@ pub fn deployment_names(
     hosts: usize,
     points: IndexMap<String, usize>,
 ) -> Result<Names, Memory>
-    ensures known { IfOk result (λ names. names_view names ≡ deployment_known hosts (λ q. get_by_text points q) (table_view tree.now)) }
+    ensures known { IfOk result
+        (λ names. names_view names
+        ≡ deployment_known hosts (λ q. get_by_text points q) (table_view tree.now)) }
     ensures few { IfOk result (λ names. names.zones + names.hosts ≡ hosts) }
 {
     let rows = rows_at(tree, "actor");

@@ -4,7 +4,7 @@ ghost use Rattle.std.specs.HashMap.{get_by, get_by_text};
 ghost use Rattle.std.specs.Map.{lookup};
 ghost use Rattle.sg_rules.specs.Pairs.{pair_numbers, pairs_of, truth_or};
 ghost use Rattle.sg_tree.specs.Along.{along};
-ghost use Rattle.sg_tree.specs.Names.{Pair, numbered, or_else, pair_eq};
+ghost use Rattle.sg_tree.specs.Names.{Pair, with_number, or_else, pair_eq};
 ghost use Rattle.sg_tree.specs.Tree.{text_at};
 ghost use Rattle.toml.specs.Data.{get};
 ghost use Rattle.toml.specs.View.{view};
@@ -17,7 +17,8 @@ use toml::Value;
 
 /// The number of the point, or zone, that a key names.
 pub fn point_at(points: &IndexMap<String, usize>, row: &Value, key: &str) -> Option<usize>
-    ensures { result ≡ option_and_then (λ q. get_by_text points.now q) (text_at key.now (view row.now)) }
+    ensures { result
+        ≡ option_and_then (λ q. get_by_text points.now q) (text_at key.now (view row.now)) }
 {
     match text_at(row, key) {
         Some(name) => points.get(name).copied(),
@@ -46,7 +47,11 @@ fn add_route(
     number: usize,
     row: &Value,
 ) -> Result<(), Memory>
-    ensures { OnOk result ((q : Pair) → get_by (pair_eq q) pairs.new ≡ or_else (get_by (pair_eq q) pairs.old) (lookup (pair_eq q) (numbered number (pairs_of (λ q. get_by_text points.now q) (view row.now))))) }
+    ensures { OnOk result
+        ((q : Pair) → get_by (pair_eq q) pairs.new
+        ≡ or_else (get_by (pair_eq q) pairs.old)
+        (lookup (pair_eq q)
+        (with_number number (pairs_of (λ q. get_by_text points.now q) (view row.now))))) }
 {
     match (point_at(points, row, "src"), point_at(points, row, "dst")) {
         (Some(a), Some(b)) => {
@@ -67,7 +72,12 @@ fn add_routes(
     pairs: &mut IndexMap<(usize, usize), usize>,
     rows: &[Value],
 ) -> Result<(), Memory>
-    ensures { OnOk result ((q : Pair) → get_by (pair_eq q) pairs.new ≡ or_else (get_by (pair_eq q) pairs.old) (lookup (pair_eq q) (along (λ i row. numbered i (pairs_of (λ q. get_by_text points.now q) (view row))) 0 rows.now))) }
+    ensures { OnOk result
+        ((q : Pair) → get_by (pair_eq q) pairs.new
+        ≡ or_else (get_by (pair_eq q) pairs.old)
+        (lookup (pair_eq q)
+        (along (λ i row.
+        with_number i (pairs_of (λ q. get_by_text points.now q) (view row))) 0 rows.now))) }
 {
     for (i, row) in rows.iter().enumerate() {
         add_route(points, pairs, i, row)?;
@@ -81,7 +91,10 @@ pub fn pairs_in(
     points: &IndexMap<String, usize>,
     rows: &[Value],
 ) -> Result<IndexMap<(usize, usize), usize>, Memory>
-    ensures { IfOk result (λ made. (q : Pair) → get_by (pair_eq q) made ≡ lookup (pair_eq q) (pair_numbers (λ q. get_by_text points.now q) (map view rows.now))) }
+    ensures { IfOk result
+        (λ made. (q : Pair)
+        → get_by (pair_eq q) made
+        ≡ lookup (pair_eq q) (pair_numbers (λ q. get_by_text points.now q) (map view rows.now))) }
 {
     let mut made = IndexMap::new(alloc);
     add_routes(points, &mut made, rows)?;

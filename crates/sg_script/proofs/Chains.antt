@@ -8,9 +8,9 @@ use Rattle.sg_base.specs.declared.call.Action.{Action}
 use Rattle.sg_script.specs.Known.{Known}
 use Rattle.sg_script.specs.declared.fault.ScriptFault.{ScriptFault}
 use Rattle.sg_script.specs.declared.fault.ScriptFault.TheVariants.{Line, Read, Memory}
-use Rattle.sg_script.specs.Front.{May}
+use Rattle.sg_script.specs.Rest.{May}
 use Rattle.sg_script.specs.Stands.{Kept, answer_from, Reads}
-use Rattle.sg_script.specs.Steps.{Moves, Tells, Goes, Answers, Ends}
+use Rattle.sg_script.specs.kept.Steps.{Moves, Tells, Goes, Answers, Ends}
 
 -- what may still come after a piece may have come before it, with it in front
 pub may_back : (s t : Stage) (piece rest : List ℕ) (broken : Bool) → (s ≢ Begun → (piece ≡ []) × (t ≡ s)) → May t rest broken → May s (piece ++ rest) broken

@@ -1,15 +1,15 @@
 -- What the bytes behind a line need, and the line in front of them.
-use Rattle.std.proofs.Common.{◌≡◌, ◌<◌, ◌+◌, ◌-◌, ◌∙◌, suc, ap, refl, ℕ, Bool, true, false, cond, eqb, ltb, List, [], ◌∷◌, length, min, Option, None, Some, Ok, Err, arith}
+use Rattle.std.proofs.Common.{◌≡◌, ◌+◌, ◌-◌, ◌∙◌, suc, ap, refl, ℕ, Bool, true, false, cond, eqb, ltb, List, [], ◌∷◌, length, min, Option, None, Some, Ok, Err, arith}
 use Rattle.std.specs.Prelude.{option_map}
 use Rattle.std.specs.List.{slice_split}
 use Rattle.std.proofs.lemmas.Bool.Decides.{nat_tests}
 use Rattle.sg_script.specs.declared.fault.LineFault.TheVariants.{TooLong, NotAscii, UnknownActor, UnknownAction, ArgumentCount, BadAmount, TooManyLines, UnknownObject}
 use Rattle.sg_script.specs.declared.line.Entry.{Entry}
 use Rattle.sg_script.specs.Known.{Known}
-use Rattle.sg_script.specs.Asked.{is_newline, judgements}
-use Rattle.sg_script.specs.Front.{IsNoOwn}
+use Rattle.sg_script.specs.Answer.{is_newline, judgements}
+use Rattle.sg_script.specs.kept.Front.{IsNoOwn}
 use Rattle.sg_script.specs.Line.{Judgement}
-use Rattle.sg_script.specs.Needed.{behind_one, deciding_line, front_length, needed_by, needed_from, own_actions, through, told_at}
+use Rattle.sg_script.specs.Needed.{behind_one, deciding_line, front_length, need_by, need_from, own_actions, through, told_at}
 
 -- a line in front moves all that is told behind it
 told_more : (late : Bool) (k start end : ℕ) (said : Judgement) → told_at late (k + start) (k + end) said ≡ k + told_at late start end said
@@ -30,7 +30,7 @@ through_more line whole behind n cut size =
     ap (λ (parts : List (List ℕ)). min (front_length (suc n) parts) (length whole)) cut ∙ least
 
 needed_more : (before : ℕ) (line whole behind : List ℕ) (at : Option (ℕ × Judgement)) → slice_split is_newline whole ≡ line ∷ slice_split is_newline behind → length whole ≡ length line + 1 + length behind
-    → needed_by before whole (option_map behind_one at) ≡ length line + 1 + needed_by (before + 1) behind at
+    → need_by before whole (option_map behind_one at) ≡ length line + 1 + need_by (before + 1) behind at
 needed_more before line whole behind None cut size = size
 needed_more before line whole behind (Some at) cut size =
     let k : ℕ = length line + 1 in
@@ -62,15 +62,15 @@ deciding_more actor earlier said more other = passed_over actor earlier (own_act
 pub needs_more : (known : Known) (broken : Bool) (actor before earlier : ℕ) (line whole behind : List ℕ) (said : Option Entry)
     → slice_split is_newline whole ≡ line ∷ slice_split is_newline behind → length whole ≡ length line + 1 + length behind → IsNoOwn actor said
     → judgements known before whole broken ≡ Ok said ∷ judgements known (before + 1) behind broken
-    → needed_from known broken actor before whole earlier ≡ length line + 1 + needed_from known broken actor (before + 1) behind earlier
+    → need_from known broken actor before whole earlier ≡ length line + 1 + need_from known broken actor (before + 1) behind earlier
 needs_more known broken actor before earlier line whole behind said cut size other all =
     let more : List Judgement = judgements known (before + 1) behind broken in
-    ap (λ (js : List Judgement). needed_by before whole (deciding_line actor earlier js)) all
-    ∙ ap (needed_by before whole) (deciding_more actor earlier said more other)
+    ap (λ (js : List Judgement). need_by before whole (deciding_line actor earlier js)) all
+    ∙ ap (need_by before whole) (deciding_more actor earlier said more other)
     ∙ needed_more before line whole behind (deciding_line actor earlier more) cut size
 
 -- the last line, where it isn't the actor's
-pub needs_last : (known : Known) (broken : Bool) (actor before earlier : ℕ) (whole : List ℕ) (said : Option Entry) → IsNoOwn actor said → judgements known before whole broken ≡ Ok said ∷ [] → needed_from known broken actor before whole earlier ≡ length whole
+pub needs_last : (known : Known) (broken : Bool) (actor before earlier : ℕ) (whole : List ℕ) (said : Option Entry) → IsNoOwn actor said → judgements known before whole broken ≡ Ok said ∷ [] → need_from known broken actor before whole earlier ≡ length whole
 needs_last known broken actor before earlier whole said other all =
-    ap (λ (js : List Judgement). needed_by before whole (deciding_line actor earlier js)) all
-    ∙ ap (needed_by before whole) (deciding_more actor earlier said [] other)
+    ap (λ (js : List Judgement). need_by before whole (deciding_line actor earlier js)) all
+    ∙ ap (need_by before whole) (deciding_more actor earlier said [] other)

@@ -1,5 +1,5 @@
 -- What stands at the front of bytes of which more may come.
-use Rattle.std.proofs.Common.{◌≡◌, ◌<◌, ◌≤◌, ◌+◌, ◌∙◌, suc, sym, ap, refl, ℕ, Bool, true, false, ◌||◌, ◌&&◌, eqb, ltb, List, [], ◌∷◌, ◌++◌, length, take, drop, Option, None, Some, Ok, Err, inl, inr, ◌⊎◌, arith, length-append, length-drop}
+use Rattle.std.proofs.Common.{◌≡◌, ◌<◌, ◌≤◌, ◌+◌, ◌∙◌, suc, sym, ap, refl, ℕ, Bool, true, false, ◌||◌, ◌&&◌, eqb, ltb, List, [], ◌∷◌, ◌++◌, length, take, drop, None, Some, Err, inl, inr, ◌⊎◌, arith, length-append, length-drop}
 use Rattle.std.specs.List.{position, position_or_len, slice_split, onto_first}
 use Rattle.std.specs.Prelude.{IsOk}
 use Rattle.std.proofs.lemmas.Bool.{cases_Bool, cases_lt}
@@ -11,13 +11,13 @@ use Rattle.sg_edge.specs.declared.files.Stage.TheVariants.{Over}
 use Rattle.sg_script.specs.declared.fault.LineFault.{LineFault}
 use Rattle.sg_script.specs.declared.fault.LineFault.TheVariants.{TooLong, TooManyLines}
 use Rattle.sg_script.specs.Known.{Known}
-use Rattle.sg_script.specs.Line.{Judgement, line_of}
+use Rattle.sg_script.specs.Line.{Judgement}
 use Rattle.sg_script.proofs.Splits.{first_yes, first_no, some_cases, none_cases}
-use Rattle.sg_script.specs.Asked.{is_newline, is_last_line, lines_among, all_judged, judged, judgements}
-use Rattle.sg_script.specs.Front.{Leads, May, IsNoOwn}
-use Rattle.sg_script.specs.Needed.{needed_from}
+use Rattle.sg_script.specs.Answer.{is_newline, is_last_line, lines_among, line_judgements, judgement_of, judgements}
+use Rattle.sg_script.specs.Rest.{May}
+use Rattle.sg_script.specs.kept.Front.{Leads}
+use Rattle.sg_script.specs.Needed.{need_from}
 use Rattle.sg_script.proofs.Deciding.{needs_last, needs_more}
-use Rattle.sg_script.specs.declared.line.Entry.{Entry}
 use Rattle.std.specs.Result.{is_ok}
 
 -- there is always a first part
@@ -76,19 +76,19 @@ leads_newline known before bytes i rest broken e =
     let cut : slice_split is_newline (bytes ++ rest) ≡ take i bytes ∷ slice_split is_newline (drop (i + 1) bytes ++ rest) = cut_at is_newline bytes rest lt ∙ ap (λ k. take k bytes ∷ slice_split is_newline (drop (k + 1) bytes ++ rest)) is in
     record {
       others = judgements known (before + 1) (drop (i + 1) bytes ++ rest) broken;
-      all = ap (λ (list : List (List ℕ)). all_judged known before (lines_among broken before list)) cut ∙ ap (all_judged known before) (among_more broken before (take i bytes) (drop (i + 1) bytes ++ rest));
+      all = ap (λ (list : List (List ℕ)). line_judgements known before (lines_among broken before list)) cut ∙ ap (line_judgements known before) (among_more broken before (take i bytes) (drop (i + 1) bytes ++ rest));
       behind = λ _. refl;
       needs = λ actor earlier said is other.
           needs_more known broken actor before earlier (take i bytes) (bytes ++ rest) (drop (i + 1) bytes ++ rest) said cut (omega (arith, length-append bytes rest, length-append (drop (i + 1) bytes) rest, length-drop (i + 1) bytes, taken_length i bytes (below bytes i e), below bytes i e)) other
-          (ap (λ (list : List (List ℕ)). all_judged known before (lines_among broken before list)) cut ∙ ap (all_judged known before) (among_more broken before (take i bytes) (drop (i + 1) bytes ++ rest)) ∙ ap (λ (j : Judgement). j ∷ judgements known (before + 1) (drop (i + 1) bytes ++ rest) broken) is)
-          ∙ ap (λ (n : ℕ). n + 1 + needed_from known broken actor (before + 1) (drop (i + 1) bytes ++ rest) earlier) (taken_length i bytes (below bytes i e));
+          (ap (λ (list : List (List ℕ)). line_judgements known before (lines_among broken before list)) cut ∙ ap (line_judgements known before) (among_more broken before (take i bytes) (drop (i + 1) bytes ++ rest)) ∙ ap (λ (j : Judgement). j ∷ judgements known (before + 1) (drop (i + 1) bytes ++ rest) broken) is)
+          ∙ ap (λ (n : ℕ). n + 1 + need_from known broken actor (before + 1) (drop (i + 1) bytes ++ rest) earlier) (taken_length i bytes (below bytes i e));
     }
 
 -- a line that is bad however it goes on
 pub record IsBad (known : Known) (before : ℕ) (bytes : List ℕ) : Type 0 where
   pub kind : LineFault
-  pub whole : judged known (before + 1) bytes ≡ Err kind
-  pub longer : (more : List ℕ) → judged known (before + 1) (bytes ++ more) ≡ Err kind
+  pub whole : judgement_of known (before + 1) bytes ≡ Err kind
+  pub longer : (more : List ℕ) → judgement_of known (before + 1) (bytes ++ more) ≡ Err kind
   pub last : (broken : Bool) (more : List ℕ) → is_last_line broken before (bytes ++ more) ≡ true
 
 cases_bad : (before n : ℕ) → (ltb 4096 n || (ltb 0 n && eqb before 100000000)) ≡ true → (4096 < n) ⊎ ((0 < n) × (before ≡ 100000000))
@@ -105,10 +105,10 @@ last_late : (broken : Bool) (before : ℕ) (bytes : List ℕ) → 0 < length byt
 last_late false before bytes h e = grind (arith, nat_tests)
 last_late true before bytes h e = grind (arith, nat_tests)
 
-judged_long : (known : Known) (before : ℕ) (bytes : List ℕ) → 4096 < length bytes → before < 100000000 → judged known (before + 1) bytes ≡ Err TooLong
+judged_long : (known : Known) (before : ℕ) (bytes : List ℕ) → 4096 < length bytes → before < 100000000 → judgement_of known (before + 1) bytes ≡ Err TooLong
 judged_long known before bytes h few = grind (arith, nat_tests)
 
-judged_late : (known : Known) (before : ℕ) (bytes : List ℕ) → 100000000 ≤ before → judged known (before + 1) bytes ≡ Err TooManyLines
+judged_late : (known : Known) (before : ℕ) (bytes : List ℕ) → 100000000 ≤ before → judgement_of known (before + 1) bytes ≡ Err TooManyLines
 judged_late known before bytes h = grind (arith, nat_tests)
 
 is_bad : (known : Known) (before : ℕ) (bytes : List ℕ) → is_last_line true before bytes ≡ true → IsBad known before bytes
@@ -152,12 +152,12 @@ leads_bad known before bytes rest broken none bad =
     let (part, parts, e) = some_part is_newline rest in
     let (more, first) = first_line broken before (bytes ++ part) parts (is.last broken part) in
     let cut : slice_split is_newline (bytes ++ rest) ≡ (bytes ++ part) ∷ parts = uncut is_newline bytes rest part parts e (none_cases (position_or_len is_newline bytes) (length bytes) none) in
-    let same : judged known (before + 1) (bytes ++ part) ≡ judged known (before + 1) (take (length bytes) bytes) = is.longer part ∙ sym is.whole ∙ ap (judged known (before + 1)) (sym (take_whole bytes)) in
+    let same : judgement_of known (before + 1) (bytes ++ part) ≡ judgement_of known (before + 1) (take (length bytes) bytes) = is.longer part ∙ sym is.whole ∙ ap (judgement_of known (before + 1)) (sym (take_whole bytes)) in
     record {
-      others = all_judged known (before + 1) more;
-      all = ap (λ (list : List (List ℕ)). all_judged known before (lines_among broken before list)) cut ∙ ap (all_judged known before) first ∙ ap (λ (j : Judgement). j ∷ all_judged known (before + 1) more) same;
-      needs = λ actor earlier said good other. absurd (err_not_ok _ is.kind (ap (judged known (before + 1)) (take_whole bytes) ∙ is.whole) (ap is_ok good));
-      behind = λ ok. absurd (err_not_ok _ is.kind (ap (judged known (before + 1)) (take_whole bytes) ∙ is.whole) ok);
+      others = line_judgements known (before + 1) more;
+      all = ap (λ (list : List (List ℕ)). line_judgements known before (lines_among broken before list)) cut ∙ ap (line_judgements known before) first ∙ ap (λ (j : Judgement). j ∷ line_judgements known (before + 1) more) same;
+      needs = λ actor earlier said good other. absurd (err_not_ok _ is.kind (ap (judgement_of known (before + 1)) (take_whole bytes) ∙ is.whole) (ap is_ok good));
+      behind = λ ok. absurd (err_not_ok _ is.kind (ap (judgement_of known (before + 1)) (take_whole bytes) ∙ is.whole) ok);
     }
 
 drop_whole : (bytes : List ℕ) → drop (length bytes) bytes ++ [] ≡ []
@@ -170,14 +170,14 @@ leads_end known before bytes none some =
     let last : is_last_line false before (take (length bytes) bytes) ≡ true = ap (is_last_line false before) (take_whole bytes) ∙ grind (arith, nat_tests) in
     record {
       others = [];
-      all = ap (λ (list : List (List ℕ)). all_judged known before (lines_among false before list)) (cut ∙ ap (λ (line : List ℕ). line ∷ []) whole) ∙ rw last refl;
+      all = ap (λ (list : List (List ℕ)). line_judgements known before (lines_among false before list)) (cut ∙ ap (λ (line : List ℕ). line ∷ []) whole) ∙ rw last refl;
       behind = λ _. ap (λ (b : List ℕ). judgements known (before + 1) b false) (sym (drop_whole bytes));
       needs = λ actor earlier said is other.
           let size : length (bytes ++ []) ≡ length bytes + 0 = omega (arith, length-append bytes []) in
           needs_last known false actor before earlier (bytes ++ []) said other
-          (ap (λ (list : List (List ℕ)). all_judged known before (lines_among false before list)) (cut ∙ ap (λ (line : List ℕ). line ∷ []) whole) ∙ rw last (ap (λ (j : Judgement). j ∷ []) is))
+          (ap (λ (list : List (List ℕ)). line_judgements known before (lines_among false before list)) (cut ∙ ap (λ (line : List ℕ). line ∷ []) whole) ∙ rw last (ap (λ (j : Judgement). j ∷ []) is))
           ∙ size
-          ∙ ap (λ (b : List ℕ). length bytes + needed_from known false actor (before + 1) b earlier) (sym (drop_whole bytes));
+          ∙ ap (λ (b : List ℕ). length bytes + need_from known false actor (before + 1) b earlier) (sym (drop_whole bytes));
     }
 
 pub leads_last : (known : Known) (before : ℕ) (bytes rest : List ℕ) (broken : Bool) → position is_newline bytes ≡ None → 0 < length bytes → May Over rest broken → Leads known before bytes (length bytes) (length bytes) rest broken

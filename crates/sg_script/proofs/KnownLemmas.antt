@@ -3,9 +3,9 @@ use Rattle.std.proofs.Common.{◌≡◌, ◌<◌, ◌+◌, refl, ℕ, List, Opti
 use Rattle.std.specs.Prelude.{IfSome, option_map}
 use Rattle.sg_base.specs.declared.ids.ActorId.{ActorId}
 use Rattle.sg_base.specs.Limits.{Extent, IsActorIn}
-use Rattle.sg_platform.proofs.Numbers.{mutex_below, replay_below, semaphore_below}
-use Rattle.sg_platform.specs.Deployment.{Deployed, extent_of, mutex_named, replay_actor_named, semaphore_named}
-use Rattle.sg_platform.specs.Index.{replay_number}
+use Rattle.sg_rows.proofs.Numbers.{mutex_below, replay_below, semaphore_below}
+use Rattle.sg_rows.specs.Deployment.{Deployed, extent_of, mutex_named, replay_actor_named, semaphore_named}
+use Rattle.sg_rows.specs.Index.{replay_number}
 
 -- the actors of a deployment are numbered from 1
 numbered_from_1 : (extent : Extent) (row : Option ℕ) → ((i : ℕ) → row ≡ Some i → i < extent.actors) → IfSome (option_map (λ i. record { 0 = i + 1 }) row) (IsActorIn extent)

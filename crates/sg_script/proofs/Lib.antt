@@ -6,6 +6,7 @@ pub mod KnownLemmas
 pub mod LimitLemmas
 pub mod Needs
 pub mod QueueLemmas
+pub mod Repeating
 pub mod Rows
 pub mod Spending
 pub mod Splits

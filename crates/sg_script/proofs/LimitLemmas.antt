@@ -1,11 +1,11 @@
 -- The actions that wait keep to the limits, and so does what is answered.
-use Rattle.std.proofs.Common.{◌≡◌, ◌<◌, ◌+◌, sym, ℕ, List, [], ◌∷◌, ◌++◌, length, zero, suc, arith}
+use Rattle.std.proofs.Common.{◌≡◌, ◌<◌, ℕ, List, [], ◌∷◌, ◌++◌, length, suc, arith}
 use Rattle.std.specs.Prelude.{replicate, slice_set}
 use Rattle.std.specs.List.{All}
 use Rattle.std.proofs.lemmas.List.Elements.{All-append, All-get_or, All-nil, All-replicate, All-set}
 use Rattle.sg_base.specs.Limits.{Extent, IsAction}
 use Rattle.sg_base.specs.declared.call.Action.{Action}
-use Rattle.sg_script.specs.Queues.{queue_at}
+use Rattle.sg_script.specs.kept.Queues.{queue_at}
 use Rattle.sg_script.specs.Stands.{Kept, AreLimited}
 
 abbrev IsQueue : Extent → List Action → Type 0

@@ -1,14 +1,14 @@
 -- An open front needs a byte more, where one more comes.
-use Rattle.std.proofs.Common.{◌≡◌, ◌<◌, ◌≤◌, ◌+◌, zero, suc, ap, refl, ℕ, Bool, true, false, ltb, List, [], ◌∷◌, ◌++◌, length, min, Option, None, Some, Ok, Err, inl, inr, arith, length-append, subst}
+use Rattle.std.proofs.Common.{◌≡◌, ◌<◌, ◌≤◌, ◌+◌, zero, suc, ap, refl, ℕ, Bool, true, false, ltb, List, ◌∷◌, ◌++◌, length, min, Option, None, Some, Ok, Err, inl, inr, arith, length-append}
 use Rattle.std.specs.List.{position_or_len, slice_split}
 use Rattle.std.proofs.lemmas.Bool.{cases_lt}
 use Rattle.std.proofs.lemmas.Bool.Decides.{nat_tests}
 use Rattle.sg_script.specs.declared.fault.LineFault.TheVariants.{TooLong, NotAscii, UnknownActor, UnknownAction, ArgumentCount, BadAmount, TooManyLines, UnknownObject}
 use Rattle.sg_script.specs.Known.{Known}
 use Rattle.sg_script.proofs.Splits.{none_cases}
-use Rattle.sg_script.specs.Asked.{is_newline, is_last_line, judgements}
-use Rattle.sg_script.specs.Front.{IsOpen}
-use Rattle.sg_script.specs.Needed.{deciding_line, front_length, needed_by, needed_from, through, told_at}
+use Rattle.sg_script.specs.Answer.{is_newline, is_last_line, judgements}
+use Rattle.sg_script.specs.kept.Front.{IsOpen}
+use Rattle.sg_script.specs.Needed.{deciding_line, front_length, need_by, need_from, through, told_at}
 use Rattle.sg_script.specs.Line.{Judgement}
 use Rattle.sg_script.proofs.FrontLemmas.{some_part, uncut}
 
@@ -37,7 +37,7 @@ through_least bytes part rest parts n cut some =
     omega (arith, same, some, length-append bytes part, length-append bytes rest)
 
 at_least : (before : ℕ) (bytes part rest : List ℕ) (parts : List (List ℕ)) (n : ℕ) (said : Judgement) → slice_split is_newline (bytes ++ rest) ≡ (bytes ++ part) ∷ parts → IsOpen before bytes → before ≤ 100000000 → 0 < length rest
-    → length bytes < needed_by before (bytes ++ rest) (Some (n, said))
+    → length bytes < need_by before (bytes ++ rest) (Some (n, said))
 at_least before bytes part rest parts zero said cut is few some =
     told_least (ltb 100000000 (before + 0 + 1)) (length bytes) (through (bytes ++ rest) 0) (through (bytes ++ rest) 1) said
     (λ late. let at_most : before ≡ 100000000 = grind (arith, nat_tests) in let none : length bytes < 1 = late_empty before bytes at_most is.not_bad in omega (arith, none))
@@ -51,11 +51,11 @@ at_least before bytes part rest parts (suc n) said cut is few some =
     (through_least bytes part rest parts (suc n) cut some)
 
 by_least : (before : ℕ) (bytes part rest : List ℕ) (parts : List (List ℕ)) (at : Option (ℕ × Judgement)) → slice_split is_newline (bytes ++ rest) ≡ (bytes ++ part) ∷ parts → IsOpen before bytes → before ≤ 100000000 → 0 < length rest
-    → length bytes < needed_by before (bytes ++ rest) at
+    → length bytes < need_by before (bytes ++ rest) at
 by_least before bytes part rest parts None cut is few some = omega (arith, some, length-append bytes rest)
 by_least before bytes part rest parts (Some at) cut is few some = at_least before bytes part rest parts at.0 at.1 cut is few some
 
-pub open_needs : (known : Known) (broken : Bool) (actor before earlier : ℕ) (bytes rest : List ℕ) → IsOpen before bytes → before ≤ 100000000 → 0 < length rest → length bytes < needed_from known broken actor before (bytes ++ rest) earlier
+pub open_needs : (known : Known) (broken : Bool) (actor before earlier : ℕ) (bytes rest : List ℕ) → IsOpen before bytes → before ≤ 100000000 → 0 < length rest → length bytes < need_from known broken actor before (bytes ++ rest) earlier
 open_needs known broken actor before earlier bytes rest is few some =
     let (part, parts, e) = some_part is_newline rest in
     let cut : slice_split is_newline (bytes ++ rest) ≡ (bytes ++ part) ∷ parts = uncut is_newline bytes rest part parts e (none_cases (position_or_len is_newline bytes) (length bytes) is.unended) in

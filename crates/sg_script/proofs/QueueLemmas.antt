@@ -3,10 +3,8 @@ use Rattle.std.proofs.Common.{◌≡◌, ◌<◌, ◌∙◌, sym, ap, ℕ, List,
 use Rattle.std.specs.Prelude.{map, replicate, slice_set}
 use Rattle.std.proofs.Math.Seq.{map-set_same}
 use Rattle.std.proofs.lemmas.List.{length-map, map-set, get_or-map, get_or-set_same}
-use Rattle.std.specs.List.{All}
-use Rattle.sg_base.specs.Limits.{IsAction}
 use Rattle.sg_base.specs.declared.call.Action.{Action}
-use Rattle.sg_script.specs.Queues.{queue_at, popped}
+use Rattle.sg_script.specs.kept.Queues.{queue_at, with_first}
 
 pushed : {D : Type 0} (f : D → List Action) (lists : List D) (i : ℕ) (old new : D) (action : Action) → i < length lists → old ≡ get_or lists i old → f new ≡ f old ++ action ∷ [] → map f (slice_set lists i new) ≡ slice_set (map f lists) i (queue_at (map f lists) i ++ action ∷ [])
 pushed f lists i old new action below is made =
@@ -15,9 +13,9 @@ pushed f lists i old new action below is made =
 kept : {D : Type 0} (f : D → List Action) (lists : List D) (i : ℕ) (old new : D) → old ≡ get_or lists i old → f new ≡ f old → map f (slice_set lists i new) ≡ map f lists
 kept f lists i old new is same = map-set_same f lists i new old (same ∙ ap f is)
 
-taken : {D : Type 0} (f : D → List Action) (lists : List D) (i : ℕ) (old new : D) (first : Option Action) → i < length lists → old ≡ get_or lists i old → f old ≡ popped first (f new) → queue_at (map f lists) i ≡ popped first (queue_at (map f (slice_set lists i new)) i)
+taken : {D : Type 0} (f : D → List Action) (lists : List D) (i : ℕ) (old new : D) (first : Option Action) → i < length lists → old ≡ get_or lists i old → f old ≡ with_first first (f new) → queue_at (map f lists) i ≡ with_first first (queue_at (map f (slice_set lists i new)) i)
 taken f lists i old new first below is made =
-    get_or-map f lists i old [] below ∙ sym (ap f is) ∙ made ∙ ap (popped first) (sym (ap (λ (qs : List (List Action)). queue_at qs i) (map-set f lists i new) ∙ get_or-set_same (map f lists) i (f new) [] (omega (arith, below, length-map lists f))))
+    get_or-map f lists i old [] below ∙ sym (ap f is) ∙ made ∙ ap (with_first first) (sym (ap (λ (qs : List (List Action)). queue_at qs i) (map-set f lists i new) ∙ get_or-set_same (map f lists) i (f new) [] (omega (arith, below, length-map lists f))))
 
 others : {D : Type 0} (f : D → List Action) (lists : List D) (i : ℕ) (new : D) → i < length lists → map f (slice_set lists i new) ≡ slice_set (map f lists) i (queue_at (map f (slice_set lists i new)) i)
 others f lists i new below =
@@ -33,7 +31,7 @@ pushed_view f lists view i old new action view_is below is made = rw view_is (pu
 pub kept_view : {D : Type 0} (f : D → List Action) (lists : List D) (view : List (List Action)) (i : ℕ) (old new : D) → view ≡ map f lists → old ≡ get_or lists i old → f new ≡ f old → map f (slice_set lists i new) ≡ view
 kept_view f lists view i old new view_is is made = kept f lists i old new is made ∙ sym view_is
 
-pub taken_view : {D : Type 0} (f : D → List Action) (lists : List D) (view : List (List Action)) (i : ℕ) (old new : D) (first : Option Action) → view ≡ map f lists → i < length view → old ≡ get_or lists i old → f old ≡ popped first (f new) → queue_at view i ≡ popped first (queue_at (map f (slice_set lists i new)) i)
+pub taken_view : {D : Type 0} (f : D → List Action) (lists : List D) (view : List (List Action)) (i : ℕ) (old new : D) (first : Option Action) → view ≡ map f lists → i < length view → old ≡ get_or lists i old → f old ≡ with_first first (f new) → queue_at view i ≡ with_first first (queue_at (map f (slice_set lists i new)) i)
 taken_view f lists view i old new first view_is below is made = rw view_is (taken f lists i old new first (inside f lists i view view_is below) is made)
 
 pub others_view : {D : Type 0} (f : D → List Action) (lists : List D) (view : List (List Action)) (i : ℕ) (new : D) → view ≡ map f lists → i < length view → map f (slice_set lists i new) ≡ slice_set view i (queue_at (map f (slice_set lists i new)) i)

@@ -13,21 +13,22 @@ use Rattle.sg_script.specs.declared.fault.LineFault.{LineFault}
 use Rattle.sg_script.specs.Known.{Known}
 use Rattle.sg_script.specs.declared.fault.ScriptFault.{ScriptFault}
 use Rattle.sg_script.specs.declared.fault.ScriptFault.TheVariants.{Line, Read}
-use Rattle.sg_script.specs.Asked.{is_newline, lines_among, all_judged, judged, judgements, actions_of, its_action, first_bad, answer_by}
+use Rattle.sg_script.specs.Answer.{is_newline, lines_among, line_judgements, judgement_of, judgements, actions_of, its_action, first_bad, answer_by}
 use Rattle.sg_script.specs.Line.{Judgement}
 use Rattle.std.specs.List.{slice_split}
 use Rattle.sg_script.proofs.Splits.{split_none}
-use Rattle.sg_script.specs.Front.{May, Leads, IsOpen}
-use Rattle.sg_script.specs.Queues.{queue_at}
+use Rattle.sg_script.specs.Rest.{May}
+use Rattle.sg_script.specs.kept.Front.{Leads, IsOpen}
+use Rattle.sg_script.specs.kept.Queues.{queue_at}
 use Rattle.sg_script.specs.Stands.{Kept, answer_from}
-use Rattle.sg_script.specs.Steps.{its_entry, Moves, Tells, Passes, queued, IsOther}
+use Rattle.sg_script.specs.kept.Steps.{its_entry, Moves, Tells, Passes, queues_with, IsOther}
 
 -- the answer by the judgements of what is still to come
 abbrev answer_with : Kept → Bool → List Judgement → ℕ → ℕ → Result (Option Action) ScriptFault
 answer_with kept broken more actor earlier = answer_by broken (first_bad kept.lines more) (slice_get (queue_at kept.queues actor ++ actions_of actor more) earlier)
 
 -- the line at the front is good or passed over, and its entry goes into its queue
-queue_more : (queues : List (List Action)) (entry : Entry) (actor : ℕ) (acts : List Action) → entry.actor.0 < length queues → queue_at queues actor ++ its_action actor entry acts ≡ queue_at (queued (Some entry) queues) actor ++ acts
+queue_more : (queues : List (List Action)) (entry : Entry) (actor : ℕ) (acts : List Action) → entry.actor.0 < length queues → queue_at queues actor ++ its_action actor entry acts ≡ queue_at (queues_with (Some entry) queues) actor ++ acts
 queue_more queues entry actor acts below = elim (cases_Bool (eqb entry.actor.0 actor)) [
   | inl is ↦
       let same : actor ≡ entry.actor.0 = grind (arith, nat_tests) in
@@ -37,7 +38,7 @@ queue_more queues entry actor acts below = elim (cases_Bool (eqb entry.actor.0 a
       rw isnt (ap (λ (q : List Action). q ++ acts) (sym (get_or-set_other queues entry.actor.0 actor (queue_at queues entry.actor.0 ++ entry.action ∷ []) [] other)))
 ]
 
-said_more : (queues : List (List Action)) (said : Option Entry) (me actor : ℕ) (more : List Judgement) → IsOther (length queues) me said → queue_at queues actor ++ actions_of actor (Ok said ∷ more) ≡ queue_at (queued said queues) actor ++ actions_of actor more
+said_more : (queues : List (List Action)) (said : Option Entry) (me actor : ℕ) (more : List Judgement) → IsOther (length queues) me said → queue_at queues actor ++ actions_of actor (Ok said ∷ more) ≡ queue_at (queues_with said queues) actor ++ actions_of actor more
 said_more queues None me actor more other = refl
 said_more queues (Some entry) me actor more other = queue_more queues entry actor (actions_of actor more) other.1
 
@@ -50,11 +51,11 @@ theirs actor other entry acts is isnt = rw is (rw isnt refl)
 -- the line of another actor
 pub moves_line : (known : Known) (stage : Stage) (old new : Kept) (len end me : ℕ) (said : Option Entry)
     → ((rest : List ℕ) (broken : Bool) → May stage rest broken → Leads known old.lines old.pending len end rest broken)
-    → judged known (old.lines + 1) (take len old.pending) ≡ Ok said → IsOther (length old.queues) me said → Passes (queued said old.queues) end old new → Moves known stage [] old new
+    → judgement_of known (old.lines + 1) (take len old.pending) ≡ Ok said → IsOther (length old.queues) me said → Passes (queues_with said old.queues) end old new → Moves known stage [] old new
 moves_line known stage old new len end me said leads is other passes rest broken may actor later =
     let l : Leads known old.lines old.pending len end rest broken = leads rest broken may in
     let all : judgements known old.lines (old.pending ++ rest) broken ≡ Ok said ∷ judgements known (old.lines + 1) (drop end old.pending ++ rest) broken =
-    l.all ∙ ap (λ (list : List Judgement). judged known (old.lines + 1) (take len old.pending) ∷ list) (l.behind (ap is_ok is)) ∙ ap (λ (j : Judgement). j ∷ judgements known (old.lines + 1) (drop end old.pending ++ rest) broken) is in
+    l.all ∙ ap (λ (list : List Judgement). judgement_of known (old.lines + 1) (take len old.pending) ∷ list) (l.behind (ap is_ok is)) ∙ ap (λ (j : Judgement). j ∷ judgements known (old.lines + 1) (drop end old.pending ++ rest) broken) is in
     let front : answer_with old broken (judgements known old.lines (old.pending ++ rest) broken) actor later ≡ answer_with old broken (Ok said ∷ judgements known (old.lines + 1) (drop end old.pending ++ rest) broken) actor later =
     ap (λ (list : List Judgement). answer_with old broken list actor later) all in
     front ∙ ap (λ (q : List Action). answer_by broken (first_bad (old.lines + 1) (judgements known (old.lines + 1) (drop end old.pending ++ rest) broken)) (slice_get q later)) (said_more old.queues said me actor (judgements known (old.lines + 1) (drop end old.pending ++ rest) broken) other)
@@ -64,13 +65,13 @@ moves_line known stage old new len end me said leads is other passes rest broken
 pub tells_line : (known : Known) (stage : Stage) (old new : Kept) (len end actor : ℕ) (action : Action)
     → ((rest : List ℕ) (broken : Bool) → May stage rest broken → Leads known old.lines old.pending len end rest broken)
     → queue_at old.queues actor ≡ []
-    → judged known (old.lines + 1) (take len old.pending) ≡ Ok (Some (its_entry actor action)) → Passes old.queues end old new → Tells known actor (Ok (Some action)) stage [] old new
+    → judgement_of known (old.lines + 1) (take len old.pending) ≡ Ok (Some (its_entry actor action)) → Passes old.queues end old new → Tells known actor (Ok (Some action)) stage [] old new
 tells_line known stage old new len end actor action leads empty is passes =
     let entry : Entry = its_entry actor action in
     let behind : List ℕ → Bool → List Judgement = λ rest broken. judgements known (old.lines + 1) (drop end old.pending ++ rest) broken in
     let all : (rest : List ℕ) (broken : Bool) → May stage rest broken → judgements known old.lines (old.pending ++ rest) broken ≡ Ok (Some entry) ∷ behind rest broken = λ rest broken may.
     let l : Leads known old.lines old.pending len end rest broken = leads rest broken may in
-    l.all ∙ ap (λ (list : List Judgement). judged known (old.lines + 1) (take len old.pending) ∷ list) (l.behind (ap is_ok is)) ∙ ap (λ (j : Judgement). j ∷ behind rest broken) is in
+    l.all ∙ ap (λ (list : List Judgement). judgement_of known (old.lines + 1) (take len old.pending) ∷ list) (l.behind (ap is_ok is)) ∙ ap (λ (j : Judgement). j ∷ behind rest broken) is in
     let mine : (acts : List Action) → its_action actor entry acts ≡ action ∷ acts = λ acts. rw (same_number actor) refl in
     let whole : (rest : List ℕ) (broken : Bool) → May stage rest broken → (k : ℕ) → answer_from known old rest broken actor k ≡ answer_by broken (first_bad (old.lines + 1) (behind rest broken)) (slice_get (action ∷ actions_of actor (behind rest broken)) k) = λ rest broken may k.
     ap (λ (list : List Judgement). answer_with old broken list actor k) (all rest broken may)
@@ -97,7 +98,7 @@ stuck known actor answer stage kept same = record {
 pub tells_bad : (known : Known) (stage : Stage) (kept : Kept) (len end actor : ℕ) (kind : LineFault)
     → ((rest : List ℕ) (broken : Bool) → May stage rest broken → Leads known kept.lines kept.pending len end rest broken)
     → queue_at kept.queues actor ≡ []
-    → judged known (kept.lines + 1) (take len kept.pending) ≡ Err kind → Tells known actor (Err (Line (kept.lines + 1) kind)) stage [] kept kept
+    → judgement_of known (kept.lines + 1) (take len kept.pending) ≡ Err kind → Tells known actor (Err (Line (kept.lines + 1) kind)) stage [] kept kept
 tells_bad known stage kept len end actor kind leads empty is = stuck known actor (Err (Line (kept.lines + 1) kind)) stage kept (λ rest broken may k.
     let l : Leads known kept.lines kept.pending len end rest broken = leads rest broken may in
     ap (λ (list : List Judgement). answer_with kept broken list actor k) (l.all ∙ ap (λ (j : Judgement). j ∷ l.others) is)
@@ -110,7 +111,7 @@ tells_end known stage kept actor over none empty = stuck known actor (Ok None) s
 
 none_left : (known : Known) (lines : ℕ) (bytes : List ℕ) → IsOpen lines bytes → judgements known lines (bytes ++ []) true ≡ []
 none_left known lines bytes unended =
-    ap (λ (list : List (List ℕ)). all_judged known lines (lines_among true lines list)) (ap (slice_split is_newline) (append-nil bytes) ∙ split_none is_newline bytes unended.unended)
+    ap (λ (list : List (List ℕ)). line_judgements known lines (lines_among true lines list)) (ap (slice_split is_newline) (append-nil bytes) ∙ split_none is_newline bytes unended.unended)
     ∙ rw unended.not_bad refl
 
 pub tells_broken : (known : Known) (stage : Stage) (kept : Kept) (actor : ℕ) → stage ≡ Broken → IsOpen kept.lines kept.pending → queue_at kept.queues actor ≡ [] → Tells known actor (Err Read) stage [] kept kept

@@ -12,17 +12,18 @@ use Rattle.sg_script.specs.Known.{Known}
 use Rattle.sg_script.specs.declared.fault.ScriptFault.{ScriptFault}
 use Rattle.sg_script.specs.declared.fault.ScriptFault.TheVariants.{Line, Read, Memory}
 use Rattle.std.specs.Prelude.{slice_get, slice_set}
-use Rattle.sg_script.specs.Asked.{judged, judgements, actions_of, first_bad, answer_by}
+use Rattle.sg_script.specs.Answer.{judgement_of, judgements, actions_of, first_bad, answer_by}
 use Rattle.sg_script.specs.Line.{Judgement}
-use Rattle.sg_script.specs.Front.{May, Leads, IsOpen}
-use Rattle.sg_script.specs.Queues.{queue_at}
+use Rattle.sg_script.specs.Rest.{May}
+use Rattle.sg_script.specs.kept.Front.{Leads, IsOpen}
+use Rattle.sg_script.specs.kept.Queues.{queue_at}
 use Rattle.sg_script.specs.Stands.{Kept, answer_from}
-use Rattle.sg_script.specs.Steps.{Passes, LineIs, StepIs, queued, IsOther, to_do, Answers}
+use Rattle.sg_script.specs.kept.Steps.{Passes, LineIs, StepIs, queues_with, IsOther, to_do, Answers}
 use Rattle.sg_script.proofs.StandLemmas.{moves_line, tells_line, tells_bad, tells_broken}
 use Rattle.sg_script.proofs.Chains.{reads_none, goes_not}
 
 -- a line that isn't bad is one of those allowed
-ok_few : (known : Known) (lines : ℕ) (line : List ℕ) (said : Option Entry) → judged known (lines + 1) line ≡ Ok said → lines < 100000000
+ok_few : (known : Known) (lines : ℕ) (line : List ℕ) (said : Option Entry) → judgement_of known (lines + 1) line ≡ Ok said → lines < 100000000
 ok_few known lines line said is = elim (cases_lt 100000000 (lines + 1)) [
   | inl late ↦ grind (arith, nat_tests)
   | inr few ↦ omega arith
@@ -33,18 +34,18 @@ less stage end queues old new few passes =
     let lines : new.lines ≡ old.lines + 1 = passes.lines in
     omega arith
 
-queued_length : (said : Option Entry) (queues : List (List Action)) → length (queued said queues) ≡ length queues
+queued_length : (said : Option Entry) (queues : List (List Action)) → length (queues_with said queues) ≡ length queues
 queued_length None queues = refl
 queued_length (Some entry) queues = length-set queues entry.actor.0 (queue_at queues entry.actor.0 ++ entry.action ∷ [])
 
-still_empty : (actors actor : ℕ) (said : Option Entry) (queues : List (List Action)) → IsOther actors actor said → queue_at queues actor ≡ [] → queue_at (queued said queues) actor ≡ []
+still_empty : (actors actor : ℕ) (said : Option Entry) (queues : List (List Action)) → IsOther actors actor said → queue_at queues actor ≡ [] → queue_at (queues_with said queues) actor ≡ []
 still_empty actors actor None queues other empty = empty
 still_empty actors actor (Some entry) queues other empty = get_or-set_other queues entry.actor.0 actor (queue_at queues entry.actor.0 ++ entry.action ∷ []) [] (λ e. other.0 (sym e)) ∙ empty
 
 pub line_steps : (known : Known) (v : PartView) (old new : Kept) (len end actor : ℕ) (r : Option (Result (Option Action) ScriptFault)) → v.stage ≢ Fresh
     → ((rest : List ℕ) (broken : Bool) → May v.stage rest broken → Leads known old.lines old.pending len end rest broken)
     → queue_at old.queues actor ≡ []
-    → LineIs (judged known (old.lines + 1) (take len old.pending)) actor end r old new → StepIs known actor r v v old new
+    → LineIs (judgement_of known (old.lines + 1) (take len old.pending)) actor end r old new → StepIs known actor r v v old new
 line_steps known v old new len end actor None begun leads empty is =
     let (said, judged_is, other, passes) = is in (
       record {
@@ -54,7 +55,7 @@ line_steps known v old new len end actor None begun leads empty is =
         queues = ap length passes.queued ∙ queued_length said old.queues;
       },
       ap (λ (qs : List (List Action)). queue_at qs actor) passes.queued ∙ still_empty (length old.queues) actor said old.queues other empty,
-      less v.stage end (queued said old.queues) old new (ok_few known old.lines (take len old.pending) said judged_is) passes,
+      less v.stage end (queues_with said old.queues) old new (ok_few known old.lines (take len old.pending) said judged_is) passes,
     )
 line_steps known v old new len end actor (Some (Ok None)) begun leads empty is = absurd is
 line_steps known v old new len end actor (Some (Ok (Some action))) begun leads empty is = (

@@ -3,7 +3,7 @@ use Rattle.std.proofs.Common.{◌≡◌, ◌-◌, ◌∙◌, sym, ap, refl, ℕ,
 use Rattle.std.proofs.lemmas.Grind.{common_steps}
 use Rattle.std.proofs.lemmas.List.{append-nil}
 use Rattle.sg_edge.specs.Files.{PartView, before, NoneLeft}
-use Rattle.sg_edge.specs.Given.{Source, Gives, bytes_given, is_broken}
+use Rattle.sg_edge.specs.Sources.{Source, Gives, bytes_given, is_broken}
 use Rattle.sg_edge.specs.declared.files.Stage.{Stage}
 use Rattle.sg_edge.specs.declared.files.Stage.TheVariants.{Fresh, Begun, Over, Broken}
 use Rattle.sg_script.specs.Rest.{GoesOn}

@@ -1,7 +1,7 @@
 -- What the names of a script stand for.
 use Rattle.std.specs.Prelude.{ℕ, List, Option, length}
 use Rattle.sg_base.specs.declared.ids.ActorId.{ActorId}
-use Rattle.sg_platform.specs.Deployment.{Deployed, mutex_named, replay_actor_named, semaphore_named}
+use Rattle.sg_rows.specs.Deployment.{Deployed, mutex_named, replay_actor_named, semaphore_named}
 
 -- the replay actor of a name, and the number of the mutex, or semaphore, of a name
 pub record Known : Type 0 where
@@ -10,7 +10,11 @@ pub record Known : Type 0 where
   pub semaphore : List ℕ → Option ℕ
 
 abbrev pub known_in : Deployed → Known
-known_in deployment = record { actor = replay_actor_named deployment; mutex = mutex_named deployment; semaphore = semaphore_named deployment }
+known_in deployment = record {
+  actor = replay_actor_named deployment;
+  mutex = mutex_named deployment;
+  semaphore = semaphore_named deployment;
+}
 
 -- how many actors there are, which is the greatest identifier
 abbrev pub actors_in : Deployed → ℕ

@@ -1,12 +1,11 @@
-pub mod Asked
-pub mod Front
+pub mod Answer
 pub mod Frugal
 pub mod Known
+pub mod Laws
 pub mod Line
 pub mod Needed
-pub mod Queues
 pub mod Rest
 pub mod Stands
-pub mod Steps
 pub mod Verbs
 pub mod Words
+pub mod kept

@@ -1,5 +1,5 @@
 -- What one line of a script says.
-use Rattle.std.specs.Prelude.{ℕ, Bool, false, not, ◌==◌, ◌||◌, ◌&&◌, ◌-◌, List, [], ◌∷◌, length, take, slice_index, Option, None, Some, Result, Ok, Err, if◌then◌else◌, nat_lt, nat_le}
+use Rattle.std.specs.Prelude.{ℕ, Bool, false, not, ◌==◌, ◌||◌, ◌&&◌, ◌-◌, List, [], ◌∷◌, length, take, slice_index, Option, None, Some, Result, Ok, Err, if◌then◌else◌, nat_lt, nat_le, ⊤}
 use Rattle.std.specs.List.{list_all}
 use Rattle.sg_base.specs.declared.call.Action.{Action}
 use Rattle.sg_base.specs.declared.call.Action.TheVariants as action
@@ -21,7 +21,8 @@ abbrev pub Judgement : Type 0
 Judgement = Result (Option Entry) LineFault
 
 -- a step that may refuse, and what follows it
-abbrev pub then_go : {X Y : Type 0} → Result X LineFault → (X → Result Y LineFault) → Result Y LineFault
+abbrev pub then_go : {X Y : Type 0} → Result X LineFault → (X → Result Y LineFault) →
+    Result Y LineFault
 then_go (Ok x) next = next x
 then_go (Err kind) next = Err kind
 
@@ -72,7 +73,10 @@ semaphore_in known name = or_unknown_object (known.semaphore name)
 
 -- a peer and an amount; the peer is judged first
 abbrev pub sending_of : Known → List (List ℕ) → Result (ActorId × ℕ) LineFault
-sending_of known args = then_go (two_words args) (λ both. then_go (actor_in known both.0) (λ peer. then_go (amount_in both.1) (λ n. Ok (peer, n))))
+sending_of known args =
+    then_go (two_words args)
+    (λ both. then_go (actor_in known both.0)
+    (λ peer. then_go (amount_in both.1) (λ n. Ok (peer, n))))
 
 -- a peer, and optionally an amount, which has no effect
 abbrev pub receiving_of : Known → List (List ℕ) → Result ActorId LineFault
@@ -81,23 +85,31 @@ receiving_of known other = then_go (sending_of known other) (λ both. Ok both.0)
 
 -- the table of actions
 abbrev pub action_of : Known → Verb → List (List ℕ) → Result Action LineFault
-action_of known Compute args = then_go (one_word args) (λ word. then_go (amount_in word) (λ n. Ok (action.Compute n)))
-action_of known Sleep args = then_go (one_word args) (λ word. then_go (time_in word) (λ n. Ok (action.Sleep n)))
+action_of known Compute args =
+    then_go (one_word args) (λ word. then_go (amount_in word) (λ n. Ok (action.Compute n)))
+action_of known Sleep args =
+    then_go (one_word args) (λ word. then_go (time_in word) (λ n. Ok (action.Sleep n)))
 action_of known Send args = then_go (sending_of known args) (λ both. Ok (action.Send both.0 both.1))
-action_of known ISend args = then_go (sending_of known args) (λ both. Ok (action.ISend both.0 both.1))
+action_of known ISend args =
+    then_go (sending_of known args) (λ both. Ok (action.ISend both.0 both.1))
 action_of known Recv args = then_go (receiving_of known args) (λ peer. Ok (action.Recv peer))
 action_of known IRecv args = then_go (receiving_of known args) (λ peer. Ok (action.IRecv peer))
 action_of known Wait args = then_go (no_words args) (λ _. Ok action.Wait)
 action_of known Barrier args = then_go (no_words args) (λ _. Ok action.Barrier)
 action_of known Yield args = then_go (no_words args) (λ _. Ok action.Yield)
-action_of known Lock args = then_go (one_word args) (λ name. then_go (mutex_in known name) (λ i. Ok (action.Lock i)))
-action_of known Unlock args = then_go (one_word args) (λ name. then_go (mutex_in known name) (λ i. Ok (action.Unlock i)))
-action_of known Acquire args = then_go (one_word args) (λ name. then_go (semaphore_in known name) (λ i. Ok (action.Acquire i)))
-action_of known Release args = then_go (one_word args) (λ name. then_go (semaphore_in known name) (λ i. Ok (action.Release i)))
+action_of known Lock args =
+    then_go (one_word args) (λ name. then_go (mutex_in known name) (λ i. Ok (action.Lock i)))
+action_of known Unlock args =
+    then_go (one_word args) (λ name. then_go (mutex_in known name) (λ i. Ok (action.Unlock i)))
+action_of known Acquire args =
+    then_go (one_word args) (λ name. then_go (semaphore_in known name) (λ i. Ok (action.Acquire i)))
+action_of known Release args =
+    then_go (one_word args) (λ name. then_go (semaphore_in known name) (λ i. Ok (action.Release i)))
 
 abbrev pub entry_by : Known → ActorId → Option Verb → List (List ℕ) → Judgement
 entry_by known a None args = Err UnknownAction
-entry_by known a (Some verb) args = then_go (action_of known verb args) (λ act. Ok (Some (record { actor = a; action = act })))
+entry_by known a (Some verb) args =
+    then_go (action_of known verb args) (λ act. Ok (Some (record { actor = a; action = act })))
 
 -- the second word is the action, those behind it are its arguments
 abbrev pub with_action : Known → ActorId → List (List ℕ) → Judgement
@@ -129,14 +141,16 @@ text_of known text = of_words known (list_all is_plain text) (words text)
 
 -- one carriage return at the end is dropped
 abbrev pub without_return : List ℕ → List ℕ
-without_return text = if slice_index text (length text - 1) == 13 then take (length text - 1) text else text
+without_return text =
+    if slice_index text (length text - 1) == 13 then take (length text - 1) text else text
 
 -- the judgement of a line; its length is judged with its carriage return
 abbrev pub line_of : Known → List ℕ → Judgement
-line_of known line = if nat_lt 4096 (length line) then Err TooLong else text_of known (without_return line)
+line_of known line =
+    if nat_lt 4096 (length line) then Err TooLong else text_of known (without_return line)
 
 -- the actor of an entry exists, as does what its action names, and amounts keep to their limits
 abbrev pub KeepsLimits : Extent → Judgement → Type 0
-KeepsLimits extent (Ok None) = Unit {0}
+KeepsLimits extent (Ok None) = ⊤
 KeepsLimits extent (Ok (Some entry)) = IsActorIn extent entry.actor × IsAction extent entry.action
-KeepsLimits extent (Err kind) = Unit {0}
+KeepsLimits extent (Err kind) = ⊤

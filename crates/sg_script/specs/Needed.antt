@@ -1,11 +1,12 @@
--- How many bytes of a script the answer to an Ask needs: first the line that decides it, then the bytes through it.
+-- How many bytes of a script the answer to an Ask needs: first the line that decides it, then
+-- the bytes through it.
 use Rattle.std.specs.Prelude.{ℕ, zero, suc, Bool, true, false, ◌+◌, ◌-◌, ◌==◌, List, [], ◌∷◌, length, min, Option, None, Some, Ok, Err, option_map, if◌then◌else◌, nat_lt}
 use Rattle.std.specs.List.{slice_split}
-use Rattle.sg_edge.specs.Given.{Source}
+use Rattle.sg_edge.specs.Sources.{Source}
 use Rattle.sg_script.specs.declared.fault.LineFault.TheVariants.{TooLong}
 use Rattle.sg_script.specs.declared.line.Entry.{Entry}
 use Rattle.sg_script.specs.Known.{Known}
-use Rattle.sg_script.specs.Asked.{is_newline, judgements}
+use Rattle.sg_script.specs.Answer.{is_newline, judgements}
 use Rattle.sg_script.specs.Line.{Judgement}
 
 -- ---- the line that decides
@@ -18,8 +19,8 @@ own_actions actor (Some entry) = if entry.actor.0 == actor then 1 else 0
 abbrev pub behind_one : ℕ × Judgement → ℕ × Judgement
 behind_one at = (suc at.0, at.1)
 
--- The line that decides the Ask of an actor that so many of its Asks come before: the one that gives its action, or a bad
--- one before that. How many lines stand before it, and its judgement.
+-- The line that decides the Ask of an actor that so many of its Asks come before: the one that
+-- gives its action, or a bad one before that. How many lines stand before it, and its judgement.
 abbrev pub deciding_line : ℕ → ℕ → List Judgement → Option (ℕ × Judgement)
 deciding_line actor earlier [] = None
 deciding_line actor earlier (Err kind ∷ more) = Some (0, Err kind)
@@ -38,23 +39,24 @@ front_length (suc n) (part ∷ parts) = length part + 1 + front_length n parts
 abbrev pub through : List ℕ → ℕ → ℕ
 through bytes count = min (front_length count (slice_split is_newline bytes)) (length bytes)
 
--- where a line that goes from here to there is told: one too many at its first byte, one that is too long at its byte
--- 4,097, and any other at its end
+-- where a line that goes from here to there is told: one too many at its first byte, one that is
+-- too long at its byte 4,097, and any other at its end
 abbrev pub told_at : Bool → ℕ → ℕ → Judgement → ℕ
 told_at true start end said = start + 1
 told_at false start end (Err TooLong) = start + 4097
 told_at false start end other = end
 
 -- through the deciding line, or to the end; so many lines stand before these bytes
-abbrev pub needed_by : ℕ → List ℕ → Option (ℕ × Judgement) → ℕ
-needed_by before bytes None = length bytes
-needed_by before bytes (Some at) =
-    told_at (nat_lt 100000000 (before + at.0 + 1)) (through bytes at.0) (through bytes (suc at.0)) at.1
+abbrev pub need_by : ℕ → List ℕ → Option (ℕ × Judgement) → ℕ
+need_by before bytes None = length bytes
+need_by before bytes (Some at) =
+    told_at (nat_lt 100000000 (before + at.0 + 1)) (through bytes at.0)
+    (through bytes (suc at.0)) at.1
 
 -- of bytes before which so many lines were
-abbrev pub needed_from : Known → Bool → ℕ → ℕ → List ℕ → ℕ → ℕ
-needed_from known broken actor before bytes earlier =
-    needed_by before bytes (deciding_line actor earlier (judgements known before bytes broken))
+abbrev pub need_from : Known → Bool → ℕ → ℕ → List ℕ → ℕ → ℕ
+need_from known broken actor before bytes earlier =
+    need_by before bytes (deciding_line actor earlier (judgements known before bytes broken))
 
-abbrev pub needed : Known → Source → ℕ → ℕ → ℕ
-needed known source actor earlier = needed_from known source.broken actor 0 source.bytes earlier
+abbrev pub need_of : Known → Source → ℕ → ℕ → ℕ
+need_of known source actor earlier = need_from known source.broken actor 0 source.bytes earlier

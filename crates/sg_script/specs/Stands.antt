@@ -1,5 +1,6 @@
--- What is kept of a script that was read in part, what whole scripts it stands for, and what an Ask does.
-use Rattle.std.specs.Prelude.{◌≡◌, ℕ, Bool, ◌+◌, ◌-◌, ◌++◌, List, [], length, slice_get, Option, Result, ◌≢◌, ◌<◌, ◌⊎◌, suc, Ok, Err, if◌then◌else◌, ◌==◌, ◌≤◌, IfOk, IfSome}
+-- What is kept of a script that was read in part, what whole scripts it stands for, and what an
+-- Ask does.
+use Rattle.std.specs.Prelude.{◌≡◌, ℕ, Bool, ◌+◌, ◌-◌, ◌++◌, List, [], length, slice_get, Option, Result, ◌≢◌, ◌<◌, ◌⊎◌, suc, Ok, Err, if◌then◌else◌, ◌==◌, ◌≤◌, IfOk, IfSome, ⊤}
 use Rattle.std.specs.List.{All}
 use Rattle.sg_base.specs.Limits.{Extent, IsAction}
 use Rattle.sg_edge.specs.Files.{before, PartView}
@@ -8,13 +9,14 @@ use Rattle.sg_base.specs.declared.call.Action.{Action}
 use Rattle.sg_script.specs.Known.{Known}
 use Rattle.sg_script.specs.declared.script.Script.{Script}
 use Rattle.sg_script.specs.declared.fault.ScriptFault.{ScriptFault}
-use Rattle.sg_script.specs.Asked.{judgements, actions_of, first_bad, answer_by, asked}
-use Rattle.sg_script.specs.Front.{May}
-use Rattle.sg_script.specs.Queues.{queue_at}
+use Rattle.sg_script.specs.Answer.{judgements, actions_of, first_bad, answer_by, answer_of}
+use Rattle.sg_script.specs.Rest.{May}
+use Rattle.sg_script.specs.kept.Queues.{queue_at}
 use Rattle.sg_edge.specs.declared.files.Stage.TheVariants.{Fresh, Broken, Begun}
 use Rattle.sg_script.specs.declared.fault.ScriptFault.TheVariants.{Line, Read, Memory}
 
--- what a script keeps: the actions that wait for each actor, how many lines were read, and the bytes behind them
+-- what a script keeps: the actions that wait for each actor, how many lines were read, and the
+-- bytes behind them
 pub record Kept : Type 0 where
   pub queues : List (List Action)
   pub lines : ℕ
@@ -28,19 +30,23 @@ abbrev pub actors_of : Script → ℕ
 actors_of script = length script.queues - 1
 
 -- nothing was read
-abbrev pub unread : Kept
-unread = record { queues = []; lines = 0; pending = [] }
+abbrev pub nothing_read : Kept
+nothing_read = record { queues = []; lines = 0; pending = [] }
 
 -- the answer to an Ask that so many Asks come before, by what is kept and the bytes still to come
 abbrev pub answer_from : Known → Kept → List ℕ → Bool → ℕ → ℕ → Result (Option Action) ScriptFault
 answer_from known kept rest broken actor earlier =
     let more = judgements known kept.lines (kept.pending ++ rest) broken in
-    answer_by broken (first_bad kept.lines more) (slice_get (queue_at kept.queues actor ++ actions_of actor more) earlier)
+    answer_by broken (first_bad kept.lines more)
+    (slice_get (queue_at kept.queues actor ++ actions_of actor more) earlier)
 
--- The script stands for these bytes and Asks: whatever may still come, each later Ask has its answer by what is kept.
+-- The script stands for these bytes and Asks: whatever may still come, each later Ask has its
+-- answer by what is kept.
 abbrev pub Stands : Known → List ℕ → Stage → (ℕ → ℕ) → Kept → Type 0
-Stands known taken stage asks kept = (rest : List ℕ) (broken : Bool) → May stage rest broken → (actor later : ℕ) →
-    asked known (record { bytes = taken ++ rest; broken = broken }) actor (asks actor + later) ≡ answer_from known kept rest broken actor later
+Stands known taken stage asks kept = (rest : List ℕ) (broken : Bool) → May stage rest broken →
+    (actor later : ℕ) →
+    answer_of known (record { bytes = taken ++ rest; broken = broken }) actor (asks actor + later)
+    ≡ answer_from known kept rest broken actor later
 
 -- this piece was taken, and the name stays; the part broke only by a call that failed
 pub record Reads (piece : List ℕ) (old new : PartView) : Type 0 where
@@ -57,34 +63,49 @@ abbrev pub one_more : ℕ → (ℕ → ℕ) → ℕ → ℕ
 one_more actor asks other = if other == actor then suc (asks other) else asks other
 
 -- the answer is the whole script's, and the script stands for what was read and asked
-pub record IsAsked (known : Known) (taken : List ℕ) (asks : ℕ → ℕ) (actor : ℕ) (answer : Result (Option Action) ScriptFault) (old_part new_part : PartView) (new : Kept) : Type 0 where
+pub record IsAsked (known : Known) (taken : List ℕ) (asks : ℕ → ℕ) (actor : ℕ)
+    (answer : Result (Option Action) ScriptFault) (old_part new_part : PartView)
+    (new : Kept) : Type 0 where
   pub piece : List ℕ
   pub reads : Reads piece old_part new_part
-  pub answer_is : (rest : List ℕ) (broken : Bool) → May new_part.stage rest broken → asked known (record { bytes = (taken ++ piece) ++ rest; broken = broken }) actor (asks actor) ≡ answer
+  pub answer_is : (rest : List ℕ) (broken : Bool) → May new_part.stage rest broken →
+      answer_of known (record { bytes = (taken ++ piece) ++ rest; broken = broken }) actor
+      (asks actor) ≡ answer
   pub stands : Stands known (taken ++ piece) new_part.stage (one_more actor asks) new
 
 -- without memory the Ask wasn't answered, and the script stands for what was read
-pub record IsCut (known : Known) (taken : List ℕ) (asks : ℕ → ℕ) (old_part new_part : PartView) (new : Kept) : Type 0 where
+pub record IsCut (known : Known) (taken : List ℕ) (asks : ℕ → ℕ) (old_part new_part : PartView)
+    (new : Kept) : Type 0 where
   pub piece : List ℕ
   pub reads : Reads piece old_part new_part
   pub stands : Stands known (taken ++ piece) new_part.stage asks new
 
--- What an Ask did that had this answer. Before it these bytes were taken, and so many Asks of each actor answered.
-abbrev pub AskIs : Known → List ℕ → (ℕ → ℕ) → ℕ → Result (Option Action) ScriptFault → PartView → PartView → Kept → Type 0
+-- What an Ask did that had this answer. Before it these bytes were taken, and so many Asks of
+-- each actor answered.
+abbrev pub AskIs : Known → List ℕ → (ℕ → ℕ) → ℕ → Result (Option Action) ScriptFault → PartView →
+    PartView → Kept → Type 0
 AskIs known taken asks actor (Ok answer) = IsAsked known taken asks actor (Ok answer)
-AskIs known taken asks actor (Err (Line n kind)) = IsAsked known taken asks actor (Err (Line n kind))
+AskIs known taken asks actor (Err (Line n kind)) =
+    IsAsked known taken asks actor (Err (Line n kind))
 AskIs known taken asks actor (Err Read) = IsAsked known taken asks actor (Err Read)
 AskIs known taken asks actor (Err Memory) = IsCut known taken asks
 
+-- what an Ask did, whatever was taken and asked before it
+abbrev pub LeadsAsk : Known → ℕ → Result (Option Action) ScriptFault → PartView → PartView → Kept →
+    Kept → Type 0
+LeadsAsk known actor answer old_part new_part old new = (taken : List ℕ) (asks : ℕ → ℕ) →
+    Stands known taken old_part.stage asks old →
+    AskIs known taken asks actor answer old_part new_part new
+
 -- a read fault is told only where the part is broken
 abbrev pub IsRead : Result (Option Action) ScriptFault → PartView → Type 0
-IsRead (Ok answer) part = Unit {0}
-IsRead (Err (Line n kind)) part = Unit {0}
+IsRead (Ok answer) part = ⊤
+IsRead (Err (Line n kind)) part = ⊤
 IsRead (Err Read) part = part.stage ≡ Broken
-IsRead (Err Memory) part = Unit {0}
+IsRead (Err Memory) part = ⊤
 
 -- a part breaks only by a call that failed, and keeps its name
-pub record Breaking (old new : PartView) : Type 0 where
+pub record BreaksOnFailure (old new : PartView) : Type 0 where
   pub name : new.name ≡ old.name
   pub broke : new.stage ≡ Broken → (old.stage ≡ Broken) ⊎ (old.faults < new.faults)
   pub sound : new.stage ≢ Broken → new.faults ≡ old.faults

@@ -18,10 +18,11 @@ abbrev pub rows : List (Bor (List ℕ) × Verb) → VerbTable
 rows table = map (λ row. (row.0.now, row.1)) table
 
 abbrev pub all_verbs : VerbTable
-all_verbs = (codes "compute", Compute) ∷ (codes "sleep", Sleep) ∷ (codes "send", Send) ∷ (codes "isend", ISend)
-    ∷ (codes "recv", Recv) ∷ (codes "irecv", IRecv) ∷ (codes "wait", Wait) ∷ (codes "barrier", Barrier)
-    ∷ (codes "yield", Yield) ∷ (codes "lock", Lock) ∷ (codes "unlock", Unlock) ∷ (codes "acquire", Acquire)
-    ∷ (codes "release", Release) ∷ []
+all_verbs = (codes "compute", Compute) ∷ (codes "sleep", Sleep)
+    ∷ (codes "send", Send) ∷ (codes "isend", ISend) ∷ (codes "recv", Recv) ∷ (codes "irecv", IRecv)
+    ∷ (codes "wait", Wait) ∷ (codes "barrier", Barrier) ∷ (codes "yield", Yield)
+    ∷ (codes "lock", Lock) ∷ (codes "unlock", Unlock)
+    ∷ (codes "acquire", Acquire) ∷ (codes "release", Release) ∷ []
 
 abbrev pub verb_of : List ℕ → Option Verb
 verb_of word = verb_in all_verbs word

@@ -1,7 +1,7 @@
 //! The arguments of an action.
 ghost use Rattle.std.specs.Prelude.{◌≡◌, IfOk, Ok};
 ghost use Rattle.sg_base.specs.Limits.{IsActorIn, IsAmount, IsMutexIn, IsSemaphoreIn, IsTime};
-ghost use Rattle.sg_platform.specs.Deployment.{extent_of};
+ghost use Rattle.sg_rows.specs.Deployment.{extent_of};
 ghost use Rattle.sg_script.specs.Known.{known_in};
 ghost use Rattle.sg_script.specs.Line.{then_go, no_words, amount_in, time_in, actor_in, mutex_in, semaphore_in, sending_of, receiving_of};
 ghost use Rattle.sg_script.specs.Words.{words};
@@ -9,7 +9,7 @@ ghost use Rattle.sg_script.specs.Words.{words};
 use crate::fault::LineFault;
 use crate::words::{none, one, two};
 use sg_base::{Action, ActorId};
-use sg_platform::Deployment;
+use sg_rows::Deployment;
 use sg_units::{read_amount, read_time};
 
 pub fn amount(text: &[u8]) -> Result<u64, LineFault>

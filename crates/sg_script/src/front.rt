@@ -2,8 +2,8 @@
 ghost use Rattle.std.specs.Prelude.{ℕ, ◌≡◌, ◌≢◌, ◌≤◌, ◌<◌, length, true, None};
 ghost use Rattle.std.specs.List.{position};
 ghost use Rattle.sg_edge.specs.declared.files.Stage.TheVariants.{Fresh, Over};
-ghost use Rattle.sg_script.specs.Asked.{is_newline, is_last_line};
-ghost use Rattle.sg_script.specs.Front.{FrontIs};
+ghost use Rattle.sg_script.specs.Answer.{is_newline, is_last_line};
+ghost use Rattle.sg_script.specs.kept.Front.{FrontIs};
 
 use crate::judging::MOST_LINES;
 use crate::line::LONGEST_LINE;
@@ -38,7 +38,7 @@ fn is_bad(bytes: &[u8], before: u64) -> bool
 
 // What stands behind the last newline, where no more is to come.
 #[tactic(auto, using(crate::proofs::FrontLemmas::leads_last))]
-fn last(bytes: &[u8]) -> Front
+fn last_line(bytes: &[u8]) -> Front
     requires { position is_newline bytes.now ≡ None }
     ensures { (before : ℕ) → FrontIs Over before bytes.now result }
 {
@@ -51,7 +51,7 @@ fn last(bytes: &[u8]) -> Front
 
 // What stands behind the last newline.
 #[tactic(auto, using(crate::proofs::FrontLemmas::leads_bad, crate::proofs::FrontLemmas::is_short))]
-fn unended(bytes: &[u8], before: u64, stage: Stage) -> Front
+fn behind_newlines(bytes: &[u8], before: u64, stage: Stage) -> Front
     requires begun { stage ≢ Fresh }
     requires newline { position is_newline bytes.now ≡ None }
     ensures { FrontIs stage before bytes.now result }
@@ -63,7 +63,7 @@ fn unended(bytes: &[u8], before: u64, stage: Stage) -> Front
     match stage {
         Stage::Fresh | Stage::Begun => Front::Unread,
         Stage::Broken => Front::Broken,
-        Stage::Over => last(bytes),
+        Stage::Over => last_line(bytes),
     }
 }
 
@@ -75,6 +75,6 @@ pub fn front_of(bytes: &[u8], before: u64, stage: Stage) -> Front
 {
     match newline_at(bytes) {
         Some(len) => Front::Line { len, end: len + 1 },
-        None => unended(bytes, before, stage),
+        None => behind_newlines(bytes, before, stage),
     }
 }

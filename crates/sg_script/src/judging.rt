@@ -1,13 +1,13 @@
 //! The judgement of a line by its number too.
 ghost use Rattle.std.specs.Prelude.{◌≡◌, ◌≤◌, ◌+◌};
-ghost use Rattle.sg_platform.specs.Deployment.{extent_of};
-ghost use Rattle.sg_script.specs.Asked.{judged};
+ghost use Rattle.sg_rows.specs.Deployment.{extent_of};
+ghost use Rattle.sg_script.specs.Answer.{judgement_of};
 ghost use Rattle.sg_script.specs.Known.{known_in};
 ghost use Rattle.sg_script.specs.Line.{KeepsLimits};
 
 use crate::fault::LineFault;
 use crate::line::{Entry, read_line};
-use sg_platform::Deployment;
+use sg_rows::Deployment;
 
 /// The most lines of a script.
 pub const MOST_LINES: u64 = 100_000_000;
@@ -15,7 +15,7 @@ pub const MOST_LINES: u64 = 100_000_000;
 /// The judgement of a line before which so many lines stand.
 pub fn judge(line: &[u8], before: u64, deployment: &Deployment) -> Result<Option<Entry>, LineFault>
     requires { before ≤ 100000000 }
-    ensures said { result ≡ judged (known_in deployment.now) (before + 1) line.now }
+    ensures said { result ≡ judgement_of (known_in deployment.now) (before + 1) line.now }
     ensures limits { KeepsLimits (extent_of deployment.now) result }
 {
     if before >= MOST_LINES {

@@ -5,6 +5,7 @@ mod arguments;
 mod fault;
 mod front;
 mod judging;
+mod laws;
 mod line;
 mod pending;
 mod queues;
@@ -15,5 +16,6 @@ mod verbs;
 mod words;
 
 pub use fault::{LineFault, ScriptFault};
+pub use laws::faults_repeat;
 pub use line::{Entry, read_line};
 pub use script::Script;

@@ -2,7 +2,7 @@
 ghost use Rattle.std.specs.Prelude.{◌≡◌, IfOk};
 ghost use Rattle.std.specs.List.{list_all};
 ghost use Rattle.sg_base.specs.Limits.{IsAction};
-ghost use Rattle.sg_platform.specs.Deployment.{extent_of};
+ghost use Rattle.sg_rows.specs.Deployment.{extent_of};
 ghost use Rattle.sg_script.specs.Known.{known_in};
 ghost use Rattle.sg_script.specs.Line.{line_of, text_of, entry_of, action_of, without_return, is_plain, KeepsLimits};
 ghost use Rattle.sg_script.specs.Words.{words};
@@ -12,7 +12,7 @@ use crate::fault::LineFault;
 use crate::verbs::{Verb, read_verb};
 use crate::words::{next_word, one};
 use sg_base::{Action, ActorId};
-use sg_platform::Deployment;
+use sg_rows::Deployment;
 
 /// The most bytes of a line, its newline not counted.
 pub const LONGEST_LINE: usize = 4096;

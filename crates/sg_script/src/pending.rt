@@ -23,7 +23,8 @@ impl Model for Pending {
 
     ghost view = { λ p. drop p.at p.buffer.items };
 
-    ghost invariant = { λ p. (p.at ≤ length p.buffer.items) × (length p.buffer.items ≤ 8192) × (8192 ≤ vec_capacity p.buffer) };
+    ghost invariant = { λ p. (p.at ≤ length p.buffer.items)
+        × (length p.buffer.items ≤ 8192) × (8192 ≤ vec_capacity p.buffer) };
 }
 
 impl Pending {

@@ -1,6 +1,6 @@
 //! The actions that wait for each actor, first in, first out.
 ghost use Rattle.std.specs.Prelude.{◌≡◌, ◌<◌, ◌++◌, ◌∷◌, [], length, replicate, slice_set, IfOk, IfNone, OnOk, OnErr};
-ghost use Rattle.sg_script.specs.Queues.{queue_at, popped};
+ghost use Rattle.sg_script.specs.kept.Queues.{queue_at, with_first};
 
 use sg_base::{Action, ActorId, Memory};
 use std::alloc::Global;
@@ -50,7 +50,7 @@ impl Queues {
     /// Takes the action that has waited longest for the actor.
     pub fn pop(&mut self, actor: ActorId) -> Option<Action>
         requires { actor.0 < length self.old }
-        ensures first { queue_at self.old actor.0 ≡ popped result (queue_at self.new actor.0) }
+        ensures first { queue_at self.old actor.0 ≡ with_first result (queue_at self.new actor.0) }
         ensures empty { IfNone result (queue_at self.old actor.0 ≡ []) }
         ensures others { self.new ≡ slice_set self.old actor.0 (queue_at self.new actor.0) }
     {

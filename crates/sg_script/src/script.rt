@@ -3,8 +3,8 @@ ghost use Rattle.std.specs.Prelude.{◌≡◌, ◌≢◌, ◌<◌, ◌≤◌, �
 ghost use Rattle.sg_base.specs.Limits.{Extent, IsAction};
 ghost use Rattle.sg_edge.specs.declared.files.Stage.TheVariants.{Fresh, Begun};
 ghost use Rattle.sg_edge.specs.Files.{Only};
-ghost use Rattle.sg_platform.specs.Deployment.{extent_of};
-ghost use Rattle.sg_script.specs.Asked.{judged};
+ghost use Rattle.sg_rows.specs.Deployment.{extent_of};
+ghost use Rattle.sg_script.specs.Answer.{judgement_of};
 ghost use Rattle.sg_script.specs.Known.{known_in, actors_in};
 
 use crate::fault::ScriptFault;
@@ -15,7 +15,7 @@ use crate::pending::{PIECE, Pending};
 use crate::queues::Queues;
 use sg_base::{Action, ActorId, Memory};
 use sg_edge::{Failed, Files, Part};
-use sg_platform::Deployment;
+use sg_rows::Deployment;
 use std::alloc::Global;
 
 // What an Ask is answered.
@@ -37,11 +37,12 @@ pub struct Script {
 
 impl Script {
     ghost use Rattle.sg_edge.specs.declared.files.Stage.{Stage};
-    ghost use Rattle.sg_script.specs.Frugal.{SpentIs, Frugal};
+    ghost use Rattle.sg_script.specs.Frugal.{Frugal};
+    ghost use Rattle.sg_script.specs.kept.Spending.{StepSpends};
     ghost use Rattle.sg_script.specs.Known.{Known};
-    ghost use Rattle.sg_script.specs.Queues.{queue_at};
-    ghost use Rattle.sg_script.specs.Stands.{AreLimited, IsLimited, AskIs, IsRead, Breaking, actors_of, kept_of, Stands};
-    ghost use Rattle.sg_script.specs.Steps.{LineIs, StepIs, Ends, ReadIs};
+    ghost use Rattle.sg_script.specs.kept.Queues.{queue_at};
+    ghost use Rattle.sg_script.specs.Stands.{AreLimited, IsLimited, IsRead, LeadsAsk, BreaksOnFailure, actors_of, kept_of, Stands};
+    ghost use Rattle.sg_script.specs.kept.Steps.{LineIs, StepIs, Ends, ReadIs};
 
     /// A script of which nothing was read, for so many actors.
     #[tactic(auto, using(crate::proofs::LimitLemmas::limited_none))]
@@ -109,7 +110,7 @@ impl Script {
         requires end { end ≤ length self.old.pending }
         requires actors { actors_in deployment.now < length self.old.queues }
         requires waiting { AreLimited (extent_of deployment.now) (kept_of self.old) }
-        ensures line { LineIs (judged (known_in deployment.now) (self.old.before + 1)
+        ensures line { LineIs (judgement_of (known_in deployment.now) (self.old.before + 1)
             (take len self.old.pending)) actor.0 end result (kept_of self.old) (kept_of self.new) }
         ensures limited { IfSome result (IsLimited (extent_of deployment.now)) }
         ensures waiting { AreLimited (extent_of deployment.now) (kept_of self.new) }
@@ -156,7 +157,7 @@ impl Script {
             (kept_of self.new) }
         ensures limited { IfSome result (IsLimited (extent_of deployment.now)) }
         ensures waiting { AreLimited (extent_of deployment.now) (kept_of self.new) }
-        ensures spent { SpentIs (known_in deployment.now) actor.0 result
+        ensures spent { StepSpends (known_in deployment.now) actor.0 result
             (F.shows files.old Part.Script) (F.shows files.new Part.Script) (kept_of self.old)
             (kept_of self.new) }
         ensures others { Only Part.Script (F.shows files.old) (F.shows files.new) }
@@ -246,16 +247,16 @@ impl Script {
         requires actors { actors_in deployment.now ≡ actors_of self.old }
         requires actor { actor.0 ≤ actors_of self.old }
         requires waiting { AreLimited (extent_of deployment.now) (kept_of self.old) }
-        ensures asked { (taken : List ℕ) (asks : ℕ → ℕ) → Stands (known_in deployment.now) taken
-            (F.shows files.old Part.Script).stage asks (kept_of self.old)
-            → AskIs (known_in deployment.now) taken asks actor.0 result
-            (F.shows files.old Part.Script) (F.shows files.new Part.Script) (kept_of self.new) }
+        ensures asked { LeadsAsk (known_in deployment.now) actor.0 result
+            (F.shows files.old Part.Script) (F.shows files.new Part.Script) (kept_of self.old)
+            (kept_of self.new) }
         ensures limited { IsLimited (extent_of deployment.now) result }
         ensures waiting { AreLimited (extent_of deployment.now) (kept_of self.new) }
         ensures frugal { Frugal (known_in deployment.now) actor.0 (F.shows files.old Part.Script)
             (F.shows files.new Part.Script) (kept_of self.old) }
         ensures read { IsRead result (F.shows files.new Part.Script) }
-        ensures part { Breaking (F.shows files.old Part.Script) (F.shows files.new Part.Script) }
+        ensures part { BreaksOnFailure (F.shows files.old Part.Script)
+            (F.shows files.new Part.Script) }
         ensures actors { actors_of self.new ≡ actors_of self.old }
         ensures others { Only Part.Script (F.shows files.old) (F.shows files.new) }
     {

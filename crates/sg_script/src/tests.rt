@@ -1,14 +1,15 @@
 //! What no clause says: that memory suffices, and Asks of whole scripts.
 ghost use Rattle.std.specs.Prelude.{◌≡◌, ◌≢◌, IfOk};
 ghost use Rattle.sg_edge.specs.declared.files.Stage.TheVariants.{Fresh};
-ghost use Rattle.sg_platform.specs.Deployment.{extent_of};
+ghost use Rattle.sg_rows.specs.Deployment.{extent_of};
 ghost use Rattle.sg_script.specs.Known.{actors_in};
 ghost use Rattle.sg_script.specs.Stands.{actors_of, kept_of, AreLimited};
 
 use crate::{Entry, LineFault, Script, ScriptFault, read_line};
 use sg_base::{Action, ActorId};
 use sg_edge::{Files, MemFiles, Part};
-use sg_platform::{Deployment, read_deployment, read_platform};
+use sg_platform::{read_deployment, read_platform};
+use sg_rows::Deployment;
 use std::alloc::Global;
 use std::test::Fail;
 

@@ -6,14 +6,19 @@ ghost use Rattle.sg_sync.specs.Laws.{KeepsAll, WaitsOnce};
 
 /// No call loses an actor that waits, or lets one go on that doesn't.
 pub fn nobody_is_lost()
-    ensures lock { (o : Objects) (caller : ActorId) (mutex : ℕ) → mutex < length o.locking → KeepsAll caller o (locked caller mutex o) }
-    ensures unlock { (o : Objects) (caller : ActorId) (mutex : ℕ) → mutex < length o.locking → KeepsAll caller o (unlocked caller mutex o) }
-    ensures acquire { (o : Objects) (caller : ActorId) (semaphore : ℕ) → semaphore < length o.acquiring → KeepsAll caller o (acquired caller semaphore o) }
-    ensures release { (o : Objects) (caller : ActorId) (semaphore : ℕ) → semaphore < length o.acquiring → KeepsAll caller o (released semaphore o) }
+    ensures lock { (o : Objects) (caller : ActorId) (mutex : ℕ) → mutex < length o.locking
+        → KeepsAll caller o (locked caller mutex o) }
+    ensures unlock { (o : Objects) (caller : ActorId) (mutex : ℕ) → mutex < length o.locking
+        → KeepsAll caller o (unlocked caller mutex o) }
+    ensures acquire { (o : Objects) (caller : ActorId) (semaphore : ℕ)
+        → semaphore < length o.acquiring → KeepsAll caller o (acquired caller semaphore o) }
+    ensures release { (o : Objects) (caller : ActorId) (semaphore : ℕ)
+        → semaphore < length o.acquiring → KeepsAll caller o (released semaphore o) }
     ensures arrive { (o : Objects) (caller : ActorId) → KeepsAll caller o (arrived caller o) }
 {}
 
 /// So an actor waits in one queue at most, where none calls that waits.
 pub fn actors_wait_once()
-    ensures { (o : Objects) (caller : ActorId) (done : Done) → KeepsAll caller o done → waiting o caller ≡ 0 → WaitsOnce o → WaitsOnce done.after }
+    ensures { (o : Objects) (caller : ActorId) (done : Done) → KeepsAll caller o done
+        → waiting o caller ≡ 0 → WaitsOnce o → WaitsOnce done.after }
 {}

@@ -89,7 +89,8 @@ impl Queues {
     pub(crate) fn leave(&mut self, queue: usize) -> Option<ActorId>
         requires { queue < length self.old.queues }
         ensures first { result ≡ front (queue_at self.old.queues queue) }
-        ensures shortened { self.new ≡ record self.old { queues = shortened self.old.queues queue } }
+        ensures shortened { self.new
+            ≡ record self.old { queues = shortened self.old.queues queue } }
         ensures few { length (queue_at self.old.queues queue) ≤ self.old.actors }
     {
         let ends = self.ends[queue];

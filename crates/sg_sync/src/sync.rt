@@ -76,7 +76,16 @@ impl Sync {
         semaphores: &[u64],
         members: u32,
     ) -> Result<Sync, Memory>
-        ensures { IfOk result (λ s. s ≡ record { actors = actors; owners = replicate mutexes None; locking = replicate mutexes []; counts = semaphores.now; acquiring = replicate (length semaphores.now) []; members = members; arrived = []; others = [] }) }
+        ensures { IfOk result (λ s. s ≡ record {
+          actors = actors;
+          owners = replicate mutexes None;
+          locking = replicate mutexes [];
+          counts = semaphores.now;
+          acquiring = replicate (length semaphores.now) [];
+          members = members;
+          arrived = [];
+          others = [];
+        }) }
     {
         Ok(Sync {
             owners: vec![in alloc; None; mutexes as usize]?,

@@ -1,29 +1,11 @@
 -- What a line says of a call.
-use Rattle.std.specs.Prelude.{⊤, ℕ, List, [], ◌++◌, decimal, codes, Option, Some, None}
+use Rattle.std.specs.Prelude.{ℕ, List, [], ◌++◌, decimal, codes, Option, Some, None}
 use Rattle.sg_base.specs.declared.call.Call.{Call}
 use Rattle.sg_base.specs.declared.call.Call.TheVariants as call
 use Rattle.sg_base.specs.declared.ids.BoxId.{BoxId}
 use Rattle.sg_base.specs.declared.ids.BoxId.TheVariants as box
-use Rattle.sg_platform.specs.Deployment.{Deployed}
+use Rattle.sg_rows.specs.Deployment.{Deployed}
 use Rattle.sg_trace.specs.Names.{actor_name, mutex_id, semaphore_id}
-
--- a call that does something, so that it has a line
-abbrev pub HasLine : Call → Type 0
-HasLine call.Ask = ⊥
-HasLine (call.Compute flops) = ⊤
-HasLine (call.Sleep ns) = ⊤
-HasLine (call.Send mailbox bytes message) = ⊤
-HasLine (call.Recv mailbox) = ⊤
-HasLine (call.ISend mailbox bytes message) = ⊤
-HasLine (call.IRecv mailbox) = ⊤
-HasLine call.Wait = ⊤
-HasLine (call.Lock mutex) = ⊤
-HasLine (call.Unlock mutex) = ⊤
-HasLine (call.Acquire semaphore) = ⊤
-HasLine (call.Release semaphore) = ⊤
-HasLine call.Barrier = ⊤
-HasLine call.Yield = ⊤
-HasLine call.Exit = ⊥
 
 -- whom a sender names: the receiver, or the actor whose name the mailbox has
 abbrev pub receiver_name : Deployed → BoxId → List ℕ

@@ -1,12 +1,13 @@
 -- The lines that tell how the run ended.
 use Rattle.std.specs.Prelude.{⊤, ℕ, List, ◌++◌, decimal, codes, None}
 use Rattle.sg_base.specs.Limits.{IsActorIn, IsCall}
-use Rattle.sg_platform.specs.Deployment.{Deployed, extent_of}
-use Rattle.sg_platform.specs.Platform.{Platform}
+use Rattle.sg_base.specs.Lines.{HasLine}
+use Rattle.sg_rows.specs.Deployment.{Deployed, extent_of}
+use Rattle.sg_rows.specs.Platform.{Platform}
 use Rattle.sg_units.specs.Date.{date_of}
 use Rattle.sg_trace.specs.declared.last.Last.{Last}
 use Rattle.sg_trace.specs.declared.last.Last.TheVariants.{Time, Deadlock, Starved, Budget, Blocked, Summary}
-use Rattle.sg_trace.specs.Call.{HasLine, call_text}
+use Rattle.sg_trace.specs.Call.{call_text}
 use Rattle.sg_trace.specs.Line.{IsDate}
 use Rattle.sg_trace.specs.Names.{actor_label}
 

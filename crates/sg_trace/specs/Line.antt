@@ -3,10 +3,11 @@ use Rattle.std.specs.Prelude.{ℕ, ◌<◌, ◌^◌, List, ◌++◌, codes, Opti
 use Rattle.std.specs.Option.{ForSome}
 use Rattle.sg_base.specs.declared.trace_record.Record.{Record}
 use Rattle.sg_base.specs.Limits.{IsActorIn, IsCall}
-use Rattle.sg_platform.specs.Deployment.{Deployed, extent_of}
-use Rattle.sg_platform.specs.Platform.{Platform}
+use Rattle.sg_base.specs.Lines.{HasLine}
+use Rattle.sg_rows.specs.Deployment.{Deployed, extent_of}
+use Rattle.sg_rows.specs.Platform.{Platform}
 use Rattle.sg_units.specs.Date.{date_of}
-use Rattle.sg_trace.specs.Call.{HasLine, call_text}
+use Rattle.sg_trace.specs.Call.{call_text}
 use Rattle.sg_trace.specs.Names.{actor_label}
 
 -- the duration, or that the call was refused

@@ -3,8 +3,8 @@ use Rattle.std.specs.Prelude.{ℕ, ◌-◌, List, [], ◌++◌, decimal, codes, 
 use Rattle.std.specs.Option.{option_map_or}
 use Rattle.sg_base.specs.declared.ids.ActorId.{ActorId}
 use Rattle.sg_base.specs.declared.ids.PointId.{PointId}
-use Rattle.sg_platform.specs.Deployment.{Deployed}
-use Rattle.sg_platform.specs.Platform.{Platform}
+use Rattle.sg_rows.specs.Deployment.{Deployed}
+use Rattle.sg_rows.specs.Platform.{Platform}
 
 abbrev pub host_name : Platform → PointId → List ℕ
 host_name platform host = option_map_or (λ row. row.id) (slice_get platform.hosts host.0) []

@@ -1,21 +1,22 @@
 //! The texts of calls.
-ghost use Rattle.std.specs.Prelude.{◌≡◌, ◌≤◌, ◌+◌, ◌++◌, codes, decimal, length};
-ghost use Rattle.arrayvec.specs.ArrayString.{array_string_len};
+ghost use Rattle.std.specs.Prelude.{◌≡◌, ◌≤◌, ◌++◌, codes, decimal, length};
 ghost use Rattle.sg_base.specs.Limits.{IsBoxIn, IsCall, IsMutexIn, IsSemaphoreIn};
-ghost use Rattle.sg_platform.specs.Deployment.{extent_of};
-ghost use Rattle.sg_trace.specs.Call.{HasLine, brought_text, call_text, receiver_name, sender_name};
+ghost use Rattle.sg_base.specs.Lines.{HasLine};
+ghost use Rattle.sg_rows.specs.Deployment.{extent_of};
+ghost use Rattle.sg_trace.specs.Call.{brought_text, call_text, receiver_name, sender_name};
 ghost use Rattle.sg_trace.specs.Names.{mutex_id, semaphore_id};
+ghost use Rattle.sg_trace.specs.kept.Room.{HasRoom, GrowsBy};
 
 use crate::names::{push_actor_name, push_mutex, push_semaphore};
 use crate::pieces::{Line, push_number};
 use sg_base::{BoxId, Call};
-use sg_platform::Deployment;
+use sg_rows::Deployment;
 
 fn push_counted(line: &mut Line, word: &str, number: u64)
     requires word { length word.now ≤ 8 }
-    requires room { array_string_len line.old ≤ 400 }
+    requires room { HasRoom line.old 112 }
     ensures bytes { line.new.bytes ≡ line.old.bytes ++ (word.now ++ decimal number) }
-    ensures len { array_string_len line.new ≤ array_string_len line.old + 28 }
+    ensures len { GrowsBy line.old line.new 28 }
 {
     line.push_str(word);
     push_number(line, number);
@@ -24,9 +25,11 @@ fn push_counted(line: &mut Line, word: &str, number: u64)
 fn push_sent(line: &mut Line, word: &str, deployment: &Deployment, mailbox: BoxId, bytes: u64)
     requires mailbox { IsBoxIn (extent_of deployment.now) mailbox }
     requires word { length word.now ≤ 8 }
-    requires room { array_string_len line.old ≤ 400 }
-    ensures bytes { line.new.bytes ≡ line.old.bytes ++ (word.now ++ receiver_name deployment.now mailbox ++ codes " " ++ decimal bytes) }
-    ensures len { array_string_len line.new ≤ array_string_len line.old + 93 }
+    requires room { HasRoom line.old 112 }
+    ensures bytes { line.new.bytes
+        ≡ line.old.bytes
+        ++ (word.now ++ receiver_name deployment.now mailbox ++ codes " " ++ decimal bytes) }
+    ensures len { GrowsBy line.old line.new 93 }
 {
     let receiver = match mailbox {
         BoxId::Pair(_, to) => to,
@@ -41,9 +44,10 @@ fn push_sent(line: &mut Line, word: &str, deployment: &Deployment, mailbox: BoxI
 fn push_received(line: &mut Line, word: &str, deployment: &Deployment, mailbox: BoxId)
     requires mailbox { IsBoxIn (extent_of deployment.now) mailbox }
     requires word { length word.now ≤ 8 }
-    requires room { array_string_len line.old ≤ 400 }
-    ensures bytes { line.new.bytes ≡ line.old.bytes ++ (word.now ++ sender_name deployment.now mailbox) }
-    ensures len { array_string_len line.new ≤ array_string_len line.old + 72 }
+    requires room { HasRoom line.old 112 }
+    ensures bytes { line.new.bytes
+        ≡ line.old.bytes ++ (word.now ++ sender_name deployment.now mailbox) }
+    ensures len { GrowsBy line.old line.new 72 }
 {
     let sender = match mailbox {
         BoxId::Pair(from, _) => from,
@@ -55,9 +59,9 @@ fn push_received(line: &mut Line, word: &str, deployment: &Deployment, mailbox: 
 
 /// The bytes that a receive brought, where it is over.
 fn push_brought(line: &mut Line, brought: Option<u64>)
-    requires room { array_string_len line.old ≤ 479 }
+    requires room { HasRoom line.old 33 }
     ensures bytes { line.new.bytes ≡ line.old.bytes ++ brought_text brought }
-    ensures len { array_string_len line.new ≤ array_string_len line.old + 21 }
+    ensures len { GrowsBy line.old line.new 21 }
 {
     match brought {
         Some(bytes) => {
@@ -71,9 +75,9 @@ fn push_brought(line: &mut Line, brought: Option<u64>)
 fn push_locked(line: &mut Line, word: &str, deployment: &Deployment, mutex: u32)
     requires mutex { IsMutexIn (extent_of deployment.now) mutex }
     requires word { length word.now ≤ 8 }
-    requires room { array_string_len line.old ≤ 400 }
+    requires room { HasRoom line.old 112 }
     ensures bytes { line.new.bytes ≡ line.old.bytes ++ (word.now ++ mutex_id deployment.now mutex) }
-    ensures len { array_string_len line.new ≤ array_string_len line.old + 72 }
+    ensures len { GrowsBy line.old line.new 72 }
 {
     line.push_str(word);
     push_mutex(line, deployment, mutex);
@@ -82,9 +86,10 @@ fn push_locked(line: &mut Line, word: &str, deployment: &Deployment, mutex: u32)
 fn push_counting(line: &mut Line, word: &str, deployment: &Deployment, semaphore: u32)
     requires semaphore { IsSemaphoreIn (extent_of deployment.now) semaphore }
     requires word { length word.now ≤ 8 }
-    requires room { array_string_len line.old ≤ 400 }
-    ensures bytes { line.new.bytes ≡ line.old.bytes ++ (word.now ++ semaphore_id deployment.now semaphore) }
-    ensures len { array_string_len line.new ≤ array_string_len line.old + 72 }
+    requires room { HasRoom line.old 112 }
+    ensures bytes { line.new.bytes
+        ≡ line.old.bytes ++ (word.now ++ semaphore_id deployment.now semaphore) }
+    ensures len { GrowsBy line.old line.new 72 }
 {
     line.push_str(word);
     push_semaphore(line, deployment, semaphore);
@@ -94,9 +99,9 @@ fn push_counting(line: &mut Line, word: &str, deployment: &Deployment, semaphore
 pub fn push_call(line: &mut Line, deployment: &Deployment, call: Call, brought: Option<u64>)
     requires told { HasLine call }
     requires call { IsCall (extent_of deployment.now) call }
-    requires room { array_string_len line.old ≤ 400 }
+    requires room { HasRoom line.old 112 }
     ensures bytes { line.new.bytes ≡ line.old.bytes ++ call_text deployment.now brought call }
-    ensures len { array_string_len line.new ≤ array_string_len line.old + 93 }
+    ensures len { GrowsBy line.old line.new 93 }
 {
     match call {
         Call::Compute(flops) => push_counted(line, "compute ", flops),

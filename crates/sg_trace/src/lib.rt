@@ -10,6 +10,3 @@ mod pieces;
 pub use last::Last;
 pub use lines::{ending_line, line};
 pub use pieces::Line;
-
-#[cfg(test)]
-mod tests;

@@ -1,17 +1,17 @@
 //! The lines on standard output.
-ghost use Rattle.std.specs.Prelude.{◌≡◌, ◌≤◌, ◌+◌, ◌++◌, length};
-ghost use Rattle.arrayvec.specs.ArrayString.{array_string_len};
-ghost use Rattle.sg_platform.specs.Deployment.{IsDeployedOn};
+ghost use Rattle.std.specs.Prelude.{◌≡◌, ◌≤◌, ◌++◌, length};
+ghost use Rattle.sg_rows.specs.Deployment.{IsDeployedOn};
 ghost use Rattle.sg_trace.specs.Ending.{IsLastOf, ending_of, last_text};
 ghost use Rattle.sg_trace.specs.Line.{IsDate, IsOfDeployment, line_of};
 ghost use Rattle.sg_units.specs.Date.{date_of};
+ghost use Rattle.sg_trace.specs.kept.Room.{HasRoom, GrowsBy};
 
 use crate::calls::push_call;
 use crate::last::Last;
 use crate::names::push_actor;
 use crate::pieces::{Line, push_date, push_number, push_took};
 use sg_base::Record;
-use sg_platform::{Deployment, PlatformText};
+use sg_rows::{Deployment, PlatformText};
 
 /// The line of the trace that tells a record, with its newline. It takes no memory.
 pub fn line(answered: &Record, platform: &PlatformText, deployment: &Deployment) -> Line
@@ -35,9 +35,9 @@ pub fn line(answered: &Record, platform: &PlatformText, deployment: &Deployment)
 fn push_dated(line: &mut Line, text: &str, date: u128)
     requires date { IsDate date }
     requires text { length text.now ≤ 40 }
-    requires room { array_string_len line.old ≤ 400 }
+    requires room { HasRoom line.old 112 }
     ensures bytes { line.new.bytes ≡ line.old.bytes ++ (text.now ++ date_of date) }
-    ensures len { array_string_len line.new ≤ array_string_len line.old + 104 }
+    ensures len { GrowsBy line.old line.new 104 }
 {
     line.push_str(text);
     push_date(line, date);
@@ -46,9 +46,9 @@ fn push_dated(line: &mut Line, text: &str, date: u128)
 fn push_last(line: &mut Line, last: Last, platform: &PlatformText, deployment: &Deployment)
     requires last { IsLastOf deployment.now last }
     requires deployed { IsDeployedOn platform.now deployment.now }
-    requires room { array_string_len line.old ≤ 200 }
+    requires room { HasRoom line.old 312 }
     ensures bytes { line.new.bytes ≡ line.old.bytes ++ last_text last platform.now deployment.now }
-    ensures len { array_string_len line.new ≤ array_string_len line.old + 260 }
+    ensures len { GrowsBy line.old line.new 260 }
 {
     match last {
         Last::Time(date) => push_dated(line, "Simulation time ", date),

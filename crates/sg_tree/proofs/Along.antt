@@ -1,8 +1,7 @@
 -- The first item of a list that is made along another.
 use Rattle.std.proofs.Common.{◌≡◌, ℕ, ◌+◌, ◌<◌, ◌≤◌, List, [], ◌∷◌, ◌++◌, length, get_or, drop, map, Some, None, refl, ap}
 use Rattle.std.proofs.lemmas.List.{drop_more, drop_all}
-use Rattle.sg_tree.specs.Along.{first}
-use Rattle.sg_tree.specs.Along.{along}
+use Rattle.sg_tree.specs.Along.{first, along}
 use Rattle.sg_tree.specs.Faults.{at_place}
 use Rattle.sg_tree.specs.declared.fault.Kind.{Kind}
 

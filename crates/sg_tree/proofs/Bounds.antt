@@ -4,7 +4,7 @@ use Rattle.std.proofs.lemmas.Bool.{cases_Bool}
 use Rattle.std.specs.Map.{lookup}
 use Rattle.sg_tree.proofs.NameLemmas.{lookup_append}
 use Rattle.sg_tree.specs.Along.{along}
-use Rattle.sg_tree.specs.Names.{numbered, or_else}
+use Rattle.sg_tree.specs.Names.{with_number, or_else}
 
 pub below_all : (o : Option ℕ) (n m : ℕ) → n ≤ m → IfSome o (λ i. i < n) → IfSome o (λ i. i < m)
 below_all None n m within below = tt
@@ -14,7 +14,7 @@ pub below_or : (a b : Option ℕ) (n : ℕ) → IfSome a (λ i. i < n) → IfSom
 below_or None b n p q = q
 below_or (Some i) b n p q = p
 
-pub numbered_below : {K : Type 0} (test : K → Bool) (n : ℕ) (keys : List K) → IfSome (lookup test (numbered n keys)) (λ i. i < n + 1)
+pub numbered_below : {K : Type 0} (test : K → Bool) (n : ℕ) (keys : List K) → IfSome (lookup test (with_number n keys)) (λ i. i < n + 1)
 numbered_below test n [] = tt
 numbered_below test n (k ∷ keys) =
     elim (cases_Bool (test k)) [

@@ -1,5 +1,5 @@
 -- Lists of faults: which rules are broken at a place.
-use Rattle.std.specs.Prelude.{ℕ, Bool, List, [], ◌∷◌, if◌then◌else◌, Option, Some, None, map}
+use Rattle.std.specs.Prelude.{ℕ, Bool, List, [], ◌∷◌, if◌then◌else◌, Option, Some, None, map, codes}
 use Rattle.sg_tree.specs.declared.fault.Kind.{Kind}
 use Rattle.sg_tree.specs.declared.fault.Kind.TheVariants.{MissingKey, WrongType, BadValue, BadName, Duplicate, Unknown, Limit, Function, Arguments}
 use Rattle.sg_tree.specs.declared.fault.Fault.{Fault}
@@ -16,9 +16,21 @@ kind_number Limit = 8
 kind_number Function = 9
 kind_number Arguments = 10
 
+-- the rule that is broken, in words
+abbrev pub kind_words : Kind → List ℕ
+kind_words MissingKey = codes "missing key"
+kind_words WrongType = codes "wrong type"
+kind_words BadValue = codes "bad value"
+kind_words BadName = codes "bad name"
+kind_words Duplicate = codes "duplicate"
+kind_words Unknown = codes "unknown name"
+kind_words Limit = codes "over a limit"
+kind_words Function = codes "unknown function"
+kind_words Arguments = codes "bad arguments"
+
 -- the kind, where its rule is broken
-abbrev pub broken : Bool → Kind → List Kind
-broken b kind = if b then kind ∷ [] else []
+abbrev pub kind_if : Bool → Kind → List Kind
+kind_if b kind = if b then kind ∷ [] else []
 
 -- what is wrong with a value of the type; without one the type is wrong
 abbrev pub of_type : {A : Type 0} → (A → List Kind) → Option A → List Kind

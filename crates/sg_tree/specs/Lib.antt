@@ -2,3 +2,4 @@ pub mod Along
 pub mod Tree
 pub mod Names
 pub mod Faults
+pub mod Spelling

@@ -22,8 +22,8 @@ or_else None other = other
 or_else (Some n) other = Some n
 
 -- keys under one number
-abbrev pub numbered : {K : Type 0} → ℕ → List K → List (K × ℕ)
-numbered n keys = map (λ k. (k, n)) keys
+abbrev pub with_number : {K : Type 0} → ℕ → List K → List (K × ℕ)
+with_number n keys = map (λ k. (k, n)) keys
 
 -- the text at a key of a row, if any
 abbrev pub texts_at : List ℕ → Data → List (List ℕ)
@@ -31,7 +31,7 @@ texts_at key row = option_to_list (text_at key row)
 
 -- the texts at a key of rows, under the numbers of the rows, of which the first has this one
 abbrev pub names_from : List ℕ → ℕ → List Data → List (List ℕ × ℕ)
-names_from key before rows = along (λ i row. numbered (before + i) (texts_at key row)) 0 rows
+names_from key before rows = along (λ i row. with_number (before + i) (texts_at key row)) 0 rows
 
 -- these names were given these numbers, but for those that had one
 abbrev pub Adds : List (List ℕ × ℕ) → Finds → Finds → Type 0

@@ -1,4 +1,6 @@
 //! Faults of a text, each with its place.
+ghost use Rattle.std.specs.Prelude.{◌≡◌};
+ghost use Rattle.sg_tree.specs.Faults.{kind_words};
 
 /// Which rule a text breaks. At one place the earlier kind is told.
 #[derive(Clone, Copy, Debug, PartialEq, Eq)]
@@ -21,6 +23,25 @@ pub enum Kind {
     Function,
     /// An actor's arguments don't fit its function.
     Arguments,
+}
+
+impl Kind {
+    /// The rule that is broken, in words.
+    pub fn words(self) -> &'static str
+        ensures { result.now ≡ kind_words self }
+    {
+        match self {
+            Kind::MissingKey => "missing key",
+            Kind::WrongType => "wrong type",
+            Kind::BadValue => "bad value",
+            Kind::BadName => "bad name",
+            Kind::Duplicate => "duplicate",
+            Kind::Unknown => "unknown name",
+            Kind::Limit => "over a limit",
+            Kind::Function => "unknown function",
+            Kind::Arguments => "bad arguments",
+        }
+    }
 }
 
 /// A place in a text: tables, rows and keys count from 1. Key 0 is the row as a whole, row 0 the table as a

@@ -4,7 +4,7 @@ ghost use Rattle.std.specs.HashMap.{get_by, get_by_text, IsUnchanged};
 ghost use Rattle.std.specs.Map.{lookup};
 ghost use Rattle.std.specs.Str.{bytes_eq};
 ghost use Rattle.sg_tree.specs.Along.{along};
-ghost use Rattle.sg_tree.specs.Names.{Adds, AddsFront, Pair, pair_eq, names_from, numbered, or_else, texts_at};
+ghost use Rattle.sg_tree.specs.Names.{Adds, AddsFront, Pair, pair_eq, names_from, with_number, or_else, texts_at};
 ghost use Rattle.toml.specs.View.{view};
 
 use crate::tree::text_at;
@@ -56,7 +56,8 @@ fn add_text(
     row: &Value,
 ) -> Result<(), Memory>
     ensures added { OnOk result ((q : List ℕ) → get_by_text space.new q
-        ≡ or_else (get_by_text space.old q) (lookup (bytes_eq q) (numbered number (texts_at key.now (view row.now))))) }
+        ≡ or_else (get_by_text space.old q)
+        (lookup (bytes_eq q) (with_number number (texts_at key.now (view row.now))))) }
     ensures memory { OnErr result (IsUnchanged space.old space.new) }
 {
     match text_at(row, key) {
@@ -74,10 +75,12 @@ fn add_texts(
     rows: &[Value],
 ) -> Result<(), Memory>
     requires { before + length rows.now < 2 ^ 64 }
-    ensures added { OnOk result (Adds (along (λ i row. numbered (before + i) (texts_at key.now (view row))) 0 rows.now)
+    ensures added { OnOk result
+        (Adds (along (λ i row. with_number (before + i) (texts_at key.now (view row))) 0 rows.now)
         (get_by_text space.old) (get_by_text space.new)) }
     ensures memory { OnErr result ((done : ℕ) × (done ≤ length rows.now)
-        × Adds (along (λ i row. numbered (before + i) (texts_at key.now (view row))) 0 (take done rows.now))
+        × Adds (along (λ i row. with_number (before + i) (texts_at key.now (view row))) 0
+        (take done rows.now))
         (get_by_text space.old) (get_by_text space.new)) }
 {
     for (i, row) in rows.iter().enumerate() {
@@ -96,8 +99,12 @@ pub fn add_names(
     rows: &[Value],
 ) -> Result<(), Memory>
     requires { before + length rows.now < 2 ^ 64 }
-    ensures added { OnOk result (Adds (names_from key.now before (map view rows.now)) (get_by_text space.old) (get_by_text space.new)) }
-    ensures memory { OnErr result (AddsFront key.now before (map view rows.now) (get_by_text space.old) (get_by_text space.new)) }
+    ensures added { OnOk result
+        (Adds (names_from key.now before (map view rows.now)) (get_by_text space.old)
+        (get_by_text space.new)) }
+    ensures memory { OnErr result
+        (AddsFront key.now before (map view rows.now) (get_by_text space.old)
+        (get_by_text space.new)) }
 {
     add_texts(alloc, space, key, before, rows)?;
     Ok(())
@@ -105,7 +112,9 @@ pub fn add_names(
 
 /// The names at a key of rows, with the numbers of the rows from 0 on.
 pub fn names_at(alloc: Global, key: &str, rows: &[Value]) -> Result<IndexMap<String, usize>, Memory>
-    ensures { IfOk result (λ made. (q : List ℕ) → get_by_text made q ≡ lookup (bytes_eq q) (names_from key.now 0 (map view rows.now))) }
+    ensures { IfOk result
+        (λ made. (q : List ℕ)
+        → get_by_text made q ≡ lookup (bytes_eq q) (names_from key.now 0 (map view rows.now))) }
 {
     let mut made = IndexMap::new(alloc);
     add_names(alloc, &mut made, key, 0, rows)?;

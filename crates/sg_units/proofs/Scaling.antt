@@ -3,7 +3,7 @@ use Rattle.std.proofs.Common.{◌≡◌, ◌<◌, ◌≤◌, ◌+◌, ◌-◌, �
 use Rattle.std.proofs.Math.Nat.{pow-suc, pow-le-pow_right, mul_assoc, div-div-eq-div-mul, mul-le-mul_left, mul-div_left, mul-div-mul_left, mul_comm}
 use Rattle.std.proofs.lemmas.Nat.{pow-add}
 use Rattle.std.proofs.lemmas.Bool.Decides.{nat_tests}
-use Rattle.sg_units.specs.Scaled.{if_at_most}
+use Rattle.sg_units.specs.kept.Scaled.{if_at_most}
 
 pub pow_next : (i : ℕ) → 10 ^ (i + 1) ≡ 10 ^ i * 10
 pow_next i = rw add-one (pow-suc 10 i)

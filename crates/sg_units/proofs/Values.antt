@@ -9,9 +9,9 @@ use Rattle.std.proofs.lemmas.Bool.{cases_lt}
 use Rattle.std.proofs.lemmas.Bool.Decides.{nat_tests}
 use Rattle.sg_units.specs.declared.fault.AmountFault.TheVariants.{TooLarge}
 use Rattle.sg_units.specs.declared.units.Ratio.{Ratio}
-use Rattle.sg_units.specs.Amount.{is_short, limited, up_to, value_of, digits_of, power_of, places_of}
+use Rattle.sg_units.specs.Amount.{is_short, short_value, up_to, value_of, digits_of, power_of, places_of}
 use Rattle.sg_units.specs.Number.{Number}
-use Rattle.sg_units.specs.Scaled.{if_at_most}
+use Rattle.sg_units.specs.kept.Scaled.{if_at_most}
 
 pub after_append : (n : ℕ) (a b : List ℕ) → digits_value_after 10 n (a ++ b) ≡ digits_value_after 10 (digits_value_after 10 n a) b
 after_append n [] b = refl
@@ -69,7 +69,7 @@ up_to_beyond g v above = grind (arith, nat_tests)
 
 -- the two answers, from what was scaled
 pub limited_some : (g v d s p q : ℕ) (n : Number) (size : Ratio) → Read n size d s p q → is_short n ≡ true → 1 ≤ size.denominator
-    → Some v ≡ if_at_most ((g + 1) * size.denominator - 1) (d * s * 10 ^ p / 10 ^ q) → Ok (v / size.denominator) ≡ limited g n size
+    → Some v ≡ if_at_most ((g + 1) * size.denominator - 1) (d * s * 10 ^ p / 10 ^ q) → Ok (v / size.denominator) ≡ short_value g n size
 limited_some g v d s p q n size read short some is =
     let x = d * s * 10 ^ p / 10 ^ q in
     let found = some_within ((g + 1) * size.denominator - 1) x v is in
@@ -77,7 +77,7 @@ limited_some g v d s p q n size read short some is =
     rw (short, found.0) (up_to_within g (x / size.denominator) below ∙ ap (up_to g) (value_by_steps n size d s p q read))
 
 pub limited_none : (g d s p q : ℕ) (n : Number) (size : Ratio) → Read n size d s p q → is_short n ≡ true → 1 ≤ size.denominator
-    → None ≡ if_at_most ((g + 1) * size.denominator - 1) (d * s * 10 ^ p / 10 ^ q) → Err TooLarge ≡ limited g n size
+    → None ≡ if_at_most ((g + 1) * size.denominator - 1) (d * s * 10 ^ p / 10 ^ q) → Err TooLarge ≡ short_value g n size
 limited_none g d s p q n size read short some is =
     let x = d * s * 10 ^ p / 10 ^ q in
     let above : g < x / size.denominator = beyond g size.denominator x some (none_beyond ((g + 1) * size.denominator - 1) x is) in
@@ -86,5 +86,5 @@ limited_none g d s p q n size read short some is =
 limit_cases : (g v w : ℕ) → Ok v ≡ up_to g w → v ≤ g
 limit_cases g v w is = grind (arith, nat_tests)
 
-pub limited_limit : (g v : ℕ) (n : Number) (size : Ratio) → is_short n ≡ true → Ok v ≡ limited g n size → v ≤ g
+pub limited_limit : (g v : ℕ) (n : Number) (size : Ratio) → is_short n ≡ true → Ok v ≡ short_value g n size → v ≤ g
 limited_limit g v n size short is = limit_cases g v (value_of n size) (is ∙ rw short refl)

@@ -31,32 +31,32 @@ is_short n = nat_le (length n.whole + length n.fraction) 20 && nat_le (length n.
 abbrev pub up_to : ℕ → ℕ → Result ℕ AmountFault
 up_to greatest value = if nat_le value greatest then Ok value else Err TooLarge
 
-abbrev pub limited : ℕ → Number → Ratio → Result ℕ AmountFault
-limited greatest n size = if is_short n then up_to greatest (value_of n size) else Err TooLarge
+abbrev pub short_value : ℕ → Number → Ratio → Result ℕ AmountFault
+short_value greatest n size = if is_short n then up_to greatest (value_of n size) else Err TooLarge
 
-abbrev pub sized : ℕ → Number → Option Ratio → Result ℕ AmountFault
-sized greatest n None = Err UnknownUnit
-sized greatest n (Some size) = limited greatest n size
+abbrev pub value_in_unit : ℕ → Number → Option Ratio → Result ℕ AmountFault
+value_in_unit greatest n None = Err UnknownUnit
+value_in_unit greatest n (Some size) = short_value greatest n size
 
-abbrev pub judged : Units → ℕ → Number → Result ℕ AmountFault
-judged units greatest n = if length n.whole == 0 then Err NotANumber else sized greatest n (size_of units n.unit)
+abbrev pub amount_or_fault : Units → ℕ → Number → Result ℕ AmountFault
+amount_or_fault units greatest n = if length n.whole == 0 then Err NotANumber else value_in_unit greatest n (size_of units n.unit)
 
 -- a reader, by its units and its greatest value
-abbrev pub read_by : Units → ℕ → List ℕ → Result ℕ AmountFault
-read_by units greatest text = judged units greatest (number_of text)
+abbrev pub amount_by : Units → ℕ → List ℕ → Result ℕ AmountFault
+amount_by units greatest text = amount_or_fault units greatest (number_of text)
 
 -- flops or bytes
 abbrev pub amount_of : List ℕ → Result ℕ AmountFault
-amount_of = read_by amount_units (10 ^ 15)
+amount_of = amount_by amount_units (10 ^ 15)
 
 -- flops per second
 abbrev pub speed_of : List ℕ → Result ℕ AmountFault
-speed_of = read_by speed_units (10 ^ 15)
+speed_of = amount_by speed_units (10 ^ 15)
 
 -- bytes per second
 abbrev pub bandwidth_of : List ℕ → Result ℕ AmountFault
-bandwidth_of = read_by bandwidth_units (10 ^ 15)
+bandwidth_of = amount_by bandwidth_units (10 ^ 15)
 
 -- nanoseconds
 abbrev pub time_of : List ℕ → Result ℕ AmountFault
-time_of = read_by time_units (10 ^ 18)
+time_of = amount_by time_units (10 ^ 18)

@@ -74,7 +74,7 @@ fn split_part<'a>(text: &'a [u8], after_mark: &'a [u8]) -> (&'a [u8], &'a [u8])
 
 impl<'a> Number<'a> {
     ghost use Rattle.sg_units.specs.Number.{number_of};
-    ghost use Rattle.sg_units.specs.Shown.{parts_of, HasDigits};
+    ghost use Rattle.sg_units.specs.kept.Shown.{parts_of, HasDigits};
 
     /// The number at the front of a text; with no digit there its whole part is empty.
     pub fn split(text: &'a [u8]) -> Number<'a>

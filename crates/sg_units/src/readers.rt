@@ -2,8 +2,8 @@
 ghost use Rattle.std.specs.Prelude.{◌≡◌, ◌≤◌, ◌<◌, ◌^◌, IsTrue, IfOk};
 ghost use Rattle.std.specs.Str.Parse.{digits_value};
 ghost use Rattle.sg_base.specs.Limits.{IsAmount, IsTime};
-ghost use Rattle.sg_units.specs.Amount.{limited, read_by, power_of, places_of, digits_of, is_short, amount_of, speed_of, bandwidth_of, time_of};
-ghost use Rattle.sg_units.specs.Shown.{parts_of, HasDigits};
+ghost use Rattle.sg_units.specs.Amount.{short_value, amount_by, power_of, places_of, digits_of, is_short, amount_of, speed_of, bandwidth_of, time_of};
+ghost use Rattle.sg_units.specs.kept.Shown.{parts_of, HasDigits};
 ghost use Rattle.sg_units.specs.Units.{rows, are_sizes, IsSize};
 
 use crate::fault::AmountFault;
@@ -71,11 +71,11 @@ fn places_of(number: &Number) -> u32
 }
 
 /// The number times the size of its unit, rounded down.
-fn limited(number: &Number, size: Ratio, greatest: u64) -> Result<u64, AmountFault>
+fn short_value(number: &Number, size: Ratio, greatest: u64) -> Result<u64, AmountFault>
     requires digits { HasDigits number.now }
     requires size { IsSize size }
     requires greatest { greatest ≤ 10 ^ 18 }
-    ensures value { result ≡ limited greatest (parts_of number.now) size }
+    ensures value { result ≡ short_value greatest (parts_of number.now) size }
     ensures limit { IfOk result (λ n. n ≤ greatest) }
 {
     if !is_short(number) {
@@ -90,10 +90,10 @@ fn limited(number: &Number, size: Ratio, greatest: u64) -> Result<u64, AmountFau
     }
 }
 
-fn read_by(units: &[UnitRow], greatest: u64, text: &[u8]) -> Result<u64, AmountFault>
+fn amount_by(units: &[UnitRow], greatest: u64, text: &[u8]) -> Result<u64, AmountFault>
     requires units { IsTrue (are_sizes (rows units.now)) }
     requires greatest { greatest ≤ 10 ^ 18 }
-    ensures value { result ≡ read_by (rows units.now) greatest text.now }
+    ensures value { result ≡ amount_by (rows units.now) greatest text.now }
     ensures limit { IfOk result (λ n. n ≤ greatest) }
 {
     let number = Number::split(text);
@@ -101,7 +101,7 @@ fn read_by(units: &[UnitRow], greatest: u64, text: &[u8]) -> Result<u64, AmountF
         return Err(AmountFault::NotANumber);
     }
     match size_of(units, number.unit) {
-        Some(size) => limited(&number, size, greatest),
+        Some(size) => short_value(&number, size, greatest),
         None => Err(AmountFault::UnknownUnit),
     }
 }
@@ -111,7 +111,7 @@ pub fn read_amount(text: &[u8]) -> Result<u64, AmountFault>
     ensures value { result ≡ amount_of text.now }
     ensures limit { IfOk result IsAmount }
 {
-    read_by(&AMOUNT_UNITS, GREATEST_AMOUNT, text)
+    amount_by(&AMOUNT_UNITS, GREATEST_AMOUNT, text)
 }
 
 /// Reads a speed in flops per second, up to 10^15.
@@ -119,7 +119,7 @@ pub fn read_speed(text: &[u8]) -> Result<u64, AmountFault>
     ensures value { result ≡ speed_of text.now }
     ensures limit { IfOk result (λ n. n ≤ 10 ^ 15) }
 {
-    read_by(&SPEED_UNITS, GREATEST_AMOUNT, text)
+    amount_by(&SPEED_UNITS, GREATEST_AMOUNT, text)
 }
 
 /// Reads a bandwidth in bytes per second, up to 10^15. The units that end in `bps` are bits per second.
@@ -127,7 +127,7 @@ pub fn read_bandwidth(text: &[u8]) -> Result<u64, AmountFault>
     ensures value { result ≡ bandwidth_of text.now }
     ensures limit { IfOk result (λ n. n ≤ 10 ^ 15) }
 {
-    read_by(&BANDWIDTH_UNITS, GREATEST_AMOUNT, text)
+    amount_by(&BANDWIDTH_UNITS, GREATEST_AMOUNT, text)
 }
 
 /// Reads a time in nanoseconds, up to 10^18. Without a unit it is in seconds.
@@ -135,5 +135,5 @@ pub fn read_time(text: &[u8]) -> Result<u64, AmountFault>
     ensures value { result ≡ time_of text.now }
     ensures limit { IfOk result IsTime }
 {
-    read_by(&TIME_UNITS, GREATEST_TIME, text)
+    amount_by(&TIME_UNITS, GREATEST_TIME, text)
 }

@@ -1,7 +1,7 @@
 //! Whole numbers over and times powers of ten.
 ghost use Rattle.std.specs.Prelude.{◌≡◌, ◌≤◌, ◌<◌, ◌+◌, ◌*◌, ◌/◌, ◌^◌, Option, Some, None, nat_le, if◌then◌else◌, length};
 ghost use Rattle.std.specs.Str.Parse.{AllDigits, digits_value_after};
-ghost use Rattle.sg_units.specs.Scaled.{if_at_most};
+ghost use Rattle.sg_units.specs.kept.Scaled.{if_at_most};
 
 /// The number that these digits write behind those of `number`.
 pub fn read_after(number: u128, digits: &[u8]) -> u128

@@ -59,7 +59,7 @@ number_read id least most rows got =
 asked_some : (name : Text) (rows : List Row) → is_some (request_at name rows) ≡ true → is_some (number_at 1 64 (codes "nthreads") rows) ≡ true
     → is_some (number_at 1 1000000000 (codes "budget") rows) ≡ true → is_some (asked_at name rows) ≡ true
 asked_some name rows r w b =
-    then_some _ (request_at name rows) r (λ request. then_some _ (number_at 1 64 (codes "nthreads") rows) w (λ workers. map_some _ (number_at 1 1000000000 (codes "budget") rows) b))
+    then_some _ (request_at name rows) r (λ request. then_some _ (number_at 1 64 (codes "nthreads") rows) w (λ threads. map_some _ (number_at 1 1000000000 (codes "budget") rows) b))
 
 abbrev name_at : ℕ → Text → Rule
 name_at i id = with_index i (filled (name_rule id))

@@ -4,7 +4,7 @@ use Rattle.clap.specs.Words.{HasKind, IsAmong, Kinds, kind_of}
 use Rattle.clap.specs.declared.error.Error.{Error}
 use Rattle.clap.specs.declared.error.kind.ErrorKind.TheVariants.{DisplayHelp, DisplayVersion, OutOfMemory}
 use Rattle.sg_words.specs.CommandLine as line
-use Rattle.sg_words.specs.Shown.{Answers, IsFaultOf}
+use Rattle.sg_words.specs.Views.{Answers, IsFaultOf}
 use Rattle.sg_words.specs.declared.fault.WordsFault.{WordsFault}
 use Rattle.sg_words.specs.declared.fault.WordsFault.TheVariants.{Help, Bad, Memory}
 

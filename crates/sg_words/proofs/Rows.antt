@@ -8,7 +8,7 @@ use Rattle.sg_words.specs.CommandLine.{asked_of, refusals, replay, run, churn}
 abbrev replay_line : List Text
 replay_line = codes "simgrid_replay" ∷ codes "replay" ∷ codes "a" ∷ codes "--nthreads=3" ∷ codes "b" ∷ codes "-" ∷ []
 
-replay_asked : asked_of replay_line ≡ Some (record { request = replay (codes "a") (codes "b") (codes "-"); workers = 3; budget = 1000000; quiet = false })
+replay_asked : asked_of replay_line ≡ Some (record { request = replay (codes "a") (codes "b") (codes "-"); threads = 3; budget = 1000000; quiet = false })
 unfolding clap_on_literals
 replay_asked = refl
 
@@ -19,7 +19,7 @@ replay_accepted = refl
 abbrev run_line : List Text
 run_line = codes "simgrid_replay" ∷ codes "run" ∷ codes "--budget" ∷ codes "+05" ∷ codes "--quiet" ∷ codes "--" ∷ codes "--x" ∷ codes "b" ∷ []
 
-run_asked : asked_of run_line ≡ Some (record { request = run (codes "--x") (codes "b"); workers = 1; budget = 5; quiet = true })
+run_asked : asked_of run_line ≡ Some (record { request = run (codes "--x") (codes "b"); threads = 1; budget = 5; quiet = true })
 unfolding clap_on_literals
 run_asked = refl
 
@@ -30,7 +30,7 @@ run_accepted = refl
 abbrev churn_line : List Text
 churn_line = codes "simgrid_replay" ∷ codes "churn" ∷ codes "7" ∷ codes "--nthreads" ∷ codes "64" ∷ codes "3" ∷ codes "2" ∷ []
 
-churn_asked : asked_of churn_line ≡ Some (record { request = churn 7 3 2; workers = 64; budget = 1000000; quiet = false })
+churn_asked : asked_of churn_line ≡ Some (record { request = churn 7 3 2; threads = 64; budget = 1000000; quiet = false })
 unfolding clap_on_literals
 churn_asked = refl
 

@@ -37,8 +37,8 @@ number_rule id least most default = record (new_rule id) {
   value_names = 1;
 }
 
-abbrev pub workers_rule : Rule
-workers_rule = number_rule (codes "nthreads") 1 64 (codes "1")
+abbrev pub threads_rule : Rule
+threads_rule = number_rule (codes "nthreads") 1 64 (codes "1")
 
 abbrev pub budget_rule : Rule
 budget_rule = number_rule (codes "budget") 1 1000000000 (codes "1000000")
@@ -48,7 +48,7 @@ quiet_rule = record (new_rule (codes "quiet")) { long = Some (codes "quiet"); ac
 
 -- the options of every command
 abbrev pub with_common_options : App → App
-with_common_options a = with_rule (with_rule a workers_rule) budget_rule
+with_common_options a = with_rule (with_rule a threads_rule) budget_rule
 
 -- the options of a command that prints a line for each action
 abbrev pub with_options : App → App
@@ -91,7 +91,7 @@ pub data Request : Type 0 where
 
 pub record Asked : Type 0 where
   pub request : Request
-  pub workers : ℕ
+  pub threads : ℕ
   pub budget : ℕ
   pub quiet : Bool
 
@@ -126,9 +126,9 @@ is_quiet rows = option_map_or (λ text. bytes_eq text (codes "true")) (first_of 
 
 -- what the command of that name is asked to do, by the values that were found for its arguments
 abbrev pub asked_at : Text → List Row → Option Asked
-asked_at name rows = option_and_then (λ request. option_and_then (λ workers. option_map (λ budget. record {
+asked_at name rows = option_and_then (λ request. option_and_then (λ threads. option_map (λ budget. record {
   request = request;
-  workers = workers;
+  threads = threads;
   budget = budget;
   quiet = is_quiet rows;
 }) (number_at 1 1000000000 (codes "budget") rows)) (number_at 1 64 (codes "nthreads") rows))

@@ -1,8 +1,8 @@
 //! The definition of the command line, in the words of `clap`.
 ghost use Rattle.std.specs.Prelude.{◌≡◌, IfOk, false};
 ghost use Rattle.clap.specs.Words.{app_of, rule_of, with_rule, with_subcommand};
-ghost use Rattle.clap.specs.declared.builder.command.Command.TheViews.{out-Command};
-ghost use Rattle.sg_words.specs.CommandLine.{name_rule, parsed_rule, seed_rule, actors_rule, steps_rule, workers_rule, budget_rule, quiet_rule, with_common_options, with_options, with_parts, replay_app, run_app, churn_app, bare_app, program_app};
+ghost use Rattle.sg_words.specs.kept.Building.{IsArg, IsLocal, Builds};
+ghost use Rattle.sg_words.specs.CommandLine.{name_rule, parsed_rule, seed_rule, actors_rule, steps_rule, threads_rule, budget_rule, quiet_rule, with_common_options, with_options, with_parts, replay_app, run_app, churn_app, bare_app, program_app};
 
 use crate::help;
 use clap::builder::ValueParser;
@@ -10,8 +10,7 @@ use clap::{Arg, ArgAction, Command, value_parser};
 use std::alloc::{AllocError, Global};
 
 fn name_arg<'a>(alloc: Global, id: &'a str, shown: &'a str, help: &'a str) -> Arg<'a>
-    ensures rule { rule_of result ≡ name_rule id.entry.now }
-    ensures local { result.global ≡ false }
+    ensures { IsArg (name_rule id.entry.now) result }
 {
     Arg::new(alloc, id)
         .required(true)
@@ -27,51 +26,45 @@ fn number_arg<'a>(
     parser: ValueParser<'a>,
     help: &'a str,
 ) -> Arg<'a>
-    ensures rule { rule_of result ≡ parsed_rule id.entry.now parser.entry }
-    ensures local { result.global ≡ false }
+    ensures { IsArg (parsed_rule id.entry.now parser.entry) result }
 {
     name_arg(alloc, id, shown, help).value_parser(parser)
 }
 
 fn seed_arg<'a>(alloc: Global) -> Arg<'a>
-    ensures rule { rule_of result ≡ seed_rule }
-    ensures local { result.global ≡ false }
+    ensures { IsArg seed_rule result }
 {
     let parser = value_parser!(u64).range(0..=9223372036854775807);
     number_arg(alloc, "seed", "SEED", parser, help::SEED)
 }
 
 fn actors_arg<'a>(alloc: Global) -> Arg<'a>
-    ensures rule { rule_of result ≡ actors_rule }
-    ensures local { result.global ≡ false }
+    ensures { IsArg actors_rule result }
 {
     let parser = value_parser!(u64).range(2..=4096);
     number_arg(alloc, "actors", "ACTORS", parser, help::ACTORS)
 }
 
 fn steps_arg<'a>(alloc: Global) -> Arg<'a>
-    ensures rule { rule_of result ≡ steps_rule }
-    ensures local { result.global ≡ false }
+    ensures { IsArg steps_rule result }
 {
     let parser = value_parser!(u64).range(0..=1000000);
     number_arg(alloc, "steps", "STEPS", parser, help::STEPS)
 }
 
-fn workers_arg<'a>(alloc: Global) -> Arg<'a>
-    ensures rule { rule_of result ≡ workers_rule }
-    ensures local { result.global ≡ false }
+fn threads_arg<'a>(alloc: Global) -> Arg<'a>
+    ensures { IsArg threads_rule result }
 {
     Arg::new(alloc, "nthreads")
         .long("nthreads")
         .value_name("N")
         .value_parser(value_parser!(u64).range(1..=64))
         .default_value("1")
-        .help(help::WORKERS)
+        .help(help::THREADS)
 }
 
 fn budget_arg<'a>(alloc: Global) -> Arg<'a>
-    ensures rule { rule_of result ≡ budget_rule }
-    ensures local { result.global ≡ false }
+    ensures { IsArg budget_rule result }
 {
     Arg::new(alloc, "budget")
         .long("budget")
@@ -82,8 +75,7 @@ fn budget_arg<'a>(alloc: Global) -> Arg<'a>
 }
 
 fn quiet_arg<'a>(alloc: Global) -> Arg<'a>
-    ensures rule { rule_of result ≡ quiet_rule }
-    ensures local { result.global ≡ false }
+    ensures { IsArg quiet_rule result }
 {
     Arg::new(alloc, "quiet")
         .long("quiet")
@@ -94,18 +86,16 @@ fn quiet_arg<'a>(alloc: Global) -> Arg<'a>
 // The command with one more argument.
 fn with_arg<'a>(command: Command<'a>, arg: Arg<'a>) -> Result<Command<'a>, AllocError>
     requires arg { arg.global ≡ false }
-    requires command { (out-Command command).has_globals ≡ false }
-    ensures shape { IfOk result (λ c. app_of c ≡ with_rule (app_of command.entry) (rule_of arg.entry)) }
-    ensures local { IfOk result (λ c. (out-Command c).has_globals ≡ false) }
+    requires command { IsLocal command }
+    ensures { Builds (with_rule (app_of command.entry) (rule_of arg.entry)) result }
 {
     command.arg(arg)
 }
 
 // The command with the names of the platform and of the deployment.
 fn with_parts<'a>(alloc: Global, command: Command<'a>) -> Result<Command<'a>, AllocError>
-    requires { (out-Command command).has_globals ≡ false }
-    ensures shape { IfOk result (λ c. app_of c ≡ with_parts (app_of command.entry)) }
-    ensures local { IfOk result (λ c. (out-Command c).has_globals ≡ false) }
+    requires { IsLocal command }
+    ensures { Builds (with_parts (app_of command.entry)) result }
 {
     let command = with_arg(
         command,
@@ -119,27 +109,24 @@ fn with_parts<'a>(alloc: Global, command: Command<'a>) -> Result<Command<'a>, Al
 
 // The command with the options that each command has.
 fn with_common_options<'a>(alloc: Global, command: Command<'a>) -> Result<Command<'a>, AllocError>
-    requires { (out-Command command).has_globals ≡ false }
-    ensures shape { IfOk result (λ c. app_of c ≡ with_common_options (app_of command.entry)) }
-    ensures local { IfOk result (λ c. (out-Command c).has_globals ≡ false) }
+    requires { IsLocal command }
+    ensures { Builds (with_common_options (app_of command.entry)) result }
 {
-    let command = with_arg(command, workers_arg(alloc))?;
+    let command = with_arg(command, threads_arg(alloc))?;
     with_arg(command, budget_arg(alloc))
 }
 
 // The command with the options of one that prints a line for each action.
 fn with_options<'a>(alloc: Global, command: Command<'a>) -> Result<Command<'a>, AllocError>
-    requires { (out-Command command).has_globals ≡ false }
-    ensures shape { IfOk result (λ c. app_of c ≡ with_options (app_of command.entry)) }
-    ensures local { IfOk result (λ c. (out-Command c).has_globals ≡ false) }
+    requires { IsLocal command }
+    ensures { Builds (with_options (app_of command.entry)) result }
 {
     let command = with_common_options(alloc, command)?;
     with_arg(command, quiet_arg(alloc))
 }
 
 fn replay<'a>(alloc: Global) -> Result<Command<'a>, AllocError>
-    ensures shape { IfOk result (λ c. app_of c ≡ replay_app) }
-    ensures local { IfOk result (λ c. (out-Command c).has_globals ≡ false) }
+    ensures { Builds replay_app result }
 {
     let command = Command::new(alloc, "replay")
         .about(help::REPLAY)
@@ -150,8 +137,7 @@ fn replay<'a>(alloc: Global) -> Result<Command<'a>, AllocError>
 }
 
 fn run<'a>(alloc: Global) -> Result<Command<'a>, AllocError>
-    ensures shape { IfOk result (λ c. app_of c ≡ run_app) }
-    ensures local { IfOk result (λ c. (out-Command c).has_globals ≡ false) }
+    ensures { Builds run_app result }
 {
     let command = Command::new(alloc, "run")
         .about(help::RUN)
@@ -161,8 +147,7 @@ fn run<'a>(alloc: Global) -> Result<Command<'a>, AllocError>
 }
 
 fn churn<'a>(alloc: Global) -> Result<Command<'a>, AllocError>
-    ensures shape { IfOk result (λ c. app_of c ≡ churn_app) }
-    ensures local { IfOk result (λ c. (out-Command c).has_globals ≡ false) }
+    ensures { Builds churn_app result }
 {
     let command = Command::new(alloc, "churn")
         .about(help::CHURN)
@@ -185,8 +170,9 @@ fn bare<'a>(alloc: Global) -> Command<'a>
 
 // The command with one more subcommand.
 fn with_command<'a>(command: Command<'a>, sub: Command<'a>) -> Result<Command<'a>, AllocError>
-    requires { (out-Command sub).has_globals ≡ false }
-    ensures { IfOk result (λ c. app_of c ≡ with_subcommand (app_of command.entry) (app_of sub.entry).top) }
+    requires { IsLocal sub }
+    ensures { IfOk result (λ c. app_of c
+        ≡ with_subcommand (app_of command.entry) (app_of sub.entry).top) }
 {
     command.subcommand(sub)
 }

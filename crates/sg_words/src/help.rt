@@ -30,7 +30,7 @@ pub const DEPLOYMENT: &str =
 
 pub const SCRIPT: &str = "The script, a text file: one action on each line; - is standard input";
 
-pub const WORKERS: &str = "Worker threads, 1 to 64; the output is the same for every number";
+pub const THREADS: &str = "Worker threads, 1 to 64; the output is the same for every number";
 
 pub const BUDGET: &str = "Events after which the run is stopped, 1 to 1000000000";
 

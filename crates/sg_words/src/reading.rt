@@ -3,7 +3,7 @@ ghost use Rattle.std.specs.Prelude.{◌≡◌, ◌≤◌, ◌&&◌, Some, None, 
 ghost use Rattle.clap.specs.Words.{found_of, rows_of, first_of, subcommand_rows_of};
 ghost use Rattle.sg_words.specs.CommandLine.{number_in, number_at, replay_at, run_at, churn_at, request_at, is_quiet, asked_at, asked_by};
 ghost use Rattle.sg_words.specs.Ranges.{IsInRange};
-ghost use Rattle.sg_words.specs.Shown.{request_text, asked_text, command_shown, job_shown};
+ghost use Rattle.sg_words.specs.Views.{request_view, asked_view, command_view, job_view};
 
 use crate::job::{Asked, ChurnNumbers, Command, Job, Request};
 use clap::ArgMatches;
@@ -45,7 +45,7 @@ fn number_at(matches: &ArgMatches<'_>, id: &str, least: u64, most: u64) -> Optio
 }
 
 fn replay_at<'a>(matches: &ArgMatches<'a>) -> Option<Request<'a>>
-    ensures { option_map request_text result ≡ replay_at (rows_of (found_of matches.now)) }
+    ensures { option_map request_view result ≡ replay_at (rows_of (found_of matches.now)) }
 {
     let platform = text_at(matches, "platform")?;
     let deployment = text_at(matches, "deployment")?;
@@ -54,7 +54,7 @@ fn replay_at<'a>(matches: &ArgMatches<'a>) -> Option<Request<'a>>
 }
 
 fn run_at<'a>(matches: &ArgMatches<'a>) -> Option<Request<'a>>
-    ensures { option_map request_text result ≡ run_at (rows_of (found_of matches.now)) }
+    ensures { option_map request_view result ≡ run_at (rows_of (found_of matches.now)) }
 {
     let platform = text_at(matches, "platform")?;
     let deployment = text_at(matches, "deployment")?;
@@ -62,7 +62,7 @@ fn run_at<'a>(matches: &ArgMatches<'a>) -> Option<Request<'a>>
 }
 
 fn churn_at<'a>(matches: &ArgMatches<'a>) -> Option<Request<'a>>
-    ensures { option_map request_text result ≡ churn_at (rows_of (found_of matches.now)) }
+    ensures { option_map request_view result ≡ churn_at (rows_of (found_of matches.now)) }
 {
     let seed = number_at(matches, "seed", 0, 9_223_372_036_854_775_807)?;
     let actors = number_at(matches, "actors", 2, 4096)? as u32;
@@ -75,7 +75,8 @@ fn churn_at<'a>(matches: &ArgMatches<'a>) -> Option<Request<'a>>
 }
 
 fn request_at<'a>(name: &str, matches: &ArgMatches<'a>) -> Option<Request<'a>>
-    ensures { option_map request_text result ≡ request_at name.now (rows_of (found_of matches.now)) }
+    ensures { option_map request_view result
+        ≡ request_at name.now (rows_of (found_of matches.now)) }
 {
     if name == "replay" {
         replay_at(matches)
@@ -98,15 +99,15 @@ fn is_quiet(matches: &ArgMatches<'_>) -> bool
 }
 
 fn asked_at<'a>(name: &str, matches: &ArgMatches<'a>) -> Option<Asked<'a>>
-    ensures { option_map asked_text result ≡ asked_at name.now (rows_of (found_of matches.now)) }
+    ensures { option_map asked_view result ≡ asked_at name.now (rows_of (found_of matches.now)) }
 {
     let request = request_at(name, matches)?;
-    let workers = number_at(matches, "nthreads", 1, 64)? as u32;
+    let threads = number_at(matches, "nthreads", 1, 64)? as u32;
     let budget = number_at(matches, "budget", 1, 1_000_000_000)?;
     let quiet = is_quiet(matches);
     Some(Asked {
         request,
-        workers,
+        threads,
         budget,
         quiet,
     })
@@ -114,14 +115,14 @@ fn asked_at<'a>(name: &str, matches: &ArgMatches<'a>) -> Option<Asked<'a>>
 
 /// What the command that was given is asked to do.
 pub(crate) fn asked_in<'a>(matches: &ArgMatches<'a>) -> Option<Asked<'a>>
-    ensures { option_map asked_text result ≡ asked_by (subcommand_rows_of matches.now) }
+    ensures { option_map asked_view result ≡ asked_by (subcommand_rows_of matches.now) }
 {
     let (name, rows) = matches.subcommand()?;
     asked_at(name, rows)
 }
 
 fn command_of(alloc: Global, request: Request<'_>) -> Result<Command, Memory>
-    ensures shown { IfOk result (λ c. command_shown c ≡ request_text request.entry) }
+    ensures shown { IfOk result (λ c. command_view c ≡ request_view request.entry) }
     ensures in_range { IfOk result IsInRange }
 {
     match request {
@@ -143,11 +144,11 @@ fn command_of(alloc: Global, request: Request<'_>) -> Result<Command, Memory>
 }
 
 pub(crate) fn job_of(alloc: Global, asked: Asked<'_>) -> Result<Job, Memory>
-    ensures { IfOk result (λ job. job_shown job ≡ asked_text asked.entry) }
+    ensures { IfOk result (λ job. job_view job ≡ asked_view asked.entry) }
 {
     Ok(Job {
         command: command_of(alloc, asked.request)?,
-        workers: asked.workers,
+        threads: asked.threads,
         budget: asked.budget,
         quiet: asked.quiet,
     })

@@ -14,7 +14,7 @@ fn read(alloc: Global, line: &str) -> Result<Job, WordsFault> {
 }
 
 fn shown(alloc: Global, job: &Job) -> Result<String, AllocError> {
-    let (workers, budget, quiet) = (job.workers, job.budget, job.quiet);
+    let (threads, budget, quiet) = (job.threads, job.budget, job.quiet);
     match &job.command {
         Command::Replay {
             platform,
@@ -22,20 +22,20 @@ fn shown(alloc: Global, job: &Job) -> Result<String, AllocError> {
             script,
         } => {
             let (p, d, s) = (platform.as_str(), deployment.as_str(), script.as_str());
-            format!(in alloc; "replay {p} {d} {s}, {workers} {budget} {quiet}")
+            format!(in alloc; "replay {p} {d} {s}, {threads} {budget} {quiet}")
         }
         Command::Run {
             platform,
             deployment,
         } => {
             let (p, d) = (platform.as_str(), deployment.as_str());
-            format!(in alloc; "run {p} {d}, {workers} {budget} {quiet}")
+            format!(in alloc; "run {p} {d}, {threads} {budget} {quiet}")
         }
         Command::Churn {
             seed,
             actors,
             steps,
-        } => format!(in alloc; "churn {seed} {actors} {steps}, {workers} {budget} {quiet}"),
+        } => format!(in alloc; "churn {seed} {actors} {steps}, {threads} {budget} {quiet}"),
     }
 }
 

@@ -2,7 +2,7 @@
 ghost use Rattle.std.specs.Prelude.{◌≡◌, IfOk, map, string_bytes};
 ghost use Rattle.clap.specs.Words.{FailsBy, kind_of, subcommand_of, subcommand_rows_of};
 ghost use Rattle.sg_words.specs.CommandLine.{asked_of, program_app, refusals};
-ghost use Rattle.sg_words.specs.Shown.{Answers, IsFaultOf};
+ghost use Rattle.sg_words.specs.Views.{Answers, IsFaultOf};
 
 use crate::definition::program;
 use crate::fault::WordsFault;
@@ -16,7 +16,8 @@ use std::alloc::Global;
 // The values of the words, where the definition accepts them.
 fn parsed<'a>(alloc: Global, words: &'a [String]) -> Result<ArgMatches<'a>, Error>
     ensures kinds { FailsBy (refusals (map string_bytes words.entry.now)) result }
-    ensures matches { IfOk result (λ m. subcommand_rows_of m ≡ subcommand_of program_app (map string_bytes words.entry.now)) }
+    ensures matches { IfOk result (λ m. subcommand_rows_of m
+        ≡ subcommand_of program_app (map string_bytes words.entry.now)) }
 {
     program(alloc)?.try_get_matches_from(words)
 }
@@ -44,7 +45,8 @@ fn fault_from(alloc: Global, error: Error) -> Result<WordsFault, Memory>
 /// `Help` where help or the version is asked for, `Bad` where the words are refused, each with the text for the
 /// user; and `Memory`.
 pub fn read_words(alloc: Global, words: &[String]) -> Result<Job, WordsFault>
-    ensures { Answers (refusals (map string_bytes words.now)) (asked_of (map string_bytes words.now)) result }
+    ensures { Answers (refusals (map string_bytes words.now))
+        (asked_of (map string_bytes words.now)) result }
 {
     let matches = match parsed(alloc, words) {
         Ok(matches) => matches,

@@ -5,11 +5,11 @@ use Rattle.std.specs.List.{list_any}
 use Rattle.std.specs.Option.{option_or, option_map_or}
 use Rattle.std.proofs.lemmas.Bool.Decides.{nat_tests}
 use Rattle.std.proofs.lemmas.List.FromFn.{get_or-map-range_with_len, length-map-range_with_len}
-use Rattle.sg_platform.specs.declared.rows.ZoneRow.{ZoneRow}
+use Rattle.sg_rows.specs.declared.rows.ZoneRow.{ZoneRow}
 use Rattle.sg_base.specs.declared.ids.ZoneId.{ZoneId}
 use Rattle.sg_zones.specs.declared.fault.ZoneFault.{ZoneFault}
 use Rattle.sg_zones.specs.Paths.{ancestor, ancestors_of, parent, path, paths_of}
-use Rattle.sg_zones.specs.Faults.{first_along, told_if, roots, root_fault, cycle_at, deep_at, tree_fault}
+use Rattle.sg_zones.specs.Faults.{first_along, fault_if, roots, root_fault, cycle_at, deep_at, tree_fault}
 use Rattle.sg_zones.proofs.TreeLemmas.{AboveIs, IsDepth, depth_found, path_length, path_last, split, inner_of}
 
 -- ---- options and rows
@@ -18,7 +18,7 @@ pub both_none : {X : Type 0} (a b : Option X) → option_or a b ≡ None → (a 
 both_none None b h = (refl, h)
 both_none (Some x) b h = absurd (cc)
 
-pub not_told : (b : Bool) (fault : ZoneFault) → told_if b fault ≡ None → b ≡ false
+pub not_told : (b : Bool) (fault : ZoneFault) → fault_if b fault ≡ None → b ≡ false
 not_told false fault h = refl
 not_told true fault h = absurd (cc)
 

@@ -3,12 +3,12 @@ use Rattle.std.proofs.Common.{◌≡◌, ℕ, ◌+◌, ◌<◌, ◌≤◌, ◌�
 use Rattle.std.specs.Option.{option_or}
 use Rattle.std.specs.Prelude.{is_none, is_some}
 use Rattle.sg_base.specs.declared.ids.ZoneId.{ZoneId}
-use Rattle.sg_platform.specs.Platform.{Platform}
-use Rattle.sg_platform.specs.declared.rows.ZoneRouteRow.{ZoneRouteRow}
-use Rattle.sg_platform.specs.declared.rows.ZoneRow.{ZoneRow}
+use Rattle.sg_rows.specs.Platform.{Platform}
+use Rattle.sg_rows.specs.declared.rows.ZoneRouteRow.{ZoneRouteRow}
+use Rattle.sg_rows.specs.declared.rows.ZoneRow.{ZoneRow}
 use Rattle.sg_tree.specs.Along.{along, first}
-use Rattle.sg_zones.specs.AllFaults.{TellsLeast, IsBefore, IsRising, faults_along, gateway_faults, kind_number, listed, place_of, root_faults, row_faults, tree_faults}
-use Rattle.sg_zones.specs.Faults.{cycle_at, deep_at, dst_gateway_at, first_along, gateway_at, gateways_at, place, root_fault, roots, route_at, row_fault, spoke_at, src_gateway_at, told_if, tree_fault, zone_route_at}
+use Rattle.sg_zones.specs.AllFaults.{TellsLeast, IsBefore, IsRising, faults_along, gateway_faults, kind_number, as_list, place_of, root_faults, row_faults, tree_faults}
+use Rattle.sg_zones.specs.Faults.{cycle_at, deep_at, dst_gateway_at, first_along, gateway_at, gateways_at, place, root_fault, roots, route_at, row_fault, spoke_at, src_gateway_at, fault_if, tree_fault, zone_route_at}
 use Rattle.sg_zones.specs.Paths.{ancestors_of}
 use Rattle.sg_zones.specs.Tree.{Tree, tree_of}
 use Rattle.sg_zones.specs.declared.fault.ZoneFault.{ZoneFault}
@@ -21,9 +21,9 @@ first-append : (a b : List ZoneFault) → first (a ++ b) ≡ option_or (first a)
 first-append [] b = refl
 first-append (x ∷ a) b = refl
 
-first-listed : (o : Option ZoneFault) → first (listed o) ≡ o
-first-listed None = refl
-first-listed (Some fault) = refl
+first-as_list : (o : Option ZoneFault) → first (as_list o) ≡ o
+first-as_list None = refl
+first-as_list (Some fault) = refl
 
 -- where the first of two lists is told by the one, and that of the other by the other
 first_of_both : (xs ys : List ZoneFault) (a b : Option ZoneFault) → first xs ≡ a → first ys ≡ b → first (xs ++ ys) ≡ option_or a b
@@ -35,7 +35,7 @@ first-along f told is i [] = refl
 first-along f told is i (x ∷ xs) = first_of_both (f i x) (along f (i + 1) xs) (told i x) (first_along told (i + 1) xs) (is i x) (first-along f told is (i + 1) xs)
 
 first-faults_along : {X : Type 0} (told : ℕ → X → Option ZoneFault) (xs : List X) → first (faults_along told xs) ≡ first_along told 0 xs
-first-faults_along told xs = first-along (λ row x. listed (told row x)) told (λ i x. first-listed (told i x)) 0 xs
+first-faults_along told xs = first-along (λ row x. as_list (told row x)) told (λ i x. first-as_list (told i x)) 0 xs
 
 first-root_faults : (rs : List ℕ) → first (root_faults rs) ≡ root_fault rs
 first-root_faults [] = refl
@@ -53,7 +53,7 @@ first-tree_faults zones =
 
 first-gateway_faults : (t : Tree) (i : ℕ) (r : ZoneRouteRow) → first (gateway_faults t i r) ≡ gateways_at t i r
 first-gateway_faults t i r =
-    first_of_both (listed (src_gateway_at t i r)) (listed (dst_gateway_at t i r)) (src_gateway_at t i r) (dst_gateway_at t i r) (first-listed (src_gateway_at t i r)) (first-listed (dst_gateway_at t i r))
+    first_of_both (as_list (src_gateway_at t i r)) (as_list (dst_gateway_at t i r)) (src_gateway_at t i r) (dst_gateway_at t i r) (first-as_list (src_gateway_at t i r)) (first-as_list (dst_gateway_at t i r))
 
 first-row_faults : (t : Tree) (p : Platform) → first (row_faults t p) ≡ row_fault t p
 first-row_faults t p =
@@ -104,24 +104,24 @@ along_rises kind table f rise each i (x ∷ xs) =
           (each_mono (IsIn kind table (i + 1 + 1)) (IsIn kind table (i + 1)) (λ g p. (p.0, p.1, omega (arith, p.2))) (along f (i + 1) xs) rest.each);
     }
 
-one_rises : (o : Option ZoneFault) → IsRising (listed o)
+one_rises : (o : Option ZoneFault) → IsRising (as_list o)
 one_rises None = tt
 one_rises (Some fault) = (tt, tt)
 
-one_each : (P : ZoneFault → Type 0) (b : Bool) (fault : ZoneFault) → P fault → Each P (listed (told_if b fault))
+one_each : (P : ZoneFault → Type 0) (b : Bool) (fault : ZoneFault) → P fault → Each P (as_list (fault_if b fault))
 one_each P true fault h = (h, tt)
 one_each P false fault h = tt
 
-two_rise : (b c : Bool) (f g : ZoneFault) → IsBefore f g → IsRising (listed (told_if b f) ++ listed (told_if c g))
+two_rise : (b c : Bool) (f g : ZoneFault) → IsBefore f g → IsRising (as_list (fault_if b f) ++ as_list (fault_if c g))
 two_rise true true f g h = ((h, tt), (tt, tt))
 two_rise true false f g h = (tt, tt)
 two_rise false true f g h = (tt, tt)
 two_rise false false f g h = tt
 
 -- of each row one fault at most
-told_rise : {X : Type 0} (kind table : ℕ) (told : ℕ → X → Option ZoneFault) → ((i : ℕ) (x : X) → Each (IsOf kind table (i + 1)) (listed (told i x))) → (xs : List X)
+told_rise : {X : Type 0} (kind table : ℕ) (told : ℕ → X → Option ZoneFault) → ((i : ℕ) (x : X) → Each (IsOf kind table (i + 1)) (as_list (told i x))) → (xs : List X)
     → Rise kind table 1 (faults_along told xs)
-told_rise kind table told each xs = along_rises kind table (λ row x. listed (told row x)) (λ i x. one_rises (told i x)) each 0 xs
+told_rise kind table told each xs = along_rises kind table (λ row x. as_list (told row x)) (λ i x. one_rises (told i x)) each 0 xs
 
 cycles_rise : (xs : List (Option ZoneId)) → Rise 3 1 1 (faults_along cycle_at xs)
 cycles_rise xs = told_rise 3 1 cycle_at (λ i x. one_each (IsOf 3 1 (i + 1)) (is_some x) _ (refl, refl, refl)) xs
@@ -132,7 +132,7 @@ deep_rise xs = told_rise 4 1 deep_at (λ i x. one_each (IsOf 4 1 (i + 1)) (is_so
 gateways_rise : (t : Tree) (xs : List ZoneRouteRow) → Rise 5 6 1 (along (gateway_faults t) 0 xs)
 gateways_rise t xs =
     along_rises 5 6 (gateway_faults t) (λ i x. two_rise _ _ _ _ (inr (refl, inr (refl, inr (refl, inl (omega arith))))))
-    (λ i x. each_append (IsOf 5 6 (i + 1)) (listed (src_gateway_at t i x)) (listed (dst_gateway_at t i x))
+    (λ i x. each_append (IsOf 5 6 (i + 1)) (as_list (src_gateway_at t i x)) (as_list (dst_gateway_at t i x))
     (one_each (IsOf 5 6 (i + 1)) _ _ (refl, refl, refl)) (one_each (IsOf 5 6 (i + 1)) _ _ (refl, refl, refl))) 0 xs
 
 -- ---- roots

@@ -1,12 +1,13 @@
 -- All faults of the rows, and their order: by kind, and within a kind by table, row and key.
-use Rattle.std.specs.Prelude.{◌≡◌, ℕ, ◌<◌, ◌⊎◌, Option, None, Some, List, [], ◌∷◌, ◌++◌, map}
+use Rattle.std.specs.Prelude.{◌≡◌, ℕ, ◌<◌, ◌⊎◌, Option, None, Some, List, [], ◌∷◌, ◌++◌, map, unwrap_or, ⊤}
 use Rattle.std.specs.List.{AllByRecursion}
-use Rattle.sg_platform.specs.Platform.{Platform}
-use Rattle.sg_platform.specs.declared.rows.ZoneRouteRow.{ZoneRouteRow}
-use Rattle.sg_platform.specs.declared.rows.ZoneRow.{ZoneRow}
+use Rattle.sg_rows.specs.Platform.{Platform}
+use Rattle.sg_rows.specs.declared.rows.ZoneRouteRow.{ZoneRouteRow}
+use Rattle.sg_rows.specs.declared.rows.ZoneRow.{ZoneRow}
 use Rattle.sg_tree.specs.Along.{along, first}
 use Rattle.sg_tree.specs.declared.fault.Place.{Place}
 use Rattle.sg_zones.specs.Faults.{place, roots, cycle_at, deep_at, src_gateway_at, dst_gateway_at, gateway_at, route_at, zone_route_at, spoke_at, zone_fault}
+use Rattle.sg_zones.specs.FaultWords.{zone_place}
 use Rattle.sg_zones.specs.Paths.{ancestors_of}
 use Rattle.sg_zones.specs.Tree.{Tree, tree_of}
 use Rattle.sg_zones.specs.declared.fault.ZoneFault.{ZoneFault}
@@ -15,13 +16,13 @@ use Rattle.sg_zones.specs.declared.fault.ZoneFault.TheVariants.{NoRoot, TwoRoots
 -- ---- all faults
 
 -- the fault, where there is one
-abbrev pub listed : Option ZoneFault → List ZoneFault
-listed None = []
-listed (Some fault) = fault ∷ []
+abbrev pub as_list : Option ZoneFault → List ZoneFault
+as_list None = []
+as_list (Some fault) = fault ∷ []
 
 -- those along rows, of each of which one is told at most
 abbrev pub faults_along : {X : Type 0} → (ℕ → X → Option ZoneFault) → List X → List ZoneFault
-faults_along told rows = along (λ row x. listed (told row x)) 0 rows
+faults_along told rows = along (λ row x. as_list (told row x)) 0 rows
 
 -- no root, or each root but the first
 abbrev pub root_faults : List ℕ → List ZoneFault
@@ -29,7 +30,7 @@ root_faults [] = NoRoot (place 1 0 0) ∷ []
 root_faults (root ∷ rest) = map (λ row. TwoRoots (place 1 row 2)) rest
 
 abbrev pub gateway_faults : Tree → ℕ → ZoneRouteRow → List ZoneFault
-gateway_faults t row r = listed (src_gateway_at t row r) ++ listed (dst_gateway_at t row r)
+gateway_faults t row r = as_list (src_gateway_at t row r) ++ as_list (dst_gateway_at t row r)
 
 abbrev pub tree_faults : List ZoneRow → List ZoneFault
 tree_faults zones =
@@ -58,13 +59,7 @@ kind_number (WrongRouting at) = 6
 kind_number Memory = 7
 
 abbrev pub place_of : ZoneFault → Place
-place_of (NoRoot at) = at
-place_of (TwoRoots at) = at
-place_of (ParentCycle at) = at
-place_of (TooDeep at) = at
-place_of (GatewayOutside at) = at
-place_of (WrongRouting at) = at
-place_of Memory = place 0 0 0
+place_of fault = unwrap_or (zone_place fault) (place 0 0 0)
 
 -- one number is less, and those before it are the same
 abbrev pub IsBelow : List ℕ → List ℕ → Type 0
@@ -80,7 +75,7 @@ IsBefore f g = IsBelow (numbers_of f) (numbers_of g)
 
 -- each is before all those behind it
 abbrev pub IsRising : List ZoneFault → Type 0
-IsRising [] = Unit {0}
+IsRising [] = ⊤
 IsRising (f ∷ fs) = AllByRecursion (IsBefore f) fs × IsRising fs
 
 -- of all faults the least is told

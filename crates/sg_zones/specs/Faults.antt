@@ -5,13 +5,13 @@ use Rattle.sg_base.specs.declared.ids.Child.{Child}
 use Rattle.sg_base.specs.declared.ids.Child.TheVariants.{Point, Zone}
 use Rattle.sg_base.specs.declared.ids.PointId.{PointId}
 use Rattle.sg_base.specs.declared.ids.ZoneId.{ZoneId}
-use Rattle.sg_platform.specs.Platform.{Platform}
-use Rattle.sg_platform.specs.declared.rows.Routing.{Routing}
-use Rattle.sg_platform.specs.declared.rows.Routing.TheVariants.{Full, Star}
-use Rattle.sg_platform.specs.declared.rows.RouteRow.{RouteRow}
-use Rattle.sg_platform.specs.declared.rows.SpokeRow.{SpokeRow}
-use Rattle.sg_platform.specs.declared.rows.ZoneRouteRow.{ZoneRouteRow}
-use Rattle.sg_platform.specs.declared.rows.ZoneRow.{ZoneRow}
+use Rattle.sg_rows.specs.Platform.{Platform}
+use Rattle.sg_rows.specs.declared.rows.Routing.{Routing}
+use Rattle.sg_rows.specs.declared.rows.Routing.TheVariants.{Full, Star}
+use Rattle.sg_rows.specs.declared.rows.RouteRow.{RouteRow}
+use Rattle.sg_rows.specs.declared.rows.SpokeRow.{SpokeRow}
+use Rattle.sg_rows.specs.declared.rows.ZoneRouteRow.{ZoneRouteRow}
+use Rattle.sg_rows.specs.declared.rows.ZoneRow.{ZoneRow}
 use Rattle.sg_tree.specs.declared.fault.Place.{Place}
 use Rattle.sg_zones.specs.Paths.{ancestors_of}
 use Rattle.sg_zones.specs.Tree.{Tree, tree_of, home, holds, parent_in, routing_in}
@@ -26,8 +26,8 @@ abbrev pub first_along : {X : Type 0} → (ℕ → X → Option ZoneFault) → �
 first_along told row [] = None
 first_along told row (x ∷ xs) = option_or (told row x) (first_along told (row + 1) xs)
 
-abbrev pub told_if : Bool → ZoneFault → Option ZoneFault
-told_if b fault = if b then Some fault else None
+abbrev pub fault_if : Bool → ZoneFault → Option ZoneFault
+fault_if b fault = if b then Some fault else None
 
 -- ---- the tree
 
@@ -47,11 +47,11 @@ root_fault (first ∷ rest) = second_root rest
 
 -- the zone of this row still has a zone above it after 1,024 steps up: there are no more zones, so it never reaches the root
 abbrev pub cycle_at : ℕ → Option ZoneId → Option ZoneFault
-cycle_at row ancestor = told_if (is_some ancestor) (ParentCycle (place 1 (row + 1) 2))
+cycle_at row ancestor = fault_if (is_some ancestor) (ParentCycle (place 1 (row + 1) 2))
 
 -- it still has one after 16 steps: its depth is above 16
 abbrev pub deep_at : ℕ → Option ZoneId → Option ZoneFault
-deep_at row ancestor = told_if (is_some ancestor) (TooDeep (place 1 (row + 1) 2))
+deep_at row ancestor = fault_if (is_some ancestor) (TooDeep (place 1 (row + 1) 2))
 
 -- ---- gateways
 
@@ -62,16 +62,16 @@ child_holds t (Zone zone) point = holds t zone point
 
 -- the gateway isn't held by its end
 abbrev pub src_gateway_at : Tree → ℕ → ZoneRouteRow → Option ZoneFault
-src_gateway_at t row r = told_if (not (child_holds t r.src r.gw_src)) (GatewayOutside (place 6 (row + 1) 3))
+src_gateway_at t row r = fault_if (not (child_holds t r.src r.gw_src)) (GatewayOutside (place 6 (row + 1) 3))
 
 abbrev pub dst_gateway_at : Tree → ℕ → ZoneRouteRow → Option ZoneFault
-dst_gateway_at t row r = told_if (not (child_holds t r.dst r.gw_dst)) (GatewayOutside (place 6 (row + 1) 4))
+dst_gateway_at t row r = fault_if (not (child_holds t r.dst r.gw_dst)) (GatewayOutside (place 6 (row + 1) 4))
 
 abbrev pub gateways_at : Tree → ℕ → ZoneRouteRow → Option ZoneFault
 gateways_at t row r = option_or (src_gateway_at t row r) (dst_gateway_at t row r)
 
 abbrev pub gateway_at : Tree → ℕ → SpokeRow → Option ZoneFault
-gateway_at t row s = told_if (not (child_holds t s.child s.gateway)) (GatewayOutside (place 7 (row + 1) 3))
+gateway_at t row s = fault_if (not (child_holds t s.child s.gateway)) (GatewayOutside (place 7 (row + 1) 3))
 
 -- ---- routing
 
@@ -104,18 +104,18 @@ is_point (Zone zone) = false
 
 -- the ends of a route stand in one Full zone
 abbrev pub route_at : Tree → ℕ → RouteRow → Option ZoneFault
-route_at t row r = told_if (not (in_one_full t (Some (home t r.src)) (Some (home t r.dst)))) (WrongRouting (place 5 (row + 1) 1))
+route_at t row r = fault_if (not (in_one_full t (Some (home t r.src)) (Some (home t r.dst)))) (WrongRouting (place 5 (row + 1) 1))
 
 -- those of a zone_route are children of one Full zone, and not both points
 abbrev pub zone_route_at : Tree → ℕ → ZoneRouteRow → Option ZoneFault
 zone_route_at t row r =
-    told_if (not (in_one_full t (zone_above t r.src) (zone_above t r.dst)) || is_point r.src && is_point r.dst)
+    fault_if (not (in_one_full t (zone_above t r.src) (zone_above t r.dst)) || is_point r.src && is_point r.dst)
     (WrongRouting (place 6 (row + 1) 1))
 
 -- the zone of a spoke is Star, and the child is its child
 abbrev pub spoke_at : Tree → ℕ → SpokeRow → Option ZoneFault
 spoke_at t row s =
-    told_if (not (is_star (routing_in t s.zone)) || not (is_zone s.zone (zone_above t s.child)))
+    fault_if (not (is_star (routing_in t s.zone)) || not (is_zone s.zone (zone_above t s.child)))
     (WrongRouting (place 7 (row + 1) 1))
 
 -- ---- the least kind, and within it the least place

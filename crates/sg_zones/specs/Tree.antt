@@ -3,9 +3,9 @@ use Rattle.std.specs.Prelude.{◌==◌, ℕ, Bool, Option, None, List, [], ◌++
 use Rattle.std.specs.List.{list_any}
 use Rattle.sg_base.specs.declared.ids.PointId.{PointId}
 use Rattle.sg_base.specs.declared.ids.ZoneId.{ZoneId}
-use Rattle.sg_platform.specs.Platform.{Platform}
-use Rattle.sg_platform.specs.declared.rows.Routing.{Routing}
-use Rattle.sg_platform.specs.declared.rows.Routing.TheVariants.{Full}
+use Rattle.sg_rows.specs.Platform.{Platform}
+use Rattle.sg_rows.specs.declared.rows.Routing.{Routing}
+use Rattle.sg_rows.specs.declared.rows.Routing.TheVariants.{Full}
 use Rattle.sg_zones.specs.Paths.{paths_of}
 
 -- of each zone its parent, its routing and the path down to it, and of each point its zone

@@ -1,8 +1,9 @@
 //! Why rows give no zone tree.
 ghost use Rattle.std.specs.Prelude.{◌≡◌, ◌+◌, ◌<◌, ◌-◌, ◌^◌};
+ghost use Rattle.sg_zones.specs.FaultWords.{zone_place, zone_words};
 ghost use Rattle.sg_zones.specs.declared.fault.ZoneFault.TheVariants.{Memory};
 
-use sg_platform::Place;
+use sg_tree::Place;
 use thiserror::Error;
 
 /// Why rows give no zone tree.
@@ -28,6 +29,38 @@ pub enum ZoneFault {
     WrongRouting(Place),
     #[error("out of memory")]
     Memory,
+}
+
+impl ZoneFault {
+    /// What is wrong, in words; of want of memory no word.
+    pub fn words(&self) -> &'static str
+        ensures { result.now ≡ zone_words self.now }
+    {
+        match self {
+            ZoneFault::NoRoot(_) => "no root zone",
+            ZoneFault::TwoRoots(_) => "two root zones",
+            ZoneFault::ParentCycle(_) => "zone cycle",
+            ZoneFault::TooDeep(_) => "zones too deep",
+            ZoneFault::GatewayOutside(_) => "gateway outside",
+            ZoneFault::WrongRouting(_) => "wrong routing",
+            ZoneFault::Memory => "",
+        }
+    }
+
+    /// Where it stands.
+    pub fn place(&self) -> Option<Place>
+        ensures { result ≡ zone_place self.now }
+    {
+        match self {
+            ZoneFault::NoRoot(place)
+            | ZoneFault::TwoRoots(place)
+            | ZoneFault::ParentCycle(place)
+            | ZoneFault::TooDeep(place)
+            | ZoneFault::GatewayOutside(place)
+            | ZoneFault::WrongRouting(place) => Some(*place),
+            ZoneFault::Memory => None,
+        }
+    }
 }
 
 impl From<sg_base::Memory> for ZoneFault {

@@ -4,7 +4,7 @@ ghost use Rattle.sg_zones.specs.Faults.{first_along, gateways_at, gateway_at};
 
 use crate::fault::{ZoneFault, place};
 use crate::zones::Zones;
-use sg_platform::{SpokeRow, ZoneRouteRow};
+use sg_rows::{SpokeRow, ZoneRouteRow};
 
 /// That a gateway of a zone_route isn't held by its end.
 fn gateways_at(zones: &Zones, i: usize, row: &ZoneRouteRow) -> Option<ZoneFault>

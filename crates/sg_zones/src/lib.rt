@@ -7,8 +7,6 @@ mod gateways;
 mod laws;
 mod paths;
 mod routing;
-#[cfg(test)]
-mod tests;
 mod tree;
 mod zones;
 

@@ -3,7 +3,7 @@ ghost use Rattle.std.specs.Prelude.{◌≡◌, ◌≤◌, ◌++◌, ◌^◌, len
 ghost use Rattle.sg_zones.specs.Paths.{ancestors_of, parent, path, paths_of};
 
 use sg_base::{Memory, ZoneId};
-use sg_platform::ZoneRow;
+use sg_rows::ZoneRow;
 use std::alloc::Global;
 use std::marker::Model;
 
@@ -75,7 +75,8 @@ fn look_up(ancestors: &[Option<ZoneId>], zone: ZoneId) -> Option<ZoneId>
 
 /// Of each zone the ancestor of its ancestor.
 fn twice(alloc: Global, ancestors: &[Option<ZoneId>]) -> Result<Vec<Option<ZoneId>>, Memory>
-    ensures { IfOk result (λ made. made.items ≡ map (λ ancestor. option_and_then (λ zone. slice_index_or ancestors.now zone.0 None) ancestor) ancestors.now) }
+    ensures { IfOk result (λ made. made.items
+        ≡ map (option_and_then (λ zone. slice_index_or ancestors.now zone.0 None)) ancestors.now) }
 {
     let mut made = Vec::new(alloc);
     for ancestor in ancestors {

@@ -5,7 +5,7 @@ ghost use Rattle.sg_zones.specs.Faults.{first_along, route_at, zone_route_at, sp
 use crate::fault::{ZoneFault, place};
 use crate::zones::Zones;
 use sg_base::Child;
-use sg_platform::{RouteRow, SpokeRow, ZoneRouteRow};
+use sg_rows::{RouteRow, SpokeRow, ZoneRouteRow};
 
 fn is_point(child: Child) -> bool
     ensures { result ≡ is_point child }

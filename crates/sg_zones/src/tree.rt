@@ -5,7 +5,8 @@ ghost use Rattle.sg_zones.specs.Faults.{first_along, roots, root_fault, cycle_at
 use crate::fault::{ZoneFault, place};
 use crate::paths::ancestors_of;
 use sg_base::{Memory, ZoneId};
-use sg_platform::{Place, ZoneRow};
+use sg_rows::ZoneRow;
+use sg_tree::Place;
 use std::alloc::Global;
 
 /// That there is no root, or a second one.

@@ -10,7 +10,7 @@ use crate::paths::{Path, parents_of, paths_of};
 use crate::routing::{first_route, first_spoke, first_zone_route};
 use crate::tree::tree_fault;
 use sg_base::{Child, Memory as NoMemory, PointId, ZoneId};
-use sg_platform::{HostRow, PlatformText, RouterRow, Routing, ZoneRow};
+use sg_rows::{HostRow, PlatformText, RouterRow, Routing, ZoneRow};
 use std::alloc::Global;
 use std::marker::Model;
 
@@ -48,7 +48,9 @@ fn homes_of(
     hosts: &[HostRow],
     routers: &[RouterRow],
 ) -> Result<Vec<ZoneId>, NoMemory>
-    ensures { IfOk result (λ homes. homes.items ≡ map (λ row. row.zone) hosts.now ++ map (λ row. row.zone) routers.now) }
+    ensures { IfOk result
+        (λ homes. homes.items
+        ≡ map (λ row. row.zone) hosts.now ++ map (λ row. row.zone) routers.now) }
 {
     let mut homes = Vec::new(alloc);
     for host in hosts {

@@ -4,19 +4,20 @@ use Rattle.std.proofs.Common as C
 use Rattle.std.proofs.lemmas.Bool.Decides.{nat_tests}
 use Rattle.std.specs.Prelude.{IfSome}
 use Rattle.sg_edge.specs.Files.{PartView, IsNamed, TakesUpTo, before}
-use Rattle.sg_edge.specs.Given.{Source}
+use Rattle.sg_edge.specs.Sources.{Source}
 use Rattle.sg_edge.specs.declared.files.Part.{Part}
 use Rattle.sg_edge.specs.declared.files.Part.TheVariants as part
 use Rattle.sg_words.specs.CommandLine.{Request}
-use Rattle.simgrid_replay.specs.Given.{IsNamedBy, name_of}
+use Rattle.simgrid_replay.specs.PartSources.{IsNamedBy, name_of}
 use Rattle.sg_engine.specs.declared.setup.Setup.{Setup}
-use Rattle.sg_platform.specs.Deployment.{Deployed}
+use Rattle.sg_rows.specs.Deployment.{Deployed}
 use Rattle.sg_platform.specs.DeploymentOf.{deployment_of}
-use Rattle.sg_platform.specs.Platform.{Platform}
+use Rattle.sg_rows.specs.Platform.{Platform}
 use Rattle.sg_platform.specs.PlatformOf.{platform_of, whole_text}
 use Rattle.sg_platform.specs.declared.deployment.DeploymentFault.TheVariants as deployment
 use Rattle.sg_platform.specs.declared.platform.PlatformFault.TheVariants as platform
-use Rattle.simgrid_replay.specs.Parts.{platform_given, deployment_given, or_platform_fault, or_deployment_fault, if_suited, on_platform, setting_in, suited, Setting}
+use Rattle.simgrid_replay.specs.Settings.{platform_given, deployment_given, or_platform_fault, or_deployment_fault, if_fitting, on_platform, fitting, Setting}
+use Rattle.simgrid_replay.specs.kept.Setups.{setting_in}
 use Rattle.simgrid_replay.specs.declared.refusal.Refusal.{Refusal}
 use Rattle.simgrid_replay.specs.declared.refusal.Refusal.TheVariants as refusal
 
@@ -47,12 +48,12 @@ deployment_too_long source p long =
     rw is (grind (arith, nat_tests))
 
 -- what is deployed suits its run, so it is the setting
-pub settled_on : (p q : Platform) (script : Bool) (contexts : ℕ) (d : Source) (deployed fit : Deployed) (setup : Setup) → q ≡ p → Ok deployed ≡ deployment_given q d → Ok fit ≡ suited script contexts deployed →
-    setup.platform ≡ p → setup.deployment ≡ fit → on_platform p (if_suited script contexts (deployment_given p d)) ≡ Ok (setting_in setup)
+pub settled_on : (p q : Platform) (script : Bool) (contexts : ℕ) (d : Source) (deployed fit : Deployed) (setup : Setup) → q ≡ p → Ok deployed ≡ deployment_given q d → Ok fit ≡ fitting script contexts deployed →
+    setup.platform ≡ p → setup.deployment ≡ fit → on_platform p (if_fitting script contexts (deployment_given p d)) ≡ Ok (setting_in setup)
 settled_on p q script contexts d deployed fit setup same is suits on with =
     let known : deployment_given p d ≡ Ok deployed = ap (λ (x : Platform). deployment_given x d) (sym same) ∙ sym is in
     let made : Platform → Deployed → Result Setting Refusal = λ a b. Ok (record { platform = a; deployment = b }) in
-    ap (λ (r : Result Deployed Refusal). on_platform p (if_suited script contexts r)) known ∙ ap (on_platform p) (sym suits) ∙ ap₂ made (sym on) (sym with)
+    ap (λ (r : Result Deployed Refusal). on_platform p (if_fitting script contexts r)) known ∙ ap (on_platform p) (sym suits) ∙ ap₂ made (sym on) (sym with)
 
 -- a part that has no name is named as one likes
 pub nameless : (name : List ℕ) (view : PartView) → view.name ≡ None → IsNamed name view

@@ -6,10 +6,10 @@ use Rattle.sg_edge.specs.declared.sinks.Stream.TheVariants.{Out, Err}
 use Rattle.sg_edge.specs.Sinks.{GainsFront, SameBut}
 use Rattle.sg_engine.proofs.Fronts.{fronts_err, fronts_out}
 use Rattle.sg_engine.specs.Gains.{GainsFronts}
-use Rattle.simgrid_replay.specs.Outcome.{told}
+use Rattle.simgrid_replay.specs.Outcome.{one_text}
 
 -- a front of the text is there, and the other stream is as it was
 pub told_front : (to : Stream) (text : List ℕ) (how : Status) (old new : Stream → Option (List ℕ)) → GainsFront text (old to) (new to) → SameBut to old new →
-    GainsFronts (told to text how).out (told to text how).err old new
+    GainsFronts (one_text to text how).out (one_text to text how).err old new
 told_front Out text how old new front same = fronts_out text [] old new front (same Err (λ e. cc))
 told_front Err text how old new front same = fronts_err text old new front (same Out (λ e. cc))

@@ -7,27 +7,30 @@ use Rattle.sg_edge.specs.declared.sinks.Stream.{Stream}
 use Rattle.sg_edge.specs.declared.sinks.Stream.TheVariants.{Out, Err}
 use Rattle.sg_edge.specs.Sinks.{gain}
 use Rattle.sg_edge.specs.Files.{PartView, KeepsTelling}
-use Rattle.sg_edge.specs.Given.{Source, Gives}
+use Rattle.sg_edge.specs.Sources.{Source, Gives}
 use Rattle.sg_engine.specs.declared.ended.Ended.{Ended}
 use Rattle.sg_engine.specs.declared.ended.Ended.TheVariants as E
 use Rattle.sg_edge.specs.Cause.{HasCause}
 use Rattle.sg_edge.specs.declared.files.Stage.TheVariants.{Broken}
-use Rattle.sg_engine.specs.Gains.{GainsFronts, Ends, IsBroken, is_cut as engine_cut}
+use Rattle.sg_engine.specs.Gains.{GainsFronts}
+use Rattle.sg_engine.specs.RunContract.{Ends, IsBroken}
+use Rattle.sg_engine.specs.declared.show.Show.{Show}
 use Rattle.sg_engine.specs.Output.{Output, run_output}
 use Rattle.simgrid_replay.specs.declared.refusal.Refusal.{Refusal}
 use Rattle.simgrid_replay.specs.declared.refusal.Refusal.TheVariants as R
-use Rattle.simgrid_replay.specs.Outcome.{Outcome, Counts, Prints, is_cut, is_refusal, of_run, run_on, or_refused, status_of, refused, refusal_outcome}
+use Rattle.simgrid_replay.specs.Outcome.{Outcome, IsWhole, Prints, is_refusal, of_run, run_on, or_refused, status_of, one_text, refusal_outcome}
 use Rattle.std.specs.Prelude.{IsErr}
 use Rattle.sg_edge.specs.declared.files.Part.{Part}
 use Rattle.sg_edge.specs.declared.files.Part.TheVariants.{Platform, Deployment, Script}
 use Rattle.sg_words.specs.CommandLine as line
-use Rattle.sg_words.specs.CommandLine.{Request}
-use Rattle.simgrid_replay.specs.Given.{TextsGive, ScriptGives}
-use Rattle.simgrid_replay.specs.Order.{PlatformDecides, SparesRest}
-use Rattle.simgrid_replay.specs.Parts.{Setting, platform_given}
+use Rattle.sg_words.specs.CommandLine.{Asked, Request}
+use Rattle.simgrid_replay.specs.PartSources.{TextsGive, ScriptGives}
+use Rattle.simgrid_replay.specs.kept.Reading.{PlatformDecides}
+use Rattle.simgrid_replay.specs.PartOrder.{IsTextBroken, SparesRest}
+use Rattle.simgrid_replay.specs.Settings.{Setting, platform_given}
 use Rattle.sg_engine.specs.declared.setup.Setup.{Setup}
-use Rattle.sg_platform.specs.Platform.{Platform as Loaded}
-use Rattle.simgrid_replay.specs.Terms.{Terms, has_parts, has_script}
+use Rattle.sg_rows.specs.Platform.{Platform as Loaded}
+use Rattle.simgrid_replay.specs.Requests.{has_parts, has_script, show_of}
 
 -- fronts of nothing are fronts of anything
 fronts_nothing : (out err : List ℕ) (old new : Stream → Option (List ℕ)) → GainsFronts [] [] old new → GainsFronts out err old new
@@ -47,7 +50,7 @@ fronts_nothing out err old new f = record {
     nothing [] rest is = refl
     nothing (x ∷ front) rest is = absurd (let e : [] ≡ x ∷ (front ++ rest) = is in cc)
 
-pub prints_nothing : (want : Outcome) (how : Status) (old new : Stream → Option (List ℕ)) → Prints (refused [] S.Memory) how old new → Prints want how old new
+pub prints_nothing : (want : Outcome) (how : Status) (old new : Stream → Option (List ℕ)) → Prints (one_text Err [] S.Memory) how old new → Prints want how old new
 prints_nothing want S.WriteFault old new p = fronts_nothing want.out want.err old new p
 prints_nothing want S.Memory old new p = fronts_nothing want.out want.err old new p
 prints_nothing want S.Completed old new p = absurd (let e : S.Memory ≡ S.Completed = p.0 in cc)
@@ -132,33 +135,28 @@ run_cause how code faults old mid new is rising broke cause = record {
 pub run_prints : (run : Output) (how : Ended) (code : Status) (old new : Stream → Option (List ℕ)) → code ≡ status_of how → Ends run.out run.err run.ended how old new → Prints (of_run run) code old new
 run_prints run how code old new is ends = subst (λ (s : Status). Prints (of_run run) s old new) (sym is) (ended_prints run how old new ends)
 
--- the same on terms that are known by another name
-pub run_prints_on : (on : Setting) (terms known : Terms) (source : Source) (how : Ended) (code : Status) (old new : Stream → Option (List ℕ)) → terms ≡ known → code ≡ status_of how →
-    Ends (run_output on.platform on.deployment terms.script terms.budget terms.show source).out (run_output on.platform on.deployment terms.script terms.budget terms.show source).err
-    (run_output on.platform on.deployment terms.script terms.budget terms.show source).ended how old new →
-    Prints (run_on known source on) code old new
-run_prints_on on terms known source how code old new same is ends =
-    subst (λ (t : Terms). Prints (run_on t source on) code old new) same
-    (run_prints (run_output on.platform on.deployment terms.script terms.budget terms.show source) how code old new is ends)
+as_job : (job : Asked) (on : Setting) (script : Bool) (budget : ℕ) (show : Show) (source : Source) → script ≡ has_script job.request → budget ≡ job.budget → show ≡ show_of job.request job.quiet →
+    run_output on.platform on.deployment script budget show source ≡ run_output on.platform on.deployment (has_script job.request) job.budget (show_of job.request job.quiet) source
+as_job job on script budget show source scripted counted shown =
+    ap (λ (b : Bool). run_output on.platform on.deployment b budget show source) scripted
+    ∙ ap₂ (λ (n : ℕ) (s : Show). run_output on.platform on.deployment (has_script job.request) n s source) counted shown
+
+-- the same on the terms of a job
+pub run_prints_on : (job : Asked) (on : Setting) (script : Bool) (budget : ℕ) (show : Show) (source : Source) (how : Ended) (code : Status) (old new : Stream → Option (List ℕ)) →
+    script ≡ has_script job.request → budget ≡ job.budget → show ≡ show_of job.request job.quiet → code ≡ status_of how →
+    Ends (run_output on.platform on.deployment script budget show source).out (run_output on.platform on.deployment script budget show source).err
+    (run_output on.platform on.deployment script budget show source).ended how old new →
+    Prints (run_on job source on) code old new
+run_prints_on job on script budget show source how code old new scripted counted shown is ends =
+    subst (λ (o : Output). Prints (of_run o) code old new) (as_job job on script budget show source scripted counted shown)
+    (run_prints (run_output on.platform on.deployment script budget show source) how code old new is ends)
 
 -- the same of the work
-pub run_counts_on : (on : Setting) (terms known : Terms) (source : Source) (how : Ended) (code : Status) (start count : ℕ) → terms ≡ known → code ≡ status_of how →
-    (engine_cut how ≡ false → start + (run_output on.platform on.deployment terms.script terms.budget terms.show source).work ≤ count) →
-    Counts (run_on known source on) code start count
-run_counts_on on terms known source how code start count same is work =
-    subst (λ (t : Terms). Counts (run_on t source on) code start count) same (λ uncut. work (cut_as how (ap is_cut (sym is) ∙ uncut)))
-  where
-    cut_as : (how : Ended) → is_cut (status_of how) ≡ false → engine_cut how ≡ false
-    cut_as E.Completed uncut = refl
-    cut_as E.Deadlock uncut = refl
-    cut_as E.Starved uncut = refl
-    cut_as E.Budget uncut = refl
-    cut_as (E.Script number kind) uncut = refl
-    cut_as (E.NoRoute from to zone a b) uncut = refl
-    cut_as (E.TooLong from to) uncut = refl
-    cut_as E.ReadFault uncut = refl
-    cut_as E.WriteFault uncut = uncut
-    cut_as E.Memory uncut = uncut
+pub run_counts_on : (job : Asked) (on : Setting) (script : Bool) (budget : ℕ) (show : Show) (source : Source) (start count : ℕ) →
+    script ≡ has_script job.request → budget ≡ job.budget → show ≡ show_of job.request job.quiet →
+    count ≤ start + (run_output on.platform on.deployment script budget show source).work → count ≤ start + (run_on job source on).work
+run_counts_on job on script budget show source start count scripted counted shown work =
+    subst (λ (o : Output). count ≤ start + o.work) (as_job job on script budget show source scripted counted shown) work
 
 -- where there is no run nobody takes a context
 pub none_taken : {X A : Type 0} (count : Result X Refusal → ℕ) (given : Result X Refusal) (why : Refusal) (crew : List A) → ((r : Refusal) → count (C.Err r) ≡ 0) →
@@ -168,29 +166,13 @@ none_taken count given why crew none known ne =
     sym (ap (λ (n : ℕ). drop n crew) same)
 
 -- what a run comes to is what the definition says where nothing is refused
-pub setting_prints : (terms : Terms) (s : Source) (given : Result Setting Refusal) (on : Setting) (code : Status) (old new : Stream → Option (List ℕ)) → given ≡ Ok on →
-    Prints (run_on terms s on) code old new → Prints (or_refused terms s given) code old new
-setting_prints terms s given on code old new is prints = subst (λ (r : Result Setting Refusal). Prints (or_refused terms s r) code old new) (sym is) prints
+pub setting_prints : (job : Asked) (s : Source) (given : Result Setting Refusal) (on : Setting) (code : Status) (old new : Stream → Option (List ℕ)) → given ≡ Ok on →
+    Prints (run_on job s on) code old new → Prints (or_refused job s given) code old new
+setting_prints job s given on code old new is prints = subst (λ (r : Result Setting Refusal). Prints (or_refused job s r) code old new) (sym is) prints
 
-pub setting_counts : (terms : Terms) (s : Source) (given : Result Setting Refusal) (on : Setting) (code : Status) (start count : ℕ) → given ≡ Ok on →
-    Counts (run_on terms s on) code start count → Counts (or_refused terms s given) code start count
-setting_counts terms s given on code start count is counts = subst (λ (r : Result Setting Refusal). Counts (or_refused terms s r) code start count) (sym is) counts
-
--- the outcome of a refusal has no work
-spent : (terms : Terms) (s : Source) (given : Result Setting Refusal) (why : Refusal) (code : Status) (start : ℕ) → (refusal_outcome why).work ≡ 0 → C.Err why ≡ given → Counts (or_refused terms s given) code start start
-spent terms s given why code start none is = subst (λ (r : Result Setting Refusal). Counts (or_refused terms s r) code start start) is (λ uncut. omega (arith, none))
-
--- a refusal has no work
-pub refusal_counts : (terms : Terms) (s : Source) (given : Result Setting Refusal) (why : Refusal) (code : Status) (start : ℕ) → (why ≡ R.Memory → code ≡ S.Memory) →
-    (◌≢◌ {A = Result Setting Refusal} (C.Err why) (C.Err R.Memory) → C.Err why ≡ given) → Counts (or_refused terms s given) code start start
-refusal_counts terms s given R.Memory code start memory known = λ uncut. absurd (let e : true ≡ false = sym (ap is_cut (memory refl)) ∙ uncut in cc)
-refusal_counts terms s given (R.Platform fault) code start memory known = spent terms s given (R.Platform fault) code start refl (known (λ e. cc))
-refusal_counts terms s given (R.Zones fault) code start memory known = spent terms s given (R.Zones fault) code start refl (known (λ e. cc))
-refusal_counts terms s given (R.Deployment fault) code start memory known = spent terms s given (R.Deployment fault) code start refl (known (λ e. cc))
-refusal_counts terms s given (R.ReplayUnderRun row) code start memory known = spent terms s given (R.ReplayUnderRun row) code start refl (known (λ e. cc))
-refusal_counts terms s given (R.TooFewContexts actors contexts) code start memory known = spent terms s given (R.TooFewContexts actors contexts) code start refl (known (λ e. cc))
-refusal_counts terms s given R.ReadPlatform code start memory known = spent terms s given R.ReadPlatform code start refl (known (λ e. cc))
-refusal_counts terms s given R.ReadDeployment code start memory known = spent terms s given R.ReadDeployment code start refl (known (λ e. cc))
+pub setting_counts : (job : Asked) (s : Source) (given : Result Setting Refusal) (on : Setting) (start count : ℕ) → given ≡ Ok on →
+    count ≤ start + (run_on job s on).work → count ≤ start + (or_refused job s given).work
+setting_counts job s given on start count is work = subst (λ (r : Result Setting Refusal). count ≤ start + (or_refused job s r).work) (sym is) work
 
 -- a setting that is there is no refusal
 pub not_refused : {X E : Type 0} (given : Result X E) (on : X) → given ≡ Ok on → IsErr given → ⊥
@@ -202,6 +184,12 @@ platform_decides result on old new is = record {
   refused = λ p gives err ok. absurd (not_refused (platform_given p) on (sym (is p gives)) err);
   behind = λ p gives err. absurd (not_refused (platform_given p) on (sym (is p gives)) err);
 }
+
+-- a platform and a deployment that weren't broken before the script was begun aren't behind it
+pub none_broken : {X : Type 0} (mid new : Part → PartView) → new Platform ≡ mid Platform → new Deployment ≡ mid Deployment →
+    (mid Platform).stage ≢ Broken → (mid Deployment).stage ≢ Broken → IsTextBroken new → X
+none_broken mid new same also platform deployment (inl broken) = absurd (platform (ap (λ (v : PartView). v.stage) (sym same) ∙ broken))
+none_broken mid new same also platform deployment (inr broken) = absurd (deployment (ap (λ (v : PartView). v.stage) (sym also) ∙ broken))
 
 -- what the platform and the deployment gave before the script was begun
 pub texts_before : (request : Request) (old mid new : Part → PartView) (p d : Source) → new Platform ≡ mid Platform → new Deployment ≡ mid Deployment →
@@ -246,3 +234,37 @@ unrefused_spares how old new not = record {
   platform = λ is. absurd (let e : true ≡ false = sym (ap is_refusal is) ∙ not in cc);
   deployment = λ is. absurd (let e : true ≡ false = sym (ap is_refusal is) ∙ not in cc);
 }
+
+-- where no write failed, the outcome is there whole, or memory was wanting
+whole_or_memory : (want : Outcome) (how : Status) (faults : ℕ) (broke : Type 0) (old new : Stream → Option (List ℕ)) → Prints want how old new →
+    HasCause (how ≡ S.WriteFault) (how ≡ S.ReadFault) faults broke → faults ≡ 0 → (how ≡ S.Memory) ⊎ IsWhole want how old new
+whole_or_memory want S.WriteFault faults broke old new prints cause none = absurd (let some = cause.write refl in omega (arith, some, none))
+whole_or_memory want S.Memory faults broke old new prints cause none = inl refl
+whole_or_memory want S.Completed faults broke old new prints cause none = inr prints
+whole_or_memory want S.Words faults broke old new prints cause none = inr prints
+whole_or_memory want S.Platform faults broke old new prints cause none = inr prints
+whole_or_memory want S.Deployment faults broke old new prints cause none = inr prints
+whole_or_memory want S.Script faults broke old new prints cause none = inr prints
+whole_or_memory want S.Deadlock faults broke old new prints cause none = inr prints
+whole_or_memory want S.Starved faults broke old new prints cause none = inr prints
+whole_or_memory want S.Budget faults broke old new prints cause none = inr prints
+whole_or_memory want S.Route faults broke old new prints cause none = inr prints
+whole_or_memory want S.ReadFault faults broke old new prints cause none = inr prints
+
+-- without want of memory it is there whole
+pub whole_of : (want : Outcome) (how : Status) (faults : ℕ) (broke : Type 0) (old new : Stream → Option (List ℕ)) → Prints want how old new →
+    HasCause (how ≡ S.WriteFault) (how ≡ S.ReadFault) faults broke → faults ≡ 0 → how ≢ S.Memory → IsWhole want how old new
+whole_of want how faults broke old new prints cause none some = all (whole_or_memory want how faults broke old new prints cause none)
+  where
+    all : (how ≡ S.Memory) ⊎ IsWhole want how old new → IsWhole want how old new
+    all (inl memory) = absurd (some memory)
+    all (inr whole) = whole
+
+-- what completes by the definition says so, or that memory was wanting
+pub completed_of : (want : Outcome) (how : Status) (faults : ℕ) (broke : Type 0) (old new : Stream → Option (List ℕ)) → Prints want how old new →
+    HasCause (how ≡ S.WriteFault) (how ≡ S.ReadFault) faults broke → faults ≡ 0 → want.status ≡ S.Completed → (how ≡ S.Completed) ⊎ (how ≡ S.Memory)
+completed_of want how faults broke old new prints cause none done = told (whole_or_memory want how faults broke old new prints cause none)
+  where
+    told : (how ≡ S.Memory) ⊎ IsWhole want how old new → (how ≡ S.Completed) ⊎ (how ≡ S.Memory)
+    told (inl memory) = inr memory
+    told (inr whole) = inl (sym whole.0 ∙ done)

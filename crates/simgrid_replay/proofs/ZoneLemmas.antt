@@ -1,11 +1,11 @@
 -- What zones that were built tell of the platform.
 use Rattle.std.proofs.Common.{◌≡◌, ◌≢◌, refl, Option, None, Some, Result, Ok, sym, ap}
 use Rattle.std.proofs.Common as C
-use Rattle.sg_platform.specs.Platform.{Platform}
+use Rattle.sg_rows.specs.Platform.{Platform}
 use Rattle.sg_zones.specs.Faults.{or_tree, zone_fault, zones_of}
 use Rattle.sg_zones.specs.Tree.{Tree, tree_of}
 use Rattle.sg_zones.specs.declared.fault.ZoneFault.{ZoneFault}
-use Rattle.simgrid_replay.specs.Parts.{or_zone_fault}
+use Rattle.simgrid_replay.specs.Settings.{or_zone_fault}
 use Rattle.simgrid_replay.specs.declared.refusal.Refusal.{Refusal}
 use Rattle.simgrid_replay.specs.declared.refusal.Refusal.TheVariants as R
 

@@ -1,8 +1,7 @@
-pub mod Faults
-pub mod Given
-pub mod Order
+pub mod FaultLines
 pub mod Outcome
-pub mod Parts
-pub mod RealFiles
-pub mod Refused
-pub mod Terms
+pub mod PartOrder
+pub mod PartSources
+pub mod Requests
+pub mod Settings
+pub mod kept

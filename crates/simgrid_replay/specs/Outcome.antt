@@ -4,19 +4,25 @@ use Rattle.sg_base.specs.declared.status.Status.{Status}
 use Rattle.sg_base.specs.declared.status.Status.TheVariants as status
 use Rattle.sg_edge.specs.declared.sinks.Stream.{Stream}
 use Rattle.sg_edge.specs.declared.sinks.Stream.TheVariants as stream
-use Rattle.sg_edge.specs.Given.{Source}
+use Rattle.sg_edge.specs.Sources.{Source}
 use Rattle.sg_engine.specs.declared.ended.Ended.{Ended}
 use Rattle.sg_engine.specs.declared.ended.Ended.TheVariants as ended
 use Rattle.sg_engine.specs.Gains.{GainsAll, GainsFronts}
 use Rattle.sg_engine.specs.Output.{Output, run_output}
+use Rattle.clap.specs.Words.{IsAmong, Kinds}
+use Rattle.clap.specs.declared.error.kind.ErrorKind.{ErrorKind}
 use Rattle.sg_words.specs.CommandLine.{Asked}
-use Rattle.simgrid_replay.specs.Faults.{fault_line, platform_words, platform_place, zone_words, zone_place, deployment_words, deployment_place, replay_line, contexts_line}
-use Rattle.simgrid_replay.specs.Parts.{Setting, setting, seats}
-use Rattle.simgrid_replay.specs.Terms.{Terms, terms_of}
+use Rattle.sg_words.specs.Views.{IsHelp}
+use Rattle.sg_platform.specs.FaultWords.{platform_words, platform_place, deployment_words, deployment_place}
+use Rattle.sg_tree.specs.declared.fault.Place.{Place}
+use Rattle.sg_zones.specs.FaultWords.{zone_words, zone_place}
+use Rattle.simgrid_replay.specs.FaultLines.{fault_line, replay_line, contexts_line}
+use Rattle.simgrid_replay.specs.Settings.{Setting, setting, contexts_in}
+use Rattle.simgrid_replay.specs.Requests.{has_script, show_of}
 use Rattle.simgrid_replay.specs.declared.refusal.Refusal.{Refusal}
 use Rattle.simgrid_replay.specs.declared.refusal.Refusal.TheVariants as refusal
 
--- what is written, the status, and how much work the fillings of the run are
+-- what is written, the status, and the work: how many looks the fillings of the run may take
 pub record Outcome : Type 0 where
   pub out : List ℕ
   pub err : List ℕ
@@ -36,84 +42,75 @@ status_of ended.WriteFault = status.WriteFault
 status_of ended.Memory = status.Memory
 
 -- a text on one stream, and nothing on the other
-abbrev pub told : Stream → List ℕ → Status → Outcome
-told stream.Out text how = record { out = text; err = []; status = how; work = 0 }
-told stream.Err text how = record { out = []; err = text; status = how; work = 0 }
+abbrev pub one_text : Stream → List ℕ → Status → Outcome
+one_text stream.Out text how = record { out = text; err = []; status = how; work = 0 }
+one_text stream.Err text how = record { out = []; err = text; status = how; work = 0 }
 
--- one line on Err, and nothing else
-abbrev pub refused : List ℕ → Status → Outcome
-refused line how = told stream.Err line how
+-- one line on Err, that a part is refused: why, and where
+abbrev pub fault_outcome : List ℕ → List ℕ → Option Place → Status → Outcome
+fault_outcome part words place how = one_text stream.Err (fault_line part words place) how
 
 abbrev pub refusal_outcome : Refusal → Outcome
-refusal_outcome (refusal.Platform fault) = refused (fault_line (codes "platform") (platform_words fault) (platform_place fault)) status.Platform
-refusal_outcome (refusal.Zones fault) = refused (fault_line (codes "platform") (zone_words fault) (zone_place fault)) status.Platform
-refusal_outcome (refusal.Deployment fault) = refused (fault_line (codes "deployment") (deployment_words fault) (deployment_place fault)) status.Deployment
-refusal_outcome (refusal.ReplayUnderRun row) = refused (replay_line row) status.Deployment
-refusal_outcome (refusal.TooFewContexts actors contexts) = refused (contexts_line actors contexts) status.Deployment
-refusal_outcome refusal.ReadPlatform = refused (codes "cannot read the platform\n") status.ReadFault
-refusal_outcome refusal.ReadDeployment = refused (codes "cannot read the deployment\n") status.ReadFault
-refusal_outcome refusal.Memory = refused [] status.Memory
+refusal_outcome (refusal.Platform fault) = fault_outcome (codes "platform") (platform_words fault) (platform_place fault) status.Platform
+refusal_outcome (refusal.Zones fault) = fault_outcome (codes "platform") (zone_words fault) (zone_place fault) status.Platform
+refusal_outcome (refusal.Deployment fault) = fault_outcome (codes "deployment") (deployment_words fault) (deployment_place fault) status.Deployment
+refusal_outcome (refusal.ReplayUnderRun row) = one_text stream.Err (replay_line row) status.Deployment
+refusal_outcome (refusal.TooFewContexts actors contexts) = one_text stream.Err (contexts_line actors contexts) status.Deployment
+refusal_outcome refusal.ReadPlatform = one_text stream.Err (codes "cannot read the platform\n") status.ReadFault
+refusal_outcome refusal.ReadDeployment = one_text stream.Err (codes "cannot read the deployment\n") status.ReadFault
+refusal_outcome refusal.Memory = one_text stream.Err [] status.Memory
 
 abbrev pub of_run : Output → Outcome
 of_run run = record { out = run.out; err = run.err; status = status_of run.ended; work = run.work }
 
--- the run of a setting on these terms, with what its script gives
-abbrev pub run_on : Terms → Source → Setting → Outcome
-run_on terms script on = of_run (run_output on.platform on.deployment terms.script terms.budget terms.show script)
+-- the run of a setting as a job asks for it, with what its script gives
+abbrev pub run_on : Asked → Source → Setting → Outcome
+run_on job script on = of_run (run_output on.platform on.deployment (has_script job.request) job.budget (show_of job.request job.quiet) script)
 
-abbrev pub or_refused : Terms → Source → Result Setting Refusal → Outcome
-or_refused terms script (Ok on) = run_on terms script on
-or_refused terms script (Err why) = refusal_outcome why
+abbrev pub or_refused : Asked → Source → Result Setting Refusal → Outcome
+or_refused job script (Ok on) = run_on job script on
+or_refused job script (Err why) = refusal_outcome why
 
 -- What a job comes to with so many contexts, by what the three parts gave: the platform, the deployment, the run; the
 -- first that ends the call decides.
 abbrev pub outcome : Asked → ℕ → Source → Source → Source → Outcome
 outcome job contexts platform deployment script =
-    or_refused (terms_of job) script (setting job.request contexts platform deployment)
+    or_refused job script (setting job.request contexts platform deployment)
 
 -- how many contexts a job takes of so many
-abbrev pub taken : Asked → ℕ → Source → Source → ℕ
-taken job contexts platform deployment = seats (setting job.request contexts platform deployment)
+abbrev pub contexts_for : Asked → ℕ → Source → Source → ℕ
+contexts_for job contexts platform deployment = contexts_in (setting job.request contexts platform deployment)
 
 -- a failed write or want of memory cuts the call off
 abbrev pub is_cut : Status → Bool
-is_cut status.Completed = false
-is_cut status.Words = false
-is_cut status.Platform = false
-is_cut status.Deployment = false
-is_cut status.Script = false
-is_cut status.Deadlock = false
-is_cut status.Starved = false
-is_cut status.Budget = false
-is_cut status.Route = false
-is_cut status.ReadFault = false
 is_cut status.WriteFault = true
 is_cut status.Memory = true
+is_cut other = false
 
 -- the words, the platform or the deployment are refused
 abbrev pub is_refusal : Status → Bool
-is_refusal status.Completed = false
 is_refusal status.Words = true
 is_refusal status.Platform = true
 is_refusal status.Deployment = true
-is_refusal status.Script = false
-is_refusal status.Deadlock = false
-is_refusal status.Starved = false
-is_refusal status.Budget = false
-is_refusal status.Route = false
-is_refusal status.ReadFault = false
-is_refusal status.WriteFault = false
-is_refusal status.Memory = false
+is_refusal other = false
 
--- the outcome is there whole, with its status, or it was cut off and fronts of its texts are there
+-- the outcome is there whole, with its status
+abbrev pub IsWhole : Outcome → Status → (Stream → Option (List ℕ)) → (Stream → Option (List ℕ)) → Type 0
+IsWhole want how old new = (want.status ≡ how) × GainsAll want.out want.err old new
+
+-- the outcome is there whole, or it was cut off and fronts of its texts are there
 abbrev pub Prints : Outcome → Status → (Stream → Option (List ℕ)) → (Stream → Option (List ℕ)) → Type 0
-Prints want how old new = MatchBool (is_cut how) (GainsFronts want.out want.err old new) ((want.status ≡ how) × GainsAll want.out want.err old new)
+Prints want how old new = MatchBool (is_cut how) (GainsFronts want.out want.err old new) (IsWhole want how old new)
 
--- where the call wasn't cut off, the count went on by the work at least
-abbrev pub Counts : Outcome → Status → ℕ → ℕ → Type 0
-Counts want how start count = is_cut how ≡ false → start + want.work ≤ count
-
--- what a call has come to: what it printed, and what it counted
+-- what a call has come to: what it printed, and that it counted no more than the work, also where it was cut off
 pub record HasOutcome (want : Outcome) (how : Status) (old new : Stream → Option (List ℕ)) (start count : ℕ) : Type 0 where
   pub prints : Prints want how old new
-  pub counts : Counts want how start count
+  pub counts : count ≤ start + want.work
+
+-- A text was told for one of these kinds: help and the version on Out, with the status of success; any other on Err.
+pub record TellsWords (kinds : Kinds) (how : Status) (old new : Stream → Option (List ℕ)) : Type 0 where
+  pub kind : ErrorKind
+  pub among : IsAmong kind kinds
+  pub text : List ℕ
+  pub help : IsHelp kind → Prints (one_text stream.Out text status.Completed) how old new
+  pub other : ¬ IsHelp kind → Prints (one_text stream.Err text status.Words) how old new

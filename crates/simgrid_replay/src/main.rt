@@ -1,19 +1,20 @@
 //! SimGrid's S4U simulation kernel and trace replay, in whole numbers, as a program.
 #![tactic(auto)]
 
-mod churning;
-mod parts;
-mod preparing;
+mod churn_setup;
+mod fitting;
+mod job_run;
+mod loading;
 mod real_files;
 mod real_sinks;
 mod refusal;
-mod routed;
-mod run_terms;
-mod running;
-mod suiting;
-mod telling;
+mod reports;
+mod routed_platform;
+mod setups;
 #[cfg(test)]
 mod testing;
+#[cfg(test)]
+mod tests_failing;
 #[cfg(test)]
 mod tests_faults;
 #[cfg(test)]
@@ -21,10 +22,12 @@ mod tests_jobs;
 #[cfg(test)]
 mod tests_limits;
 #[cfg(test)]
+mod tests_malicious;
+#[cfg(test)]
 mod tests_runs;
 #[cfg(test)]
 mod tests_threads;
-mod top;
+mod whole_call;
 
 ghost use Rattle.std.specs.Prelude.{◌≡◌, ◌<◌, [], length, All, None, IfOk, IfErr};
 ghost use Rattle.std.specs.Process.{exit_status};
@@ -42,7 +45,7 @@ use std::marker::Brand;
 use std::process::ExitCode;
 use std::sync::ledger::{Blank, Ledger};
 use std::thread::Threads;
-use top::simgrid;
+use whole_call::simgrid;
 
 /// How many contexts of each kind there are.
 const PAIRS: u32 = 2048;

@@ -3,7 +3,7 @@ ghost use Rattle.std.specs.Prelude.{◌≡◌, ◌==◌, ◌<◌, ◌≤◌, if�
 ghost use Rattle.std.specs.Io.KnownBytes.{ReadConsumes};
 ghost use Rattle.sg_edge.specs.declared.files.Stage.TheVariants.{Fresh, Begun, Over, Broken};
 ghost use Rattle.sg_edge.specs.Files.{Begins, Breaks, Takes};
-ghost use Rattle.simgrid_replay.specs.RealFiles.{is_input as is_input_spec};
+ghost use Rattle.simgrid_replay.specs.kept.RealFiles.{is_input as is_input_spec};
 
 use sg_edge::{Failed, Files, Part, Stage};
 use std::fs::{self, File};
@@ -30,7 +30,7 @@ fn is_input(part: Part, name: &str) -> bool
 }
 
 impl Source {
-    ghost use Rattle.simgrid_replay.specs.RealFiles.{comes_from_input, is_input};
+    ghost use Rattle.simgrid_replay.specs.kept.RealFiles.{comes_from_input, is_input};
 
     // What a part of this name is read from.
     fn open(rt: &HostRuntime, part: Part, name: &str) -> Result<Source, Failed>
@@ -77,7 +77,7 @@ pub struct RealPart {
 }
 
 impl RealPart {
-    ghost use Rattle.simgrid_replay.specs.RealFiles.{real_view};
+    ghost use Rattle.simgrid_replay.specs.kept.RealFiles.{real_view};
 
     fn new() -> RealPart
         ensures { result.stage ≡ Fresh }
@@ -134,7 +134,7 @@ pub struct RealFiles {
 }
 
 impl RealFiles {
-    ghost use Rattle.simgrid_replay.specs.RealFiles.{real_files};
+    ghost use Rattle.simgrid_replay.specs.kept.RealFiles.{real_files};
 
     /// Three parts that nobody has opened.
     pub fn new(rt: HostRuntime) -> RealFiles
@@ -150,7 +150,7 @@ impl RealFiles {
 }
 
 impl Files for RealFiles {
-    ghost use Rattle.simgrid_replay.specs.RealFiles.{real_files, real_over, real_unnamed};
+    ghost use Rattle.simgrid_replay.specs.kept.RealFiles.{real_files, real_over, real_unnamed};
 
     ghost shows = { real_files };
 

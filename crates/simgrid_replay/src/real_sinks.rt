@@ -1,7 +1,7 @@
 //! The real outputs: calls are passed on to std, and no contract can say what they hold.
 ghost use Rattle.std.specs.Prelude.{◌≡◌, ◌<◌, ◌≤◌, length, IfOk, None};
 ghost use Rattle.std.specs.Io.KnownBytes.{WriteAppends};
-ghost use Rattle.sg_edge.specs.Calls.{one_if};
+ghost use Rattle.sg_edge.specs.Sinks.{one_if};
 
 use sg_edge::{Failed, Sinks, Stream};
 use std::io::Write;
@@ -55,7 +55,7 @@ impl RealSinks {
 }
 
 impl Sinks for RealSinks {
-    ghost held = { λ m s. None };
+    ghost contents = { λ m s. None };
 
     ghost faults = { λ m. one_if m.broken };
 

@@ -3,7 +3,7 @@ ghost use Rattle.std.specs.Prelude.{◌≡◌, ◌<◌, All, None, IfOk};
 ghost use Rattle.sg_edge.specs.declared.files.Part.{Part};
 ghost use Rattle.sg_edge.specs.declared.files.Stage.TheVariants.{Fresh};
 
-use crate::top::simgrid;
+use crate::whole_call::simgrid;
 use sg_actor::{Actor, PlainContext, TapeContext, all_blank};
 use sg_base::{Memory, Steps};
 use sg_edge::{Files, MemFiles, MemSinks, Sinks, Stream};

@@ -1,11 +1,9 @@
 //! Calls near the limits, with ample memory.
 use crate::testing::{Call, FAST, Kinds, LINE, ONE, REPLAY, TWO, call_of, compare};
 use sg_base::Memory;
+use sg_platform::GREATEST_TEXT;
 use std::alloc::Global;
 use std::test::Fail;
-
-/// The greatest platform or deployment, in bytes.
-const GREATEST_TEXT: usize = 16_777_216;
 
 /// A text that is read in under a second or two.
 const LONG_TEXT: usize = 1_048_576;

@@ -1,69 +1,9 @@
-//! That the turns of a round run side by side, as many as there are workers.
+//! That the turns of a round run side by side, as many as there are threads.
 use crate::testing::{LINE, TWO, blank_crew, call_of, make};
-use sg_actor::{Actor, PlainContext, Role};
-use sg_base::{Answer, Call, Memory};
-use std::alloc::Global;
+use sg_actor::{Actor, Meeter};
 use std::sync::Arc;
 use std::sync::atomic::{AtomicU64, Ordering};
 use std::test::Fail;
-
-/// An actor that waits in one of its turns until so many have come there.
-#[derive(Drop)]
-struct Meeter {
-    inner: PlainContext,
-    /// How many turns are left until that one.
-    turns: u32,
-    wanted: u64,
-    here: Arc<AtomicU64>,
-    /// How many have waited for nothing.
-    missed: Arc<AtomicU64>,
-}
-
-impl Actor for Meeter {
-    ghost mind = { λ s. s.inner };
-
-    fn is_blank(&self) -> bool {
-        self.inner.is_blank()
-    }
-
-    fn cast(&mut self, role: &Role) -> Result<(), Memory> {
-        self.inner.cast(role)
-    }
-
-    fn turn(&mut self, answer: Answer) -> Call {
-        if self.turns == 1 {
-            self.here.fetch_add(1, Ordering::SeqCst);
-            let mut met = false;
-            for _i in 0..1_000_000_000u32 {
-                if self.here.load(Ordering::SeqCst) == self.wanted {
-                    met = true;
-                    break;
-                }
-            }
-            if !met {
-                self.missed.fetch_add(1, Ordering::SeqCst);
-            }
-        }
-        self.turns = self.turns.saturating_sub(1);
-        self.inner.turn(answer)
-    }
-}
-
-fn meeter_at(
-    alloc: Global,
-    turns: u32,
-    wanted: u64,
-    here: &Arc<AtomicU64>,
-    missed: &Arc<AtomicU64>,
-) -> Result<Meeter, Fail> {
-    Ok(Meeter {
-        inner: PlainContext::new(alloc),
-        turns,
-        wanted,
-        here: Arc::try_clone(here)?,
-        missed: Arc::try_clone(missed)?,
-    })
-}
 
 const THREE: &str = "actor = [
     {name = 'p0', host = 'h1', function = 'replay'},
@@ -119,7 +59,8 @@ fn turns_run_side_by_side(rt: HostRuntime) -> Result<(), Fail> {
         let missed = Arc::new(alloc, AtomicU64::new(0))?;
         let mut crew: Vec<Box<dyn Actor + Send>> = Vec::new(alloc);
         for _i in 0..actors {
-            let meeter = meeter_at(alloc, turns, wanted, &here, &missed)?;
+            let (here, missed) = (Arc::try_clone(&here)?, Arc::try_clone(&missed)?);
+            let meeter = Meeter::new(alloc, turns, wanted, here, missed);
             crew.push(Box::new(alloc, meeter)?)?;
         }
         let mut crew = blank_crew(crew)?;

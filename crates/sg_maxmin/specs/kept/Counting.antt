@@ -1,26 +1,28 @@
 -- What one pass over the rows counts.
-use Rattle.std.specs.Prelude.{◌≡◌, ℕ, ◌-◌, ◌/◌, ◌<◌, ◌≤◌, ◌==◌, ◌&&◌, ◌⊎◌, Option, None, Some, is_none, if◌then◌else◌, List, [], ◌++◌, map, filter, filter_map, flat_map, length, slice_index, slice_index_or, sum_by, count_by, unwrap_or, option_to_list, option_map, Contains, min}
+use Rattle.std.specs.Prelude.{◌≡◌, ℕ, ◌-◌, ◌*◌, ◌/◌, ◌<◌, ◌≤◌, ◌==◌, ◌&&◌, ◌⊎◌, Option, None, Some, is_none, if◌then◌else◌, List, [], ◌++◌, map, filter, filter_map, flat_map, length, slice_index, slice_index_or, sum_by, count_by, unwrap_or, option_to_list, option_map, Contains, min}
 use Rattle.sg_maxmin.specs.declared.flow_row.FlowRow.{FlowRow}
-use Rattle.sg_maxmin.specs.declared.uses.Use.{Use}
-use Rattle.sg_maxmin.specs.Fill.{Fixed, is_on, share_of}
+use Rattle.sg_chains.specs.declared.uses.Use.{Use}
+use Rattle.sg_chains.specs.Chain.{resources}
+use Rattle.sg_maxmin.specs.Fill.{Fixed, is_on, bounded, bound_level, level_of}
 use Rattle.sg_maxmin.specs.Sharing.{held}
-use Rattle.sg_maxmin.specs.kept.Uses.{AreRows, flow_of, flows_of, resources}
-
--- how often a resource stands in a list
-abbrev pub times : ℕ → List ℕ → ℕ
-times resource list = count_by (λ other. other == resource) list
+use Rattle.sg_maxmin.specs.kept.Uses.{AreRows, flow_of, flows_of}
 
 -- the rows that are there
 abbrev pub rows_held : List (Option FlowRow) → List FlowRow
 rows_held rows = filter_map (λ row. row) rows
 
+-- the share of a row that is fixed at this level
+abbrev pub row_share : FlowRow → Option ℕ → ℕ
+row_share row None = 0
+row_share row (Some level) = bounded row.bound (row.weight * level)
+
 -- the sum of the fixed shares on the resource
 abbrev pub taken_on : List (Option FlowRow) → List (Option Use) → ℕ → ℕ
-taken_on rows uses resource = sum_by (λ row. if is_on resource (flow_of uses row) then unwrap_or row.share 0 else 0) (rows_held rows)
+taken_on rows uses resource = sum_by (λ row. if is_on resource (flow_of uses row) then row_share row row.level else 0) (rows_held rows)
 
--- the number of unfixed flows on it
+-- the sum of the weights of the unfixed flows on it
 abbrev pub waiting_on : List (Option FlowRow) → List (Option Use) → ℕ → ℕ
-waiting_on rows uses resource = count_by (λ row. is_on resource (flow_of uses row) && is_none row.share) (rows_held rows)
+waiting_on rows uses resource = sum_by (λ row. if is_on resource (flow_of uses row) && is_none row.level then row.weight else 0) (rows_held rows)
 
 -- both, at each resource
 pub record AreCounted (capacities : List ℕ) (rows : List (Option FlowRow)) (uses : List (Option Use)) (left waiting : List ℕ) : Type 0 where
@@ -31,7 +33,7 @@ pub record AreCounted (capacities : List ℕ) (rows : List (Option FlowRow)) (us
 
 -- the limits of a row
 abbrev pub row_limits : List ℕ → List ℕ → List (Option Use) → FlowRow → List ℕ
-row_limits left waiting uses row = option_to_list row.bound ++ map (λ c. slice_index left c / slice_index waiting c) (resources row.count uses row.first)
+row_limits left waiting uses row = option_to_list (option_map (bound_level row.weight) row.bound) ++ map (λ c. slice_index left c / slice_index waiting c) (resources row.count uses row.first)
 
 -- the least of the list, or none where it is empty
 abbrev pub IsLeast : Option ℕ → List ℕ → Type 0
@@ -39,20 +41,20 @@ IsLeast None list = list ≡ []
 IsLeast (Some least) list = Contains list least × ((x : ℕ) → Contains list x → least ≤ x)
 
 abbrev pub all_limits : List ℕ → List ℕ → List (Option Use) → List (Option FlowRow) → List ℕ
-all_limits left waiting uses rows = flat_map (row_limits left waiting uses) (filter (λ row. is_none row.share) (rows_held rows))
+all_limits left waiting uses rows = flat_map (row_limits left waiting uses) (filter (λ row. is_none row.level) (rows_held rows))
 
 abbrev pub least_with : Option ℕ → ℕ → ℕ
 least_with None level = level
 least_with (Some least) level = min least level
 
--- what one row adds to the shares on a resource, and to the flows that wait there
+-- what one row adds to the shares on a resource, and to the weights that wait there
 abbrev pub row_taken : List (Option Use) → Option FlowRow → ℕ → ℕ
 row_taken uses None resource = 0
-row_taken uses (Some row) resource = if is_on resource (flow_of uses row) then unwrap_or row.share 0 else 0
+row_taken uses (Some row) resource = if is_on resource (flow_of uses row) then row_share row row.level else 0
 
 abbrev pub row_waiting : List (Option Use) → Option FlowRow → ℕ → ℕ
 row_waiting uses None resource = 0
-row_waiting uses (Some row) resource = if is_on resource (flow_of uses row) && is_none row.share then 1 else 0
+row_waiting uses (Some row) resource = if is_on resource (flow_of uses row) && is_none row.level then row.weight else 0
 
 abbrev pub row_count : Option FlowRow → ℕ
 row_count None = 0
@@ -64,34 +66,34 @@ count_of rows = sum_by (λ row. row.count) (rows_held rows)
 
 -- an unfixed flow that is at this level gets it, and else all stays
 abbrev pub IsStepped : ℕ → Type 0 → Option ℕ → Option ℕ → Type 0
-IsStepped low at (Some share) after = after ≡ Some share
+IsStepped low at (Some level) after = after ≡ Some level
 IsStepped low at None after = (at × (after ≡ Some low)) ⊎ ((at → ⊥) × (after ≡ None))
 
 -- the same of a row
 abbrev pub RowSteps : ℕ → (FlowRow → List ℕ) → Option FlowRow → Option FlowRow → Type 0
 RowSteps low limits None after = after ≡ None
-RowSteps low limits (Some row) after = (share : Option ℕ) × (after ≡ Some (record row { share = share })) × IsStepped low (IsLeast (Some low) (limits row)) row.share share
+RowSteps low limits (Some row) after = (level : Option ℕ) × (after ≡ Some (record row { level = level })) × IsStepped low (IsLeast (Some low) (limits row)) row.level level
 
--- the row, with this share
-abbrev pub with_share : Option ℕ → FlowRow → FlowRow
-with_share share row = record row { share = share }
+-- the row, fixed at this level
+abbrev pub with_level : Option ℕ → FlowRow → FlowRow
+with_level level row = record row { level = level }
 
 -- the limits of a row that isn't fixed
 abbrev pub unfixed_limits : (FlowRow → List ℕ) → Option FlowRow → List ℕ
 unfixed_limits limits None = []
-unfixed_limits limits (Some row) = if is_none row.share then limits row else []
+unfixed_limits limits (Some row) = if is_none row.level then limits row else []
 
--- the same rows, but for their shares
+-- the same rows, but for their levels
 abbrev pub SameRows : List (Option FlowRow) → List (Option FlowRow) → Type 0
-SameRows old new = (key : ℕ) → option_map (with_share None) (slice_index_or new key None) ≡ option_map (with_share None) (slice_index_or old key None)
+SameRows old new = (key : ℕ) → option_map (with_level None) (slice_index_or new key None) ≡ option_map (with_level None) (slice_index_or old key None)
 
--- each row's share is that of its flow among the flows of all rows
-abbrev pub AreRowShares : List ℕ → List (Option Use) → List (Option FlowRow) → Type 0
-AreRowShares capacities uses rows = (key : ℕ) (row : FlowRow) → slice_index_or rows key None ≡ Some row → row.share ≡ Some (share_of capacities (held (flows_of rows uses)) (flow_of uses row))
+-- each row is fixed at the level of its flow among the flows of all rows
+abbrev pub AreRowLevels : List ℕ → List (Option Use) → List (Option FlowRow) → Type 0
+AreRowLevels capacities uses rows = (key : ℕ) (row : FlowRow) → slice_index_or rows key None ≡ Some row → row.level ≡ Some (level_of capacities (held (flows_of rows uses)) (flow_of uses row))
 
 -- where filling stands after so many steps: each row is as fixed as its flow
 abbrev pub AreFixed : List (Option Use) → List (Option FlowRow) → Fixed → Type 0
-AreFixed uses rows fixed = (key : ℕ) (row : FlowRow) → slice_index_or rows key None ≡ Some row → row.share ≡ fixed (flow_of uses row)
+AreFixed uses rows fixed = (key : ℕ) (row : FlowRow) → slice_index_or rows key None ≡ Some row → row.level ≡ fixed (flow_of uses row)
 
 -- the rows, with a place for each resource in what is left and in how many wait
 pub record HavePlaces (rows : List (Option FlowRow)) (uses : List (Option Use)) (left waiting : List ℕ) : Type 0 where

@@ -1,35 +1,123 @@
-use Rattle.std.proofs.Common.{◌≡◌, ◌+◌, ◌*◌, length, false, None, Some, sym, ap, ap₂, subst, ◌∙◌, refl, arith}
-use Rattle.sg_maxmin.specs.Fill.{flow}
+use Rattle.std.proofs.Common.{◌≡◌, ◌+◌, ◌-◌, ◌*◌, ◌<◌, ◌≤◌, ℕ, All, true, false, None, Some, Option, option_map, List, [], ◌∷◌, ◌++◌, length, length-set, get_or, set, sum_by, sym, ap, ap₂, subst, ◌∙◌, refl, arith}
+use Rattle.std.proofs.lemmas.List.{get_or_default}
+use Rattle.sg_base.specs.declared.ids.LinkId.{LinkId}
+use Rattle.sg_base.specs.MarkSet.{MarkSet}
+use Rattle.sg_maxmin.specs.Fill.{Flow, flow}
 use Rattle.sg_maxmin.specs.Sharing.{IsFlow}
-use Rattle.sg_activity.specs.declared.rows.Row.{Row}
+use Rattle.sg_lazy.specs.Lazily.{Lazily}
+use Rattle.sg_lazy.specs.RunningFlow.{RunningFlow}
+use Rattle.sg_activity.specs.declared.kept.Kept.{Kept}
 use Rattle.sg_activity.specs.declared.kinds.PhaseKind.TheVariants as phase
-use Rattle.sg_activity.specs.Links.{capacities_of, machines, route_bound, shared_of}
+use Rattle.sg_activity.specs.declared.lives.Live.{Live}
+use Rattle.sg_activity.specs.Links.{capacities_of, route_bound, shared_of}
 use Rattle.sg_activity.specs.Slots.{sooner}
-use Rattle.sg_activity.proofs.Times.{sooner_never}
+use Rattle.sg_activity.specs.kept.State.{State, state_of, links_at, under_of}
+use Rattle.sg_activity.specs.kept.Sound.{IsKept, IsSound, IsWay, flows_ahead, slot_ahead}
+use Rattle.sg_activity.specs.kept.Turns.{Turns}
+use Rattle.sg_activity.proofs.Pairing.{there_within}
+use Rattle.sg_activity.proofs.Roomy.{ahead_set, ahead_counted}
 use Rattle.sg_activity.proofs.Routed.{way_is_flow}
-use Rattle.sg_activity.proofs.Replaced.{way_under, flow_begins}
+use Rattle.sg_activity.proofs.Times.{sooner_never}
+use Rattle.sg_activity.proofs.Told.{new_mark}
+use Rattle.sg_activity.proofs.Turned.{turned}
+use Rattle.sg_activity.proofs.Turning.{begun_state, state_same, flow_turns, flow_begins, flow_under}
 use Rattle.sg_activity.proofs.phases.begin_flow.Goals as goal
 
-pub add-requires-clause-flow : goal.add-requires-clause-flow
-add-requires-clause-flow c =
-    let capacities = machines c.args.hosts.now c.args.links.now in
-    let way = c.in-Some.way.now in
-    let is = way_under capacities c.args.system.now.slots c.args.ways.now.slots c.args.row c.in-Way.key way c.requires.held c.requires.kind c.in-Way.is (sym c.in-Some.ensures) in
-    let asked : flow c.as_slice.result.now c.bound_of.result ≡ flow (shared_of (length c.args.hosts.now) c.args.links.now way.links.items) (sooner (route_bound c.args.links.now way.links.items) None) =
-    ap₂ flow (c.as_slice.ensures.value ∙ c.uses_of-uses.ensures ∙ ap (shared_of (length c.args.hosts.now) c.args.links.now) c.as_slice-route.ensures.value)
-    (c.bound_of.ensures ∙ ap (route_bound c.args.links.now) c.as_slice-route.ensures.value ∙ sym (sooner_never (route_bound c.args.links.now way.links.items))) in
-    subst (λ l. IsFlow l (flow c.as_slice.result.now c.bound_of.result)) (sym c.requires.capacities)
-    (subst (IsFlow (capacities_of capacities)) (sym asked) (way_is_flow capacities way.links.items is.0))
+-- the way of a latency
+way_of : (kept : Kept) (key : ℕ) (live : Live) → IsSound kept → get_or kept.lives.slots key None ≡ Some live → live.kind ≡ phase.Latency → IsWay (state_of kept).capacities (links_at kept.ways.items key)
+way_of kept key live sound at latency = (sound.are.each key live at).over latency
+
+-- what is read is what stands there
+read : (kept : Kept) (key : ℕ) (live : Live) (links : List LinkId) → IsSound kept → get_or kept.lives.slots key None ≡ Some live → links ≡ get_or kept.ways.items key links → links ≡ links_at kept.ways.items key
+read kept key live links sound at is = is ∙ get_or_default kept.ways.items key links [] (omega (arith, there_within kept.lives.slots key live at, sound.room.ways_long))
+
+pub uses_of-uses-requires-clause-exist : goal.uses_of-uses-requires-clause-exist
+uses_of-uses-requires-clause-exist c =
+    let kept = c.args.kept.now in
+    let route = c.route-route.ensures ∙ read kept c.args.key c.args.live c.index.result.now c.requires.sound c.requires.at c.index.ensures in
+    let way = way_of kept c.args.key c.args.live c.requires.sound c.requires.at c.requires.kind in
+    subst (λ l. All (λ (link : LinkId). link.0 < length l) c.route-route.result.now) (sym c.deref.ensures.value)
+    (subst (All (λ (link : LinkId). link.0 < length kept.links.items)) (sym route) way.exist)
+
+pub uses_of-uses-requires-clause-few : goal.uses_of-uses-requires-clause-few
+uses_of-uses-requires-clause-few c =
+    let kept = c.args.kept.now in
+    let route = c.route-route.ensures ∙ read kept c.args.key c.args.live c.index.result.now c.requires.sound c.requires.at c.index.ensures in
+    let way = way_of kept c.args.key c.args.live c.requires.sound c.requires.at c.requires.kind in
+    omega (arith, way.few, ap length route)
+
+pub bound_of-bound-requires : goal.bound_of-bound-requires
+bound_of-bound-requires c =
+    let kept = c.args.kept.now in
+    let route = c.route-route.ensures ∙ read kept c.args.key c.args.live c.index.result.now c.requires.sound c.requires.at c.index.ensures in
+    let way = way_of kept c.args.key c.args.live c.requires.sound c.requires.at c.requires.kind in
+    subst (λ l. All (λ (link : LinkId). link.0 < length l) c.route-route.result.now) (sym c.deref-2.ensures.value)
+    (subst (All (λ (link : LinkId). link.0 < length kept.links.items)) (sym route) way.exist)
+
+pub start-flow-requires-clause-flow : goal.start-flow-requires-clause-flow
+start-flow-requires-clause-flow c =
+    let kept = c.args.kept.now in
+    let s : State = state_of kept in
+    let links = links_at kept.ways.items c.args.key in
+    let route = c.route-route.ensures ∙ read kept c.args.key c.args.live c.index.result.now c.requires.sound c.requires.at c.index.ensures in
+    let way = way_of kept c.args.key c.args.live c.requires.sound c.requires.at c.requires.kind in
+    let hosts : c.len.result ≡ length kept.hosts.items = c.len.ensures ∙ kept.hosts.ok.0 in
+    let uses : c.as_slice.result.now ≡ shared_of (length kept.hosts.items) kept.links.items links = c.as_slice.ensures.value ∙ c.uses_of-uses.ensures ∙ ap (λ n. shared_of n c.deref.result.now c.route-route.result.now) hosts
+    ∙ ap₂ (shared_of (length kept.hosts.items)) c.deref.ensures.value route in
+    let bound : c.bound_of-bound.result ≡ sooner (route_bound kept.links.items links) None = c.bound_of-bound.ensures ∙ ap₂ route_bound c.deref-2.ensures.value route ∙ sym (sooner_never (route_bound kept.links.items links)) in
+    subst (λ l. IsFlow l (flow c.as_slice.result.now 1 c.bound_of-bound.result)) (sym c.requires.sound.room.capacities)
+    (subst (IsFlow (capacities_of s.capacities)) (sym (ap₂ (λ u b. flow u 1 b) uses bound)) (way_is_flow s.capacities links way))
 
 pub returns : goal.returns
 returns c =
-    let capacities = machines c.args.hosts.now c.args.links.now in
-    let way = c.in-Some.way.now in
-    let next : Row = record c.args.row { kind = phase.Flow; left = c.from.result * 1000000000; flow = c.add.result; due = false; done = false } in
-    let asked : flow c.as_slice.result.now c.bound_of.result ≡ flow (shared_of (length c.args.hosts.now) c.args.links.now way.links.items) (sooner (route_bound c.args.links.now way.links.items) None) =
-    ap₂ flow (c.as_slice.ensures.value ∙ c.uses_of-uses.ensures ∙ ap (shared_of (length c.args.hosts.now) c.args.links.now) c.as_slice-route.ensures.value)
-    (c.bound_of.ensures ∙ ap (route_bound c.args.links.now) c.as_slice-route.ensures.value ∙ sym (sooner_never (route_bound c.args.links.now way.links.items))) in
-    let added = c.add.ensures in
-    flow_begins capacities c.args.system.now c.add.new.self c.args.ways.now c.args.row next c.in-Way.key way (flow c.as_slice.result.now c.bound_of.result) c.requires.held c.requires.kind c.in-Way.is (sym c.in-Some.ensures)
-    (ap (λ n. record c.args.row { kind = phase.Flow; left = n * 1000000000; flow = c.add.result; due = false; done = false }) c.from.ensures)
-    asked added.capacities added.free added.added added.flow_room added.use_room (omega (arith, c.as_slice.ensures.fits))
+    let kept = c.args.kept.now in
+    let s : State = state_of kept in
+    let sound = c.requires.sound in
+    let key = c.args.key in
+    let old = c.args.live in
+    let id = c.start-flow.result in
+    let links = links_at kept.ways.items key in
+    let route = c.route-route.ensures ∙ read kept key old c.index.result.now sound c.requires.at c.index.ensures in
+    let way = way_of kept key old sound c.requires.at c.requires.kind in
+    let hosts : c.len.result ≡ length kept.hosts.items = c.len.ensures ∙ kept.hosts.ok.0 in
+    let uses : c.as_slice.result.now ≡ shared_of (length kept.hosts.items) kept.links.items links = c.as_slice.ensures.value ∙ c.uses_of-uses.ensures ∙ ap (λ n. shared_of n c.deref.result.now c.route-route.result.now) hosts
+    ∙ ap₂ (shared_of (length kept.hosts.items)) c.deref.ensures.value route in
+    let bound : c.bound_of-bound.result ≡ sooner (route_bound kept.links.items links) None = c.bound_of-bound.ensures ∙ ap₂ route_bound c.deref-2.ensures.value route ∙ sym (sooner_never (route_bound kept.links.items links)) in
+    let asked : Flow = flow (shared_of (length kept.hosts.items) kept.links.items links) 1 (sooner (route_bound kept.links.items links) None) in
+    let run : RunningFlow = record { flow = asked; rate = 0; began = true } in
+    let live : Live = record old { kind = phase.Flow; kept = old.bytes * 1000000000; stamp = kept.date; rate = 0; flow = id } in
+    let within = there_within s.slots key old c.requires.at in
+    let keys_in : key < length s.keys = omega (arith, within, sound.room.agenda_long) in
+    let by_in : id < length s.by_flow = omega (arith, c.start-flow.ensures.in_range, sound.room.by_flow_long) in
+    let starts = c.start-flow.ensures.starts in
+    let runs : c.start-flow.new.self.slots ≡ set s.runs id (Some run) = ap (λ (l : Lazily). l.slots) starts ∙ ap₂ (λ u b. set s.runs id (Some (record { flow = flow u 1 b; rate = 0; began = true }))) uses bound in
+    let lives : c.set.new.self.slots ≡ set s.slots key (Some live) = c.set.ensures.slots ∙ ap (λ n. set s.slots key (Some (record old { kind = phase.Flow; kept = n * 1000000000; stamp = kept.date; rate = 0; flow = id }))) c.from.ensures in
+    let new : State = begun_state s s.drawn key live s.ways (set s.keys key None) (set s.runs id (Some run)) (set s.by_flow id key) in
+    let turns : Turns s new key live.serial (Some live) =
+    flow_turns s s.drawn key live (set s.keys key None) sound.are (flow_begins s key old live sound.are c.requires.at c.requires.kind within keys_in refl refl refl refl) refl refl c.start-flow.ensures.free c.start-flow.ensures.in_range by_in (way_is_flow s.capacities links way).limit in
+    let state_is = state_same s s.drawn false c.set.new.self.slots (set s.slots key (Some live)) s.ways s.ways c.clear.new.self (set s.keys key None) c.start-flow.new.self.slots (set s.runs id (Some run)) (set s.by_flow id key) (set s.by_flow id key) c.insert.new.self.members (s.fresh ++ key ∷ []) c.start-flow.new.self.ended s.ended
+    lives refl c.clear.ensures runs refl (ap (λ (m : MarkSet). m.members) c.insert.ensures ∙ new_mark key s.fresh c.requires.stale) (ap (λ (l : Lazily). l.ended) starts) in
+    let counted = ahead_counted s.slots key old within c.requires.at in
+    record {
+      slot = Some live;
+      turns = subst (λ st. Turns s st key live.serial (Some live)) (sym state_is) turns;
+      under = ap under_of state_is ∙ flow_under s key old live (set s.keys key None) (set s.runs id (Some run)) (set s.by_flow id key) sound.are c.requires.at c.requires.kind c.requires.stale refl turns;
+      drawn = refl;
+      sound = record {
+        are = subst IsKept (sym state_is) (turned s new key live.serial (Some live) sound.are turns);
+        room = record {
+          capacities = ap (λ (l : Lazily). l.capacities) starts ∙ sound.room.capacities;
+          few = sound.room.few;
+          early = sound.room.early;
+          flows = omega (arith, sound.room.flows, counted, ap flows_ahead c.requires.kind, ahead_set s.slots key (Some live) within, ap slot_ahead c.requires.at, ap (sum_by slot_ahead) lives);
+          flow_room = omega (arith, sound.room.flow_room, ap (λ (l : Lazily). l.flow_room) starts);
+          use_room = omega (arith, sound.room.use_room, sound.room.flows, counted, ap flows_ahead c.requires.kind, ap (λ (l : Lazily). l.use_room) starts, c.as_slice.ensures.fits);
+          keys_free = omega (arith, sound.room.keys_free, c.set.ensures.room);
+          ways_long = omega (arith, sound.room.ways_long, ap length lives, length-set s.slots key (Some live));
+          agenda_long = omega (arith, sound.room.agenda_long, ap length lives, length-set s.slots key (Some live), ap length c.clear.ensures, length-set s.keys key None);
+          fresh_room = omega (arith, sound.room.fresh_room, ap length lives, length-set s.slots key (Some live), ap (λ (m : MarkSet). m.room) c.insert.ensures);
+          by_flow_long = omega (arith, sound.room.by_flow_long, ap length runs, length-set s.runs id (Some run), length-set s.by_flow id key);
+        };
+      };
+      room = refl;
+    }

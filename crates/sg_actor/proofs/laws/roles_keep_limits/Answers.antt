@@ -7,7 +7,7 @@ use Rattle.sg_base.specs.Mind.{IsMind}
 use Rattle.sg_actor.specs.declared.role.Role.{Role}
 use Rattle.sg_actor.specs.declared.role.Role.TheVariants as role
 use Rattle.sg_actor.specs.Roles.{mind_of, number_of, IsRole}
-use Rattle.sg_actor.specs.Fields.{master_numbers}
+use Rattle.sg_actor.specs.kept.Fields.{master_numbers}
 use Rattle.sg_actor.proofs.laws.roles_keep_limits.Goals as goal
 
 numbers_are : (extent : Extent) (workers : List ActorId) (k : ℕ) → All (IsActorIn extent) workers → k < length workers → IsActorNumber extent (get_or (map number_of workers) k 0)

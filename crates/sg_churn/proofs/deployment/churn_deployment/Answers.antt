@@ -1,7 +1,7 @@
 use Rattle.std.proofs.Common.{List, subst, sym}
 use Rattle.sg_churn.proofs.GoodActors.{deployment_good}
-use Rattle.sg_platform.specs.OfRows.{AreActors}
-use Rattle.sg_platform.specs.declared.rows.ActorRow.{ActorRow}
+use Rattle.sg_rows.specs.OfRows.{AreActors}
+use Rattle.sg_rows.specs.declared.rows.ActorRow.{ActorRow}
 use Rattle.sg_churn.proofs.deployment.churn_deployment.Goals as goal
 
 pub of_rows-requires : goal.of_rows-requires

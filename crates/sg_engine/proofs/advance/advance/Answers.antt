@@ -1,4 +1,4 @@
-use Rattle.std.proofs.Common.{◌≡◌, ◌∙◌, sym, ap, arith, refl, subst, List, [], length, Ok, Option}
+use Rattle.std.proofs.Common.{◌≡◌, ◌≤◌, ◌+◌, ◌∙◌, sym, ap, arith, refl, subst, ℕ, List, [], length, Ok, Option}
 use Rattle.std.proofs.lemmas.List.{length-map}
 use Rattle.sg_base.specs.declared.trace_record.Record.{Record}
 use Rattle.sg_edge.specs.declared.files.Part.TheVariants.{Script}
@@ -12,7 +12,7 @@ use Rattle.sg_script.specs.Stands.{kept_of}
 use Rattle.sg_script.proofs.Chains.{reads_none}
 use Rattle.sg_engine.specs.declared.ended.Ended.{Ended}
 use Rattle.sg_engine.specs.Output.{trace_of}
-use Rattle.sg_engine.specs.Reached.{moment, script_part}
+use Rattle.sg_engine.specs.kept.Moments.{moment, script_part}
 use Rattle.sg_engine.specs.Run.{next_work, scene, round_or_pass}
 use Rattle.sg_engine.proofs.Parts.{room_for, seats_few}
 use Rattle.sg_engine.proofs.Files.{script_unread}
@@ -20,10 +20,16 @@ use Rattle.sg_engine.proofs.Simulating.{advances, cuts_off_at, cuts_off_by, kept
 use Rattle.sg_engine.proofs.Uncut.{uncut_write}
 use Rattle.sg_engine.proofs.advance.advance.Goals as goal
 
+-- room for a round changes nothing of what comes next
+next_as : (old new : Known) (start count : ℕ) → new ≡ record old { room = new.room } → count ≤ start + next_work new.core → count ≤ start + next_work old.core
+next_as old new start count same worked =
+    let next : next_work new.core ≡ next_work old.core = ap (λ (k : Known). next_work k.core) same in
+    omega (arith, next, worked)
+
 pub round_or_pass-requires-clause-roads : goal.round_or_pass-requires-clause-roads
 round_or_pass-requires-clause-roads g c κs within =
     let setup = ap (λ (k : Known). k.setup) c.in-Ok.ensures.kept in
-    subst (λ (s : Setup). AreOver s.links c.args.setup.now.router) (sym setup) c.requires.roads
+    subst (λ (s : Setup). AreOver s.links c.args.router.now) (sym setup) c.requires.roads
 
 pub returns-in-Err-clause-part : goal.returns-in-Err-clause-part
 returns-in-Err-clause-part g c = (
@@ -44,22 +50,22 @@ pub returns-in-Err-print_records-clause-part : goal.returns-in-Err-print_records
 returns-in-Err-print_records-clause-part g c = (
   c.in-Err-print_records.ensures.writes.err_held,
   λ taken world stands.
-      let names = known_in c.args.setup.now.deployment in
-      let trace = trace_of c.args.terms.show c.args.setup.now.platform c.args.setup.now.deployment in
+      let names = known_in c.args.plan.now.deployment.now in
+      let trace = trace_of c.args.plan.now.terms.show c.args.plan.now.platform.now c.args.plan.now.deployment.now in
       let old = c.args.sim.now.kernel in
       let mid = c.reserve_round.new.self in
       let new = c.round_or_pass.new.sim.kernel in
-      let part = script_part c.args.setup.now.script (g.F.Files.shows c.args.files.now Script) in
-      let part' = script_part c.args.setup.now.script (g.F.Files.shows c.round_or_pass.new.files Script) in
+      let part = script_part c.args.plan.now.script (g.F.Files.shows c.args.files.now Script) in
+      let part' = script_part c.args.plan.now.script (g.F.Files.shows c.round_or_pass.new.files Script) in
       let kept = kept_of c.args.sim.now.script in
       let kept' = kept_of c.round_or_pass.new.sim.script in
       let same : mid ≡ record old { room = mid.room } = c.in-Ok.ensures.kept in
       let reached = c.in-Ok-round_or_pass.ensures.step taken world (record { script = stands.script; core = ap (λ (k : Known). k.core) same ∙ stands.core; minds = stands.minds }) in
-      let before = g.O.Sinks.held c.args.out.now Out in
-      let after = g.O.Sinks.held c.print_records.new.out Out in
+      let before = g.O.Sinks.contents c.args.out.now Out in
+      let after = g.O.Sinks.contents c.print_records.new.out Out in
       let front : GainsFront (trace new.records) before after = subst (λ (l : List Record). GainsFront (trace l) before after) c.records.ensures.are c.in-Err-print_records.ensures.writes.front in
-      cuts_off_at names trace (λ answers. round_or_pass (scene c.args.setup.now.router old.setup c.args.setup.now.script) answers world) c.in-Ok-round_or_pass.how taken _ part part' kept kept' mid new before after
-      (scene_as names c.args.setup.now.router c.args.setup.now.script old.setup mid.setup c.in-Ok-round_or_pass.how taken _ world (moment part kept mid) (moment part' kept' new) (ap (λ (k : Known). k.setup) same) reached)
+      cuts_off_at names trace (λ answers. round_or_pass (scene c.args.router.now old.setup c.args.plan.now.script) answers world) c.in-Ok-round_or_pass.how taken _ part part' kept kept' mid new before after
+      (scene_as names c.args.router.now c.args.plan.now.script old.setup mid.setup c.in-Ok-round_or_pass.how taken _ world (moment part kept mid) (moment part' kept' new) (ap (λ (k : Known). k.setup) same) reached)
       (ap (λ (k : Known). k.records) same ∙ c.requires.kept.cleared) front,
 )
 
@@ -67,24 +73,24 @@ pub returns-clause-part : goal.returns-clause-part
 returns-clause-part g c = (
   c.in-Ok-print_records.ensures.writes.err_held,
   λ taken world stands.
-      let names = known_in c.args.setup.now.deployment in
-      let trace = trace_of c.args.terms.show c.args.setup.now.platform c.args.setup.now.deployment in
+      let names = known_in c.args.plan.now.deployment.now in
+      let trace = trace_of c.args.plan.now.terms.show c.args.plan.now.platform.now c.args.plan.now.deployment.now in
       let how = c.in-Ok-round_or_pass.how in
       let old = c.args.sim.now.kernel in
       let mid = c.reserve_round.new.self in
       let new = c.round_or_pass.new.sim.kernel in
       let new' = c.clear_records.new.self in
-      let part = script_part c.args.setup.now.script (g.F.Files.shows c.args.files.now Script) in
-      let part' = script_part c.args.setup.now.script (g.F.Files.shows c.round_or_pass.new.files Script) in
+      let part = script_part c.args.plan.now.script (g.F.Files.shows c.args.files.now Script) in
+      let part' = script_part c.args.plan.now.script (g.F.Files.shows c.round_or_pass.new.files Script) in
       let kept = kept_of c.args.sim.now.script in
       let kept' = kept_of c.round_or_pass.new.sim.script in
       let same : mid ≡ record old { room = mid.room } = c.in-Ok.ensures.kept in
       let reached = c.in-Ok-round_or_pass.ensures.step taken world (record { script = stands.script; core = ap (λ (k : Known). k.core) same ∙ stands.core; minds = stands.minds }) in
-      let before = g.O.Sinks.held c.args.out.now Out in
-      let after = g.O.Sinks.held c.print_records.new.out Out in
-      part_is names trace _ how taken _ _ _ before after c.in-Ok-round_or_pass.ensures.uncut
-      (advances names trace (λ answers. round_or_pass (scene c.args.setup.now.router old.setup c.args.setup.now.script) answers world) how taken _ part part' kept kept' old mid new before after
-      (scene_as names c.args.setup.now.router c.args.setup.now.script old.setup mid.setup how taken _ world (moment part kept mid) (moment part' kept' new) (ap (λ (k : Known). k.setup) same) reached)
+      let before = g.O.Sinks.contents c.args.out.now Out in
+      let after = g.O.Sinks.contents c.print_records.new.out Out in
+      part_is names trace _ how taken _ _ _ before after c.in-Ok-round_or_pass.ensures.script.uncut
+      (advances names trace (λ answers. round_or_pass (scene c.args.router.now old.setup c.args.plan.now.script) answers world) how taken _ part part' kept kept' old mid new before after
+      (scene_as names c.args.router.now c.args.plan.now.script old.setup mid.setup how taken _ world (moment part kept mid) (moment part' kept' new) (ap (λ (k : Known). k.setup) same) reached)
       (ap (λ (k : Known). k.records) same ∙ c.requires.kept.cleared)
       c.requires.kept.cleared
       (ap (λ (k : Known). k.setup) same)
@@ -101,7 +107,7 @@ pub returns-in-Err-clause-cause : goal.returns-in-Err-clause-cause
 returns-in-Err-clause-cause g c = record { write = λ is. cc is; sound = λ isnt. c.requires.sound; read = λ is. cc is }
 
 pub returns-in-Err-clause-script : goal.returns-in-Err-clause-script
-returns-in-Err-clause-script g c = script_unread g.F.Files.shows c.args.setup.now.script c.args.files.now
+returns-in-Err-clause-script g c = script_unread g.F.Files.shows c.args.plan.now.script c.args.files.now
 
 pub returns-in-Err-round_or_pass-clause-cause : goal.returns-in-Err-round_or_pass-clause-cause
 returns-in-Err-round_or_pass-clause-cause g c = record { write = λ is. cc is; sound = λ isnt. c.requires.sound; read = λ is. cc is }
@@ -111,9 +117,9 @@ returns-in-Err-print_records-clause-cause g c = record { write = λ is. c.in-Err
 
 pub returns-clause-cause : goal.returns-clause-cause
 returns-clause-cause g c = record {
-  write = λ is. absurd (uncut_write c.in-Ok-round_or_pass.how c.in-Ok-round_or_pass.ensures.uncut is);
+  write = λ is. absurd (uncut_write c.in-Ok-round_or_pass.how c.in-Ok-round_or_pass.ensures.script.uncut is);
   sound = λ isnt. c.in-Ok-print_records.ensures.writes.sound;
-  read = λ is. c.in-Ok-round_or_pass.ensures.read (ap (λ (h : Option Ended). Ok h) is);
+  read = λ is. c.in-Ok-round_or_pass.ensures.script.cause (ap (λ (h : Option Ended). Ok h) is);
 }
 
 pub returns-clause-kept : goal.returns-clause-kept
@@ -121,12 +127,24 @@ returns-clause-kept g c =
     let kept = c.requires.kept in
     let seats = c.round_or_pass.ensures.seats in
     let setup = seats.setup ∙ ap (λ (k : Known). k.setup) c.in-Ok.ensures.kept in
-    rw c.in-Ok-round_or_pass.ensures.uncut
-    (kept_on c.args.setup.now.deployment _ _ _ c.round_or_pass.new.sim.kernel c.round_or_pass.ensures.fits c.clear_records.ensures (ap (λ (s : Setup). length s.homes) setup ∙ kept.homes) seats.seated
+    rw c.in-Ok-round_or_pass.ensures.script.uncut
+    (kept_on c.args.plan.now.deployment.now _ _ _ c.round_or_pass.new.sim.kernel c.round_or_pass.ensures.fits c.clear_records.ensures (ap (λ (s : Setup). length s.homes) setup ∙ kept.homes) seats.seated
     (length-map c.round_or_pass.new.seats _ ∙ c.round_or_pass.auto.seats ∙ sym (length-map c.args.seats.now _) ∙ kept.number) (omega (arith, seats.calls, kept.calls)) kept.few c.in-Ok-print_records.ensures.empty)
 
 pub returns-clause-steps : goal.returns-clause-steps
-returns-clause-steps g c = λ uncut.
-    let same = c.in-Ok.ensures.kept in
-    let next : next_work c.reserve_round.new.self.core ≡ next_work c.args.sim.now.kernel.core = ap (λ (k : Known). next_work k.core) same in
-    omega (arith, next, c.round_or_pass.ensures.steps)
+returns-clause-steps g c = next_as c.args.sim.now.kernel c.reserve_round.new.self c.args.steps.now c.round_or_pass.new.steps c.in-Ok.ensures.kept c.round_or_pass.ensures.steps
+
+pub returns-in-Err-round_or_pass-clause-steps : goal.returns-in-Err-round_or_pass-clause-steps
+returns-in-Err-round_or_pass-clause-steps g c = next_as c.args.sim.now.kernel c.reserve_round.new.self c.args.steps.now c.round_or_pass.new.steps c.in-Ok.ensures.kept c.round_or_pass.ensures.steps
+
+pub returns-in-Err-print_records-clause-steps : goal.returns-in-Err-print_records-clause-steps
+returns-in-Err-print_records-clause-steps g c = next_as c.args.sim.now.kernel c.reserve_round.new.self c.args.steps.now c.round_or_pass.new.steps c.in-Ok.ensures.kept c.round_or_pass.ensures.steps
+
+pub returns-in-Err-round_or_pass-clause-script : goal.returns-in-Err-round_or_pass-clause-script
+returns-in-Err-round_or_pass-clause-script g c = c.in-Err-round_or_pass.ensures.script.reads
+
+pub returns-in-Err-print_records-clause-script : goal.returns-in-Err-print_records-clause-script
+returns-in-Err-print_records-clause-script g c = c.in-Ok-round_or_pass.ensures.script.reads
+
+pub returns-clause-script : goal.returns-clause-script
+returns-clause-script g c = c.in-Ok-round_or_pass.ensures.script.reads

@@ -1,14 +1,14 @@
 use Rattle.std.proofs.Common.{◌≡◌, ◌+◌, ◌≤◌, length, None, take, vec_capacity, vec_len}
 use Rattle.std.specs.Prelude.{All}
-use Rattle.sg_actor.specs.Seen.{all_seen}
-use Rattle.sg_platform.specs.Deployment.{extent_of}
+use Rattle.sg_actor.specs.Seats.{seat_views}
+use Rattle.sg_rows.specs.Deployment.{extent_of}
 use Rattle.sg_engine.specs.Roles.{minds_from}
-use Rattle.sg_engine.specs.Seated.{minds_of, IsSeated}
+use Rattle.sg_engine.specs.kept.SeatRules.{minds_of, IsSeated}
 use Rattle.sg_engine.proofs.seating.seat_all.Given as goal
 
 abbrev pub invariant-loop-i : goal.invariant-loop-i
 invariant-loop-i g l =
-    let places = all_seen (λ b. (goal.Actor-dyn g (b.vtable, b.value)).mind b.value) l.seats.items in
+    let places = seat_views (λ b. (goal.Actor-dyn g (b.vtable, b.value)).mind b.value) l.seats.items in
     record {
       blank : All (λ b. (goal.Actor-dyn g (b.vtable, b.value)).mind b.value ≡ None) l.left.items;
       left : vec_len l.left + l.i ≡ length l.rows;

@@ -1,16 +1,15 @@
 use Rattle.std.proofs.Common.{◌-◌, arith, get_or, refl, sym, subst}
-use Rattle.sg_actor.specs.Seen.{seen}
-use Rattle.sg_actor.specs.Places.{IsPlace}
+use Rattle.sg_actor.specs.Seats.{seat_view, KeepsLimits}
 use Rattle.sg_kernel.specs.World.{extent}
 use Rattle.sg_engine.proofs.Merging.{all_at, all_placed}
 use Rattle.sg_engine.proofs.Queues.{last_id}
-use Rattle.sg_engine.proofs.Rounds.{offered_limited}
+use Rattle.sg_engine.proofs.SeatSteps.{offered_limited}
 use Rattle.sg_engine.proofs.Stepping.{offer_next, offers_end, id_at}
 use Rattle.sg_engine.proofs.turns.offer.Goals as goal
 
 pub loop-actor-init : goal.loop-actor-init
 unfolding last_id
-loop-actor-init g c = record { offered = refl; limited = c.requires.limited }
+loop-actor-init g c = record { with_answer = refl; limited = c.requires.limited }
 
 pub loop-actor-preserved : goal.loop-actor-preserved
 loop-actor-preserved g c =
@@ -20,13 +19,13 @@ loop-actor-preserved g c =
     let core = c.args.kernel.now.core in
     let ids = c.run_queue-queue.ensures.ids k (record { 0 = 0 }) c.loop-actor-test.true in
     let limits = extent c.args.kernel.now.setup in
-    let mine : IsPlace limits (seen g.A.Actor.mind (get_or c.loop-actor.seats (id_at queue k - 1) c.index-seats-actor.result)) =
-    all_at (seen g.A.Actor.mind) (IsPlace limits) c.loop-actor.seats (id_at queue k - 1) c.index-seats-actor.result (omega (arith, ids.0, ids.1, c.requires.number, c.loop-actor.auto.seats)) inv.limited in
+    let mine : KeepsLimits limits (seat_view g.A.Actor.mind (get_or c.loop-actor.seats (id_at queue k - 1) c.index-seats-actor.result)) =
+    all_at (seat_view g.A.Actor.mind) (KeepsLimits limits) c.loop-actor.seats (id_at queue k - 1) c.index-seats-actor.result (omega (arith, ids.0, ids.1, c.requires.number, c.loop-actor.auto.seats)) inv.limited in
     record {
-      offered = offer_next _ c.args.seats.now c.loop-actor.seats core.actors queue k c.index-seats-actor.result c.offer_one.new.seat c.inbox.result c.run_queue-queue.ensures c.loop-actor-test.true c.requires.number inv.offered c.inbox.ensures.is c.offer_one.ensures;
-      limited = all_placed (seen g.A.Actor.mind) (IsPlace limits) c.loop-actor.seats (id_at queue k - 1) c.offer_one.new.seat (subst (IsPlace limits) (sym c.offer_one.ensures) (offered_limited limits _ c.inbox.result mine c.inbox.ensures.limited)) inv.limited;
+      with_answer = offer_next _ c.args.seats.now c.loop-actor.seats core.actors queue k c.index-seats-actor.result c.offer_one.new.seat c.inbox.result c.run_queue-queue.ensures c.loop-actor-test.true c.requires.number inv.with_answer c.inbox.ensures.is c.offer_one.ensures;
+      limited = all_placed (seat_view g.A.Actor.mind) (KeepsLimits limits) c.loop-actor.seats (id_at queue k - 1) c.offer_one.new.seat (subst (KeepsLimits limits) (sym c.offer_one.ensures) (offered_limited limits _ c.inbox.result mine c.inbox.ensures.limited)) inv.limited;
     }
 
-pub returns-clause-offered : goal.returns-clause-offered
-returns-clause-offered g c =
-    offers_end _ c.args.seats.now c.loop-actor.seats c.args.kernel.now.core.actors c.run_queue-queue.result.now c.loop-actor.actor-index c.run_queue-queue.ensures c.loop-actor.auto.actor-index-end c.loop-actor-test.false c.requires.number c.loop-actor.invariant.offered
+pub returns-clause-with_answer : goal.returns-clause-with_answer
+returns-clause-with_answer g c =
+    offers_end _ c.args.seats.now c.loop-actor.seats c.args.kernel.now.core.actors c.run_queue-queue.result.now c.loop-actor.actor-index c.run_queue-queue.ensures c.loop-actor.auto.actor-index-end c.loop-actor-test.false c.requires.number c.loop-actor.invariant.with_answer

@@ -1,11 +1,11 @@
 use Rattle.std.proofs.Common.{◌∙◌, arith, false, List, map, None, refl, subst, sym}
 use Rattle.std.specs.Prelude.{All}
 use Rattle.std.proofs.lemmas.List.{length-map}
-use Rattle.sg_actor.specs.Places.{Place, after}
-use Rattle.sg_engine.specs.Seated.{IsCast}
+use Rattle.sg_actor.specs.Seats.{SeatView, after}
+use Rattle.sg_engine.specs.kept.SeatRules.{IsCast}
 use Rattle.sg_engine.proofs.Merging.{all_merged}
 use Rattle.sg_engine.proofs.Queues.{last_id}
-use Rattle.sg_engine.proofs.Rounds.{all_after_cast, can_turn, idle_stays}
+use Rattle.sg_engine.proofs.SeatSteps.{all_after_cast, can_turn, idle_stays}
 use Rattle.sg_engine.proofs.Stepping.{changes_end, turns_next}
 use Rattle.sg_engine.proofs.turns.turn_all.Goals as goal
 

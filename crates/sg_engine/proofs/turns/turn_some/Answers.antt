@@ -1,4 +1,4 @@
-use Rattle.sg_actor.specs.Places.{after, CanTurn}
+use Rattle.sg_actor.specs.Seats.{after, CanTurn}
 use Rattle.sg_engine.proofs.Merging.{part_on, part_all}
 use Rattle.sg_engine.proofs.turns.turn_some.Goals as goal
 

@@ -1,18 +1,21 @@
 use Rattle.std.proofs.Common.{[]}
 use Rattle.sg_sync.specs.Laws.{comers}
-use Rattle.sg_kernel.specs.Sound.{known_of}
+use Rattle.sg_kernel.specs.kept.Sound.{known_of}
 use Rattle.sg_kernel.proofs.Waiting.{wakers_exist, held_again}
 use Rattle.sg_kernel.proofs.Woken.{then_caller}
 use Rattle.sg_kernel.proofs.locks.answer_last.Goals as goal
 
 pub wake_others-requires-clause-wakers : goal.wake_others-requires-clause-wakers
 wake_others-requires-clause-wakers c =
-    let parts = c.args.parts.now in
-    wakers_exist parts c.args.actor c.args.outcome parts.objects.others c.requires.steady.sound c.requires.caller c.requires.waking
+    let fields = c.args.fields.now in
+    wakers_exist fields c.args.actor c.args.outcome fields.objects.others c.requires.steady.sound c.requires.able.caller c.requires.waking
+
+pub answer_caller-requires-clause-able : goal.answer_caller-requires-clause-able
+answer_caller-requires-clause-able c = c.wake_others.ensures.frees.callers c.args.actor.0 c.requires.able
 
 pub returns-clause-known : goal.returns-clause-known
 returns-clause-known c =
-    then_caller (known_of c.args.parts.now) (known_of c.wake_others.new.parts) (known_of c.answer_caller.new.parts) c.args.parts.now.objects.others c.args.outcome c.args.actor.0 c.args.what c.wake_others.ensures.known c.answer_caller.ensures.known
+    then_caller (known_of c.args.fields.now) (known_of c.wake_others.new.fields) (known_of c.answer_caller.new.fields) c.args.fields.now.objects.others c.args.outcome c.args.actor.0 c.args.what c.wake_others.ensures.known c.answer_caller.ensures.known
 
 pub returns-clause-whole : goal.returns-clause-whole
 returns-clause-whole c =
@@ -20,9 +23,10 @@ returns-clause-whole c =
     let woken = c.answer_caller.ensures.waking [] (c.wake_others.ensures.waking (comers c.args.actor c.args.outcome) c.requires.waking) in
     record {
       sound = steady.sound;
+      roomy = steady.roomy;
       dated = steady.dated;
       limited = steady.limited;
-      queued = steady.queued;
       meeting = steady.meeting;
-      held = held_again c.answer_caller.new.parts woken;
+      held = held_again c.answer_caller.new.fields woken;
+      round = steady.round;
     }

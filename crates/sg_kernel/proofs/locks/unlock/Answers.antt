@@ -1,24 +1,18 @@
-use Rattle.std.proofs.lemmas.Grind.{common_steps}
-use Rattle.std.proofs.Common.{arith, rules}
+use Rattle.std.proofs.Common.{arith}
 use Rattle.sg_sync.specs.Objects.{Objects, unlocked}
 use Rattle.sg_sync.proofs.Losses.{unlocked_keeps}
+use Rattle.sg_kernel.proofs.Moves.{steady_called}
 use Rattle.sg_kernel.proofs.Waiting.{unlocked_like, waking_called}
 use Rattle.sg_kernel.proofs.locks.unlock.Goals as goal
 
 pub answer_first-requires-clause-waking : goal.answer_first-requires-clause-waking
 answer_first-requires-clause-waking c =
-    let old = c.args.parts.now in
+    let old = c.args.fields.now in
     let actor = c.args.actor in
-    waking_called old c.count.new.parts c.unlock-outcome.new.self c.unlock-outcome.result actor (λ (o : Objects). unlocked actor c.args.mutex o) c.requires.able.caller c.requires.whole.held
-    (unlocked_keeps old.objects actor c.args.mutex (omega (arith, c.requires.mutex, c.requires.whole.held.locking)))
+    waking_called old c.unlock-outcome.new.self c.unlock-outcome.result actor (λ (o : Objects). unlocked actor c.args.mutex o) c.requires.able.call.caller c.requires.able.whole.held
+    (unlocked_keeps old.objects actor c.args.mutex (omega (arith, c.requires.mutex, c.requires.able.whole.held.locking)))
     (unlocked_like actor c.args.mutex old.objects)
-    c.count.ensures.known c.unlock-outcome.ensures.outcome c.unlock-outcome.ensures.after
+    c.unlock-outcome.ensures.outcome c.unlock-outcome.ensures.after
 
 pub answer_first-requires-clause-steady : goal.answer_first-requires-clause-steady
-answer_first-requires-clause-steady c = record {
-  sound = grind (arith, common_steps);
-  dated = search rules;
-  limited = grind (arith, common_steps);
-  queued = search rules;
-  meeting = search rules;
-}
+answer_first-requires-clause-steady c = steady_called c.args.fields.now c.unlock-outcome.new.self c.args.actor.0 c.requires.able

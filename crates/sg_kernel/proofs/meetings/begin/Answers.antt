@@ -1,5 +1,4 @@
-use Rattle.std.proofs.lemmas.Grind.{common_steps}
-use Rattle.std.proofs.Common.{◌≡◌, ◌-◌, ◌<◌, ◌≤◌, List, Some, Option, length, set, refl, sym, ap, subst, arith, rules, ◌∙◌}
+use Rattle.std.proofs.Common.{◌≡◌, ◌+◌, ◌-◌, ◌<◌, ◌≤◌, List, Some, Option, length, set, refl, sym, ap, subst, arith, ◌∙◌}
 use Rattle.std.specs.List.{All}
 use Rattle.std.proofs.lemmas.List.{length-set}
 use Rattle.std.proofs.lemmas.List.Elements.{All-set}
@@ -7,85 +6,93 @@ use Rattle.sg_activity.specs.Doing.{Doing}
 use Rattle.sg_activity.specs.Task.{Task, comm_of}
 use Rattle.sg_base.specs.declared.ids.LinkId.{LinkId}
 use Rattle.sg_base.specs.declared.ids.Serial.{Serial}
-use Rattle.sg_kernel.specs.declared.states.Whose.{Whose}
-use Rattle.sg_kernel.specs.declared.states.Whose.TheVariants.{Pair}
-use Rattle.sg_kernel.specs.Owners.{Owned}
+use Rattle.sg_kernel.specs.declared.owners.Whose.{Whose}
+use Rattle.sg_kernel.specs.declared.owners.Whose.TheVariants.{Pair}
+use Rattle.sg_kernel.specs.kept.Owners.{Owned}
 use Rattle.sg_kernel.specs.World.{extent}
-use Rattle.sg_kernel.specs.Sound.{setup_in, IsSide, IsOwner}
+use Rattle.sg_kernel.specs.kept.Sound.{setup_in, IsSide, IsOwner}
+use Rattle.sg_kernel.proofs.Begins.{held_with, sound_with}
 use Rattle.sg_kernel.proofs.Meets.{AreIdle, AreTold, idle_put, made_more, told_met}
 use Rattle.sg_kernel.proofs.Mets.{is_met, sides_limited, waiting_below}
+use Rattle.sg_kernel.proofs.Moves.{whole_counted}
 use Rattle.sg_kernel.proofs.meetings.begin.Goals as goal
 
 pub enter-requires-clause-above : goal.enter-requires-clause-above
-enter-requires-clause-above c = waiting_below c.args.parts.now c.args.comer.mailbox c.next_serial-next.result.0 c.next_serial-next.ensures c.requires.whole.sound c.requires.whole.meeting
+enter-requires-clause-above c = waiting_below c.args.fields.now c.args.comer.mailbox c.next_serial-next.result.0 c.next_serial-next.ensures c.requires.able.whole.sound c.requires.able.whole.meeting
 
 pub start_comm-requires-clause-from : goal.start_comm-requires-clause-from
-start_comm-requires-clause-from c = (is_met c.args.parts.now c.args.comer c.args.serial c.args.other c.requires.met c.requires.whole.limited c.requires.whole.meeting).from
+start_comm-requires-clause-from c = (is_met c.args.fields.now c.args.comer c.args.serial c.args.other c.requires.met c.requires.able.whole.limited c.requires.able.whole.meeting).from
 
 pub start_comm-requires-clause-to : goal.start_comm-requires-clause-to
-start_comm-requires-clause-to c = omega (arith, (is_met c.args.parts.now c.args.comer c.args.serial c.args.other c.requires.met c.requires.whole.limited c.requires.whole.meeting).to, c.requires.whole.sound.numbered)
+start_comm-requires-clause-to c = omega (arith, (is_met c.args.fields.now c.args.comer c.args.serial c.args.other c.requires.met c.requires.able.whole.limited c.requires.able.whole.meeting).to, c.requires.able.whole.sound.numbered)
 
 pub start_comm-requires-clause-idle : goal.start_comm-requires-clause-idle
-start_comm-requires-clause-idle c = (is_met c.args.parts.now c.args.comer c.args.serial c.args.other c.requires.met c.requires.whole.limited c.requires.whole.meeting).idle
+start_comm-requires-clause-idle c = (is_met c.args.fields.now c.args.comer c.args.serial c.args.other c.requires.met c.requires.able.whole.limited c.requires.able.whole.meeting).idle
 
 pub start_comm-requires-clause-bytes : goal.start_comm-requires-clause-bytes
 start_comm-requires-clause-bytes c =
-    let old = c.args.parts.now in
-    let m = is_met old c.args.comer c.args.serial c.args.other c.requires.met c.requires.whole.limited c.requires.whole.meeting in
-    (subst (IsSide (extent (setup_in old))) (sym c.sender_of-sender.ensures) (sides_limited (extent (setup_in old)) c.args.comer c.args.other c.requires.side m.limited).0).bytes
+    let old = c.args.fields.now in
+    let m = is_met old c.args.comer c.args.serial c.args.other c.requires.met c.requires.able.whole.limited c.requires.able.whole.meeting in
+    (subst (IsSide (extent (setup_in old))) (sym c.sender_of-sender.ensures) (sides_limited (extent (setup_in old)) c.args.comer c.args.other c.requires.comer.side m.limited).0).bytes
 
 pub start_comm-requires-clause-exist : goal.start_comm-requires-clause-exist
-start_comm-requires-clause-exist c = subst (λ n. All (λ (link : LinkId). link.0 < n) c.args.links.now) (sym c.requires.whole.sound.links_counted) c.requires.route.exist
+start_comm-requires-clause-exist c = subst (λ n. All (λ (link : LinkId). link.0 < n) c.args.links.now) (sym c.requires.able.whole.sound.links_counted) c.requires.route.exist
 
 pub put-requires-clause-from : goal.put-requires-clause-from
-put-requires-clause-from c = (is_met c.args.parts.now c.args.comer c.args.serial c.args.other c.requires.met c.requires.whole.limited c.requires.whole.meeting).from
+put-requires-clause-from c = (is_met c.args.fields.now c.args.comer c.args.serial c.args.other c.requires.met c.requires.able.whole.limited c.requires.able.whole.meeting).from
 
 pub put-requires-clause-to : goal.put-requires-clause-to
-put-requires-clause-to c = (is_met c.args.parts.now c.args.comer c.args.serial c.args.other c.requires.met c.requires.whole.limited c.requires.whole.meeting).to
+put-requires-clause-to c = (is_met c.args.fields.now c.args.comer c.args.serial c.args.other c.requires.met c.requires.able.whole.limited c.requires.able.whole.meeting).to
 
 pub take_part-requires-clause-made : goal.take_part-requires-clause-made
 take_part-requires-clause-made c =
-    let old = c.args.parts.now in
-    let m = is_met old c.args.comer c.args.serial c.args.other c.requires.met c.requires.whole.limited c.requires.whole.meeting in
+    let old = c.args.fields.now in
+    let m = is_met old c.args.comer c.args.serial c.args.other c.requires.met c.requires.able.whole.limited c.requires.able.whole.meeting in
     let w = Pair c.sender_of-sender.result c.receiver_of.result in
     (m.from, omega (arith, m.to, ap (λ (o : Owned). length o.whose) c.put.ensures, length-set old.whose.whose (c.args.serial.0 - 1) w))
 
 pub take_part-requires-clause-whole : goal.take_part-requires-clause-whole
 take_part-requires-clause-whole c =
-    let old = c.args.parts.now in
-    let e = extent (setup_in old) in
-    let m = is_met old c.args.comer c.args.serial c.args.other c.requires.met c.requires.whole.limited c.requires.whole.meeting in
-    let w = Pair c.sender_of-sender.result c.receiver_of.result in
-    let limited = c.requires.whole.limited in
-    let sides = sides_limited e c.args.comer c.args.other c.requires.side m.limited in
-    let whose : c.put.new.self.whose ≡ set old.whose.whose (c.args.serial.0 - 1) w = ap (λ (o : Owned). o.whose) c.put.ensures in
-    let both : IsOwner e w = (subst (IsSide e) (sym c.sender_of-sender.ensures) sides.0, subst (IsSide e) (sym c.receiver_of.ensures) sides.1) in
+    let old = c.args.fields.now in
     let comer = c.args.comer in
     let serial = c.args.serial in
-    let task = comm_of (record { links = c.args.links.now }) c.args.latency c.sender_of-sender.result.bytes in
-    let meeting = c.requires.whole.meeting in
+    let e = extent (setup_in old) in
+    let counted = record old { events = old.events + 1 } in
+    let was = whole_counted old comer.side.actor.0 c.requires.able in
+    let m = is_met old comer serial c.args.other c.requires.met c.requires.able.whole.limited c.requires.able.whole.meeting in
+    let w = Pair c.sender_of-sender.result c.receiver_of.result in
+    let doing = c.start_comm.new.self in
+    let begun = c.start_comm.ensures in
     let entered = c.enter.ensures in
+    let sides = sides_limited e comer c.args.other c.requires.comer.side m.limited in
+    let whose : c.put.new.self.whose ≡ set old.whose.whose (serial.0 - 1) w = ap (λ (o : Owned). o.whose) c.put.ensures in
+    let both : IsOwner e w = (subst (IsSide e) (sym c.sender_of-sender.ensures) sides.0, subst (IsSide e) (sym c.receiver_of.ensures) sides.1) in
+    let task = comm_of (record { links = c.args.links.now }) c.args.latency c.sender_of-sender.result.bytes in
     let place : serial.0 - 1 < length old.whose.whose = omega (arith, m.from, m.to) in
-    let tasks : c.start_comm.new.self.under.tasks ≡ set old.doing.under.tasks (serial.0 - 1) (Some task) = ap (λ (d : Doing). d.under.tasks) c.start_comm.ensures in
-    let more : length old.whose.whose ≤ length c.put.new.self.whose = omega (arith, ap (λ (l : List Whose). length l) whose, length-set old.whose.whose (serial.0 - 1) w) in
+    let tasks : doing.under.tasks ≡ set old.doing.under.tasks (serial.0 - 1) (Some task) = ap (λ (d : Doing). d.under.tasks) begun in
+    let long = ap length tasks ∙ length-set old.doing.under.tasks (serial.0 - 1) (Some task) in
+    let many = ap (λ (l : List Whose). length l) whose ∙ length-set old.whose.whose (serial.0 - 1) w in
+    let more : length old.whose.whose ≤ length c.put.new.self.whose = omega (arith, many) in
     let told : AreTold c.enter.new.boxes (set old.whose.whose (m.post.serial.0 - 1) w) =
-    told_met old.boxes c.enter.new.boxes comer.mailbox comer.sends comer.side c.next_serial-next.result old.whose.whose m.post w m.found refl entered.there entered.elsewhere meeting.posts in
+    told_met old.boxes c.enter.new.boxes comer.mailbox comer.sends comer.side c.next_serial-next.result old.whose.whose m.post w m.found refl entered.there entered.elsewhere was.meeting.posts in
     record {
-      sound = grind (arith, common_steps);
-      dated = search rules;
-      limited = record {
-        states = limited.states;
-        owners = subst (All (IsOwner e)) (sym whose) (All-set (IsOwner e) old.whose.whose (c.args.serial.0 - 1) w both limited.owners);
-        records = limited.records;
+      sound = sound_with counted doing c.put.new.self c.enter.new.boxes (omega (arith, long, many, was.sound.numbered)) (omega (arith, long, was.sound.few)) (ap (λ (d : Doing). d.under.capacities) begun) was.sound;
+      roomy = record {
+        starts = omega (arith, was.roomy.starts, ap (λ (d : Doing). d.room) begun);
+        owners = omega (arith, was.roomy.owners, ap (λ (o : Owned). o.room) c.put.ensures);
+        mailboxes = omega (arith, was.roomy.mailboxes, entered.room);
+        requests = omega (arith, was.roomy.requests);
       };
-      queued = search rules;
+      dated = omega (arith, was.dated, ap (λ (d : Doing). d.under.date) begun);
+      limited = subst (All (IsOwner e)) (sym whose) (All-set (IsOwner e) old.whose.whose (serial.0 - 1) w both was.limited);
       meeting = record {
         posts = subst (AreTold c.enter.new.boxes) (ap (λ (s : Serial). set old.whose.whose (s.0 - 1) w) m.serial_is ∙ sym whose) told;
         idle =
-            subst (λ (l : List Whose). AreIdle l c.start_comm.new.self.under.tasks) (sym whose)
+            subst (λ (l : List Whose). AreIdle l doing.under.tasks) (sym whose)
             (subst (λ (l : List (Option Task)). AreIdle (set old.whose.whose (serial.0 - 1) w) l) (sym tasks)
-            (idle_put old.whose.whose old.doing.under.tasks (serial.0 - 1) w (Some task) place refl meeting.idle));
-        asked = made_more (length old.whose.whose) (length c.put.new.self.whose) old.requests.queues more meeting.asked;
+            (idle_put old.whose.whose old.doing.under.tasks (serial.0 - 1) w (Some task) place refl was.meeting.idle));
+        asked = made_more (length old.whose.whose) (length c.put.new.self.whose) old.requests.queues more was.meeting.asked;
       };
-      held = search rules;
+      held = held_with counted doing c.put.new.self c.enter.new.boxes was.held;
+      round = was.round;
     }

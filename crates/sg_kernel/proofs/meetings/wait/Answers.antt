@@ -1,69 +1,59 @@
-use Rattle.std.proofs.lemmas.Grind.{common_steps}
-use Rattle.std.proofs.Common.{arith, rules, ◌∙◌, length, ap, sym, subst}
-use Rattle.sg_requests.specs.Requested.{Requested}
+use Rattle.std.proofs.Common.{◌≡◌, ℕ, ◌-◌, arith, ◌∙◌, length, ap, sym, subst}
+use Rattle.std.proofs.lemmas.List.{length-set}
+use Rattle.sg_requests.specs.Requested.{Requested, taken}
+use Rattle.sg_kernel.specs.declared.fields.Fields.{Fields}
+use Rattle.sg_kernel.specs.kept.Whole.{CanStep}
 use Rattle.sg_kernel.proofs.Meets.{AreMade, made_taken, made_oldest}
 use Rattle.sg_kernel.proofs.meetings.wait.Goals as goal
 
+-- with one request less
+asking_less : (fields : Fields) (actor : ℕ) (requests : Requested) → requests ≡ record fields.requests { queues = taken fields.requests.queues actor } → CanStep fields actor → CanStep (record fields { requests = requests }) actor
+asking_less fields actor requests is able =
+    let was = able.whole in
+    let sound = was.sound in
+    let n = length fields.whose.whose in
+    let queues = ap (λ (r : Requested). r.queues) is in
+    record {
+      whole = record {
+        sound = record {
+          numbered = sound.numbered;
+          few = sound.few;
+          within = sound.within;
+          budgeted = sound.budgeted;
+          hosts_counted = sound.hosts_counted;
+          links_counted = sound.links_counted;
+          homes_known = sound.homes_known;
+          hosts_known = sound.hosts_known;
+          requests_known = ap length queues ∙ length-set fields.requests.queues (actor - 1) _ ∙ sound.requests_known;
+          requests_few = omega (arith, sound.requests_few, ap (λ (r : Requested). r.asked) is);
+          extent_is = sound.extent_is;
+        };
+        roomy = record { starts = was.roomy.starts; owners = was.roomy.owners; mailboxes = was.roomy.mailboxes; requests = omega (arith, was.roomy.requests, ap (λ (r : Requested). r.room) is) };
+        dated = was.dated;
+        limited = was.limited;
+        meeting = record { posts = was.meeting.posts; idle = was.meeting.idle; asked = subst (AreMade n) (sym queues) (made_taken n fields.requests.queues actor was.meeting.asked) };
+        held = record { owners = was.held.owners; counts = was.held.counts; actors = was.held.actors; few = was.held.few; once = was.held.once; held = was.held.held; locking = was.held.locking; acquiring = was.held.acquiring };
+        round = was.round;
+      };
+      call = able.call;
+      budget = able.budget;
+    }
+
 pub of-requires-clause-from : goal.of-requires-clause-from
 of-requires-clause-from c =
-    let old = c.args.parts.now in
-    (made_oldest (length old.whose.whose) old.requests.queues c.args.actor.0 c.in-Some.on (sym c.take.ensures.oldest ∙ c.in-Some.is) c.requires.whole.meeting.asked).from
+    let old = c.args.fields.now in
+    (made_oldest (length old.whose.whose) old.requests.queues c.args.actor.0 c.in-Some.on (sym c.take.ensures.oldest ∙ c.in-Some.is) c.requires.able.whole.meeting.asked).from
 
 pub of-requires-clause-to : goal.of-requires-clause-to
 of-requires-clause-to c =
-    let old = c.args.parts.now in
-    (made_oldest (length old.whose.whose) old.requests.queues c.args.actor.0 c.in-Some.on (sym c.take.ensures.oldest ∙ c.in-Some.is) c.requires.whole.meeting.asked).to
+    let old = c.args.fields.now in
+    (made_oldest (length old.whose.whose) old.requests.queues c.args.actor.0 c.in-Some.on (sym c.take.ensures.oldest ∙ c.in-Some.is) c.requires.able.whole.meeting.asked).to
 
-pub answer_now-requires-clause-whole : goal.answer_now-requires-clause-whole
-answer_now-requires-clause-whole c =
-    let old = c.args.parts.now in
-    let meeting = c.requires.whole.meeting in
-    let n = length old.whose.whose in
-    record {
-      sound = grind (arith, common_steps);
-      dated = search rules;
-      limited = grind (arith, common_steps);
-      queued = search rules;
-      meeting = record {
-        posts = meeting.posts;
-        idle = meeting.idle;
-        asked = subst (AreMade n) (sym (ap (λ (r : Requested). r.queues) c.take.ensures.rest)) (made_taken n old.requests.queues c.args.actor.0 meeting.asked);
-      };
-      held = search rules;
-    }
+pub answer_now-requires-clause-able : goal.answer_now-requires-clause-able
+answer_now-requires-clause-able c = asking_less c.args.fields.now c.args.actor.0 c.take.new.self c.take.ensures.rest c.requires.able
 
-pub answer_now-requires-in-Some-answer_of_over-clause-whole : goal.answer_now-requires-in-Some-answer_of_over-clause-whole
-answer_now-requires-in-Some-answer_of_over-clause-whole c =
-    let old = c.args.parts.now in
-    let meeting = c.requires.whole.meeting in
-    let n = length old.whose.whose in
-    record {
-      sound = grind (arith, common_steps);
-      dated = search rules;
-      limited = grind (arith, common_steps);
-      queued = search rules;
-      meeting = record {
-        posts = meeting.posts;
-        idle = meeting.idle;
-        asked = subst (AreMade n) (sym (ap (λ (r : Requested). r.queues) c.take.ensures.rest)) (made_taken n old.requests.queues c.args.actor.0 meeting.asked);
-      };
-      held = search rules;
-    }
+pub answer_now-requires-in-Some-answer_of_over-clause-able : goal.answer_now-requires-in-Some-answer_of_over-clause-able
+answer_now-requires-in-Some-answer_of_over-clause-able c = asking_less c.args.fields.now c.args.actor.0 c.take.new.self c.take.ensures.rest c.requires.able
 
-pub block-requires-clause-whole : goal.block-requires-clause-whole
-block-requires-clause-whole c =
-    let old = c.args.parts.now in
-    let meeting = c.requires.whole.meeting in
-    let n = length old.whose.whose in
-    record {
-      sound = grind (arith, common_steps);
-      dated = search rules;
-      limited = grind (arith, common_steps);
-      queued = search rules;
-      meeting = record {
-        posts = meeting.posts;
-        idle = meeting.idle;
-        asked = subst (AreMade n) (sym (ap (λ (r : Requested). r.queues) c.take.ensures.rest)) (made_taken n old.requests.queues c.args.actor.0 meeting.asked);
-      };
-      held = search rules;
-    }
+pub block-requires-clause-able : goal.block-requires-clause-able
+block-requires-clause-able c = asking_less c.args.fields.now c.args.actor.0 c.take.new.self c.take.ensures.rest c.requires.able

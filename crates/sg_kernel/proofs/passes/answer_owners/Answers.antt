@@ -1,18 +1,18 @@
 use Rattle.std.proofs.Common.{◌∙◌, sym, ap}
-use Rattle.sg_requests.specs.declared.request.End.TheVariants as end
-use Rattle.sg_kernel.specs.declared.states.How.TheVariants as how
+use Rattle.sg_base.specs.declared.awaits.Party.TheVariants as party
+use Rattle.sg_kernel.specs.declared.owners.How.TheVariants as how
 use Rattle.sg_kernel.specs.Known.{Known, after}
 use Rattle.sg_kernel.specs.Passes.{answers, answers_side, for_receiver}
-use Rattle.sg_kernel.specs.Sound.{core_of, known_of}
+use Rattle.sg_kernel.specs.kept.Sound.{core_of, known_of}
 use Rattle.sg_kernel.proofs.Ends.{after_both}
 use Rattle.sg_kernel.proofs.passes.answer_owners.Goals as goal
 
 pub returns-in-Pair-clause-known : goal.returns-in-Pair-clause-known
 returns-in-Pair-clause-known c =
-    let old = c.args.parts.now in
+    let old = c.args.fields.now in
     let sender = c.in-Pair.sender in
     let receiver = c.in-Pair.receiver in
     c.answer_side-in-Pair-2.ensures.known
-    ∙ ap (λ (k : Known). after (answers_side how.Done c.args.serial.0 end.Receiver (for_receiver sender receiver) k.core) k) c.answer_side-in-Pair.ensures.known
+    ∙ ap (λ (k : Known). after (answers_side how.Done c.args.serial.0 party.Receiver (for_receiver sender receiver) k.core) k) c.answer_side-in-Pair.ensures.known
     ∙ after_both how.Done c.args.serial.0 sender receiver (known_of old)
     ∙ ap (λ w. after (answers how.Done c.args.serial.0 w (core_of old)) (known_of old)) (sym c.in-Pair.is)

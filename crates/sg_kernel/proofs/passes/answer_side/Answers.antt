@@ -1,20 +1,14 @@
-use Rattle.std.proofs.lemmas.Grind.{common_steps}
-use Rattle.std.proofs.Common.{◌≡◌, ◌-◌, ◌<◌, ◌≤◌, length, Bool, true, false, cond, ℕ, Some, get_or, sym, ap, subst, ◌∙◌, arith, refl, rules}
-use Rattle.std.proofs.lemmas.List.{get_or_default, length-set}
-use Rattle.std.proofs.lemmas.List.Elements.{All-set}
+use Rattle.std.proofs.Common.{◌≡◌, Bool, true, false, cond, ℕ, Some, sym, ap, subst, ◌∙◌, arith, rules}
 use Rattle.sg_base.specs.declared.call.Call.{Call}
 use Rattle.sg_base.specs.declared.call.Call.TheVariants as call
 use Rattle.sg_base.specs.declared.call.Msg.{Msg}
 use Rattle.sg_base.specs.Limits.{Extent, IsAmount, IsAnswer, IsMsg}
-use Rattle.sg_kernel.specs.declared.states.State.TheVariants.{Ready, Blocked, Ended}
+use Rattle.sg_states.specs.declared.state.State.TheVariants.{Ready, Blocked}
+use Rattle.sg_states.specs.Actors.{is_blocked, is_held, state_at}
+use Rattle.sg_states.specs.States.{ActorStates, KeepsLimits}
 use Rattle.sg_kernel.specs.Passes.{answer_of_done}
-use Rattle.sg_kernel.specs.Queue.{is_ready_in, HasAnswered}
-use Rattle.sg_kernel.specs.Steps.{record_of}
-use Rattle.sg_kernel.specs.World.{extent, is_ready}
-use Rattle.sg_kernel.specs.Sound.{setup_in, is_held, KeepsLimits}
-use Rattle.sg_kernel.proofs.Limits.{homes_counted, record_more, reply_limited}
-use Rattle.sg_kernel.proofs.Waiting.{others_held}
-use Rattle.sg_kernel.proofs.Queues.{answered_room, answered_more}
+use Rattle.sg_kernel.proofs.Limits.{homes_counted}
+use Rattle.sg_kernel.proofs.Moves.{moves_replied, passing_moved}
 use Rattle.sg_kernel.proofs.passes.answer_side.Goals as goal
 
 answer_limited : (ex : Extent) (what : Call) (m : Msg) → IsMsg m → IsAnswer ex (answer_of_done what m)
@@ -38,58 +32,41 @@ some_bytes : (b : Bool) (n : ℕ) → IsAmount n → IsAmount (cond b n 0)
 some_bytes true n h = h
 some_bytes false n h = omega arith
 
-pub push_reserved-requires-in-Blocked-default-default-Some : goal.push_reserved-requires-in-Blocked-default-default-Some
-push_reserved-requires-in-Blocked-default-default-Some c =
-    let parts = c.args.parts.now in
-    let states = parts.states.items in
-    let id = c.args.given.actor.0 in
-    let place : id - 1 < length states = omega (arith, c.requires.given.actor.0, c.requires.given.actor.1, homes_counted parts c.requires.passing.sound) in
-    let isnt : is_ready_in states id ≡ false = ap is_ready (get_or_default states (id - 1) Ended _ place ∙ sym c.index.ensures ∙ c.in-Blocked-default-default-Some.is) in
-    omega (arith, answered_room states parts.queue.items id c.requires.given.actor.0 (omega (arith, c.requires.given.actor.1, homes_counted parts c.requires.passing.sound)) isnt c.requires.passing.answering.0, c.requires.passing.answering.1, parts.queue.ok.0)
+pub state-requires : goal.state-requires
+state-requires c =
+    let given = c.requires.given.actor in
+    record { from = given.0; to = omega (arith, given.1, homes_counted c.args.fields.now c.requires.passing.sound) }
+
+pub reply-requires-clause-actor : goal.reply-requires-clause-actor
+reply-requires-clause-actor c =
+    let given = c.requires.given.actor in
+    record { from = given.0; to = omega (arith, given.1, homes_counted c.args.fields.now c.requires.passing.sound) }
+
+pub reply-requires-clause-blocked : goal.reply-requires-clause-blocked
+reply-requires-clause-blocked c = ap is_blocked (sym c.state.ensures.is ∙ c.in-Blocked-default-default-Some.is)
+
+pub reply-requires-clause-what : goal.reply-requires-clause-what
+reply-requires-clause-what c = subst (KeepsLimits c.args.fields.now.states.extent) c.in-Blocked-default-default-Some.is c.state.ensures.limited
+
+pub reply-requires-clause-bytes : goal.reply-requires-clause-bytes
+reply-requires-clause-bytes c = subst IsAmount (sym c.bytes_told-bytes.ensures) (some_bytes _ c.args.given.bytes c.requires.given.bytes)
+
+pub reply-requires-clause-answer : goal.reply-requires-clause-answer
+reply-requires-clause-answer c =
+    let ex = c.args.fields.now.states.extent in
+    subst (IsAnswer ex) (sym c.answer_of_done-answer.ensures) (answer_limited ex c.in-Blocked-default-default-Some.what c.args.given.msg c.requires.given.message)
+
+pub reply-requires-clause-date : goal.reply-requires-clause-date
+reply-requires-clause-date c = omega (arith, c.date-date.ensures, c.requires.passing.small)
 
 pub returns-in-Blocked-default-default-Some-clause-passing : goal.returns-in-Blocked-default-default-Some-clause-passing
 returns-in-Blocked-default-default-Some-clause-passing c =
-    let parts = c.args.parts.now in
-    let was = c.requires.passing in
+    let old = c.args.fields.now in
     let given = c.args.given in
-    let states = parts.states.items in
-    let ex = extent (setup_in parts) in
-    let id = given.actor.0 in
-    let from = c.requires.given.actor.0 in
-    let to : id ≤ length states = omega (arith, c.requires.given.actor.1, homes_counted parts was.sound) in
-    let place : id - 1 < length states = omega (arith, from, to) in
-    let isnt : is_ready_in states id ≡ false = ap is_ready (get_or_default states (id - 1) Ended _ place ∙ sym c.index.ensures ∙ c.in-Blocked-default-default-Some.is) in
     let inside = c.in-Blocked-default-default-Some in
-    let told = subst (KeepsLimits ex) (sym c.index.ensures ∙ inside.is) (was.limited.states (id - 1) _ place) in
-    let bytes = subst IsAmount (sym c.bytes_told-bytes.ensures) (some_bytes _ given.bytes c.requires.given.bytes) in
+    let new = c.reply.new.self in
     let answer = c.answer_of_done-answer.result in
-    let made = reply_limited parts given.actor inside.what inside.since c.bytes_told-bytes.result answer was.sound (record { from = from; to = to }) told bytes was.small in
-    let isnt_held : is_held (get_or states (id - 1) Ended) ≡ false =
     let on : inside.field-2 ≡ Some inside.on = search rules in
-    ap is_held (get_or_default states (id - 1) Ended _ place ∙ sym c.index.ensures ∙ inside.is ∙ ap (λ o. Blocked inside.what inside.since o) on) in
-    let queue = c.push_reserved-in-Blocked-default-default-Some.ensures in
-    record {
-      sound = grind (arith, common_steps);
-      limited = record {
-        states = All-set (KeepsLimits ex) states (id - 1) _ (subst (IsAnswer ex) (sym c.answer_of_done-answer.ensures) (answer_limited ex inside.what given.msg c.requires.given.message)) was.limited.states;
-        owners = was.limited.owners;
-        records = record_more ex parts.records.items _ c.record_of.result _ c.push_reserved.ensures.items
-            (c.record_of.ensures ∙ ap (λ d. record_of id inside.what inside.since c.bytes_told-bytes.result answer d) c.date-date.ensures) made was.limited.records;
-      };
-      answering = (
-        subst (HasAnswered _) (sym queue.items) (answered_more states parts.queue.items given.actor (Ready answer) (from, to) isnt refl was.answering.0),
-        omega (arith, length-set states (id - 1) (Ready answer), was.answering.1, queue.capacity),
-      );
-      meeting = search rules;
-      held = record {
-        owners = was.held.owners;
-        counts = was.held.counts;
-        actors = was.held.actors ∙ sym (length-set states (id - 1) (Ready answer));
-        few = was.held.few;
-        once = was.held.once;
-        held = λ b some. let old = was.held.held b some in (old.0, others_held states given.actor b (Ready answer) from old.0.0 isnt_held old.1);
-        locking = was.held.locking;
-        acquiring = was.held.acquiring;
-      };
-      small = search rules;
-    }
+    let isnt : is_held (state_at old.states.actors given.actor.0) ≡ false = ap is_held (sym c.state.ensures.is ∙ inside.is ∙ ap (λ o. Blocked inside.what inside.since o) on) in
+    let moves = moves_replied old.states new given.actor.0 inside.what inside.since c.bytes_told-bytes.result answer c.date-date.result c.reply.ensures in
+    passing_moved old new given.actor (Ready answer) c.requires.given.actor.0 isnt moves (omega (arith, ap (λ (s : ActorStates). s.room) c.reply.ensures)) c.requires.passing

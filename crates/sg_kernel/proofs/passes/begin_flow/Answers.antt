@@ -5,9 +5,10 @@ use Rattle.sg_kernel.proofs.passes.begin_flow.Goals as goal
 pub returns-clause-passing : goal.returns-clause-passing
 returns-clause-passing c = record {
   sound = grind (arith, common_steps);
+  roomy = grind (arith, common_steps);
   limited = grind (arith, common_steps);
-  answering = search rules;
   meeting = search rules;
   held = search rules;
+  passing = search rules;
   small = search rules;
 }

@@ -2,13 +2,13 @@ use Rattle.std.proofs.lemmas.Grind.{common_steps}
 use Rattle.std.proofs.Common.{arith, rules, ◌+◌, ◌-◌, ◌∙◌, set, sym, ap}
 use Rattle.sg_activity.specs.Doing.{Doing, ended_first}
 use Rattle.sg_activity.specs.Task.{phase_after}
-use Rattle.sg_kernel.specs.Owners.{Owned}
+use Rattle.sg_kernel.specs.kept.Owners.{Owned}
 use Rattle.sg_kernel.proofs.PostsKept.{meeting_gone, last_phase}
 use Rattle.sg_kernel.proofs.passes.end_activity.Goals as goal
 
 pub answer_owners-requires-clause-passing : goal.answer_owners-requires-clause-passing
 answer_owners-requires-clause-passing c =
-    let old = c.args.parts.now in
+    let old = c.args.fields.now in
     let due = c.requires.due in
     let place = c.args.phase.serial.0 - 1 in
     let last = last_phase due.task (λ e. c.requires.last (sym due.kind ∙ e)) in
@@ -16,9 +16,10 @@ answer_owners-requires-clause-passing c =
     let m = c.requires.passing.meeting in
     record {
       sound = grind (arith, common_steps);
+      roomy = grind (arith, common_steps);
       limited = grind (arith, common_steps);
-      answering = search rules;
       meeting = meeting_gone (record old { events = old.events + 1 }) c.take-whose.new.self c.finish.new.self place due.task due.at (ap (λ (o : Owned). o.whose) c.take-whose.ensures.is) over (record { posts = m.posts; idle = m.idle; asked = m.asked });
       held = search rules;
+      passing = search rules;
       small = search rules;
     }

@@ -3,29 +3,29 @@ use Rattle.sg_kernel.specs.Known.{Known}
 use Rattle.sg_kernel.specs.Passes.{ends}
 use Rattle.sg_kernel.specs.Steps.{result_of}
 use Rattle.sg_kernel.specs.World.{Setup}
-use Rattle.sg_kernel.specs.Sound.{known_of, setup_in}
+use Rattle.sg_kernel.specs.kept.Sound.{known_of, setup_in}
 use Rattle.sg_kernel.proofs.Each.{still, still_stops, still_none, stops_none}
 use Rattle.sg_kernel.proofs.Ends.{still_ends, still_used}
 use Rattle.sg_kernel.proofs.passes.end_due.Goals as goal
 
-pub returns-then-parts-clause-known : goal.returns-then-parts-clause-known
-returns-then-parts-clause-known c =
-    let setup = setup_in c.args.parts.now in
-    let now = c.loop-phase.parts in
+pub returns-then-fields-clause-known : goal.returns-then-fields-clause-known
+returns-then-fields-clause-known c =
+    let setup = setup_in c.args.fields.now in
+    let now = c.loop-phase.fields in
     let inv = c.loop-phase.invariant in
     let due = c.in-Some.ensures in
-    let used = c.if-parts.true ∙ ap (λ (s : Setup). s.budget) inv.setup in
+    let used = c.if-fields.true ∙ ap (λ (s : Setup). s.budget) inv.setup in
     sym (still_used setup c.in-Some.phase.serial.0 due.task due.rest (known_of now) due.at used).0
     ∙ ap (λ d. still (ends setup) d (known_of now)) (sym due.first)
     ∙ inv.known
 
-pub returns-then-parts-clause-result : goal.returns-then-parts-clause-result
-returns-then-parts-clause-result c =
-    let setup = setup_in c.args.parts.now in
-    let now = c.loop-phase.parts in
+pub returns-then-fields-clause-result : goal.returns-then-fields-clause-result
+returns-then-fields-clause-result c =
+    let setup = setup_in c.args.fields.now in
+    let now = c.loop-phase.fields in
     let inv = c.loop-phase.invariant in
     let due = c.in-Some.ensures in
-    let used = c.if-parts.true ∙ ap (λ (s : Setup). s.budget) inv.setup in
+    let used = c.if-fields.true ∙ ap (λ (s : Setup). s.budget) inv.setup in
     ap result_of (
     sym (still_used setup c.in-Some.phase.serial.0 due.task due.rest (known_of now) due.at used).1
     ∙ ap (λ d. still_stops (ends setup) d (known_of now)) (sym due.first)
@@ -34,13 +34,13 @@ returns-then-parts-clause-result c =
 
 pub loop-phase-preserved : goal.loop-phase-preserved
 loop-phase-preserved c =
-    let setup = setup_in c.args.parts.now in
-    let old = c.loop-phase.parts in
-    let new = c.end_phase.new.parts in
+    let setup = setup_in c.args.fields.now in
+    let old = c.loop-phase.fields in
+    let new = c.end_phase.new.fields in
     let inv = c.loop-phase.invariant in
     let made = c.end_phase.ensures in
     let due = c.in-Some.ensures in
-    let go : old.events ≢ setup.budget = λ e. c.if-parts.false (e ∙ sym (ap (λ (s : Setup). s.budget) inv.setup)) in
+    let go : old.events ≢ setup.budget = λ e. c.if-fields.false (e ∙ sym (ap (λ (s : Setup). s.budget) inv.setup)) in
     let rest : new.doing.due ≡ due.rest = made.due ∙ ap (drop 1) due.first in
     let more = still_ends setup c.in-Some.phase.serial.0 due.task due.rest (known_of old) (known_of new) due.at go made.known in
     record {
@@ -62,8 +62,8 @@ loop-phase-preserved c =
 
 pub returns-clause-known : goal.returns-clause-known
 returns-clause-known c =
-    let setup = setup_in c.args.parts.now in
-    let now = c.loop-phase.parts in
+    let setup = setup_in c.args.fields.now in
+    let now = c.loop-phase.fields in
     let inv = c.loop-phase.invariant in
     sym (still_none (ends setup) (known_of now))
     ∙ ap (λ d. still (ends setup) d (known_of now)) (sym c.in_default.ensures)
@@ -71,8 +71,8 @@ returns-clause-known c =
 
 pub returns-clause-result : goal.returns-clause-result
 returns-clause-result c =
-    let setup = setup_in c.args.parts.now in
-    let now = c.loop-phase.parts in
+    let setup = setup_in c.args.fields.now in
+    let now = c.loop-phase.fields in
     let inv = c.loop-phase.invariant in
     ap result_of (
     sym (stops_none (ends setup) (known_of now))

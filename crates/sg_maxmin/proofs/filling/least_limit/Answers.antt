@@ -1,14 +1,15 @@
-use Rattle.std.proofs.Common.{◌≡◌, ℕ, ◌+◌, ◌-◌, ◌/◌, ◌<◌, ◌≤◌, List, ◌∷◌, ◌++◌, map, length, get_or, drop, take, take_all, Some, option_to_list, sym, ap, subst, ◌∙◌, arith}
+use Rattle.std.proofs.Common.{◌≡◌, ℕ, ◌+◌, ◌-◌, ◌/◌, ◌<◌, ◌≤◌, List, ◌∷◌, ◌++◌, map, length, get_or, drop, take, take_all, Some, option_map, option_to_list, sym, ap, subst, ◌∙◌, arith}
 use Rattle.std.proofs.lemmas.List.Elements.{All-same, All-tail}
-use Rattle.sg_maxmin.specs.kept.Uses.{resources}
+use Rattle.sg_maxmin.specs.Fill.{bound_level}
+use Rattle.sg_chains.specs.Chain.{resources}
 use Rattle.sg_maxmin.specs.kept.Counting.{IsLeast, least_with}
-use Rattle.sg_maxmin.proofs.Chains.{length-resources}
+use Rattle.sg_chains.proofs.ChainLemmas.{length-resources}
 use Rattle.sg_maxmin.proofs.Counts.{limits_more, step_on}
 use Rattle.sg_maxmin.proofs.filling.least_limit.Goals as goal
 
 pub loop-done-preserved : goal.loop-done-preserved
 loop-done-preserved g c =
-    let slots = c.args.uses.now.slots in
+    let slots = c.args.uses.now.uses in
     let all = resources c.args.row.count slots c.args.row.first in
     let n = c.args.row.count - c.loop-done.done in
     let slot = c.look-slot.result in
@@ -26,16 +27,16 @@ loop-done-preserved g c =
       in_left = rw e (All-tail (λ r. r < length left) slot.resource rest (All-same (λ r. r < length left) (slot.resource ∷ rest) (resources n slots c.loop-done.at) (sym out.next.list) inv.in_left));
       in_waiting = rw e (All-tail (λ r. r < length waiting) slot.resource rest (All-same (λ r. r < length waiting) (slot.resource ∷ rest) (resources n slots c.loop-done.at) (sym out.next.list) inv.in_waiting));
       rest = rw e (sym (step_on all c.loop-done.done slot.resource rest here).1);
-      least = rw is (limits_more c.loop-done.least (option_to_list c.args.row.bound) lev all c.loop-done.done slot.resource rest here inv.least);
+      least = rw is (limits_more c.loop-done.least (option_to_list (option_map (bound_level c.args.row.weight) c.args.row.bound)) lev all c.loop-done.done slot.resource rest here inv.least);
       looks = omega (arith, inv.looks, c.look-slot.ensures.looks);
     }
 
 pub returns-clause-least : goal.returns-clause-least
 returns-clause-least g c =
-    let all = resources c.args.row.count c.args.uses.now.slots c.args.row.first in
-    let len : length all ≡ c.args.row.count = length-resources c.requires.chain.0 c.args.row.count c.args.uses.now.slots c.args.row.first c.requires.chain.1 in
+    let all = resources c.args.row.count c.args.uses.now.uses c.args.row.first in
+    let len : length all ≡ c.args.row.count = length-resources c.requires.chain.0 c.args.row.count c.args.uses.now.uses c.args.row.first c.requires.chain.1 in
     let whole : take c.loop-done.done all ≡ all = take_whole c.loop-done.done all (omega (arith, len)) in
-    subst (λ ys. IsLeast c.loop-done.least (option_to_list c.args.row.bound ++ map (λ r. get_or c.args.left.now r 0 / get_or c.args.waiting.now r 0) ys)) whole c.loop-done.invariant.least
+    subst (λ ys. IsLeast c.loop-done.least (option_to_list (option_map (bound_level c.args.row.weight) c.args.row.bound) ++ map (λ r. get_or c.args.left.now r 0 / get_or c.args.waiting.now r 0) ys)) whole c.loop-done.invariant.least
   where
     take_whole : (k : ℕ) (xs : List ℕ) → length xs ≤ k → take k xs ≡ xs
     take_whole k xs h = grind (arith, take_all)

@@ -1,5 +1,5 @@
 use Rattle.std.proofs.Common.{◌≡◌, ℕ, ◌<◌, ◌==◌, ◌||◌, true, false, [], ◌∷◌, refl, arith, slice_index, ◌-◌, zero, suc}
-use Rattle.sg_maxmin.specs.Fill.{level_of, steps_from, step, is_at, lowest, least, limits, level, taken, waiting}
+use Rattle.sg_maxmin.specs.Fill.{level_of, steps_from, step, is_at, lowest, least, limits, level, taken, waiting, bound_level, share_at}
 use Rattle.sg_maxmin.specs.Relisted.{AreRelisted}
 use Rattle.sg_maxmin.specs.Worked.{behind, before}
 use Rattle.std.proofs.lemmas.List.Sorted.{IsPermutation-refl, IsPermutation-reverse}
@@ -18,13 +18,13 @@ moved = record {
   own = λ one other u v e. omega (arith, one_of_two one u, one_of_two other v, e);
   capacity = λ n u. at n (one_of_two n u);
   each = (
-    record { uses = IsPermutation-reverse (1 ∷ 0 ∷ []); bound = refl },
-    (record { uses = IsPermutation-refl (0 ∷ []); bound = refl }, (record { uses = IsPermutation-refl (0 ∷ []); bound = refl }, tt)),
+    record { uses = IsPermutation-reverse (1 ∷ 0 ∷ []); weight = refl; bound = refl },
+    (record { uses = IsPermutation-refl (0 ∷ []); weight = refl; bound = refl }, (record { uses = IsPermutation-refl (0 ∷ []); weight = refl; bound = refl }, tt)),
   );
 }
 
 pub returns : goal.returns
-unfolding level_of steps_from step is_at lowest least limits level taken waiting
+unfolding level_of steps_from step is_at lowest least limits level taken waiting bound_level share_at
 returns c = record {
   alike = refl;
   two_links = refl;
@@ -34,4 +34,8 @@ returns c = record {
   links_exchanged = refl;
   bounds_alone = refl;
   nothing = refl;
+  priorities = refl;
+  weights_leave = refl;
+  bound_rounded_up = refl;
+  bound_within = refl;
 }

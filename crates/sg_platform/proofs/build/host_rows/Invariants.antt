@@ -1,6 +1,6 @@
 use Rattle.std.proofs.Common.{◌≡◌, map, take}
 use Rattle.sg_platform.specs.Build.{host_row}
-use Rattle.sg_rules.specs.Names.{names_view}
+use Rattle.sg_rules.specs.kept.NamesView.{names_view}
 use Rattle.toml.specs.View.{view}
 use Rattle.sg_platform.proofs.build.host_rows.Given as goal
 

@@ -1,6 +1,6 @@
 use Rattle.std.proofs.Common.{◌≡◌, map, take}
 use Rattle.sg_platform.specs.Build.{zone_route_row}
-use Rattle.sg_rules.specs.Names.{names_view}
+use Rattle.sg_rules.specs.kept.NamesView.{names_view}
 use Rattle.toml.specs.View.{view}
 use Rattle.sg_platform.proofs.build.zone_route_rows.Given as goal
 

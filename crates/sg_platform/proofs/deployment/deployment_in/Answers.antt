@@ -1,10 +1,12 @@
 use Rattle.std.proofs.Common.{ℕ, ◌<◌, ◌≤◌, sym, ap, subst, length, arith, codes, ◌∙◌}
 use Rattle.sg_platform.proofs.Deployed.{actors_few, deployed_without_faults, deployment_small, deployment_without_faults, known_hosts}
-use Rattle.sg_platform.proofs.Numbers.{hosts_small}
-use Rattle.sg_platform.specs.Deployment.{IsDeployedOn}
-use Rattle.sg_platform.specs.Index.{host_number}
+use Rattle.sg_rows.proofs.Numbers.{hosts_small}
+use Rattle.sg_rows.specs.Deployment.{IsDeployedOn}
+use Rattle.sg_rows.specs.Index.{host_number}
 use Rattle.sg_rules.proofs.KeptArguments.{known_workers}
-use Rattle.sg_rules.specs.Names.{AreSmall, Known, names_view}
+use Rattle.sg_rules.proofs.Small.{bound_of}
+use Rattle.sg_rules.specs.Names.{Known}
+use Rattle.sg_rules.specs.kept.NamesView.{AreSmall, names_view}
 use Rattle.toml.specs.View.{table_view}
 use Rattle.sg_platform.proofs.deployment.deployment_in.Goals as goal
 
@@ -16,7 +18,7 @@ rows_of-requires-clause-small c =
     let few : length hosts ≤ 16384 = omega (arith, same, c.requires.few) in
     let none = sym c.in_ok-fault.ensures ∙ c.in-None.is in
     subst AreSmall (sym c.requires.known)
-    (deployment_small (length hosts) (host_number hosts) tree (λ q. hosts_small hosts q few) (actors_few (names_view c.args.names.now) tree none))
+    (deployment_small (length hosts) (host_number hosts) tree (λ q. bound_of _ 4294967296 (hosts_small hosts q few)) (actors_few (names_view c.args.names.now) tree none))
 
 pub rows_of-requires-clause-kept : goal.rows_of-requires-clause-kept
 rows_of-requires-clause-kept c =

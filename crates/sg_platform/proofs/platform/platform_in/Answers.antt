@@ -1,6 +1,6 @@
 use Rattle.std.proofs.Common.{◌∙◌, sym}
 use Rattle.sg_platform.proofs.Whole.{platform_without_faults, small_without_faults}
-use Rattle.sg_rules.specs.Names.{names_view}
+use Rattle.sg_rules.specs.kept.NamesView.{names_view}
 use Rattle.toml.specs.View.{table_view}
 use Rattle.sg_platform.proofs.platform.platform_in.Goals as goal
 

@@ -1,5 +1,5 @@
 use Rattle.std.proofs.Common.{◌≤◌, length, drop}
-use Rattle.sg_route.specs.Index.{PairsFrom}
+use Rattle.sg_route.specs.kept.Index.{PairsFrom}
 use Rattle.sg_route.proofs.locals.index_of.Given as goal
 
 abbrev pub invariant-loop-left : goal.invariant-loop-left

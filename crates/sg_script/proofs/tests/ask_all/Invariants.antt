@@ -1,7 +1,7 @@
 use Rattle.std.proofs.Common.{◌≡◌, ◌≢◌}
 use Rattle.sg_edge.specs.declared.files.Part.TheVariants.{Script as ScriptPart}
 use Rattle.sg_edge.specs.declared.files.Stage.TheVariants.{Fresh}
-use Rattle.sg_platform.specs.Deployment.{extent_of}
+use Rattle.sg_rows.specs.Deployment.{extent_of}
 use Rattle.sg_script.specs.Known.{actors_in}
 use Rattle.sg_script.specs.Stands.{actors_of, kept_of, AreLimited}
 use Rattle.sg_script.proofs.tests.ask_all.Given as goal

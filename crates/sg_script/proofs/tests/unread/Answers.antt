@@ -1,4 +1,4 @@
-use Rattle.sg_platform.specs.Deployment.{extent_of}
+use Rattle.sg_rows.specs.Deployment.{extent_of}
 use Rattle.sg_script.proofs.tests.unread.Goals as goal
 
 pub returns-clause-waiting : goal.returns-clause-waiting

@@ -5,14 +5,14 @@ use Rattle.std.specs.Map.{lookup}
 use Rattle.std.specs.Str.{bytes_eq}
 use Rattle.sg_tree.proofs.Along.{along_map}
 use Rattle.sg_tree.proofs.NameLemmas.{on_err}
-use Rattle.sg_tree.specs.Names.{AddsFront, numbered, names_from, or_else, texts_at}
+use Rattle.sg_tree.specs.Names.{AddsFront, with_number, names_from, or_else, texts_at}
 use Rattle.toml.specs.View.{view}
 use Rattle.sg_tree.proofs.names.add_names.Goals as goal
 
 pub returns-clause-added : goal.returns-clause-added
 returns-clause-added c = λ q.
     c.in_ok-add_texts.ensures.added q
-    ∙ ap (λ names. or_else (get_by_text c.args.space.now q) (lookup (bytes_eq q) names)) (sym (along_map view (λ i row. numbered (c.args.before + i) (texts_at c.args.key.now row)) 0 c.args.rows.now))
+    ∙ ap (λ names. or_else (get_by_text c.args.space.now q) (lookup (bytes_eq q) names)) (sym (along_map view (λ i row. with_number (c.args.before + i) (texts_at c.args.key.now row)) 0 c.args.rows.now))
 
 pub returns-in_err-add_texts-clause-memory : goal.returns-in_err-add_texts-clause-memory
 returns-in_err-add_texts-clause-memory c =
@@ -22,5 +22,5 @@ returns-in_err-add_texts-clause-memory c =
       within = subst (λ n. some.0 ≤ n) (sym (length-map c.args.rows.now view)) some.1;
       adds = λ q. some.2 q
           ∙ ap (λ names. or_else (get_by_text c.args.space.now q) (lookup (bytes_eq q) names))
-          (sym (ap (names_from c.args.key.now c.args.before) (take-map view some.0 c.args.rows.now) ∙ along_map view (λ i row. numbered (c.args.before + i) (texts_at c.args.key.now row)) 0 (take some.0 c.args.rows.now)));
+          (sym (ap (names_from c.args.key.now c.args.before) (take-map view some.0 c.args.rows.now) ∙ along_map view (λ i row. with_number (c.args.before + i) (texts_at c.args.key.now row)) 0 (take some.0 c.args.rows.now)));
     })

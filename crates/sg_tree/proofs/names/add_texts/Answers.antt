@@ -1,7 +1,7 @@
 use Rattle.std.proofs.Common.{◌+◌, ℕ, List}
 use Rattle.std.specs.Str.{bytes_eq}
 use Rattle.sg_tree.proofs.NameLemmas.{along_front}
-use Rattle.sg_tree.specs.Names.{numbered, texts_at}
+use Rattle.sg_tree.specs.Names.{with_number, texts_at}
 use Rattle.toml.specs.View.{view}
 use Rattle.toml.specs.declared.value.Value.{Value}
 use Rattle.sg_tree.proofs.names.add_texts.Goals as goal
@@ -9,5 +9,5 @@ use Rattle.sg_tree.proofs.names.add_texts.Goals as goal
 pub loop-i-preserved : goal.loop-i-preserved
 loop-i-preserved c = λ q.
     let row = c.index-rows-i.result in
-    let f : ℕ → Value → List (List ℕ × ℕ) = λ i r. numbered (c.args.before + i) (texts_at c.args.key.now (view r)) in
+    let f : ℕ → Value → List (List ℕ × ℕ) = λ i r. with_number (c.args.before + i) (texts_at c.args.key.now (view r)) in
     along_front (bytes_eq q) f c.args.rows.now c.loop-i.i row _ _ _ c.loop-i-test.true c.index-rows-i.is (c.loop-i.invariant q) (c.in_ok-add_text.ensures.added q)

@@ -1,6 +1,6 @@
 use Rattle.std.proofs.Common.{◌∙◌, ap, sym, arith}
 use Rattle.std.specs.Str.Parse.{digits_value_after}
-use Rattle.sg_units.specs.Shown.{parts_of}
+use Rattle.sg_units.specs.kept.Shown.{parts_of}
 use Rattle.sg_units.proofs.Values.{after_append, two_parts, few_in_all}
 use Rattle.sg_units.proofs.readers.digits_of.Goals as goal
 

@@ -1,5 +1,5 @@
 use Rattle.std.proofs.Common.{◌∙◌, ap, sym, arith}
-use Rattle.sg_units.specs.Scaled.{if_at_most}
+use Rattle.sg_units.specs.kept.Scaled.{if_at_most}
 use Rattle.sg_units.proofs.Scaling.{cancel_up, cancel_down, none_above, some_below}
 use Rattle.sg_units.proofs.scale.scaled.Goals as goal
 

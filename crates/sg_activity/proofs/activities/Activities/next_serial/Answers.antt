@@ -1,9 +1,16 @@
-use Rattle.std.proofs.Common.{arith}
-use Rattle.sg_activity.proofs.Keeps.{drawn_is}
+use Rattle.std.proofs.Common.{◌≡◌, ◌+◌, length, sym, ap, ◌∙◌, arith}
+use Rattle.sg_activity.specs.Doing.{Doing}
+use Rattle.sg_activity.specs.kept.State.{state_of, told_at, task_of}
+use Rattle.sg_activity.proofs.Listing.{length-listed}
+use Rattle.sg_activity.proofs.Going.{gone_told}
+use Rattle.sg_activity.proofs.Due.{due_told}
+use Rattle.sg_activity.proofs.Pooled.{given}
+use Rattle.sg_activity.proofs.Renewed.{dated_next}
+use Rattle.sg_activity.proofs.Turning.{end_under}
+use Rattle.sg_activity.proofs.Settled.{settled_told}
 use Rattle.sg_activity.proofs.activities.Activities.next_serial.Goals as goal
 
-pub overflow_add-result : goal.overflow_add-result
-overflow_add-result c = omega (arith, c.self.invariant.few)
-
 pub returns : goal.returns
-returns c = omega (arith, drawn_is c.self.inside.kept c.args.self.now c.self.invariant.rising c.self.view_is)
+returns c =
+    let s = state_of c.self.inside.kept in
+    omega (arith, ap (λ (d : Doing). length d.under.tasks) c.self.view_is, length-listed s.drawn (λ i. told_at (task_of s) s.slots (i + 1)))

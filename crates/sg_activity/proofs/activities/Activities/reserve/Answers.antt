@@ -1,51 +1,32 @@
-use Rattle.std.proofs.Common.{◌+◌, Option, is_some, count_by, filter, length, List, take, sym, ap, subst, ◌∙◌, arith}
-use Rattle.slab.specs.Slab.{Slab}
-use Rattle.sg_activity.specs.declared.routes.Way.{Way}
-use Rattle.sg_activity.specs.kept.Rows.{AreRising, slots_of, is_due}
-use Rattle.sg_activity.specs.kept.Sound.{AreKept, capacities_in, slots_in}
-use Rattle.sg_activity.proofs.Keeps.{kept_reserved}
+use Rattle.std.proofs.Common.{◌≡◌, ◌+◌, ◌-◌, ◌*◌, ◌≤◌, sym, ap, ap₂, subst, ◌∙◌, arith}
+use Rattle.sg_activity.specs.declared.kept.Kept.{Kept}
+use Rattle.sg_activity.specs.Doing.{Doing}
+use Rattle.sg_activity.specs.kept.Sound.{IsSound}
+use Rattle.sg_activity.specs.kept.State.{state_of, doing_of}
+use Rattle.sg_activity.proofs.Grown.{sound_grown, grown_doing}
 use Rattle.sg_activity.proofs.activities.Activities.reserve.Goals as goal
 
-pub invariant_of-self-in_err-reserve-3 : goal.invariant_of-self-in_err-reserve-3
-invariant_of-self-in_err-reserve-3 c =
-    let s = c.self.inside.kept in
+pub invariant_of-self : goal.invariant_of-self
+invariant_of-self c =
+    let kept = c.self.inside.kept in
+    let new = c.grow.new.kept in
     let is = c.self.invariant in
-    let items = c.reserve.ensures.items in
-    let ways = ap (λ (r : Slab Way). r.slots) c.reserve-2.ensures.rest_kept in
-    let fewer = ap (λ (l : List (Option Way)). count_by is_some l) ways in
-    record {
-      are = subst (λ l. AreKept (capacities_in s) (slots_of s.drawn l) c.reserve-3.new.self c.reserve-2.new.self.slots s.ahead s.settled) (sym items)
-          (subst (λ l. AreKept (capacities_in s) (slots_in s) c.reserve-3.new.self l s.ahead s.settled) (sym ways)
-          (kept_reserved (capacities_in s) (slots_in s) s.system c.reserve-3.new.self s.ways.slots s.ahead s.settled is.are c.reserve-3.ensures.kept));
-      rising = subst (AreRising 1 (s.drawn + 1)) (sym items) is.rising;
-      few = is.few;
-      within = omega (arith, is.within, ap length items);
-      undue = ap (λ l. filter is_due (take s.next l)) items ∙ is.undue;
-      row_room = omega (arith, is.row_room, c.reserve.ensures.len, c.reserve.ensures.capacity);
-      way_room = omega (arith, is.way_room, fewer, c.reserve-2.ensures.capacity);
-      flow_room = omega (arith, is.flow_room, c.reserve-3.ensures.grows.0);
-      use_room = omega (arith, is.use_room, c.reserve-3.ensures.grows.1);
-      early = is.early;
-    }
+    let g = c.grow.ensures.grows in
+    let same : new ≡ record new { room = kept.room; flows = kept.flows } = ap₂ (λ r f. record new { room = r; flows = f }) (ap (λ (k : Kept). k.room) g.rest) (ap (λ (k : Kept). k.flows) g.rest) in
+    subst IsSound (sym same) (sound_grown kept new kept.room kept.flows is g is.room.flows (omega (arith, is.room.flow_room, g.flow_room)) (omega (arith, is.room.use_room, g.use_room)) (omega (arith, is.room.keys_free, g.keys_free)))
+
+pub returns-in_err-grow-clause-kept : goal.returns-in_err-grow-clause-kept
+returns-in_err-grow-clause-kept c =
+    let kept = c.self.inside.kept in
+    let new = c.grow.new.kept in
+    grown_doing kept new kept.room kept.flows c.self.invariant c.grow.ensures.grows new.room ∙ ap (λ (d : Doing). record d { room = new.room }) c.self.view_is
 
 pub invariant_of-self-2 : goal.invariant_of-self-2
 invariant_of-self-2 c =
-    let s = c.self.inside.kept in
+    let kept = c.self.inside.kept in
     let is = c.self.invariant in
-    let items = c.reserve.ensures.items in
-    let ways = ap (λ (r : Slab Way). r.slots) c.reserve-2.ensures.rest_kept in
-    let fewer = ap (λ (l : List (Option Way)). count_by is_some l) ways in
-    record {
-      are = subst (λ l. AreKept (capacities_in s) (slots_of s.drawn l) c.reserve-3.new.self c.reserve-2.new.self.slots s.ahead s.settled) (sym items)
-          (subst (λ l. AreKept (capacities_in s) (slots_in s) c.reserve-3.new.self l s.ahead s.settled) (sym ways)
-          (kept_reserved (capacities_in s) (slots_in s) s.system c.reserve-3.new.self s.ways.slots s.ahead s.settled is.are c.reserve-3.ensures.kept));
-      rising = subst (AreRising 1 (s.drawn + 1)) (sym items) is.rising;
-      few = is.few;
-      within = omega (arith, is.within, ap length items);
-      undue = ap (λ l. filter is_due (take s.next l)) items ∙ is.undue;
-      row_room = omega (arith, c.in_ok-reserve.ensures.ok);
-      way_room = omega (arith, c.in_ok-reserve-2.ensures.room);
-      flow_room = omega (arith, c.in-Some.ensures, c.in_ok-reserve-3.ensures.flow_room);
-      use_room = omega (arith, c.in-Some.ensures, c.in-Some-checked_mul.ensures, c.in_ok-reserve-3.ensures.use_room);
-      early = is.early;
-    }
+    sound_grown kept c.grow.new.kept c.max-n.result c.in-Some.flows is c.grow.ensures.grows (omega (arith, c.in-Some.ensures, is.room.flows)) c.in_ok-grow.ensures.flows (omega (arith, c.in-Some-checked_mul.ensures, c.in_ok-grow.ensures.uses)) c.in_ok-grow.ensures.keys
+
+pub returns-clause-kept : goal.returns-clause-kept
+returns-clause-kept c =
+    grown_doing c.self.inside.kept c.grow.new.kept c.max-n.result c.in-Some.flows c.self.invariant c.grow.ensures.grows c.max-n.result ∙ ap (λ (d : Doing). record d { room = c.max-n.result }) c.self.view_is

@@ -1,42 +1,78 @@
-use Rattle.std.proofs.Common.{◌+◌, true, length, refl, sym, ap, subst, ◌∙◌, arith}
-use Rattle.sg_maxmin.specs.Fill.{Flow}
-use Rattle.sg_maxmin.specs.Sharing.{Sharing}
-use Rattle.sg_activity.specs.Underway.{uses_under}
+use Rattle.std.proofs.Common.{◌≡◌, ◌+◌, ◌≤◌, ◌<◌, ℕ, true, false, List, [], option_map, length, sum_by, All, sym, ap, subst, ◌∙◌, refl, arith}
+use Rattle.sg_base.specs.MarkSet.{MarkSet, is_in}
+use Rattle.sg_activity.specs.Underway.{work_of}
 use Rattle.sg_activity.specs.Doing.{Doing, settled_in}
-use Rattle.sg_activity.specs.kept.Rows.{AreRising, slots_of}
-use Rattle.sg_activity.specs.kept.Sound.{AreKept, capacities_in, slots_in}
-use Rattle.sg_activity.proofs.Spread.{rising-filter, spread-filter}
-use Rattle.sg_activity.proofs.Keeps.{is_left, kept_settled}
-use Rattle.sg_activity.proofs.Told.{doing_from}
+use Rattle.sg_activity.specs.kept.Renewal.{HaveKeys, AreRenewed, restamped}
+use Rattle.sg_activity.specs.kept.Sound.{IsKept}
+use Rattle.sg_activity.specs.kept.State.{State, state_of, doing_of, under_of}
+use Rattle.sg_activity.proofs.Rates.{work_told}
+use Rattle.sg_activity.proofs.Settled.{keyed_flows, small_lives, marked_below, ahead_stamped, settled_kept, settled_told}
 use Rattle.sg_activity.proofs.activities.Activities.settle.Goals as goal
+
+pub restamp-requires-clause-keys : goal.restamp-requires-clause-keys
+restamp-requires-clause-keys g c =
+    let kept = c.self.inside.kept in
+    let s : State = state_of kept in
+    subst (λ l. HaveKeys s.slots l c.settle.new.self s.date) (sym c.deref.ensures.value) (keyed_flows s kept.lazy c.settle.new.self c.self.invariant.are refl c.settle.ensures.settled)
+
+pub renew-requires-clause-below : goal.renew-requires-clause-below
+renew-requires-clause-below g c =
+    let kept = c.self.inside.kept in
+    let s : State = state_of kept in
+    subst (All (λ key. key < length c.restamp.new.lives.slots)) (sym c.members.ensures.members)
+    (marked_below s c.settle.new.self.changed c.restamp.new.fresh.members c.restamp.new.lives.slots c.self.invariant.are c.restamp.ensures.fresh c.restamp.ensures.long)
+
+pub renew-requires-clause-small : goal.renew-requires-clause-small
+renew-requires-clause-small g c =
+    let kept = c.self.inside.kept in
+    let s : State = state_of kept in
+    small_lives s c.settle.new.self.changed c.settle.new.self.slots c.restamp.new.lives.slots c.self.invariant.are c.self.invariant.room.early c.restamp.ensures.slots
 
 pub invariant_of-self : goal.invariant_of-self
 invariant_of-self g c =
-    let s = c.self.inside.kept in
+    let kept = c.self.inside.kept in
+    let s : State = state_of kept in
     let is = c.self.invariant in
-    let cleared = c.clear_done.ensures in
-    let slots = ap (slots_of s.drawn) cleared.items ∙ spread-filter 1 (s.drawn + 1) s.rows.items is.rising in
-    let solved = c.solve.ensures in
+    let pool = c.restamp.new.lives in
+    let new = c.settle.new.self in
+    let by = c.settle.ensures.settled in
+    let renewed = subst (λ l. AreRenewed s.keys c.renew.new.agenda pool.slots l) c.members.ensures.members c.renew.ensures.dates in
+    let none = ap (λ (m : MarkSet). m.members) c.clear.ensures in
     record {
-      are = subst (λ l. AreKept (capacities_in s) l c.solve.new.self s.ways.slots s.ahead true) (sym slots)
-          (kept_settled (capacities_in s) (slots_in s) s.system c.solve.new.self s.ways.slots s.ahead s.settled is.are solved.kept solved.shares);
-      rising = subst (AreRising 1 (s.drawn + 1)) (sym cleared.items) (rising-filter 1 (s.drawn + 1) is_left s.rows.items is.rising);
-      few = is.few;
-      within = omega arith;
-      undue = refl;
-      row_room = omega (arith, is.row_room, cleared.len, cleared.capacity);
-      way_room = is.way_room;
-      flow_room = omega (arith, is.flow_room, ap (λ (m : Sharing). m.flow_room) solved.kept);
-      use_room = omega (arith, is.use_room, ap (λ (m : Sharing). m.use_room) solved.kept);
-      early = is.early;
+      are = subst (λ l. IsKept (record s { slots = pool.slots; keys = c.renew.new.agenda; runs = new.slots; fresh = l; ended = new.ended; settled = true; arrived = false })) (sym none)
+          (settled_kept s kept.lazy new pool kept.fresh c.restamp.new.fresh c.renew.new.agenda is.are refl is.room.capacities by refl kept.lives refl c.restamp.ensures renewed);
+      room = record {
+        capacities = by.capacities_kept ∙ is.room.capacities;
+        few = is.room.few;
+        early = is.room.early;
+        flows = is.room.flows ∙ ap (λ n. kept.room + n) (sym (ahead_stamped new.changed new.slots s.date s.slots pool.slots c.restamp.ensures.slots c.restamp.ensures.long));
+        flow_room = omega (arith, is.room.flow_room, by.flow_room_back);
+        use_room = omega (arith, is.room.use_room, by.use_room_back);
+        keys_free = omega (arith, is.room.keys_free, c.restamp.ensures.room);
+        ways_long = omega (arith, is.room.ways_long, c.restamp.ensures.long);
+        agenda_long = omega (arith, is.room.agenda_long, c.restamp.ensures.long, c.renew.ensures.long);
+        fresh_room = omega (arith, is.room.fresh_room, c.restamp.ensures.long, c.restamp.ensures.fresh_room, ap (λ (m : MarkSet). m.room) c.clear.ensures);
+        by_flow_long = omega (arith, is.room.by_flow_long, by.numbers);
+      };
     }
 
 pub returns-clause-settles : goal.returns-clause-settles
 returns-clause-settles g c =
-    let s = c.self.inside.kept in
-    ap (λ l. doing_from (capacities_in s) s.date s.ways.slots l true s.room) (ap (slots_of s.drawn) c.clear_done.ensures.items ∙ spread-filter 1 (s.drawn + 1) s.rows.items c.self.invariant.rising)
+    let kept = c.self.inside.kept in
+    let s : State = state_of kept in
+    let is = c.self.invariant in
+    let pool = c.restamp.new.lives in
+    let new = c.settle.new.self in
+    let by = c.settle.ensures.settled in
+    let renewed = subst (λ l. AreRenewed s.keys c.renew.new.agenda pool.slots l) c.members.ensures.members c.renew.ensures.dates in
+    let none = ap (λ (m : MarkSet). m.members) c.clear.ensures in
+    ap (λ l. doing_of (record s { slots = pool.slots; keys = c.renew.new.agenda; runs = new.slots; fresh = l; ended = new.ended; settled = true; arrived = false }) kept.room) none
+    ∙ settled_told s kept.lazy new pool kept.fresh c.restamp.new.fresh c.renew.new.agenda is.are refl is.room.capacities by refl kept.lives refl c.restamp.ensures renewed kept.room
     ∙ ap settled_in c.self.view_is
 
 pub returns-clause-looks : goal.returns-clause-looks
 returns-clause-looks g c =
-    omega (arith, c.solve.ensures.looks, c.self.invariant.are.sums (λ (flow : Flow). length flow.uses), ap (λ (d : Doing). uses_under d.under) c.self.view_is)
+    let s : State = state_of c.self.inside.kept in
+    let same = work_told s c.self.invariant.are in
+    let view = ap (λ (d : Doing). work_of d.under) c.self.view_is in
+    omega (arith, c.settle.ensures.looks, same, view)

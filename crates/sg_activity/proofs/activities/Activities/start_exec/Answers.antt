@@ -1,71 +1,90 @@
-use Rattle.std.proofs.Common.{◌≡◌, ◌+◌, ◌-◌, ◌*◌, ◌<◌, ◌≤◌, ◌^◌, false, None, Some, [], ◌∷◌, length, sym, ap, subst, ◌∙◌, refl, arith}
-use Rattle.std.proofs.lemmas.List.{get_or_default}
-use Rattle.sg_maxmin.specs.Fill.{flow}
-use Rattle.sg_maxmin.specs.Sharing.{Changes}
-use Rattle.sg_activity.specs.declared.kinds.HostCap.{HostCap}
-use Rattle.sg_activity.specs.declared.rows.Row.{Row}
-use Rattle.sg_activity.specs.declared.rows.Site.TheVariants as site
+use Rattle.std.proofs.Common.{◌≡◌, ◌+◌, ◌-◌, ◌*◌, ◌<◌, ◌≤◌, ◌^◌, true, false, None, Some, option_map, List, [], ◌∷◌, ◌++◌, length, length-set, set, sum_by, sym, ap, ap₂, subst, ◌∙◌, refl, arith}
+use Rattle.sg_base.specs.MarkSet.{MarkSet}
 use Rattle.sg_activity.specs.declared.kinds.PhaseKind.TheVariants as phase
+use Rattle.sg_activity.specs.declared.lives.Live.{Live}
+use Rattle.sg_activity.specs.declared.kinds.HostCap.{HostCap}
 use Rattle.sg_activity.specs.Hosts.{host_at}
-use Rattle.sg_activity.specs.Task.{exec_of}
+use Rattle.sg_activity.specs.Task.{exec_of, on_host}
+use Rattle.sg_lazy.specs.Lazily.{Lazily}
+use Rattle.sg_lazy.specs.RunningFlow.{RunningFlow}
+use Rattle.sg_maxmin.specs.Fill.{Flow, flow}
+use Rattle.std.proofs.lemmas.List.{get_or_default}
 use Rattle.sg_activity.specs.Doing.{Doing, started_in}
-use Rattle.sg_activity.specs.kept.Rows.{AreRising, slots_of}
-use Rattle.sg_activity.specs.kept.Sound.{capacities_in}
-use Rattle.sg_activity.specs.kept.Ends.{Replaces}
-use Rattle.sg_activity.proofs.Spread.{spread-push, rising-push}
-use Rattle.sg_activity.proofs.Routed.{host_is_flow}
-use Rattle.sg_activity.proofs.Replaced.{filled}
-use Rattle.sg_activity.proofs.Keeps.{drawn_is}
-use Rattle.sg_activity.proofs.Pushed.{are_pushed, undue_pushed, within_pushed}
-use Rattle.sg_activity.proofs.Told.{doing_from, started_told}
+use Rattle.sg_activity.specs.kept.State.{State, state_of, told_at, task_of, doing_of}
+use Rattle.sg_activity.specs.kept.Sound.{IsKept, slot_ahead}
+use Rattle.sg_activity.specs.kept.Turns.{Turns}
+use Rattle.sg_activity.proofs.Listing.{length-listed}
+use Rattle.sg_activity.proofs.Roomy.{ahead_set}
+use Rattle.sg_activity.proofs.Told.{new_mark, unmarked, started_told}
+use Rattle.sg_activity.proofs.Turned.{turned}
+use Rattle.sg_activity.proofs.Turning.{begun_state, state_with, state_same, flow_turns, new_begins, left_fresh}
 use Rattle.sg_activity.proofs.activities.Activities.start_exec.Goals as goal
-
-pub overflow_add-self : goal.overflow_add-self
-overflow_add-self c = omega (arith, drawn_is c.self.inside.kept c.args.self.now c.self.invariant.rising c.self.view_is, c.requires.few)
 
 pub invariant_of-self : goal.invariant_of-self
 invariant_of-self c =
-    let s = c.self.inside.kept in
-    let capacities = capacities_in s in
+    let kept = c.self.inside.kept in
+    let s : State = state_of kept in
     let is = c.self.invariant in
-    let row : Row = record { serial = c.next_serial-serial.result.0; kind = phase.Exec; left = c.from.result * 1000000000; bytes = 0; site = site.Host c.args.host.0; flow = c.add-flow.result; due = false; done = false } in
-    let drawn = drawn_is s c.args.self.now is.rising c.self.view_is in
-    let serial : row.serial ≡ s.drawn + 1 = omega (arith, c.next_serial-serial.ensures, drawn) in
-    let small : row.left ≤ 10 ^ 24 = omega (arith, c.from.ensures, c.requires.flops) in
-    let within : c.args.host.0 < length s.hosts.items = subst (λ (d : Doing). c.args.host.0 < length d.under.capacities.hosts) (sym c.self.view_is) c.requires.host in
-    let speed = ap (λ (h : HostCap). h.speed) (c.index.ensures ∙ get_or_default s.hosts.items _ _ _ within) in
-    let changes : Changes s.system.slots c.add-flow.new.self.slots row.flow (Some (flow (c.args.host.0 ∷ []) (Some (host_at s.hosts.items c.args.host.0).speed))) =
-    subst (λ v. Changes s.system.slots c.add-flow.new.self.slots row.flow (Some (flow (c.args.host.0 ∷ []) (Some v)))) speed c.add-flow.ensures.added in
-    let by = filled capacities s.system c.add-flow.new.self s.ways.slots None row refl (λ h. refl) c.add-flow.ensures.capacities c.add-flow.ensures.free changes (λ _. refl) refl (λ key e. absurd (cc e)) small (omega arith) in
-    let items = c.push_reserved.ensures.items in
+    let key = c.put-key.result in
+    let live : Live = record { serial = c.next_serial-serial.result.0; kind = phase.Exec; kept = c.from.result * 1000000000; stamp = kept.date; rate = 0; bytes = 0; host = c.args.host.0; flow = c.start-flow.result } in
+    let id = c.start-flow.result in
+    let asked : Flow = flow (c.args.host.0 ∷ []) 1 (Some (host_at kept.hosts.items c.args.host.0).speed) in
+    let run : RunningFlow = record { flow = asked; rate = 0; began = true } in
+    let there : c.args.host.0 < length kept.hosts.items = subst (λ (d : Doing). c.args.host.0 < length d.under.capacities.hosts) (sym c.self.view_is) c.requires.host in
+    let speed = ap (λ (h : HostCap). h.speed) (c.index.ensures ∙ get_or_default kept.hosts.items _ _ _ there) in
+    let runs : c.start-flow.new.self.slots ≡ set s.runs id (Some run) = ap (λ (l : Lazily). l.slots) c.start-flow.ensures.starts ∙ ap (λ v. set s.runs id (Some (record { flow = flow (c.args.host.0 ∷ []) 1 (Some v); rate = 0; began = true }))) speed in
+    let by_in : id < length s.by_flow = omega (arith, c.start-flow.ensures.in_range, is.room.by_flow_long) in
     let room = ap (λ (d : Doing). d.room) c.self.view_is in
+    let drawn : length c.args.self.now.under.tasks ≡ s.drawn = sym (ap (λ (d : Doing). length d.under.tasks) c.self.view_is) ∙ length-listed s.drawn (λ i. told_at (task_of s) s.slots (i + 1)) in
+    let free = c.put-key.ensures.free in
+    let within = c.put-key.ensures.in_range in
+    let serial : live.serial ≡ s.drawn + 1 = omega (arith, c.next_serial-serial.ensures, drawn) in
+    let small : live.kept ≤ 10 ^ 24 = omega (arith, c.from.ensures, c.requires.flops) in
+    let new : State = begun_state s (s.drawn + 1) key live s.ways s.keys (set s.runs id (Some run)) (set s.by_flow id key) in
+    let turns : Turns s new key live.serial (Some live) = flow_turns s (s.drawn + 1) key live s.keys is.are (new_begins s key live is.are within free serial refl small (omega arith)) refl refl c.start-flow.ensures.free c.start-flow.ensures.in_range by_in (record { weighs = omega arith; bounds = λ _. refl }) in
+    let state_is = state_same s (s.drawn + 1) false c.put-key.new.self.slots (set s.slots key (Some live)) s.ways s.ways s.keys s.keys c.start-flow.new.self.slots (set s.runs id (Some run)) (set s.by_flow id key) (set s.by_flow id key) c.insert.new.self.members (s.fresh ++ key ∷ []) c.start-flow.new.self.ended s.ended
+    c.put-key.ensures.slots refl refl runs refl (ap (λ (m : MarkSet). m.members) c.insert.ensures ∙ new_mark key s.fresh (unmarked s key is.are free)) (ap (λ (l : Lazily). l.ended) c.start-flow.ensures.starts) in
     record {
-      are = are_pushed s c.add-flow.new.self row _ is serial refl items by refl;
-      rising = subst (AreRising 1 (s.drawn + 1 + 1)) (sym items) (rising-push 1 (s.drawn + 1) s.rows.items row is.rising serial);
-      few = omega (arith, drawn, c.requires.few);
-      within = within_pushed s row _ is items;
-      undue = undue_pushed s row _ is items;
-      row_room = omega (arith, room, c.requires.room, is.row_room, c.push_reserved.ensures.len, c.push_reserved.ensures.capacity);
-      way_room = omega (arith, is.way_room);
-      flow_room = omega (arith, room, c.requires.room, is.flow_room, c.add-flow.ensures.flow_room);
-      use_room = omega (arith, room, c.requires.room, is.use_room, c.add-flow.ensures.use_room);
-      early = is.early;
+      are = subst IsKept (sym state_is) (turned s new key live.serial (Some live) is.are turns);
+      room = record {
+        capacities = ap (λ (l : Lazily). l.capacities) c.start-flow.ensures.starts ∙ is.room.capacities;
+        few = omega (arith, drawn, c.requires.few);
+        early = is.room.early;
+        flows = omega (arith, is.room.flows, room, c.requires.room, ahead_set s.slots key (Some live) within, ap slot_ahead free, ap (sum_by slot_ahead) c.put-key.ensures.slots);
+        flow_room = omega (arith, is.room.flow_room, is.room.flows, room, c.requires.room, ap (λ (l : Lazily). l.flow_room) c.start-flow.ensures.starts);
+        use_room = omega (arith, is.room.use_room, is.room.flows, room, c.requires.room, ap (λ (l : Lazily). l.use_room) c.start-flow.ensures.starts);
+        keys_free = omega (arith, is.room.keys_free, room, c.requires.room, c.put-key.ensures.room);
+        ways_long = omega (arith, is.room.ways_long, ap length c.put-key.ensures.slots, length-set s.slots key (Some live));
+        agenda_long = omega (arith, is.room.agenda_long, ap length c.put-key.ensures.slots, length-set s.slots key (Some live));
+        fresh_room = omega (arith, is.room.fresh_room, ap length c.put-key.ensures.slots, length-set s.slots key (Some live), ap (λ (m : MarkSet). m.room) c.insert.ensures);
+        by_flow_long = omega (arith, is.room.by_flow_long, ap length runs, length-set s.runs id (Some run), length-set s.by_flow id key);
+      };
     }
 
 pub returns-clause-starts : goal.returns-clause-starts
 returns-clause-starts c =
-    let s = c.self.inside.kept in
-    let capacities = capacities_in s in
+    let kept = c.self.inside.kept in
+    let s : State = state_of kept in
     let is = c.self.invariant in
-    let row : Row = record { serial = c.next_serial-serial.result.0; kind = phase.Exec; left = c.from.result * 1000000000; bytes = 0; site = site.Host c.args.host.0; flow = c.add-flow.result; due = false; done = false } in
-    let serial : row.serial ≡ s.drawn + 1 = omega (arith, c.next_serial-serial.ensures, drawn_is s c.args.self.now is.rising c.self.view_is) in
-    let small : row.left ≤ 10 ^ 24 = omega (arith, c.from.ensures, c.requires.flops) in
-    let within : c.args.host.0 < length s.hosts.items = subst (λ (d : Doing). c.args.host.0 < length d.under.capacities.hosts) (sym c.self.view_is) c.requires.host in
-    let speed = ap (λ (h : HostCap). h.speed) (c.index.ensures ∙ get_or_default s.hosts.items _ _ _ within) in
-    let changes : Changes s.system.slots c.add-flow.new.self.slots row.flow (Some (flow (c.args.host.0 ∷ []) (Some (host_at s.hosts.items c.args.host.0).speed))) =
-    subst (λ v. Changes s.system.slots c.add-flow.new.self.slots row.flow (Some (flow (c.args.host.0 ∷ []) (Some v)))) speed c.add-flow.ensures.added in
-    let by = filled capacities s.system c.add-flow.new.self s.ways.slots None row refl (λ h. refl) c.add-flow.ensures.capacities c.add-flow.ensures.free changes (λ _. refl) refl (λ key e. absurd (cc e)) small (omega arith) in
-    ap (λ l. doing_from capacities s.date s.ways.slots (slots_of (s.drawn + 1) l) false (s.room - 1)) c.push_reserved.ensures.items
-    ∙ ap (λ l. doing_from capacities s.date s.ways.slots l false (s.room - 1)) (spread-push 1 (s.drawn + 1) s.rows.items row serial)
-    ∙ started_told s c.add-flow.new.self s.ways.slots row c.args.self.now is by refl c.self.view_is
-    ∙ ap (λ n. started_in (exec_of c.args.host.0 n) c.args.self.now) c.from.ensures
+    let key = c.put-key.result in
+    let live : Live = record { serial = c.next_serial-serial.result.0; kind = phase.Exec; kept = c.from.result * 1000000000; stamp = kept.date; rate = 0; bytes = 0; host = c.args.host.0; flow = c.start-flow.result } in
+    let id = c.start-flow.result in
+    let asked : Flow = flow (c.args.host.0 ∷ []) 1 (Some (host_at kept.hosts.items c.args.host.0).speed) in
+    let run : RunningFlow = record { flow = asked; rate = 0; began = true } in
+    let there : c.args.host.0 < length kept.hosts.items = subst (λ (d : Doing). c.args.host.0 < length d.under.capacities.hosts) (sym c.self.view_is) c.requires.host in
+    let speed = ap (λ (h : HostCap). h.speed) (c.index.ensures ∙ get_or_default kept.hosts.items _ _ _ there) in
+    let runs : c.start-flow.new.self.slots ≡ set s.runs id (Some run) = ap (λ (l : Lazily). l.slots) c.start-flow.ensures.starts ∙ ap (λ v. set s.runs id (Some (record { flow = flow (c.args.host.0 ∷ []) 1 (Some v); rate = 0; began = true }))) speed in
+    let by_in : id < length s.by_flow = omega (arith, c.start-flow.ensures.in_range, is.room.by_flow_long) in
+    let drawn : length c.args.self.now.under.tasks ≡ s.drawn = sym (ap (λ (d : Doing). length d.under.tasks) c.self.view_is) ∙ length-listed s.drawn (λ i. told_at (task_of s) s.slots (i + 1)) in
+    let free = c.put-key.ensures.free in
+    let within = c.put-key.ensures.in_range in
+    let serial : live.serial ≡ s.drawn + 1 = omega (arith, c.next_serial-serial.ensures, drawn) in
+    let small : live.kept ≤ 10 ^ 24 = omega (arith, c.from.ensures, c.requires.flops) in
+    let new : State = begun_state s (s.drawn + 1) key live s.ways s.keys (set s.runs id (Some run)) (set s.by_flow id key) in
+    let turns : Turns s new key live.serial (Some live) = flow_turns s (s.drawn + 1) key live s.keys is.are (new_begins s key live is.are within free serial refl small (omega arith)) refl refl c.start-flow.ensures.free c.start-flow.ensures.in_range by_in (record { weighs = omega arith; bounds = λ _. refl }) in
+    let state_is = state_same s (s.drawn + 1) false c.put-key.new.self.slots (set s.slots key (Some live)) s.ways s.ways s.keys s.keys c.start-flow.new.self.slots (set s.runs id (Some run)) (set s.by_flow id key) (set s.by_flow id key) c.insert.new.self.members (s.fresh ++ key ∷ []) c.start-flow.new.self.ended s.ended
+    c.put-key.ensures.slots refl refl runs refl (ap (λ (m : MarkSet). m.members) c.insert.ensures ∙ new_mark key s.fresh (unmarked s key is.are free)) (ap (λ (l : Lazily). l.ended) c.start-flow.ensures.starts) in
+    ap (λ st. doing_of st (kept.room - 1)) state_is
+    ∙ started_told s new key live.serial (Some live) is.are turns live kept.room refl refl serial free refl refl
+    ∙ ap (λ n. started_in (record { kind = phase.Exec; left = n; place = on_host c.args.host.0; bound = None; bytes = 0 }) (doing_of s kept.room)) (left_fresh (c.from.result * 1000000000) 0 kept.date ∙ ap (λ n. n * 1000000000) c.from.ensures)
+    ∙ ap (started_in (exec_of c.args.host.0 c.args.flops)) c.self.view_is

@@ -1,55 +1,70 @@
-use Rattle.std.proofs.Common.{◌≡◌, ◌+◌, ◌-◌, ◌≤◌, ◌^◌, false, sym, ap, subst, ◌∙◌, refl, arith}
-use Rattle.sg_activity.specs.declared.rows.Row.{Row}
-use Rattle.sg_activity.specs.declared.rows.Site.TheVariants as site
+use Rattle.std.proofs.Common.{◌≡◌, ◌+◌, ◌-◌, ◌*◌, ◌<◌, ◌≤◌, ◌^◌, false, None, Some, option_map, List, [], ◌∷◌, ◌++◌, length, length-set, set, sum_by, sym, ap, ap₂, subst, ◌∙◌, refl, arith}
+use Rattle.sg_base.specs.MarkSet.{MarkSet}
 use Rattle.sg_activity.specs.declared.kinds.PhaseKind.TheVariants as phase
-use Rattle.sg_activity.specs.Task.{timer_of}
+use Rattle.sg_activity.specs.declared.lives.Live.{Live}
+use Rattle.sg_activity.specs.Task.{timer_of, nowhere}
 use Rattle.sg_activity.specs.Doing.{Doing, started_in}
-use Rattle.sg_activity.specs.kept.Rows.{AreRising, slots_of}
-use Rattle.sg_activity.specs.kept.Sound.{capacities_in}
-use Rattle.sg_activity.proofs.Spread.{spread-push, rising-push}
-use Rattle.sg_activity.proofs.Replaced.{timed}
-use Rattle.sg_activity.proofs.Keeps.{drawn_is}
-use Rattle.sg_activity.proofs.Pushed.{are_pushed, undue_pushed, within_pushed}
-use Rattle.sg_activity.proofs.Told.{doing_from, started_told}
+use Rattle.sg_activity.specs.kept.State.{State, state_of, told_at, task_of, doing_of}
+use Rattle.sg_activity.specs.kept.Sound.{IsKept, slot_ahead}
+use Rattle.sg_activity.specs.kept.Turns.{Turns}
+use Rattle.sg_activity.proofs.Listing.{length-listed}
+use Rattle.sg_activity.proofs.Roomy.{ahead_set}
+use Rattle.sg_activity.proofs.Told.{new_mark, unmarked, started_told}
+use Rattle.sg_activity.proofs.Turned.{turned}
+use Rattle.sg_activity.proofs.Turning.{begun_state, state_with, state_same, time_turns, new_begins, left_fresh}
 use Rattle.sg_activity.proofs.activities.Activities.start_timer.Goals as goal
-
-pub overflow_add-self : goal.overflow_add-self
-overflow_add-self c = omega (arith, drawn_is c.self.inside.kept c.args.self.now c.self.invariant.rising c.self.view_is, c.requires.few)
 
 pub invariant_of-self : goal.invariant_of-self
 invariant_of-self c =
-    let s = c.self.inside.kept in
+    let kept = c.self.inside.kept in
+    let s : State = state_of kept in
     let is = c.self.invariant in
-    let row : Row = record { serial = c.next_serial-serial.result.0; kind = phase.Timer; left = c.from.result; bytes = 0; site = site.Nowhere; flow = 0; due = false; done = false } in
-    let drawn = drawn_is s c.args.self.now is.rising c.self.view_is in
-    let serial : row.serial ≡ s.drawn + 1 = omega (arith, c.next_serial-serial.ensures, drawn) in
-    let small : row.left ≤ 10 ^ 24 = omega (arith, c.from.ensures, c.requires.ns) in
-    let by = timed (capacities_in s) s.system s.ways.slots row refl refl small (omega arith) in
-    let items = c.push_reserved.ensures.items in
+    let key = c.put-key.result in
+    let live : Live = record { serial = c.next_serial-serial.result.0; kind = phase.Timer; kept = c.from.result; stamp = kept.date; rate = 1; bytes = 0; host = 0; flow = 0 } in
     let room = ap (λ (d : Doing). d.room) c.self.view_is in
+    let drawn : length c.args.self.now.under.tasks ≡ s.drawn = sym (ap (λ (d : Doing). length d.under.tasks) c.self.view_is) ∙ length-listed s.drawn (λ i. told_at (task_of s) s.slots (i + 1)) in
+    let free = c.put-key.ensures.free in
+    let within = c.put-key.ensures.in_range in
+    let serial : live.serial ≡ s.drawn + 1 = omega (arith, c.next_serial-serial.ensures, drawn) in
+    let small : live.kept ≤ 10 ^ 24 = omega (arith, c.from.ensures, c.requires.ns) in
+    let new : State = begun_state s (s.drawn + 1) key live s.ways s.keys s.runs s.by_flow in
+    let turns : Turns s new key live.serial (Some live) = time_turns s (s.drawn + 1) key live s.ways is.are (new_begins s key live is.are within free serial refl small (omega arith)) free refl refl (λ k ne. refl) (λ e. absurd (cc e)) in
+    let state_is = state_same s (s.drawn + 1) false c.put-key.new.self.slots (set s.slots key (Some live)) s.ways s.ways s.keys s.keys s.runs s.runs s.by_flow s.by_flow c.insert.new.self.members (s.fresh ++ key ∷ []) s.ended s.ended
+    c.put-key.ensures.slots refl refl refl refl (ap (λ (m : MarkSet). m.members) c.insert.ensures ∙ new_mark key s.fresh (unmarked s key is.are free)) refl in
     record {
-      are = are_pushed s s.system row _ is serial refl items by refl;
-      rising = subst (AreRising 1 (s.drawn + 1 + 1)) (sym items) (rising-push 1 (s.drawn + 1) s.rows.items row is.rising serial);
-      few = omega (arith, drawn, c.requires.few);
-      within = within_pushed s row _ is items;
-      undue = undue_pushed s row _ is items;
-      row_room = omega (arith, room, c.requires.room, is.row_room, c.push_reserved.ensures.len, c.push_reserved.ensures.capacity);
-      way_room = omega (arith, is.way_room);
-      flow_room = omega (arith, is.flow_room);
-      use_room = omega (arith, is.use_room);
-      early = is.early;
+      are = subst IsKept (sym state_is) (turned s new key live.serial (Some live) is.are turns);
+      room = record {
+        capacities = is.room.capacities;
+        few = omega (arith, drawn, c.requires.few);
+        early = is.room.early;
+        flows = omega (arith, is.room.flows, room, c.requires.room, ahead_set s.slots key (Some live) within, ap slot_ahead free, ap (sum_by slot_ahead) c.put-key.ensures.slots);
+        flow_room = omega (arith, is.room.flow_room);
+        use_room = omega (arith, is.room.use_room);
+        keys_free = omega (arith, is.room.keys_free, room, c.requires.room, c.put-key.ensures.room);
+        ways_long = omega (arith, is.room.ways_long, ap length c.put-key.ensures.slots, length-set s.slots key (Some live));
+        agenda_long = omega (arith, is.room.agenda_long, ap length c.put-key.ensures.slots, length-set s.slots key (Some live));
+        fresh_room = omega (arith, is.room.fresh_room, ap length c.put-key.ensures.slots, length-set s.slots key (Some live), ap (λ (m : MarkSet). m.room) c.insert.ensures);
+        by_flow_long = is.room.by_flow_long;
+      };
     }
 
 pub returns-clause-starts : goal.returns-clause-starts
 returns-clause-starts c =
-    let s = c.self.inside.kept in
-    let capacities = capacities_in s in
+    let kept = c.self.inside.kept in
+    let s : State = state_of kept in
     let is = c.self.invariant in
-    let row : Row = record { serial = c.next_serial-serial.result.0; kind = phase.Timer; left = c.from.result; bytes = 0; site = site.Nowhere; flow = 0; due = false; done = false } in
-    let serial : row.serial ≡ s.drawn + 1 = omega (arith, c.next_serial-serial.ensures, drawn_is s c.args.self.now is.rising c.self.view_is) in
-    let small : row.left ≤ 10 ^ 24 = omega (arith, c.from.ensures, c.requires.ns) in
-    let by = timed capacities s.system s.ways.slots row refl refl small (omega arith) in
-    ap (λ l. doing_from capacities s.date s.ways.slots (slots_of (s.drawn + 1) l) false (s.room - 1)) c.push_reserved.ensures.items
-    ∙ ap (λ l. doing_from capacities s.date s.ways.slots l false (s.room - 1)) (spread-push 1 (s.drawn + 1) s.rows.items row serial)
-    ∙ started_told s s.system s.ways.slots row c.args.self.now is by refl c.self.view_is
-    ∙ ap (λ n. started_in (timer_of n) c.args.self.now) c.from.ensures
+    let key = c.put-key.result in
+    let live : Live = record { serial = c.next_serial-serial.result.0; kind = phase.Timer; kept = c.from.result; stamp = kept.date; rate = 1; bytes = 0; host = 0; flow = 0 } in
+    let drawn : length c.args.self.now.under.tasks ≡ s.drawn = sym (ap (λ (d : Doing). length d.under.tasks) c.self.view_is) ∙ length-listed s.drawn (λ i. told_at (task_of s) s.slots (i + 1)) in
+    let free = c.put-key.ensures.free in
+    let within = c.put-key.ensures.in_range in
+    let serial : live.serial ≡ s.drawn + 1 = omega (arith, c.next_serial-serial.ensures, drawn) in
+    let small : live.kept ≤ 10 ^ 24 = omega (arith, c.from.ensures, c.requires.ns) in
+    let new : State = begun_state s (s.drawn + 1) key live s.ways s.keys s.runs s.by_flow in
+    let turns : Turns s new key live.serial (Some live) = time_turns s (s.drawn + 1) key live s.ways is.are (new_begins s key live is.are within free serial refl small (omega arith)) free refl refl (λ k ne. refl) (λ e. absurd (cc e)) in
+    let state_is = state_same s (s.drawn + 1) false c.put-key.new.self.slots (set s.slots key (Some live)) s.ways s.ways s.keys s.keys s.runs s.runs s.by_flow s.by_flow c.insert.new.self.members (s.fresh ++ key ∷ []) s.ended s.ended
+    c.put-key.ensures.slots refl refl refl refl (ap (λ (m : MarkSet). m.members) c.insert.ensures ∙ new_mark key s.fresh (unmarked s key is.are free)) refl in
+    ap (λ st. doing_of st (kept.room - 1)) state_is
+    ∙ started_told s new key live.serial (Some live) is.are turns live kept.room refl refl serial free refl refl
+    ∙ ap (λ n. started_in (record { kind = phase.Timer; left = n; place = nowhere; bound = None; bytes = 0 }) (doing_of s kept.room)) (left_fresh c.from.result 1 kept.date ∙ c.from.ensures)
+    ∙ ap (started_in (timer_of c.args.ns)) c.self.view_is

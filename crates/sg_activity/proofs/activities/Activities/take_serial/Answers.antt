@@ -1,33 +1,30 @@
-use Rattle.std.proofs.Common.{◌+◌, subst, sym, ap, ◌∙◌, arith}
-use Rattle.sg_activity.specs.kept.Sound.{AreKept, capacities_in, slots_in}
-use Rattle.sg_activity.proofs.Spread.{spread-more, rising-more}
-use Rattle.sg_activity.proofs.Keeps.{drawn_is, kept_drawn}
-use Rattle.sg_activity.proofs.Told.{doing_from, drawn_told}
+use Rattle.std.proofs.Common.{◌+◌, ◌≡◌, length, sym, ap, ◌∙◌, arith}
+use Rattle.sg_activity.specs.Doing.{Doing, drawn_in}
+use Rattle.sg_activity.specs.kept.State.{state_of, told_at, task_of}
+use Rattle.sg_activity.proofs.Drawn.{drawn_kept, drawn_told}
+use Rattle.sg_activity.proofs.Listing.{length-listed}
 use Rattle.sg_activity.proofs.activities.Activities.take_serial.Goals as goal
-
-pub overflow_add-self : goal.overflow_add-self
-overflow_add-self c = omega (arith, drawn_is c.self.inside.kept c.args.self.now c.self.invariant.rising c.self.view_is, c.requires)
 
 pub invariant_of-self : goal.invariant_of-self
 invariant_of-self c =
-    let s = c.self.inside.kept in
+    let s = state_of c.self.inside.kept in
     let is = c.self.invariant in
-    let kept = kept_drawn (capacities_in s) (slots_in s) s.system s.ways.slots s.ahead s.settled is.are in
     record {
-      are = subst (λ l. AreKept (capacities_in s) l s.system s.ways.slots s.ahead s.settled) (sym (spread-more 1 (s.drawn + 1) s.rows.items is.rising)) kept;
-      rising = rising-more 1 (s.drawn + 1) s.rows.items is.rising;
-      few = omega (arith, drawn_is s c.args.self.now is.rising c.self.view_is, c.requires);
-      within = is.within;
-      undue = is.undue;
-      row_room = is.row_room;
-      way_room = is.way_room;
-      flow_room = is.flow_room;
-      use_room = is.use_room;
-      early = is.early;
+      are = drawn_kept s is.are;
+      room = record {
+        capacities = is.room.capacities;
+        few = omega (arith, ap (λ (d : Doing). length d.under.tasks) c.self.view_is, length-listed s.drawn (λ i. told_at (task_of s) s.slots (i + 1)), c.requires);
+        early = is.room.early;
+        flows = is.room.flows;
+        flow_room = is.room.flow_room;
+        use_room = is.room.use_room;
+        keys_free = is.room.keys_free;
+        ways_long = is.room.ways_long;
+        agenda_long = is.room.agenda_long;
+        fresh_room = is.room.fresh_room;
+        by_flow_long = is.room.by_flow_long;
+      };
     }
 
 pub returns-clause-drawn : goal.returns-clause-drawn
-returns-clause-drawn c =
-    let s = c.self.inside.kept in
-    ap (λ l. doing_from (capacities_in s) s.date s.ways.slots l s.settled s.room) (spread-more 1 (s.drawn + 1) s.rows.items c.self.invariant.rising)
-    ∙ drawn_told s c.args.self.now c.self.view_is
+returns-clause-drawn c = drawn_told (state_of c.self.inside.kept) c.self.inside.kept.room c.self.invariant.are ∙ ap drawn_in c.self.view_is

@@ -1,7 +1,7 @@
 use Rattle.std.proofs.Common.{◌≡◌, ◌+◌, ◌-◌, ◌<◌, ◌++◌, ◌∷◌, [], ℕ, false, true, cond, nat_eq, Some, length, Option, ap, ap₂, ◌∙◌, arith}
 use Rattle.std.specs.HashMap as hash
-use Rattle.sg_kernel.specs.declared.states.Whose.{Whose}
-use Rattle.sg_kernel.specs.Owners.{Owned, whose_of, table}
+use Rattle.sg_kernel.specs.declared.owners.Whose.{Whose}
+use Rattle.sg_kernel.specs.kept.Owners.{Owned, whose_of, table}
 use Rattle.sg_kernel.proofs.Tables.{length-table, table-push, table_same}
 use Rattle.sg_kernel.proofs.owners.Owners.push.Goals as goal
 

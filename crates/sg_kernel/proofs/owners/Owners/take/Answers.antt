@@ -1,9 +1,9 @@
 use Rattle.std.proofs.Common.{◌≡◌, ◌≢◌, ◌+◌, ◌-◌, ◌<◌, ℕ, false, true, cond, nat_eq, Option, None, set, get_or, length, sym, ap, ◌∙◌, arith}
 use Rattle.std.specs.HashMap as hash
-use Rattle.sg_kernel.specs.declared.states.How.TheVariants as how
-use Rattle.sg_kernel.specs.declared.states.Whose.{Whose}
-use Rattle.sg_kernel.specs.declared.states.Whose.TheVariants.{Over}
-use Rattle.sg_kernel.specs.Owners.{Owned, whose_of, table}
+use Rattle.sg_kernel.specs.declared.owners.How.TheVariants as how
+use Rattle.sg_kernel.specs.declared.owners.Whose.{Whose}
+use Rattle.sg_kernel.specs.declared.owners.Whose.TheVariants.{Over}
+use Rattle.sg_kernel.specs.kept.Owners.{Owned, whose_of, table}
 use Rattle.sg_kernel.proofs.Tables.{length-table, table_at, table-set}
 use Rattle.sg_kernel.proofs.owners.Owners.take.Goals as goal
 

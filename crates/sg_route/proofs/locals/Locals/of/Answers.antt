@@ -5,7 +5,7 @@ use Rattle.std.specs.List.{slice_get}
 use Rattle.std.specs.BTreeMap.{get}
 use Rattle.sg_route.specs.Local.{declared_route}
 use Rattle.sg_route.specs.Equal.{pair_eq}
-use Rattle.sg_route.specs.Index.{pair_cmp}
+use Rattle.sg_route.specs.kept.Index.{pair_cmp}
 use Rattle.sg_route.proofs.IndexLemmas.{found_at, found_nowhere, item_at}
 use Rattle.sg_route.proofs.locals.Locals.of.Goals as goal
 

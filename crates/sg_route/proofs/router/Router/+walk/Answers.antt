@@ -3,9 +3,8 @@ use Rattle.std.proofs.Common.{◌≡◌, ◌++◌, Result, Err, sym, ◌∙◌, 
 use Rattle.std.specs.Option.{option_map}
 use Rattle.sg_route.specs.declared.leg.Leg.{Leg}
 use Rattle.sg_route.specs.Route.{passage_on, unless_there, way}
-use Rattle.sg_route.specs.Kept.{Kept, keep_all}
-use Rattle.sg_route.specs.Walked.{Walked}
-use Rattle.sg_route.specs.Found.{found_passage}
+use Rattle.sg_route.specs.kept.Kept.{Kept, keep_all, KeepsWay}
+use Rattle.sg_route.specs.kept.Found.{found_passage}
 use Rattle.sg_route.proofs.KeptLemmas.{keep_all-append}
 use Rattle.sg_route.proofs.WalkLemmas.{walked_zero, walked_none, walked_front, walked_through, err_is}
 use Rattle.sg_route.proofs.router.Router.+walk.Goals as goal
@@ -17,7 +16,7 @@ pub returns-in-None : goal.returns-in-None
 returns-in-None t c =
     let old : Kept = record { links = c.args.links.now.items; over = c.args.over.now } in
     let p = ap (passage_on c.args.self.now) (sym c.leg-leg.ensures) ∙ sym c.passage_on.ensures ∙ ap (option_map found_passage) c.in-None.is in
-    let P : Leg → Type 0 = λ l. Walked (unless_there (way c.args.levels c.args.self.now) c.args.a c.args.b) (Err l) old old in
+    let P : Leg → Type 0 = λ l. KeepsWay (unless_there (way c.args.levels c.args.self.now) c.args.a c.args.b) (Err l) old old in
     subst P (sym c.leg-leg.ensures) (walked_none c.args.levels c.args.self.now c.args.a c.args.b old old c.if-a-b.false (omega arith) p)
 
 pub returns-in_err-walk-in-Some : goal.returns-in_err-walk-in-Some
@@ -26,7 +25,7 @@ returns-in_err-walk-in-Some t c =
     let mid : Kept = record { links = c.walk.new.links.items; over = c.walk.new.over } in
     let p = ap (passage_on c.args.self.now) (sym c.leg-leg.ensures) ∙ sym c.passage_on.ensures ∙ ap (option_map found_passage) c.in-Some.is in
     let f : c.from_residual.result ≡ Err c.in_err-walk-in-Some.field-0.0 = err_is c.from_residual.result c.in_err-walk-in-Some.field-0.0 c.from_residual.ensures.1 in
-    let P : Result (Unit {0}) Leg → Type 0 = λ r. Walked (unless_there (way c.args.levels c.args.self.now) c.args.a c.args.b) r old mid in
+    let P : Result (Unit {0}) Leg → Type 0 = λ r. KeepsWay (unless_there (way c.args.levels c.args.self.now) c.args.a c.args.b) r old mid in
     subst P (sym f) (walked_front c.args.levels c.args.self.now c.args.a c.args.b (found_passage c.in-Some.found) c.in_err-walk-in-Some.field-0.0 old mid mid c.if-a-b.false (omega arith) p c.in_err-walk-in-Some.ensures)
 
 pub returns-in_ok-walk-in-Some : goal.returns-in_ok-walk-in-Some

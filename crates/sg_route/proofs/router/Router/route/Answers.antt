@@ -1,10 +1,9 @@
 -- The route, its missing part, or too many links.
 use Rattle.std.proofs.Common.{◌≡◌, ℕ, false, [], Ok, sym, ◌∙◌, ap, subst}
 use Rattle.sg_route.specs.declared.router.RouteFault.TheVariants.{NoRoute, TooLong}
-use Rattle.sg_route.specs.Route.{route_of, latency_of}
+use Rattle.sg_route.specs.Route.{route_of, latency_of, LeavesRoute}
 use Rattle.std.specs.Prelude.{sum_by}
-use Rattle.sg_route.specs.Kept.{Kept}
-use Rattle.sg_route.specs.Walked.{Routed}
+use Rattle.sg_route.specs.kept.Kept.{Kept}
 use Rattle.sg_route.proofs.FirstsLemmas.{routed_apart}
 use Rattle.sg_route.proofs.RouteLemmas.{refused, routed_missing, routed_over, routed_kept}
 use Rattle.sg_route.proofs.router.Router.route.Goals as goal
@@ -30,7 +29,7 @@ returns-else-over-clause-route c =
     let new : Kept = record { links = c.keep_whole.new.links.items; over = c.keep_whole.new.over } in
     let start : old ≡ record { links = []; over = false } = ap (λ xs. record { links = xs; over = false }) c.clear.ensures in
     let e : c.latency.result ≡ sum_by (latency_of c.args.self.now) c.keep_whole.new.links.items = c.latency.ensures ∙ ap (sum_by (latency_of c.args.self.now)) c.as_slice.ensures.value in
-    let P : ℕ → Type 0 = λ n. Routed (route_of c.args.self.now c.args.a c.args.b) (Ok n) c.keep_whole.new.links.items in
+    let P : ℕ → Type 0 = λ n. LeavesRoute (route_of c.args.self.now c.args.a c.args.b) (Ok n) c.keep_whole.new.links.items in
     subst P (sym e) (routed_kept c.args.self.now c.args.a c.args.b old new start c.in-Ok.ensures c.if-over.false)
 
 pub returns-in-Err-clause-apart : goal.returns-in-Err-clause-apart

@@ -5,7 +5,7 @@ use Rattle.std.specs.List.{slice_get}
 use Rattle.std.specs.BTreeMap.{get}
 use Rattle.sg_route.specs.Local.{spoke_at}
 use Rattle.sg_route.specs.Equal.{child_eq}
-use Rattle.sg_route.specs.Index.{child_cmp}
+use Rattle.sg_route.specs.kept.Index.{child_cmp}
 use Rattle.sg_route.proofs.IndexLemmas.{found_at, found_nowhere, item_at}
 use Rattle.sg_route.proofs.spokes.Spokes.of.Goals as goal
 

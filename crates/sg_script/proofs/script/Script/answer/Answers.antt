@@ -2,8 +2,8 @@ use Rattle.std.proofs.Common.{refl}
 use Rattle.sg_edge.specs.declared.files.Part.TheVariants.{Script as ScriptPart}
 use Rattle.sg_script.specs.Known.{known_in}
 use Rattle.sg_script.specs.Stands.{kept_of}
-use Rattle.sg_platform.specs.Deployment.{extent_of}
-use Rattle.sg_script.specs.Queues.{queue_at}
+use Rattle.sg_rows.specs.Deployment.{extent_of}
+use Rattle.sg_script.specs.kept.Queues.{queue_at}
 use Rattle.sg_script.proofs.LimitLemmas.{limited_first, limited_rest}
 use Rattle.sg_script.proofs.Spending.{frugal_none}
 use Rattle.sg_script.proofs.Steps.{pop_tells}

@@ -1,0 +1,49 @@
+-- A serial is drawn.
+use Rattle.std.proofs.Common.{◌≡◌, ℕ, ◌+◌, ◌<◌, ◌≤◌, false, cond, Option, None, Some, List, [], ◌∷◌, ◌++◌, refl, sym, ap, ap₂, ◌∙◌, arith}
+use Rattle.sg_activity.specs.declared.lives.Live.{Live}
+use Rattle.sg_activity.specs.Slots.{passes, serials}
+use Rattle.sg_activity.specs.Underway.{drawn}
+use Rattle.sg_activity.specs.Doing.{drawn_in}
+use Rattle.sg_activity.specs.kept.State.{State, task_of, is_now, is_so, told_at, told_by, under_of, doing_of}
+use Rattle.sg_activity.specs.kept.Sound.{HasFlow, IsHeld, IsFlowOf, IsKept}
+use Rattle.sg_activity.proofs.Listing.{listed_more}
+use Rattle.sg_activity.proofs.Lookup.{told_missed}
+use Rattle.sg_activity.proofs.Serials.{serials_push}
+use Rattle.sg_activity.proofs.Starts.{fresh_serial}
+use Rattle.sg_activity.proofs.Told.{doing_same}
+
+pub drawn_kept : (s : State) → IsKept s → IsKept (record s { drawn = s.drawn + 1 })
+drawn_kept s is = record {
+  each = λ key live at.
+      let h = is.each key live at in
+      record {
+        from = h.from;
+        to = omega (arith, h.to);
+        stamped = h.stamped;
+        in_time = h.in_time;
+        small = h.small;
+        few_bytes = h.few_bytes;
+        paced = h.paced;
+        over = h.over;
+        flow = λ full. let f = h.flow full in record { runs = f.runs; limit = f.limit; within = f.within; known = f.known };
+        dated = h.dated;
+      };
+  idle = is.idle;
+  apart = is.apart;
+  back = λ id running e. let b = is.back id running e in record { live = b.live; there = b.there; full = b.full; is = b.is };
+  fresh = is.fresh;
+  none_fresh = is.none_fresh;
+  rates = is.rates;
+}
+
+pub drawn_told : (s : State) (room : ℕ) → IsKept s → doing_of (record s { drawn = s.drawn + 1 }) room ≡ drawn_in (doing_of s room)
+drawn_told s room is =
+    let new = record s { drawn = s.drawn + 1 } in
+    let none = fresh_serial s (s.drawn + 1) is (omega arith) in
+    let tasks : told_by (task_of new) new ≡ told_by (task_of s) s ++ None ∷ [] =
+    listed_more s.drawn (λ i. told_at (task_of s) s.slots (i + 1)) ∙ ap (λ o. told_by (task_of s) s ++ o ∷ []) (told_missed (task_of s) s.slots (s.drawn + 1) none) in
+    let due : serials is_so 1 (told_by (is_now new) new) ≡ serials is_so 1 (told_by (is_now s) s) =
+    ap (serials is_so 1) (listed_more s.drawn (λ i. told_at (is_now s) s.slots (i + 1)))
+    ∙ serials_push is_so 1 (told_by (is_now s) s) (told_at (is_now s) s.slots (s.drawn + 1)) (ap (passes is_so) (told_missed (is_now s) s.slots (s.drawn + 1) none)) in
+    doing_same (under_of new) (drawn (under_of s)) (cond s.arrived (serials is_so 1 (told_by (is_now new) new)) []) (cond s.arrived (serials is_so 1 (told_by (is_now s) s)) []) s.settled s.settled room room
+    (ap (λ t. record (under_of s) { tasks = t }) tasks) (ap (λ l. cond s.arrived l []) due) refl refl

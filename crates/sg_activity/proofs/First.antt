@@ -1,0 +1,36 @@
+-- At first nothing is under way.
+use Rattle.std.proofs.Common.{◌≡◌, ℕ, Bool, true, false, true≢false, Option, None, Some, List, [], map, refl, sym, ap, ap₂, ◌∙◌}
+use Rattle.sg_base.specs.declared.ids.LinkId.{LinkId}
+use Rattle.sg_base.specs.MarkSet.{is_in}
+use Rattle.sg_heap.specs.Agenda.{Key, key_at}
+use Rattle.sg_maxmin.specs.Fill.{Flow}
+use Rattle.sg_lazy.specs.RunningFlow.{RunningFlow, running_at}
+use Rattle.sg_activity.specs.declared.kinds.HostCap.{HostCap}
+use Rattle.sg_activity.specs.declared.kinds.LinkCap.{LinkCap}
+use Rattle.sg_activity.specs.declared.lives.Live.{Live}
+use Rattle.sg_activity.specs.Doing.{idle_on}
+use Rattle.sg_activity.specs.Links.{Capacities, machines}
+use Rattle.sg_activity.specs.Slots.{listed}
+use Rattle.sg_activity.specs.kept.Pool.{slot_at}
+use Rattle.sg_activity.specs.kept.State.{State, serial_at, doing_of}
+use Rattle.sg_activity.specs.kept.Sound.{IsKept}
+
+none_is : {X : Type 0} {o : Option X} {x : X} → o ≡ None → o ≡ Some x → ⊥
+none_is none e = cc (sym none ∙ e)
+
+pub first_kept : (s : State) → s.slots ≡ [] → s.keys ≡ [] → s.runs ≡ [] → s.fresh ≡ [] → IsKept s
+first_kept s slots keys runs fresh = record {
+  each = λ key live at. absurd (none_is (ap (λ l. slot_at l key) slots) at);
+  idle = λ key none. ap (λ l. key_at l key) keys;
+  apart = λ i j one other a b e. absurd (none_is (ap (λ l. slot_at l i) slots) a);
+  back = λ id running e. absurd (none_is (ap (λ l. running_at l id) runs) e);
+  fresh = λ key marked. absurd (true≢false (sym marked ∙ ap (is_in key) fresh));
+  none_fresh = λ set. fresh;
+  rates = λ set id running e. absurd (none_is (ap (λ l. running_at l id) runs) e);
+}
+
+pub first_told : (hosts : List HostCap) (links : List LinkCap) (slots : List (Option Live)) (ways : List (List LinkId)) (keys : List (Option Key)) (runs : List (Option RunningFlow)) (by_flow fresh : List ℕ) (ended : List Flow) → fresh ≡ [] → ended ≡ [] →
+    doing_of (record { capacities = machines hosts links; date = 0; drawn = 0; slots = slots; ways = ways; keys = keys; runs = runs; by_flow = by_flow; fresh = fresh; ended = ended; settled = false; arrived = false }) 0 ≡ idle_on hosts links
+unfolding listed
+first_told hosts links slots ways keys runs by_flow fresh ended none gone =
+    ap₂ (λ b e. record { under = record { date = 0; capacities = machines hosts links; tasks = []; marks = record { began = b; ended = e } }; due = []; settled = false; room = 0 }) (ap (map (serial_at slots)) none) gone

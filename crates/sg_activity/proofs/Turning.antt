@@ -1,0 +1,304 @@
+-- How starts and ends of phases change what is kept.
+use Rattle.std.proofs.Common.{◌≡◌, ◌≢◌, ℕ, ◌+◌, ◌-◌, ◌*◌, ◌^◌, ◌<◌, ◌≤◌, ◌⊎◌, inl, inr, Bool, true, false, cond, true≢false, is_some, Option, None, Some, option_map, option_to_list, List, [], ◌∷◌, ◌++◌, length, map, set, get_or, length-set, get_or-set_same, slice_index, IsTrue, IsSome, refl, sym, ap, ap₂, subst, ◌∙◌, arith}
+use Rattle.std.proofs.lemmas.List.{append-nil}
+use Rattle.sg_base.specs.declared.ids.LinkId.{LinkId}
+use Rattle.sg_base.specs.MarkSet.{is_in}
+use Rattle.sg_heap.specs.Agenda.{Key, key_at}
+use Rattle.sg_maxmin.specs.Fill.{Flow}
+use Rattle.sg_maxmin.specs.Sharing.{HasLimit}
+use Rattle.sg_lazy.specs.RunningFlow.{RunningFlow, running_at}
+use Rattle.sg_activity.specs.declared.kinds.PhaseKind.{PhaseKind}
+use Rattle.sg_activity.specs.declared.kinds.PhaseKind.TheVariants as phase
+use Rattle.sg_activity.specs.declared.lives.Live.{Live}
+use Rattle.sg_activity.specs.Links.{Capacities}
+use Rattle.sg_activity.specs.Task.{Task, takes_share, pace, flow_in, flow_of, next_phase}
+use Rattle.sg_activity.specs.Underway.{Underway, with_task}
+use Rattle.sg_activity.specs.kept.Stamps.{left_at}
+use Rattle.sg_activity.specs.kept.Pool.{slot_at}
+use Rattle.sg_activity.specs.kept.State.{State, links_at, place_of, task_from, task_of, asked_by, serial_at, told_at, under_of}
+use Rattle.sg_activity.specs.kept.Sound.{IsWay, IsHeld, IsFlowOf, IsKept, flows_ahead}
+use Rattle.sg_activity.specs.kept.Turns.{Turns}
+use Rattle.sg_activity.proofs.Listing.{some_same}
+use Rattle.sg_activity.proofs.Lookup.{told_found}
+use Rattle.sg_activity.proofs.Starts.{held_unfilled, held_filled, back_still, flows_came, back_came, flows_went, back_went, fresh_serial, idle_serial, own_serial, set_here, set_there}
+use Rattle.sg_activity.proofs.Told.{in_more, in_last, under_set, began_same, began_more}
+use Rattle.sg_activity.proofs.Turned.{not_there, told_here, told_gone}
+
+pub left_fresh : (kept rate date : ℕ) → left_at kept rate date date ≡ kept
+left_fresh kept rate date = let e : date - date ≡ 0 = omega arith in ap (λ n. kept - rate * n) e ∙ none rate
+  where
+    none : (rate : ℕ) → kept - rate * 0 ≡ kept
+    none rate = omega arith
+
+-- what is under a free key
+nothing_there : {X : Type 0} (o : Option X) → o ≡ None → (x : X) → o ≡ Some x → ⊥
+nothing_there o none x e = cc (sym none ∙ e)
+
+-- ---- states
+abbrev pub begun_state : State → ℕ → ℕ → Live → List (List LinkId) → List (Option Key) → List (Option RunningFlow) → List ℕ → State
+begun_state s drawn key live ways keys runs by_flow = record s {
+  drawn = drawn;
+  slots = set s.slots key (Some live);
+  ways = ways;
+  keys = keys;
+  runs = runs;
+  by_flow = by_flow;
+  fresh = s.fresh ++ key ∷ [];
+  settled = false;
+}
+
+abbrev pub ended_state : State → ℕ → List (Option RunningFlow) → List Flow → State
+ended_state s key runs ended = record s {
+  slots = set s.slots key None;
+  keys = set s.keys key None;
+  runs = runs;
+  ended = ended;
+  settled = false;
+}
+
+-- what begins under a key and a serial
+pub record Begins (s : State) (drawn key : ℕ) (live : Live) (keys : List (Option Key)) : Type 0 where
+  pub key_in : key < length s.slots
+  pub from : 0 < live.serial
+  pub to : live.serial ≤ drawn
+  pub more : s.drawn ≤ drawn
+  pub stamp : live.stamp ≡ s.date
+  pub small : live.kept ≤ 10 ^ 24
+  pub bytes : live.bytes ≤ 10 ^ 15
+  pub unfilled : (old : Live) → slot_at s.slots key ≡ Some old → takes_share old.kind ≡ false
+  pub was : (old : Live) → slot_at s.slots key ≡ Some old → old.serial ≡ live.serial
+  pub alone : (k : ℕ) (other : Live) → k ≢ key → slot_at s.slots k ≡ Some other → other.serial ≢ live.serial
+  pub no_key : key_at keys key ≡ None
+  pub others : (k : ℕ) → k ≢ key → key_at keys k ≡ key_at s.keys k
+
+-- a flow begins
+pub flow_turns : (s : State) (drawn key : ℕ) (live : Live) (keys : List (Option Key)) → IsKept s → Begins s drawn key live keys → IsTrue (takes_share live.kind) → live.rate ≡ 0 → running_at s.runs live.flow ≡ None → live.flow < length s.runs → live.flow < length s.by_flow →
+    HasLimit (flow_of s.capacities (task_from s.date (links_at s.ways key) live)) →
+    Turns s (begun_state s drawn key live s.ways keys (set s.runs live.flow (Some (record { flow = flow_of s.capacities (task_from s.date (links_at s.ways key) live); rate = 0; began = true }))) (set s.by_flow live.flow key)) key live.serial (Some live)
+flow_turns s drawn key live keys is b full rate idle id_in by_in limit = record {
+  capacities = refl;
+  date = refl;
+  drawn = b.more;
+  unsettled = refl;
+  arrived = refl;
+  here = here;
+  others = others;
+  ways = λ k ne. refl;
+  keys = b.others;
+  no_key = b.no_key;
+  fresh = λ k ne. in_more key k s.fresh ne;
+  marked = λ _. refl;
+  by_flow_long = omega (arith, length-set s.by_flow live.flow key);
+  flows = λ k other ne at filled. flows_came s key live.flow is run idle k other at filled;
+  back = back_came s key live.flow is new run live idle b.unfilled by_in refl refl others here full refl;
+  holds = λ l e. subst (IsHeld new key) (some_same e) (held_filled new key live full b.from b.to b.stamp b.small b.bytes
+      (set_here s.runs live.flow (Some run) id_in ∙ ap (λ r. Some (record { flow = asked; rate = r; began = true })) (sym rate)) limit (omega (arith, by_in, length-set s.by_flow live.flow key))
+      (get_or-set_same s.by_flow live.flow key 0 by_in) (in_last key s.fresh) b.no_key);
+  was = b.was;
+  is = λ l e. ap (λ (x : Live). x.serial) (sym (some_same e));
+  alone = b.alone;
+}
+  where
+    asked : Flow
+    asked = flow_of s.capacities (task_from s.date (links_at s.ways key) live)
+
+    run : RunningFlow
+    run = record { flow = asked; rate = 0; began = true }
+
+    new : State
+    new = begun_state s drawn key live s.ways keys (set s.runs live.flow (Some run)) (set s.by_flow live.flow key)
+
+    here : slot_at (set s.slots key (Some live)) key ≡ Some live
+    here = set_here s.slots key (Some live) b.key_in
+
+    others : (k : ℕ) → k ≢ key → slot_at (set s.slots key (Some live)) k ≡ slot_at s.slots k
+    others k ne = set_there s.slots key k (Some live) ne
+
+-- a sleep or a latency begins
+pub time_turns : (s : State) (drawn key : ℕ) (live : Live) (ways : List (List LinkId)) → IsKept s → Begins s drawn key live s.keys → slot_at s.slots key ≡ None → takes_share live.kind ≡ false → live.rate ≡ pace live.kind → ((k : ℕ) → k ≢ key → links_at ways k ≡ links_at s.ways k) →
+    (live.kind ≡ phase.Latency → IsWay s.capacities (links_at ways key)) → Turns s (begun_state s drawn key live ways s.keys s.runs s.by_flow) key live.serial (Some live)
+time_turns s drawn key live ways is b free empty rate ways_same over = record {
+  capacities = refl;
+  date = refl;
+  drawn = b.more;
+  unsettled = refl;
+  arrived = refl;
+  here = set_here s.slots key (Some live) b.key_in;
+  others = others;
+  ways = ways_same;
+  keys = b.others;
+  no_key = b.no_key;
+  fresh = λ k ne. in_more key k s.fresh ne;
+  marked = λ _. refl;
+  by_flow_long = omega arith;
+  flows = λ k other ne at filled. (refl, refl);
+  back = λ id r e. back_still s new key id (λ old at. absurd (nothing_there (slot_at s.slots key) free old at)) others refl (is.back id r e);
+  holds = λ l e. subst (IsHeld new key) (some_same e) (held_unfilled new key live empty b.from b.to b.stamp rate b.small b.bytes over (in_last key s.fresh) b.no_key);
+  was = b.was;
+  is = λ l e. ap (λ (x : Live). x.serial) (sym (some_same e));
+  alone = b.alone;
+}
+  where
+    new : State
+    new = begun_state s drawn key live ways s.keys s.runs s.by_flow
+
+    others : (k : ℕ) → k ≢ key → slot_at (set s.slots key (Some live)) k ≡ slot_at s.slots k
+    others k ne = set_there s.slots key k (Some live) ne
+
+-- what becomes of the flows as an activity is done
+pub data Went (s : State) (live : Live) (runs : List (Option RunningFlow)) : Type 0 where
+  with_flow : IsTrue (takes_share live.kind) → runs ≡ set s.runs live.flow None → Went s live runs
+  without : takes_share live.kind ≡ false → runs ≡ s.runs → Went s live runs
+
+-- an activity is done
+pub end_turns : (s : State) (key : ℕ) (live : Live) (runs : List (Option RunningFlow)) (ended : List Flow) → IsKept s → slot_at s.slots key ≡ Some live → is_in key s.fresh ≡ false → key < length s.slots → key < length s.keys → Went s live runs → Turns s (ended_state s key runs ended) key live.serial None
+end_turns s key live runs ended is at stale key_in keys_in went = record {
+  capacities = refl;
+  date = refl;
+  drawn = omega arith;
+  unsettled = refl;
+  arrived = refl;
+  here = set_here s.slots key None key_in;
+  others = others;
+  ways = λ k ne. refl;
+  keys = λ k ne. set_there s.keys key k None ne;
+  no_key = set_here s.keys key None keys_in;
+  fresh = λ k ne. refl;
+  marked = λ e. absurd (true≢false (sym e ∙ stale));
+  by_flow_long = omega arith;
+  flows = λ k other ne at' filled. flows went k other ne at' filled;
+  back = λ id r e. back went id r e;
+  holds = λ l e. absurd (cc e);
+  was = λ old e. ap (λ (x : Live). x.serial) (some_same (sym e ∙ at));
+  is = λ l e. absurd (cc e);
+  alone = λ k other ne at'. own_serial s key live is at k other ne at';
+}
+  where
+    others : (k : ℕ) → k ≢ key → slot_at (set s.slots key None) k ≡ slot_at s.slots k
+    others k ne = set_there s.slots key k None ne
+
+    flows : Went s live runs → (k : ℕ) (other : Live) → k ≢ key → slot_at s.slots k ≡ Some other → IsTrue (takes_share other.kind) → (running_at runs other.flow ≡ running_at s.runs other.flow) × (slice_index s.by_flow other.flow ≡ slice_index s.by_flow other.flow)
+    flows (with_flow full e) k other ne at' filled = (ap (λ l. running_at l other.flow) e ∙ flows_went s key live.flow is live at full refl k other ne at' filled, refl)
+    flows (without empty e) k other ne at' filled = (ap (λ l. running_at l other.flow) e, refl)
+
+    back : Went s live runs → (id : ℕ) (r : RunningFlow) → running_at runs id ≡ Some r → IsFlowOf (ended_state s key runs ended) id
+    back (with_flow full e) id r z = back_went s key live.flow is (ended_state s key runs ended) live at full refl e refl others id r z
+    back (without empty e) id r z = back_still s (ended_state s key runs ended) key id (λ old at' filled. absurd (true≢false (sym filled ∙ ap (λ (l : Live). takes_share l.kind) (some_same (sym at' ∙ at)) ∙ empty))) others refl (is.back id r (ap (λ l. running_at l id) (sym e) ∙ z))
+
+-- ---- what follows
+latency_next : (kind : PhaseKind) (task : Task) → kind ≡ phase.Latency → next_phase kind task ≡ Some (record task { kind = phase.Flow; left = task.bytes * 1000000000 })
+latency_next phase.Latency task e = refl
+latency_next phase.Flow task e = absurd (cc e)
+latency_next phase.Exec task e = absurd (cc e)
+latency_next phase.Timer task e = absurd (cc e)
+
+pub last_next : (kind : PhaseKind) (task : Task) → flows_ahead kind ≡ 0 → next_phase kind task ≡ None
+last_next phase.Latency task none = absurd (omega (arith, none))
+last_next phase.Flow task none = refl
+last_next phase.Exec task none = refl
+last_next phase.Timer task none = refl
+
+unfilled_flow : (c : Capacities) (t : Task) → takes_share t.kind ≡ false → flow_in c (Some t) ≡ None
+unfilled_flow c t empty = ap (λ b. cond b (Some (flow_of c t)) None) empty
+
+filled_flow : (c : Capacities) (t : Task) → IsTrue (takes_share t.kind) → flow_in c (Some t) ≡ Some (flow_of c t)
+filled_flow c t full = ap (λ b. cond b (Some (flow_of c t)) None) full
+
+-- after a latency the bytes flow
+pub flow_under : (s : State) (key : ℕ) (old live : Live) (keys : List (Option Key)) (runs : List (Option RunningFlow)) (by_flow : List ℕ) → IsKept s → slot_at s.slots key ≡ Some old → old.kind ≡ phase.Latency → is_in key s.fresh ≡ false →
+    live ≡ record old { kind = phase.Flow; kept = old.bytes * 1000000000; stamp = s.date; rate = 0; flow = live.flow } →
+    Turns s (begun_state s s.drawn key live s.ways keys runs by_flow) key live.serial (Some live) → under_of (begun_state s s.drawn key live s.ways keys runs by_flow) ≡ with_task old.serial (next_phase old.kind (task_of s key old)) (under_of s)
+flow_under s key old live keys runs by_flow is at latency stale live_is by =
+    let new = begun_state s s.drawn key live s.ways keys runs by_flow in
+    let h = is.each key old at in
+    let serial : live.serial ≡ old.serial = ap (λ (l : Live). l.serial) live_is in
+    let place : task_from s.date (links_at s.ways key) (record old { kind = phase.Flow; kept = old.bytes * 1000000000; stamp = s.date; rate = 0; flow = live.flow }) ≡ record (task_of s key old) { kind = phase.Flow; left = old.bytes * 1000000000 } =
+    ap₂ (λ n p. record { kind = phase.Flow; left = n; place = p; bound = None; bytes = old.bytes }) (left_fresh (old.bytes * 1000000000) 0 s.date) (ap (λ k. place_of k old.host (links_at s.ways key)) (sym latency)) in
+    let next : Some (task_of new key live) ≡ next_phase old.kind (task_of s key old) = ap Some (ap (task_from s.date (links_at s.ways key)) live_is ∙ place) ∙ sym (latency_next old.kind (task_of s key old) latency) in
+    let before : told_at (task_of s) s.slots live.serial ≡ Some (task_of s key old) = told_found (task_of s) s.slots live.serial key old is.apart at (sym serial) in
+    under_set s new key live.serial (Some live) is by (Some (task_of new key live)) refl (omega (arith, h.from, serial)) (omega (arith, h.to, serial)) (told_here s new key live.serial (Some live) is by (task_of new) live refl)
+    (began_more s new key live.serial (Some live) is by live refl stale refl)
+    (sym (append-nil s.ended) ∙ ap (λ o. s.ended ++ option_to_list o) (sym (ap (flow_in s.capacities) before ∙ unfilled_flow s.capacities (task_of s key old) (ap takes_share latency))))
+    ∙ ap₂ (λ n o. with_task n o (under_of s)) serial next
+
+-- after any other phase the activity is done
+pub end_under : (s : State) (key : ℕ) (live : Live) (runs : List (Option RunningFlow)) (ended : List Flow) → IsKept s → slot_at s.slots key ≡ Some live → flows_ahead live.kind ≡ 0 → is_in key s.fresh ≡ false →
+    ended ≡ s.ended ++ option_to_list (flow_in s.capacities (Some (task_of s key live))) → Turns s (ended_state s key runs ended) key live.serial None → under_of (ended_state s key runs ended) ≡ with_task live.serial (next_phase live.kind (task_of s key live)) (under_of s)
+end_under s key live runs ended is at last stale ended_is by =
+    let new = ended_state s key runs ended in
+    let h = is.each key live at in
+    under_set s new key live.serial None is by None refl h.from h.to (told_gone s new key live.serial None is by (task_of new) refl) (began_same s new key live.serial None is by stale refl)
+    (ended_is ∙ ap (λ o. s.ended ++ option_to_list (flow_in s.capacities o)) (sym (told_found (task_of s) s.slots live.serial key live is.apart at refl)))
+    ∙ ap (λ o. with_task live.serial o (under_of s)) (sym (last_next live.kind (task_of s key live) last))
+
+pub ended_filled : (s : State) (key : ℕ) (live : Live) → IsTrue (takes_share live.kind) → s.ended ++ asked_by s key live ∷ [] ≡ s.ended ++ option_to_list (flow_in s.capacities (Some (task_of s key live)))
+ended_filled s key live full = ap (λ o. s.ended ++ option_to_list o) (sym (filled_flow s.capacities (task_of s key live) full))
+
+pub ended_unfilled : (s : State) (key : ℕ) (live : Live) → takes_share live.kind ≡ false → s.ended ≡ s.ended ++ option_to_list (flow_in s.capacities (Some (task_of s key live)))
+ended_unfilled s key live empty = sym (append-nil s.ended) ∙ ap (λ o. s.ended ++ option_to_list o) (sym (unfilled_flow s.capacities (task_of s key live) empty))
+
+-- ---- what begins
+-- the next serial begins
+pub new_begins : (s : State) (key : ℕ) (live : Live) → IsKept s → key < length s.slots → slot_at s.slots key ≡ None → live.serial ≡ s.drawn + 1 → live.stamp ≡ s.date → live.kept ≤ 10 ^ 24 → live.bytes ≤ 10 ^ 15 → Begins s (s.drawn + 1) key live s.keys
+new_begins s key live is within free serial stamp small bytes = record {
+  key_in = within;
+  from = omega (arith, serial);
+  to = omega (arith, serial);
+  more = omega arith;
+  stamp = stamp;
+  small = small;
+  bytes = bytes;
+  unfilled = λ old at. absurd (nothing_there (slot_at s.slots key) free old at);
+  was = λ old at. absurd (nothing_there (slot_at s.slots key) free old at);
+  alone = λ k other ne at. fresh_serial s live.serial is (omega (arith, serial)) k other at;
+  no_key = is.idle key free;
+  others = λ k ne. refl;
+}
+
+-- a serial begins that was drawn, and isn't under way
+pub idle_begins : (s : State) (key : ℕ) (live : Live) → IsKept s → key < length s.slots → slot_at s.slots key ≡ None → 0 < live.serial → live.serial ≤ s.drawn → told_at (task_of s) s.slots live.serial ≡ None → live.stamp ≡ s.date → live.kept ≤ 10 ^ 24 → live.bytes ≤ 10 ^ 15 →
+    Begins s s.drawn key live s.keys
+idle_begins s key live is within free from to idle stamp small bytes = record {
+  key_in = within;
+  from = from;
+  to = to;
+  more = omega arith;
+  stamp = stamp;
+  small = small;
+  bytes = bytes;
+  unfilled = λ old at. absurd (nothing_there (slot_at s.slots key) free old at);
+  was = λ old at. absurd (nothing_there (slot_at s.slots key) free old at);
+  alone = λ k other ne at. idle_serial s live.serial is idle k other at;
+  no_key = is.idle key free;
+  others = λ k ne. refl;
+}
+
+-- a flow follows its latency
+pub flow_begins : (s : State) (key : ℕ) (old live : Live) → IsKept s → slot_at s.slots key ≡ Some old → old.kind ≡ phase.Latency → key < length s.slots → key < length s.keys → live.serial ≡ old.serial → live.stamp ≡ s.date → live.kept ≡ old.bytes * 1000000000 → live.bytes ≡ old.bytes →
+    Begins s s.drawn key live (set s.keys key None)
+flow_begins s key old live is at latency within keys_in serial stamp kept bytes =
+    let h = is.each key old at in
+    record {
+      key_in = within;
+      from = omega (arith, h.from, serial);
+      to = omega (arith, h.to, serial);
+      more = omega arith;
+      stamp = stamp;
+      small = omega (arith, kept, h.few_bytes);
+      bytes = omega (arith, bytes, h.few_bytes);
+      unfilled = λ other at'. ap (λ (l : Live). takes_share l.kind) (some_same (sym at' ∙ at)) ∙ ap takes_share latency;
+      was = λ other at'. ap (λ (l : Live). l.serial) (some_same (sym at' ∙ at)) ∙ sym serial;
+      alone = λ k other ne at' e. own_serial s key old is at k other ne at' (e ∙ serial);
+      no_key = set_here s.keys key None keys_in;
+      others = λ k ne. set_there s.keys key k None ne;
+    }
+
+-- ---- states whose parts are the same
+abbrev pub state_with : State → ℕ → Bool → List (Option Live) → List (List LinkId) → List (Option Key) → List (Option RunningFlow) → List ℕ → List ℕ → List Flow → State
+state_with s drawn settled slots ways keys runs by_flow fresh ended = record s { drawn = drawn; settled = settled; slots = slots; ways = ways; keys = keys; runs = runs; by_flow = by_flow; fresh = fresh; ended = ended }
+
+pub state_same : (s : State) (drawn : ℕ) (settled : Bool) (a a' : List (Option Live)) (b b' : List (List LinkId)) (c c' : List (Option Key)) (d d' : List (Option RunningFlow)) (e e' f f' : List ℕ) (g g' : List Flow) → a ≡ a' → b ≡ b' → c ≡ c' → d ≡ d' → e ≡ e' → f ≡ f' → g ≡ g' →
+    state_with s drawn settled a b c d e f g ≡ state_with s drawn settled a' b' c' d' e' f' g'
+state_same s drawn settled a a' b b' c c' d d' e e' f f' g g' p q r t u v w =
+    ap (λ x. state_with s drawn settled x b c d e f g) p ∙ ap (λ x. state_with s drawn settled a' x c d e f g) q ∙ ap (λ x. state_with s drawn settled a' b' x d e f g) r ∙ ap (λ x. state_with s drawn settled a' b' c' x e f g) t
+    ∙ ap (λ x. state_with s drawn settled a' b' c' d' x f g) u ∙ ap (λ x. state_with s drawn settled a' b' c' d' e' x g) v ∙ ap (λ x. state_with s drawn settled a' b' c' d' e' f' x) w

@@ -1,0 +1,138 @@
+-- What is kept, and what it stands for.
+use Rattle.std.specs.Prelude.{◌≡◌, ℕ, zero, suc, ◌+◌, ◌-◌, ◌==◌, Bool, true, false, Option, None, Some, option_map, option_and_then, if◌then◌else◌, List, [], ◌∷◌, map, slice_index, slice_index_or, IsTrue}
+use Rattle.sg_base.specs.declared.ids.LinkId.{LinkId}
+use Rattle.sg_base.specs.MarkSet.{is_in}
+use Rattle.sg_heap.specs.Agenda.{Key, key_at}
+use Rattle.sg_maxmin.specs.Fill.{Flow}
+use Rattle.sg_lazy.specs.RunningFlow.{RunningFlow}
+use Rattle.sg_activity.specs.declared.kept.Kept.{Kept}
+use Rattle.sg_activity.specs.declared.kinds.PhaseKind.{PhaseKind}
+use Rattle.sg_activity.specs.declared.kinds.PhaseKind.TheVariants as phase
+use Rattle.sg_activity.specs.declared.lives.Live.{Live}
+use Rattle.sg_activity.specs.Doing.{Doing}
+use Rattle.sg_activity.specs.Links.{Capacities, machines}
+use Rattle.sg_activity.specs.Slots.{listed, serials}
+use Rattle.sg_activity.specs.Task.{Way, Place, nowhere, on_host, over, Task, flow_of}
+use Rattle.sg_activity.specs.Underway.{Underway}
+use Rattle.sg_activity.specs.kept.Stamps.{left_at, due_of}
+use Rattle.sg_activity.specs.kept.Pool.{slot_at}
+
+-- What is kept: by key the activities, the links of their ways and their dates; by number the flows, and the keys of these; the keys of the phases that began since the rates were brought up to date, and the flows that ended since; and whether those whose date is now are due.
+pub record State : Type 0 where
+  pub capacities : Capacities
+  pub date : ℕ
+  pub drawn : ℕ
+  pub slots : List (Option Live)
+  pub ways : List (List LinkId)
+  pub keys : List (Option Key)
+  pub runs : List (Option RunningFlow)
+  pub by_flow : List ℕ
+  pub fresh : List ℕ
+  pub ended : List Flow
+  pub settled : Bool
+  pub arrived : Bool
+
+abbrev pub state_of : Kept → State
+state_of kept = record {
+  capacities = machines kept.hosts.items kept.links.items;
+  date = kept.date;
+  drawn = kept.drawn;
+  slots = kept.lives.slots;
+  ways = kept.ways.items;
+  keys = kept.agenda;
+  runs = kept.lazy.slots;
+  by_flow = kept.by_flow.items;
+  fresh = kept.fresh.members;
+  ended = kept.lazy.ended;
+  settled = kept.settled;
+  arrived = kept.arrived;
+}
+
+-- ---- by key
+-- the links of the way under a key
+abbrev pub links_at : List (List LinkId) → ℕ → List LinkId
+links_at ways key = slice_index_or ways key []
+
+-- where a phase goes on: an execution on its host, a latency and a flow over their way
+abbrev pub place_of : PhaseKind → ℕ → List LinkId → Place
+place_of phase.Latency host links = over (record { links = links })
+place_of phase.Flow host links = over (record { links = links })
+place_of phase.Exec host links = on_host host
+place_of phase.Timer host links = nowhere
+
+-- the phase of an activity at a date, over these links
+abbrev pub task_from : ℕ → List LinkId → Live → Task
+task_from date links live = record {
+  kind = live.kind;
+  left = left_at live.kept live.rate live.stamp date;
+  place = place_of live.kind live.host links;
+  bound = None;
+  bytes = live.bytes;
+}
+
+-- the phase of the activity under a key
+abbrev pub task_of : State → ℕ → Live → Task
+task_of s key live = task_from s.date (links_at s.ways key) live
+
+-- what the activity under a key asks for
+abbrev pub asked_by : State → ℕ → Live → Flow
+asked_by s key live = flow_of s.capacities (task_of s key live)
+
+-- the date of an activity in the agenda: none where it is never due
+abbrev pub date_of : Live → Option Key
+date_of live = option_map (λ due. record { date = due; serial = live.serial }) (due_of live.stamp live.kept live.rate)
+
+-- a phase that began since the rates were brought up to date has no date there yet
+abbrev pub dated : List ℕ → ℕ → Live → Option Key
+dated fresh key live = if is_in key fresh then None else date_of live
+
+-- whether this is the date of the key
+abbrev pub is_dated : ℕ → Option Key → Bool
+is_dated date None = false
+is_dated date (Some key) = key.date == date
+
+abbrev pub is_now : State → ℕ → Live → Bool
+is_now s key live = is_dated s.date (key_at s.keys key)
+
+-- the serial of the activity under a key
+abbrev pub serial_in : Option Live → ℕ
+serial_in None = 0
+serial_in (Some live) = live.serial
+
+abbrev pub serial_at : List (Option Live) → ℕ → ℕ
+serial_at slots key = serial_in (slot_at slots key)
+
+-- ---- by serial
+-- the key of the activity of a serial, where the first slot has this key
+unfoldable pub key_from : ℕ → ℕ → List (Option Live) → Option ℕ
+key_from key serial [] = None
+key_from key serial (None ∷ rest) = key_from (suc key) serial rest
+key_from key serial (Some live ∷ rest) = if live.serial == serial then Some key else key_from (suc key) serial rest
+
+-- what the function tells of the activity of a serial
+abbrev pub told_at : {Y : Type 0} → (ℕ → Live → Y) → List (Option Live) → ℕ → Option Y
+told_at tell slots serial = option_and_then (λ key. option_map (tell key) (slot_at slots key)) (key_from 0 serial slots)
+
+-- and of those of all serials, from 1 on
+abbrev pub told_by : {Y : Type 0} → (ℕ → Live → Y) → State → List (Option Y)
+told_by tell s = listed s.drawn (λ i. told_at tell s.slots (i + 1))
+
+abbrev pub is_so : Bool → Bool
+is_so b = b
+
+abbrev pub under_of : State → Underway
+under_of s = record {
+  date = s.date;
+  capacities = s.capacities;
+  tasks = told_by (task_of s) s;
+  marks = record { began = map (serial_at s.slots) s.fresh; ended = s.ended };
+}
+
+-- what is kept stands for this
+abbrev pub doing_of : State → ℕ → Doing
+doing_of s room = record {
+  under = under_of s;
+  due = if s.arrived then serials is_so 1 (told_by (is_now s) s) else [];
+  settled = s.settled;
+  room = room;
+}

@@ -1,0 +1,133 @@
+//! What is left of activities, and when they are due, as their rates change.
+
+ghost use Rattle.std.specs.Prelude.{◌≡◌, ◌<◌, ◌≤◌, ◌^◌, ℕ, All, length, slice_index, slice_set};
+ghost use Rattle.std.specs.Int.{div_ceil};
+ghost use Rattle.sg_activity.specs.Underway.{wait as wait_spec};
+ghost use Rattle.sg_activity.specs.kept.Stamps.{due_of as due_of_spec, left_at as left_at_spec};
+ghost use Rattle.sg_activity.specs.kept.Renewal.{AreRestamped, AreRenewed, AreSmall, HaveKeys};
+ghost use Rattle.sg_activity.specs.kept.State.{date_of};
+
+use crate::lives::{Live, Lives};
+use sg_base::{Marks, Serial};
+use sg_heap::Agenda;
+use sg_lazy::Lazy;
+
+// The quotient, rounded up. Most amounts are small, and short division is several times as fast.
+fn span_of(left: u128, rate: u64) -> u128
+    requires { 0 < rate }
+    ensures { result ≡ div_ceil left rate }
+{
+    if left < 1 << 64 {
+        u128::from((left as u64).div_ceil(rate))
+    } else {
+        left.div_ceil(u128::from(rate))
+    }
+}
+
+// In how many nanoseconds nothing is left.
+fn wait(rate: u64, left: u128) -> Option<u128>
+    ensures { result ≡ wait_spec rate left }
+{
+    if left == 0 {
+        Some(0)
+    } else if rate == 0 {
+        None
+    } else {
+        Some(span_of(left, rate))
+    }
+}
+
+// When nothing is left of an activity.
+fn due_of(live: &Live) -> Option<u128>
+    requires amount { live.now.kept ≤ 10 ^ 24 }
+    requires stamp { live.now.stamp < 10 ^ 34 }
+    ensures { result ≡ due_of_spec live.now.stamp live.now.kept live.now.rate }
+{
+    match wait(live.rate, live.kept) {
+        Some(span) => Some(live.stamp + span),
+        None => None,
+    }
+}
+
+// What is left of an activity at a date.
+fn left_at(live: &Live, date: u128) -> u128
+    requires { live.now.stamp ≤ date }
+    ensures { result ≡ left_at_spec live.now.kept live.now.rate live.now.stamp date }
+{
+    live.kept
+        .saturating_sub(u128::from(live.rate).saturating_mul(date - live.stamp))
+}
+
+// The activity with what is left of it at a date, from which on it goes at this rate.
+fn at_rate(live: &Live, rate: u64, date: u128) -> Live
+    requires { live.now.stamp ≤ date }
+    ensures { let left = left_at_spec live.now.kept live.now.rate live.now.stamp date in
+        result ≡ record live.now { kept = left; stamp = date; rate = rate } }
+{
+    Live {
+        kept: left_at(live, date),
+        stamp: date,
+        rate,
+        ..*live
+    }
+}
+
+// The key of the activity of a flow.
+fn key_of(by_flow: &[usize], id: usize) -> usize
+    requires { id < length by_flow.now }
+    ensures { result ≡ slice_index by_flow.now id }
+{
+    by_flow[id]
+}
+
+/// Notes the new rates of the flows whose rates changed, with what is left of their activities now, and that these are
+/// to be dated anew.
+pub(crate) fn restamp(
+    lives: &mut Lives,
+    fresh: &mut Marks,
+    by_flow: &[usize],
+    lazy: &Lazy,
+    date: u128,
+)
+    requires keys { HaveKeys lives.old.slots by_flow.now lazy.now date }
+    requires fresh { length lives.old.slots ≤ fresh.old.room }
+    ensures { AreRestamped lives.old lives.new fresh.old fresh.new lazy.now date }
+{
+    let changed = lazy.changed();
+    for id in changed {
+        let key = key_of(by_flow, *id);
+        if let Some(live) = lives.get(key) {
+            lives.set(key, at_rate(&live, lazy.rate(*id), date));
+            fresh.insert(key);
+        }
+    }
+}
+
+/// Dates the activities under these keys anew.
+pub(crate) fn renew(agenda: &mut Agenda, lives: &Lives, keys: &[usize])
+    requires below { All (λ key. key < length lives.now.slots) keys.now }
+    requires agenda { length lives.now.slots ≤ length agenda.old }
+    requires small { AreSmall lives.now.slots }
+    ensures dates { AreRenewed agenda.old agenda.new lives.now.slots keys.now }
+    ensures long { length agenda.new ≡ length agenda.old }
+{
+    for key in keys {
+        match lives.get(*key) {
+            Some(live) => date_anew(agenda, *key, &live),
+            None => agenda.clear(*key),
+        }
+    }
+}
+
+// Dates an activity: in the agenda it has the date at which it is due, if it ever is.
+fn date_anew(agenda: &mut Agenda, key: usize, live: &Live)
+    requires key { key < length agenda.old }
+    requires amount { live.now.kept ≤ 10 ^ 24 }
+    requires stamp { live.now.stamp < 10 ^ 34 }
+    ensures { agenda.new ≡ slice_set agenda.old key (date_of live.now) }
+{
+    match due_of(live) {
+        Some(date) => agenda.set(key, date, Serial(live.serial)),
+        None => agenda.clear(key),
+    }
+}

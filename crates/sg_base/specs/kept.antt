@@ -1,0 +1,2 @@
+-- How `Marks` keeps its members.
+pub mod Sparse

@@ -1,0 +1,18 @@
+//! What actors wait for.
+use crate::ids::Serial;
+
+/// As what an actor takes part in an activity.
+#[derive(Clone, Copy, Debug, PartialEq, Eq)]
+pub enum Party {
+    /// It computes or sleeps.
+    Alone,
+    Sender,
+    Receiver,
+}
+
+/// What an actor waits for, or may wait for: that its side of the activity of this serial is done.
+#[derive(Clone, Copy, Debug, PartialEq, Eq)]
+pub struct Await {
+    pub serial: Serial,
+    pub party: Party,
+}

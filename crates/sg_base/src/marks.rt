@@ -1,0 +1,119 @@
+//! A set of numbers below a room, in the order in which they came.
+
+ghost use Rattle.std.specs.Prelude.{◌≡◌, ◌≢◌, ◌≤◌, ◌<◌, ◌+◌, OnOk, OnErr, [], length, max, AllPairs, All};
+ghost use Rattle.sg_base.specs.MarkSet.{with_mark, is_in};
+
+use crate::memory::Memory;
+use std::alloc::Global;
+use std::marker::Model;
+
+/// Numbers below a room, each once, in the order in which they came.
+#[derive(Drop)]
+pub struct Marks {
+    // all numbers below the room: first the members, in the order in which they came, and then the others
+    order: Vec<usize>,
+    // where each number stands in it
+    place: Vec<usize>,
+    // how many members there are
+    count: usize,
+}
+
+impl Model for Marks {
+    ghost use Rattle.sg_base.specs.MarkSet.{MarkSet};
+
+    ghost Value = { MarkSet };
+
+    ghost use Rattle.std.specs.Prelude.{length, take};
+    ghost use Rattle.sg_base.specs.kept.Sparse.{IsSparse};
+
+    ghost view = { λ m. record { members = take m.count m.order.items; room = length m.place.items } };
+
+    ghost invariant = { λ m. IsSparse m.order.items m.place.items m.count };
+}
+
+impl Marks {
+    /// No members, and no room.
+    pub fn new(alloc: Global) -> Marks
+        ensures members { result.members ≡ [] }
+        ensures room { result.room ≡ 0 }
+    {
+        Marks {
+            order: Vec::new(alloc),
+            place: Vec::new(alloc),
+            count: 0,
+        }
+    }
+
+    /// Whether the number is a member.
+    pub fn contains(&self, number: usize) -> bool
+        requires { number < self.now.room }
+        ensures { result ≡ is_in number self.now.members }
+    {
+        self.place[number] < self.count
+    }
+
+    /// The members, in the order in which they came.
+    pub fn members(&self) -> &[usize]
+        ensures members { result.now ≡ self.now.members }
+        ensures once { AllPairs (λ a b. a ≢ b) result.now }
+        ensures in_range { All (λ number. number < self.now.room) result.now }
+        ensures few { length result.now ≤ self.now.room }
+    {
+        &self.order[..self.count]
+    }
+
+    /// Makes the number a member.
+    pub fn insert(&mut self, number: usize)
+        requires { number < self.old.room }
+        ensures { self.new ≡ record self.old { members = with_mark number self.old.members } }
+    {
+        let at = self.place[number];
+        if at >= self.count {
+            let last = self.count;
+            let other = self.order[last];
+            self.order[at] = other;
+            self.place[other] = at;
+            self.order[last] = number;
+            self.place[number] = last;
+            self.count = last + 1;
+        }
+    }
+
+    /// No number is a member any more.
+    pub fn clear(&mut self)
+        ensures { self.new ≡ record self.old { members = [] } }
+    {
+        self.count = 0;
+    }
+
+    // Room for one more.
+    fn grow(&mut self) -> Result<(), Memory>
+        ensures grown { OnOk result (self.new ≡ record self.old { room = self.old.room + 1 }) }
+        ensures failed { OnErr result (self.new ≡ self.old) }
+    {
+        let number = self.place.len();
+        match self.order.push(number) {
+            Ok(()) => {}
+            Err(_) => return Err(Memory),
+        }
+        match self.place.push(number) {
+            Ok(()) => Ok(()),
+            Err(_) => {
+                self.order.truncate(number);
+                Err(Memory)
+            }
+        }
+    }
+
+    /// Makes room for the numbers below this one. Nothing but the room changes, also where there is no memory.
+    pub fn reserve(&mut self, room: usize) -> Result<(), Memory>
+        ensures room { OnOk result (self.new.room ≡ max self.old.room room) }
+        ensures kept { self.new ≡ record self.old { room = self.new.room } }
+        ensures grows { self.old.room ≤ self.new.room }
+    {
+        for _number in self.place.len()..room {
+            self.grow()?;
+        }
+        Ok(())
+    }
+}

@@ -1,0 +1,17 @@
+//! Texts of platforms and deployments, and what is made of them: tables of cases, and one loop that goes over each.
+#![tactic(auto)]
+
+#[cfg(test)]
+mod cases;
+#[cfg(test)]
+mod deployments;
+#[cfg(test)]
+mod platforms;
+#[cfg(test)]
+mod routes;
+#[cfg(test)]
+mod rules;
+#[cfg(test)]
+mod traces;
+#[cfg(test)]
+mod zones;

@@ -1,0 +1,326 @@
+//! Platform texts, and what is read of each.
+use crate::cases::{fault_text, hold};
+use sg_platform::read_platform;
+use sg_rows::{HostRow, LinkRow, PlatformText, SpokeRow};
+use std::alloc::{AllocError, Global};
+use std::test::Fail;
+
+/// Tables that have no fault, and what begins a table in place of each.
+const HEADS: [(&str, &str); 4] = [
+    (
+        "zone =",
+        "zone = [{id = 'z', routing = 'Full'}, {id = 'y', parent = 'z', routing = 'Star'}]\n",
+    ),
+    (
+        "host =",
+        "host = [{id = 'h', zone = 'z', speed = '1Gf'}, {id = 'g', zone = 'z', speed = '1Gf'}]\n",
+    ),
+    ("router =", "router = [{id = 'r', zone = 'y'}]\n"),
+    (
+        "link =",
+        "link = [{id = 'l', bandwidth = '1MBps'}, {id = 's', bandwidth = '1MBps', sharing_policy = 'SPLITDUPLEX'}]\n",
+    ),
+];
+
+/// A fault of each table, beside the others of the tables above: each kind at each place where it can stand; faults of
+/// names, of the names of directions, and of pairs; and tables that have no fault.
+const TABLES: &str = "\
+0 0 0 unknown name | thing = 1
+0 0 0 unknown name | hosts = []
+0 0 0 unknown name | actor = []
+1 0 0 wrong type | zone = 1
+1 0 0 wrong type | zone = {id = 'z', routing = 'Full'}
+1 1 0 wrong type | zone = ['z']
+1 2 0 wrong type | zone = [{id = 'z', routing = 'Full'}, [{id = 'y', routing = 'Full'}]]
+1 1 0 unknown name | zone = [{id = 'z', routing = 'Full', zone = 'z'}]
+1 1 1 missing key | zone = [{routing = 'Full'}]
+1 1 1 wrong type | zone = [{id = 1, routing = 'Full'}]
+1 1 1 bad name | zone = [{id = '', routing = 'Full'}]
+1 2 1 duplicate | zone = [{id = 'z', routing = 'Full'}, {id = 'z', parent = 'z', routing = 'Full'}]
+1 1 2 wrong type | zone = [{id = 'z', parent = true, routing = 'Full'}]
+1 1 2 unknown name | zone = [{id = 'z', parent = 'y', routing = 'Full'}]
+1 1 2 unknown name | zone = [{id = 'z', parent = 'h', routing = 'Full'}]
+1 1 3 missing key | zone = [{id = 'z'}]
+1 1 3 wrong type | zone = [{id = 'z', routing = ['Full']}]
+1 1 3 bad value | zone = [{id = 'z', routing = 'full'}]
+1 1 3 bad value | zone = [{id = 'z', routing = 'Dijkstra'}]
+2 0 0 wrong type | host = 'h'
+2 1 0 wrong type | host = [[]]
+2 1 0 unknown name | host = [{id = 'h', zone = 'z', speed = '1', cores = 1}]
+2 1 1 missing key | host = [{zone = 'z', speed = '1'}]
+2 1 1 wrong type | host = [{id = ['h'], zone = 'z', speed = '1'}]
+2 1 1 bad name | host = [{id = 'a b', zone = 'z', speed = '1'}]
+2 1 1 duplicate | host = [{id = 'z', zone = 'z', speed = '1'}]
+2 2 1 duplicate | host = [{id = 'h', zone = 'z', speed = '1'}, {id = 'h', zone = 'z', speed = '1', core = 0}]
+2 1 2 missing key | host = [{id = 'h', speed = '1'}]
+2 1 2 wrong type | host = [{id = 'h', zone = 1, speed = '1'}]
+2 1 2 unknown name | host = [{id = 'h', zone = 'h', speed = '1'}]
+2 1 3 missing key | host = [{id = 'h', zone = 'z'}]
+2 1 3 wrong type | host = [{id = 'h', zone = 'z', speed = 1}]
+2 1 3 wrong type | host = [{id = 'h', zone = 'z', speed = 1e9}]
+2 1 3 bad value | host = [{id = 'h', zone = 'z', speed = ''}]
+2 1 3 bad value | host = [{id = 'h', zone = 'z', speed = '0.9f'}]
+2 1 3 bad value | host = [{id = 'h', zone = 'z', speed = '1Bps'}]
+2 1 3 bad value | host = [{id = 'h', zone = 'z', speed = '1.1Pf'}]
+2 1 4 wrong type | host = [{id = 'h', zone = 'z', speed = '1', core = 1.0}]
+2 1 4 wrong type | host = [{id = 'h', zone = 'z', speed = '1', core = '1'}]
+2 1 4 wrong type | host = [{id = 'h', zone = 'z', speed = '1', core = 1979-05-27}]
+2 1 4 bad value | host = [{id = 'h', zone = 'z', speed = '1', core = 0}]
+2 1 4 bad value | host = [{id = 'h', zone = 'z', speed = '1', core = 1025}]
+2 1 4 bad value | host = [{id = 'h', zone = 'z', speed = '1', core = -1}]
+2 1 4 bad value | host = [{id = 'h', zone = 'z', speed = '1', core = 9223372036854775807}]
+3 0 0 wrong type | router = true
+3 1 0 wrong type | router = [0.5]
+3 1 0 unknown name | router = [{id = 'q', zone = 'z', speed = '1'}]
+3 1 1 missing key | router = [{zone = 'z'}]
+3 1 1 wrong type | router = [{id = {name = 'q'}, zone = 'z'}]
+3 1 1 bad name | router = [{id = 'q/', zone = 'z'}]
+3 1 1 duplicate | router = [{id = 'h', zone = 'z'}]
+3 2 1 duplicate | router = [{id = 'q', zone = 'z'}, {id = 'q', zone = 'z'}]
+3 1 2 missing key | router = [{id = 'q'}]
+3 1 2 wrong type | router = [{id = 'q', zone = 2}]
+3 1 2 unknown name | router = [{id = 'q', zone = 'h'}]
+4 0 0 wrong type | link = {}
+4 1 0 wrong type | link = [1, {}]
+4 1 0 unknown name | link = [{id = 'k', bandwidth = '1', policy = 'SHARED'}]
+4 1 1 missing key | link = [{bandwidth = '1'}]
+4 1 1 wrong type | link = [{id = 7, bandwidth = '1'}]
+4 1 1 bad name | link = [{id = 'é', bandwidth = '1'}]
+4 2 1 duplicate | link = [{id = 'k', bandwidth = '1'}, {id = 'k', bandwidth = '1'}]
+4 1 2 missing key | link = [{id = 'k'}]
+4 1 2 wrong type | link = [{id = 'k', bandwidth = 1000}]
+4 1 2 bad value | link = [{id = 'k', bandwidth = '0.5Bps'}]
+4 1 2 bad value | link = [{id = 'k', bandwidth = '1Gf'}]
+4 1 2 bad value | link = [{id = 'k', bandwidth = '1001TBps'}]
+4 1 3 wrong type | link = [{id = 'k', bandwidth = '1', latency = 0}]
+4 1 3 wrong type | link = [{id = 'k', bandwidth = '1', latency = 07:32:00}]
+4 1 3 bad value | link = [{id = 'k', bandwidth = '1', latency = '-1s'}]
+4 1 3 bad value | link = [{id = 'k', bandwidth = '1', latency = '1000001s'}]
+4 1 3 bad value | link = [{id = 'k', bandwidth = '1', latency = '1e10s'}]
+4 1 4 wrong type | link = [{id = 'k', bandwidth = '1', sharing_policy = false}]
+4 1 4 bad value | link = [{id = 'k', bandwidth = '1', sharing_policy = 'shared'}]
+5 0 0 wrong type | route = 1.5
+5 1 0 wrong type | route = ['h']
+5 1 0 unknown name | route = [{src = 'h', dst = 'g', links = ['l'], gw_src = 'h'}]
+5 1 1 missing key | route = [{dst = 'g', links = ['l']}]
+5 1 1 wrong type | route = [{src = 1, dst = 'g', links = ['l']}]
+5 1 1 unknown name | route = [{src = 'q', dst = 'g', links = ['l']}]
+5 1 1 unknown name | route = [{src = 'y', dst = 'g', links = ['l']}]
+5 1 2 missing key | route = [{src = 'h', links = ['l']}]
+5 1 2 wrong type | route = [{src = 'h', dst = ['g'], links = ['l']}]
+5 2 2 duplicate | route = [{src = 'h', dst = 'g', links = ['l']}, {src = 'h', dst = 'g', links = ['l']}]
+5 1 2 unknown name | route = [{src = 'h', dst = 'z', links = ['l']}]
+5 1 3 missing key | route = [{src = 'h', dst = 'g'}]
+5 1 3 wrong type | route = [{src = 'h', dst = 'g', links = 'l'}]
+5 1 3 wrong type | route = [{src = 'h', dst = 'g', links = ['l', 1]}]
+5 1 3 bad value | route = [{src = 'h', dst = 'g', links = []}]
+5 1 3 unknown name | route = [{src = 'h', dst = 'g', links = ['l', 'q']}]
+5 1 3 unknown name | route = [{src = 'h', dst = 'g', links = ['h']}]
+5 1 4 wrong type | route = [{src = 'h', dst = 'g', links = ['l'], symmetrical = 'no'}]
+5 1 4 wrong type | route = [{src = 'h', dst = 'g', links = ['l'], symmetrical = 0}]
+6 0 0 wrong type | zone_route = 'y'
+6 1 0 wrong type | zone_route = [2020-01-01]
+6 1 0 unknown name | zone_route = [{src = 'h', dst = 'y', gw_dst = 'r', links = ['l'], gateway = 'r'}]
+6 1 1 missing key | zone_route = [{dst = 'h', links = ['l']}]
+6 1 1 wrong type | zone_route = [{src = false, dst = 'h', links = ['l']}]
+6 1 1 unknown name | zone_route = [{src = 'l', dst = 'h', links = ['l']}]
+6 1 2 missing key | zone_route = [{src = 'h', links = ['l']}]
+6 1 2 wrong type | zone_route = [{src = 'h', dst = 1, links = ['l']}]
+6 2 2 duplicate | zone_route = [{src = 'h', dst = 'y', gw_dst = 'r', links = ['l']}, {src = 'h', dst = 'y', links = ['l']}]
+6 1 2 unknown name | zone_route = [{src = 'h', dst = 'q', links = ['l']}]
+6 1 3 missing key | zone_route = [{src = 'y', dst = 'h', links = ['l']}]
+6 1 3 wrong type | zone_route = [{src = 'y', dst = 'h', gw_src = ['r'], links = ['l']}]
+6 1 3 unknown name | zone_route = [{src = 'y', dst = 'h', gw_src = 'y', links = ['l']}]
+6 1 3 unknown name | zone_route = [{src = 'g', dst = 'h', gw_src = 'q', links = ['l']}]
+6 1 4 missing key | zone_route = [{src = 'h', dst = 'y', links = ['l']}]
+6 1 4 wrong type | zone_route = [{src = 'h', dst = 'y', gw_dst = 1, links = ['l']}]
+6 1 4 unknown name | zone_route = [{src = 'h', dst = 'y', gw_dst = 'z', links = ['l']}]
+6 1 5 missing key | zone_route = [{src = 'h', dst = 'g'}]
+6 1 5 wrong type | zone_route = [{src = 'h', dst = 'g', links = {}}]
+6 1 5 bad value | zone_route = [{src = 'h', dst = 'g', links = []}]
+6 1 5 unknown name | zone_route = [{src = 'h', dst = 'g', links = ['s']}]
+6 1 6 wrong type | zone_route = [{src = 'h', dst = 'g', links = ['l'], symmetrical = 1.0}]
+7 0 0 wrong type | spoke = 0x10
+7 1 0 wrong type | spoke = [true]
+7 1 0 unknown name | spoke = [{zone = 'y', child = 'r', up = ['l'], src = 'r'}]
+7 1 1 missing key | spoke = [{child = 'r', up = ['l']}]
+7 1 1 wrong type | spoke = [{zone = 1, child = 'r', up = ['l']}]
+7 1 1 unknown name | spoke = [{zone = 'r', child = 'r', up = ['l']}]
+7 1 2 missing key | spoke = [{zone = 'y', up = ['l']}]
+7 1 2 wrong type | spoke = [{zone = 'y', child = true, up = ['l']}]
+7 2 2 duplicate | spoke = [{zone = 'y', child = 'r', up = ['l']}, {zone = 'z', child = 'r', up = ['l']}]
+7 1 2 unknown name | spoke = [{zone = 'y', child = 'q', up = ['l']}]
+7 1 3 missing key | spoke = [{zone = 'y', child = 'z', up = ['l']}]
+7 1 3 wrong type | spoke = [{zone = 'y', child = 'r', gateway = 1, up = ['l']}]
+7 1 3 unknown name | spoke = [{zone = 'y', child = 'z', gateway = 'l', up = ['l']}]
+7 1 4 missing key | spoke = [{zone = 'y', child = 'r'}]
+7 1 4 wrong type | spoke = [{zone = 'y', child = 'r', up = [['l']]}]
+7 1 4 bad value | spoke = [{zone = 'y', child = 'r', up = []}]
+7 1 4 unknown name | spoke = [{zone = 'y', child = 'r', up = ['s']}]
+7 1 5 wrong type | spoke = [{zone = 'y', child = 'r', up = ['l'], down = 'l'}]
+7 1 5 bad value | spoke = [{zone = 'y', child = 'r', up = ['l'], down = []}]
+7 1 5 unknown name | spoke = [{zone = 'y', child = 'r', up = ['l'], down = ['l_UP']}]
+2 1 1 bad name | host = [{id = 'aaaaaaaaaaaaaaaaaaaaaaaaaaaaaaaaaaaaaaaaaaaaaaaaaaaaaaaaaaaaaaaaa', zone = 'z', speed = '1'}]
+2 1 1 bad name | host = [{id = \"a\\n\", zone = 'z', speed = '1'}]
+4 1 1 bad name | link = [{id = 'aaaaaaaaaaaaaaaaaaaaaaaaaaaaaaaaaaaaaaaaaaaaaaaaaaaaaaaaaaaa', bandwidth = '1', sharing_policy = 'SPLITDUPLEX'}]
+4 2 1 bad name | link = [{id = 'aaaaaaaaaaaaaaaaaaaaaaaaaaaaaaaaaaaaaaaaaaaaaaaaaaaaaaaaaaaa', bandwidth = '1'}, {id = 'aaaaaaaaaaaaaaaaaaaaaaaaaaaaaaaaaaaaaaaaaaaaaaaaaaaaaaaaaaaa', bandwidth = '1', sharing_policy = 'SPLITDUPLEX'}]
+4 2 1 duplicate | link = [{id = 'k', bandwidth = '1'}, {id = 'k', bandwidth = '1', sharing_policy = 'SPLITDUPLEX'}]
+4 2 1 duplicate | link = [{id = 'k', bandwidth = '1', sharing_policy = 'SPLITDUPLEX'}, {id = 'k', bandwidth = '1'}]
+4 2 1 duplicate | link = [{id = 'k_UP', bandwidth = '1'}, {id = 'k', bandwidth = '1', sharing_policy = 'SPLITDUPLEX'}]
+4 2 1 duplicate | link = [{id = 'k', bandwidth = '1', sharing_policy = 'SPLITDUPLEX'}, {id = 'k_DOWN', bandwidth = '1'}]
+4 2 1 duplicate | link = [{id = 'k_DOWN', bandwidth = '1', sharing_policy = 'SPLITDUPLEX'}, {id = 'k', bandwidth = '1', sharing_policy = 'SPLITDUPLEX'}]
+5 1 3 unknown name | route = [{src = 'h', dst = 'g', links = ['s']}]
+5 2 2 duplicate | route = [{src = 'h', dst = 'g', links = ['l']}, {src = 'g', dst = 'h', links = ['l']}]
+5 2 2 duplicate | route = [{src = 'h', dst = 'g', links = ['l']}, {src = 'g', dst = 'h', links = ['l'], symmetrical = false}]
+5 2 2 duplicate | route = [{src = 'h', dst = 'g', links = ['l'], symmetrical = false}, {src = 'g', dst = 'h', links = ['l']}]
+5 2 2 duplicate | route = [{src = 'h', dst = 'h', links = ['l'], symmetrical = false}, {src = 'h', dst = 'h', links = ['l']}]
+5 2 4 wrong type | route = [{src = 'h', dst = 'g', links = ['l'], symmetrical = false}, {src = 'g', dst = 'h', links = ['l'], symmetrical = 'no'}]
+6 2 2 duplicate | zone_route = [{src = 'h', dst = 'g', links = ['l']}, {src = 'g', dst = 'h', links = ['l']}]
+fine | zone = [{id = 'y', parent = 'x', routing = 'Star'}, {id = 'x', parent = 'y', routing = 'Full'}, {id = 'z', routing = 'Full'}]
+fine | host = [{id = 'aaaaaaaaaaaaaaaaaaaaaaaaaaaaaaaaaaaaaaaaaaaaaaaaaaaaaaaaaaaaaaaa', zone = 'y', speed = '1Pf', core = 1024}, {id = '-_.', zone = 'z', speed = '0.001kf', core = 0x1}, {id = 'h', zone = 'z', speed = '1'}, {id = 'g', zone = 'z', speed = '1'}]
+fine | link = [{id = 'aaaaaaaaaaaaaaaaaaaaaaaaaaaaaaaaaaaaaaaaaaaaaaaaaaaaaaaaaaa', bandwidth = '1', sharing_policy = 'SPLITDUPLEX'}, {id = 'aaaaaaaaaaaaaaaaaaaaaaaaaaaaaaaaaaaaaaaaaaaaaaaaaaaaaaaaaaaa', bandwidth = '1'}]
+fine | link = [{id = 'k', bandwidth = '1000TBps'}, {id = 'k_UP', bandwidth = '8bps', latency = '1e6s', sharing_policy = 'FATPIPE'}]
+fine | link = [{id = 'h', bandwidth = '1', latency = '0', sharing_policy = 'SHARED'}]
+fine | route = [{src = 'h', dst = 'r', links = ['s_UP', 's_DOWN', 'l', 'l']}]
+fine | route = [{src = 'h', dst = 'g', links = ['l'], symmetrical = false}, {src = 'g', dst = 'h', links = ['l'], symmetrical = false}]
+fine | route = [{src = 'h', dst = 'h', links = ['l'], symmetrical = true}]
+fine | zone_route = [{src = 'h', dst = 'y', gw_dst = 'g', links = ['l']}, {src = 'y', dst = 'y', gw_src = 'r', gw_dst = 'r', links = ['l']}]
+fine | zone_route = [{src = 'h', dst = 'g', gw_src = 'r', links = ['l'], symmetrical = false}]
+fine | spoke = [{zone = 'y', child = 'r', up = ['s_UP'], down = ['l']}, {zone = 'y', child = 'z', gateway = 'h', up = ['l', 'l']}]
+fine | route = [{src = 'h', dst = 'g', links = [%0%64%'l',%]}]
+5 1 3 over a limit | route = [{src = 'h', dst = 'g', links = [%0%65%'l',%]}]
+5 1 3 unknown name | route = [{src = 'h', dst = 'g', links = [%0%65%'q',%]}]
+fine | zone_route = [{src = 'h', dst = 'g', links = [%0%64%'l',%]}]
+6 1 5 over a limit | zone_route = [{src = 'h', dst = 'g', links = [%0%65%'l',%]}]
+6 1 5 unknown name | zone_route = [{src = 'h', dst = 'g', links = [%0%65%'q',%]}]
+fine | spoke = [{zone = 'y', child = 'r', up = [%0%64%'l',%]}]
+7 1 4 over a limit | spoke = [{zone = 'y', child = 'r', up = [%0%65%'l',%]}]
+7 1 4 unknown name | spoke = [{zone = 'y', child = 'r', up = [%0%65%'q',%]}]
+fine | spoke = [{zone = 'y', child = 'r', up = ['l'], down = [%0%64%'l',%]}]
+7 1 5 over a limit | spoke = [{zone = 'y', child = 'r', up = ['l'], down = [%0%65%'l',%]}]
+7 1 5 unknown name | spoke = [{zone = 'y', child = 'r', up = ['l'], down = [%0%65%'q',%]}]
+";
+
+/// Faults of whole texts, of which the least is told; and the limits of rows and of bytes.
+const TEXTS: &str = "\
+fine
+fine | \u{feff}zone = []
+fine | # nothing\r | host = []\r | zone = []
+fine | [[zone]] | id = 'z' | routing = \"Full\" | [[host]] | id = 'h' | zone = 'z' | speed = '1' | core = 0b10
+1 0 0 wrong type | [zone] | id = 'z'
+2 0 0 wrong type | host.h = 1
+1 1 3 wrong type | [[zone]] | id = 'z' | routing.x = 'Full'
+1 1 0 unknown name | [[zone]] | id = 'z' | routing = 'Full' | [zone.deep]
+not TOML | host = [
+not TOML | host
+not TOML | zone = [] | zone = []
+not TOML | zone = [] | [[zone]]
+not TOML | host = [{core = 9223372036854775808}]
+not TOML | host = [{id = 'h', id = 'g'}]
+0 0 0 unknown name | thing = 1 | zone = 1
+1 1 3 missing key | zone = [{id = 'z'}] | host = 1
+2 1 3 bad value | host = [{id = 'h', zone = 'z', speed = 'x'}, 1] | zone = [{id = 'z', routing = 'Full'}]
+2 1 1 bad name | host = [{id = '', zone = 'q', speed = 'x', core = 0}]
+2 1 0 unknown name | host = [{zone = 'q', cores = 0}, {}]
+4 2 1 missing key | route = [1] | link = [{id = 'l', bandwidth = '1'}, {}]
+6 1 1 wrong type | spoke = 1 | zone_route = [{src = 1, dst = 2}]
+1 1 0 wrong type | zone = [%0%1024%0,%]
+1 0 0 over a limit | zone = [%0%1025%0,%]
+2 1 0 wrong type | host = [%0%16384%0,%]
+2 0 0 over a limit | host = [%0%16385%0,%]
+3 1 0 wrong type | router = [%0%16384%0,%]
+3 0 0 over a limit | router = [%0%16385%0,%]
+4 1 0 wrong type | link = [%0%65536%0,%]
+4 0 0 over a limit | link = [%0%65537%0,%]
+5 1 0 wrong type | route = [%0%262144%0,%]
+5 0 0 over a limit | route = [%0%262145%0,%]
+6 1 0 wrong type | zone_route = [%0%262144%0,%]
+6 0 0 over a limit | zone_route = [%0%262145%0,%]
+7 1 0 wrong type | spoke = [%0%32768%0,%]
+7 0 0 over a limit | spoke = [%0%32769%0,%]
+fine | host = [%0%262143%                                                                %                                                       ]
+0 0 0 over a limit | host = [%0%262143%                                                                %                                                        ]
+";
+
+/// Hosts, links and spokes that are read.
+const ROWS: &str = "\
+h1 0 1000000000 1;h2 0 98095000 4; | zone = [{id = 'z', routing = 'Full'}] | host = [{id = 'h1', zone = 'z', speed = '1Gf'}, {id = 'h2', zone = 'z', speed = '98.095Mf', core = 4}] | router = [{id = 'r', zone = 'z'}]
+h 0 1000000000 1;s 1000000 0;l 1250000000 59904;up [LinkId(0), LinkId(2)] down [LinkId(2), LinkId(1)]; | zone = [{id = 'z', routing = 'Star'}] | host = [{id = 'h', zone = 'z', speed = '1Gf'}] | link = [{id = 's', bandwidth = '1MBps', sharing_policy = 'SPLITDUPLEX'}, {id = 'l', bandwidth = '10Gbps', latency = '59.904us'}] | spoke = [{zone = 'z', child = 'h', up = ['s_UP', 'l']}]
+";
+
+/// What is told of a platform text.
+fn told(alloc: Global, text: &str) -> Result<String, Fail> {
+    match read_platform(alloc, text.as_bytes()) {
+        Ok(_) => Ok(String::from_str(alloc, "fine")?),
+        Err(fault) => fault_text(alloc, fault.words(), fault.place()),
+    }
+}
+
+/// What is told of a table beside the others of those above.
+fn told_beside(alloc: Global, table: &str) -> Result<String, Fail> {
+    let mut text = String::new(alloc);
+    for (name, head) in HEADS {
+        if !table.starts_with(name) {
+            text.push_str(head)?;
+        }
+    }
+    text.push_str(table)?;
+    told(alloc, text.as_str())
+}
+
+/// Adds the name, the zone, the speed and the cores of a host.
+fn push_host(alloc: Global, rows: &mut String, host: &HostRow) -> Result<(), AllocError> {
+    let (id, zone) = (host.id.as_str(), host.zone.0);
+    let row = format!(in alloc; "{id} {zone} {} {};", host.speed, host.cores)?;
+    rows.push_str(row.as_str())
+}
+
+/// Adds the name, the bandwidth and the latency of a link.
+fn push_link(alloc: Global, rows: &mut String, link: &LinkRow) -> Result<(), AllocError> {
+    let row = format!(in alloc; "{} {} {};", link.id.as_str(), link.bandwidth, link.latency)?;
+    rows.push_str(row.as_str())
+}
+
+/// Adds the links up and down of a spoke.
+fn push_spoke(alloc: Global, rows: &mut String, spoke: &SpokeRow) -> Result<(), AllocError> {
+    let (up, down) = (spoke.up.as_slice(), spoke.down.as_slice());
+    let row = format!(in alloc; "up {up:?} down {down:?};")?;
+    rows.push_str(row.as_str())
+}
+
+/// Adds the hosts, links and spokes of a platform.
+fn push_rows(alloc: Global, rows: &mut String, platform: &PlatformText) -> Result<(), AllocError> {
+    for host in platform.hosts() {
+        push_host(alloc, rows, host)?;
+    }
+    for link in platform.links() {
+        push_link(alloc, rows, link)?;
+    }
+    for spoke in platform.spokes() {
+        push_spoke(alloc, rows, spoke)?;
+    }
+    Ok(())
+}
+
+/// The rows of a platform text.
+fn rows(alloc: Global, text: &str) -> Result<String, Fail> {
+    let platform = read_platform(alloc, text.as_bytes())?;
+    let mut rows = String::new(alloc);
+    push_rows(alloc, &mut rows, &platform)?;
+    Ok(rows)
+}
+
+#[test]
+fn each_fault_of_a_table_is_told_at_its_place(rt: HostRuntime) -> Result<(), Fail> {
+    hold(&rt, rt.alloc(), TABLES, told_beside)
+}
+
+#[test]
+fn the_least_fault_of_a_text_is_told(rt: HostRuntime) -> Result<(), Fail> {
+    hold(&rt, rt.alloc(), TEXTS, told)
+}
+
+#[test]
+fn rows_are_read(rt: HostRuntime) -> Result<(), Fail> {
+    hold(&rt, rt.alloc(), ROWS, rows)
+}

@@ -1,0 +1,4 @@
+pub mod Walk
+pub mod Chain
+pub mod Chained
+pub mod kept

@@ -1,0 +1,2 @@
+-- How `Chains` keeps its uses.
+pub mod Linked

@@ -1,0 +1,3 @@
+-- How parts and streams in memory are kept.
+pub mod Parts
+pub mod Streams

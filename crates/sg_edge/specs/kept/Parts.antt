@@ -1,0 +1,73 @@
+-- What a part in memory shows by its fields, and what of them its calls leave.
+use Rattle.std.specs.Prelude.{◌≡◌, ◌+◌, ◌^◌, ◌-◌, ℕ, List, [], drop, length, min, Option, Some, None, unwrap_or, is_some, true, if◌then◌else◌, string_bytes}
+use Rattle.std.proofs.Common.{arith, refl}
+use Rattle.std.proofs.lemmas.List.{drop_all}
+use Rattle.sg_edge.specs.declared.files.Stage.{Stage}
+use Rattle.sg_edge.specs.declared.files.Stage.TheVariants.{Fresh, Begun, Over, Broken}
+use Rattle.sg_edge.specs.declared.mem_part.MemPart.{MemPart}
+use Rattle.sg_edge.specs.Files.{PartView, fault_count}
+
+-- how many calls of a part there can have been that took no byte: its begin, and the last call
+-- of all
+abbrev pub stage_steps : Stage → ℕ
+stage_steps Fresh = 0
+stage_steps Begun = 1
+stage_steps Over = 2
+stage_steps Broken = 2
+
+-- how many calls of it there can have been at most
+abbrev pub part_steps : MemPart → ℕ
+part_steps p = p.taken + stage_steps p.stage
+
+-- the name of a part that was begun, since it is begun under no other
+abbrev pub name_begun : MemPart → Option (List ℕ)
+name_begun p = if p.begun then Some (string_bytes p.name) else None
+
+-- the bytes that were not taken
+abbrev pub part_left : MemPart → List ℕ
+part_left p = drop p.taken p.bytes.items
+
+abbrev pub part_view : MemPart → PartView
+part_view p = record {
+  stage = p.stage;
+  name = name_begun p;
+  left = Some (part_left p);
+  faults = fault_count p.stage;
+}
+
+-- how many bytes a read takes into a buffer of so many, where it doesn't fail
+abbrev pub part_read : MemPart → ℕ → ℕ
+part_read p room = min (min room p.piece) (length (part_left p))
+
+-- any count that a read can give
+abbrev pub greatest_count : ℕ
+greatest_count = 2 ^ 64 - 1
+
+-- the part has these bytes, or there is none, a read gives as many as there are, and nothing was
+-- done to it
+pub record IsFreshPart (bytes : Option (List ℕ)) (name : List ℕ) (p : MemPart) : Type 0 where
+  pub bytes_are : p.bytes.items ≡ unwrap_or bytes []
+  pub there : p.there ≡ is_some bytes
+  pub name_is : string_bytes p.name ≡ name
+  pub piece_is : p.piece ≡ greatest_count
+  pub taken : p.taken ≡ 0
+  pub stage : p.stage ≡ Fresh
+
+-- what no call of a part changes
+pub record KeepsPart (old new : MemPart) : Type 0 where
+  pub there : new.there ≡ old.there
+  pub name_is : new.name ≡ old.name
+  pub piece_is : new.piece ≡ old.piece
+
+-- the part is there, and a read gives as many bytes as there are
+pub record IsSurePart (p : MemPart) : Type 0 where
+  pub there : p.there ≡ true
+  pub piece_is : p.piece ≡ greatest_count
+
+-- of a part that is over nothing is left
+pub part_over : (p : MemPart) → p.stage ≡ Over → part_left p ≡ []
+part_over p over = drop_all p.taken p.bytes.items (omega (arith, p.ended over))
+
+-- one that isn't begun has no name
+pub part_unnamed : (p : MemPart) → p.stage ≡ Fresh → name_begun p ≡ None
+part_unnamed p fresh = rw (p.unbegun fresh) refl

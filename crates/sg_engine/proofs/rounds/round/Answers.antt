@@ -1,0 +1,28 @@
+use Rattle.std.proofs.Common.{◌∙◌, refl}
+use Rattle.sg_kernel.specs.World.{extent}
+use Rattle.sg_engine.specs.Run.{scene}
+use Rattle.sg_engine.proofs.Parts.{calls_few, calls_may, calls_rise, round_as, seated_as}
+use Rattle.sg_engine.proofs.rounds.round.Goals as goal
+
+pub answer_calls-requires-clause-callers : goal.answer_calls-requires-clause-callers
+answer_calls-requires-clause-callers g c =
+    calls_may _ c.args.sim.now.kernel.core (extent c.args.sim.now.kernel.setup) c.as_slice.result.now (c.as_slice.ensures.value ∙ c.take_turns.ensures.calls) (rw c.as_slice.ensures.value c.take_turns.ensures.limited)
+
+pub answer_calls-requires-clause-rises : goal.answer_calls-requires-clause-rises
+answer_calls-requires-clause-rises g c = calls_rise _ c.args.sim.now.kernel.core c.as_slice.result.now (c.as_slice.ensures.value ∙ c.take_turns.ensures.calls)
+
+pub answer_calls-requires-clause-room : goal.answer_calls-requires-clause-room
+answer_calls-requires-clause-room g c = calls_few _ c.args.seats.now c.args.sim.now.kernel.core c.as_slice.result.now c.args.sim.now.kernel.room (c.as_slice.ensures.value ∙ c.take_turns.ensures.calls) c.requires.room.room
+
+pub returns-clause-step : goal.returns-clause-step
+returns-clause-step g c = λ taken world stands.
+    round_as c.answer_calls.result _ (scene c.args.router.now c.args.sim.now.kernel.setup c.args.plan.now.script) taken _ _ c.as_slice.result.now world _ _ _ stands c.take_turns.ensures.minds (c.as_slice.ensures.value ∙ c.take_turns.ensures.calls)
+    (λ next. c.answer_calls.ensures.step _ taken next)
+
+pub returns-clause-seats : goal.returns-clause-seats
+returns-clause-seats g c = record {
+  setup = c.answer_calls.ensures.setup;
+  seated = seated_as c.args.sim.now.kernel.setup c.answer_calls.new.kernel.setup _ c.answer_calls.ensures.setup c.take_turns.ensures.seated;
+  calls = c.take_turns.ensures.room;
+  buffer = refl;
+}

@@ -1,0 +1,53 @@
+-- What a whole run has done, in the words of its contract.
+use Rattle.std.specs.Prelude.{◌≡◌, ◌<◌, ◌≤◌, ◌+◌, ◌⊎◌, ℕ, Bool, true, false, IsTrue, MatchBool, List, Option}
+use Rattle.sg_edge.specs.Files.{PartView, Only, KeepsTelling}
+use Rattle.sg_edge.specs.declared.files.Part.{Part}
+use Rattle.sg_edge.specs.declared.files.Part.TheVariants.{Script}
+use Rattle.sg_edge.specs.declared.files.Stage.TheVariants.{Broken}
+use Rattle.sg_edge.specs.Sources.{Source, Gives}
+use Rattle.sg_edge.specs.declared.sinks.Stream.{Stream}
+use Rattle.sg_engine.specs.declared.ended.Ended.{Ended}
+use Rattle.sg_engine.specs.declared.ended.Ended.TheVariants as ended
+use Rattle.sg_engine.specs.declared.setup.Setup.{Setup}
+use Rattle.sg_engine.specs.declared.show.Show.{Show}
+use Rattle.sg_engine.specs.Gains.{GainsAll, GainsFronts}
+use Rattle.sg_engine.specs.Output.{Output, run_output}
+
+-- a failed write or want of memory cuts the run off
+abbrev pub is_cut : Ended → Bool
+is_cut ended.WriteFault = true
+is_cut ended.Memory = true
+is_cut other = false
+
+-- the run ended so and both texts are written, or it was cut off and fronts of them are
+abbrev pub Ends : List ℕ → List ℕ → Ended → Ended → (Stream → Option (List ℕ)) → (Stream → Option (List ℕ)) → Type 0
+Ends out err want how old new = MatchBool (is_cut how) (GainsFronts out err old new) ((want ≡ how) × GainsAll out err old new)
+
+-- the part is broken, and was before or has broken since
+abbrev pub IsBroken : PartView → PartView → Type 0
+IsBroken old new = (new.stage ≡ Broken) × (old.faults ≤ new.faults) × ((old.stage ≡ Broken) ⊎ (old.faults < new.faults))
+
+-- what was written is this, and the end; the count went on by its work at most, also where the run was cut off
+pub record IsRun (want : Output) (how : Ended) (old new : Stream → Option (List ℕ)) (start count : ℕ) : Type 0 where
+  pub ends : Ends want.out want.err want.ended how old new
+  pub work : count ≤ start + want.work
+
+-- the script's part is broken, and was before or has broken since
+abbrev pub HasBroken : {F : Type 0} → (F → Part → PartView) → F → F → Type 0
+HasBroken shows old new = IsBroken (shows old Script) (shows new Script)
+
+-- of all files only the script's part was read, and without a script none; it keeps its name, and where it tells its
+-- bytes, it still does
+pub record TakesScript {F : Type 0} (shows : F → Part → PartView) (script : Bool) (old new : F) : Type 0 where
+  pub others : Only Script (shows old) (shows new)
+  pub unscripted : script ≡ false → new ≡ old
+  pub name : (shows new Script).name ≡ (shows old Script).name
+  pub telling : KeepsTelling (shows old Script) (shows new Script)
+
+-- a fact for each source that the script's part may have given; without a script, for any
+abbrev pub ForSources : Bool → (Part → PartView) → (Part → PartView) → (Source → Type 0) → Type 0
+ForSources script old new P = (source : Source) → (IsTrue script → Gives (old Script) (new Script) source) → P source
+
+-- what the run of a setup writes and how it ends, by what the script's part gives
+abbrev pub output_of : Setup → ℕ → Show → Source → Output
+output_of setup budget show source = run_output setup.platform setup.deployment setup.script budget show source

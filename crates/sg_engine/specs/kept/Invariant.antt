@@ -1,0 +1,93 @@
+-- What holds of a simulation between the parts of a run.
+use Rattle.std.specs.Prelude.{◌≡◌, ◌≤◌, ◌+◌, ℕ, List, [], length, All, Option, MatchBool, vec_capacity}
+use Rattle.sg_base.specs.Mind.{Mind}
+use Rattle.sg_actor.specs.Seats.{SeatView}
+use Rattle.sg_edge.specs.Files.{PartView}
+use Rattle.sg_edge.specs.declared.files.Part.{Part}
+use Rattle.sg_edge.specs.declared.sinks.Stream.{Stream}
+use Rattle.sg_edge.specs.declared.sinks.Stream.TheVariants.{Out, Err}
+use Rattle.sg_rows.specs.Deployment.{Deployed, extent_of}
+use Rattle.sg_rows.specs.Platform.{Platform}
+use Rattle.sg_script.specs.Known.{Known as Names, known_in}
+use Rattle.sg_script.specs.Stands.{kept_of}
+use Rattle.sg_engine.specs.declared.ended.Ended.{Ended}
+use Rattle.sg_engine.specs.declared.plan.Plan.{Plan}
+use Rattle.sg_engine.specs.declared.simulation.Simulation.{Simulation}
+use Rattle.sg_kernel.specs.Known.{Known}
+use Rattle.sg_kernel.specs.Start.{link_caps, setup_of}
+use Rattle.sg_kernel.specs.World.{extent}
+use Rattle.sg_engine.specs.World.{World}
+use Rattle.sg_engine.specs.Output.{first_of}
+use Rattle.sg_engine.specs.kept.Moments.{Moment, moment, moment_in, names_of, part_at, script_in, cuts, Fits, StandsFor}
+use Rattle.sg_engine.specs.kept.SeatRules.{IsSeated, minds_of}
+use Rattle.sg_engine.specs.Run.{Answering, Progress, work_behind}
+use Rattle.sg_engine.specs.kept.Stretches.{Trace, trace_in, Advances, CutsOff}
+use Rattle.sg_route.specs.Roads.{Roads, roads_of}
+use Rattle.sg_kernel.specs.Roads.{AreOver}
+
+abbrev pub at_moment : PartView → Simulation → Moment
+at_moment part sim = moment part (kept_of sim.script) sim.kernel
+
+-- a moment of the run of a plan
+abbrev pub now_at : Plan → (Part → PartView) → Simulation → Moment
+now_at plan shows sim = moment_in plan shows sim.script sim.kernel
+
+-- all actors are seated, and there is room for a call of each
+pub record HasRoom (sim : Simulation) (places : List SeatView) : Type 0 where
+  pub number : length places ≡ length sim.kernel.core.actors
+  pub seated : All (IsSeated (extent sim.kernel.setup)) places
+  pub calls : length places ≤ vec_capacity sim.calls
+  pub room : length places ≤ sim.kernel.room
+
+-- behind a round or a pass all actors are seated again, and nothing but moments and records has changed
+pub record KeepsSeats (old new : Simulation) (places : List SeatView) : Type 0 where
+  pub setup : new.kernel.setup ≡ old.kernel.setup
+  pub seated : All (IsSeated (extent new.kernel.setup)) places
+  pub calls : vec_capacity new.calls ≡ vec_capacity old.calls
+  pub buffer : new.buffer ≡ old.buffer
+
+-- what the kernel knows is of these actors
+pub record IsOfSetup (deployed : Deployed) (known : Known) : Type 0 where
+  pub number : length known.core.actors ≡ length deployed.actors
+  pub extent : extent known.setup ≡ extent_of deployed
+  pub few : length known.core.actors ≤ 65536
+
+-- all lists are of the deployment's actors, who are seated; there is room for a call of each, and no record and no line waits
+pub record IsKept (deployed : Deployed) (part : PartView) (sim : Simulation) (places : List SeatView) : Type 0 where
+  pub fits : Fits deployed (at_moment part sim)
+  pub homes : length sim.kernel.setup.homes ≡ length deployed.actors
+  pub number : length places ≡ length deployed.actors
+  pub seated : All (IsSeated (extent_of deployed)) places
+  pub calls : length deployed.actors ≤ vec_capacity sim.calls
+  pub few : length deployed.actors ≤ 65536
+  pub cleared : sim.kernel.records ≡ []
+  pub empty : sim.buffer ≡ []
+
+-- the router has the routes of the platform, over its links
+pub record AreRoadsOf (platform : Platform) (roads : Roads) : Type 0 where
+  pub are : roads ≡ roads_of platform
+  pub over : AreOver (length (link_caps platform.links)) roads
+
+-- the simulation of a setup at its beginning, with nothing of the script taken
+pub record IsFirst (platform : Platform) (deployed : Deployed) (budget : ℕ) (part : PartView) (sim : Simulation) (places : List SeatView) : Type 0 where
+  pub kept : IsKept deployed part sim places
+  pub setup : sim.kernel.setup ≡ setup_of platform deployed budget
+  pub stands : StandsFor (known_in deployed) [] (minds_of places) (at_moment part sim) (first_of platform deployed budget)
+
+-- what a part of a run has done
+abbrev pub PartIs : ℕ → Names → Trace → (Answering → Progress) → Option Ended → List ℕ → List (Option Mind) → Moment → Moment → Option (List ℕ) → Option (List ℕ) → Type 0
+PartIs spent names trace whole how taken had old new before after =
+    MatchBool (cuts how) (CutsOff names trace whole taken old.part new.part before after) (Advances spent names trace whole how taken had old new before after)
+
+-- so it is in the run of a plan
+abbrev pub Holds : Plan → (Part → PartView) → Simulation → List SeatView → Type 0
+Holds plan shows sim places = IsKept plan.deployment.now (script_in plan shows) sim places
+
+abbrev pub FitsNow : Plan → (Part → PartView) → Simulation → Type 0
+FitsNow plan shows sim = Fits plan.deployment.now (now_at plan shows sim)
+
+-- How a part of a run leads from one moment to another, with its lines on Out: of each world for which the first moment
+-- stands. Err stays.
+abbrev pub LeadsPart : Plan → Roads → Option Ended → (Stream → Option (List ℕ)) → (Stream → Option (List ℕ)) → List (Option Mind) → List (Option Mind) → Moment → Moment → Type 0
+LeadsPart plan roads how before after had has old new = (after Err ≡ before Err) × ((taken : List ℕ) (world : World) → StandsFor (names_of plan) taken had old world →
+    PartIs (work_behind world) (names_of plan) (trace_in plan) (λ answers. part_at plan roads old.kernel answers world) how taken has old new (before Out) (after Out))

@@ -1,0 +1,158 @@
+-- How far a run has come between two moments, whatever its script may still give.
+use Rattle.std.specs.Prelude.{◌≡◌, ◌≢◌, ◌-◌, ℕ, Bool, true, false, List, [], ◌++◌, length, Option, None, Some, Result, Ok, MatchResult}
+use Rattle.sg_base.specs.declared.memory.Memory.{Memory}
+use Rattle.sg_base.specs.declared.trace_record.Record.{Record}
+use Rattle.sg_base.specs.Mind.{Mind}
+use Rattle.sg_edge.specs.Files.{PartView, Only}
+use Rattle.sg_edge.specs.declared.files.Part.{Part}
+use Rattle.sg_edge.specs.declared.files.Part.TheVariants.{Script}
+use Rattle.sg_edge.specs.Sources.{Source}
+use Rattle.sg_edge.specs.declared.files.Stage.TheVariants.{Fresh, Begun, Broken}
+use Rattle.sg_kernel.specs.Known.{Known}
+use Rattle.sg_kernel.specs.World.{Core, MayCall, extent}
+use Rattle.sg_engine.specs.World.{World}
+use Rattle.sg_rows.specs.Deployment.{Deployed, extent_of}
+use Rattle.sg_script.specs.Answer.{answer_of}
+use Rattle.sg_script.specs.Rest.{GoesOn}
+use Rattle.sg_script.specs.Known.{Known as Names, known_in}
+use Rattle.sg_script.specs.Stands.{AreLimited, Kept, kept_of, Stands, Reads}
+use Rattle.sg_script.specs.declared.script.Script.{Script as Reader}
+use Rattle.sg_engine.specs.declared.ended.Ended.{Ended}
+use Rattle.sg_engine.specs.declared.plan.Plan.{Plan}
+use Rattle.sg_engine.specs.RunContract.{is_cut}
+use Rattle.sg_route.specs.Roads.{Roads}
+use Rattle.sg_engine.specs.declared.actor_call.ActorCall.{ActorCall}
+use Rattle.sg_engine.specs.declared.ended.Ended.TheVariants as ended
+use Rattle.sg_engine.specs.kept.CallList.{calls_of}
+use Rattle.sg_engine.specs.Run.{Scene, scene, Answering, Progress, at_world, with_front, one_call, round, round_or_pass}
+
+-- a moment of a run: what the part of the script shows, what its reader keeps, and what the kernel knows
+pub record Moment : Type 0 where
+  pub part : PartView
+  pub kept : Kept
+  pub kernel : Known
+
+-- what a run sees of the script's part: without a script, that it has nothing to give
+abbrev pub script_part : Bool → PartView → PartView
+script_part true part = part
+script_part false part = record { stage = Begun; name = None; left = Some []; faults = 0 }
+
+abbrev pub moment : PartView → Kept → Known → Moment
+moment part kept kernel = record { part = part; kept = kept; kernel = kernel }
+
+abbrev pub moment_of : Bool → PartView → Reader → Known → Moment
+moment_of script part reader kernel = moment (script_part script part) (kept_of reader) kernel
+
+-- the script's part was begun, kernel and reader are of this deployment, and the actions that wait keep to its limits
+pub record Fits (deployed : Deployed) (now : Moment) : Type 0 where
+  pub actors : length now.kernel.core.actors ≡ length deployed.actors
+  pub queues : length now.kept.queues - 1 ≡ length deployed.actors
+  pub begun : now.part.stage ≢ Fresh
+  pub extent : extent now.kernel.setup ≡ extent_of deployed
+  pub waiting : AreLimited (extent_of deployed) now.kept
+
+abbrev pub cuts : Option Ended → Bool
+cuts None = false
+cuts (Some how) = is_cut how
+
+-- who may call may still call once another actor was answered
+abbrev pub LeavesFree : ℕ → Core → Core → Type 0
+LeavesFree actor old new = (other : ℕ) → other ≢ actor → MayCall old other → MayCall new other
+
+-- with these bytes of the script taken, the moment and the minds stand for the world
+pub record StandsFor (names : Names) (taken : List ℕ) (had : List (Option Mind)) (now : Moment) (world : World) : Type 0 where
+  pub script : Stands names taken now.part.stage world.asks now.kept
+  pub core : now.kernel.core ≡ world.core
+  pub minds : had ≡ world.minds
+
+-- From the old moment to the new one a piece of the script was taken, and records were made; for each source that
+-- goes on from there, the whole is these records and then the rest, from the world for which the new moment stands, with so
+-- much work spent.
+pub record IsStretch (spent : ℕ) (names : Names) (whole : Answering → Progress) (rest : Answering → World → Progress) (taken : List ℕ) (had : List (Option Mind)) (old new : Moment) : Type 0 where
+  pub piece : List ℕ
+  pub reads : Reads piece old.part new.part
+  pub setup : new.kernel.setup ≡ old.kernel.setup
+  pub world : World
+  pub stands : StandsFor names (taken ++ piece) had new world
+  pub work : world.work ≡ spent
+  pub made : List Record
+  pub records : new.kernel.records ≡ old.kernel.records ++ made
+  pub is : (source : Source) → GoesOn (taken ++ piece) new.part.stage source → whole (answer_of names source) ≡ with_front made (rest (answer_of names source) world)
+
+-- memory was wanting: some of the script was read, and nothing else is told
+pub record LacksMemory (old new : PartView) : Type 0 where
+  pub piece : List ℕ
+  pub reads : Reads piece old new
+
+-- nothing is left of the stretch but how it ended
+abbrev pub ending : Option Ended → Answering → World → Progress
+ending how answers world = at_world how world
+
+-- ---- in the words of contracts
+abbrev pub names_of : Plan → Names
+names_of plan = known_in plan.deployment.now
+
+abbrev pub scene_at : Plan → Roads → Known → Scene
+scene_at plan roads kernel = scene roads kernel.setup plan.script
+
+-- a call of an actor
+abbrev pub call_at : Plan → Roads → Known → ActorCall → Answering → World → Progress
+call_at plan roads kernel made answers world = one_call (scene_at plan roads kernel) answers made.actor.0 made.call world
+
+-- calls of several actors, a round, and a round or a pass
+abbrev pub calls_at : Plan → Roads → Known → List ActorCall → Answering → World → Progress
+calls_at plan roads kernel calls answers world = calls_of (scene_at plan roads kernel) answers calls world
+
+abbrev pub round_at : Plan → Roads → Known → Answering → World → Progress
+round_at plan roads kernel answers world = round (scene_at plan roads kernel) answers world
+
+abbrev pub part_at : Plan → Roads → Known → Answering → World → Progress
+part_at plan roads kernel answers world = round_or_pass (scene_at plan roads kernel) answers world
+
+-- what is seen of the script's part
+abbrev pub script_in : Plan → (Part → PartView) → PartView
+script_in plan shows = script_part plan.script (shows Script)
+
+-- a moment of the run of a plan, and that the parts of the run are of its deployment there
+abbrev pub moment_in : Plan → (Part → PartView) → Reader → Known → Moment
+moment_in plan shows reader kernel = moment_of plan.script (shows Script) reader kernel
+
+abbrev pub FitsIn : Plan → (Part → PartView) → Reader → Known → Type 0
+FitsIn plan shows reader kernel = Fits plan.deployment.now (moment_in plan shows reader kernel)
+
+-- the same where the script is asked
+abbrev pub script_moment : (Part → PartView) → Reader → Known → Moment
+script_moment shows reader kernel = moment (shows Script) (kept_of reader) kernel
+
+abbrev pub FitsScript : Plan → (Part → PartView) → Reader → Known → Type 0
+FitsScript plan shows reader kernel = Fits plan.deployment.now (script_moment shows reader kernel)
+
+-- a read fault is told of a part that is broken
+abbrev pub IsReadFrom : Result (Option Ended) Memory → PartView → Type 0
+IsReadFrom result part = result ≡ Ok (Some ended.ReadFault) → part.stage ≡ Broken
+
+-- How a stretch leads from one moment to another, with these minds in the one and those in the other: of each world for
+-- which the first moment stands, with so much work spent in all. Without memory it was cut off.
+abbrev pub Leads : Plan → (World → ℕ) → (Answering → World → Progress) → Result (Option Ended) Memory → List (Option Mind) → List (Option Mind) → Moment → Moment → Type 0
+Leads plan spends whole result had has old new = (taken : List ℕ) (world : World) → StandsFor (names_of plan) taken had old world →
+    MatchResult result (λ how. IsStretch (spends world) (names_of plan) (λ answers. whole answers world) (ending how) taken has old new) (λ _. LacksMemory old.part new.part)
+
+-- the same where no turn is taken, so that the minds stay
+abbrev pub LeadsCalls : Plan → (Answering → World → Progress) → Result (Option Ended) Memory → Moment → Moment → Type 0
+LeadsCalls plan whole result old new = (minds : List (Option Mind)) → Leads plan (λ world. world.work) whole result minds minds old new
+
+-- a stretch doesn't cut the run off, but for want of memory where a script is read
+abbrev pub IsUncut : Bool → Result (Option Ended) Memory → Type 0
+IsUncut script result = MatchResult result (λ how. cuts how ≡ false) (λ _. script ≡ true)
+
+-- of all files only the script's part was read, and without a script none
+pub record ReadsScript {F : Type 0} (shows : F → Part → PartView) (script : Bool) (old new : F) : Type 0 where
+  pub others : Only Script (shows old) (shows new)
+  pub unscripted : script ≡ false → new ≡ old
+
+-- What a stretch has to do with the script: nothing else was read, it cuts the run off only where memory is wanting for a
+-- line, and a read fault is told only of a part that is broken.
+pub record UsesScript {F : Type 0} (shows : F → Part → PartView) (script : Bool) (result : Result (Option Ended) Memory) (old new : F) : Type 0 where
+  pub reads : ReadsScript shows script old new
+  pub uncut : IsUncut script result
+  pub cause : IsReadFrom result (script_part script (shows new Script))

@@ -1,0 +1,27 @@
+//! What is run, and how.
+ghost use Rattle.std.specs.Prelude.{◌<◌, ◌≤◌};
+ghost use Rattle.sg_rows.specs.Deployment.{IsDeployedOn};
+
+use crate::show::Show;
+use sg_rows::{Deployment, PlatformText};
+
+/// How a run is made: on up to so many threads at once, with so many events at most, and how much is written.
+#[derive(Clone, Copy, Debug)]
+pub struct Terms {
+    pub threads: u32,
+    pub budget: u64,
+    pub show: Show,
+    ghost some: { 0 < threads },
+    ghost few: { budget ≤ 1000000000 },
+}
+
+/// What is run, and how: a setup but its router, by which calls alone are answered, and the terms.
+#[derive(Clone, Copy)]
+pub struct Plan<'a> {
+    pub platform: &'a PlatformText,
+    pub deployment: &'a Deployment,
+    /// Without one each Ask is refused.
+    pub script: bool,
+    pub terms: Terms,
+    ghost deployed: { IsDeployedOn platform.now deployment.now },
+}

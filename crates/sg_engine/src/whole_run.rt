@@ -1,0 +1,178 @@
+//! The whole run.
+ghost use Rattle.std.specs.Prelude.{◌≡◌, ◌≢◌, ◌+◌, ◌<◌, ◌≤◌, ⊤, length, drop, All, None, IsTrue, MatchBool};
+ghost use Rattle.sg_actor.specs.Seats.{seat_views};
+ghost use Rattle.sg_edge.specs.declared.files.Stage.TheVariants.{Fresh, Broken};
+ghost use Rattle.sg_edge.specs.Cause.{HasCause};
+ghost use Rattle.sg_engine.specs.RunContract.{is_cut as is_cut_spec, ForSources, HasBroken, IsRun, TakesScript, output_of};
+ghost use Rattle.sg_engine.specs.kept.Invariant.{AreRoadsOf, IsKept, IsFirst};
+ghost use Rattle.sg_engine.specs.Output.{contexts_of};
+ghost use Rattle.sg_engine.specs.kept.Moments.{script_in, ReadsScript};
+ghost use Rattle.sg_engine.specs.kept.Stretches.{HasRun, planned_output};
+
+use crate::advance::advance;
+use crate::ended::Ended;
+use crate::finish::finish;
+use crate::plan::{Plan, Terms};
+use crate::seating::seat_all;
+use crate::setup::Setup;
+use crate::show::Show;
+use crate::simulation::Simulation;
+use crate::start::start;
+use sg_actor::{Actor, Seat};
+use sg_base::{Memory, Steps};
+use sg_edge::{Files, Part, Sinks, Stream};
+use sg_route::Router;
+use std::alloc::Global;
+use std::sync::ledger::Ledger;
+use std::thread::Threads;
+
+// Simulates to the end of the run, and writes the trace lines.
+fn simulate<R: Threads + Sync, F: Files, O: Sinks, L: Ledger>(
+    rt: &R,
+    plan: &Plan<'_>,
+    router: &Router,
+    sim: &mut Simulation,
+    seats: &mut [Seat],
+    files: &mut F,
+    out: &mut O,
+    steps: &mut Steps<L>,
+) -> Ended
+    requires first { IsFirst plan.now.platform.now plan.now.deployment.now
+        plan.now.terms.budget (script_in plan.now (F.shows files.old)) sim.old
+        (seat_views (λ b. mind b) seats.old) }
+    requires roads { AreRoadsOf plan.now.platform.now router.now }
+    requires sound { O.faults out.old ≡ 0 }
+    ensures run { HasRun plan.now result sim.new.kernel.core steps.old steps.new
+        (script_in plan.now (F.shows files.old))
+        (script_in plan.now (F.shows files.new))
+        (O.contents out.old Stream.Out) (O.contents out.new Stream.Out) }
+    ensures kept { MatchBool (is_cut_spec result) ⊤ (IsKept plan.now.deployment.now
+        (script_in plan.now (F.shows files.new)) sim.new (seat_views (λ b. mind b) seats.new)) }
+    ensures err { O.contents out.new Stream.Err ≡ O.contents out.old Stream.Err }
+    ensures cause { HasCause (result ≡ Ended.WriteFault) (result ≡ Ended.ReadFault)
+        (O.faults out.new) ((script_in plan.now (F.shows files.new)).stage ≡ Broken) }
+    ensures script { ReadsScript F.shows plan.now.script files.old files.new }
+{
+    for _turn in 0..plan.terms.budget + 1 {
+        if sim.kernel.ending() {
+            return Ended::Completed;
+        }
+        match advance(rt, plan, router, sim, seats, files, out, steps) {
+            None => {}
+            Some(how) => return how,
+        }
+    }
+    Ended::Budget
+}
+
+fn is_cut(how: Ended) -> bool
+    ensures { result ≡ is_cut_spec how }
+{
+    match how {
+        Ended::WriteFault | Ended::Memory => true,
+        Ended::Completed
+        | Ended::Deadlock
+        | Ended::Starved
+        | Ended::Budget
+        | Ended::Script(_, _)
+        | Ended::NoRoute { .. }
+        | Ended::TooLong { .. }
+        | Ended::ReadFault => false,
+    }
+}
+
+// Simulates, and writes the last lines of a run that wasn't cut off.
+fn run_from<R: Threads + Sync, F: Files, O: Sinks, L: Ledger>(
+    rt: &R,
+    plan: &Plan<'_>,
+    router: &Router,
+    sim: &mut Simulation,
+    seats: &mut [Seat],
+    files: &mut F,
+    out: &mut O,
+    steps: &mut Steps<L>,
+) -> Ended
+    requires first { IsFirst plan.now.platform.now plan.now.deployment.now
+        plan.now.terms.budget (script_in plan.now (F.shows files.old)) sim.old
+        (seat_views (λ b. mind b) seats.old) }
+    requires roads { AreRoadsOf plan.now.platform.now router.now }
+    requires sound { O.faults out.old ≡ 0 }
+    ensures output { ForSources plan.now.script (F.shows files.old) (F.shows files.new)
+        (λ source. IsRun (planned_output plan.now source) result
+        (O.contents out.old) (O.contents out.new) steps.old steps.new) }
+    ensures cause { HasCause (result ≡ Ended.WriteFault) (result ≡ Ended.ReadFault)
+        (O.faults out.new) (HasBroken F.shows files.old files.new) }
+    ensures memory { result ≡ Ended.Memory →
+        O.contents out.new Stream.Err ≡ O.contents out.old Stream.Err }
+    ensures script { TakesScript F.shows plan.now.script files.old files.new }
+{
+    let how = simulate(rt, plan, router, sim, seats, files, out, steps);
+    if is_cut(how) {
+        how
+    } else {
+        finish(plan, sim, how, out)
+    }
+}
+
+/// Runs the actors of a setup to the end of the run, and writes its lines.
+///
+/// The i-th actor takes the i-th context of the crew, which has those that aren't taken afterwards. Each round takes its
+/// turns on up to so many threads at once; how many can't be seen in anything that is written. The script is read
+/// while the run goes on, and only as far as an actor asks for its lines. `budget` is the most events that there may
+/// be, and `steps` counts the looks at uses of hosts and links.
+///
+/// What is written, and the end, are those of the definition, for what the script's part gives, and the looks are at
+/// most as many as its passes may take. Memory is taken at the
+/// beginning, before each round, and for lines of the script, and none once the run has ended.
+pub fn run<R: Threads + Sync, F: Files, O: Sinks, L: Ledger>(
+    rt: &R,
+    alloc: Global,
+    setup: &Setup,
+    files: &mut F,
+    crew: &mut Vec<Box<dyn Actor + Send>>,
+    threads: u32,
+    budget: u64,
+    show: Show,
+    out: &mut O,
+    steps: &mut Steps<L>,
+) -> Ended
+    requires budget { budget ≤ 1000000000 }
+    requires threads { 0 < threads }
+    requires begun { IsTrue setup.now.script → (F.shows files.old Part.Script).stage ≢ Fresh }
+    requires blank { All (λ b. mind b ≡ None) crew.old.items }
+    requires enough { length setup.now.deployment.actors ≤ length crew.old.items }
+    requires sound { O.faults out.old ≡ 0 }
+    ensures output { ForSources setup.now.script (F.shows files.old) (F.shows files.new)
+        (λ source. IsRun (output_of setup.now budget show source) result
+        (O.contents out.old) (O.contents out.new) steps.old steps.new) }
+    ensures crew { result ≢ Ended.Memory →
+        crew.new.items ≡ drop (contexts_of setup.now.deployment) crew.old.items }
+    ensures cause { HasCause (result ≡ Ended.WriteFault) (result ≡ Ended.ReadFault)
+        (O.faults out.new) (HasBroken F.shows files.old files.new) }
+    ensures memory { result ≡ Ended.Memory →
+        O.contents out.new Stream.Err ≡ O.contents out.old Stream.Err }
+    ensures script { TakesScript F.shows setup.now.script files.old files.new }
+{
+    let plan = Plan {
+        platform: &setup.platform,
+        deployment: &setup.deployment,
+        script: setup.script,
+        terms: Terms {
+            threads,
+            budget,
+            show,
+        },
+    };
+    let mut seats = match seat_all(alloc, crew, plan.deployment) {
+        Ok(seats) => seats,
+        Err(Memory) => return Ended::Memory,
+    };
+    match start(alloc, &plan) {
+        Ok(mut sim) => {
+            let seats = seats.as_mut_slice();
+            let router = &setup.router;
+            run_from(rt, &plan, router, &mut sim, seats, files, out, steps)
+        }
+        Err(Memory) => Ended::Memory,
+    }
+}

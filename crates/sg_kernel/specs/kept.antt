@@ -1,0 +1,5 @@
+-- How the kernel keeps what it knows.
+pub mod Owners
+pub mod Sound
+pub mod Waking
+pub mod Whole

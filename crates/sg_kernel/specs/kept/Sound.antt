@@ -1,0 +1,141 @@
+-- How the kernel keeps what it knows.
+use Rattle.std.specs.Prelude.{◌≡◌, ℕ, ◌+◌, ◌-◌, ◌*◌, ◌^◌, ◌<◌, ◌≤◌, Bool, true, false, IsTrue, None, List, length, map, slice_index_or, All}
+use Rattle.sg_base.specs.declared.awaits.Await.{Await}
+use Rattle.sg_base.specs.declared.ids.ActorId.{ActorId}
+use Rattle.sg_base.specs.declared.ids.BoxId.{BoxId}
+use Rattle.sg_base.specs.declared.ids.PointId.{PointId}
+use Rattle.sg_base.specs.Limits.{Extent, IsActorIn, IsActorNumber, IsAmount, IsMsg}
+use Rattle.sg_mailbox.specs.declared.sides.Side.{Side}
+use Rattle.sg_mailbox.specs.Posts.{waiting}
+use Rattle.sg_route.specs.Roads.{Roads}
+use Rattle.sg_states.specs.Actors.{is_held}
+use Rattle.sg_states.specs.Records.{IsTellable}
+use Rattle.sg_sync.specs.Objects as sync
+use Rattle.sg_kernel.specs.declared.fields.Fields.{Fields}
+use Rattle.sg_kernel.specs.declared.meetings.Comer.{Comer}
+use Rattle.sg_kernel.specs.declared.owners.How.TheVariants as how
+use Rattle.sg_kernel.specs.declared.owners.Whose.{Whose}
+use Rattle.sg_kernel.specs.declared.owners.Whose.TheVariants.{Over, Alone, Posted, Pair}
+use Rattle.sg_kernel.specs.World.{Setup, Core, extent, state_of}
+use Rattle.sg_kernel.specs.Known.{Known, after, after_call}
+use Rattle.sg_kernel.specs.Meetings.{comes, posts_from}
+use Rattle.sg_kernel.specs.Steps.{Step, counted}
+
+abbrev pub point_number : PointId → ℕ
+point_number point = point.0
+
+abbrev pub setup_in : Fields → Setup
+setup_in fields = record {
+  hosts = fields.hosts;
+  links = fields.links;
+  homes = map point_number fields.homes.items;
+  mutexes = fields.mutexes;
+  semaphores = fields.semaphores.items;
+  members = fields.members;
+  budget = fields.budget;
+}
+
+abbrev pub core_of : Fields → Core
+core_of fields = record {
+  under = fields.doing.under;
+  actors = fields.states.actors;
+  whose = fields.whose.whose;
+  requests = fields.requests.queues;
+  objects = fields.objects;
+  events = fields.events;
+}
+
+abbrev pub known_of : Fields → Known
+known_of fields = record { setup = setup_in fields; core = core_of fields; records = fields.states.records; room = fields.states.room }
+
+-- ---- what a function does to what is known
+abbrev pub StepsBy : (Core → Step) → Fields → Fields → Type 0
+StepsBy step old new = known_of new ≡ after (step (core_of old)) (known_of old)
+
+-- the core changes so by a call that is counted
+abbrev pub CountsBy : (Core → Core) → Fields → Fields → Type 0
+CountsBy change old new = known_of new ≡ record (known_of old) { core = change (counted (core_of old)); room = old.states.room - 1 }
+
+abbrev pub CallsBy : (Core → Step) → Fields → Fields → Type 0
+CallsBy step old new = known_of new ≡ after_call true (step (counted (core_of old))) (known_of old)
+
+-- what a side that comes leads to
+abbrev pub comes_in : Roads → Comer → Fields → Step
+comes_in roads comer fields = comes roads (setup_in fields) comer (core_of fields)
+
+-- ---- what is kept
+-- the numbers keep to their limits
+pub record IsSound (fields : Fields) : Type 0 where
+  pub numbered : length fields.whose.whose ≡ length fields.doing.under.tasks
+  pub few : length fields.doing.under.tasks ≤ fields.events
+  pub within : fields.events ≤ fields.budget
+  pub budgeted : fields.budget ≤ 10 ^ 9
+  pub hosts_counted : length fields.doing.under.capacities.hosts ≡ fields.hosts
+  pub links_counted : length fields.doing.under.capacities.links ≡ fields.links
+  pub homes_known : length fields.homes.items ≡ length fields.states.actors
+  pub hosts_known : All (λ (home : PointId). home.0 < length fields.doing.under.capacities.hosts) fields.homes.items
+  pub requests_known : length fields.requests.queues ≡ length fields.states.actors
+  pub requests_few : fields.requests.asked ≤ fields.events
+  pub extent_is : fields.states.extent ≡ extent (setup_in fields)
+
+-- there is room for what so many calls begin
+pub record HasRoom (room : ℕ) (fields : Fields) : Type 0 where
+  pub starts : room ≤ fields.doing.room
+  pub owners : room ≤ fields.whose.room
+  pub mailboxes : room ≤ fields.boxes.room
+  pub requests : room ≤ fields.requests.room
+
+-- the first event moves no date
+abbrev pub IsDated : Fields → Type 0
+IsDated fields = fields.doing.under.date ≤ (fields.events - 1) * 10 ^ 24
+
+-- ---- what keeps to its limits
+pub record IsSide (extent : Extent) (side : Side) : Type 0 where
+  pub actor : IsActorIn extent side.actor
+  pub bytes : IsAmount side.bytes
+  pub message : IsMsg side.msg
+
+-- one that comes: a record may tell its call, and its side keeps to the limits
+pub record IsComer (extent : Extent) (comer : Comer) : Type 0 where
+  pub what : IsTellable extent comer.what
+  pub side : IsSide extent comer.side
+
+abbrev pub IsOwner : Extent → Whose → Type 0
+IsOwner extent (Over before) = Unit {0}
+IsOwner extent (Alone actor) = IsActorIn extent actor
+IsOwner extent (Posted mailbox sends side) = IsSide extent side
+IsOwner extent (Pair sender receiver) = IsSide extent sender × IsSide extent receiver
+
+-- whose activities are keeps to the limits
+abbrev pub AreLimited : Fields → Type 0
+AreLimited fields = All (IsOwner (extent (setup_in fields))) fields.whose.whose
+
+-- ---- communications
+abbrev pub is_posted : Whose → Bool
+is_posted (Over before) = false
+is_posted (Alone actor) = false
+is_posted (Posted mailbox sends side) = true
+is_posted (Pair sender receiver) = false
+
+-- an activity of this serial was made
+pub record IsMade (made : ℕ) (on : Await) : Type 0 where
+  pub from : 0 < on.serial.0
+  pub to : on.serial.0 ≤ made
+
+-- In the mailboxes stand those communications of which one side is there; nothing of them is under way. Requests are for communications that were made.
+pub record AreMeeting (fields : Fields) : Type 0 where
+  pub posts : (mailbox : BoxId) → waiting fields.boxes mailbox ≡ posts_from mailbox 1 fields.whose.whose
+  pub idle : (place : ℕ) → IsTrue (is_posted (slice_index_or fields.whose.whose place (Over how.Done))) → slice_index_or fields.doing.under.tasks place None ≡ None
+  pub asked : All (λ (queue : List Await). All (IsMade (length fields.whose.whose)) queue) fields.requests.queues
+
+-- ---- mutexes, semaphores and the barrier
+-- who waits at an object waits there once, and is an actor that is blocked so
+pub record AreHeld (fields : Fields) : Type 0 where
+  pub owners : length fields.objects.owners ≡ fields.mutexes
+  pub counts : length fields.objects.counts ≡ length fields.semaphores.items
+  pub actors : fields.objects.actors ≡ length fields.states.actors
+  pub few : All (λ count. count ≤ 10 ^ 9 + fields.events) fields.objects.counts
+  pub once : (actor : ActorId) → sync.waiting fields.objects actor ≤ 1
+  pub held : (actor : ActorId) → 0 < sync.waiting fields.objects actor → IsActorNumber (extent (setup_in fields)) actor.0 × IsTrue (is_held (state_of (core_of fields) actor.0))
+  pub locking : length fields.objects.locking ≡ fields.mutexes
+  pub acquiring : length fields.objects.acquiring ≡ length fields.semaphores.items

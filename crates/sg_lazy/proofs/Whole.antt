@@ -1,0 +1,218 @@
+-- What a settling does to a `Lazy`, and what more room leaves as it was.
+use Rattle.std.proofs.Common.{◌≡◌, ◌≢◌, ℕ, zero, suc, ◌+◌, ◌<◌, ◌≤◌, ◌⊎◌, inl, inr, ◌↔◌, Bool, true, false, true≢false, cond, ◌||◌, not, eqb, eq-eqb, ne_eqb, Option, None, Some, IsSome, option_map, List, [], ◌∷◌, length, get_or, sum_by, AllPairs, refl, sym, ap, ap₂, subst, ◌∙◌, arith}
+use Rattle.std.proofs.lemmas.List.{get_or_past}
+use Rattle.std.proofs.lemmas.List.Sums.{sum_by-cons}
+use Rattle.sg_base.specs.MarkSet.{is_in}
+use Rattle.sg_maxmin.specs.Fill.{Flow, is_on, share_of}
+use Rattle.sg_maxmin.specs.Sharing.{Sharing, IsSound, flow_at, uses_at}
+use Rattle.sg_lazy.specs.RunningFlow.{RunningFlow, running_at, flows_in}
+use Rattle.sg_lazy.specs.Lazily.{IsSettled, DidChange}
+use Rattle.sg_lazy.specs.kept.Component.{lengths}
+use Rattle.sg_lazy.specs.kept.Keeping.{IsUnmarked, AreKept}
+use Rattle.sg_lazy.specs.kept.Held.{IsLazy, IsRefilled, listed, running_of, running_in, flow_or_none, ended_in}
+use Rattle.sg_lazy.proofs.Keeps.{settle_keeps}
+use Rattle.sg_lazy.proofs.Listing.{at_listed, length_listed, past_listed, map_same, some_of}
+use Rattle.sg_lazy.proofs.Rows.{flow_below, none_some, some_same, uses_held}
+use Rattle.sg_lazy.proofs.Settled.{held_before, held_runs}
+use Rattle.sg_lazy.proofs.Starting.{is_here}
+
+front : (a b : Option RunningFlow) (xs ys : List (Option RunningFlow)) → option_map (λ (r : RunningFlow). r.flow) a ≡ option_map (λ (r : RunningFlow). r.flow) b → flows_in xs ≡ flows_in ys → flows_in (a ∷ xs) ≡ flows_in (b ∷ ys)
+front None None xs ys h r = r
+front (Some a) (Some b) xs ys h r = ap₂ (λ f fs. f ∷ fs) (some_same a.flow b.flow h) r
+front None (Some b) xs ys h r = let q : None ≡ Some b.flow = h in cc
+front (Some a) None xs ys h r = let q : None ≡ Some a.flow = sym h in cc
+
+flows_listed : (n : ℕ) (f g : ℕ → Option RunningFlow) → ((i : ℕ) → i < n → option_map (λ (r : RunningFlow). r.flow) (f i) ≡ option_map (λ (r : RunningFlow). r.flow) (g i)) → flows_in (listed n f) ≡ flows_in (listed n g)
+unfolding listed
+flows_listed zero f g e = refl
+flows_listed (suc n) f g e = front (f 0) (g 0) (listed n (λ i. f (suc i))) (listed n (λ i. g (suc i))) (e 0 (omega arith)) (flows_listed n (λ i. f (suc i)) (λ i. g (suc i)) (λ i h. e (suc i) (omega arith)))
+
+-- what runs is the flow that is held, whatever its rate
+flow_of_running : (slots : List (Option Flow)) (rates began ended : List ℕ) (id : ℕ) → option_map (λ (r : RunningFlow). r.flow) (running_of slots rates began ended id) ≡ cond (is_in id ended) None (flow_at slots id)
+flow_of_running slots rates began ended id = from (is_in id ended) (flow_at slots id)
+  where
+    from : (b : Bool) (o : Option Flow) → option_map (λ (r : RunningFlow). r.flow) (cond b None (option_map (λ held. record { flow = held; rate = get_or rates id 0; began = is_in id began }) o)) ≡ cond b None o
+    from true o = refl
+    from false None = refl
+    from false (Some flow) = refl
+
+below_cases : (a b : ℕ) → (a < b) ⊎ (b ≤ a)
+below_cases a b = grind arith
+
+no_flow : (o : Option RunningFlow) → option_map (λ (r : RunningFlow). r.flow) o ≡ None → o ≡ None
+no_flow None e = refl
+no_flow (Some r) e = let q : None ≡ Some r.flow = sym e in cc
+
+pub length-ended : (slots : List (Option Flow)) (ended : List ℕ) → length (ended_in slots ended) ≡ length ended
+length-ended slots [] = refl
+length-ended slots (id ∷ ended) = omega (arith, length-ended slots ended)
+
+pub lengths-ended : (slots : List (Option Flow)) (ended : List ℕ) → ((i : ℕ) → i < length ended → IsSome (flow_at slots (get_or ended i 0))) → sum_by (λ (flow : Flow). length flow.uses) (ended_in slots ended) ≡ lengths (uses_at slots) ended
+lengths-ended slots [] there = refl
+lengths-ended slots (id ∷ ended) there =
+    let f = some_of (flow_at slots id) (there 0 (omega arith)) in
+    omega (
+      arith,
+      sum_by-cons (λ (flow : Flow). length flow.uses) (flow_or_none (flow_at slots id)) (ended_in slots ended),
+      sum_by-cons (λ id. length (uses_at slots id)) id ended,
+      ap (λ (flow : Flow). length flow.uses) (ap flow_or_none f.1),
+      ap length (uses_held slots id f.0 f.1),
+      lengths-ended slots ended (λ i h. there (suc i) (omega (arith, h))),
+    )
+
+module _ (s t : Sharing) (began ended rates rates' changed : List ℕ) (out : IsRefilled s t began ended rates rates' changed) where
+  all : List Flow
+  all = flows_in (running_in s.slots rates began ended)
+
+  same_flow : (id : ℕ) → option_map (λ (r : RunningFlow). r.flow) (running_of t.slots rates' [] [] id) ≡ option_map (λ (r : RunningFlow). r.flow) (running_of s.slots rates began ended id)
+  same_flow id = flow_of_running t.slots rates' [] [] id ∙ out.without.slots id ∙ sym (flow_of_running s.slots rates began ended id)
+
+  pub same_all : flows_in (running_in t.slots rates' [] []) ≡ flows_in (running_in s.slots rates began ended)
+  same_all =
+      ap (λ n. flows_in (listed n (running_of t.slots rates' [] []))) out.without.slots_len
+      ∙ flows_listed (length s.slots) (running_of t.slots rates' [] []) (running_of s.slots rates began ended) (λ i h. same_flow i)
+
+  pub new_rates : (id : ℕ) (r : RunningFlow) → running_at (running_in t.slots rates' [] []) id ≡ Some r → r.rate ≡ share_of t.capacities (flows_in (running_in t.slots rates' [] [])) r.flow
+  new_rates id r at =
+      let here = is_here t.slots rates' [] [] id r at in
+      here.rated ∙ out.rates_are id r.flow here.held ∙ ap (λ caps. share_of caps (flows_in (running_in s.slots rates began ended)) r.flow) (sym out.without.capacities) ∙ ap (λ flows. share_of t.capacities flows r.flow) (sym same_all)
+
+  pub settled_lazy : IsLazy t rates' [] []
+  settled_lazy = record {
+    sound = out.sound;
+    ended_are = λ id e. absurd (true≢false (sym e));
+    began_are = λ id e. absurd (true≢false (sym e));
+    kept = settle_keeps t.capacities (running_in t.slots rates' [] []) (λ id r at. (out.sound.flows id r.flow (is_here t.slots rates' [] [] id r at).held).limit) new_rates;
+  }
+
+  pub is_settled : (before : List ℕ) → ((i : ℕ) → i < length ended → IsSome (flow_at s.slots (get_or ended i 0))) →
+      IsSettled (record { capacities = s.capacities; slots = running_in s.slots rates began ended; ended = ended_in s.slots ended; changed = before; flow_room = s.flow_room; use_room = s.use_room }) (record { capacities = t.capacities; slots = running_in t.slots rates' [] []; ended = []; changed = changed; flow_room = t.flow_room; use_room = t.use_room })
+  is_settled before there = record {
+    rates = new_rates;
+    flows = λ id. elim (below_cases id (length s.slots)) [
+      | inl h ↦
+          ap (option_map (λ (r : RunningFlow). r.flow)) (at_listed (length t.slots) (running_of t.slots rates' [] []) id None (omega (arith, h, out.without.slots_len))) ∙ same_flow id ∙ sym (ap (option_map (λ (r : RunningFlow). r.flow)) (at_listed (length s.slots) (running_of s.slots rates began ended) id None h))
+      | inr p ↦
+          ap (option_map (λ (r : RunningFlow). r.flow)) (past_listed (length t.slots) (running_of t.slots rates' [] []) id None (omega (arith, p, out.without.slots_len))) ∙ sym (ap (option_map (λ (r : RunningFlow). r.flow)) (past_listed (length s.slots) (running_of s.slots rates began ended) id None p))
+    ];
+    settled = λ id r at. (is_here t.slots rates' [] [] id r at).started;
+    changes = λ id. changes id (flow_at t.slots id) refl;
+    once = out.once;
+    numbers = length_listed (length t.slots) (running_of t.slots rates' [] []) ∙ out.without.slots_len ∙ sym (length_listed (length s.slots) (running_of s.slots rates began ended));
+    capacities_kept = out.without.capacities;
+    none_ended = refl;
+    flow_room_back = omega (arith, out.without.flow_room, length-ended s.slots ended);
+    use_room_back = omega (arith, out.without.use_room, lengths-ended s.slots ended there);
+  }
+    where
+      none_before : (id : ℕ) → flow_at t.slots id ≡ None → running_at (running_in s.slots rates began ended) id ≡ None
+      none_before id e = elim (below_cases id (length s.slots)) [
+        | inr p ↦ past_listed (length s.slots) (running_of s.slots rates began ended) id None p
+        | inl h ↦ at_listed (length s.slots) (running_of s.slots rates began ended) id None h ∙ no_flow (running_of s.slots rates began ended id) (flow_of_running s.slots rates began ended id ∙ sym (out.without.slots id) ∙ e)
+      ]
+
+      new_runs : (id : ℕ) (flow : Flow) → flow_at t.slots id ≡ Some flow → running_at (running_in t.slots rates' [] []) id ≡ Some (record { flow = flow; rate = get_or rates' id 0; began = false })
+      new_runs id flow e = at_listed (length t.slots) (running_of t.slots rates' [] []) id None (flow_below t.slots id flow e) ∙ rw e refl
+
+      parts : (b : Bool) (x y : ℕ) → (b || not (eqb x y)) ≡ true → (b ≡ true) ⊎ (y ≢ x)
+      parts true x y e = inl refl
+      parts false x y e = inr (λ q. true≢false (sym e ∙ ap not (eq-eqb x y (sym q))))
+
+      whole : (b : Bool) (x y : ℕ) → (b ≡ true) ⊎ (y ≢ x) → (b || not (eqb x y)) ≡ true
+      whole true x y e = refl
+      whole false x y (inl e) = absurd (true≢false (sym e))
+      whole false x y (inr ne) = ap not (ne_eqb x y (λ q. ne (sym q)))
+
+      changes : (id : ℕ) (o : Option Flow) → flow_at t.slots id ≡ o → (is_in id changed ≡ true) ↔ DidChange (running_at (running_in s.slots rates began ended) id) (running_at (running_in t.slots rates' [] []) id)
+      changes id None e = (
+        (λ c. absurd (true≢false (sym c ∙ out.unchanged id e))),
+        (λ d. absurd (subst (λ o. DidChange o (running_at (running_in t.slots rates' [] []) id)) (none_before id e) d)),
+      )
+      changes id (Some flow) e =
+          let a = held_runs s t rates began ended out.without out.sound id flow e in
+          let b = new_runs id flow e in
+          subst (λ o. (is_in id changed ≡ true) ↔ DidChange o (running_at (running_in t.slots rates' [] []) id)) (sym a)
+          (subst (λ o. (is_in id changed ≡ true) ↔ DidChange (Some (record { flow = flow; rate = get_or rates id 0; began = is_in id began })) o) (sym b) (
+            (λ c. parts (is_in id began) (get_or rates id 0) (get_or rates' id 0) (sym (out.changed_are id flow e) ∙ c)),
+            (λ d. out.changed_are id flow e ∙ whole (is_in id began) (get_or rates id 0) (get_or rates' id 0) d),
+          ))
+
+-- ---- nothing runs yet
+pub nothing_runs : (slots : List (Option Flow)) (rates began ended : List ℕ) → slots ≡ [] → running_in slots rates began ended ≡ []
+unfolding listed
+nothing_runs slots rates began ended e = ap (λ xs. running_in xs rates began ended) e
+
+pub fresh_lazy : (s : Sharing) (rates began ended : List ℕ) → IsSound s → s.slots ≡ [] → began ≡ [] → ended ≡ [] → IsLazy s rates began ended
+fresh_lazy s rates began ended sound none eb ee = record {
+  sound = sound;
+  ended_are = λ id e. absurd (true≢false (sym e ∙ ap (is_in id) ee));
+  began_are = λ id e. absurd (true≢false (sym e ∙ ap (is_in id) eb));
+  kept =
+      subst (λ xs. AreKept s.capacities xs (ended_in s.slots ended)) (sym (nothing_runs s.slots rates began ended none))
+      (subst (λ d. AreKept s.capacities [] (ended_in s.slots d)) (sym ee) (settle_keeps s.capacities [] (λ id r e. absurd (none_some e)) (λ id r e. absurd (none_some e))));
+}
+
+-- ---- more room changes nothing that runs
+flows_more : (n n' : ℕ) (f : ℕ → Option RunningFlow) → n ≤ n' → ((i : ℕ) → n ≤ i → f i ≡ None) → flows_in (listed n' f) ≡ flows_in (listed n f)
+unfolding listed
+flows_more zero zero f h none = refl
+flows_more (suc n) zero f h none = absurd (omega (arith, h))
+flows_more zero (suc n') f h none = front_none (f 0) (listed n' (λ i. f (suc i))) (none 0 (omega arith)) ∙ flows_more zero n' (λ i. f (suc i)) (omega arith) (λ i l. none (suc i) (omega arith))
+  where
+    front_none : (a : Option RunningFlow) (xs : List (Option RunningFlow)) → a ≡ None → flows_in (a ∷ xs) ≡ flows_in xs
+    front_none a xs e = ap (λ o. flows_in (o ∷ xs)) e
+flows_more (suc n) (suc n') f h none = front (f 0) (f 0) (listed n' (λ i. f (suc i))) (listed n (λ i. f (suc i))) refl (flows_more n n' (λ i. f (suc i)) (omega (arith, h)) (λ i l. none (suc i) (omega (arith, l))))
+
+module _ (old new : List (Option Flow)) (rates rates' began ended : List ℕ) (same : (id : ℕ) → flow_at new id ≡ flow_at old id) (rates_same : (i : ℕ) → get_or rates' i 0 ≡ get_or rates i 0) (more : length old ≤ length new) where
+  of_same : (id : ℕ) → running_of new rates' began ended id ≡ running_of old rates began ended id
+  of_same id = rw (same id, rates_same id) refl
+
+  none_past : (id : ℕ) → length old ≤ id → running_of old rates began ended id ≡ None
+  none_past id h = no_flow (running_of old rates began ended id) (flow_of_running old rates began ended id ∙ ap (λ o. cond (is_in id ended) None o) (get_or_past old id None h) ∙ none_cond (is_in id ended))
+    where
+      none_cond : (b : Bool) → ◌≡◌ {A = Option Flow} (cond b None None) None
+      none_cond true = refl
+      none_cond false = refl
+
+  pub runs_same : (id : ℕ) → running_at (running_in new rates' began ended) id ≡ running_at (running_in old rates began ended) id
+  runs_same id = elim (below_cases id (length old)) [
+    | inl h ↦ at_listed (length new) (running_of new rates' began ended) id None (omega (arith, h, more)) ∙ of_same id ∙ sym (at_listed (length old) (running_of old rates began ended) id None h)
+    | inr p ↦ elim (below_cases id (length new)) [
+      | inl h ↦ at_listed (length new) (running_of new rates' began ended) id None h ∙ of_same id ∙ none_past id p ∙ sym (past_listed (length old) (running_of old rates began ended) id None p)
+      | inr q ↦ past_listed (length new) (running_of new rates' began ended) id None q ∙ sym (past_listed (length old) (running_of old rates began ended) id None p)
+    ]
+  ]
+
+  more_flows : flows_in (running_in new rates' began ended) ≡ flows_in (running_in old rates began ended)
+  more_flows = flows_listed (length new) (running_of new rates' began ended) (running_of old rates began ended) (λ i h. ap (option_map (λ (r : RunningFlow). r.flow)) (of_same i)) ∙ flows_more (length old) (length new) (running_of old rates began ended) more none_past
+
+kept_same : (caps : List ℕ) (old new : List (Option RunningFlow)) (ended : List Flow) → ((id : ℕ) → running_at new id ≡ running_at old id) → flows_in new ≡ flows_in old → AreKept caps old ended → AreKept caps new ended
+kept_same caps old new ended runs flows k = record {
+  past_capacities = k.past_capacities;
+  past = k.past;
+  past_limits = k.past_limits;
+  limits = λ id r e. k.limits id r (sym (runs id) ∙ e);
+  there = λ id r e. k.there id r (sym (runs id) ∙ e);
+  rates = λ id r e. k.rates id r (sym (runs id) ∙ e);
+  same_capacities = λ c u. k.same_capacities c (back c u);
+  same_flows = λ c u h. k.same_flows c (back c u) h ∙ ap (sum_by (λ flow. cond (is_on c flow) (h flow) 0)) (sym flows);
+}
+  where
+    back : (c : ℕ) → IsUnmarked new ended c → IsUnmarked old ended c
+    back c u = record { begun = λ id r e. u.begun id r (runs id ∙ e); gone = u.gone }
+
+pub gone_same : (old new : List (Option Flow)) (ended : List ℕ) → ((id : ℕ) → flow_at new id ≡ flow_at old id) → ended_in new ended ≡ ended_in old ended
+gone_same old new ended same = map_same (λ id. flow_or_none (flow_at new id)) (λ id. flow_or_none (flow_at old id)) ended (λ x i. ap flow_or_none (same x))
+
+pub roomier_lazy : (s t : Sharing) (rates rates' began began' ended ended' : List ℕ) → IsLazy s rates began ended → IsSound t → ((id : ℕ) → flow_at t.slots id ≡ flow_at s.slots id) → length s.slots ≤ length t.slots → t.capacities ≡ s.capacities →
+    ((i : ℕ) → get_or rates' i 0 ≡ get_or rates i 0) → began' ≡ began → ended' ≡ ended → IsLazy t rates' began' ended'
+roomier_lazy s t rates rates' began began' ended ended' lazy sound same more caps rs eb ee =
+    subst (λ b. IsLazy t rates' b ended') (sym eb)
+    (subst (λ d. IsLazy t rates' began d) (sym ee) (record {
+      sound = sound;
+      ended_are = λ id e. subst IsSome (sym (same id)) (lazy.ended_are id e);
+      began_are = λ id e. subst IsSome (sym (same id)) (lazy.began_are id e);
+      kept = subst (λ c. AreKept c (running_in t.slots rates' began ended) (ended_in t.slots ended)) (sym caps) (subst (AreKept s.capacities (running_in t.slots rates' began ended)) (sym (gone_same s.slots t.slots ended same))
+          (kept_same s.capacities (running_in s.slots rates began ended) (running_in t.slots rates' began ended) (ended_in s.slots ended)
+          (runs_same s.slots t.slots rates rates' began ended same rs more) (more_flows s.slots t.slots rates rates' began ended same rs more) lazy.kept));
+    }))

@@ -1,0 +1,60 @@
+-- The work of a settling, whatever the order of the flows.
+use Rattle.std.proofs.Common.{◌≡◌, ℕ, zero, suc, ◌+◌, ◌*◌, Bool, cond, ◌&&◌, ◌||◌, List, [], ◌∷◌, map, length, sum_by, refl, sym, ap, ◌∙◌, arith}
+use Rattle.std.specs.List.{list_any}
+use Rattle.std.specs.List.Sorted.{IsPermutation}
+use Rattle.std.proofs.lemmas.List.Sums.{sum_by-cons}
+use Rattle.std.proofs.lemmas.List.Sorted.{IsPermutation-map, list_any-IsPermutation, sum_by-IsPermutation, length_permutation}
+use Rattle.sg_maxmin.specs.Fill.{Flow, is_on}
+use Rattle.sg_lazy.specs.Touch.{touches, reach, spread}
+use Rattle.sg_lazy.specs.RunningFlow.{RunningFlow}
+use Rattle.sg_lazy.specs.Work.{is_marked, is_joined, touched_count, touched_uses, work}
+use Rattle.sg_lazy.specs.Laws.{NamesDontMatter}
+use Rattle.sg_lazy.specs.kept.Counts.{WorkSuffices}
+
+any_same : {X : Type 0} (p q : X → Bool) (xs : List X) → ((x : X) → p x ≡ q x) → list_any p xs ≡ list_any q xs
+any_same p q [] e = refl
+any_same p q (x ∷ xs) e = ap (λ b. b || list_any p xs) (e x) ∙ ap (λ b. q x || b) (any_same p q xs e)
+
+sum_same : {X : Type 0} (f h : X → ℕ) (xs : List X) → ((x : X) → f x ≡ h x) → sum_by f xs ≡ sum_by h xs
+sum_same f h [] e = refl
+sum_same f h (x ∷ xs) e = omega (arith, sum_by-cons f x xs, sum_by-cons h x xs, e x, sum_same f h xs e)
+
+reach_same : (n : ℕ) (flows flows' : List Flow) (first first' : ℕ → Bool) → IsPermutation flows flows' → ((c : ℕ) → first c ≡ first' c) → (c : ℕ) → reach n flows first c ≡ reach n flows' first' c
+unfolding reach spread
+reach_same zero flows flows' first first' p e c = e c
+reach_same (suc n) flows flows' first first' p e c =
+    let rest = reach_same n flows flows' first first' p e in
+    ap (λ b. b || list_any (λ f. is_on c f && touches (reach n flows first) f) flows) (rest c)
+    ∙ ap (λ b. reach n flows' first' c || b)
+    (list_any-IsPermutation (λ f. is_on c f && touches (reach n flows first) f) flows flows' p
+    ∙ any_same (λ f. is_on c f && touches (reach n flows first) f) (λ f. is_on c f && touches (reach n flows' first') f) flows' (λ f. ap (λ b. is_on c f && b) (any_same (reach n flows first) (reach n flows' first') f.uses rest)))
+
+marked_same : (running running' : List RunningFlow) (ended ended' : List Flow) → IsPermutation running running' → IsPermutation ended ended' → (c : ℕ) → is_marked running ended c ≡ is_marked running' ended' c
+marked_same running running' ended ended' p q c =
+    ap (λ b. b || list_any (is_on c) ended) (list_any-IsPermutation (λ r. r.began && is_on c r.flow) running running' p) ∙ ap (λ b. list_any (λ r. r.began && is_on c r.flow) running' || b) (list_any-IsPermutation (is_on c) ended ended' q)
+
+joined_same : (running running' : List RunningFlow) (ended ended' : List Flow) → IsPermutation running running' → IsPermutation ended ended' → (r : RunningFlow) → is_joined running ended r ≡ is_joined running' ended' r
+unfolding is_joined
+joined_same running running' ended ended' p q r =
+    let flows = map (λ (s : RunningFlow). s.flow) running in
+    let flows' = map (λ (s : RunningFlow). s.flow) running' in
+    ap (λ b. r.began || b) (
+    any_same (reach (length running) flows (is_marked running ended)) (reach (length running) flows' (is_marked running' ended')) r.flow.uses (reach_same (length running) flows flows' (is_marked running ended) (is_marked running' ended') (IsPermutation-map (λ s. s.flow) running running' p) (marked_same running running' ended ended' p q))
+    ∙ ap (λ n. touches (reach n flows' (is_marked running' ended')) r.flow) (sym (length_permutation running running' p))
+    )
+
+pub names_lem : NamesDontMatter
+unfolding work
+names_lem running running' ended ended' p q =
+    let m = sum_same (λ r. cond (is_joined running ended r) 1 0) (λ r. cond (is_joined running' ended' r) 1 0) running (λ r. ap {B = ℕ} (λ b. cond b 1 0) (joined_same running running' ended ended' p q r))
+    ∙ sym (sum_by-IsPermutation (λ r. cond (is_joined running' ended' r) 1 0) running running' p) in
+    let u = sum_same (λ r. cond (is_joined running ended r) (length r.flow.uses) 0) (λ r. cond (is_joined running' ended' r) (length r.flow.uses) 0) running (λ r. ap (λ b. cond b (length r.flow.uses) 0) (joined_same running running' ended ended' p q r))
+    ∙ sym (sum_by-IsPermutation (λ r. cond (is_joined running' ended' r) (length r.flow.uses) 0) running running' p) in
+    let e = sym (length_permutation ended ended' q) in
+    let v = sym (sum_by-IsPermutation (λ (flow : Flow). length flow.uses) ended ended' q) in
+    let count : touched_count running ended ≡ touched_count running' ended' = ap (λ n. n + sum_by (λ r. cond (is_joined running ended r) 1 0) running) e ∙ ap (λ n. length ended' + n) m in
+    let uses : touched_uses running ended ≡ touched_uses running' ended' = ap (λ n. n + sum_by (λ r. cond (is_joined running ended r) (length r.flow.uses) 0) running) v ∙ ap (λ n. sum_by (λ flow. length flow.uses) ended' + n) u in
+    ap (λ n. 4 * (n + 1) * (n + touched_uses running ended)) count ∙ ap (λ n. 4 * (touched_count running' ended' + 1) * (touched_count running' ended' + n)) uses
+
+pub suffices_lem : WorkSuffices
+suffices_lem m e r = omega arith

@@ -1,0 +1,12 @@
+use Rattle.std.proofs.Common.{◌≡◌, ℕ, ◌+◌, ◌<◌, None, take, slice_index}
+use Rattle.sg_maxmin.specs.Sharing.{uses_at}
+use Rattle.sg_lazy.specs.kept.Component.{lengths}
+use Rattle.sg_lazy.specs.kept.Filling.{IsMoreBy, fixed_at, weight_of}
+use Rattle.sg_lazy.proofs.filling.unfix.Given as goal
+
+abbrev pub invariant-loop-flow : goal.invariant-loop-flow
+invariant-loop-flow g l = record {
+  fixed_are : (i : ℕ) → i < l.flow-index → fixed_at l.fixed (slice_index l.touched i) ≡ None;
+  waiting : IsMoreBy (weight_of l.system.slots (take l.flow-index l.touched)) l.fn.waiting l.waiting;
+  looks : l.steps ≡ l.fn.steps + lengths (uses_at l.system.slots) (take l.flow-index l.touched);
+}

@@ -1,0 +1,50 @@
+use Rattle.std.proofs.Common.{◌≡◌, ◌++◌, ◌∷◌, ◌-◌, ◌<◌, ◌≤◌, ℕ, true, List, [], None, Some, IfSome, length, set, length-set, refl, sym, ap, ap₂, subst, ◌∙◌, arith}
+use Rattle.sg_base.specs.MarkSet.{MarkSet, with_mark}
+use Rattle.sg_maxmin.specs.Fill.{Flow, flow}
+use Rattle.sg_lazy.specs.RunningFlow.{RunningFlow, running_at}
+use Rattle.sg_lazy.specs.Lazily.{Lazily, with_flow, without_flow}
+use Rattle.sg_lazy.specs.kept.Held.{IsLazy, running_of, running_in, ended_in}
+use Rattle.sg_lazy.proofs.Listing.{at_listed, length_listed, some_of}
+use Rattle.sg_lazy.proofs.Starting.{is_here, end_slots, end_lazy, ended_more}
+use Rattle.sg_lazy.proofs.lazy.Lazy.end.Goals as goal
+
+pub insert-requires : goal.insert-requires
+insert-requires c =
+    let i = c.self.inside in
+    let r = some_of (running_at c.args.self.now.slots c.args.flow) c.requires in
+    let here = is_here i.system.slots i.rated.rates.items i.pending.began.members i.pending.ended.members c.args.flow r.0 (ap (λ (v : Lazily). running_at v.slots c.args.flow) c.self.view_is ∙ r.1) in
+    omega (arith, here.below, c.self.invariant.1.ended)
+
+pub invariant_of-self : goal.invariant_of-self
+invariant_of-self c =
+    let i = c.self.inside in
+    let s = i.system in
+    let inv = c.self.invariant in
+    let r = some_of (running_at c.args.self.now.slots c.args.flow) c.requires in
+    let e = ap (λ (m : MarkSet). m.members) c.insert.ensures in (
+      subst (IsLazy s i.rated.rates.items i.pending.began.members) (sym e)
+          (end_lazy s i.rated.rates.items i.pending.began.members i.pending.ended.members c.args.flow r.0 inv.0 (ap (λ (v : Lazily). running_at v.slots c.args.flow) c.self.view_is ∙ r.1)),
+      record {
+        began = inv.1.began;
+        ended = omega (arith, inv.1.ended, ap (λ (m : MarkSet). m.room) c.insert.ensures);
+        touched = inv.1.touched;
+        reached = inv.1.reached;
+        places = inv.1.places;
+        rates = inv.1.rates;
+        changed = inv.1.changed;
+      },
+    )
+
+pub returns : goal.returns
+returns c =
+    let i = c.self.inside in
+    let s = i.system in
+    let r = some_of (running_at c.args.self.now.slots c.args.flow) c.requires in
+    let at = ap (λ (v : Lazily). running_at v.slots c.args.flow) c.self.view_is ∙ r.1 in
+    let here = is_here s.slots i.rated.rates.items i.pending.began.members i.pending.ended.members c.args.flow r.0 at in
+    let e = ap (λ (m : MarkSet). m.members) c.insert.ensures in
+    subst (λ o. IfSome o (λ (running : RunningFlow). record { capacities = s.capacities; slots = running_in s.slots i.rated.rates.items i.pending.began.members c.insert.new.self.members; ended = ended_in s.slots c.insert.new.self.members; changed = i.rated.changed.members; flow_room = s.flow_room; use_room = s.use_room } ≡ without_flow c.args.self.now c.args.flow running.flow)) (sym r.1)
+    (ap₂ (λ x y. record { capacities = s.capacities; slots = x; ended = y; changed = i.rated.changed.members; flow_room = s.flow_room; use_room = s.use_room })
+    (ap (running_in s.slots i.rated.rates.items i.pending.began.members) e ∙ end_slots s.slots i.rated.rates.items i.pending.began.members i.pending.ended.members c.args.flow here.below)
+    (ap (ended_in s.slots) e ∙ ended_more s.slots i.pending.ended.members c.args.flow r.0.flow here.off here.held)
+    ∙ ap (λ (v : Lazily). without_flow v c.args.flow r.0.flow) c.self.view_is)

@@ -1,0 +1,73 @@
+use Rattle.std.proofs.Common.{◌≡◌, ◌++◌, ◌∷◌, ◌-◌, ◌<◌, ◌≤◌, ℕ, true, List, [], None, Some, IfSome, length, set, length-set, refl, sym, ap, ap₂, subst, ◌∙◌, arith}
+use Rattle.sg_base.specs.MarkSet.{MarkSet, with_mark}
+use Rattle.sg_maxmin.specs.Fill.{Flow, flow}
+use Rattle.sg_lazy.specs.RunningFlow.{RunningFlow, running_at}
+use Rattle.sg_lazy.specs.Lazily.{Lazily, with_flow, without_flow}
+use Rattle.sg_lazy.specs.kept.Held.{IsLazy, running_of, running_in, ended_in}
+use Rattle.sg_lazy.proofs.Listing.{at_listed, length_listed, some_of}
+use Rattle.sg_lazy.proofs.Starting.{start_slots, start_lazy, ended_same, free_not_ended}
+use Rattle.sg_lazy.proofs.lazy.Lazy.start.Goals as goal
+
+pub invariant_of-self : goal.invariant_of-self
+invariant_of-self c =
+    let i = c.self.inside in
+    let s = i.system in
+    let t = c.add-flow.new.self in
+    let inv = c.self.invariant in
+    let out = c.add-flow.ensures in
+    let id = c.add-flow.result in
+    let its = flow c.args.uses.now c.args.weight c.args.bound in
+    let m = c.insert.ensures in
+    let len = out.numbers in
+    let caps = ap length out.capacities in (
+      subst (λ b. IsLazy t (set i.rated.rates.items id 0) b i.pending.ended.members) (sym (ap (λ (m : MarkSet). m.members) m))
+          (start_lazy s t i.rated.rates.items i.pending.began.members i.pending.ended.members id its inv.0 out.free out.in_range (omega (arith, out.in_range, inv.1.rates)) out.added len out.capacities c.is_sound.ensures),
+      record {
+        began = omega (arith, inv.1.began, len, ap (λ (m : MarkSet). m.room) m);
+        ended = omega (arith, inv.1.ended, len);
+        touched = omega (arith, inv.1.touched, len);
+        reached = omega (arith, inv.1.reached, caps);
+        places = record {
+          fixed_len = omega (arith, inv.1.places.fixed_len, len);
+          left_len = omega (arith, inv.1.places.left_len, caps);
+          waiting_len = omega (arith, inv.1.places.waiting_len, caps);
+          levels_len = omega (arith, inv.1.places.levels_len, caps);
+          stale_room = omega (arith, inv.1.places.stale_room, caps);
+        };
+        rates = omega (arith, inv.1.rates, len, length-set i.rated.rates.items id 0);
+        changed = omega (arith, inv.1.changed, len);
+      },
+    )
+
+pub returns-clause-free : goal.returns-clause-free
+returns-clause-free c =
+    let i = c.self.inside in
+    let s = i.system in
+    let id = c.add-flow.result in
+    let off = free_not_ended s.slots i.pending.ended.members id c.self.invariant.0.ended_are c.add-flow.ensures.free in
+    sym (ap (λ (v : Lazily). running_at v.slots id) c.self.view_is) ∙ at_listed (length s.slots) (running_of s.slots i.rated.rates.items i.pending.began.members i.pending.ended.members) id None c.add-flow.ensures.in_range ∙ rw (off, c.add-flow.ensures.free) refl
+
+pub returns-clause-in_range : goal.returns-clause-in_range
+returns-clause-in_range c =
+    let i = c.self.inside in
+    let s = i.system in
+    omega (arith, c.add-flow.ensures.in_range, ap (λ (v : Lazily). length v.slots) c.self.view_is, length_listed (length s.slots) (running_of s.slots i.rated.rates.items i.pending.began.members i.pending.ended.members))
+
+pub returns-clause-starts : goal.returns-clause-starts
+returns-clause-starts c =
+    let i = c.self.inside in
+    let s = i.system in
+    let t = c.add-flow.new.self in
+    let inv = c.self.invariant in
+    let id = c.add-flow.result in
+    let out = c.add-flow.ensures in
+    let its = flow c.args.uses.now c.args.weight c.args.bound in
+    let rates = set i.rated.rates.items id 0 in
+    let off = free_not_ended s.slots i.pending.ended.members id inv.0.ended_are out.free in
+    let slots = ap (λ b. running_in t.slots rates b i.pending.ended.members) (ap (λ (m : MarkSet). m.members) c.insert.ensures)
+    ∙ start_slots s.slots t.slots i.rated.rates.items i.pending.began.members i.pending.ended.members id its out.added out.numbers out.in_range (omega (arith, out.in_range, inv.1.rates)) off in
+    let rooms : (t.flow_room ≡ s.flow_room - 1) × (t.use_room ≡ s.use_room - length c.args.uses.now) = (omega (arith, out.flow_room), omega (arith, out.use_room)) in
+    ap₂ (λ x y. record { capacities = t.capacities; slots = x; ended = y; changed = i.rated.changed.members; flow_room = t.flow_room; use_room = t.use_room }) slots (ended_same s.slots t.slots i.pending.ended.members id (Some its) out.added off)
+    ∙ ap₂ (λ f u. record { capacities = t.capacities; slots = set (running_in s.slots i.rated.rates.items i.pending.began.members i.pending.ended.members) id (Some (record { flow = its; rate = 0; began = true })); ended = ended_in s.slots i.pending.ended.members; changed = i.rated.changed.members; flow_room = f; use_room = u }) rooms.0 rooms.1
+    ∙ ap (λ k. record { capacities = k; slots = set (running_in s.slots i.rated.rates.items i.pending.began.members i.pending.ended.members) id (Some (record { flow = its; rate = 0; began = true })); ended = ended_in s.slots i.pending.ended.members; changed = i.rated.changed.members; flow_room = s.flow_room - 1; use_room = s.use_room - length c.args.uses.now }) out.capacities
+    ∙ ap (λ (v : Lazily). with_flow v id its) c.self.view_is

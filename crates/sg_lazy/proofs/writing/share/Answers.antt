@@ -1,0 +1,24 @@
+use Rattle.std.proofs.Common.{◌≡◌, ◌*◌, ◌^◌, ◌<◌, ℕ, None, Some, sym, ap, subst, ◌∙◌, arith}
+use Rattle.sg_maxmin.specs.Fill.{bounded, share_at}
+use Rattle.sg_lazy.specs.kept.Filling.{bound_at, fixed_at, flow_in, given, given_at, weight_at}
+use Rattle.sg_lazy.proofs.Rows.{bound_is, weight_is}
+use Rattle.sg_lazy.proofs.writing.share.Goals as goal
+
+pub share_at_level-requires : goal.share_at_level-requires
+unfolding share_at
+share_at_level-requires c = λ none.
+    let s = c.args.system.now in
+    let w = weight_is s.slots c.args.flow c.weight.result c.requires.held c.weight.ensures in
+    let b = bound_is s.slots c.args.flow c.bound.result c.requires.held c.bound.ensures in
+    let free : bound_at s.slots c.args.flow ≡ None = sym b ∙ none in
+    let its : given_at s.slots c.args.fixed.now c.args.flow ≡ c.weight.result * c.in-Some.level =
+    ap (given (flow_in s.slots c.args.flow)) c.in-Some.is ∙ ap (λ o. bounded o (weight_at s.slots c.args.flow * c.in-Some.level)) free ∙ ap (λ n. n * c.in-Some.level) (sym w) in
+    subst (λ n. n < 2 ^ 64) its (c.requires.fits free)
+
+pub returns-in-Some : goal.returns-in-Some
+unfolding share_at
+returns-in-Some c =
+    let s = c.args.system.now in
+    let w = weight_is s.slots c.args.flow c.weight.result c.requires.held c.weight.ensures in
+    let b = bound_is s.slots c.args.flow c.bound.result c.requires.held c.bound.ensures in
+    c.share_at_level.ensures ∙ ap (λ n. bounded c.bound.result (n * c.in-Some.level)) w ∙ ap (λ o. bounded o (weight_at s.slots c.args.flow * c.in-Some.level)) b ∙ sym (ap (given (flow_in s.slots c.args.flow)) c.in-Some.is)

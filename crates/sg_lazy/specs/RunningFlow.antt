@@ -1,0 +1,25 @@
+-- The flows of a `Lazy`.
+use Rattle.std.specs.Prelude.{ℕ, Bool, Option, None, option_map, List, filter_map, slice_index_or}
+use Rattle.sg_maxmin.specs.Fill.{Flow}
+
+-- a flow that runs, the rate that it was given last, and whether it began since the last settling
+pub record RunningFlow : Type 0 where
+  pub flow : Flow
+  pub rate : ℕ
+  pub began : Bool
+
+-- what runs under a number
+abbrev pub running_at : List (Option RunningFlow) → ℕ → Option RunningFlow
+running_at slots id = slice_index_or slots id None
+
+-- the flow that runs under a number
+abbrev pub flow_under : List (Option RunningFlow) → ℕ → Option Flow
+flow_under slots id = option_map (λ running. running.flow) (running_at slots id)
+
+-- all that runs
+abbrev pub running_flows : List (Option RunningFlow) → List RunningFlow
+running_flows slots = filter_map (λ slot. slot) slots
+
+-- the flows of all that runs
+abbrev pub flows_in : List (Option RunningFlow) → List Flow
+flows_in slots = filter_map (option_map (λ running. running.flow)) slots

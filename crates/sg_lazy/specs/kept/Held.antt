@@ -1,0 +1,71 @@
+-- What a `Lazy` keeps its flows in: the system holds those that run, and until the next settling those that ended.
+use Rattle.std.specs.Prelude.{◌≡◌, ◌≢◌, ℕ, zero, suc, ◌+◌, ◌<◌, ◌≤◌, ◌==◌, ◌||◌, not, true, false, if◌then◌else◌, Option, None, Some, IsSome, option_map, List, [], ◌∷◌, map, length, slice_index, AllPairs}
+use Rattle.sg_base.specs.MarkSet.{MarkSet, is_in}
+use Rattle.sg_maxmin.specs.Fill.{Flow, flow, share_of}
+use Rattle.sg_maxmin.specs.Sharing.{Sharing, IsSound, flow_at, uses_at}
+use Rattle.sg_lazy.specs.declared.component.Component.{Component}
+use Rattle.sg_lazy.specs.declared.filling.Filling.{Filling}
+use Rattle.sg_lazy.specs.declared.settle.Pending.{Pending}
+use Rattle.sg_lazy.specs.declared.settle.Rated.{Rated}
+use Rattle.sg_lazy.specs.RunningFlow.{RunningFlow, flows_in}
+use Rattle.sg_lazy.specs.kept.Component.{lengths}
+use Rattle.sg_lazy.specs.kept.Keeping.{AreKept}
+use Rattle.sg_lazy.specs.kept.Filling.{HasPlaces}
+
+-- the list of what stands under each number below n
+unfoldable pub listed : {X : Type 0} → ℕ → (ℕ → X) → List X
+listed zero f = []
+listed (suc n) f = f 0 ∷ listed n (λ i. f (suc i))
+
+-- what runs under a number: a flow that is held, and didn't end
+abbrev pub running_of : List (Option Flow) → List ℕ → List ℕ → List ℕ → ℕ → Option RunningFlow
+running_of slots rates began ended id = if is_in id ended then None else option_map (λ held. record { flow = held; rate = slice_index rates id; began = is_in id began }) (flow_at slots id)
+
+abbrev pub running_in : List (Option Flow) → List ℕ → List ℕ → List ℕ → List (Option RunningFlow)
+running_in slots rates began ended = listed (length slots) (running_of slots rates began ended)
+
+abbrev pub flow_or_none : Option Flow → Flow
+flow_or_none None = flow [] 1 None
+flow_or_none (Some held) = held
+
+abbrev pub ended_in : List (Option Flow) → List ℕ → List Flow
+ended_in slots ended = map (λ id. flow_or_none (flow_at slots id)) ended
+
+-- there is room for all flows, and for all resources
+pub record HasRoom (s : Sharing) (pending : Pending) (component : Component) (filling : Filling) (rated : Rated) : Type 0 where
+  pub began : length s.slots ≤ pending.began.room
+  pub ended : length s.slots ≤ pending.ended.room
+  pub touched : length s.slots ≤ component.touched.room
+  pub reached : component.reached.room ≡ length s.capacities
+  pub places : HasPlaces s filling
+  pub rates : length s.slots ≤ length rated.rates.items
+  pub changed : length s.slots ≤ rated.changed.room
+
+-- all that a `Lazy` keeps
+pub record IsLazy (s : Sharing) (rates began ended : List ℕ) : Type 0 where
+  pub sound : IsSound s
+  pub ended_are : (id : ℕ) → is_in id ended ≡ true → IsSome (flow_at s.slots id)
+  pub began_are : (id : ℕ) → is_in id began ≡ true → IsSome (flow_at s.slots id)
+  pub kept : AreKept s.capacities (running_in s.slots rates began ended) (ended_in s.slots ended)
+
+-- the system without the flows that ended
+pub record IsWithout (old new : Sharing) (ended : List ℕ) : Type 0 where
+  pub slots : (id : ℕ) → flow_at new.slots id ≡ (if is_in id ended then None else flow_at old.slots id)
+  pub slots_len : length new.slots ≡ length old.slots
+  pub capacities : new.capacities ≡ old.capacities
+  pub flow_room : new.flow_room ≡ old.flow_room + length ended
+  pub use_room : new.use_room ≡ old.use_room + lengths (uses_at old.slots) ended
+
+-- the rates are those of the filling of all that runs, and those that changed are noted
+pub record IsRefilled (old new : Sharing) (began ended rates rates' changed : List ℕ) : Type 0 where
+  pub without : IsWithout old new ended
+  pub sound : IsSound new
+  pub rates_are : (id : ℕ) (flow : Flow) → flow_at new.slots id ≡ Some flow → slice_index rates' id ≡ share_of old.capacities (flows_in (running_in old.slots rates began ended)) flow
+  pub changed_are : (id : ℕ) (flow : Flow) → flow_at new.slots id ≡ Some flow → is_in id changed ≡ (is_in id began || not (slice_index rates id == slice_index rates' id))
+  pub unchanged : (id : ℕ) → flow_at new.slots id ≡ None → is_in id changed ≡ false
+  pub once : AllPairs (λ a b. a ≢ b) changed
+
+-- the same numbers, and no less room
+pub record GrowsRoom (old new : MarkSet) : Type 0 where
+  pub members : new.members ≡ old.members
+  pub room : old.room ≤ new.room

@@ -1,0 +1,595 @@
+//! The filling of the touched flows alone.
+ghost use Rattle.std.specs.Prelude.{◌≡◌, ◌≢◌, ◌≤◌, ◌<◌, ◌+◌, ◌-◌, ◌*◌, ◌/◌, ◌^◌, ◌++◌, ◌∷◌, ℕ, List, [], Option, None, Some, IsSome, true, false, AllPairs, All, length, min, option_map, option_to_list, slice_index, slice_set};
+ghost use Rattle.sg_base.specs.MarkSet.{is_in};
+ghost use Rattle.sg_chains.specs.Chained.{times, users_on};
+ghost use Rattle.sg_maxmin.specs.Fill.{bound_level as level_of_bound, level_of, share_at, share_of, bounded};
+ghost use Rattle.sg_maxmin.specs.Laws.{HaveLimits};
+ghost use Rattle.sg_maxmin.specs.Sharing.{IsSound, flow_at, uses_at};
+ghost use Rattle.sg_lazy.specs.kept.Component.{AreIn, Covers, MarksRow, lengths};
+ghost use Rattle.sg_lazy.specs.kept.Filling.{AreAbove, AreCounted, AreFixed, AreJoined, AreLevels, ArePart, FlowSteps, HasPlaces, IsLeast, IsLessBy, IsMoreBy, KeepsCount, StepsPartly, bound_at, bound_limit, fixed_at, flow_in, flows_at, least_with, level_where, limits_at, unfixed_bounds, unfixed_limits, waited_levels, weight_of, weight_on};
+
+use crate::component::mark_uses;
+use sg_base::{Marks, Steps};
+use sg_maxmin::System;
+use std::sync::ledger::Ledger;
+
+/// What a filling writes down.
+#[derive(Drop)]
+pub struct Filling {
+    // under each flow, the level at which it is fixed
+    pub fixed: Vec<Option<u64>>,
+    // under each resource, what is left of it, the weight of the unfixed flows on it, and its level
+    pub left: Vec<u64>,
+    pub waiting: Vec<u64>,
+    pub levels: Vec<u64>,
+    // the resources whose levels must be divided again
+    pub stale: Marks,
+}
+
+// The level of a bound.
+fn bound_level(weight: u32, bound: Option<u64>) -> Option<u64>
+    requires { 0 < weight }
+    ensures { result ≡ option_map (level_of_bound weight) bound }
+{
+    match bound {
+        None => None,
+        Some(bound) => Some(bound.div_ceil(weight as u64)),
+    }
+}
+
+// The share at a level, or the greatest number where that is less.
+fn capped_share(weight: u32, bound: Option<u64>, level: u64) -> u64
+    ensures { result ≡ min (bounded bound (weight * level)) (2 ^ 64 - 1) }
+{
+    let share = (weight as u64).saturating_mul(level);
+    match bound {
+        None => share,
+        Some(bound) => share.min(bound),
+    }
+}
+
+/// The share at a level.
+pub fn share_at_level(weight: u32, bound: Option<u64>, level: u64) -> u64
+    requires { bound ≡ None → weight * level < 2 ^ 64 }
+    ensures { result ≡ bounded bound (weight * level) }
+{
+    match bound {
+        None => weight as u64 * level,
+        Some(bound) => (weight as u64).saturating_mul(level).min(bound),
+    }
+}
+
+// More waits at a resource.
+fn add(amounts: &mut [u64], resource: usize, more: u64)
+    requires resource { resource < length amounts.old }
+    requires fits { slice_index amounts.old resource + more < 2 ^ 64 }
+    ensures { amounts.new ≡ slice_set amounts.old resource
+        (slice_index amounts.old resource + more) }
+{
+    amounts[resource] += more;
+}
+
+// Less waits at a resource.
+fn lessen(amounts: &mut [u64], resource: usize, by: u64)
+    requires { resource < length amounts.old }
+    ensures { amounts.new ≡ slice_set amounts.old resource
+        (slice_index amounts.old resource - by) }
+{
+    amounts[resource] = amounts[resource].saturating_sub(by);
+}
+
+// A flow waits with its weight at each of its resources.
+fn add_uses<L: Ledger>(system: &System, flow: usize, waiting: &mut [u64], steps: &mut Steps<L>)
+    requires held { IsSome (flow_at system.now.slots flow) }
+    requires exist { All (λ c. c < length waiting.old) (uses_at system.now.slots flow) }
+    requires fits { (c : ℕ) → slice_index waiting.old c
+        + weight_on system.now.slots flow c < 2 ^ 64 }
+    ensures waiting { IsMoreBy (weight_on system.now.slots flow)
+        waiting.old waiting.new }
+    ensures looks { steps.new ≡ steps.old + length (uses_at system.now.slots flow) }
+{
+    let weight = system.weight(flow) as u64;
+    let mut at = system.first_of(flow);
+    while let Some(i) = at {
+        let one = system.look(i, steps);
+        add(waiting, one.resource, weight);
+        at = one.next_of_flow;
+    }
+}
+
+// What is left where a share is given.
+fn less(left: u64, weight: u32, bound: Option<u64>, level: u64) -> u64
+    ensures { result ≡ left - bounded bound (weight * level) }
+{
+    left.saturating_sub(capped_share(weight, bound, level))
+}
+
+// Takes a share off what is left of a resource.
+fn take_share(left: &mut [u64], resource: usize, weight: u32, bound: Option<u64>, level: u64)
+    requires { resource < length left.old }
+    ensures { left.new ≡ slice_set left.old resource
+        (slice_index left.old resource - bounded bound (weight * level)) }
+{
+    left[resource] = less(left[resource], weight, bound, level);
+}
+
+// A flow waits no more, and its share is taken off what is left of each of its resources.
+fn take_uses<L: Ledger>(
+    system: &System,
+    flow: usize,
+    level: u64,
+    left: &mut [u64],
+    waiting: &mut [u64],
+    steps: &mut Steps<L>,
+)
+    requires held { IsSome (flow_at system.now.slots flow) }
+    requires left { All (λ c. c < length left.old) (uses_at system.now.slots flow) }
+    requires waiting { All (λ c. c < length waiting.old) (uses_at system.now.slots flow) }
+    ensures left { IsLessBy (λ c. times c (uses_at system.now.slots flow)
+        * share_at (flow_in system.now.slots flow) level) left.old left.new }
+    ensures waiting { IsLessBy (weight_on system.now.slots flow)
+        waiting.old waiting.new }
+    ensures looks { steps.new ≡ steps.old + length (uses_at system.now.slots flow) }
+{
+    let weight = system.weight(flow);
+    let bound = system.bound(flow);
+    let mut at = system.first_of(flow);
+    while let Some(i) = at {
+        let one = system.look(i, steps);
+        take_share(left, one.resource, weight, bound, level);
+        lessen(waiting, one.resource, weight as u64);
+        at = one.next_of_flow;
+    }
+}
+
+// What is left, for each unit of weight that waits.
+fn level(left: u64, waiting: u64) -> u64
+    ensures { result ≡ left / waiting }
+{
+    if waiting == 0 { 0 } else { left / waiting }
+}
+
+// The levels of the listed resources.
+fn set_levels(listed: &[usize], left: &[u64], waiting: &[u64], levels: &mut [u64])
+    requires left { All (λ c. c < length left.now) listed.now }
+    requires waiting { All (λ c. c < length waiting.now) listed.now }
+    requires levels { All (λ c. c < length levels.old) listed.now }
+    ensures listed { (i : ℕ) → i < length listed.now → slice_index levels.new (slice_index listed.now i)
+        ≡ slice_index left.now (slice_index listed.now i)
+        / slice_index waiting.now (slice_index listed.now i) }
+    ensures others { (c : ℕ) → is_in c listed.now ≡ false
+        → slice_index levels.new c ≡ slice_index levels.old c }
+{
+    for c in listed {
+        levels[*c] = level(left[*c], waiting[*c]);
+    }
+}
+
+// The smaller of the two, where there are two.
+fn smaller(least: Option<u64>, level: u64) -> Option<u64>
+    ensures { result ≡ Some (least_with least level) }
+{
+    match least {
+        None => Some(level),
+        Some(least) => Some(least.min(level)),
+    }
+}
+
+// The lesser of the level of a resource, where a flow waits there, and of what was found before.
+fn least_with_level(waiting: u64, level: u64, least: Option<u64>) -> Option<u64>
+    ensures { (list : List ℕ) → IsLeast least list
+        → IsLeast result (list ++ level_where waiting level) }
+{
+    if waiting == 0 {
+        least
+    } else {
+        smaller(least, level)
+    }
+}
+
+// The least level of a resource on which a flow waits.
+fn lowest_level(reached: &[usize], waiting: &[u64], levels: &[u64]) -> Option<u64>
+    requires waiting { All (λ c. c < length waiting.now) reached.now }
+    requires levels { All (λ c. c < length levels.now) reached.now }
+    ensures { IsLeast result (waited_levels waiting.now levels.now reached.now) }
+{
+    let mut least = None;
+    for c in reached {
+        least = least_with_level(waiting[*c], levels[*c], least);
+    }
+    least
+}
+
+// The lesser of the level of a flow's bound, and of what was found before.
+fn least_with_bound(system: &System, flow: usize, least: Option<u64>) -> Option<u64>
+    requires sound { IsSound system.now }
+    requires held { IsSome (flow_at system.now.slots flow) }
+    ensures { (list : List ℕ) → IsLeast least list
+        → IsLeast result (list ++ option_to_list (bound_limit system.now.slots flow)) }
+{
+    match bound_level(system.weight(flow), system.bound(flow)) {
+        None => least,
+        Some(limit) => smaller(least, limit),
+    }
+}
+
+// The lesser of what was found before, and of the least level of the bound of an unfixed flow.
+fn lowest_bound(
+    system: &System,
+    touched: &[usize],
+    fixed: &[Option<u64>],
+    first: Option<u64>,
+) -> Option<u64>
+    requires part { ArePart system.now touched.now }
+    requires fixed { length system.now.slots ≤ length fixed.now }
+    ensures { (list : List ℕ) → IsLeast first list → IsLeast result
+        (list ++ unfixed_bounds system.now.slots fixed.now touched.now) }
+{
+    let mut least = first;
+    for flow in touched {
+        if fixed[*flow].is_none() {
+            least = least_with_bound(system, *flow, least);
+        }
+    }
+    least
+}
+
+// The least of what limits the unfixed flows.
+fn lowest(system: &System, touched: &[usize], reached: &[usize], filling: &Filling) -> Option<u64>
+    requires joined { AreJoined system.now touched.now reached.now }
+    requires places { HasPlaces system.now filling.now }
+    requires counted { AreCounted system.now filling.now.fixed.items touched.now
+        filling.now.left.items filling.now.waiting.items (λ c. is_in c reached.now) }
+    ensures { IsLeast result (unfixed_limits system.now.slots
+        filling.now.fixed.items filling.now.levels.items touched.now) }
+{
+    let level = lowest_level(reached, &filling.waiting, &filling.levels);
+    lowest_bound(system, touched, &filling.fixed, level)
+}
+
+// Fixes an unfixed flow at this level.
+fn fix<L: Ledger>(
+    system: &System,
+    flow: usize,
+    low: u64,
+    filling: &mut Filling,
+    steps: &mut Steps<L>,
+)
+    requires sound { IsSound system.now }
+    requires held { IsSome (flow_at system.now.slots flow) }
+    requires places { HasPlaces system.now filling.old }
+    ensures places { HasPlaces system.now filling.new }
+    ensures levels { filling.new.levels.items ≡ filling.old.levels.items }
+    ensures fixed { filling.new.fixed.items ≡ slice_set filling.old.fixed.items flow (Some low) }
+    ensures left { IsLessBy (λ c. times c (uses_at system.now.slots flow)
+        * share_at (flow_in system.now.slots flow) low)
+        filling.old.left.items filling.new.left.items }
+    ensures waiting { IsLessBy (weight_on system.now.slots flow)
+        filling.old.waiting.items filling.new.waiting.items }
+    ensures stale { MarksRow (uses_at system.now.slots flow) filling.old.stale filling.new.stale }
+    ensures looks { steps.new ≡ steps.old + 2 * length (uses_at system.now.slots flow) }
+{
+    filling.fixed[flow] = Some(low);
+    take_uses(
+        system,
+        flow,
+        low,
+        &mut filling.left,
+        &mut filling.waiting,
+        steps,
+    );
+    mark_uses(system, flow, &mut filling.stale, steps);
+}
+
+// Fixes a flow at this level, where it is unfixed.
+fn fix_flow<L: Ledger>(
+    system: &System,
+    flow: usize,
+    low: u64,
+    filling: &mut Filling,
+    steps: &mut Steps<L>,
+)
+    requires sound { IsSound system.now }
+    requires held { IsSome (flow_at system.now.slots flow) }
+    requires places { HasPlaces system.now filling.old }
+    requires at { fixed_at filling.old.fixed.items flow ≡ None
+        → IsLeast (Some low) (limits_at system.now.slots filling.old.levels.items flow) }
+    ensures partly { StepsPartly system.now low filling.old filling.new }
+    ensures done { IsSome (fixed_at filling.new.fixed.items flow) }
+    ensures count { (touched : List ℕ) → AllPairs (λ a b. a ≢ b) touched
+        → is_in flow touched ≡ true
+        → KeepsCount system.now touched filling.old filling.new steps.old steps.new }
+{
+    if filling.fixed[flow].is_none() {
+        fix(system, flow, low, filling, steps);
+    }
+}
+
+// Fixes the unfixed flows on a resource that is at this level.
+fn fix_users<L: Ledger>(
+    system: &System,
+    resource: usize,
+    low: u64,
+    filling: &mut Filling,
+    steps: &mut Steps<L>,
+)
+    requires sound { IsSound system.now }
+    requires places { HasPlaces system.now filling.old }
+    requires resource { resource < length system.now.capacities }
+    requires level { slice_index filling.old.levels.items resource ≡ low }
+    requires above { AreAbove system.now (users_on system.now.users resource) low filling.old }
+    ensures partly { StepsPartly system.now low filling.old filling.new }
+    ensures done { AreFixed (users_on system.now.users resource) filling.new }
+    ensures count { (touched : List ℕ) → AllPairs (λ a b. a ≢ b) touched
+        → AreIn (users_on system.now.users resource) touched
+        → KeepsCount system.now touched filling.old filling.new
+        (steps.old + length (users_on system.now.users resource)) steps.new }
+{
+    let mut at = system.first_on(resource);
+    while let Some(i) = at {
+        let one = system.look(i, steps);
+        fix_flow(system, one.flow, low, filling, steps);
+        at = one.next_on;
+    }
+}
+
+// Fixes the unfixed flows on a resource, where it is at this level.
+fn fix_on<L: Ledger>(
+    system: &System,
+    resource: usize,
+    low: u64,
+    filling: &mut Filling,
+    steps: &mut Steps<L>,
+)
+    requires sound { IsSound system.now }
+    requires places { HasPlaces system.now filling.old }
+    requires resource { resource < length system.now.capacities }
+    requires above { AreAbove system.now (users_on system.now.users resource) low filling.old }
+    ensures partly { StepsPartly system.now low filling.old filling.new }
+    ensures done { slice_index filling.old.levels.items resource ≡ low
+        → AreFixed (users_on system.now.users resource) filling.new }
+    ensures count { (touched : List ℕ) → AllPairs (λ a b. a ≢ b) touched
+        → AreIn (users_on system.now.users resource) touched
+        → KeepsCount system.now touched filling.old filling.new
+        (steps.old + length (users_on system.now.users resource)) steps.new }
+{
+    if filling.levels[resource] == low {
+        fix_users(system, resource, low, filling, steps);
+    }
+}
+
+// Whether the bound of a flow is at this level.
+fn is_bound_at(system: &System, flow: usize, low: u64) -> bool
+    requires sound { IsSound system.now }
+    requires held { IsSome (flow_at system.now.slots flow) }
+    ensures at { result ≡ true → bound_limit system.now.slots flow ≡ Some low }
+    ensures off { result ≡ false → bound_limit system.now.slots flow ≡ Some low → ⊥ }
+{
+    match bound_level(system.weight(flow), system.bound(flow)) {
+        None => false,
+        Some(limit) => limit == low,
+    }
+}
+
+// Fixes a flow, where it is unfixed and its bound is at this level.
+fn fix_bounded<L: Ledger>(
+    system: &System,
+    flow: usize,
+    low: u64,
+    filling: &mut Filling,
+    steps: &mut Steps<L>,
+)
+    requires sound { IsSound system.now }
+    requires held { IsSome (flow_at system.now.slots flow) }
+    requires places { HasPlaces system.now filling.old }
+    requires above { AreAbove system.now (flow ∷ []) low filling.old }
+    ensures partly { StepsPartly system.now low filling.old filling.new }
+    ensures done { bound_limit system.now.slots flow ≡ Some low
+        → IsSome (fixed_at filling.new.fixed.items flow) }
+    ensures count { (touched : List ℕ) → AllPairs (λ a b. a ≢ b) touched
+        → is_in flow touched ≡ true
+        → KeepsCount system.now touched filling.old filling.new steps.old steps.new }
+{
+    if filling.fixed[flow].is_some() {
+        return;
+    }
+    if is_bound_at(system, flow, low) {
+        fix_flow(system, flow, low, filling, steps);
+    }
+}
+
+// Fixes each unfixed flow that is at this level.
+fn fix_all<L: Ledger>(
+    system: &System,
+    touched: &[usize],
+    reached: &[usize],
+    low: u64,
+    filling: &mut Filling,
+    steps: &mut Steps<L>,
+)
+    requires joined { AreJoined system.now touched.now reached.now }
+    requires places { HasPlaces system.now filling.old }
+    requires above { AreAbove system.now touched.now low filling.old }
+    ensures partly { StepsPartly system.now low filling.old filling.new }
+    ensures stepped { (i : ℕ) → i < length touched.now
+        → FlowSteps system.now.slots filling.old.levels.items low
+        filling.old.fixed.items filling.new.fixed.items (slice_index touched.now i) }
+    ensures count { KeepsCount system.now touched.now filling.old filling.new
+        (steps.old + lengths (users_on system.now.users) reached.now) steps.new }
+{
+    for c in reached {
+        fix_on(system, *c, low, filling, steps);
+    }
+    for flow in touched {
+        fix_bounded(system, *flow, low, filling, steps);
+    }
+}
+
+// Divides the levels of the stale resources again.
+fn renew(system: &System, filling: &mut Filling)
+    requires { HasPlaces system.now filling.old }
+    ensures places { HasPlaces system.now filling.new }
+    ensures kept { (filling.new.fixed.items ≡ filling.old.fixed.items)
+        × (filling.new.left.items ≡ filling.old.left.items)
+        × (filling.new.waiting.items ≡ filling.old.waiting.items) }
+    ensures levels { AreLevels filling.old.stale.members filling.new }
+    ensures others { (c : ℕ) → is_in c filling.old.stale.members ≡ false
+        → slice_index filling.new.levels.items c ≡ slice_index filling.old.levels.items c }
+{
+    set_levels(
+        filling.stale.members(),
+        &filling.left,
+        &filling.waiting,
+        &mut filling.levels,
+    );
+    filling.stale.clear();
+}
+
+// One step: each unfixed flow that is at this level is fixed.
+fn step<L: Ledger>(
+    system: &System,
+    touched: &[usize],
+    reached: &[usize],
+    low: u64,
+    filling: &mut Filling,
+    steps: &mut Steps<L>,
+)
+    requires joined { AreJoined system.now touched.now reached.now }
+    requires places { HasPlaces system.now filling.old }
+    requires levels { AreLevels reached.now filling.old }
+    requires above { AreAbove system.now touched.now low filling.old }
+    ensures places { HasPlaces system.now filling.new }
+    ensures stepped { (i : ℕ) → i < length touched.now
+        → FlowSteps system.now.slots filling.old.levels.items low
+        filling.old.fixed.items filling.new.fixed.items (slice_index touched.now i) }
+    ensures levels { AreLevels reached.now filling.new }
+    ensures count { KeepsCount system.now touched.now filling.old filling.new
+        (steps.old + lengths (users_on system.now.users) reached.now) steps.new }
+{
+    fix_all(system, touched, reached, low, filling, steps);
+    renew(system, filling);
+}
+
+// The steps of a filling, from no flow fixed on, until all touched flows are fixed.
+fn fill_steps<L: Ledger>(
+    system: &System,
+    touched: &[usize],
+    reached: &[usize],
+    filling: &mut Filling,
+    steps: &mut Steps<L>,
+)
+    requires joined { AreJoined system.now touched.now reached.now }
+    requires places { HasPlaces system.now filling.old }
+    requires unfixed { (i : ℕ) → i < length touched.now
+        → fixed_at filling.old.fixed.items (slice_index touched.now i) ≡ None }
+    requires counted { AreCounted system.now filling.old.fixed.items touched.now
+        filling.old.left.items filling.old.waiting.items (λ c. is_in c reached.now) }
+    requires levels { AreLevels reached.now filling.old }
+    ensures places { HasPlaces system.now filling.new }
+    ensures fixed { (i : ℕ) → i < length touched.now
+        → fixed_at filling.new.fixed.items (slice_index touched.now i)
+        ≡ Some (level_of system.now.capacities
+        (flows_at system.now.slots touched.now)
+        (flow_in system.now.slots (slice_index touched.now i))) }
+    ensures looks { steps.new ≤ steps.old + length touched.now
+        * (3 * lengths (uses_at system.now.slots) touched.now) }
+{
+    for n in 0..touched.len() {
+        match lowest(system, touched, reached, filling) {
+            None => return,
+            Some(low) => step(system, touched, reached, low, filling, steps),
+        }
+    }
+}
+
+// All of the reached resources is left, and nobody waits there.
+fn reset(system: &System, reached: &[usize], left: &mut [u64], waiting: &mut [u64])
+    requires exist { All (λ c. c < length system.now.capacities) reached.now }
+    requires left { length left.old ≡ length system.now.capacities }
+    requires waiting { length waiting.old ≡ length system.now.capacities }
+    ensures left { (i : ℕ) → i < length reached.now
+        → slice_index left.new (slice_index reached.now i)
+        ≡ slice_index system.now.capacities (slice_index reached.now i) }
+    ensures waiting { (i : ℕ) → i < length reached.now
+        → slice_index waiting.new (slice_index reached.now i) ≡ 0 }
+    ensures small { (c : ℕ) → slice_index waiting.new c < 2 ^ 64 }
+    ensures fit { (i : ℕ) → i < length reached.now
+        → slice_index system.now.capacities (slice_index reached.now i) < 2 ^ 64 }
+{
+    for c in reached {
+        left[*c] = system.capacity(*c);
+        waiting[*c] = 0;
+    }
+}
+
+// No touched flow is fixed, and each waits at its resources.
+fn unfix<L: Ledger>(
+    system: &System,
+    touched: &[usize],
+    fixed: &mut [Option<u64>],
+    waiting: &mut [u64],
+    steps: &mut Steps<L>,
+)
+    requires part { ArePart system.now touched.now }
+    requires fixed { length system.now.slots ≤ length fixed.old }
+    requires waiting { length waiting.old ≡ length system.now.capacities }
+    requires fits { (c : ℕ) → slice_index waiting.old c
+        + weight_of system.now.slots touched.now c < 2 ^ 64 }
+    ensures fixed { (i : ℕ) → i < length touched.now
+        → fixed_at fixed.new (slice_index touched.now i) ≡ None }
+    ensures waiting { IsMoreBy (weight_of system.now.slots touched.now)
+        waiting.old waiting.new }
+    ensures looks { steps.new
+        ≡ steps.old + lengths (uses_at system.now.slots) touched.now }
+{
+    for flow in touched {
+        fixed[*flow] = None;
+        add_uses(system, *flow, waiting, steps);
+    }
+}
+
+/// Fixes each touched flow at its level among the touched flows.
+pub fn fill<L: Ledger>(
+    system: &System,
+    touched: &[usize],
+    reached: &[usize],
+    filling: &mut Filling,
+    steps: &mut Steps<L>,
+)
+    requires part { ArePart system.now touched.now }
+    requires once { AllPairs (λ a b. a ≢ b) touched.now }
+    requires covers { Covers (uses_at system.now.slots) touched.now reached.now }
+    requires covered { Covers (users_on system.now.users) reached.now touched.now }
+    requires distinct { AllPairs (λ a b. a ≢ b) reached.now }
+    requires exist { All (λ c. c < length system.now.capacities) reached.now }
+    requires places { HasPlaces system.now filling.old }
+    ensures places { HasPlaces system.now filling.new }
+    ensures fixed { (i : ℕ) → i < length touched.now
+        → fixed_at filling.new.fixed.items (slice_index touched.now i)
+        ≡ Some (level_of system.now.capacities
+        (flows_at system.now.slots touched.now)
+        (flow_in system.now.slots (slice_index touched.now i))) }
+    ensures fits { (i : ℕ) → i < length touched.now
+        → bound_at system.now.slots (slice_index touched.now i) ≡ None
+        → share_of system.now.capacities (flows_at system.now.slots touched.now)
+        (flow_in system.now.slots (slice_index touched.now i)) < 2 ^ 64 }
+    ensures looks { steps.new
+        ≤ steps.old + lengths (uses_at system.now.slots) touched.now
+        + length touched.now * (3 * lengths (uses_at system.now.slots) touched.now) }
+{
+    reset(system, reached, &mut filling.left, &mut filling.waiting);
+    unfix(
+        system,
+        touched,
+        &mut filling.fixed,
+        &mut filling.waiting,
+        steps,
+    );
+    set_levels(
+        reached,
+        &filling.left,
+        &filling.waiting,
+        &mut filling.levels,
+    );
+    fill_steps(system, touched, reached, filling, steps);
+}

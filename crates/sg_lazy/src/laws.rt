@@ -1,0 +1,20 @@
+//! Laws of touched parts and of the work of a settling: each function does nothing, and its contract is the law.
+ghost use Rattle.sg_lazy.specs.Laws.{AllReached, FreeRate, KeepsRate, NamesDontMatter, SettledKeepsNone, TouchedRate};
+
+/// What isn't touched keeps its rate, and what is touched has by itself the rates that it has in the whole.
+pub fn touched_rates()
+    ensures reached { AllReached }
+    ensures kept { KeepsRate }
+    ensures touched { TouchedRate }
+    ensures free { FreeRate }
+{}
+
+/// How many looks a settling may take doesn't depend on the flows' names or order.
+pub fn names_dont_matter()
+    ensures { NamesDontMatter }
+{}
+
+/// After a settling no flow counts as begun, so a second one changes a flow only by its rate.
+pub fn settled_keeps_none()
+    ensures { SettledKeepsNone }
+{}

@@ -1,0 +1,180 @@
+//! Flows whose rates are filled anew only where something changed.
+ghost use Rattle.std.specs.Prelude.{◌≡◌, ◌≤◌, ◌<◌, ◌+◌, IsSome, IfSome, IfOk, OnOk, None, length};
+ghost use Rattle.sg_maxmin.specs.Fill.{flow};
+ghost use Rattle.sg_maxmin.specs.Sharing.{IsFlow};
+ghost use Rattle.sg_lazy.specs.RunningFlow.{running_at};
+ghost use Rattle.sg_lazy.specs.Lazily.{IsFresh, IsRoomier, IsSettled, looks_of, with_flow, without_flow};
+
+use crate::component::Component;
+use crate::filling::Filling;
+use crate::room::{grow_marks, grow_rows};
+use crate::settle::{Pending, Rated, settle_flows};
+use sg_base::{Marks, Memory, Steps};
+use sg_maxmin::System;
+use std::alloc::Global;
+use std::marker::Model;
+use std::sync::ledger::Ledger;
+
+/// Flows and their rates: the filling of all of them, of which a settling does anew only what flows that began or
+/// ended since the last one touch.
+///
+/// Contracts see the capacities, the flow that runs under each number with its rate and whether it began since the
+/// last settling, the flows that ended since, the numbers of the flows whose rates the last settling changed, and for
+/// how many flows and uses more there is room.
+#[derive(Drop)]
+pub struct Lazy {
+    // the flows that run, and until the next settling those that ended
+    system: System,
+    pending: Pending,
+    rated: Rated,
+    // where a settling notes what it touches, and fills
+    component: Component,
+    filling: Filling,
+}
+
+impl Model for Lazy {
+    ghost use Rattle.sg_lazy.specs.Lazily.{Lazily, lazily_code};
+
+    ghost Value = { Lazily };
+
+    ghost coded = { lazily_code };
+
+    ghost use Rattle.sg_lazy.specs.kept.Held.{running_in, ended_in, HasRoom, IsLazy};
+
+    ghost view = { λ s. record {
+      capacities = s.system.capacities;
+      slots = running_in s.system.slots s.rated.rates.items s.pending.began.members s.pending.ended.members;
+      ended = ended_in s.system.slots s.pending.ended.members;
+      changed = s.rated.changed.members;
+      flow_room = s.system.flow_room;
+      use_room = s.system.use_room;
+    } };
+
+    ghost invariant = { λ s. IsLazy s.system s.rated.rates.items s.pending.began.members s.pending.ended.members
+        × HasRoom s.system s.pending s.component s.filling s.rated };
+}
+
+impl Lazy {
+    /// No flow yet, on resources with these capacities.
+    pub fn new(alloc: Global, capacities: &[u64]) -> Result<Lazy, Memory>
+        ensures { IfOk result (IsFresh capacities.now) }
+    {
+        let mut reached = Marks::new(alloc);
+        reached.reserve(capacities.len())?;
+        let mut stale = Marks::new(alloc);
+        stale.reserve(capacities.len())?;
+        let system = System::new(alloc, capacities)?;
+        system.is_sound();
+        Ok(Lazy {
+            system,
+            pending: Pending {
+                began: Marks::new(alloc),
+                ended: Marks::new(alloc),
+            },
+            rated: Rated {
+                rates: Vec::new(alloc),
+                changed: Marks::new(alloc),
+            },
+            component: Component {
+                touched: Marks::new(alloc),
+                reached,
+            },
+            filling: Filling {
+                fixed: Vec::new(alloc),
+                left: Vec::from_slice(alloc, capacities)?,
+                waiting: Vec::from_slice(alloc, capacities)?,
+                levels: Vec::from_slice(alloc, capacities)?,
+                stale,
+            },
+        })
+    }
+
+    /// How many numbers of flows there are, taken and free ones.
+    pub fn numbers(&self) -> usize
+        ensures { result ≡ length self.now.slots }
+    {
+        self.system.numbers()
+    }
+
+    /// Makes room for so many flows more, with so many uses in all; at most so many numbers come to those that there
+    /// are. Nothing but the room changes, also where there is no memory, and the room doesn't shrink.
+    pub fn reserve(&mut self, flows: usize, uses: usize) -> Result<(), Memory>
+        ensures flow_room { OnOk result (flows ≤ self.new.flow_room) }
+        ensures use_room { OnOk result (uses ≤ self.new.use_room) }
+        ensures kept { IsRoomier self.old self.new }
+        ensures few { length self.new.slots ≤ length self.old.slots + flows }
+    {
+        let Some(n) = self.system.numbers().checked_add(flows) else {
+            return Err(Memory);
+        };
+        grow_marks(
+            n,
+            &mut self.pending,
+            &mut self.component.touched,
+            &mut self.rated.changed,
+        )?;
+        grow_rows(n, &mut self.rated.rates, &mut self.filling.fixed)?;
+        let reserved = self.system.reserve(flows, uses);
+        self.system.is_sound();
+        reserved
+    }
+
+    /// Starts a flow that uses these resources, each at its place among the capacities, and returns its number. The
+    /// bound limits its rate, which is 0 until the next settling. The room that it takes was made by `reserve`.
+    pub fn start(&mut self, uses: &[usize], weight: u32, bound: Option<u64>) -> usize
+        requires flow { IsFlow self.old.capacities (flow uses.now weight bound) }
+        requires flow_room { 0 < self.old.flow_room }
+        requires use_room { length uses.now ≤ self.old.use_room }
+        ensures free { running_at self.old.slots result ≡ None }
+        ensures in_range { result < length self.old.slots }
+        ensures starts { self.new ≡ with_flow self.old result (flow uses.now weight bound) }
+    {
+        let flow = self.system.add(uses, weight, bound);
+        self.system.is_sound();
+        self.rated.rates[flow] = 0;
+        self.pending.began.insert(flow);
+        flow
+    }
+
+    /// Ends a flow. Its number and its room are free again after the next settling.
+    pub fn end(&mut self, flow: usize)
+        requires { IsSome (running_at self.old.slots flow) }
+        ensures { IfSome (running_at self.old.slots flow)
+            (λ running. self.new ≡ without_flow self.old flow running.flow) }
+    {
+        self.pending.ended.insert(flow);
+    }
+
+    /// Brings all rates up to date. Only flows that began or ended since the last settling, and those that sharing
+    /// joins to them, are looked at; `steps` counts the looks at uses.
+    pub fn settle<L: Ledger>(&mut self, steps: &mut Steps<L>)
+        ensures settled { IsSettled self.old self.new }
+        ensures looks { steps.new ≤ steps.old + looks_of self.old }
+    {
+        settle_flows(
+            &mut self.system,
+            &self.pending,
+            &mut self.component,
+            &mut self.filling,
+            &mut self.rated,
+            steps,
+        );
+        self.pending.began.clear();
+        self.pending.ended.clear();
+    }
+
+    /// The rate that the last settling gave to a flow; 0 for one that began since.
+    pub fn rate(&self, flow: usize) -> u64
+        requires { IsSome (running_at self.now.slots flow) }
+        ensures { IfSome (running_at self.now.slots flow) (λ running. result ≡ running.rate) }
+    {
+        self.rated.rates[flow]
+    }
+
+    /// The numbers of the flows whose rates the last settling changed, each once. One that began counts as changed.
+    pub fn changed(&self) -> &[usize]
+        ensures { result.now ≡ self.now.changed }
+    {
+        self.rated.changed.members()
+    }
+}

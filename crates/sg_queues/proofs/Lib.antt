@@ -1,0 +1,4 @@
+pub mod Exchanges
+pub mod Paths
+pub mod Moves
+pub mod Entries

@@ -1,0 +1,4 @@
+pub mod Rings
+pub mod Queues
+pub mod Tested
+pub mod kept

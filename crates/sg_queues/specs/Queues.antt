@@ -1,0 +1,44 @@
+-- First-in-first-out queues of values, each in a slot.
+use Rattle.std.specs.Prelude.{◌≡◌, ◌≢◌, ℕ, ◌==◌, Bool, true, false, not, List, [], ◌∷◌, ◌++◌, map, filter, slice_set, AllPairs, refl}
+use Rattle.std.specs.List.{list_any}
+use Rattle.std.specs.Coded.{Coded, code_by, coded×, coded_ℕ, coded_list}
+use Rattle.sg_queues.specs.Rings.{queue_at, behind}
+
+-- the values of each queue, in order, each with its slot; and room for so many more
+pub record Queues (T : Type 0) : Type 0 where
+  pub queues : List (List (ℕ × T))
+  pub room : ℕ
+
+abbrev pub queues_code : {T : Type 0} → Coded T → Coded (Queues T)
+queues_code {T} code =
+    code_by (List (List (ℕ × T)) × ℕ) (coded× (coded_list (coded_list (coded× coded_ℕ code))) coded_ℕ) (λ q. (q.queues, q.room)) (λ p. record { queues = p.0; room = p.1 }) (λ _. refl)
+
+module _ {T : Type 0} where
+  -- whether the slot is in a queue
+  abbrev pub holds : ℕ → List (ℕ × T) → Bool
+  holds slot queue = list_any (λ (entry : ℕ × T). slot == entry.0) queue
+
+  -- the slot is in one of the queues
+  pub record IsHeld (slot : ℕ) (queues : List (List (ℕ × T))) : Type 0 where
+    pub queue : ℕ
+    pub there : holds slot (queue_at queues queue) ≡ true
+
+  -- a value comes to the end of a queue
+  abbrev pub queued : List (List (ℕ × T)) → ℕ → ℕ × T → List (List (ℕ × T))
+  queued queues queue entry = slice_set queues queue (queue_at queues queue ++ entry ∷ [])
+
+  -- the first leaves a queue, if there is one
+  abbrev pub shortened : List (List (ℕ × T)) → ℕ → List (List (ℕ × T))
+  shortened queues queue = slice_set queues queue (behind (queue_at queues queue))
+
+  abbrev pub without_slot : ℕ → List (ℕ × T) → List (ℕ × T)
+  without_slot slot queue = filter (λ (entry : ℕ × T). not (entry.0 == slot)) queue
+
+  -- the slot leaves the queue in which it is
+  abbrev pub let_go : ℕ → List (List (ℕ × T)) → List (List (ℕ × T))
+  let_go slot queues = map (without_slot slot) queues
+
+  -- each slot holds one value, in one queue
+  pub record AreSlots (queues : List (List (ℕ × T))) : Type 0 where
+    pub once : (queue : ℕ) → AllPairs (λ (a b : ℕ × T). a.0 ≢ b.0) (queue_at queues queue)
+    pub apart : (p q slot : ℕ) → holds slot (queue_at queues p) ≡ true → holds slot (queue_at queues q) ≡ true → p ≡ q

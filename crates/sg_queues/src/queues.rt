@@ -1,0 +1,157 @@
+//! First-in-first-out queues of values.
+ghost use Rattle.std.specs.Prelude.{◌≡◌, ◌<◌, ◌≤◌, ◌+◌, ◌-◌, ◌++◌, ◌∷◌, [], ℕ, false, length, option_map, IfOk, OnOk, OnErr};
+ghost use Rattle.sg_queues.specs.Rings.{front, queue_at};
+ghost use Rattle.sg_queues.specs.Queues.{holds, let_go, queued, shortened, AreSlots, IsHeld};
+
+use crate::links::push;
+use crate::rings::Rings;
+use sg_base::Memory;
+use std::alloc::Global;
+use std::marker::Model;
+
+/// Queues by number from 0 on, first in, first out, which can also let go a value from the middle.
+///
+/// Each value is in a slot, whose number stays the same as long as the value is there. Each call costs the same
+/// however long the queues are. Only `reserve` and `add_queue` take memory.
+#[derive(Drop)]
+pub struct Queues<T> {
+    rings: Rings,
+    // the value in each slot
+    values: Vec<T>,
+    // what stands where there is no value
+    blank: T,
+    room: usize,
+}
+
+impl<T> Model for Queues<T> {
+    ghost use Rattle.sg_queues.specs.Queues as spec;
+    ghost use Rattle.sg_queues.specs.kept.Entries.{entries_of, AreKept};
+
+    ghost Value = { spec.Queues T };
+
+    ghost coded = { spec.queues_code T.code };
+
+    ghost view = { λ s. record {
+      queues = entries_of s.blank s.values.items s.rings.queues;
+      room = s.room;
+    } };
+
+    ghost invariant = { λ s. AreKept s.rings s.values.items s.room };
+}
+
+// The queue of free slots.
+const FREE: usize = 0;
+
+impl<T: Copy + Drop> Queues<T> {
+    /// No queues, and no room. The blank is any value.
+    pub fn new(alloc: Global, blank: T) -> Result<Queues<T>, Memory>
+        ensures { IfOk result (λ q. q ≡ record { queues = []; room = 0 }) }
+    {
+        let mut rings = Rings::new(alloc);
+        rings.add_queue()?;
+        let mut values = Vec::new(alloc);
+        values.push(blank)?;
+        Ok(Queues {
+            rings,
+            values,
+            blank,
+            room: 0,
+        })
+    }
+
+    /// A queue more, which is empty. Its number is how many queues there were.
+    pub fn add_queue(&mut self) -> Result<(), Memory>
+        ensures queue { OnOk result (self.new ≡ record self.old {
+          queues = self.old.queues ++ [] ∷ [];
+        }) }
+        ensures kept { OnErr result (self.new ≡ self.old) }
+    {
+        self.values.reserve(1)?;
+        self.rings.add_queue()?;
+        push(&mut self.values, self.blank);
+        Ok(())
+    }
+
+    // A slot more, which is free.
+    fn add_slot(&mut self) -> Result<(), Memory>
+        ensures room { OnOk result (self.new ≡ record self.old { room = self.old.room + 1 }) }
+        ensures kept { OnErr result (self.new ≡ self.old) }
+    {
+        self.values.reserve(1)?;
+        self.rings.add_slot(FREE)?;
+        push(&mut self.values, self.blank);
+        self.room += 1;
+        Ok(())
+    }
+
+    /// Makes room for so many more values.
+    pub fn reserve(&mut self, n: usize) -> Result<(), Memory>
+        ensures room { OnOk result (n ≤ self.new.room) }
+        ensures grows { self.old.room ≤ self.new.room }
+        ensures kept { self.new ≡ record self.old { room = self.new.room } }
+    {
+        while self.room < n {
+            self.add_slot()?;
+        }
+        Ok(())
+    }
+
+    /// A value comes to the end of a queue, in the slot that is answered.
+    pub fn push_back(&mut self, queue: usize, value: T) -> usize
+        requires queue { queue < length self.old.queues }
+        requires room { 0 < self.old.room }
+        ensures queues { self.new.queues ≡ queued self.old.queues queue (result, value) }
+        ensures room { self.new.room ≡ self.old.room - 1 }
+        ensures fresh { (q : ℕ) → holds result (queue_at self.old.queues q) ≡ false }
+        ensures slots { AreSlots self.new.queues }
+    {
+        let slot = match self.rings.front(FREE) {
+            Some(slot) => slot,
+            None => unreachable!(),
+        };
+        self.values[slot] = value;
+        self.rings.shift(slot, queue + 1);
+        self.room -= 1;
+        slot
+    }
+
+    /// The first value of a queue, with its slot.
+    pub fn front(&self, queue: usize) -> Option<(usize, T)>
+        requires { queue < length self.now.queues }
+        ensures first { result ≡ front (queue_at self.now.queues queue) }
+        ensures slots { AreSlots self.now.queues }
+    {
+        match self.rings.front(queue + 1) {
+            Some(slot) => Some((slot, self.values[slot])),
+            None => None,
+        }
+    }
+
+    /// The value in this slot leaves its queue, from wherever it stands there.
+    pub fn remove(&mut self, slot: usize)
+        requires { IsHeld slot self.old.queues }
+        ensures queues { self.new.queues ≡ let_go slot self.old.queues }
+        ensures room { self.new.room ≡ self.old.room + 1 }
+        ensures slots { AreSlots self.new.queues }
+    {
+        self.rings.shift(slot, FREE);
+        self.room += 1;
+    }
+
+    /// Takes the first value of a queue away, if there is one.
+    pub fn pop_front(&mut self, queue: usize) -> Option<T>
+        requires { queue < length self.old.queues }
+        ensures first { result
+            ≡ option_map (λ entry. entry.1) (front (queue_at self.old.queues queue)) }
+        ensures rest { self.new.queues ≡ shortened self.old.queues queue }
+        ensures room { self.old.room ≤ self.new.room }
+    {
+        match self.front(queue) {
+            Some((slot, value)) => {
+                self.remove(slot);
+                Some(value)
+            }
+            None => None,
+        }
+    }
+}

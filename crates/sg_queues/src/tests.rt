@@ -1,0 +1,82 @@
+//! Slots that move at random, beside a plain list.
+ghost use Rattle.std.specs.Prelude.{◌<◌, ◌≤◌, IfOk};
+ghost use Rattle.sg_queues.specs.Tested.{IsMade};
+
+use crate::Rings;
+use sg_base::Memory;
+use std::alloc::Global;
+use std::process::Abort;
+use std::test::Fail;
+
+const SLOTS: usize = 12;
+
+const MOVES: usize = 10_000;
+
+// Four queues, and twelve slots in the first of them.
+fn made(alloc: Global) -> Result<Rings, Memory>
+    ensures { IfOk result (λ rings. IsMade 16 rings) }
+{
+    let mut rings = Rings::new(alloc);
+    rings.add_queue()?;
+    rings.add_queue()?;
+    rings.add_queue()?;
+    rings.add_queue()?;
+    for _slot in 0..SLOTS {
+        rings.add_slot(0)?;
+    }
+    Ok(rings)
+}
+
+// The first slot of a queue in a list of slots, each with its queue, in the order of their moves.
+fn first_of(list: &[(usize, usize)], queue: usize) -> Option<usize> {
+    for (slot, its) in list {
+        if *its == queue {
+            return Some(*slot);
+        }
+    }
+    None
+}
+
+// A slot of a list moves to its end.
+fn move_in(list: &mut Vec<(usize, usize)>, slot: usize, queue: usize) -> Result<(), Memory> {
+    list.retain(|entry| entry.0 != slot);
+    list.push((slot, queue))?;
+    Ok(())
+}
+
+fn slot_of(drawn: usize) -> usize
+    ensures above { 4 ≤ result }
+    ensures below { result < 16 }
+{
+    4 + drawn % 12
+}
+
+// Slots that are drawn move to queues that are drawn. After each move the first of each queue is that of the list.
+fn agrees_with_a_list(rt: &impl Abort, alloc: Global) -> Result<(), Memory> {
+    let mut rings = made(alloc)?;
+    let mut list = Vec::new(alloc);
+    for slot in 4..16usize {
+        move_in(&mut list, slot, 0)?;
+    }
+    let mut state: u64 = 1;
+    for _i in 0..MOVES {
+        state = state
+            .wrapping_mul(6_364_136_223_846_793_005)
+            .wrapping_add(1_442_695_040_888_963_407);
+        let drawn = (state >> 33) as usize;
+        let slot = slot_of(drawn);
+        let queue = drawn / 12 % 4;
+        rings.shift(slot, queue);
+        move_in(&mut list, slot, queue)?;
+        for queue in 0..4usize {
+            assert_eq!(rt; rings.front(queue), first_of(&list, queue));
+        }
+    }
+    Ok(())
+}
+
+#[test]
+fn moves_are_those_of_a_list(rt: HostRuntime) -> Result<(), Fail> {
+    agrees_with_a_list(&rt, rt.alloc())?;
+    Ok(())
+}

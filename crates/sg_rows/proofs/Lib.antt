@@ -1,0 +1,3 @@
+pub mod EndsBelow
+pub mod Numbers
+pub mod WayBack

@@ -1,0 +1,64 @@
+-- A deployment, and what holds of each one.
+use Rattle.std.specs.Prelude.{ℕ, ◌+◌, ◌<◌, ◌≤◌, ◌^◌, List, Option, length, option_map, ⊤}
+use Rattle.std.specs.List.{All}
+use Rattle.sg_base.specs.declared.ids.ActorId.{ActorId}
+use Rattle.sg_base.specs.Limits.{Extent, IsActorIn, IsAmount}
+use Rattle.sg_rows.specs.Index.{mutex_number, replay_number, semaphore_number}
+use Rattle.sg_rows.specs.Platform.{Platform}
+use Rattle.sg_rows.specs.declared.rows.ActorRow.{ActorRow}
+use Rattle.sg_rows.specs.declared.rows.Function.{Function}
+use Rattle.sg_rows.specs.declared.rows.Function.TheVariants.{Replay, Worker, Master, Churn}
+use Rattle.sg_rows.specs.declared.rows.MutexRow.{MutexRow}
+use Rattle.sg_rows.specs.declared.rows.SemaphoreRow.{SemaphoreRow}
+
+pub record Deployed : Type 0 where
+  pub actors : List ActorRow
+  pub mutexes : List MutexRow
+  pub semaphores : List SemaphoreRow
+
+-- that of these rows
+abbrev pub deployment_of_rows : List ActorRow → List MutexRow → List SemaphoreRow → Deployed
+deployment_of_rows actors mutexes semaphores = record { actors = actors; mutexes = mutexes; semaphores = semaphores }
+
+-- how many actors, mutexes and semaphores there are
+abbrev pub extent_of : Deployed → Extent
+extent_of deployed = record { actors = length deployed.actors; mutexes = length deployed.mutexes; semaphores = length deployed.semaphores }
+
+abbrev pub IsActorRow : ActorRow → Type 0
+IsActorRow actor = length actor.name ≤ 64
+
+-- the amounts of a function keep to their limits, and the actors that it names exist; a master has a worker
+abbrev pub IsFunction : Extent → Function → Type 0
+IsFunction extent Replay = ⊤
+IsFunction extent Worker = ⊤
+IsFunction extent (Master tasks flops bytes workers) =
+    (tasks ≤ 1000000000) × IsAmount flops × IsAmount bytes × (0 < length workers) × (length workers < 2 ^ 63) × All (IsActorIn extent) workers
+IsFunction extent (Churn seed next prev steps) = (steps ≤ 1000000) × IsActorIn extent next × IsActorIn extent prev
+
+pub record IsSemaphoreRow (semaphore : SemaphoreRow) : Type 0 where
+  pub id : length semaphore.id ≤ 64
+  pub capacity : semaphore.capacity ≤ 1000000000
+
+pub record IsDeployment (deployed : Deployed) : Type 0 where
+  pub few_actors : length deployed.actors ≤ 65536
+  pub few_mutexes : length deployed.mutexes ≤ 65536
+  pub few_semaphores : length deployed.semaphores ≤ 65536
+  pub actors : All IsActorRow deployed.actors
+  pub functions : All (λ actor. IsFunction (extent_of deployed) actor.function) deployed.actors
+  pub mutexes : All (λ mutex. length mutex.id ≤ 64) deployed.mutexes
+  pub semaphores : All IsSemaphoreRow deployed.semaphores
+
+-- each actor is on a host of the platform
+abbrev pub IsDeployedOn : Platform → Deployed → Type 0
+IsDeployedOn platform deployed = All (λ actor. actor.host.0 < length platform.hosts) deployed.actors
+
+-- the actor of a name, if it replays; the first actor of the deployment has the identifier 1
+abbrev pub replay_actor_named : Deployed → List ℕ → Option ActorId
+replay_actor_named deployed name = option_map (λ row. record { 0 = row + 1 }) (replay_number deployed.actors name)
+
+-- the number of the mutex of a name, and of the semaphore of a name, from 0 on
+abbrev pub mutex_named : Deployed → List ℕ → Option ℕ
+mutex_named deployed name = mutex_number deployed.mutexes name
+
+abbrev pub semaphore_named : Deployed → List ℕ → Option ℕ
+semaphore_named deployed name = semaphore_number deployed.semaphores name

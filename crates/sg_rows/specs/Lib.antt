@@ -1,0 +1,6 @@
+pub mod Ends
+pub mod Platform
+pub mod Index
+pub mod Deployment
+pub mod OfRows
+pub mod kept

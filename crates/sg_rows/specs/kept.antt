@@ -1,0 +1,2 @@
+-- How rows are kept.
+pub mod Finds

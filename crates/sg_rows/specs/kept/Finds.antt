@@ -1,0 +1,23 @@
+-- The maps by which rows are found by their names.
+use Rattle.std.specs.Prelude.{◌≡◌, ℕ, Bool, List}
+use Rattle.std.specs.HashMap.{HashMap, get_by}
+use Rattle.std.specs.Str.{bytes_eq}
+use Rattle.std.specs.Global.{Vec}
+use Rattle.sg_rows.specs.Deployment.{Deployed, IsDeployment}
+use Rattle.sg_rows.specs.Index.{mutex_number, replay_number, semaphore_number}
+use Rattle.sg_tree.specs.Names.{Finds}
+
+-- the key is these bytes
+abbrev pub by_bytes : List ℕ → Vec ℕ → Bool
+by_bytes bytes key = bytes_eq bytes key.items
+
+-- the map finds the same
+abbrev pub FindsAs : {S : Type 0} → HashMap (Vec ℕ) ℕ S → Finds → Type 0
+FindsAs map finds = (q : List ℕ) → get_by (by_bytes q) map ≡ finds q
+
+-- the rows are a deployment, and these maps find its actors that replay, its mutexes and its semaphores
+pub record IsIndexed {S : Type 0} (actors_by mutexes_by semaphores_by : HashMap (Vec ℕ) ℕ S) (rows : Deployed) : Type 0 where
+  pub replay : FindsAs actors_by (replay_number rows.actors)
+  pub mutexes : FindsAs mutexes_by (mutex_number rows.mutexes)
+  pub semaphores : FindsAs semaphores_by (semaphore_number rows.semaphores)
+  pub kept : IsDeployment rows

@@ -1,0 +1,118 @@
+//! Deployments.
+ghost use Rattle.std.specs.Prelude.{◌≡◌, IfOk};
+ghost use Rattle.sg_rows.specs.Deployment.{IsDeployment, deployment_of_rows, mutex_named, replay_actor_named, semaphore_named};
+
+use crate::index::{mutexes_by_name, replay_by_name, semaphores_by_name};
+use crate::rows::{ActorRow, MutexRow, SemaphoreRow};
+use indexmap::IndexMap;
+use sg_base::{ActorId, Memory};
+use std::alloc::Global;
+use std::marker::Model;
+
+/// A deployment, which contracts see as its rows.
+#[derive(Drop)]
+pub struct Deployment {
+    actors: Vec<ActorRow>,
+    mutexes: Vec<MutexRow>,
+    semaphores: Vec<SemaphoreRow>,
+    replay: IndexMap<Vec<u8>, usize>,
+    named_mutexes: IndexMap<Vec<u8>, usize>,
+    named_semaphores: IndexMap<Vec<u8>, usize>,
+}
+
+impl Model for Deployment {
+    ghost use Rattle.sg_rows.specs.Deployment.{Deployed, deployment_of_rows};
+    ghost use Rattle.sg_rows.specs.kept.Finds.{IsIndexed};
+
+    ghost Value = { Deployed };
+
+    ghost view = { λ d. deployment_of_rows d.actors.items d.mutexes.items d.semaphores.items };
+
+    ghost invariant = { λ d. IsIndexed d.replay d.named_mutexes d.named_semaphores
+        (deployment_of_rows d.actors.items d.mutexes.items d.semaphores.items) };
+}
+
+impl Deployment {
+    /// The deployment with these rows.
+    ///
+    /// # Errors
+    ///
+    /// Want of memory: then the rows are gone.
+    pub fn with_rows(
+        alloc: Global,
+        actors: Vec<ActorRow>,
+        mutexes: Vec<MutexRow>,
+        semaphores: Vec<SemaphoreRow>,
+    ) -> Result<Deployment, Memory>
+        requires { IsDeployment
+            (deployment_of_rows actors.items mutexes.items semaphores.items) }
+        ensures { IfOk result
+            (λ d. d ≡ deployment_of_rows actors.items mutexes.items semaphores.items) }
+    {
+        let replay = replay_by_name(alloc, actors.as_slice())?;
+        let named_mutexes = mutexes_by_name(alloc, mutexes.as_slice())?;
+        let named_semaphores = semaphores_by_name(alloc, semaphores.as_slice())?;
+        Ok(Deployment {
+            actors,
+            mutexes,
+            semaphores,
+            replay,
+            named_mutexes,
+            named_semaphores,
+        })
+    }
+
+    /// The actors, in declared order. The first has the identifier 1.
+    pub fn actors(&self) -> &[ActorRow]
+        ensures rows { result.now ≡ self.now.actors }
+        ensures kept { IsDeployment self.now }
+    {
+        self.actors.as_slice()
+    }
+
+    /// The mutexes, in declared order from 0 on.
+    pub fn mutexes(&self) -> &[MutexRow]
+        ensures rows { result.now ≡ self.now.mutexes }
+        ensures kept { IsDeployment self.now }
+    {
+        self.mutexes.as_slice()
+    }
+
+    /// The semaphores, in declared order from 0 on.
+    pub fn semaphores(&self) -> &[SemaphoreRow]
+        ensures rows { result.now ≡ self.now.semaphores }
+        ensures kept { IsDeployment self.now }
+    {
+        self.semaphores.as_slice()
+    }
+
+    /// The number of the mutex of this name, from 0 on.
+    pub fn mutex_named(&self, name: &[u8]) -> Option<u32>
+        ensures { result ≡ mutex_named self.now name.now }
+    {
+        match self.named_mutexes.get(name) {
+            Some(row) => Some(*row as u32),
+            None => None,
+        }
+    }
+
+    /// The number of the semaphore of this name, from 0 on.
+    pub fn semaphore_named(&self, name: &[u8]) -> Option<u32>
+        ensures { result ≡ semaphore_named self.now name.now }
+    {
+        match self.named_semaphores.get(name) {
+            Some(row) => Some(*row as u32),
+            None => None,
+        }
+    }
+
+    /// The actor of this name, if it replays.
+    pub fn replay_actor(&self, name: &[u8]) -> Option<ActorId>
+        ensures { result ≡ replay_actor_named self.now name.now }
+    {
+        match self.replay.get(name) {
+            Some(row) => Some(ActorId(*row as u32 + 1)),
+            None => None,
+        }
+    }
+}

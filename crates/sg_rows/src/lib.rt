@@ -1,0 +1,18 @@
+//! Platforms and deployments as rows with resolved names: what they promise, their links' ends, and rows by name.
+#![tactic(auto)]
+
+mod deployment;
+mod ends;
+mod index;
+mod of_rows;
+mod platform;
+mod rows;
+
+pub use deployment::Deployment;
+pub use ends::{LinkEnd, link_ends, way_back};
+pub use index::hosts_by_name;
+pub use platform::PlatformText;
+pub use rows::{
+    ActorRow, Function, HostRow, LinkRow, MutexRow, PlatformRows, Policy, RouteRow, RouterRow,
+    Routing, SemaphoreRow, SpokeRow, ZoneRouteRow, ZoneRow,
+};

@@ -1,0 +1,90 @@
+//! Platforms.
+ghost use Rattle.std.specs.Prelude.{◌≡◌};
+ghost use Rattle.sg_rows.specs.Platform.{IsPlatform, rows_view};
+
+use crate::rows::{
+    HostRow, LinkRow, PlatformRows, RouteRow, RouterRow, SpokeRow, ZoneRouteRow, ZoneRow,
+};
+use std::marker::Model;
+
+/// A platform, which contracts see as its rows.
+#[derive(Drop)]
+pub struct PlatformText {
+    rows: PlatformRows,
+}
+
+impl Model for PlatformText {
+    ghost use Rattle.sg_rows.specs.Platform.{IsPlatform, Platform, rows_view};
+
+    ghost Value = { Platform };
+
+    ghost view = { λ p. rows_view p.rows };
+
+    ghost invariant = { λ p. IsPlatform (rows_view p.rows) };
+}
+
+impl PlatformText {
+    /// The platform with these rows.
+    pub fn with_rows(rows: PlatformRows) -> PlatformText
+        requires { IsPlatform (rows_view rows) }
+        ensures { result ≡ rows_view rows }
+    {
+        PlatformText { rows }
+    }
+
+    /// The zones, in declared order.
+    pub fn zones(&self) -> &[ZoneRow]
+        ensures rows { result.now ≡ self.now.zones }
+        ensures kept { IsPlatform self.now }
+    {
+        self.rows.zones.as_slice()
+    }
+
+    /// The hosts, in declared order.
+    pub fn hosts(&self) -> &[HostRow]
+        ensures rows { result.now ≡ self.now.hosts }
+        ensures kept { IsPlatform self.now }
+    {
+        self.rows.hosts.as_slice()
+    }
+
+    /// The routers, in declared order. They are points after the hosts.
+    pub fn routers(&self) -> &[RouterRow]
+        ensures rows { result.now ≡ self.now.routers }
+        ensures kept { IsPlatform self.now }
+    {
+        self.rows.routers.as_slice()
+    }
+
+    /// The links, in declared order.
+    pub fn links(&self) -> &[LinkRow]
+        ensures rows { result.now ≡ self.now.links }
+        ensures kept { IsPlatform self.now }
+    {
+        self.rows.links.as_slice()
+    }
+
+    /// The routes between points.
+    pub fn routes(&self) -> &[RouteRow]
+        ensures rows { result.now ≡ self.now.routes }
+        ensures kept { IsPlatform self.now }
+    {
+        self.rows.routes.as_slice()
+    }
+
+    /// The routes between children of a zone, of which at least one is a zone.
+    pub fn zone_routes(&self) -> &[ZoneRouteRow]
+        ensures rows { result.now ≡ self.now.zone_routes }
+        ensures kept { IsPlatform self.now }
+    {
+        self.rows.zone_routes.as_slice()
+    }
+
+    /// The spokes of Star zones.
+    pub fn spokes(&self) -> &[SpokeRow]
+        ensures rows { result.now ≡ self.now.spokes }
+        ensures kept { IsPlatform self.now }
+    {
+        self.rows.spokes.as_slice()
+    }
+}

@@ -1,0 +1,153 @@
+//! The rows of platforms and deployments, with resolved names.
+use sg_base::{ActorId, Child, Ids, Links, PointId, Text, ZoneId};
+
+/// How a zone finds the routes between its children.
+#[derive(Clone, Copy, Debug, PartialEq, Eq)]
+pub enum Routing {
+    /// Each pair has a route of its own.
+    Full,
+    /// Each child has a route to and from the centre.
+    Star,
+}
+
+/// A zone.
+#[derive(Debug, Drop)]
+pub struct ZoneRow {
+    pub id: Text,
+    /// `None` for the root.
+    pub parent: Option<ZoneId>,
+    pub routing: Routing,
+}
+
+/// A host.
+#[derive(Debug, Drop)]
+pub struct HostRow {
+    pub id: Text,
+    pub zone: ZoneId,
+    /// What one execution gets at most, in flops per second.
+    pub speed: u64,
+    pub cores: u32,
+}
+
+/// A router: a point that no actor is on.
+#[derive(Debug, Drop)]
+pub struct RouterRow {
+    pub id: Text,
+    pub zone: ZoneId,
+}
+
+/// How flows share a link.
+#[derive(Clone, Copy, Debug, PartialEq, Eq)]
+pub enum Policy {
+    /// All flows together get at most the bandwidth.
+    Shared,
+    /// Each flow gets at most the bandwidth.
+    Fatpipe,
+    /// Two shared links, `id_UP` and `id_DOWN`.
+    SplitDuplex,
+}
+
+/// A link, or the two of a SPLITDUPLEX row.
+#[derive(Debug, Drop)]
+pub struct LinkRow {
+    pub id: Text,
+    /// In bytes per second.
+    pub bandwidth: u64,
+    /// In nanoseconds.
+    pub latency: u64,
+    pub policy: Policy,
+}
+
+/// A route between two points.
+#[derive(Debug, Drop)]
+pub struct RouteRow {
+    pub src: PointId,
+    pub dst: PointId,
+    pub links: Links,
+    /// Whether it also serves the way back.
+    pub symmetrical: bool,
+}
+
+/// A route between two children of a zone, at least one of them a zone.
+#[derive(Debug, Drop)]
+pub struct ZoneRouteRow {
+    pub src: Child,
+    pub dst: Child,
+    /// Where the route begins: a point of `src`, or `src` itself.
+    pub gw_src: PointId,
+    /// Where it ends: a point of `dst`, or `dst` itself.
+    pub gw_dst: PointId,
+    pub links: Links,
+    /// Whether it also serves the way back.
+    pub symmetrical: bool,
+}
+
+/// What joins a child of a Star zone to its centre.
+#[derive(Debug, Drop)]
+pub struct SpokeRow {
+    pub zone: ZoneId,
+    pub child: Child,
+    /// Where the spoke begins: a point of the child, or the child itself.
+    pub gateway: PointId,
+    pub up: Links,
+    pub down: Links,
+}
+
+/// The rows of a platform's tables, in declared order.
+#[derive(Drop)]
+pub struct PlatformRows {
+    pub zones: Vec<ZoneRow>,
+    pub hosts: Vec<HostRow>,
+    /// Routers are points after the hosts.
+    pub routers: Vec<RouterRow>,
+    pub links: Vec<LinkRow>,
+    pub routes: Vec<RouteRow>,
+    pub zone_routes: Vec<ZoneRouteRow>,
+    pub spokes: Vec<SpokeRow>,
+}
+
+/// What an actor does.
+#[derive(Debug, Drop)]
+pub enum Function {
+    /// It does what the script says.
+    Replay,
+    /// It does the tasks that a master sends it.
+    Worker,
+    /// It hands so many tasks out, of so many flops and bytes each, to its workers in turn.
+    Master {
+        tasks: u64,
+        flops: u64,
+        bytes: u64,
+        workers: Ids,
+    },
+    /// It computes and passes messages on round a ring, by numbers that it draws: no text can name it.
+    Churn {
+        /// The state with which its generator begins.
+        seed: u64,
+        next: ActorId,
+        prev: ActorId,
+        steps: u32,
+    },
+}
+
+/// An actor.
+#[derive(Debug, Drop)]
+pub struct ActorRow {
+    pub name: Text,
+    pub host: PointId,
+    pub function: Function,
+}
+
+/// A mutex.
+#[derive(Debug, Drop)]
+pub struct MutexRow {
+    pub id: Text,
+}
+
+/// A semaphore.
+#[derive(Debug, Drop)]
+pub struct SemaphoreRow {
+    pub id: Text,
+    /// How many may acquire it at once.
+    pub capacity: u64,
+}

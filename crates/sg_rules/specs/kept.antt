@@ -1,0 +1,2 @@
+-- How the code keeps the names of a tree.
+pub mod NamesView

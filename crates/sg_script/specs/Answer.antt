@@ -1,0 +1,80 @@
+-- The answer to an actor's j-th Ask, by the whole script.
+use Rattle.std.specs.Prelude.{ℕ, Bool, true, false, ◌+◌, ◌==◌, ◌||◌, ◌&&◌, List, [], ◌∷◌, length, slice_get, Option, None, Some, Result, Ok, Err, if◌then◌else◌, nat_lt}
+use Rattle.std.specs.List.{slice_split}
+use Rattle.sg_edge.specs.Sources.{Source}
+use Rattle.sg_base.specs.declared.call.Action.{Action}
+use Rattle.sg_script.specs.declared.line.Entry.{Entry}
+use Rattle.sg_script.specs.declared.fault.LineFault.TheVariants.{TooManyLines}
+use Rattle.sg_script.specs.Known.{Known}
+use Rattle.sg_script.specs.Line.{Judgement, line_of}
+use Rattle.sg_script.specs.declared.fault.ScriptFault.{ScriptFault}
+use Rattle.sg_script.specs.declared.fault.ScriptFault.TheVariants.{Line, Read}
+
+abbrev pub is_newline : ℕ → Bool
+is_newline b = b == 10
+
+-- whether what stands behind the last newline is a line, where so many lines stand before it: at
+-- the end of the input where it isn't empty; before a failed read only where it is bad however it
+-- might have gone on.
+abbrev pub is_last_line : Bool → ℕ → List ℕ → Bool
+is_last_line false before rest = nat_lt 0 (length rest)
+is_last_line true before rest =
+    nat_lt 4096 (length rest) || (nat_lt 0 (length rest) && (before == 100000000))
+
+-- the lines among parts that newlines separate
+abbrev pub lines_among : Bool → ℕ → List (List ℕ) → List (List ℕ)
+lines_among broken before [] = []
+lines_among broken before (rest ∷ []) = if is_last_line broken before rest then rest ∷ [] else []
+lines_among broken before (line ∷ part ∷ parts) =
+    line ∷ lines_among broken (before + 1) (part ∷ parts)
+
+-- the judgement of the line of that number
+abbrev pub judgement_of : Known → ℕ → List ℕ → Judgement
+judgement_of known number line =
+    if nat_lt 100000000 number then Err TooManyLines else line_of known line
+
+abbrev pub line_judgements : Known → ℕ → List (List ℕ) → List Judgement
+line_judgements known before [] = []
+line_judgements known before (line ∷ more) =
+    judgement_of known (before + 1) line ∷ line_judgements known (before + 1) more
+
+-- the judgements of a source's lines, where so many lines stand before these bytes
+abbrev pub judgements : Known → ℕ → List ℕ → Bool → List Judgement
+judgements known before bytes broken =
+    line_judgements known before (lines_among broken before (slice_split is_newline bytes))
+
+abbrev pub its_action : ℕ → Entry → List Action → List Action
+its_action actor entry more = if entry.actor.0 == actor then entry.action ∷ more else more
+
+-- the actions of an actor's good lines before the first bad line
+abbrev pub actions_of : ℕ → List Judgement → List Action
+actions_of actor [] = []
+actions_of actor (Ok None ∷ more) = actions_of actor more
+actions_of actor (Ok (Some entry) ∷ more) = its_action actor entry (actions_of actor more)
+actions_of actor (Err kind ∷ more) = []
+
+-- the fault of the first bad line
+abbrev pub first_bad : ℕ → List Judgement → Option ScriptFault
+first_bad before [] = None
+first_bad before (Ok said ∷ more) = first_bad (before + 1) more
+first_bad before (Err kind ∷ more) = Some (Line (before + 1) kind)
+
+-- no bad line: the read fault, or no more
+abbrev pub at_end : Bool → Result (Option Action) ScriptFault
+at_end true = Err Read
+at_end false = Ok None
+
+abbrev pub without_line : Bool → Option ScriptFault → Result (Option Action) ScriptFault
+without_line broken (Some fault) = Err fault
+without_line broken None = at_end broken
+
+abbrev pub answer_by : Bool → Option ScriptFault → Option Action →
+    Result (Option Action) ScriptFault
+answer_by broken bad (Some action) = Ok (Some action)
+answer_by broken bad None = without_line broken bad
+
+-- the answer to the Ask that so many Asks of the actor came before
+abbrev pub answer_of : Known → Source → ℕ → ℕ → Result (Option Action) ScriptFault
+answer_of known source actor earlier =
+    let all = judgements known 0 source.bytes source.broken in
+    answer_by source.broken (first_bad 0 all) (slice_get (actions_of actor all) earlier)

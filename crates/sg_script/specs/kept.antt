@@ -1,0 +1,5 @@
+-- How a script keeps what was read, and the steps by which an Ask is answered.
+pub mod Front
+pub mod Queues
+pub mod Spending
+pub mod Steps

@@ -1,0 +1,46 @@
+-- What stands at the front of bytes that were read, whatever is still to come.
+use Rattle.std.specs.Prelude.{◌≡◌, ◌≢◌, Option, Some, Ok, ◌≤◌, ◌<◌, ℕ, Bool, true, false, ◌+◌, ◌++◌, List, [], ◌∷◌, length, take, drop, None, IsOk, ⊤}
+use Rattle.std.specs.List.{position}
+use Rattle.sg_edge.specs.declared.files.Stage.{Stage}
+use Rattle.sg_edge.specs.declared.files.Stage.TheVariants.{Begun, Over, Broken as IsBroken}
+use Rattle.sg_script.specs.declared.line.Entry.{Entry}
+use Rattle.sg_script.specs.Known.{Known}
+use Rattle.sg_script.specs.Needed.{need_from}
+use Rattle.sg_script.specs.Rest.{May}
+use Rattle.sg_script.specs.Answer.{is_newline, is_last_line, judgement_of, judgements}
+use Rattle.sg_script.specs.Line.{Judgement}
+use Rattle.sg_script.specs.declared.front.Front.{Front}
+use Rattle.sg_script.specs.declared.front.Front.TheVariants.{Line, Unread, End, Broken}
+
+-- an entry isn't this actor's
+abbrev pub IsNoOwn : ℕ → Option Entry → Type 0
+IsNoOwn actor None = ⊤
+IsNoOwn actor (Some entry) = entry.actor.0 ≢ actor
+
+-- the first line is judged as these bytes of it are; where it is good or passed over, the others
+-- are those behind it
+pub record Leads (known : Known) (before : ℕ) (bytes : List ℕ) (len end : ℕ) (rest : List ℕ)
+    (broken : Bool) : Type 0 where
+  pub others : List Judgement
+  pub all : judgements known before (bytes ++ rest) broken
+      ≡ judgement_of known (before + 1) (take len bytes) ∷ others
+  pub behind : IsOk (judgement_of known (before + 1) (take len bytes)) →
+      others ≡ judgements known (before + 1) (drop end bytes ++ rest) broken
+  pub needs : (actor earlier : ℕ) (said : Option Entry) →
+      judgement_of known (before + 1) (take len bytes) ≡ Ok said → IsNoOwn actor said →
+      need_from known broken actor before (bytes ++ rest) earlier
+      ≡ end + need_from known broken actor (before + 1) (drop end bytes ++ rest) earlier
+
+-- no line is whole, and none is bad however it goes on
+pub record IsOpen (before : ℕ) (bytes : List ℕ) : Type 0 where
+  pub unended : position is_newline bytes ≡ None
+  pub short : length bytes ≤ 4096
+  pub not_bad : is_last_line true before bytes ≡ false
+
+abbrev pub FrontIs : Stage → ℕ → List ℕ → Front → Type 0
+FrontIs stage before bytes (Line len end) = (len ≤ end) × (end ≤ length bytes) × (0 < end)
+    × ((known : Known) (rest : List ℕ) (broken : Bool) → May stage rest broken →
+    Leads known before bytes len end rest broken)
+FrontIs stage before bytes Unread = (stage ≡ Begun) × IsOpen before bytes
+FrontIs stage before bytes End = (stage ≡ Over) × (bytes ≡ [])
+FrontIs stage before bytes Broken = (stage ≡ IsBroken) × IsOpen before bytes

@@ -1,0 +1,122 @@
+-- The steps by which an Ask is answered: taking a line, and reading a piece.
+use Rattle.std.specs.Prelude.{◌≡◌, ℕ, Bool, ◌+◌, ◌-◌, ◌++◌, List, [], length, Option, Result, ◌≢◌, ◌<◌, suc, Ok, Err, ◌≤◌, ◌*◌, ◌∷◌, slice_set, None, Some, drop, ⊤}
+use Rattle.sg_edge.specs.Files.{PartView}
+use Rattle.sg_edge.specs.declared.files.Stage.{Stage}
+use Rattle.sg_base.specs.declared.call.Action.{Action}
+use Rattle.sg_script.specs.Known.{Known}
+use Rattle.sg_script.specs.declared.fault.ScriptFault.{ScriptFault}
+use Rattle.sg_script.specs.Rest.{May}
+use Rattle.sg_script.specs.kept.Queues.{queue_at}
+use Rattle.sg_edge.specs.declared.files.Stage.TheVariants.{Fresh, Broken, Begun, Over}
+use Rattle.sg_script.specs.declared.fault.ScriptFault.TheVariants.{Line, Read, Memory}
+use Rattle.sg_script.specs.declared.line.Entry.{Entry}
+use Rattle.sg_script.specs.Line.{Judgement}
+use Rattle.sg_script.specs.Stands.{Kept, answer_from, Reads, IsRead}
+
+-- reading this piece, and moving lines into queues, changed no answer
+abbrev pub Moves : Known → Stage → List ℕ → Kept → Kept → Type 0
+Moves known stage piece old new = (rest : List ℕ) (broken : Bool) → May stage rest broken →
+    (actor later : ℕ) →
+    answer_from known old (piece ++ rest) broken actor later
+    ≡ answer_from known new rest broken actor later
+
+-- after this piece was read an Ask of an actor has this answer; the later Asks have their
+-- answers by what is kept then
+pub record Tells (known : Known) (actor : ℕ) (answer : Result (Option Action) ScriptFault)
+    (stage : Stage) (piece : List ℕ) (old new : Kept) : Type 0 where
+  pub now : (rest : List ℕ) (broken : Bool) → May stage rest broken →
+      answer_from known old (piece ++ rest) broken actor 0 ≡ answer
+  pub later : (rest : List ℕ) (broken : Bool) → May stage rest broken → (later : ℕ) →
+      answer_from known old (piece ++ rest) broken actor (suc later)
+      ≡ answer_from known new rest broken actor later
+  pub others : (rest : List ℕ) (broken : Bool) → May stage rest broken → (other later : ℕ) →
+      other ≢ actor → answer_from known old (piece ++ rest) broken other later
+      ≡ answer_from known new rest broken other later
+
+-- the script goes on as it was, but for what was read
+pub record Goes (known : Known) (old_part new_part : PartView) (old new : Kept) : Type 0 where
+  pub piece : List ℕ
+  pub reads : Reads piece old_part new_part
+  pub moves : Moves known new_part.stage piece old new
+  pub queues : length new.queues ≡ length old.queues
+
+-- a piece was read, and the Ask has this answer
+pub record Answers (known : Known) (actor : ℕ) (answer : Result (Option Action) ScriptFault)
+    (old_part new_part : PartView) (old new : Kept) : Type 0 where
+  pub piece : List ℕ
+  pub reads : Reads piece old_part new_part
+  pub tells : Tells known actor answer new_part.stage piece old new
+  pub queues : length new.queues ≡ length old.queues
+
+-- without memory no Ask was answered and no byte is lost
+abbrev pub Ends : Known → ℕ → Result (Option Action) ScriptFault → PartView → PartView → Kept → Kept
+    → Type 0
+Ends known actor (Ok answer) = Answers known actor (Ok answer)
+Ends known actor (Err (Line n kind)) = Answers known actor (Err (Line n kind))
+Ends known actor (Err Read) = Answers known actor (Err Read)
+Ends known actor (Err Memory) = Goes known
+
+-- whether a read may still come
+abbrev pub once : Stage → ℕ
+once Fresh = 1
+once Begun = 1
+once Over = 0
+once Broken = 0
+
+-- what is still to do, which falls with each step: lines that may still come, then bytes that
+-- may still be pending
+abbrev pub to_do : Stage → Kept → ℕ
+to_do stage kept = (100000000 - kept.lines) * 20000 + (8192 - length kept.pending) + once stage
+
+-- what a step did: without an answer it went on, and less is to do
+abbrev pub StepIs : Known → ℕ → Option (Result (Option Action) ScriptFault) → PartView → PartView →
+    Kept → Kept → Type 0
+StepIs known actor None old_part new_part old new = Goes known old_part new_part old new
+    × (queue_at new.queues actor ≡ []) × (to_do new_part.stage new < to_do old_part.stage old)
+StepIs known actor (Some answer) old_part new_part old new =
+    Ends known actor answer old_part new_part old new × IsRead answer new_part
+
+-- the queues with what a line said
+abbrev pub queues_with : Option Entry → List (List Action) → List (List Action)
+queues_with None queues = queues
+queues_with (Some entry) queues =
+    slice_set queues entry.actor.0 (queue_at queues entry.actor.0 ++ entry.action ∷ [])
+
+-- an entry is another actor's, which has a queue
+abbrev pub IsOther : ℕ → ℕ → Option Entry → Type 0
+IsOther actors actor None = ⊤
+IsOther actors actor (Some entry) = (entry.actor.0 ≢ actor) × (entry.actor.0 < actors)
+
+-- the line's bytes are gone
+pub record Passes (queues : List (List Action)) (end : ℕ) (old new : Kept) : Type 0 where
+  pub queued : new.queues ≡ queues
+  pub lines : new.lines ≡ old.lines + 1
+  pub pending : new.pending ≡ drop end old.pending
+
+-- an action of the actor with that identifier
+abbrev pub its_entry : ℕ → Action → Entry
+its_entry actor action = record { actor = record { 0 = actor }; action = action }
+
+-- what taking a line of that judgement did: without an answer it went to another actor's queue,
+-- or was passed over
+abbrev pub LineIs : Judgement → ℕ → ℕ → Option (Result (Option Action) ScriptFault) → Kept → Kept →
+    Type 0
+LineIs said actor end (Some (Ok (Some action))) old new =
+    (said ≡ Ok (Some (its_entry actor action))) × Passes old.queues end old new
+LineIs said actor end (Some (Ok None)) old new = ⊥
+LineIs said actor end None old new = (other : Option Entry) × (said ≡ Ok other)
+    × IsOther (length old.queues) actor other × Passes (queues_with other old.queues) end old new
+LineIs said actor end (Some (Err (Line n kind))) old new = (said ≡ Err kind) × (n ≡ old.lines + 1)
+    × (new ≡ old)
+LineIs said actor end (Some (Err Read)) old new = ⊥
+LineIs said actor end (Some (Err Memory)) old new = new ≡ old
+
+-- what reading one piece did
+pub record ReadIs (old_part new_part : PartView) (old new : Kept) : Type 0 where
+  pub piece : List ℕ
+  pub reads : Reads piece old_part new_part
+  pub queues : new.queues ≡ old.queues
+  pub lines : new.lines ≡ old.lines
+  pub pending : new.pending ≡ old.pending ++ piece
+  pub short : length piece ≤ 4096
+  pub less : to_do new_part.stage new < to_do old_part.stage old

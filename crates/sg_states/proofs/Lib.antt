@@ -1,0 +1,5 @@
+pub mod Counts
+pub mod Joins
+pub mod Queues
+pub mod MadeRecords
+pub mod Keeping

@@ -1,0 +1,43 @@
+-- What contracts see of `States`, and how it changes.
+use Rattle.std.specs.Prelude.{◌≡◌, ℕ, ◌-◌, ◌<◌, Bool, false, List, [], ◌∷◌, ◌++◌}
+use Rattle.sg_base.specs.declared.call.Answer.{Answer}
+use Rattle.sg_base.specs.declared.call.Call.{Call}
+use Rattle.sg_base.specs.declared.trace_record.Record.{Record}
+use Rattle.sg_base.specs.Limits.{Extent, IsAnswer}
+use Rattle.sg_states.specs.declared.state.State.{State}
+use Rattle.sg_states.specs.declared.state.State.TheVariants.{Ready, Blocked, Ended}
+use Rattle.sg_states.specs.Actors.{put_state, MayCall}
+use Rattle.sg_states.specs.Records.{record_of, IsTellable}
+
+-- what calls may name; what each actor does; the records that aren't cleared; room for so many calls; and whether a pass goes on
+pub record ActorStates : Type 0 where
+  pub extent : Extent
+  pub actors : List State
+  pub records : List Record
+  pub room : ℕ
+  pub passing : Bool
+
+-- a call of the actor can be answered: it may make one, there is room for it, and no pass goes on
+pub record CanCall (states : ActorStates) (actor : ℕ) : Type 0 where
+  pub caller : MayCall states.actors actor
+  pub room : 0 < states.room
+  pub round : states.passing ≡ false
+
+-- the actor does that from now on
+abbrev pub with_state : ℕ → State → ActorStates → ActorStates
+with_state actor state states = record states { actors = put_state states.actors actor state }
+
+-- the same by a call, which takes its room
+abbrev pub by_call : ℕ → State → ActorStates → ActorStates
+by_call actor state states = record (with_state actor state states) { room = states.room - 1 }
+
+-- The call that it made at that date is answered now, with a record.
+abbrev pub with_reply : ℕ → Call → ℕ → ℕ → Answer → ℕ → ActorStates → ActorStates
+with_reply actor what since bytes answer date states =
+    record (with_state actor (Ready answer) states) { records = states.records ++ record_of actor what since bytes answer date ∷ [] }
+
+-- what the state of an actor says keeps to the limits
+abbrev pub KeepsLimits : Extent → State → Type 0
+KeepsLimits extent (Ready answer) = IsAnswer extent answer
+KeepsLimits extent (Blocked what since on) = IsTellable extent what
+KeepsLimits extent Ended = Unit {0}

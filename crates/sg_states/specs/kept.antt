@@ -1,0 +1,3 @@
+-- How states are kept.
+pub mod Places
+pub mod Fields

@@ -1,0 +1,2 @@
+-- How a line is kept.
+pub mod Room

@@ -1,0 +1,3 @@
+-- How the readers keep a number that they have read.
+pub mod Scaled
+pub mod Shown

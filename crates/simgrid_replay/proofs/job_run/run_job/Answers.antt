@@ -1,0 +1,38 @@
+use Rattle.std.proofs.Common.{◌∙◌, ap, subst, sym, Bool, IsTrue, Option, List, ℕ}
+use Rattle.std.specs.Prelude.{IsSome}
+use Rattle.sg_edge.specs.declared.files.Part.TheVariants.{Script}
+use Rattle.sg_words.specs.Views.{job_view}
+use Rattle.simgrid_replay.specs.PartSources.{request_of}
+use Rattle.simgrid_replay.specs.Outcome.{status_of}
+use Rattle.simgrid_replay.specs.kept.Setups.{setting_in}
+use Rattle.simgrid_replay.proofs.PartLemmas.{named_on}
+use Rattle.simgrid_replay.proofs.TopLemmas.{begun_gives, run_cause, run_counts_on, run_prints_on}
+use Rattle.simgrid_replay.proofs.job_run.run_job.Goals as goal
+
+pub returns-clause-output : goal.returns-clause-output
+returns-clause-output g c = λ s gives.
+    let run = c.run-ended.ensures.output s (λ scripted. begun_gives _ _ _ s c.begin_script.ensures.left (gives (subst (λ (b : Bool). IsTrue b) c.requires.setup.script scripted))) in
+    record {
+      prints = run_prints_on (job_view c.args.job.now) (setting_in c.args.setup.now) c.args.setup.now.script c.terms_for-terms.result.budget c.terms_for-terms.result.show s
+          c.run-ended.result c.status.result _ _ c.requires.setup.script c.terms_for-terms.ensures.budget c.terms_for-terms.ensures.show c.status.ensures.is run.ends;
+      counts = run_counts_on (job_view c.args.job.now) (setting_in c.args.setup.now) c.args.setup.now.script c.terms_for-terms.result.budget c.terms_for-terms.result.show s
+          _ _ c.requires.setup.script c.terms_for-terms.ensures.budget c.terms_for-terms.ensures.show run.work;
+    }
+
+pub returns-clause-crew : goal.returns-clause-crew
+returns-clause-crew g c = λ ends. c.run-ended.ensures.crew (λ is. ends (c.status.ensures.is ∙ ap status_of is))
+
+pub returns-clause-cause : goal.returns-clause-cause
+returns-clause-cause g c =
+    run_cause c.run-ended.result c.status.result _ (g.F.Files.shows c.args.files.now Script) (g.F.Files.shows c.begin_script.new.files Script) (g.F.Files.shows c.run-ended.new.files Script)
+    c.status.ensures.is c.begin_script.ensures.faults c.begin_script.ensures.cause c.run-ended.ensures.cause
+
+pub returns-clause-script : goal.returns-clause-script
+returns-clause-script g c =
+    let script = c.run-ended.ensures.script in
+    record {
+      others = λ q away. script.others q away ∙ c.begin_script.ensures.others q away;
+      unscripted = λ none. script.unscripted (c.requires.setup.script ∙ none) ∙ c.begin_script.ensures.unscripted none;
+      named = named_on (request_of c.args.job.now) Script (g.F.Files.shows c.begin_script.new.files Script) (g.F.Files.shows c.run-ended.new.files Script) script.name c.begin_script.ensures.named;
+      telling = λ told. script.telling (subst (λ (left : Option (List ℕ)). IsSome left) (sym c.begin_script.ensures.left) told);
+    }

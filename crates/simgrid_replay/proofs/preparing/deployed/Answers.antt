@@ -1,7 +1,0 @@
-use Rattle.simgrid_replay.proofs.PartLemmas.{settled_on}
-use Rattle.simgrid_replay.proofs.preparing.deployed.Goals as goal
-
-pub returns-in_ok-deployment-in-Ok-clause-given : goal.returns-in_ok-deployment-in-Ok-clause-given
-returns-in_ok-deployment-in-Ok-clause-given g c = λ d gives.
-    settled_on c.args.platform c.platform-2.result.now c.args.texts.now.script c.args.contexts d c.in-Ok.deployment c.in_ok-deployment-in-Ok.deployment c.with.result
-    c.platform-2.ensures (c.in-Ok.ensures.given d gives (λ e. cc)) c.in_ok-deployment-in-Ok.ensures.given c.with.ensures.platform c.with.ensures.deployment

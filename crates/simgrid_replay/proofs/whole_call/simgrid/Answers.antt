@@ -1,0 +1,133 @@
+use Rattle.std.proofs.Common.{◌≡◌, inr, sym, subst, refl, length, drop, map, false, arith}
+use Rattle.std.specs.Prelude.{IsErr, string_bytes}
+use Rattle.sg_words.specs.CommandLine.{Asked, asked_of, refusals}
+use Rattle.sg_words.specs.Views.{job_view}
+use Rattle.simgrid_replay.specs.PartSources.{IsNamedBy, PartsGive, TextsGive}
+use Rattle.simgrid_replay.specs.Outcome.{HasOutcome, outcome, contexts_for}
+use Rattle.simgrid_replay.specs.Settings.{setting}
+use Rattle.simgrid_replay.specs.Requests.{has_parts, has_script}
+use Rattle.simgrid_replay.proofs.PartLemmas.{nameless_by, takes_none}
+use Rattle.simgrid_replay.proofs.TopLemmas.{completed_of, prints_nothing, whole_of}
+use Rattle.simgrid_replay.proofs.WordLemmas.{fault_is, job_is}
+use Rattle.simgrid_replay.proofs.whole_call.simgrid.Goals as goal
+
+pub returns-in-Ok-clause-output : goal.returns-in-Ok-clause-output
+returns-in-Ok-clause-output g c = λ job asks p d s gives.
+    let same : job_view c.in-Ok.job ≡ job = job_is _ _ c.read_words.result c.in-Ok.job job c.read_words.ensures c.in-Ok.is asks.job in
+    subst (λ (j : Asked). PartsGive j.request (g.F.Files.shows c.args.files.now) (g.F.Files.shows c.do_job.new.files) p d s →
+    HasOutcome (outcome j (length c.args.crew.now.items) p d s) c.do_job.result (g.O.Sinks.contents c.args.out.now) (g.O.Sinks.contents c.do_job.new.out) c.args.steps.now c.do_job.new.steps) same
+    (c.do_job.ensures.output p d s) gives
+
+pub returns-in-Ok-clause-crew : goal.returns-in-Ok-clause-crew
+returns-in-Ok-clause-crew g c = λ job asks p d texts ends.
+    let same : job_view c.in-Ok.job ≡ job = job_is _ _ c.read_words.result c.in-Ok.job job c.read_words.ensures c.in-Ok.is asks.job in
+    subst (λ (j : Asked). TextsGive j.request (g.F.Files.shows c.args.files.now) (g.F.Files.shows c.do_job.new.files) p d → c.do_job.new.crew.items ≡ drop (contexts_for j (length c.args.crew.now.items) p d) c.args.crew.now.items) same
+    (λ given. c.do_job.ensures.crew.first p d given ends) texts
+
+pub returns-in-Ok-clause-refused_first : goal.returns-in-Ok-clause-refused_first
+returns-in-Ok-clause-refused_first g c = λ job asks p d texts refused.
+    let same : job_view c.in-Ok.job ≡ job = job_is _ _ c.read_words.result c.in-Ok.job job c.read_words.ensures c.in-Ok.is asks.job in
+    c.do_job.ensures.parts.order.refused_first p d
+    (subst (λ (j : Asked). TextsGive j.request (g.F.Files.shows c.args.files.now) (g.F.Files.shows c.do_job.new.files) p d) (sym same) texts)
+    (subst (λ (j : Asked). IsErr (setting j.request (length c.args.crew.now.items) p d)) (sym same) refused)
+
+pub returns-in-Err-clause-output : goal.returns-in-Err-clause-output
+returns-in-Err-clause-output g c = λ job asks p d s gives.
+    let silent = c.tell_words.ensures.silent (asked_of (map string_bytes c.args.words.now)) (fault_is _ _ (asked_of (map string_bytes c.args.words.now)) c.read_words.result c.in-Err.fault c.read_words.ensures c.in-Err.is asks.accepted) in
+    record {
+      prints = prints_nothing (outcome job (length c.args.crew.now.items) p d s) c.tell_words.result _ _ silent.1;
+      counts = omega (arith);
+    }
+
+pub returns-in-Ok-clause-complete : goal.returns-in-Ok-clause-complete
+returns-in-Ok-clause-complete g c = λ job asks p d s gives sound some.
+    whole_of (outcome job (length c.args.crew.now.items) p d s) c.do_job.result (g.O.Sinks.faults c.do_job.new.out) _ (g.O.Sinks.contents c.args.out.now) (g.O.Sinks.contents c.do_job.new.out)
+    (returns-in-Ok-clause-output g c job asks p d s gives).prints c.do_job.ensures.cause sound some
+
+pub returns-in-Ok-clause-completed : goal.returns-in-Ok-clause-completed
+returns-in-Ok-clause-completed g c = λ job asks p d s gives sound done.
+    completed_of (outcome job (length c.args.crew.now.items) p d s) c.do_job.result (g.O.Sinks.faults c.do_job.new.out) _ (g.O.Sinks.contents c.args.out.now) (g.O.Sinks.contents c.do_job.new.out)
+    (returns-in-Ok-clause-output g c job asks p d s gives).prints c.do_job.ensures.cause sound done
+
+pub returns-in-Err-clause-complete : goal.returns-in-Err-clause-complete
+returns-in-Err-clause-complete g c = λ job asks p d s gives sound some.
+    absurd (some (c.tell_words.ensures.silent (asked_of (map string_bytes c.args.words.now)) (fault_is _ _ (asked_of (map string_bytes c.args.words.now)) c.read_words.result c.in-Err.fault c.read_words.ensures c.in-Err.is asks.accepted)).0)
+
+pub returns-in-Err-clause-completed : goal.returns-in-Err-clause-completed
+returns-in-Err-clause-completed g c = λ job asks p d s gives sound done.
+    inr (c.tell_words.ensures.silent (asked_of (map string_bytes c.args.words.now)) (fault_is _ _ (asked_of (map string_bytes c.args.words.now)) c.read_words.result c.in-Err.fault c.read_words.ensures c.in-Err.is asks.accepted)).0
+
+pub returns-in-Err-clause-crew : goal.returns-in-Err-clause-crew
+returns-in-Err-clause-crew g c = λ job asks p d texts ends.
+    absurd (ends (c.tell_words.ensures.silent (asked_of (map string_bytes c.args.words.now)) (fault_is _ _ (asked_of (map string_bytes c.args.words.now)) c.read_words.result c.in-Err.fault c.read_words.ensures c.in-Err.is asks.accepted)).0)
+
+pub returns-in-Err-clause-refused : goal.returns-in-Err-clause-refused
+returns-in-Err-clause-refused g c = λ some.
+    c.tell_words.ensures.tells (refusals (map string_bytes c.args.words.now)) (asked_of (map string_bytes c.args.words.now)) (fault_is _ _ (asked_of (map string_bytes c.args.words.now)) c.read_words.result c.in-Err.fault c.read_words.ensures c.in-Err.is refl) some
+
+pub returns-in-Err-clause-words : goal.returns-in-Err-clause-words
+returns-in-Err-clause-words g c = λ told none.
+    let silent = c.tell_words.ensures.silent (asked_of (map string_bytes c.args.words.now)) (fault_is _ _ (asked_of (map string_bytes c.args.words.now)) c.read_words.result c.in-Err.fault c.read_words.ensures c.in-Err.is none) in
+    cc (silent.0, told)
+
+pub returns-in-Ok-clause-unscripted : goal.returns-in-Ok-clause-unscripted
+returns-in-Ok-clause-unscripted g c = λ job asks none.
+    let same : job_view c.in-Ok.job ≡ job = job_is _ _ c.read_words.result c.in-Ok.job job c.read_words.ensures c.in-Ok.is asks.job in
+    c.do_job.ensures.parts.order.unscripted (subst (λ (j : Asked). has_script j.request ≡ false) (sym same) none)
+
+pub returns-in-Ok-clause-unread : goal.returns-in-Ok-clause-unread
+returns-in-Ok-clause-unread g c = λ job asks none.
+    let same : job_view c.in-Ok.job ≡ job = job_is _ _ c.read_words.result c.in-Ok.job job c.read_words.ensures c.in-Ok.is asks.job in
+    c.do_job.ensures.parts.unread (subst (λ (j : Asked). has_parts j.request ≡ false) (sym same) none)
+
+pub returns-in-Ok-clause-platform_first : goal.returns-in-Ok-clause-platform_first
+returns-in-Ok-clause-platform_first g c = c.do_job.ensures.parts.order.platform_first
+
+pub returns-in-Ok-clause-deployment_first : goal.returns-in-Ok-clause-deployment_first
+returns-in-Ok-clause-deployment_first g c = c.do_job.ensures.parts.order.deployment_first
+
+pub returns-in-Ok-clause-platform_refused : goal.returns-in-Ok-clause-platform_refused
+returns-in-Ok-clause-platform_refused g c = c.do_job.ensures.parts.order.platform_refused
+
+pub returns-in-Err-clause-cause : goal.returns-in-Err-clause-cause
+returns-in-Err-clause-cause g c = record {
+  write = c.tell_words.ensures.cause.write;
+  sound = c.tell_words.ensures.cause.sound;
+  read = λ told. absurd (c.tell_words.ensures.cause.read told);
+}
+
+pub returns-in-Ok-clause-job : goal.returns-in-Ok-clause-job
+returns-in-Ok-clause-job g c = λ none.
+    let asked = c.accepted_words_have_a_job.ensures (map string_bytes c.args.words.now) none in
+    (asked.0, record { accepted = none; job = asked.1 })
+
+pub returns-in-Err-clause-job : goal.returns-in-Err-clause-job
+returns-in-Err-clause-job g c = λ none.
+    let asked = c.accepted_words_have_a_job.ensures (map string_bytes c.args.words.now) none in
+    (asked.0, record { accepted = none; job = asked.1 })
+
+pub returns-in-Ok-clause-named : goal.returns-in-Ok-clause-named
+returns-in-Ok-clause-named g c = λ job asks part.
+    let same : job_view c.in-Ok.job ≡ job = job_is _ _ c.read_words.result c.in-Ok.job job c.read_words.ensures c.in-Ok.is asks.job in
+    subst (λ (j : Asked). IsNamedBy j.request part (g.F.Files.shows c.do_job.new.files part)) same (c.do_job.ensures.parts.named part)
+
+pub returns-in-Err-clause-named : goal.returns-in-Err-clause-named
+returns-in-Err-clause-named g c = λ job asks part. nameless_by job.request part (g.F.Files.shows c.args.files.now part) (g.met.F.Files.unnamed c.args.files.now part (c.requires.fresh part))
+
+pub returns-in-Err-clause-bounded : goal.returns-in-Err-clause-bounded
+returns-in-Err-clause-bounded g c = record { platform = takes_none _ _ _ refl; deployment = takes_none _ _ _ refl }
+
+pub returns-in-Ok-clause-bounded : goal.returns-in-Ok-clause-bounded
+returns-in-Ok-clause-bounded g c = c.do_job.ensures.parts.bounded
+
+pub returns-in-Ok-clause-telling : goal.returns-in-Ok-clause-telling
+returns-in-Ok-clause-telling g c = c.do_job.ensures.parts.telling
+
+pub returns-in-Ok-clause-unseated : goal.returns-in-Ok-clause-unseated
+returns-in-Ok-clause-unseated g c = c.do_job.ensures.crew.refused
+
+pub returns-in-Ok-clause-broken_text : goal.returns-in-Ok-clause-broken_text
+returns-in-Ok-clause-broken_text g c = c.do_job.ensures.crew.broken
+
+pub returns-in-Err-clause-rest : goal.returns-in-Err-clause-rest
+returns-in-Err-clause-rest g c = record { platform = λ is. absurd (c.tell_words.ensures.platform is); deployment = λ is. absurd (c.tell_words.ensures.deployment is) }

@@ -1,0 +1,48 @@
+-- What the words ask for, and what the parts gave.
+use Rattle.std.specs.Prelude.{◌≡◌, ℕ, List, [], Option, Some, None, IsTrue, IfSome}
+use Rattle.clap.specs.Words.{Text}
+use Rattle.sg_edge.specs.Files.{PartView, IsNamed}
+use Rattle.sg_edge.specs.Sources.{Source, Gives}
+use Rattle.sg_edge.specs.declared.files.Part.{Part}
+use Rattle.sg_edge.specs.declared.files.Part.TheVariants as part
+use Rattle.sg_words.specs.CommandLine.{Asked, Request, replay, run, churn, asked_of, refusals}
+use Rattle.sg_words.specs.Views.{command_view}
+use Rattle.sg_words.specs.declared.job.Job.{Job}
+use Rattle.simgrid_replay.specs.Requests.{has_parts, has_script}
+
+-- the words are accepted, and ask for this job
+pub record AskFor (words : List Text) (asked : Asked) : Type 0 where
+  pub accepted : refusals words ≡ []
+  pub job : asked_of words ≡ Some asked
+
+-- what a job requests
+abbrev pub request_of : Job → Request
+request_of job = command_view job.command
+
+-- this is what the platform and the deployment gave, where the request has them
+pub record TextsGive (request : Request) (old new : Part → PartView) (p d : Source) : Type 0 where
+  pub platform : IsTrue (has_parts request) → Gives (old part.Platform) (new part.Platform) p
+  pub deployment : IsTrue (has_parts request) → Gives (old part.Deployment) (new part.Deployment) d
+
+-- this is what the script gave, where the request has one
+abbrev pub ScriptGives : Request → (Part → PartView) → (Part → PartView) → Source → Type 0
+ScriptGives request old new s = IsTrue (has_script request) → Gives (old part.Script) (new part.Script) s
+
+-- this is what the three parts gave, as far as the request has them
+pub record PartsGive (request : Request) (old new : Part → PartView) (p d s : Source) : Type 0 where
+  pub texts : TextsGive request old new p d
+  pub script : ScriptGives request old new s
+
+-- the name that the words have for a part, where they have one
+abbrev pub name_of : Request → Part → Option (List ℕ)
+name_of (replay p d s) part.Platform = Some p
+name_of (replay p d s) part.Deployment = Some d
+name_of (replay p d s) part.Script = Some s
+name_of (run p d) part.Platform = Some p
+name_of (run p d) part.Deployment = Some d
+name_of (run p d) part.Script = None
+name_of (churn seed actors steps) part = None
+
+-- where the part tells the name under which it was begun, it is the one that the words have for it
+abbrev pub IsNamedBy : Request → Part → PartView → Type 0
+IsNamedBy request part view = IfSome (name_of request part) (λ name. IsNamed name view)

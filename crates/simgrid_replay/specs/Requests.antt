@@ -1,0 +1,23 @@
+-- What a request has, and what is shown of its run.
+use Rattle.std.specs.Prelude.{Bool, true, false, if◌then◌else◌}
+use Rattle.sg_engine.specs.declared.show.Show.{Show}
+use Rattle.sg_engine.specs.declared.show.Show.TheVariants as show
+use Rattle.sg_words.specs.CommandLine.{Request, replay, churn}
+
+abbrev pub show_if : Bool → Show
+show_if quiet = if quiet then show.Quiet else show.All
+
+-- a churn is made from its numbers, and any other run is read from a platform and a deployment
+abbrev pub has_parts : Request → Bool
+has_parts (churn seed actors steps) = false
+has_parts other = true
+
+-- a replay has a script
+abbrev pub has_script : Request → Bool
+has_script (replay platform deployment script) = true
+has_script other = false
+
+-- of a churn a summary is shown
+abbrev pub show_of : Request → Bool → Show
+show_of (churn seed actors steps) quiet = show.Summary
+show_of other quiet = show_if quiet

@@ -1,0 +1,95 @@
+-- What the platform and the deployment are, by what their parts gave.
+use Rattle.std.specs.Prelude.{◌+◌, ℕ, Bool, length, Option, None, Some, Result, Ok, Err, if◌then◌else◌, true, false, nat_lt, position}
+use Rattle.sg_churn.specs.Generated.{platform_of_seed, deployed_of_seed}
+use Rattle.sg_edge.specs.Sources.{Source}
+use Rattle.sg_engine.specs.Output.{contexts_of}
+use Rattle.sg_kernel.specs.Start.{replays}
+use Rattle.sg_rows.specs.Deployment.{Deployed}
+use Rattle.sg_platform.specs.DeploymentOf.{deployment_of}
+use Rattle.sg_rows.specs.Platform.{Platform}
+use Rattle.sg_platform.specs.PlatformOf.{platform_of, greatest_text}
+use Rattle.sg_platform.specs.declared.deployment.DeploymentFault.{DeploymentFault}
+use Rattle.sg_platform.specs.declared.platform.PlatformFault.{PlatformFault}
+use Rattle.sg_words.specs.CommandLine as line
+use Rattle.sg_words.specs.CommandLine.{Request}
+use Rattle.sg_zones.specs.Faults.{zones_of}
+use Rattle.sg_zones.specs.Tree.{Tree}
+use Rattle.sg_zones.specs.declared.fault.ZoneFault.{ZoneFault}
+use Rattle.simgrid_replay.specs.declared.refusal.Refusal.{Refusal}
+use Rattle.simgrid_replay.specs.declared.refusal.Refusal.TheVariants as refusal
+
+-- a platform stands where its zones have no fault
+abbrev pub or_zone_fault : Platform → Result Tree ZoneFault → Result Platform Refusal
+or_zone_fault platform (Ok tree) = Ok platform
+or_zone_fault platform (Err fault) = Err (refusal.Zones fault)
+
+-- the faults of the zones are told after those of the text
+abbrev pub or_platform_fault : Result Platform PlatformFault → Result Platform Refusal
+or_platform_fault (Ok platform) = or_zone_fault platform (zones_of platform)
+or_platform_fault (Err fault) = Err (refusal.Platform fault)
+
+abbrev pub or_deployment_fault : Result Deployed DeploymentFault → Result Deployed Refusal
+or_deployment_fault (Ok deployed) = Ok deployed
+or_deployment_fault (Err fault) = Err (refusal.Deployment fault)
+
+-- a text over the limit is refused whatever stands behind it, else a failed read is told, else what the text says
+abbrev pub platform_given : Source → Result Platform Refusal
+platform_given source =
+    if nat_lt greatest_text (length source.bytes) then or_platform_fault (platform_of source.bytes)
+    else if source.broken then Err refusal.ReadPlatform
+    else or_platform_fault (platform_of source.bytes)
+
+abbrev pub deployment_given : Platform → Source → Result Deployed Refusal
+deployment_given platform source =
+    if nat_lt greatest_text (length source.bytes) then or_deployment_fault (deployment_of source.bytes platform)
+    else if source.broken then Err refusal.ReadDeployment
+    else or_deployment_fault (deployment_of source.bytes platform)
+
+-- ---- what is run
+-- a platform, and what is deployed on it
+pub record Setting : Type 0 where
+  pub platform : Platform
+  pub deployment : Deployed
+
+abbrev pub or_replay : Option ℕ → Result Deployed Refusal → Result Deployed Refusal
+or_replay None next = next
+or_replay (Some place) next = Err (refusal.ReplayUnderRun (place + 1))
+
+abbrev pub or_few_contexts : ℕ → Deployed → Result Deployed Refusal
+or_few_contexts contexts deployed =
+    if nat_lt contexts (length deployed.actors) then Err (refusal.TooFewContexts (length deployed.actors) contexts) else Ok deployed
+
+-- without a script no actor may replay, and there must be a context for each actor
+abbrev pub fitting : Bool → ℕ → Deployed → Result Deployed Refusal
+fitting script contexts deployed = or_replay (if script then None else position replays deployed.actors) (or_few_contexts contexts deployed)
+
+abbrev pub if_fitting : Bool → ℕ → Result Deployed Refusal → Result Deployed Refusal
+if_fitting script contexts (Ok deployed) = fitting script contexts deployed
+if_fitting script contexts (Err why) = Err why
+
+abbrev pub on_platform : Platform → Result Deployed Refusal → Result Setting Refusal
+on_platform platform (Ok deployed) = Ok (record { platform = platform; deployment = deployed })
+on_platform platform (Err why) = Err why
+
+abbrev pub setting_on : Bool → ℕ → Source → Result Platform Refusal → Result Setting Refusal
+setting_on script contexts deployment (Ok platform) = on_platform platform (if_fitting script contexts (deployment_given platform deployment))
+setting_on script contexts deployment (Err why) = Err why
+
+-- what is run, with a script or without, by what the platform and the deployment gave; the first refusal is told
+abbrev pub setting_given : Bool → ℕ → Source → Source → Result Setting Refusal
+setting_given script contexts platform deployment = setting_on script contexts deployment (platform_given platform)
+
+-- what a churn runs
+abbrev pub churn_setting : ℕ → ℕ → ℕ → ℕ → Result Setting Refusal
+churn_setting contexts seed actors steps = on_platform (platform_of_seed seed actors) (or_few_contexts contexts (deployed_of_seed seed actors steps))
+
+-- what is run for a request
+abbrev pub setting : Request → ℕ → Source → Source → Result Setting Refusal
+setting (line.replay p d s) contexts platform deployment = setting_given true contexts platform deployment
+setting (line.run p d) contexts platform deployment = setting_given false contexts platform deployment
+setting (line.churn seed actors steps) contexts platform deployment = churn_setting contexts seed actors steps
+
+-- how many contexts the run takes, none where there is no run
+abbrev pub contexts_in : Result Setting Refusal → ℕ
+contexts_in (Ok given) = contexts_of given.deployment
+contexts_in (Err why) = 0

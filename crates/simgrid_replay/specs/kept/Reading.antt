@@ -1,0 +1,85 @@
+-- What the steps of a call do to the parts and the contexts, in the order in which they are judged.
+use Rattle.std.specs.Prelude.{◌≡◌, ◌≢◌, ◌<◌, ℕ, Bool, false, List, length, drop, ⊤, Result, IsErr, IsOk, IfErr, IsTrue}
+use Rattle.sg_base.specs.declared.status.Status.{Status}
+use Rattle.sg_base.specs.declared.status.Status.TheVariants as status
+use Rattle.sg_edge.specs.Files.{PartView, KeepsTelling, Only, SameFrom, SomeBroke}
+use Rattle.sg_edge.specs.Sources.{Source, Gives}
+use Rattle.sg_edge.specs.declared.files.Part.{Part}
+use Rattle.sg_edge.specs.declared.files.Part.TheVariants as part
+use Rattle.sg_edge.specs.declared.files.Stage.TheVariants.{Broken}
+use Rattle.sg_words.specs.CommandLine.{Asked, Request}
+use Rattle.simgrid_replay.specs.PartOrder.{AreBounded, IsTextBroken}
+use Rattle.simgrid_replay.specs.PartSources.{IsNamedBy, TextsGive}
+use Rattle.simgrid_replay.specs.Outcome.{is_refusal, contexts_for}
+use Rattle.simgrid_replay.specs.Settings.{platform_given, setting}
+use Rattle.simgrid_replay.specs.Requests.{has_parts, has_script}
+use Rattle.simgrid_replay.specs.declared.refusal.Refusal.{Refusal}
+use Rattle.simgrid_replay.specs.declared.refusal.Refusal.TheVariants as refusal
+use Rattle.sg_engine.specs.declared.setup.Setup.{Setup}
+
+-- this part is broken, and its count rose
+abbrev pub Broke : Part → (Part → PartView) → (Part → PartView) → Type 0
+Broke part old new = ((new part).stage ≡ Broken) × ((old part).faults < (new part).faults)
+
+-- No part is begun behind one that can't be read or is refused, and no script where the request has none.
+pub record AreInOrder (request : Request) (contexts : ℕ) (old new : Part → PartView) : Type 0 where
+  pub platform_first : (new part.Platform).stage ≡ Broken → SameFrom part.Deployment old new
+  pub deployment_first : (new part.Deployment).stage ≡ Broken → SameFrom part.Script old new
+  pub platform_refused : (p : Source) → Gives (old part.Platform) (new part.Platform) p → IsErr (platform_given p) → SameFrom part.Deployment old new
+  pub refused_first : (p d : Source) → TextsGive request old new p d → IsErr (setting request contexts p d) → SameFrom part.Script old new
+  pub unscripted : has_script request ≡ false → SameFrom part.Script old new
+
+-- a refusal of the platform, or a failed read of it
+abbrev pub IsOfPlatform : Refusal → Type 0
+IsOfPlatform (refusal.Platform fault) = ⊤
+IsOfPlatform (refusal.Zones fault) = ⊤
+IsOfPlatform refusal.ReadPlatform = ⊤
+IsOfPlatform other = ⊥
+
+-- a failed read, told for its part
+abbrev pub IsReadFault : Refusal → Type 0
+IsReadFault refusal.ReadPlatform = ⊤
+IsReadFault refusal.ReadDeployment = ⊤
+IsReadFault other = ⊥
+
+-- neither of these: a refusal of the deployment, or want of memory
+abbrev pub IsOfDeployment : Refusal → Type 0
+IsOfDeployment why = (¬ IsOfPlatform why) × (¬ IsReadFault why)
+
+-- What is known of the parts, before the script is begun, whether they tell their bytes or not.
+pub record AreRead (result : Result Setup Refusal) (old new : Part → PartView) : Type 0 where
+  pub unbegun : new part.Script ≡ old part.Script
+  pub platform_first : (new part.Platform).stage ≡ Broken → new part.Deployment ≡ old part.Deployment
+  pub platform_refused : IfErr result (λ why. IsOfPlatform why → new part.Deployment ≡ old part.Deployment)
+  pub platform_whole : IsOk result → (new part.Platform).stage ≢ Broken
+  pub deployment_whole : IsOk result → (new part.Deployment).stage ≢ Broken
+  pub cause : IfErr result (λ why. IsReadFault why → SomeBroke old new)
+
+-- Where what the platform gave is refused, no deployment is begun behind it, and what is read from parts has no setup.
+pub record PlatformDecides (parts : Bool) (result : Result Setup Refusal) (old new : Part → PartView) : Type 0 where
+  pub refused : (p : Source) → Gives (old part.Platform) (new part.Platform) p → IsErr (platform_given p) → IsOk result → parts ≡ false
+  pub behind : (p : Source) → Gives (old part.Platform) (new part.Platform) p → IsErr (platform_given p) → new part.Deployment ≡ old part.Deployment
+
+-- What a call has done to the parts: each is begun under its name, one that tells its bytes still does, and nothing is
+-- read where the request has no parts.
+pub record TakesParts {F : Type 0} (shows : F → Part → PartView) (request : Request) (contexts : ℕ) (old new : F) : Type 0 where
+  pub named : (which : Part) → IsNamedBy request which (shows new which)
+  pub bounded : AreBounded (shows old) (shows new)
+  pub order : AreInOrder request contexts (shows old) (shows new)
+  pub telling : (which : Part) → KeepsTelling (shows old which) (shows new which)
+  pub unread : has_parts request ≡ false → new ≡ old
+
+-- Of all parts the script alone was begun and read, and without a script none; it was begun under its name, and where it
+-- tells its bytes it still does.
+pub record BeginsScript {F : Type 0} (shows : F → Part → PartView) (request : Request) (old new : F) : Type 0 where
+  pub others : Only part.Script (shows old) (shows new)
+  pub unscripted : has_script request ≡ false → new ≡ old
+  pub named : IsNamedBy request part.Script (shows new part.Script)
+  pub telling : KeepsTelling (shows old part.Script) (shows new part.Script)
+
+-- What a job's call has done to the contexts: its run has taken the first of them, and where it is refused, or a part
+-- that comes before the run is broken, nobody has.
+pub record TakesContexts {A : Type 0} (job : Asked) (how : Status) (old new : Part → PartView) (had has : List A) : Type 0 where
+  pub first : (p d : Source) → TextsGive job.request old new p d → how ≢ status.Memory → has ≡ drop (contexts_for job (length had) p d) had
+  pub refused : IsTrue (is_refusal how) → has ≡ had
+  pub broken : IsTextBroken new → has ≡ had

@@ -1,0 +1,19 @@
+-- The setup of a setting.
+use Rattle.std.specs.Prelude.{◌≡◌, ◌≢◌, ◌≤◌, ℕ, Bool, length, Result, Ok, Err}
+use Rattle.sg_engine.specs.declared.setup.Setup.{Setup}
+use Rattle.simgrid_replay.specs.Settings.{Setting}
+use Rattle.simgrid_replay.specs.declared.refusal.Refusal.{Refusal}
+use Rattle.simgrid_replay.specs.declared.refusal.Refusal.TheVariants as refusal
+
+abbrev pub setting_in : Setup → Setting
+setting_in setup = record { platform = setup.platform; deployment = setup.deployment }
+
+-- a setup of what is to be run, or the refusal of it, or memory was wanting
+abbrev pub IsSetupOf : Result Setting Refusal → Result Setup Refusal → Type 0
+IsSetupOf given (Ok setup) = given ≡ Ok (setting_in setup)
+IsSetupOf given (Err why) = why ≢ refusal.Memory → given ≡ Err why
+
+-- a setup with a script or without, whose actors have a context each
+pub record IsSetupFor (scripted : Bool) (contexts : ℕ) (setup : Setup) : Type 0 where
+  pub script : setup.script ≡ scripted
+  pub seated : length setup.deployment.actors ≤ contexts

@@ -1,0 +1,62 @@
+//! What a churn runs: it is made from three numbers.
+ghost use Rattle.std.specs.Prelude.{◌≡◌, ◌≤◌, false, IfOk, IfErr, length};
+ghost use Rattle.sg_churn.specs.Generated.{platform_of_seed};
+ghost use Rattle.sg_words.specs.Ranges.{AreChurnNumbers};
+ghost use Rattle.simgrid_replay.specs.kept.Reading.{IsOfDeployment};
+ghost use Rattle.simgrid_replay.specs.Settings.{churn_setting};
+ghost use Rattle.simgrid_replay.specs.kept.Setups.{IsSetupOf, IsSetupFor};
+
+use crate::fitting::with_contexts;
+use crate::refusal::Refusal;
+use crate::routed_platform::RoutedPlatform;
+use sg_base::Memory;
+use sg_churn::{churn_deployment, churn_has_no_zone_fault, churn_platform};
+use sg_engine::Setup;
+use sg_rows::PlatformText;
+use std::alloc::Global;
+
+// The platform of a churn with its routes. It has no zone fault.
+fn routed(
+    alloc: Global,
+    platform: PlatformText,
+    seed: u64,
+    actors: u32,
+) -> Result<RoutedPlatform, Memory>
+    requires { platform ≡ platform_of_seed seed actors }
+    ensures { IfOk result (λ r. r ≡ platform) }
+{
+    churn_has_no_zone_fault();
+    match RoutedPlatform::new(alloc, platform) {
+        Ok(platform) => Ok(platform),
+        Err(why) => match why {
+            Refusal::Memory => Err(Memory),
+            _ => unreachable!(),
+        },
+    }
+}
+
+/// What a churn of so many actors and so many steps of each runs, where there is a context for each actor.
+pub fn churn_setup(
+    alloc: Global,
+    seed: u64,
+    actors: u32,
+    steps: u32,
+    contexts: usize,
+) -> Result<Setup, Refusal>
+    requires { AreChurnNumbers seed actors steps }
+    ensures given { IsSetupOf (churn_setting contexts seed actors steps) result }
+    ensures fits { IfOk result (IsSetupFor false contexts) }
+    ensures refusal { IfErr result IsOfDeployment }
+{
+    let Ok(platform) = churn_platform(alloc, seed, actors) else {
+        return Err(Refusal::Memory);
+    };
+    let Ok(deployment) = churn_deployment(alloc, seed, actors, steps, &platform) else {
+        return Err(Refusal::Memory);
+    };
+    let deployment = with_contexts(deployment, contexts)?;
+    match routed(alloc, platform, seed, actors) {
+        Ok(platform) => Ok(platform.with(deployment, false)),
+        Err(Memory) => Err(Refusal::Memory),
+    }
+}

@@ -1,0 +1,50 @@
+//! Whether a deployment suits a run.
+ghost use Rattle.std.specs.Prelude.{◌≡◌, ◌≤◌, length, position, IfOk, IfErr};
+ghost use Rattle.sg_kernel.specs.Start.{is_replay as is_replay_spec, replays};
+ghost use Rattle.simgrid_replay.specs.kept.Reading.{IsOfDeployment};
+ghost use Rattle.simgrid_replay.specs.Settings.{fitting as fitting_spec, or_few_contexts};
+
+use crate::refusal::Refusal;
+use sg_rows::{ActorRow, Deployment, Function};
+
+fn is_replay(function: &Function) -> bool
+    ensures { result ≡ is_replay_spec function.now }
+{
+    matches!(function, Function::Replay)
+}
+
+// The place of the first actor that replays, from 0 on.
+fn first_replay(actors: &[ActorRow]) -> Option<usize>
+    ensures { result ≡ position replays actors.now }
+{
+    actors.iter().position(|actor| is_replay(&actor.function))
+}
+
+/// The deployment, where there is a context for each actor.
+pub fn with_contexts(deployment: Deployment, contexts: usize) -> Result<Deployment, Refusal>
+    ensures given { result ≡ or_few_contexts contexts deployment }
+    ensures same { IfOk result (λ d. (d ≡ deployment) × (length d.actors ≤ contexts)) }
+    ensures refusal { IfErr result IsOfDeployment }
+{
+    let actors = deployment.actors().len();
+    if contexts < actors {
+        Err(Refusal::TooFewContexts(actors, contexts))
+    } else {
+        Ok(deployment)
+    }
+}
+
+/// The deployment, where it suits a run with a script or without, and so many contexts.
+pub fn fitting(deployment: Deployment, script: bool, contexts: usize) -> Result<Deployment, Refusal>
+    ensures given { result ≡ fitting_spec script contexts deployment }
+    ensures same { IfOk result (λ d. (d ≡ deployment) × (length d.actors ≤ contexts)) }
+    ensures refusal { IfErr result IsOfDeployment }
+{
+    if script {
+        return with_contexts(deployment, contexts);
+    }
+    match first_replay(deployment.actors()) {
+        Some(place) => Err(Refusal::ReplayUnderRun(place as u32 + 1)),
+        None => with_contexts(deployment, contexts),
+    }
+}

@@ -1,0 +1,118 @@
+//! The run of a job whose platform and deployment are there.
+ghost use Rattle.std.specs.Prelude.{◌≡◌, ◌≢◌, ◌<◌, ◌≤◌, length, drop, All, None, false, IsTrue};
+ghost use Rattle.sg_edge.specs.declared.files.Stage.TheVariants.{Fresh, Broken};
+ghost use Rattle.sg_edge.specs.Files.{Only};
+ghost use Rattle.sg_edge.specs.Sources.{Source};
+ghost use Rattle.sg_engine.specs.Output.{contexts_of};
+ghost use Rattle.sg_words.specs.Views.{job_view};
+ghost use Rattle.sg_edge.specs.Cause.{HasCause};
+ghost use Rattle.simgrid_replay.specs.PartSources.{request_of, IsNamedBy, ScriptGives};
+ghost use Rattle.simgrid_replay.specs.kept.Reading.{BeginsScript, Broke};
+ghost use Rattle.simgrid_replay.specs.Outcome.{is_refusal, run_on, HasOutcome};
+ghost use Rattle.simgrid_replay.specs.kept.Setups.{setting_in, IsSetupFor};
+ghost use Rattle.simgrid_replay.specs.Requests.{has_script, show_if as show_if_spec, show_of};
+
+use crate::reports::status;
+use sg_actor::Actor;
+use sg_base::{Status, Steps};
+use sg_edge::{Files, Part, Sinks};
+use sg_engine::{Setup, Show, Terms, run};
+use sg_words::{Command, Job};
+use std::alloc::Global;
+use std::sync::ledger::Ledger;
+use std::thread::Threads;
+
+fn show_if(quiet: bool) -> Show
+    ensures { result ≡ show_if_spec quiet }
+{
+    if quiet { Show::Quiet } else { Show::All }
+}
+
+// What is shown of a job's run.
+fn show(job: &Job) -> Show
+    ensures { result ≡ show_of (request_of job.now) job.now.quiet }
+{
+    match job.command {
+        Command::Replay { .. } | Command::Run { .. } => show_if(job.quiet),
+        Command::Churn { .. } => Show::Summary,
+    }
+}
+
+// The terms of a job's run.
+fn terms_for(job: &Job) -> Terms
+    ensures threads { result.threads ≡ job.now.threads }
+    ensures budget { result.budget ≡ job.now.budget }
+    ensures show { result.show ≡ show_of (request_of job.now) job.now.quiet }
+{
+    Terms {
+        threads: job.threads,
+        budget: job.budget,
+        show: show(job),
+    }
+}
+
+// Begins the script of a replay. One that can't be begun is told by the Ask that needs it.
+fn begin_script<F: Files>(job: &Job, files: &mut F)
+    requires { (F.shows files.old Part.Script).stage ≡ Fresh }
+    ensures begun { IsTrue (has_script (request_of job.now))
+        → (F.shows files.new Part.Script).stage ≢ Fresh }
+    ensures left { (F.shows files.new Part.Script).left ≡ (F.shows files.old Part.Script).left }
+    ensures unscripted { has_script (request_of job.now) ≡ false → files.new ≡ files.old }
+    ensures faults { (F.shows files.old Part.Script).faults
+        ≤ (F.shows files.new Part.Script).faults }
+    ensures cause { (F.shows files.new Part.Script).stage ≡ Broken
+        → (F.shows files.old Part.Script).faults < (F.shows files.new Part.Script).faults }
+    ensures named { IsNamedBy (request_of job.now) Part.Script (F.shows files.new Part.Script) }
+    ensures others { Only Part.Script (F.shows files.old) (F.shows files.new) }
+{
+    match &job.command {
+        Command::Replay { script, .. } => {
+            let _ = files.begin(Part::Script, script.as_str());
+        }
+        Command::Run { .. } | Command::Churn { .. } => {}
+    }
+}
+
+/// Begins the script of a job, where it has one, and runs its setup.
+pub fn run_job<R: Threads + Sync, F: Files, O: Sinks, L: Ledger>(
+    rt: &R,
+    alloc: Global,
+    job: &Job,
+    setup: &Setup,
+    files: &mut F,
+    out: &mut O,
+    crew: &mut Vec<Box<dyn Actor + Send>>,
+    steps: &mut Steps<L>,
+) -> Status
+    requires setup { IsSetupFor (has_script (request_of job.now)) (length crew.old.items)
+        setup.now }
+    requires fresh { (F.shows files.old Part.Script).stage ≡ Fresh }
+    requires sound { O.faults out.old ≡ 0 }
+    requires blank { All (λ b. mind b ≡ None) crew.old.items }
+    ensures output { (s : Source)
+        → ScriptGives (request_of job.now) (F.shows files.old) (F.shows files.new) s
+        → HasOutcome (run_on (job_view job.now) s (setting_in setup.now)) result
+        (O.contents out.old) (O.contents out.new) steps.old steps.new }
+    ensures crew { result ≢ Status.Memory
+        → crew.new.items ≡ drop (contexts_of setup.now.deployment) crew.old.items }
+    ensures unrefused { is_refusal result ≡ false }
+    ensures cause { HasCause (result ≡ Status.WriteFault) (result ≡ Status.ReadFault)
+        (O.faults out.new) (Broke Part.Script (F.shows files.old) (F.shows files.new)) }
+    ensures script { BeginsScript F.shows (request_of job.now) files.old files.new }
+{
+    begin_script(job, files);
+    let terms = terms_for(job);
+    let ended = run(
+        rt,
+        alloc,
+        setup,
+        files,
+        crew,
+        terms.threads,
+        terms.budget,
+        terms.show,
+        out,
+        steps,
+    );
+    status(ended)
+}

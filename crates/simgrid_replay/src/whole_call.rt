@@ -1,0 +1,162 @@
+//! The whole program as one call.
+ghost use Rattle.std.specs.Prelude.{◌≡◌, ◌≢◌, ◌⊎◌, [], length, map, drop, All, None, false, IsTrue, IsErr, string_bytes};
+ghost use Rattle.sg_edge.specs.declared.files.Part.{Part};
+ghost use Rattle.sg_edge.specs.declared.files.Stage.TheVariants.{Fresh, Broken};
+ghost use Rattle.sg_edge.specs.Files.{KeepsTelling, SameFrom, SomeBroke};
+ghost use Rattle.sg_edge.specs.Sources.{Source, Gives};
+ghost use Rattle.sg_words.specs.CommandLine.{Asked, refusals};
+ghost use Rattle.sg_words.specs.Views.{job_view};
+ghost use Rattle.sg_edge.specs.Cause.{HasCause};
+ghost use Rattle.simgrid_replay.specs.PartSources.{request_of, AskFor, IsNamedBy, PartsGive, TextsGive};
+ghost use Rattle.simgrid_replay.specs.PartOrder.{AreBounded, IsTextBroken, SparesRest};
+ghost use Rattle.simgrid_replay.specs.kept.Reading.{TakesContexts, TakesParts};
+ghost use Rattle.simgrid_replay.specs.Outcome.{is_refusal, outcome, contexts_for, HasOutcome, IsWhole, TellsWords};
+ghost use Rattle.simgrid_replay.specs.Settings.{platform_given, setting};
+ghost use Rattle.simgrid_replay.specs.Requests.{has_parts, has_script};
+
+use crate::job_run::run_job;
+use crate::reports::{refuse, tell_words};
+use crate::setups::prepare;
+use sg_actor::Actor;
+use sg_base::{Status, Steps};
+use sg_edge::{Files, Part, Sinks};
+use sg_words::{Job, accepted_words_have_a_job, read_words};
+use std::alloc::Global;
+use std::sync::ledger::Ledger;
+use std::thread::Threads;
+
+// Does a job.
+fn do_job<R: Threads + Sync, F: Files, O: Sinks, L: Ledger>(
+    rt: &R,
+    alloc: Global,
+    job: &Job,
+    files: &mut F,
+    out: &mut O,
+    crew: &mut Vec<Box<dyn Actor + Send>>,
+    steps: &mut Steps<L>,
+) -> Status
+    requires fresh { (part : Part) → (F.shows files.old part).stage ≡ Fresh }
+    requires sound { O.faults out.old ≡ 0 }
+    requires blank { All (λ b. mind b ≡ None) crew.old.items }
+    ensures output { (p d s : Source)
+        → PartsGive (request_of job.now) (F.shows files.old) (F.shows files.new) p d s
+        → HasOutcome (outcome (job_view job.now) (length crew.old.items) p d s) result
+        (O.contents out.old) (O.contents out.new) steps.old steps.new }
+    ensures crew { TakesContexts (job_view job.now) result (F.shows files.old) (F.shows files.new)
+        crew.old.items crew.new.items }
+    ensures parts { TakesParts F.shows (request_of job.now) (length crew.old.items)
+        files.old files.new }
+    ensures rest { SparesRest result (F.shows files.old) (F.shows files.new) }
+    ensures words { result ≢ Status.Words }
+    ensures cause { HasCause (result ≡ Status.WriteFault) (result ≡ Status.ReadFault)
+        (O.faults out.new) (SomeBroke (F.shows files.old) (F.shows files.new)) }
+{
+    match prepare(alloc, files, job, crew.len()) {
+        Ok(setup) => run_job(rt, alloc, job, &setup, files, out, crew, steps),
+        Err(why) => refuse(alloc, why, out),
+    }
+}
+
+/// Does what the words ask for: the whole program.
+///
+/// `words` are the words of the command line, the program's name first. The platform, the deployment and the script
+/// are taken from `files` in this order, as far as the command has them, each only once the one before it was
+/// accepted; the script is read while the run goes on. The actors of the deployment take the first contexts of the
+/// `crew`, and take their turns on as many threads as the words say. Lines go to `out`, and `steps` counts the looks
+/// of the fillings, which are no more than the work of the run.
+pub fn simgrid<R: Threads + Sync, F: Files, O: Sinks, L: Ledger>(
+    rt: &R,
+    alloc: Global,
+    words: &[String],
+    files: &mut F,
+    out: &mut O,
+    crew: &mut Vec<Box<dyn Actor + Send>>,
+    steps: &mut Steps<L>,
+) -> Status
+    requires fresh { (part : Part) → (F.shows files.old part).stage ≡ Fresh }
+    requires sound { O.faults out.old ≡ 0 }
+    requires blank { All (λ b. mind b ≡ None) crew.old.items }
+
+    // Words that are accepted ask for a job.
+    ensures job { refusals (map string_bytes words.now) ≡ []
+        → (job : Asked) × AskFor (map string_bytes words.now) job }
+
+    // What was written, and the status, are those of the definition, for what the parts gave that
+    // were asked, and the count of looks went on by no more than the work.
+    ensures output { (job : Asked) → AskFor (map string_bytes words.now) job
+        → (p d s : Source) → PartsGive job.request (F.shows files.old) (F.shows files.new) p d s
+        → HasOutcome (outcome job (length crew.old.items) p d s) result
+        (O.contents out.old) (O.contents out.new) steps.old steps.new }
+
+    // Where no write failed and memory was there, all that the definition has was written, with its
+    // status; and a run that completes by the definition says so, or that memory was wanting.
+    ensures complete { (job : Asked) → AskFor (map string_bytes words.now) job
+        → (p d s : Source) → PartsGive job.request (F.shows files.old) (F.shows files.new) p d s
+        → O.faults out.new ≡ 0 → result ≢ Status.Memory
+        → IsWhole (outcome job (length crew.old.items) p d s) result
+        (O.contents out.old) (O.contents out.new) }
+    ensures completed { (job : Asked) → AskFor (map string_bytes words.now) job
+        → (p d s : Source) → PartsGive job.request (F.shows files.old) (F.shows files.new) p d s
+        → O.faults out.new ≡ 0
+        → (outcome job (length crew.old.items) p d s).status ≡ Status.Completed
+        → (result ≡ Status.Completed) ⊎ (result ≡ Status.Memory) }
+
+    // A part that told its bytes still does.
+    ensures telling { (q : Part) → KeepsTelling (F.shows files.old q) (F.shows files.new q) }
+
+    // Each part was begun under its name of the words, and of a platform or a deployment at most
+    // one byte more was taken than the greatest has.
+    ensures named { (job : Asked) → AskFor (map string_bytes words.now) job
+        → (part : Part) → IsNamedBy job.request part (F.shows files.new part) }
+    ensures bounded { AreBounded (F.shows files.old) (F.shows files.new) }
+
+    // The actors of a run have taken the first contexts, and where there was no run nobody has.
+    ensures crew { (job : Asked) → AskFor (map string_bytes words.now) job
+        → (p d : Source) → TextsGive job.request (F.shows files.old) (F.shows files.new) p d
+        → result ≢ Status.Memory
+        → crew.new.items ≡ drop (contexts_for job (length crew.old.items) p d) crew.old.items }
+
+    // Help, the version, and what is wrong with the words: no part is begun, and nobody takes a
+    // context.
+    ensures refused { refusals (map string_bytes words.now) ≢ []
+        → TellsWords (refusals (map string_bytes words.now))
+        result (O.contents out.old) (O.contents out.new) }
+    ensures untouched { refusals (map string_bytes words.now) ≢ [] → files.new ≡ files.old }
+    ensures spared { refusals (map string_bytes words.now) ≢ [] → crew.new.items ≡ crew.old.items }
+
+    // No part is begun behind one that is refused or can't be read, and none that the job doesn't
+    // have.
+    ensures platform_first { (F.shows files.new Part.Platform).stage ≡ Broken
+        → SameFrom Part.Deployment (F.shows files.old) (F.shows files.new) }
+    ensures deployment_first { (F.shows files.new Part.Deployment).stage ≡ Broken
+        → SameFrom Part.Script (F.shows files.old) (F.shows files.new) }
+    ensures platform_refused { (p : Source)
+        → Gives (F.shows files.old Part.Platform) (F.shows files.new Part.Platform) p
+        → IsErr (platform_given p)
+        → SameFrom Part.Deployment (F.shows files.old) (F.shows files.new) }
+    ensures refused_first { (job : Asked) → AskFor (map string_bytes words.now) job
+        → (p d : Source) → TextsGive job.request (F.shows files.old) (F.shows files.new) p d
+        → IsErr (setting job.request (length crew.old.items) p d)
+        → SameFrom Part.Script (F.shows files.old) (F.shows files.new) }
+    ensures unscripted { (job : Asked) → AskFor (map string_bytes words.now) job
+        → has_script job.request ≡ false
+        → SameFrom Part.Script (F.shows files.old) (F.shows files.new) }
+    ensures unread { (job : Asked) → AskFor (map string_bytes words.now) job
+        → has_parts job.request ≡ false → files.new ≡ files.old }
+
+    // The same of the status alone, also of parts that don't tell their bytes.
+    ensures words { result ≡ Status.Words → refusals (map string_bytes words.now) ≢ [] }
+    ensures rest { SparesRest result (F.shows files.old) (F.shows files.new) }
+    ensures unseated { IsTrue (is_refusal result) → crew.new.items ≡ crew.old.items }
+    ensures broken_text { IsTextBroken (F.shows files.new) → crew.new.items ≡ crew.old.items }
+
+    // The causes of a failed write and of a failed read.
+    ensures cause { HasCause (result ≡ Status.WriteFault) (result ≡ Status.ReadFault)
+        (O.faults out.new) (SomeBroke (F.shows files.old) (F.shows files.new)) }
+{
+    accepted_words_have_a_job();
+    match read_words(alloc, words) {
+        Ok(job) => do_job(rt, alloc, &job, files, out, crew, steps),
+        Err(fault) => tell_words(fault, out),
+    }
+}
