@@ -373,6 +373,17 @@ fn run_counted<R: Threads + Sync + Abort, F: Files, O: Sinks, L: Ledger>(
     )
 }
 
+/// A script part of this text that was begun.
+fn begun(alloc: Global, text: &[u8]) -> Result<MemFiles, Fail>
+    ensures { IfOk result (λ files. files.script.stage ≢ Fresh) }
+{
+    let mut files = MemFiles::new(alloc, None, None, Some(text), &[])?;
+    match files.begin(Part::Script, "s") {
+        Ok(()) => Ok(files),
+        Err(_) => Err(Fail::new("the script was not begun")),
+    }
+}
+
 /// How a run of these actors ends with this crew, and what it writes.
 fn ends_with<R: Threads + Sync + Abort>(
     rt: &R,
@@ -384,8 +395,7 @@ fn ends_with<R: Threads + Sync + Abort>(
 ) -> Result<(Ended, MemSinks), Fail> {
     let setup = setup(alloc, actors, script.is_some())?;
     let lines = script.unwrap_or("");
-    let mut files = MemFiles::new(alloc, None, None, Some(lines.as_bytes()), &[])?;
-    let _ = files.begin(Part::Script, "s");
+    let mut files = begun(alloc, lines.as_bytes())?;
     let mut out = MemSinks::new(alloc, 1000, 1000, &[], 7)?;
     let ended = run_counted::<R, MemFiles, MemSinks, Brand>(
         rt,
