@@ -26,7 +26,7 @@ fn host(x: u64, hosts: u64) -> PointId
 }
 
 /// How many of so many routes there are, and how many links they have in all.
-fn ask(router: &Router, hosts: u64, count: u64) -> (u64, u64)
+fn ask(router: &mut Router, hosts: u64, count: u64) -> (u64, u64)
     requires { 0 < hosts }
 {
     let mut links: ArrayVec<LinkId, 64> = ArrayVec::new();
@@ -56,14 +56,14 @@ fn main(rt: HostRuntime) -> anyhow::Result<()> {
     let text = fs::read_to_string(&rt, path.as_str())?;
     let platform = read_platform(alloc, text.as_bytes())?;
     let zones = Zones::build(alloc, &platform)?;
-    let Ok(router) = Router::build(alloc, &platform, &zones) else {
+    let Ok(mut router) = Router::build(alloc, &platform, &zones) else {
         bail!("out of memory");
     };
     let hosts = platform.hosts().len() as u64;
     if hosts == 0 {
         bail!("no host");
     }
-    let (routes, all) = ask(&router, hosts, count);
+    let (routes, all) = ask(&mut router, hosts, count);
     println!(rt; "{routes} routes, {all} links")?;
     Ok(())
 }

@@ -11,6 +11,8 @@ mod room;
 mod routes;
 #[cfg(test)]
 mod tests;
+#[cfg(test)]
+mod tests_scale;
 
 pub use activities::Activities;
 pub use kinds::{HostCap, LinkCap, Phase, PhaseKind};

@@ -43,7 +43,7 @@ const TABLES: &str = "\
 1 1 3 missing key | zone = [{id = 'z'}]
 1 1 3 wrong type | zone = [{id = 'z', routing = ['Full']}]
 1 1 3 bad value | zone = [{id = 'z', routing = 'full'}]
-1 1 3 bad value | zone = [{id = 'z', routing = 'Dijkstra'}]
+1 1 3 bad value | zone = [{id = 'z', routing = 'Floyd'}]
 2 0 0 wrong type | host = 'h'
 2 1 0 wrong type | host = [[]]
 2 1 0 unknown name | host = [{id = 'h', zone = 'z', speed = '1', cores = 1}]

@@ -22,6 +22,11 @@ fine | zone = [{id = 'z0', routing = 'Full'},%1%16%{id = 'z#', parent = 'z@', ro
 1 17 2 zones too deep | zone = [{id = 'z0', routing = 'Full'},%1%33%{id = 'z#', parent = 'z@', routing = 'Full'},%]
 1 17 2 zones too deep | zone = [{id = 'z0', routing = 'Full'},%1%1024%{id = 'z#', parent = 'z@', routing = 'Full'},%]
 fine | zone = [{id = 'z', routing = 'Full'},%0%1023%{id = 'z#', parent = 'z', routing = 'Star'},%]
+1 2 1 wrong routing | zone = [{id = 'z', routing = 'Dijkstra'}, {id = 'y', parent = 'z', routing = 'Full'}]
+1 4 1 wrong routing | zone = [{id = 'z', routing = 'Full'}, {id = 'y', parent = 'z', routing = 'Dijkstra'}, {id = 'x', parent = 'z', routing = 'Star'}, {id = 'w', parent = 'y', routing = 'Dijkstra'}] | host = [{id = 'h', zone = 'x', speed = '1f'}] | link = [{id = 'l', bandwidth = '1Bps'}] | route = [{src = 'h', dst = 'h', links = ['l']}]
+fine | zone = [{id = 'z', routing = 'Star'}, {id = 'y', parent = 'z', routing = 'Dijkstra'}] | host = [{id = 'h', zone = 'y', speed = '1f'}] | link = [{id = 'l', bandwidth = '1Bps'}] | spoke = [{zone = 'z', child = 'y', gateway = 'h', up = ['l']}] | route = [{src = 'h', dst = 'h', links = ['l']}]
+6 1 1 wrong routing | zone = [{id = 'z', routing = 'Dijkstra'}] | host = [{id = 'h', zone = 'z', speed = '1f'}, {id = 'g', zone = 'z', speed = '1f'}] | link = [{id = 'l', bandwidth = '1Bps'}] | zone_route = [{src = 'h', dst = 'g', links = ['l']}]
+7 1 1 wrong routing | zone = [{id = 'z', routing = 'Dijkstra'}] | host = [{id = 'h', zone = 'z', speed = '1f'}] | link = [{id = 'l', bandwidth = '1Bps'}] | spoke = [{zone = 'z', child = 'h', up = ['l']}]
 around | zone = [{id = 'z', routing = 'Full'}, {id = 'y', parent = 'z', routing = 'Star'}, {id = 'x', parent = 'z', routing = 'Full'}] | host = [{id = 'h', zone = 'z', speed = '1f'}, {id = 'g', zone = 'x', speed = '1f'}, {id = 'f', zone = 'x', speed = '1f'}] | router = [{id = 'r', zone = 'y'}] | link = [{id = 'l', bandwidth = '1Bps'}] | $
 fine | zone_route = [{src = 'y', gw_src = 'r', dst = 'x', gw_dst = 'f', links = ['l']}] | spoke = [{zone = 'y', child = 'r', up = ['l']}] | route = [{src = 'g', dst = 'f', links = ['l']}]
 6 1 3 gateway outside | zone_route = [{src = 'y', gw_src = 'h', dst = 'x', gw_dst = 'h', links = ['l']}]

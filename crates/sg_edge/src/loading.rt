@@ -85,7 +85,8 @@ fn load_begun<F: Files>(alloc: Global, files: &mut F, part: Part, most: usize) -
     requires begun { (F.shows files.old part).stage ≡ Begun }
     requires most { most + 1 < 2 ^ 64 }
     ensures given { (source : Source)
-        → Gives (F.shows files.old part) (F.shows files.new part) source → LoadedIs most result source }
+        → Gives (F.shows files.old part) (F.shows files.new part) source
+        → LoadedIs most result source }
     ensures fault { FaultIs result (F.shows files.old part) (F.shows files.new part) }
     ensures few { IsFew most result }
     ensures most { TakesUpTo (most + 1) (F.shows files.old part) (F.shows files.new part) }
@@ -114,7 +115,8 @@ pub fn load<F: Files>(alloc: Global, files: &mut F, part: Part, name: &str, most
     requires fresh { (F.shows files.old part).stage ≡ Fresh }
     requires most { most + 1 < 2 ^ 64 }
     ensures given { (source : Source)
-        → Gives (F.shows files.old part) (F.shows files.new part) source → LoadedIs most result source }
+        → Gives (F.shows files.old part) (F.shows files.new part) source
+        → LoadedIs most result source }
     ensures fault { FaultIs result (F.shows files.old part) (F.shows files.new part) }
     ensures few { IsFew most result }
     ensures most { TakesUpTo (most + 1) (F.shows files.old part) (F.shows files.new part) }

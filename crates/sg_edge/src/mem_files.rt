@@ -39,7 +39,8 @@ impl MemFiles {
         failing: &[u64],
     ) -> Result<MemFiles, Memory>
         ensures platform { IfOk result (StartsAs Part.Platform (option_copied platform.entry)) }
-        ensures deployment { IfOk result (StartsAs Part.Deployment (option_copied deployment.entry)) }
+        ensures deployment { IfOk result
+            (StartsAs Part.Deployment (option_copied deployment.entry)) }
         ensures script { IfOk result (StartsAs Part.Script (option_copied script.entry)) }
         ensures failing { IfOk result (λ m. failing_of m ≡ failing.now) }
         ensures calls { IfOk result (λ m. calls_of m ≡ 0) }

@@ -46,7 +46,8 @@ pub fn write_all<O: Sinks>(out: &mut O, to: Stream, text: &[u8]) -> Result<(), F
     requires { O.faults out.old ≡ 0 }
     ensures wrote { OnOk result (O.contents out.new to ≡ gain (O.contents out.old to) text.now) }
     ensures sound { OnOk result (O.faults out.new ≡ 0) }
-    ensures front { OnErr result (GainsFront text.now (O.contents out.old to) (O.contents out.new to)) }
+    ensures front { OnErr result
+        (GainsFront text.now (O.contents out.old to) (O.contents out.new to)) }
     ensures failed { OnErr result (0 < O.faults out.new) }
     ensures other { SameBut to (O.contents out.old) (O.contents out.new) }
 {

@@ -1,5 +1,5 @@
 -- Calls that are answered one after another.
-use Rattle.std.proofs.Common.{◌≡◌, ◌≢◌, ◌∙◌, sym, ap, ap₂, subst, refl, ℕ, ◌+◌, ◌==◌, ◌<◌, ◌≤◌, Bool, true, false, cond, List, [], ◌++◌, length, get_or, drop, Option, None, Some, Result, Ok}
+use Rattle.std.proofs.Common.{◌≡◌, ◌≢◌, ◌∙◌, sym, ap, ap₂, subst, refl, ℕ, ◌+◌, ◌==◌, ◌<◌, ◌≤◌, Bool, true, false, cond, List, [], ◌++◌, length, get_or, drop, Option, None, Some, Result, Ok, append_assoc}
 use Rattle.std.specs.Prelude.{option_map, MatchResult, ◌&&◌}
 use Rattle.std.proofs.lemmas.List.{append-nil, at_drop_more, at_drop_all}
 use Rattle.sg_base.specs.declared.call.Action.{Action}
@@ -18,16 +18,19 @@ use Rattle.sg_route.specs.Roads.{Roads}
 use Rattle.sg_script.specs.Answer.{answer_of}
 use Rattle.sg_script.specs.Known.{Known as Names}
 use Rattle.sg_script.specs.declared.script.Script.{Script}
-use Rattle.sg_script.specs.Stands.{Kept, kept_of, IsAsked, Reads, one_more}
+use Rattle.sg_script.specs.Rest.{GoesOn}
+use Rattle.sg_script.specs.Stands.{Kept, kept_of, IsAsked, IsCut, IsWithinNeed, one_more}
 use Rattle.sg_script.specs.declared.fault.ScriptFault.{ScriptFault}
+use Rattle.sg_script.proofs.AllNeeds.{add_up, within_more}
 use Rattle.sg_script.proofs.Chains.{reads_none, reads_then}
 use Rattle.sg_engine.specs.declared.actor_call.ActorCall.{ActorCall}
 use Rattle.sg_engine.specs.declared.ended.Ended.{Ended}
 use Rattle.sg_engine.specs.declared.ended.Ended.TheVariants as ended
 use Rattle.sg_engine.specs.kept.CallList.{calls_of}
-use Rattle.sg_engine.specs.Run.{Scene, scene, Answering, Progress, at_world, and_then, ended_by, in_world, ask_step, is_ask, answer_step, one_call}
+use Rattle.sg_engine.specs.Run.{Scene, scene, Answering, Progress, at_world, and_then, ended_by, in_world, with_front, ask_step, is_ask, answer_step, one_call}
 use Rattle.sg_engine.specs.kept.Moments.{Moment, moment, moment_of, Fits, StandsFor, IsStretch, LacksMemory, ending, script_part}
-use Rattle.sg_engine.proofs.Reaching.{matched_as, reached_then, reached_as, reached_spent, rest_as, goes_on_to, ends_at, stands_as}
+use Rattle.sg_engine.proofs.Asked.{ask_made, calls_rise_behind}
+use Rattle.sg_engine.proofs.Reaching.{goes_back, matched_as, reached_then, reached_as, reached_spent, rest_as, goes_on_to, ends_at, stands_as}
 
 -- ---- one call
 -- a step of the kernel, for which nothing of the script was read
@@ -79,7 +82,11 @@ asked_to names taken minds part part' kept kept' known world actor answer stands
   reads = is_asked.reads;
   setup = refl;
   world = record world { asks = one_more actor world.asks };
-  stands = record { script = is_asked.stands; core = stands.core; minds = stands.minds };
+  stands = record {
+    script = record { stands = is_asked.stands; needed = add_up names taken is_asked.piece world.asks actor part part' is_asked.reads stands.script.needed is_asked.near };
+    core = stands.core;
+    minds = stands.minds;
+  };
   work = refl;
   made = [];
   records = sym (append-nil known.records);
@@ -102,15 +109,28 @@ told_to names taken minds part part' kept kept' old new room world actor action 
     reached_then names (λ answers. ask_step old.setup answers actor world) (λ answers w. answer_step old.setup actor (Ok action) w) (ending how) taken minds minds (moment part kept old) (moment part' kept' old) (moment part' kept' new) first
     (stepped names (taken ++ is_asked.piece) minds part' kept' old new room (record world { asks = one_more actor world.asks }) step how is_asked.reads.begun first.stands is ends)
 
+-- or memory was wanting for it
+pub cut_asked : (names : Names) (taken : List ℕ) (minds : List (Option Mind)) (part part' : PartView) (kept kept' : Kept) (known : Known) (world : World) (actor : ℕ) →
+    StandsFor names taken minds (moment part kept known) world → (known.core.events == known.setup.budget) ≡ false → IsCut names taken world.asks actor part part' kept' →
+    LacksMemory names (λ answers. ask_step known.setup answers actor world) taken part part'
+cut_asked names taken minds part part' kept kept' known world actor stands unused cut = record {
+  piece = cut.piece;
+  reads = cut.reads;
+  needed = λ source goes.
+      let here : (world.core.events == known.setup.budget) ≡ false = ap (λ (core : Core). core.events == known.setup.budget) (sym stands.core) ∙ unused in
+      subst (λ (asks : ℕ → ℕ). IsWithinNeed names source asks (length (taken ++ cut.piece))) (sym (ask_made known.setup (answer_of names source) actor world here))
+      (add_up names taken cut.piece world.asks actor part part' cut.reads stands.script.needed cut.near source goes);
+}
+
 -- ---- who answers
 -- the script answers an Ask
 pub script_answers : {E : Type 0} (script : Bool) (names : Names) (roads : Roads) (setup : Setup) (actor : ℕ) (what : Call) (taken : List ℕ) (minds : List (Option Mind)) (world : World) (part part' : PartView) (reader reader' : Script) (old new : Known) (result : Result (Option Ended) E) →
     (script && is_ask what) ≡ true →
-    (StandsFor names taken minds (moment part (kept_of reader) old) world → MatchResult result (λ how. IsStretch world.work names (λ answers. ask_step setup answers actor world) (ending how) taken minds (moment part (kept_of reader) old) (moment part' (kept_of reader') new)) (λ _. LacksMemory part part')) →
+    (StandsFor names taken minds (moment part (kept_of reader) old) world → MatchResult result (λ how. IsStretch world.work names (λ answers. ask_step setup answers actor world) (ending how) taken minds (moment part (kept_of reader) old) (moment part' (kept_of reader') new)) (λ _. LacksMemory names (λ answers. ask_step setup answers actor world) taken part part')) →
     StandsFor names taken minds (moment_of script part reader old) world →
-    MatchResult result (λ how. IsStretch world.work names (λ answers. one_call (scene roads setup script) answers actor what world) (ending how) taken minds (moment_of script part reader old) (moment_of script part' reader' new)) (λ _. LacksMemory (script_part script part) (script_part script part'))
+    MatchResult result (λ how. IsStretch world.work names (λ answers. one_call (scene roads setup script) answers actor what world) (ending how) taken minds (moment_of script part reader old) (moment_of script part' reader' new)) (λ _. LacksMemory names (λ answers. one_call (scene roads setup script) answers actor what world) taken (script_part script part) (script_part script part'))
 script_answers true names roads setup actor what taken minds world part part' reader reader' old new result is step stands =
-    matched_as world.work result names (λ answers. ask_step setup answers actor world) (λ answers. one_call (scene roads setup true) answers actor what world) taken minds _ _ _
+    matched_as world.work result names (λ answers. ask_step setup answers actor world) (λ answers. one_call (scene roads setup true) answers actor what world) taken minds _ _
     (λ answers. ap (λ (b : Bool). cond b (ask_step setup answers actor world) (in_world world (answered roads setup world.core actor what))) is) (step stands)
 script_answers false names roads setup actor what taken minds world part part' reader reader' old new result is step stands = absurd (cc is)
 
@@ -180,5 +200,24 @@ pub all_called : {spent : ℕ} (names : Names) (whole : Answering → Progress) 
 all_called names whole at calls i taken minds old new past reached = rest_as names whole (rest_from at calls i) (ending None) taken minds old new (λ answers world. calls_none at answers calls i world past) reached
 
 -- memory was wanting at a later call
-pub cut_later : (piece : List ℕ) (old mid new : PartView) → Reads piece old mid → LacksMemory mid new → LacksMemory old new
-cut_later piece old mid new reads cut = record { piece = piece ++ cut.piece; reads = reads_then piece cut.piece old mid new reads cut.reads }
+pub cut_later : {spent : ℕ} (names : Names) (whole : Answering → Progress) (roads : Roads) (setup : Setup) (script : Bool) (calls : List ActorCall) (i : ℕ) (d : ActorCall) (taken : List ℕ) (minds : List (Option Mind)) (old mid : Moment) (new : PartView) → i < length calls → mid.kernel.setup ≡ setup →
+    (first : IsStretch spent names whole (rest_from (scene roads setup script) calls i) taken minds old mid) → LacksMemory names (λ answers. one_call (scene roads mid.kernel.setup script) answers (get_or calls i d).actor.0 (get_or calls i d).call first.world) (taken ++ first.piece) mid.part new →
+    LacksMemory names whole taken old.part new
+cut_later names whole roads setup script calls i d taken minds old mid new within same first cut =
+    let joined : (taken ++ first.piece) ++ cut.piece ≡ taken ++ (first.piece ++ cut.piece) = append_assoc taken first.piece cut.piece in
+    record {
+      piece = first.piece ++ cut.piece;
+      reads = reads_then first.piece cut.piece old.part mid.part new first.reads cut.reads;
+      needed = λ source goes.
+          let at : Scene = scene roads setup script in
+          let answers = answer_of names source in
+          let there : GoesOn ((taken ++ first.piece) ++ cut.piece) new.stage source = subst (λ (t : List ℕ). GoesOn t new.stage source) (sym joined) goes in
+          let call : Progress = at_place at (get_or calls i d) first.world answers in
+          let here : IsWithinNeed names source call.world.asks (length ((taken ++ first.piece) ++ cut.piece)) = subst (λ (s : Setup). IsWithinNeed names source (at_place (scene roads s script) (get_or calls i d) first.world answers).world.asks (length ((taken ++ first.piece) ++ cut.piece))) same (cut.needed source there) in
+          let all : whole answers ≡ with_front first.made (and_then call (calls_of at answers (drop (i + 1) calls))) =
+          first.is source (goes_back (taken ++ first.piece) cut.piece mid.part new source cut.reads there) ∙ ap (with_front first.made) (calls_more at answers calls i d first.world within) in
+          let behind : IsWithinNeed names source (and_then call (calls_of at answers (drop (i + 1) calls))).world.asks (length ((taken ++ first.piece) ++ cut.piece)) =
+          within_more names source call.world.asks _ _ (calls_rise_behind call at answers (drop (i + 1) calls)) here in
+          subst (λ (t : List ℕ). IsWithinNeed names source (whole answers).world.asks (length t)) joined
+          (subst (λ (p : Progress). IsWithinNeed names source p.world.asks (length ((taken ++ first.piece) ++ cut.piece))) (sym all) behind);
+    }

@@ -1,5 +1,5 @@
 -- Files of which the script's part is read.
-use Rattle.std.proofs.Common.{◌∙◌, ap, refl, Bool, false}
+use Rattle.std.proofs.Common.{◌∙◌, refl, Bool}
 use Rattle.sg_edge.specs.declared.files.Part.{Part}
 use Rattle.sg_edge.specs.Files.{PartView}
 use Rattle.sg_engine.specs.kept.Moments.{ReadsScript}

@@ -1,16 +1,17 @@
 -- Fronts of texts that were written.
-use Rattle.std.proofs.Common.{Result, Ok, Err as Error, ◌≡◌, ◌∙◌, sym, ap, subst, refl, inl, inr, ℕ, List, [], ◌++◌, Option, append_assoc}
+use Rattle.std.proofs.Common.{Result, Ok, Err as Error, ◌≡◌, ◌<◌, ◌∙◌, sym, ap, subst, refl, inl, inr, ℕ, List, [], ◌++◌, Option, Some, true, append_assoc}
 use Rattle.sg_edge.specs.declared.sinks.Stream.{Stream}
 use Rattle.sg_edge.specs.declared.sinks.Stream.TheVariants.{Out, Err}
+use Rattle.std.proofs.lemmas.List.{append-nil}
 use Rattle.sg_edge.specs.Sinks.{gain, IsWritten, GainsFront}
 use Rattle.sg_edge.proofs.Writing.{gain-gain, gain-nil}
 use Rattle.sg_edge.specs.declared.files.Failed.{Failed}
+use Rattle.sg_edge.specs.Cause.{HasCause}
+use Rattle.sg_engine.specs.declared.ended.Ended.{Ended}
+use Rattle.sg_engine.specs.declared.ended.Ended.TheVariants as ended
 use Rattle.sg_engine.specs.Gains.{GainsAll, GainsFronts}
-use Rattle.sg_engine.specs.kept.Writing.{Wrote, Broke, IsPut, Tells, Writes}
-
--- nothing was written of a text yet
-pub written_none : (text : List ℕ) (now : Option (List ℕ)) → IsWritten text text now now
-written_none text now = record { done = []; split = refl; held = sym (gain-nil now) }
+use Rattle.sg_engine.specs.RunContract.{is_cut}
+use Rattle.sg_engine.specs.kept.Writing.{Wrote, Broke, EndsForMemory, IsPut, Tells}
 
 -- what is left begins with a text, of which a front was written then
 written_on : (whole text rest left : List ℕ) (old mid new : Option (List ℕ)) → IsWritten whole (text ++ rest) old mid → IsWritten text left mid new → IsWritten whole (left ++ rest) old new
@@ -19,10 +20,6 @@ written_on whole text rest left old mid new first then = record {
   split = first.split ∙ ap (λ (l : List ℕ). first.done ++ (l ++ rest)) then.split ∙ ap (λ (l : List ℕ). first.done ++ l) (append_assoc then.done left rest) ∙ sym (append_assoc first.done then.done (left ++ rest));
   held = then.held ∙ ap (λ (h : Option (List ℕ)). gain h then.done) first.held ∙ gain-gain old first.done then.done;
 }
-
--- nothing was put yet
-pub put_none : (text : List ℕ) (now : Stream → Option (List ℕ)) (faults : ℕ) → faults ≡ 0 → IsPut text text now now faults
-put_none text now faults sound = record { written = written_none text (now Out); err_held = refl; sound = sound }
 
 -- what waits begins with a text, which is put then
 pub put_on : (whole text rest waiting : List ℕ) (old mid new : Stream → Option (List ℕ)) (f f' : ℕ) → IsPut whole (text ++ rest) old mid f → IsPut text waiting mid new f' → IsPut whole (waiting ++ rest) old new f'
@@ -58,14 +55,6 @@ front_more text more old new front = (
   front.0 ++ more,
   record { done = front.1.done; split = ap (λ (l : List ℕ). l ++ more) front.1.split ∙ append_assoc front.1.done front.0 more; held = front.1.held },
 )
-
--- a front of a text that waits
-pub broke_more : (text more : List ℕ) (old new : Stream → Option (List ℕ)) (f : ℕ) → Broke text old new f → Broke (text ++ more) old new f
-broke_more text more old new f broke = record {
-  front = (broke.front.0 ++ more, record { done = broke.front.1.done; split = ap (λ (l : List ℕ). l ++ more) broke.front.1.split ∙ append_assoc broke.front.1.done broke.front.0 more; held = broke.front.1.held });
-  err_held = broke.err_held;
-  failed = broke.failed;
-}
 
 -- a front of the second text, behind nothing of the first
 pub fronts_err : (text : List ℕ) (old new : Stream → Option (List ℕ)) → GainsFront text (old Err) (new Err) → new Out ≡ old Out → GainsFronts [] text old new
@@ -109,30 +98,76 @@ fronts_none out err old new same_out same_err = record {
   err_held = same_err ∙ sym (gain-nil (old Err));
 }
 
--- the first text goes on behind a text that is written
-pub fronts_behind : (front out err : List ℕ) (old mid new : Stream → Option (List ℕ)) → mid Out ≡ gain (old Out) front → mid Err ≡ old Err → GainsFronts out err mid new → GainsFronts (front ++ out) err old new
-fronts_behind front out err old mid new wrote same f = record {
-  out_done = front ++ f.out_done;
+-- the first text begins with what waited behind a text that was written
+pub fronts_behind : (front waiting out err : List ℕ) (old mid new : Stream → Option (List ℕ)) → IsWritten front waiting (old Out) (mid Out) → mid Err ≡ old Err → GainsFronts (waiting ++ out) err mid new → GainsFronts (front ++ out) err old new
+fronts_behind front waiting out err old mid new wrote same f = record {
+  out_done = wrote.done ++ f.out_done;
   out_rest = f.out_rest;
   err_done = f.err_done;
   err_rest = f.err_rest;
-  out_split = ap (λ (l : List ℕ). front ++ l) f.out_split ∙ sym (append_assoc front f.out_done f.out_rest);
+  out_split = ap (λ (l : List ℕ). l ++ out) wrote.split
+      ∙ append_assoc wrote.done waiting out
+      ∙ ap (λ (l : List ℕ). wrote.done ++ l) f.out_split
+      ∙ sym (append_assoc wrote.done f.out_done f.out_rest);
   err_split = f.err_split;
   late = f.late;
-  out_held = f.out_held ∙ ap (λ (h : Option (List ℕ)). gain h f.out_done) wrote ∙ gain-gain (old Out) front f.out_done;
+  out_held = f.out_held ∙ ap (λ (h : Option (List ℕ)). gain h f.out_done) wrote.held ∙ gain-gain (old Out) wrote.done f.out_done;
   err_held = f.err_held ∙ ap (λ (h : Option (List ℕ)). gain h f.err_done) same;
 }
 
-pub all_behind : (front out err : List ℕ) (old mid new : Stream → Option (List ℕ)) → mid Out ≡ gain (old Out) front → mid Err ≡ old Err → GainsAll out err mid new → GainsAll (front ++ out) err old new
-all_behind front out err old mid new wrote same g = record {
-  out_held = g.out_held ∙ ap (λ (h : Option (List ℕ)). gain h out) wrote ∙ gain-gain (old Out) front out;
+pub all_behind : (front waiting out err : List ℕ) (old mid new : Stream → Option (List ℕ)) → IsWritten front waiting (old Out) (mid Out) → mid Err ≡ old Err → GainsAll (waiting ++ out) err mid new → GainsAll (front ++ out) err old new
+all_behind front waiting out err old mid new wrote same g = record {
+  out_held = g.out_held
+      ∙ ap (λ (h : Option (List ℕ)). gain h (waiting ++ out)) wrote.held
+      ∙ gain-gain (old Out) wrote.done (waiting ++ out)
+      ∙ ap (gain (old Out)) (sym (append_assoc wrote.done waiting out) ∙ ap (λ (l : List ℕ). l ++ out) (sym wrote.split));
   err_held = g.err_held ∙ ap (λ (h : Option (List ℕ)). gain h err) same;
 }
 
--- lines on Out alone
-pub told_out : (text : List ℕ) (result : Result (Unit {0}) Failed) (old new : Stream → Option (List ℕ)) (f : ℕ) → Writes text result old new f → Tells text [] result old new f
-told_out text (Ok done) old new f wrote = (record { out_held = wrote.out_held; err_held = wrote.err_held ∙ sym (gain-nil (old Err)) }, wrote.sound)
-told_out text (Error why) old new f broke = (fronts_out text [] old new broke.front broke.err_held, broke.failed)
+-- a text that is written whole
+written_whole : (text : List ℕ) (old new : Option (List ℕ)) → new ≡ gain old text → IsWritten text [] old new
+written_whole text old new held = record { done = text; split = sym (append-nil text); held = held }
+
+-- a line on Err behind a text that is written
+pub told_behind : (text err : List ℕ) (result : Result (Unit {0}) Failed) (old mid new : Stream → Option (List ℕ)) (f f' : ℕ) → Wrote text old mid f → Tells [] err result mid new f' → Tells text err result old new f'
+told_behind text err (Ok done) old mid new f f' wrote told = (
+  subst (λ (t : List ℕ). GainsAll t err old new) (append-nil text) (all_behind text [] [] err old mid new (written_whole text (old Out) (mid Out) wrote.out_held) wrote.err_held told.0),
+  told.1,
+)
+told_behind text err (Error why) old mid new f f' wrote told = (
+  subst (λ (t : List ℕ). GainsFronts t err old new) (append-nil text) (fronts_behind text [] [] err old mid new (written_whole text (old Out) (mid Out) wrote.out_held) wrote.err_held told.0),
+  told.1,
+)
+
+-- a text on Out that broke off, so that Err got nothing
+pub told_broke : (text err : List ℕ) (old new : Stream → Option (List ℕ)) (f : ℕ) → Broke text old new f → GainsFronts text err old new × (0 < f)
+told_broke text err old new f broke = (fronts_out text err old new broke.front broke.err_held, broke.failed)
+
+-- ---- for want of memory
+pub memory_front : (waiting : List ℕ) (how : Ended) (old new : Stream → Option (List ℕ)) (f : ℕ) → EndsForMemory waiting how old new f → GainsFront waiting (old Out) (new Out)
+memory_front waiting how old new f (inl h) = ([], written_whole waiting (old Out) (new Out) h.1.out_held)
+memory_front waiting how old new f (inr h) = h.1.front
+
+pub memory_err : (waiting : List ℕ) (how : Ended) (old new : Stream → Option (List ℕ)) (f : ℕ) → EndsForMemory waiting how old new f → new Err ≡ old Err
+memory_err waiting how old new f (inl h) = h.1.err_held
+memory_err waiting how old new f (inr h) = h.1.err_held
+
+pub memory_cuts : (waiting : List ℕ) (how : Ended) (old new : Stream → Option (List ℕ)) (f : ℕ) → EndsForMemory waiting how old new f → is_cut how ≡ true
+memory_cuts waiting how old new f (inl h) = ap is_cut h.0
+memory_cuts waiting how old new f (inr h) = ap is_cut h.0
+
+-- a failed write of what waited is told, and nothing else of that kind
+pub memory_cause : (waiting : List ℕ) (how : Ended) (old new : Stream → Option (List ℕ)) (f : ℕ) (broke : Type 0) → EndsForMemory waiting how old new f → HasCause (Some how ≡ Some ended.WriteFault) (Some how ≡ Some ended.ReadFault) f broke
+memory_cause waiting how old new f broke (inl h) = record {
+  write = λ is. let e : Some ended.Memory ≡ Some ended.WriteFault = ap (λ (x : Ended). Some x) (sym h.0) ∙ is in cc e;
+  sound = λ isnt. h.1.sound;
+  read = λ is. let e : Some ended.Memory ≡ Some ended.ReadFault = ap (λ (x : Ended). Some x) (sym h.0) ∙ is in cc e;
+}
+memory_cause waiting how old new f broke (inr h) = record {
+  write = λ is. h.1.failed;
+  sound = λ isnt. absurd (isnt (ap (λ (x : Ended). Some x) h.0));
+  read = λ is. let e : Some ended.WriteFault ≡ Some ended.ReadFault = ap (λ (x : Ended). Some x) (sym h.0) ∙ is in cc e;
+}
 
 -- a line on Err alone
 pub told_err : (text : List ℕ) (old new : Stream → Option (List ℕ)) → new Err ≡ gain (old Err) text → new Out ≡ old Out → GainsAll [] text old new

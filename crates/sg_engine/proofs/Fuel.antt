@@ -5,7 +5,7 @@ use Rattle.sg_engine.specs.World.{World}
 use Rattle.sg_engine.specs.declared.ended.Ended.{Ended}
 use Rattle.sg_engine.specs.declared.ended.Ended.TheVariants as ended
 use Rattle.sg_engine.specs.Fuel.{parts_from, MoreChangesNothing}
-use Rattle.sg_engine.specs.Run.{Scene, Answering, Progress, are_completed, at_world, with_front, and_then_by, round_or_pass, run_from}
+use Rattle.sg_engine.specs.Run.{Progress, are_completed, at_world, with_front, and_then_by, round_or_pass, run_from}
 
 after_first : (how : Option Ended) (first : Progress) (f g : World → Progress) → (IsSome (g first.world).ended → f first.world ≡ g first.world) → IsSome (and_then_by how first g).ended → and_then_by how first f ≡ and_then_by how first g
 after_first None first f g same some = ap (with_front first.made) (same some)

@@ -10,7 +10,7 @@ use Rattle.sg_base.specs.declared.ids.ActorId.{ActorId}
 use Rattle.sg_edge.specs.Files.{PartView}
 use Rattle.sg_kernel.specs.declared.meetings.Comer.{Comer}
 use Rattle.sg_states.specs.declared.state.State.{State}
-use Rattle.sg_states.specs.declared.state.State.TheVariants.{Ready, Blocked, Ended}
+use Rattle.sg_states.specs.declared.state.State.TheVariants.{Ready, Ended}
 use Rattle.sg_kernel.specs.declared.stop.Stop.{Stop}
 use Rattle.sg_kernel.specs.Known.{Known, after}
 use Rattle.sg_kernel.specs.World.{Setup, Core, extent}
@@ -19,7 +19,7 @@ use Rattle.sg_kernel.specs.Steps.{Step, counted, each, follows, and_then}
 use Rattle.sg_kernel.specs.Calls.{answered, answered_call}
 use Rattle.sg_kernel.specs.Locks.{caller_gets, wakes_from, wakes, all_wake, caller_first, caller_last}
 use Rattle.sg_kernel.specs.Meetings.{takes_part, joins_over, comes_by, waits_until, waits_by}
-use Rattle.sg_mailbox.specs.Posts.{Post}
+use Rattle.sg_mailbox.specs.declared.sides.Post.{Post}
 use Rattle.sg_rows.specs.Deployment.{Deployed}
 use Rattle.sg_base.specs.declared.awaits.Await.{Await}
 use Rattle.sg_route.specs.declared.router.RouteFault.{RouteFault}

@@ -1,3 +1,4 @@
+pub mod Asked
 pub mod Calls
 pub mod Castings
 pub mod Endings
@@ -17,4 +18,5 @@ pub mod Simulating
 pub mod Starting
 pub mod Stepping
 pub mod Uncut
+pub mod Waiting
 pub mod Working

@@ -16,7 +16,7 @@ use Rattle.sg_script.specs.Known.{Known as Names}
 use Rattle.sg_engine.specs.declared.actor_call.ActorCall.{ActorCall}
 use Rattle.sg_engine.specs.declared.ended.Ended.{Ended}
 use Rattle.sg_engine.specs.kept.CallList.{call_list, calls_of}
-use Rattle.sg_engine.specs.kept.Moments.{Moment, StandsFor, IsStretch, ending}
+use Rattle.sg_engine.specs.kept.Moments.{LacksMemory, Moment, StandsFor, IsStretch, ending}
 use Rattle.sg_engine.specs.Run.{Scene, Answering, zip_with, mind_after, call_after, inboxes, round, calls_from}
 use Rattle.sg_engine.specs.kept.SeatRules.{mind_in, minds_of, IsSeated}
 use Rattle.sg_engine.proofs.Listing.{calls_listed, listed_may, listed_rises, listed_short, row_short}
@@ -52,17 +52,17 @@ room_for {deployed} {part} {sim} {places} mid kept same room =
     }
 
 -- ---- the whole of a round
-pub round_as : {E : Type 0} (result : Result (Option Ended) E) (names : Names) (at : Scene) (taken : List ℕ) (had new : List (Option Mind)) (calls : List ActorCall) (world : World) (old mid : Moment) (cut : E → Type 0) → StandsFor names taken had old world →
+pub round_as : {E : Type 0} (result : Result (Option Ended) E) (names : Names) (at : Scene) (taken : List ℕ) (had new : List (Option Mind)) (calls : List ActorCall) (world : World) (old mid : Moment) → StandsFor names taken had old world →
     new ≡ zip_with mind_after had (inboxes old.kernel.core) → calls ≡ call_list 1 (zip_with call_after had (inboxes old.kernel.core)) →
-    ((next : World) → StandsFor names taken new old next → MatchResult result (λ how. IsStretch next.work names (λ answers. calls_of at answers calls next) (ending how) taken new old mid) cut) →
-    MatchResult result (λ how. IsStretch world.work names (λ answers. round at answers world) (ending how) taken new old mid) cut
-round_as result names at taken had new calls world old mid cut stands turned made step =
+    ((next : World) → StandsFor names taken new old next → MatchResult result (λ how. IsStretch next.work names (λ answers. calls_of at answers calls next) (ending how) taken new old mid) (λ _. LacksMemory names (λ answers. calls_of at answers calls next) taken old.part mid.part)) →
+    MatchResult result (λ how. IsStretch world.work names (λ answers. round at answers world) (ending how) taken new old mid) (λ _. LacksMemory names (λ answers. round at answers world) taken old.part mid.part)
+round_as result names at taken had new calls world old mid stands turned made step =
     let next : World = record world { minds = zip_with mind_after world.minds (inboxes world.core) } in
     let minds : new ≡ next.minds = turned ∙ ap₂ (λ (m : List (Option Mind)) (core : Core). zip_with mind_after m (inboxes core)) stands.minds stands.core in
     let are : calls ≡ call_list 1 (zip_with call_after world.minds (inboxes world.core)) = made ∙ ap₂ (λ (m : List (Option Mind)) (core : Core). call_list 1 (zip_with call_after m (inboxes core))) stands.minds stands.core in
     let whole : (answers : Answering) → calls_from at answers 1 (zip_with call_after world.minds (inboxes world.core)) next ≡ calls_of at answers calls next =
     λ answers. sym (ap (λ (l : List ActorCall). calls_of at answers l next) are ∙ calls_listed at answers 1 (zip_with call_after world.minds (inboxes world.core)) next) in
-    matched_as world.work result names (λ answers. calls_of at answers calls next) (λ answers. calls_from at answers 1 (zip_with call_after world.minds (inboxes world.core)) next) taken new old mid cut whole (step next (record { script = stands.script; core = stands.core; minds = minds }))
+    matched_as world.work result names (λ answers. calls_of at answers calls next) (λ answers. calls_from at answers 1 (zip_with call_after world.minds (inboxes world.core)) next) taken new old mid whole (step next (record { script = stands.script; core = stands.core; minds = minds }))
 
 -- the same seats, where the setup is the same
 pub seated_as : (old new : Setup) (places : List SeatView) → new ≡ old → All (IsSeated (extent old)) places → All (IsSeated (extent new)) places

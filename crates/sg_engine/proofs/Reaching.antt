@@ -1,5 +1,5 @@
 -- Stretches of a run, one after another.
-use Rattle.std.proofs.Common.{◌≡◌, ◌∙◌, sym, ap, subst, refl, ℕ, List, [], ◌++◌, Option, None, Some, Result, Ok, Err, append_assoc}
+use Rattle.std.proofs.Common.{◌≡◌, ◌∙◌, sym, ap, subst, refl, ℕ, List, [], ◌++◌, length, Option, None, Some, Result, Ok, Err, append_assoc}
 use Rattle.std.specs.Prelude.{MatchResult}
 use Rattle.std.proofs.lemmas.List.{append-nil}
 use Rattle.sg_base.specs.declared.trace_record.Record.{Record}
@@ -9,12 +9,12 @@ use Rattle.sg_edge.specs.Files.{PartView}
 use Rattle.sg_engine.specs.World.{World}
 use Rattle.sg_script.specs.Answer.{answer_of}
 use Rattle.sg_script.specs.Known.{Known as Names}
-use Rattle.sg_script.specs.Stands.{Reads}
+use Rattle.sg_script.specs.Stands.{IsWithinNeed, Reads}
 use Rattle.sg_script.specs.Rest.{GoesOn}
 use Rattle.sg_script.proofs.Chains.{may_back, reads_then}
 use Rattle.sg_engine.specs.declared.ended.Ended.{Ended}
 use Rattle.sg_engine.specs.Run.{Answering, Progress, with_front, and_then}
-use Rattle.sg_engine.specs.kept.Moments.{Moment, StandsFor, IsStretch, ending}
+use Rattle.sg_engine.specs.kept.Moments.{AreNeededBy, LacksMemory, Moment, StandsFor, IsStretch, ending}
 
 -- a source that goes on from a later moment goes on from an earlier one
 pub goes_back : (taken piece : List ℕ) (old new : PartView) (source : Source) → Reads piece old new → GoesOn (taken ++ piece) new.stage source → GoesOn taken old.stage source
@@ -67,10 +67,20 @@ reached_as names whole other rest taken minds old new same reached = record {
   is = λ source goes. same (answer_of names source) ∙ reached.is source goes;
 }
 
-pub matched_as : {E : Type 0} (spent : ℕ) (result : Result (Option Ended) E) (names : Names) (whole other : Answering → Progress) (taken : List ℕ) (minds : List (Option Mind)) (old new : Moment) (cut : E → Type 0) → ((answers : Answering) → other answers ≡ whole answers) →
-    MatchResult result (λ how. IsStretch spent names whole (ending how) taken minds old new) cut → MatchResult result (λ how. IsStretch spent names other (ending how) taken minds old new) cut
-matched_as spent (Ok how) names whole other taken minds old new cut same reached = reached_as names whole other (ending how) taken minds old new same reached
-matched_as spent (Err why) names whole other taken minds old new cut same step = step
+-- so it is where memory was wanting
+lacks_as : (names : Names) (whole other : Answering → Progress) (taken : List ℕ) (old new : PartView) → ((answers : Answering) → other answers ≡ whole answers) → LacksMemory names whole taken old new → LacksMemory names other taken old new
+lacks_as names whole other taken old new same cut = record {
+  piece = cut.piece;
+  reads = cut.reads;
+  needed = λ source goes.
+      let within : Progress → Type 0 = λ p. IsWithinNeed names source p.world.asks (length (taken ++ cut.piece)) in
+      subst within (sym (same (answer_of names source))) (cut.needed source goes);
+}
+
+pub matched_as : {E : Type 0} (spent : ℕ) (result : Result (Option Ended) E) (names : Names) (whole other : Answering → Progress) (taken : List ℕ) (minds : List (Option Mind)) (old new : Moment) → ((answers : Answering) → other answers ≡ whole answers) →
+    MatchResult result (λ how. IsStretch spent names whole (ending how) taken minds old new) (λ _. LacksMemory names whole taken old.part new.part) → MatchResult result (λ how. IsStretch spent names other (ending how) taken minds old new) (λ _. LacksMemory names other taken old.part new.part)
+matched_as spent (Ok how) names whole other taken minds old new same reached = reached_as names whole other (ending how) taken minds old new same reached
+matched_as spent (Err why) names whole other taken minds old new same cut = lacks_as names whole other taken old.part new.part same cut
 
 -- the rest in other words
 abbrev pub rest_as : {spent : ℕ} (names : Names) (whole : Answering → Progress) (rest other : Answering → World → Progress) (taken : List ℕ) (minds : List (Option Mind)) (old new : Moment) →
@@ -137,3 +147,9 @@ reached_none names rest taken minds now world reads stands = record {
 -- the work in other words
 pub reached_spent : (spent other : ℕ) (names : Names) (whole : Answering → Progress) (rest : Answering → World → Progress) (taken : List ℕ) (minds : List (Option Mind)) (old new : Moment) → spent ≡ other → IsStretch spent names whole rest taken minds old new → IsStretch other names whole rest taken minds old new
 reached_spent spent other names whole rest taken minds old new same reached = subst (λ (n : ℕ). IsStretch n names whole rest taken minds old new) same reached
+
+-- what was taken up to an end is needed
+pub reached_needed : {spent : ℕ} (names : Names) (whole : Answering → Progress) (how : Option Ended) (taken : List ℕ) (minds : List (Option Mind)) (old new : Moment) → (reached : IsStretch spent names whole (ending how) taken minds old new) → AreNeededBy names whole (taken ++ reached.piece) new.part.stage
+reached_needed names whole how taken minds old new reached source goes =
+    let within : Progress → Type 0 = λ p. IsWithinNeed names source p.world.asks (length (taken ++ reached.piece)) in
+    subst within (sym (reached.is source goes)) (reached.stands.script.needed source goes)

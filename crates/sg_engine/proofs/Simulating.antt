@@ -1,5 +1,5 @@
 -- Parts of a run with their lines, one after another.
-use Rattle.std.proofs.Common.{arith, ◌+◌, ◌≡◌, ◌≢◌, ◌∙◌, sym, ap, ap₂, subst, refl, ℕ, suc, ◌≤◌, List, [], ◌++◌, length, Bool, true, false, cond, Option, None, Some, append_assoc}
+use Rattle.std.proofs.Common.{arith, ◌+◌, ◌≡◌, ◌≢◌, ◌∙◌, sym, ap, subst, refl, ℕ, suc, ◌≤◌, List, [], ◌++◌, length, Bool, true, false, cond, Option, None, Some}
 use Rattle.std.specs.Prelude.{All, MatchBool, vec_capacity}
 use Rattle.std.specs.List.{list_all}
 use Rattle.std.proofs.lemmas.Grind.{flat_map-append}
@@ -8,8 +8,10 @@ use Rattle.sg_base.specs.declared.trace_record.Record.{Record}
 use Rattle.sg_base.specs.Mind.{Mind}
 use Rattle.sg_edge.specs.Files.{PartView}
 use Rattle.sg_edge.specs.declared.files.Stage.TheVariants.{Fresh}
-use Rattle.sg_edge.specs.Sinks.{gain, GainsFront}
-use Rattle.sg_edge.proofs.Writing.{gain-gain, gain-nil}
+use Rattle.sg_edge.specs.declared.files.Part.{Part}
+use Rattle.sg_edge.specs.declared.sinks.Stream.{Stream}
+use Rattle.sg_edge.specs.declared.sinks.Stream.TheVariants.{Out}
+use Rattle.sg_edge.specs.Sinks.{GainsFront}
 use Rattle.sg_kernel.specs.Known.{Known}
 use Rattle.sg_actor.specs.Seats.{SeatView}
 use Rattle.sg_base.specs.Limits.{Extent}
@@ -17,14 +19,18 @@ use Rattle.sg_kernel.specs.World.{Setup, Core, extent}
 use Rattle.sg_states.specs.Actors.{is_ended}
 use Rattle.sg_engine.specs.World.{World}
 use Rattle.sg_route.specs.Roads.{Roads}
-use Rattle.sg_rows.specs.Deployment.{Deployed, extent_of}
+use Rattle.sg_rows.specs.Deployment.{Deployed}
 use Rattle.sg_rows.specs.Platform.{Platform}
 use Rattle.sg_script.specs.Answer.{answer_of}
 use Rattle.sg_script.specs.Known.{Known as Names}
-use Rattle.sg_script.specs.Stands.{Kept, kept_of}
+use Rattle.sg_script.specs.Rest.{GoesOn}
+use Rattle.sg_script.specs.Stands.{IsWithinNeed, Kept, kept_of}
+use Rattle.sg_script.proofs.AllNeeds.{within_more}
 use Rattle.sg_script.proofs.Chains.{reads_then, reads_none}
 use Rattle.sg_engine.specs.declared.ended.Ended.{Ended}
 use Rattle.sg_engine.specs.declared.ended.Ended.TheVariants as ended
+use Rattle.sg_engine.specs.declared.plan.Plan.{Plan}
+use Rattle.sg_engine.specs.RunContract.{is_cut}
 use Rattle.sg_engine.specs.kept.Moments.{Moment, moment, Fits, StandsFor, IsStretch, LacksMemory, ending, cuts}
 use Rattle.sg_engine.specs.Run.{Scene, scene, Answering, Progress, at_world, with_front, and_then, and_then_by, round_or_pass, run_from, work_behind}
 use Rattle.sg_engine.specs.declared.show.Show.{Show}
@@ -32,10 +38,14 @@ use Rattle.sg_engine.specs.declared.show.Show.TheVariants as show
 use Rattle.sg_engine.specs.Output.{trace_of}
 use Rattle.sg_trace.specs.Line.{line_of}
 use Rattle.sg_engine.specs.declared.simulation.Simulation.{Simulation}
-use Rattle.sg_engine.specs.kept.Invariant.{IsKept, PartIs}
+use Rattle.sg_engine.specs.kept.Invariant.{IsKept, Holds, PartIs, StaysKept}
 use Rattle.sg_engine.specs.kept.SeatRules.{IsSeated}
 use Rattle.sg_engine.specs.kept.Stretches.{Trace, Advances, CutsOff, IsCutOff, IsOver}
-use Rattle.sg_engine.proofs.Reaching.{goes_back, reached_then, reached_as, goes_on_to, ends_at}
+use Rattle.sg_engine.specs.kept.Writing.{Pending, pending, Adds, AddsFront, EndsForMemory}
+use Rattle.sg_engine.proofs.Fronts.{memory_cuts, memory_front}
+use Rattle.sg_engine.proofs.Asked.{part_rises, run_rises_behind as asks_behind}
+use Rattle.sg_engine.proofs.Reaching.{goes_back, reached_needed, reached_then, reached_as, goes_on_to, ends_at}
+use Rattle.sg_engine.proofs.Waiting.{adds_front, adds_none, adds_then, front_adds, front_waits}
 use Rattle.sg_engine.proofs.Working.{run_rises_behind}
 
 -- ---- one part
@@ -62,49 +72,87 @@ scene_as {spent} names roads script setup setup' how taken minds world old new s
     subst (λ (s : Setup). IsStretch spent names (λ answers. round_or_pass (scene roads s script) answers world) (ending how) taken minds old new) same reached
 
 -- a part was made and printed
-pub advances : {spent : ℕ} (names : Names) (trace : Trace) (whole : Answering → Progress) (how : Option Ended) (taken : List ℕ) (minds : List (Option Mind)) (part part' : PartView) (kept kept' : Kept) (old mid new : Known) (before after : Option (List ℕ)) →
-    IsStretch spent names whole (ending how) taken minds (moment part kept mid) (moment part' kept' new) → mid.records ≡ [] → old.records ≡ [] → mid.setup ≡ old.setup → after ≡ gain before (trace new.records) → (new' : Known) → new'.core ≡ new.core → new'.setup ≡ new.setup →
+pub advances : {spent : ℕ} (names : Names) (trace : Trace) (whole : Answering → Progress) (how : Option Ended) (taken : List ℕ) (minds : List (Option Mind)) (part part' : PartView) (kept kept' : Kept) (old mid new : Known) (before after : Pending) →
+    IsStretch spent names whole (ending how) taken minds (moment part kept mid) (moment part' kept' new) → mid.records ≡ [] → old.records ≡ [] → mid.setup ≡ old.setup → Adds (trace new.records) before after → (new' : Known) → new'.core ≡ new.core → new'.setup ≡ new.setup →
     Advances spent names trace whole how taken minds (moment part kept old) (moment part' kept' new') before after
 advances names trace whole how taken minds part part' kept kept' old mid new before after reached none none' setup printed new' core setup' =
     let made : new.records ≡ reached.made = reached.records ∙ ap (λ (l : List Record). l ++ reached.made) none in
     record {
       records = reached.made;
       reached = with_records names whole (ending how) taken minds part part' kept kept' mid new old (record new' { records = reached.made }) [] reached none' (sym setup) core setup' refl;
-      printed = printed ∙ ap (λ (l : List Record). gain before (trace l)) made;
+      printed = subst (λ (l : List Record). Adds (trace l) before after) made printed;
     }
 
 -- a write failed in the lines of a part
-pub cuts_off_at : {spent : ℕ} (names : Names) (trace : Trace) (whole : Answering → Progress) (how : Option Ended) (taken : List ℕ) (minds : List (Option Mind)) (part part' : PartView) (kept kept' : Kept) (mid new : Known) (before after : Option (List ℕ)) →
-    IsStretch spent names whole (ending how) taken minds (moment part kept mid) (moment part' kept' new) → mid.records ≡ [] → GainsFront (trace new.records) before after → CutsOff names trace whole taken part part' before after
+pub cuts_off_at : {spent : ℕ} (names : Names) (trace : Trace) (whole : Answering → Progress) (how : Option Ended) (taken : List ℕ) (minds : List (Option Mind)) (part part' : PartView) (kept kept' : Kept) (mid new : Known) (before : Pending) (after : Option (List ℕ)) →
+    IsStretch spent names whole (ending how) taken minds (moment part kept mid) (moment part' kept' new) → mid.records ≡ [] → AddsFront (trace new.records) before after → CutsOff names trace whole taken part part' before after
 cuts_off_at names trace whole how taken minds part part' kept kept' mid new before after reached none front = record {
   piece = reached.piece;
   reads = reached.reads;
+  needed = reached_needed names whole how taken minds (moment part kept mid) (moment part' kept' new) reached;
   front = λ source goes.
       let made : new.records ≡ (whole (answer_of names source)).made = reached.records ∙ ap (λ (l : List Record). l ++ reached.made) none ∙ sym (ap (λ (p : Progress). p.made) (reached.is source goes) ∙ append-nil reached.made) in
-      subst (λ (l : List Record). GainsFront (trace l) before after) made front;
+      subst (λ (l : List Record). AddsFront (trace l) before after) made front;
 }
 
--- memory was wanting, and nothing was written
-pub cuts_off_by : (names : Names) (trace : Trace) (whole : Answering → Progress) (taken : List ℕ) (part part' : PartView) (before : Option (List ℕ)) → LacksMemory part part' → CutsOff names trace whole taken part part' before before
-cuts_off_by names trace whole taken part part' before cut = record {
+-- memory was wanting, and at most what waited was written
+pub cuts_off_by : (names : Names) (trace : Trace) (whole : Answering → Progress) (taken : List ℕ) (part part' : PartView) (before : Pending) (after : Option (List ℕ)) → LacksMemory names whole taken part part' → GainsFront before.waiting before.held after → CutsOff names trace whole taken part part' before after
+cuts_off_by names trace whole taken part part' before after cut front = record {
   piece = cut.piece;
   reads = cut.reads;
-  front = λ source goes. (trace (whole (answer_of names source)).made, record { done = []; split = refl; held = sym (gain-nil before) });
+  needed = cut.needed;
+  front = λ source goes. front_waits (trace (whole (answer_of names source)).made) before after front;
 }
 
+-- before a part nothing is read
+pub lacks_room : (names : Names) (at : Scene) (taken : List ℕ) (minds : List (Option Mind)) (now : Moment) (world : World) → now.part.stage ≢ Fresh → StandsFor names taken minds now world → LacksMemory names (λ answers. round_or_pass at answers world) taken now.part now.part
+lacks_room names at taken minds now world begun stands = record {
+  piece = [];
+  reads = reads_none now.part begun;
+  needed = λ source goes.
+      let same : taken ++ [] ≡ taken = append-nil taken in
+      let there : GoesOn taken now.part.stage source = subst (λ (t : List ℕ). GoesOn t now.part.stage source) same goes in
+      subst (λ (t : List ℕ). IsWithinNeed names source (round_or_pass at (answer_of names source) world).world.asks (length t)) (sym same)
+      (within_more names source world.asks _ _ (part_rises at (answer_of names source) world) (stands.script.needed source there));
+}
+
+-- memory was wanting in a scene whose setup is the same
+pub lacks_scene : (names : Names) (roads : Roads) (script : Bool) (setup setup' : Setup) (taken : List ℕ) (world : World) (old new : PartView) → setup' ≡ setup →
+    LacksMemory names (λ answers. round_or_pass (scene roads setup' script) answers world) taken old new → LacksMemory names (λ answers. round_or_pass (scene roads setup script) answers world) taken old new
+lacks_scene names roads script setup setup' taken world old new same lacks = subst (λ (s : Setup). LacksMemory names (λ answers. round_or_pass (scene roads s script) answers world) taken old new) same lacks
+
 -- a part of a scene is that of the same one
-pub part_as : (spent : ℕ) (names : Names) (trace : Trace) (at at' : Scene) (how : Option Ended) (taken : List ℕ) (minds : List (Option Mind)) (world : World) (old new : Moment) (before after : Option (List ℕ)) → at ≡ at' →
+pub part_as : (spent : ℕ) (names : Names) (trace : Trace) (at at' : Scene) (how : Option Ended) (taken : List ℕ) (minds : List (Option Mind)) (world : World) (old new : Moment) (before after : Pending) → at ≡ at' →
     PartIs spent names trace (λ answers. round_or_pass at answers world) how taken minds old new before after → PartIs spent names trace (λ answers. round_or_pass at' answers world) how taken minds old new before after
 part_as spent names trace at at' how taken minds world old new before after same part = subst (λ (s : Scene). PartIs spent names trace (λ answers. round_or_pass s answers world) how taken minds old new before after) same part
 
 -- a part that didn't cut the run off
-pub part_is : {spent : ℕ} (names : Names) (trace : Trace) (whole : Answering → Progress) (how : Option Ended) (taken : List ℕ) (minds : List (Option Mind)) (old new : Moment) (before after : Option (List ℕ)) → cuts how ≡ false → Advances spent names trace whole how taken minds old new before after → PartIs spent names trace whole how taken minds old new before after
+pub part_is : {spent : ℕ} (names : Names) (trace : Trace) (whole : Answering → Progress) (how : Option Ended) (taken : List ℕ) (minds : List (Option Mind)) (old new : Moment) (before after : Pending) → cuts how ≡ false → Advances spent names trace whole how taken minds old new before after → PartIs spent names trace whole how taken minds old new before after
 part_is names trace whole how taken minds old new before after uncut advances = rw uncut advances
 
--- what a simulation keeps behind a part whose records are written and cleared
+-- a part that did
+pub part_cuts : (spent : ℕ) (names : Names) (trace : Trace) (whole : Answering → Progress) (how : Option Ended) (taken : List ℕ) (minds : List (Option Mind)) (old new : Moment) (before after : Pending) → cuts how ≡ true → CutsOff names trace whole taken old.part new.part before after.held → PartIs spent names trace whole how taken minds old new before after
+part_cuts spent names trace whole how taken minds old new before after is cut = rw is cut
+
+-- what it keeps
+pub part_kept : (plan : Plan) (how : Option Ended) (shows : Part → PartView) (old new : Simulation) (places : List SeatView) → cuts how ≡ false → new.kernel.setup ≡ old.kernel.setup → Holds plan shows new places → StaysKept plan how shows old new places
+part_kept plan how shows old new places uncut setup kept = record { setup = setup; kept = rw uncut kept }
+
+-- a part for which memory was wanting
+pub part_short : (spent : ℕ) (names : Names) (trace : Trace) (whole : Answering → Progress) (how : Ended) (taken : List ℕ) (minds : List (Option Mind)) (old new : Moment) (waits first left : List ℕ) (before after : Stream → Option (List ℕ)) (faults : ℕ) → LacksMemory names whole taken old.part new.part → waits ≡ first → EndsForMemory waits how before after faults →
+    PartIs spent names trace whole (Some how) taken minds old new (pending (before Out) first) (pending (after Out) left)
+part_short spent names trace whole how taken minds old new waits first left before after faults lacks same ends =
+    let front : GainsFront first (before Out) (after Out) = subst (λ (w : List ℕ). GainsFront w (before Out) (after Out)) same (memory_front waits how before after faults ends) in
+    part_cuts spent names trace whole (Some how) taken minds old new (pending (before Out) first) (pending (after Out) left) (memory_cuts waits how before after faults ends) (cuts_off_by names trace whole taken old.part new.part (pending (before Out) first) (after Out) lacks front)
+
+-- behind it nothing is kept but the setup
+pub short_kept : (plan : Plan) (how : Ended) (shows : Part → PartView) (old new : Simulation) (places : List SeatView) → is_cut how ≡ true → new.kernel.setup ≡ old.kernel.setup → StaysKept plan (Some how) shows old new places
+short_kept plan how shows old new places cut setup = record { setup = setup; kept = rw cut tt }
+
+-- what a simulation keeps behind a part whose records are in lines and cleared
 pub kept_on : (deployed : Deployed) (part : PartView) (sim : Simulation) (places : List SeatView) (known : Known) → Fits deployed (moment part (kept_of sim.script) known) → sim.kernel ≡ record known { records = [] } → length known.setup.homes ≡ length deployed.actors →
-    All (IsSeated (extent known.setup)) places → length places ≡ length deployed.actors → length deployed.actors ≤ vec_capacity sim.calls → length deployed.actors ≤ 65536 → sim.buffer ≡ [] → IsKept deployed part sim places
-kept_on deployed part sim places known fits is homes seated number calls few empty = record {
+    All (IsSeated (extent known.setup)) places → length places ≡ length deployed.actors → length deployed.actors ≤ vec_capacity sim.calls → length deployed.actors ≤ 65536 → IsKept deployed part sim places
+kept_on deployed part sim places known fits is homes seated number calls few = record {
   fits = record {
     actors = ap (λ (k : Known). length k.core.actors) is ∙ fits.actors;
     queues = fits.queues;
@@ -118,7 +166,6 @@ kept_on deployed part sim places known fits is homes seated number calls few emp
   calls = calls;
   few = few;
   cleared = ap (λ (k : Known). k.records) is;
-  empty = empty;
 }
 
 -- ---- rounds and passes one after another
@@ -146,11 +193,12 @@ pub work_more : (start count later spent work mine its : ℕ) → count ≤ star
 work_more start count later spent work mine its worked is same more = omega arith
 
 -- the run has come to its end
-abbrev pub over_by : {spent : ℕ} (start count : ℕ) (names : Names) (trace : Trace) (whole : Answering → Progress) (how : Ended) (minds : List (Option Mind)) (p0 p1 : PartView) (q0 q1 : Kept) (k0 k1 : Known) (core : Core) (before after : Option (List ℕ)) →
-    (reached : IsStretch spent names whole (ending (Some how)) [] minds (moment p0 q0 k0) (moment p1 q1 k1)) → core ≡ k1.core → after ≡ gain before (trace reached.made) → count ≤ start + spent → IsOver start count names trace whole how core p0 p1 before after
+abbrev pub over_by : {spent : ℕ} (start count : ℕ) (names : Names) (trace : Trace) (whole : Answering → Progress) (how : Ended) (minds : List (Option Mind)) (p0 p1 : PartView) (q0 q1 : Kept) (k0 k1 : Known) (core : Core) (before after : Pending) →
+    (reached : IsStretch spent names whole (ending (Some how)) [] minds (moment p0 q0 k0) (moment p1 q1 k1)) → core ≡ k1.core → Adds (trace reached.made) before after → count ≤ start + spent → IsOver start count names trace whole how core p0 p1 before after
 over_by {spent} start count names trace whole how minds p0 p1 q0 q1 k0 k1 core before after reached same printed worked = record {
   piece = reached.piece;
   reads = reached.reads;
+  needed = reached_needed names whole (Some how) [] minds (moment p0 q0 k0) (moment p1 q1 k1) reached;
   world = reached.world;
   core_is = same ∙ reached.stands.core;
   worked = worked_as start spent count reached.world.work reached.work worked;
@@ -162,8 +210,8 @@ over_by {spent} start count names trace whole how minds p0 p1 q0 q1 k0 k1 core b
 }
 
 -- all actors have ended
-pub completed : {spent : ℕ} (start count : ℕ) (names : Names) (trace : Trace) (whole : Answering → Progress) (n m : ℕ) (at : Scene) (minds : List (Option Mind)) (p0 p1 : PartView) (q0 q1 : Kept) (k0 k1 : Known) (core : Core) (before after : Option (List ℕ)) →
-    (reached : IsStretch spent names whole (rest_of n at) [] minds (moment p0 q0 k0) (moment p1 q1 k1)) → n ≡ suc m → core ≡ k1.core → list_all is_ended core.actors ≡ true → after ≡ gain before (trace reached.made) → count ≤ start + spent → IsOver start count names trace whole ended.Completed core p0 p1 before after
+pub completed : {spent : ℕ} (start count : ℕ) (names : Names) (trace : Trace) (whole : Answering → Progress) (n m : ℕ) (at : Scene) (minds : List (Option Mind)) (p0 p1 : PartView) (q0 q1 : Kept) (k0 k1 : Known) (core : Core) (before after : Pending) →
+    (reached : IsStretch spent names whole (rest_of n at) [] minds (moment p0 q0 k0) (moment p1 q1 k1)) → n ≡ suc m → core ≡ k1.core → list_all is_ended core.actors ≡ true → Adds (trace reached.made) before after → count ≤ start + spent → IsOver start count names trace whole ended.Completed core p0 p1 before after
 completed start count names trace whole n m at minds p0 p1 q0 q1 k0 k1 core before after reached more same all printed worked =
     let all_here : list_all is_ended reached.world.core.actors ≡ true = ap (λ (c : Core). list_all is_ended c.actors) (sym (same ∙ reached.stands.core)) ∙ all in
     over_by start count names trace whole ended.Completed minds p0 p1 q0 q1 k0 k1 core before after (record {
@@ -179,8 +227,8 @@ completed start count names trace whole n m at minds p0 p1 q0 q1 k0 k1 core befo
     }) same printed worked
 
 -- no round and no pass is left
-pub used_up : {spent : ℕ} (start count : ℕ) (names : Names) (trace : Trace) (whole : Answering → Progress) (n : ℕ) (at : Scene) (minds : List (Option Mind)) (p0 p1 : PartView) (q0 q1 : Kept) (k0 k1 : Known) (core : Core) (before after : Option (List ℕ)) →
-    (reached : IsStretch spent names whole (rest_of n at) [] minds (moment p0 q0 k0) (moment p1 q1 k1)) → n ≡ 0 → core ≡ k1.core → after ≡ gain before (trace reached.made) → count ≤ start + spent → IsOver start count names trace whole ended.Budget core p0 p1 before after
+pub used_up : {spent : ℕ} (start count : ℕ) (names : Names) (trace : Trace) (whole : Answering → Progress) (n : ℕ) (at : Scene) (minds : List (Option Mind)) (p0 p1 : PartView) (q0 q1 : Kept) (k0 k1 : Known) (core : Core) (before after : Pending) →
+    (reached : IsStretch spent names whole (rest_of n at) [] minds (moment p0 q0 k0) (moment p1 q1 k1)) → n ≡ 0 → core ≡ k1.core → Adds (trace reached.made) before after → count ≤ start + spent → IsOver start count names trace whole ended.Budget core p0 p1 before after
 used_up start count names trace whole n at minds p0 p1 q0 q1 k0 k1 core before after reached none same printed worked =
     over_by start count names trace whole ended.Budget minds p0 p1 q0 q1 k0 k1 core before after (record {
       piece = reached.piece;
@@ -195,7 +243,7 @@ used_up start count names trace whole n at minds p0 p1 q0 q1 k0 k1 core before a
     }) same printed worked
 
 -- one part more, and the run goes on
-abbrev pub part_on : {spent next : ℕ} (names : Names) (trace : Trace) (whole : Answering → Progress) (n m : ℕ) (at : Scene) (minds minds' : List (Option Mind)) (p0 p1 p2 : PartView) (q0 q1 q2 : Kept) (k0 k1 k1' k2 : Known) (before after : Option (List ℕ)) →
+abbrev pub part_on : {spent next : ℕ} (names : Names) (trace : Trace) (whole : Answering → Progress) (n m : ℕ) (at : Scene) (minds minds' : List (Option Mind)) (p0 p1 p2 : PartView) (q0 q1 q2 : Kept) (k0 k1 k1' k2 : Known) (before after : Pending) →
     (reached : IsStretch spent names whole (rest_of n at) [] minds (moment p0 q0 k0) (moment p1 q1 k1')) → n ≡ suc m → k1'.core ≡ k1.core → k1'.setup ≡ k1.setup → list_all is_ended k1.core.actors ≡ false → k0.records ≡ [] →
     (part : Advances next names trace (λ answers. round_or_pass at answers reached.world) None reached.piece minds' (moment p1 q1 k1) (moment p2 q2 k2) before after) → k1.records ≡ [] →
     IsStretch next names whole (rest_of m at) [] minds' (moment p0 q0 k0) (moment p2 q2 (record k2 { records = reached.made ++ part.records }))
@@ -211,7 +259,7 @@ part_on {next} names trace whole n m at minds minds' p0 p1 p2 q0 q1 q2 k0 k1 k1'
     (goes_on_to names (λ answers. round_or_pass at answers reached.world) (rest_of m at) reached.piece minds' (moment p1 q1 k1') (moment p2 q2 (record k2 { records = reached.made ++ part.records })) shifted))
 
 -- one part more, which has ended the run
-abbrev pub part_last : {spent next : ℕ} (names : Names) (trace : Trace) (whole : Answering → Progress) (how : Ended) (n m : ℕ) (at : Scene) (minds minds' : List (Option Mind)) (p0 p1 p2 : PartView) (q0 q1 q2 : Kept) (k0 k1 k1' k2 : Known) (before after : Option (List ℕ)) →
+abbrev pub part_last : {spent next : ℕ} (names : Names) (trace : Trace) (whole : Answering → Progress) (how : Ended) (n m : ℕ) (at : Scene) (minds minds' : List (Option Mind)) (p0 p1 p2 : PartView) (q0 q1 q2 : Kept) (k0 k1 k1' k2 : Known) (before after : Pending) →
     (reached : IsStretch spent names whole (rest_of n at) [] minds (moment p0 q0 k0) (moment p1 q1 k1')) → n ≡ suc m → k1'.core ≡ k1.core → k1'.setup ≡ k1.setup → list_all is_ended k1.core.actors ≡ false → k0.records ≡ [] →
     (part : Advances next names trace (λ answers. round_or_pass at answers reached.world) (Some how) reached.piece minds' (moment p1 q1 k1) (moment p2 q2 k2) before after) → k1.records ≡ [] →
     IsStretch next names whole (ending (Some how)) [] minds' (moment p0 q0 k0) (moment p2 q2 (record k2 { records = reached.made ++ part.records }))
@@ -248,12 +296,20 @@ made_and_then None first next = ((next first.world).made, refl)
 made_and_then (Some how) first next = ([], sym (append-nil first.made))
 
 -- a part was cut off, and so is the run
-pub part_cut : {spent : ℕ} (names : Names) (trace : Trace) → Appends trace → (whole : Answering → Progress) (n m : ℕ) (at : Scene) (minds : List (Option Mind)) (p0 p1 p2 : PartView) (q0 q1 : Kept) (k0 k1 : Known) (start before after : Option (List ℕ)) →
-    (reached : IsStretch spent names whole (rest_of n at) [] minds (moment p0 q0 k0) (moment p1 q1 k1)) → n ≡ suc m → list_all is_ended k1.core.actors ≡ false → before ≡ gain start (trace reached.made) →
+pub part_cut : {spent : ℕ} (names : Names) (trace : Trace) → Appends trace → (whole : Answering → Progress) (n m : ℕ) (at : Scene) (minds : List (Option Mind)) (p0 p1 p2 : PartView) (q0 q1 : Kept) (k0 k1 : Known) (start before : Pending) (after : Option (List ℕ)) →
+    (reached : IsStretch spent names whole (rest_of n at) [] minds (moment p0 q0 k0) (moment p1 q1 k1)) → n ≡ suc m → list_all is_ended k1.core.actors ≡ false → Adds (trace reached.made) start before →
     CutsOff names trace (λ answers. round_or_pass at answers reached.world) reached.piece p1 p2 before after → CutsOff names trace whole [] p0 p2 start after
 part_cut names trace appends whole n m at minds p0 p1 p2 q0 q1 k0 k1 start before after reached more some printed cut = record {
   piece = reached.piece ++ cut.piece;
   reads = reads_then reached.piece cut.piece p0 p1 p2 reached.reads cut.reads;
+  needed = λ source goes.
+      let answers = answer_of names source in
+      let first = round_or_pass at answers reached.world in
+      let some_here : list_all is_ended reached.world.core.actors ≡ false = ap (λ (c : Core). list_all is_ended c.actors) (sym reached.stands.core) ∙ some in
+      let all : whole answers ≡ with_front reached.made (and_then first (rest_of m at answers)) =
+      reached.is source (goes_back reached.piece cut.piece p1 p2 source cut.reads goes) ∙ ap (with_front reached.made) (run_goes n m at answers reached.world more some_here) in
+      subst (λ (p : Progress). IsWithinNeed names source p.world.asks (length (reached.piece ++ cut.piece))) (sym all)
+      (within_more names source first.world.asks _ _ (asks_behind m first at answers) (cut.needed source goes));
   front = λ source goes.
       let answers = answer_of names source in
       let first = round_or_pass at answers reached.world in
@@ -264,22 +320,13 @@ part_cut names trace appends whole n m at minds p0 p1 p2 q0 q1 k0 k1 start befor
       ∙ ap (λ (l : List Record). reached.made ++ l) rest.1 in
       let text : trace (whole answers).made ≡ trace reached.made ++ (trace first.made ++ trace rest.0) =
       ap trace all ∙ appends reached.made (first.made ++ rest.0) ∙ ap (λ (l : List ℕ). trace reached.made ++ l) (appends first.made rest.0) in
-      let front = cut.front source goes in (
-        front.0 ++ trace rest.0,
-        record {
-          done = trace reached.made ++ front.1.done;
-          split = text
-              ∙ ap (λ (l : List ℕ). trace reached.made ++ (l ++ trace rest.0)) front.1.split
-              ∙ ap (λ (l : List ℕ). trace reached.made ++ l) (append_assoc front.1.done front.0 (trace rest.0))
-              ∙ sym (append_assoc (trace reached.made) front.1.done (front.0 ++ trace rest.0));
-          held = front.1.held ∙ ap (λ (h : Option (List ℕ)). gain h front.1.done) printed ∙ gain-gain start (trace reached.made) front.1.done;
-        },
-      );
+      let front = front_adds (trace first.made) (trace rest.0) before after (cut.front source goes) in
+      subst (λ (l : List ℕ). AddsFront l start after) (sym text) (adds_front (trace reached.made) (trace first.made ++ trace rest.0) start before after printed front);
 }
 
 -- a part was cut off that looked no oftener than it may
-pub cut_off : {spent : ℕ} (from later : ℕ) (names : Names) (trace : Trace) → Appends trace → (whole : Answering → Progress) (n m : ℕ) (at : Scene) (minds : List (Option Mind)) (p0 p1 p2 : PartView) (q0 q1 : Kept) (k0 k1 : Known) (start before after : Option (List ℕ)) →
-    (reached : IsStretch spent names whole (rest_of n at) [] minds (moment p0 q0 k0) (moment p1 q1 k1)) → n ≡ suc m → list_all is_ended k1.core.actors ≡ false → before ≡ gain start (trace reached.made) →
+pub cut_off : {spent : ℕ} (from later : ℕ) (names : Names) (trace : Trace) → Appends trace → (whole : Answering → Progress) (n m : ℕ) (at : Scene) (minds : List (Option Mind)) (p0 p1 p2 : PartView) (q0 q1 : Kept) (k0 k1 : Known) (start before : Pending) (after : Option (List ℕ)) →
+    (reached : IsStretch spent names whole (rest_of n at) [] minds (moment p0 q0 k0) (moment p1 q1 k1)) → n ≡ suc m → list_all is_ended k1.core.actors ≡ false → Adds (trace reached.made) start before →
     CutsOff names trace (λ answers. round_or_pass at answers reached.world) reached.piece p1 p2 before after → later ≤ from + work_behind reached.world → IsCutOff from later names trace whole p0 p2 start after
 unfolding part_cut
 cut_off from later names trace appends whole n m at minds p0 p1 p2 q0 q1 k0 k1 start before after reached more some printed cut worked = record {
@@ -293,17 +340,17 @@ cut_off from later names trace appends whole n m at minds p0 p1 p2 q0 q1 k0 k1 s
 }
 
 -- ---- the run so far, with its trace lines
-pub record SoFar (start count : ℕ) (names : Names) (trace : Trace) (whole : Answering → Progress) (rest : Answering → World → Progress) (minds : List (Option Mind)) (p0 p1 : PartView) (q0 q1 : Kept) (k0 k1 : Known) (before after : Option (List ℕ)) : Type 0 where
+pub record SoFar (start count : ℕ) (names : Names) (trace : Trace) (whole : Answering → Progress) (rest : Answering → World → Progress) (minds : List (Option Mind)) (p0 p1 : PartView) (q0 q1 : Kept) (k0 k1 : Known) (before after : Pending) : Type 0 where
   pub records : List Record
   pub spent : ℕ
   pub worked : count ≤ start + spent
   pub reached : IsStretch spent names whole rest [] minds (moment p0 q0 k0) (moment p1 q1 (record k1 { records = records }))
-  pub printed : after ≡ gain before (trace reached.made)
+  pub printed : Adds (trace reached.made) before after
 
 -- at the beginning
-pub far_first : (start : ℕ) (names : Names) (trace : Trace) (whole : Answering → Progress) (rest : Answering → World → Progress) (minds : List (Option Mind)) (part : PartView) (kept : Kept) (known : Known) (before : Option (List ℕ)) (world : World) →
-    part.stage ≢ Fresh → StandsFor names [] minds (moment part kept known) world → ((answers : Answering) → whole answers ≡ rest answers world) → world.work ≡ 0 → trace [] ≡ [] → SoFar start start names trace whole rest minds part part kept kept known known before before
-far_first start names trace whole rest minds part kept known before world begun stands same idle none = record {
+pub far_first : (start : ℕ) (names : Names) (trace : Trace) (whole : Answering → Progress) (rest : Answering → World → Progress) (minds : List (Option Mind)) (part : PartView) (kept : Kept) (known : Known) (held : Option (List ℕ)) (waiting : List ℕ) (world : World) →
+    part.stage ≢ Fresh → StandsFor names [] minds (moment part kept known) world → ((answers : Answering) → whole answers ≡ rest answers world) → world.work ≡ 0 → trace [] ≡ [] → waiting ≡ [] → SoFar start start names trace whole rest minds part part kept kept known known (pending held []) (pending held waiting)
+far_first start names trace whole rest minds part kept known held waiting world begun stands same idle none empty = record {
   records = known.records;
   spent = 0;
   worked = omega arith;
@@ -318,11 +365,17 @@ far_first start names trace whole rest minds part kept known before world begun 
     records = sym (append-nil known.records);
     is = λ source goes. same (answer_of names source);
   };
-  printed = sym (gain-nil before) ∙ ap (gain before) (sym none);
+  printed = adds_none (trace []) waiting held none empty;
 }
 
+-- the lines of a part stand behind those of the run so far
+far_printed : (trace : Trace) → Appends trace → (so_far records made : List Record) (start before after : Pending) → records ≡ made → Adds (trace so_far) start before → Adds (trace records) before after → Adds (trace (so_far ++ made)) start after
+far_printed trace appends so_far records made start before after same first then =
+    let text : trace so_far ++ trace records ≡ trace (so_far ++ made) = ap (λ (l : List Record). trace so_far ++ trace l) same ∙ sym (appends so_far made) in
+    subst (λ (l : List ℕ). Adds l start after) text (adds_then (trace so_far) (trace records) start before after first then)
+
 -- one part more
-pub far_on : {next : ℕ} (from count later : ℕ) (names : Names) (trace : Trace) → Appends trace → (whole : Answering → Progress) (n m : ℕ) (at : Scene) (minds minds' : List (Option Mind)) (p0 p1 p2 : PartView) (q0 q1 q2 : Kept) (k0 k1 k2 : Known) (start before after : Option (List ℕ)) →
+pub far_on : {next : ℕ} (from count later : ℕ) (names : Names) (trace : Trace) → Appends trace → (whole : Answering → Progress) (n m : ℕ) (at : Scene) (minds minds' : List (Option Mind)) (p0 p1 p2 : PartView) (q0 q1 q2 : Kept) (k0 k1 k2 : Known) (start before after : Pending) →
     (far : SoFar from count names trace whole (rest_of n at) minds p0 p1 q0 q1 k0 k1 start before) → n ≡ suc m → list_all is_ended k1.core.actors ≡ false → k0.records ≡ [] → k1.records ≡ [] →
     Advances next names trace (λ answers. round_or_pass at answers far.reached.world) None far.reached.piece minds' (moment p1 q1 k1) (moment p2 q2 k2) before after → later ≤ from + next → SoFar from later names trace whole (rest_of m at) minds' p0 p2 q0 q2 k0 k2 start after
 far_on {next} from count later names trace appends whole n m at minds minds' p0 p1 p2 q0 q1 q2 k0 k1 k2 start before after far more some first cleared part worked =
@@ -332,23 +385,23 @@ far_on {next} from count later names trace appends whole n m at minds minds' p0 
       spent = next;
       worked = worked;
       reached = part_on names trace whole n m at minds minds' p0 p1 p2 q0 q1 q2 k0 k1 (record k1 { records = far.records }) k2 before after far.reached more refl refl some first part cleared;
-      printed = part.printed ∙ ap₂ (λ (h : Option (List ℕ)) (l : List Record). gain h (trace l)) far.printed made ∙ gain-gain start (trace far.reached.made) (trace part.reached.made) ∙ ap (gain start) (sym (appends far.reached.made part.reached.made));
+      printed = far_printed trace appends far.reached.made part.records part.reached.made start before after made far.printed part.printed;
     }
 
 -- the last part
-pub far_over : {next : ℕ} (from count later : ℕ) (names : Names) (trace : Trace) → Appends trace → (whole : Answering → Progress) (how : Ended) (n m : ℕ) (at : Scene) (minds minds' : List (Option Mind)) (p0 p1 p2 : PartView) (q0 q1 q2 : Kept) (k0 k1 k2 : Known) (start before after : Option (List ℕ)) →
+pub far_over : {next : ℕ} (from count later : ℕ) (names : Names) (trace : Trace) → Appends trace → (whole : Answering → Progress) (how : Ended) (n m : ℕ) (at : Scene) (minds minds' : List (Option Mind)) (p0 p1 p2 : PartView) (q0 q1 q2 : Kept) (k0 k1 k2 : Known) (start before after : Pending) →
     (far : SoFar from count names trace whole (rest_of n at) minds p0 p1 q0 q1 k0 k1 start before) → n ≡ suc m → list_all is_ended k1.core.actors ≡ false → k0.records ≡ [] → k1.records ≡ [] →
     Advances next names trace (λ answers. round_or_pass at answers far.reached.world) (Some how) far.reached.piece minds' (moment p1 q1 k1) (moment p2 q2 k2) before after → later ≤ from + next → IsOver from later names trace whole how k2.core p0 p2 start after
 far_over from count later names trace appends whole how n m at minds minds' p0 p1 p2 q0 q1 q2 k0 k1 k2 start before after far more some first cleared part worked =
     let made : part.records ≡ part.reached.made = part.reached.records ∙ ap (λ (l : List Record). l ++ part.reached.made) cleared in
     over_by from later names trace whole how minds' p0 p2 q0 q2 k0 (record k2 { records = far.reached.made ++ part.records }) k2.core start after
     (part_last names trace whole how n m at minds minds' p0 p1 p2 q0 q1 q2 k0 k1 (record k1 { records = far.records }) k2 before after far.reached more refl refl some first part cleared) refl
-    (part.printed ∙ ap₂ (λ (h : Option (List ℕ)) (l : List Record). gain h (trace l)) far.printed made ∙ gain-gain start (trace far.reached.made) (trace part.reached.made) ∙ ap (gain start) (sym (appends far.reached.made part.reached.made))) worked
+    (far_printed trace appends far.reached.made part.records part.reached.made start before after made far.printed part.printed) worked
 
 -- what a part did that ended the run or cut it off
-pub far_ends : (from count later : ℕ) (names : Names) (trace : Trace) → Appends trace → (whole : Answering → Progress) (how : Ended) (b : Bool) (n m : ℕ) (at : Scene) (minds minds' : List (Option Mind)) (p0 p1 p2 : PartView) (q0 q1 q2 : Kept) (k0 k1 k2 : Known) (start before after : Option (List ℕ)) →
+pub far_ends : (from count later : ℕ) (names : Names) (trace : Trace) → Appends trace → (whole : Answering → Progress) (how : Ended) (b : Bool) (n m : ℕ) (at : Scene) (minds minds' : List (Option Mind)) (p0 p1 p2 : PartView) (q0 q1 q2 : Kept) (k0 k1 k2 : Known) (start before after : Pending) →
     (far : SoFar from count names trace whole (rest_of n at) minds p0 p1 q0 q1 k0 k1 start before) → n ≡ suc m → list_all is_ended k1.core.actors ≡ false → k0.records ≡ [] → k1.records ≡ [] →
-    MatchBool b (CutsOff names trace (λ answers. round_or_pass at answers far.reached.world) far.reached.piece p1 p2 before after) (Advances (work_behind far.reached.world) names trace (λ answers. round_or_pass at answers far.reached.world) (Some how) far.reached.piece minds' (moment p1 q1 k1) (moment p2 q2 k2) before after) →
-    later ≤ from + work_behind far.reached.world → MatchBool b (IsCutOff from later names trace whole p0 p2 start after) (IsOver from later names trace whole how k2.core p0 p2 start after)
-far_ends from count later names trace appends whole how true n m at minds minds' p0 p1 p2 q0 q1 q2 k0 k1 k2 start before after far more some first cleared cut worked = cut_off from later names trace appends whole n m at minds p0 p1 p2 q0 q1 k0 (record k1 { records = far.records }) start before after far.reached more some far.printed cut worked
+    MatchBool b (CutsOff names trace (λ answers. round_or_pass at answers far.reached.world) far.reached.piece p1 p2 before after.held) (Advances (work_behind far.reached.world) names trace (λ answers. round_or_pass at answers far.reached.world) (Some how) far.reached.piece minds' (moment p1 q1 k1) (moment p2 q2 k2) before after) →
+    later ≤ from + work_behind far.reached.world → MatchBool b (IsCutOff from later names trace whole p0 p2 start after.held) (IsOver from later names trace whole how k2.core p0 p2 start after)
+far_ends from count later names trace appends whole how true n m at minds minds' p0 p1 p2 q0 q1 q2 k0 k1 k2 start before after far more some first cleared cut worked = cut_off from later names trace appends whole n m at minds p0 p1 p2 q0 q1 k0 (record k1 { records = far.records }) start before after.held far.reached more some far.printed cut worked
 far_ends from count later names trace appends whole how false n m at minds minds' p0 p1 p2 q0 q1 q2 k0 k1 k2 start before after far more some first cleared part worked = far_over from count later names trace appends whole how n m at minds minds' p0 p1 p2 q0 q1 q2 k0 k1 k2 start before after far more some first cleared part worked

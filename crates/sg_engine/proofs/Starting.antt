@@ -15,13 +15,14 @@ use Rattle.sg_rows.specs.declared.rows.ActorRow.{ActorRow}
 use Rattle.sg_rows.specs.Platform.{Platform}
 use Rattle.sg_script.specs.Known.{known_in}
 use Rattle.sg_script.specs.Stands.{AreLimited, Stands, kept_of, actors_of}
+use Rattle.sg_script.proofs.AllNeeds.{needed_none}
 use Rattle.sg_engine.specs.declared.simulation.Simulation.{Simulation}
 use Rattle.sg_engine.specs.kept.Invariant.{at_moment, IsFirst, IsKept}
 use Rattle.sg_engine.specs.kept.Moments.{Fits}
 use Rattle.sg_engine.specs.Roles.{first_minds, minds_from}
 use Rattle.sg_engine.specs.kept.SeatRules.{mind_in, minds_of, IsSeated}
 
-length-minds_from : (me : ℕ) (rows : List ActorRow) → length (minds_from me rows) ≡ length rows
+pub length-minds_from : (me : ℕ) (rows : List ActorRow) → length (minds_from me rows) ≡ length rows
 length-minds_from me [] = refl
 length-minds_from me (row ∷ rows) = let more = length-minds_from (me + 1) rows in omega (arith, more)
 
@@ -44,8 +45,8 @@ first_fits platform deployed budget part sim new queues begun waiting = record {
 }
 
 first_kept : (platform : Platform) (deployed : Deployed) (budget : ℕ) (part : PartView) (sim : Simulation) (places : List SeatView) → sim.kernel ≡ first_known (capacities_in platform) (setup_of platform deployed budget) → Fits deployed (at_moment part sim) →
-    minds_of places ≡ first_minds deployed → All (IsSeated (extent_of deployed)) places → length deployed.actors ≤ vec_capacity sim.calls → length deployed.actors ≤ 65536 → sim.buffer ≡ [] → IsKept deployed part sim places
-first_kept platform deployed budget part sim places new fits minds seated calls few empty = record {
+    minds_of places ≡ first_minds deployed → All (IsSeated (extent_of deployed)) places → length deployed.actors ≤ vec_capacity sim.calls → length deployed.actors ≤ 65536 → IsKept deployed part sim places
+first_kept platform deployed budget part sim places new fits minds seated calls few = record {
   fits = fits;
   homes = ap (λ (k : Known). length k.setup.homes) new ∙ length-map deployed.actors home_of;
   number = sym (length-map places mind_in) ∙ ap length minds ∙ length-minds_from 1 deployed.actors;
@@ -53,7 +54,6 @@ first_kept platform deployed budget part sim places new fits minds seated calls 
   calls = calls;
   few = few;
   cleared = ap (λ (k : Known). k.records) new;
-  empty = empty;
 }
 
 -- the simulation at its beginning
@@ -61,9 +61,10 @@ pub is_first : (platform : Platform) (deployed : Deployed) (budget : ℕ) (part 
     part.stage ≢ Fresh → AreLimited (extent_of deployed) (kept_of sim.script) → Stands (known_in deployed) [] part.stage (λ _. 0) (kept_of sim.script) →
     minds_of places ≡ first_minds deployed → All (IsSeated (extent_of deployed)) places → length deployed.actors ≤ vec_capacity sim.calls → length deployed.actors ≤ 65536 → sim.buffer ≡ [] → IsFirst platform deployed budget part sim places
 is_first platform deployed budget part sim places new queues begun waiting stands minds seated calls few empty = record {
-  kept = first_kept platform deployed budget part sim places new (first_fits platform deployed budget part sim new queues begun waiting) minds seated calls few empty;
+  kept = first_kept platform deployed budget part sim places new (first_fits platform deployed budget part sim new queues begun waiting) minds seated calls few;
   setup = ap (λ (k : Known). k.setup) new;
-  stands = record { script = stands; core = ap (λ (k : Known). k.core) new; minds = minds };
+  stands = record { script = record { stands = stands; needed = needed_none (known_in deployed) part.stage (λ _. 0) }; core = ap (λ (k : Known). k.core) new; minds = minds };
+  empty = empty;
 }
 
 -- the same of the seats, as they are lent

@@ -1,5 +1,5 @@
 -- Ends that don't cut a run off.
-use Rattle.std.proofs.Common.{◌≡◌, ◌∙◌, ap, sym, Bool, true, false, Option, Some, Result, Ok, Err}
+use Rattle.std.proofs.Common.{◌≡◌, ◌∙◌, ap, sym, Bool, true, false, Option, None, Some, Result, Ok, Err}
 use Rattle.std.specs.Prelude.{IfOk}
 use Rattle.sg_base.specs.declared.memory.Memory.{Memory}
 use Rattle.sg_engine.specs.declared.ended.Ended.{Ended}
@@ -9,6 +9,9 @@ use Rattle.sg_engine.specs.kept.Moments.{cuts, IsUncut}
 
 uncut_not : (b : Bool) → b ≡ true → b ≡ false → ⊥
 uncut_not b is isnt = absurd (let e : true ≡ false = sym is ∙ isnt in cc e)
+
+pub none_not : (how : Ended) → None ≡ Some how → ⊥
+none_not how is = cc is
 
 pub uncut_write : (how : Option Ended) → cuts how ≡ false → how ≡ Some ended.WriteFault → ⊥
 uncut_write how uncut is = uncut_not (cuts how) (ap cuts is) uncut

@@ -12,7 +12,7 @@ use Rattle.sg_script.specs.declared.fault.ScriptFault.{ScriptFault}
 use Rattle.sg_engine.specs.World.{World}
 use Rattle.sg_engine.specs.declared.ended.Ended.{Ended}
 use Rattle.sg_engine.specs.declared.ended.Ended.TheVariants as ended
-use Rattle.sg_engine.specs.Run.{Scene, Answering, Progress, at_world, and_then, and_then_by, answer_step, anyone_ready, are_completed, ask_step, call_after, calls_from, if_call, in_world, inboxes, is_ask, mind_after, one_call, round, round_or_pass, run_from, work_behind, zip_with}
+use Rattle.sg_engine.specs.Run.{Scene, Answering, Progress, at_world, and_then, and_then_by, answer_step, anyone_ready, are_completed, ask_step, call_after, calls_from, if_call, in_world, inboxes, is_ask, mind_after, round, round_or_pass, run_from, work_behind, zip_with}
 
 -- ---- calls leave the work as it is
 work_by : (b : Bool) (x y : Progress) (n : ℕ) → x.world.work ≡ n → y.world.work ≡ n → (cond b x y).world.work ≡ n

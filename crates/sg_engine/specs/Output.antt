@@ -13,6 +13,7 @@ use Rattle.sg_rows.specs.Deployment.{Deployed}
 use Rattle.sg_route.specs.Roads.{roads_of}
 use Rattle.sg_script.specs.Answer.{answer_of}
 use Rattle.sg_script.specs.Known.{known_in}
+use Rattle.sg_script.specs.Needed.{needed_by}
 use Rattle.sg_engine.specs.FaultLines.{script_line, no_route_line, too_long_line}
 use Rattle.sg_trace.specs.Ending.{ending_of}
 use Rattle.sg_trace.specs.Line.{line_of}
@@ -76,28 +77,31 @@ fault_line platform (ended.TooLong from to) = too_long_line platform from to
 fault_line platform ended.ReadFault = codes "cannot read the script\n"
 fault_line platform other = []
 
--- what a run writes, how it ends, at how many uses its passes may look, and how many contexts it takes
+-- What a run writes, how it ends, at how many uses its passes may look, how many bytes of its script its Asks need, and
+-- how many contexts it takes.
 pub record Output : Type 0 where
   pub out : List ℕ
   pub err : List ℕ
   pub ended : Ended
   pub work : ℕ
+  pub need : ℕ
   pub contexts : ℕ
 
 -- the run ended so (each run has an end)
 abbrev pub end_of : Progress → Ended
 end_of progress = unwrap_or progress.ended ended.Budget
 
-abbrev pub written_of : Show → Platform → Deployed → ℕ → Progress → Output
-written_of show platform deployed budget progress = record {
+abbrev pub written_of : Show → Platform → Deployed → ℕ → Source → Progress → Output
+written_of show platform deployed budget source progress = record {
   out = trace_of show platform deployed progress.made ++ last_lines show platform deployed budget progress.world.core (end_of progress);
   err = fault_line platform (end_of progress);
   ended = end_of progress;
   work = progress.world.work;
+  need = needed_by (known_in deployed) source (length deployed.actors) progress.world.asks;
   contexts = contexts_of deployed;
 }
 
 -- what a run writes and how it ends, with or without a script, by what that gives
 abbrev pub run_output : Platform → Deployed → Bool → ℕ → Show → Source → Output
 run_output platform deployed script budget show source =
-    written_of show platform deployed budget (run_of (scene_of platform deployed script budget) (first_of platform deployed budget) (answer_of (known_in deployed) source))
+    written_of show platform deployed budget source (run_of (scene_of platform deployed script budget) (first_of platform deployed budget) (answer_of (known_in deployed) source))

@@ -1,6 +1,6 @@
 -- What a whole run has done, in the words of its contract.
 use Rattle.std.specs.Prelude.{◌≡◌, ◌<◌, ◌≤◌, ◌+◌, ◌⊎◌, ℕ, Bool, true, false, IsTrue, MatchBool, List, Option}
-use Rattle.sg_edge.specs.Files.{PartView, Only, KeepsTelling}
+use Rattle.sg_edge.specs.Files.{PartView, Only, KeepsTelling, TakesUpTo}
 use Rattle.sg_edge.specs.declared.files.Part.{Part}
 use Rattle.sg_edge.specs.declared.files.Part.TheVariants.{Script}
 use Rattle.sg_edge.specs.declared.files.Stage.TheVariants.{Broken}
@@ -47,6 +47,17 @@ pub record TakesScript {F : Type 0} (shows : F → Part → PartView) (script : 
 -- a fact for each source that the script's part may have given; without a script, for any
 abbrev pub ForSources : Bool → (Part → PartView) → (Part → PartView) → (Source → Type 0) → Type 0
 ForSources script old new P = (source : Source) → (IsTrue script → Gives (old Script) (new Script) source) → P source
+
+-- where so many bytes are needed, less than a piece of 4,096 bytes more of the script was taken
+abbrev pub IsReadOnDemand : ℕ → (Part → PartView) → (Part → PartView) → Type 0
+IsReadOnDemand need old new = TakesUpTo (need + 4095) (old Script) (new Script)
+
+-- a setup stands for what it stood for
+pub record StandsAsBefore (old new : Setup) : Type 0 where
+  pub platform : new.platform ≡ old.platform
+  pub deployment : new.deployment ≡ old.deployment
+  pub router : new.router ≡ old.router
+  pub script : new.script ≡ old.script
 
 -- what the run of a setup writes and how it ends, by what the script's part gives
 abbrev pub output_of : Setup → ℕ → Show → Source → Output

@@ -1,17 +1,16 @@
 //! One part of a run, with its lines.
-ghost use Rattle.std.specs.Prelude.{◌≡◌, ◌+◌, ◌≤◌, ⊤, false, MatchBool};
+ghost use Rattle.std.specs.Prelude.{◌≡◌, ◌+◌, ◌≤◌, false};
 ghost use Rattle.sg_actor.specs.Seats.{seat_views};
-ghost use Rattle.sg_edge.specs.declared.files.Stage.TheVariants.{Broken};
 ghost use Rattle.sg_kernel.specs.Roads.{AreOver};
-ghost use Rattle.sg_edge.specs.Cause.{HasCause};
-ghost use Rattle.sg_engine.specs.kept.Moments.{cuts, script_in, ReadsScript};
-ghost use Rattle.sg_engine.specs.kept.Invariant.{now_at, Holds, LeadsPart};
+ghost use Rattle.sg_engine.specs.kept.Moments.{ReadsScript};
+ghost use Rattle.sg_engine.specs.kept.Writing.{EndsForMemory};
+ghost use Rattle.sg_engine.specs.kept.Invariant.{snapshot_of, Holds, IsCaused, LeadsPart, StaysKept};
 ghost use Rattle.sg_engine.specs.Run.{are_completed, next_work};
-ghost use Rattle.sg_engine.specs.kept.SeatRules.{minds_of};
 
+use crate::buffer::Buffer;
 use crate::ended::Ended;
 use crate::plan::Plan;
-use crate::printing::print_records;
+use crate::printing::put_trace;
 use crate::rounds::round_or_pass;
 use crate::simulation::Simulation;
 use sg_actor::{Actor, Seat};
@@ -21,12 +20,24 @@ use sg_route::Router;
 use std::sync::ledger::Ledger;
 use std::thread::Threads;
 
-/// Makes a round, or a pass where nobody is ready, and writes the lines of its records. The answer is how the run
-/// ended, if it did.
+// Writes the lines that wait, where memory is wanting for the run to go on. It takes none itself.
+fn end_for_memory<O: Sinks>(buffer: &mut Buffer, out: &mut O) -> Ended
+    requires { O.faults out.old ≡ 0 }
+    ensures { EndsForMemory buffer.old result
+        (O.contents out.old) (O.contents out.new) (O.faults out.new) }
+{
+    match buffer.flush(out) {
+        Ok(()) => Ended::Memory,
+        Err(Failed) => Ended::WriteFault,
+    }
+}
+
+/// Makes a round, or a pass where nobody is ready, and puts the lines of its records into the buffer. The answer is how
+/// the run ended, if it did. Where memory is wanting, the lines that wait are written.
 pub fn advance<R: Threads + Sync, F: Files, O: Sinks, L: Ledger>(
     rt: &R,
     plan: &Plan<'_>,
-    router: &Router,
+    router: &mut Router,
     sim: &mut Simulation,
     seats: &mut [Seat],
     files: &mut F,
@@ -35,31 +46,30 @@ pub fn advance<R: Threads + Sync, F: Files, O: Sinks, L: Ledger>(
 ) -> Option<Ended>
     requires kept { Holds plan.now (F.shows files.old) sim.old
         (seat_views (λ b. mind b) seats.old) }
-    requires roads { AreOver sim.old.kernel.setup.links router.now }
+    requires roads { AreOver sim.old.kernel.setup.links router.old }
     requires going { are_completed sim.old.kernel.core ≡ false }
     requires sound { O.faults out.old ≡ 0 }
-    ensures part { LeadsPart plan.now router.now result (O.contents out.old) (O.contents out.new)
-        (minds_of (seat_views (λ b. mind b) seats.old))
-        (minds_of (seat_views (λ b. mind b) seats.new))
-        (now_at plan.now (F.shows files.old) sim.old)
-        (now_at plan.now (F.shows files.new) sim.new) }
-    ensures kept { MatchBool (cuts result) ⊤
-        (Holds plan.now (F.shows files.new) sim.new (seat_views (λ b. mind b) seats.new)) }
-    ensures setup { sim.new.kernel.setup ≡ sim.old.kernel.setup }
-    ensures cause { HasCause (result ≡ Some Ended.WriteFault) (result ≡ Some Ended.ReadFault)
-        (O.faults out.new) ((script_in plan.now (F.shows files.new)).stage ≡ Broken) }
+    ensures part { LeadsPart plan.now router.old result
+        (snapshot_of plan.now (F.shows files.old) (O.contents out.old) sim.old
+        (seat_views (λ b. mind b) seats.old))
+        (snapshot_of plan.now (F.shows files.new) (O.contents out.new) sim.new
+        (seat_views (λ b. mind b) seats.new)) }
+    ensures kept { StaysKept plan.now result (F.shows files.new) sim.old sim.new
+        (seat_views (λ b. mind b) seats.new) }
+    ensures cause { IsCaused plan.now result (F.shows files.new) (O.faults out.new) }
     ensures script { ReadsScript F.shows plan.now.script files.old files.new }
     ensures steps { steps.new ≤ steps.old + next_work sim.old.kernel.core }
+    ensures router { router.new ≡ router.old }
 {
     match sim.kernel.reserve_round(seats.len()) {
         Ok(()) => {}
-        Err(Memory) => return Some(Ended::Memory),
+        Err(Memory) => return Some(end_for_memory(&mut sim.buffer, out)),
     }
     let how = match round_or_pass(rt, plan, router, sim, seats, files, steps) {
         Ok(how) => how,
-        Err(Memory) => return Some(Ended::Memory),
+        Err(Memory) => return Some(end_for_memory(&mut sim.buffer, out)),
     };
-    match print_records(plan, sim.kernel.records(), &mut sim.buffer, out) {
+    match put_trace(plan, sim.kernel.records(), &mut sim.buffer, out) {
         Ok(()) => {}
         Err(Failed) => return Some(Ended::WriteFault),
     }

@@ -63,7 +63,7 @@ fn asks_script(script: bool, call: Call) -> bool
 // Answers a call.
 fn answer_one<F: Files>(
     plan: &Plan<'_>,
-    router: &Router,
+    router: &mut Router,
     kernel: &mut Kernel,
     script: &mut Script,
     files: &mut F,
@@ -72,9 +72,9 @@ fn answer_one<F: Files>(
     requires caller { MayCall kernel.old.core made.actor.0 }
     requires call { IsCall (extent kernel.old.setup) made.call }
     requires room { 0 < kernel.old.room }
-    requires roads { AreOver kernel.old.setup.links router.now }
+    requires roads { AreOver kernel.old.setup.links router.old }
     requires fits { FitsIn plan.now (F.shows files.old) script.old kernel.old }
-    ensures step { LeadsCalls plan.now (call_at plan.now router.now kernel.old made) result
+    ensures step { LeadsCalls plan.now (call_at plan.now router.old kernel.old made) result
         (moment_in plan.now (F.shows files.old) script.old kernel.old)
         (moment_in plan.now (F.shows files.new) script.new kernel.new) }
     ensures fits { FitsIn plan.now (F.shows files.new) script.new kernel.new }
@@ -82,6 +82,7 @@ fn answer_one<F: Files>(
     ensures setup { kernel.new.setup ≡ kernel.old.setup }
     ensures room { kernel.old.room ≤ kernel.new.room + 1 }
     ensures free { LeavesFree made.actor.0 kernel.old.core kernel.new.core }
+    ensures router { router.new ≡ router.old }
 {
     if asks_script(plan.script, made.call) {
         answer_ask(plan, kernel, script, files, made.actor)
@@ -93,7 +94,7 @@ fn answer_one<F: Files>(
 /// Answers the calls in rising id.
 pub fn answer_calls<F: Files>(
     plan: &Plan<'_>,
-    router: &Router,
+    router: &mut Router,
     kernel: &mut Kernel,
     script: &mut Script,
     files: &mut F,
@@ -103,14 +104,15 @@ pub fn answer_calls<F: Files>(
         × IsCall (extent kernel.old.setup) made.call) calls.now }
     requires rises { AllPairs (λ (a b : ActorCall). a.actor.0 < b.actor.0) calls.now }
     requires room { length calls.now ≤ kernel.old.room }
-    requires roads { AreOver kernel.old.setup.links router.now }
+    requires roads { AreOver kernel.old.setup.links router.old }
     requires fits { FitsIn plan.now (F.shows files.old) script.old kernel.old }
-    ensures step { LeadsCalls plan.now (calls_at plan.now router.now kernel.old calls.now) result
+    ensures step { LeadsCalls plan.now (calls_at plan.now router.old kernel.old calls.now) result
         (moment_in plan.now (F.shows files.old) script.old kernel.old)
         (moment_in plan.now (F.shows files.new) script.new kernel.new) }
     ensures fits { FitsIn plan.now (F.shows files.new) script.new kernel.new }
     ensures setup { kernel.new.setup ≡ kernel.old.setup }
     ensures script { UsesScript F.shows plan.now.script result files.old files.new }
+    ensures router { router.new ≡ router.old }
 {
     for place in 0..calls.len() {
         let made = calls[place];

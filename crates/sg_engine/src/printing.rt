@@ -1,11 +1,11 @@
-//! The lines on Out.
-ghost use Rattle.std.specs.Prelude.{◌≡◌, ◌++◌, [], OnOk};
+//! The lines on Out. Each is put into the buffer.
+ghost use Rattle.std.specs.Prelude.{◌≡◌, ◌++◌};
 ghost use Rattle.sg_states.specs.Records.{AreRecords, IsRecord};
 ghost use Rattle.sg_kernel.specs.World.{IsActor, state_of};
 ghost use Rattle.sg_rows.specs.Deployment.{extent_of};
 ghost use Rattle.sg_trace.specs.Ending.{IsLastOf, ending_of};
 ghost use Rattle.sg_trace.specs.Line.{line_of};
-ghost use Rattle.sg_engine.specs.kept.Writing.{Writes, Puts};
+ghost use Rattle.sg_engine.specs.kept.Writing.{Puts};
 ghost use Rattle.sg_engine.specs.kept.Invariant.{IsOfSetup};
 ghost use Rattle.sg_engine.specs.Output.{trace_of, blocked_line, blocked_lines};
 ghost use Rattle.sg_engine.specs.kept.Stretches.{trace_in};
@@ -14,7 +14,7 @@ use crate::buffer::Buffer;
 use crate::plan::Plan;
 use crate::show::Show;
 use sg_base::{ActorId, Record};
-use sg_edge::{Failed, Sinks, Stream, write_all};
+use sg_edge::{Failed, Sinks};
 use sg_kernel::Kernel;
 use sg_trace::{Last, ending_line, line};
 
@@ -59,46 +59,27 @@ fn put_records<O: Sinks>(
     Ok(())
 }
 
-/// Writes a trace line for each record where all is shown, in one write where the stream takes it.
-pub fn print_records<O: Sinks>(
+/// Puts a trace line for each record into the buffer where all is shown.
+pub fn put_trace<O: Sinks>(
     plan: &Plan<'_>,
     records: &[Record],
     buffer: &mut Buffer,
     out: &mut O,
 ) -> Result<(), Failed>
     requires records { AreRecords (extent_of plan.now.deployment.now) records.now }
-    requires empty { buffer.old ≡ [] }
     requires sound { O.faults out.old ≡ 0 }
-    ensures writes { Writes (trace_in plan.now records.now)
-        result (O.contents out.old) (O.contents out.new) (O.faults out.new) }
-    ensures empty { OnOk result (buffer.new ≡ []) }
+    ensures { Puts (buffer.old ++ trace_in plan.now records.now) buffer.new result
+        (O.contents out.old) (O.contents out.new) (O.faults out.new) }
 {
     match plan.terms.show {
         Show::All => {}
         Show::Quiet | Show::Summary => return Ok(()),
     }
-    match put_records(plan, records, buffer, out) {
-        Ok(()) => buffer.flush(out),
-        Err(Failed) => Err(Failed),
-    }
+    put_records(plan, records, buffer, out)
 }
 
-/// Writes a last line.
-pub fn print_last<O: Sinks>(plan: &Plan<'_>, last: Last, out: &mut O) -> Result<(), Failed>
-    requires last { IsLastOf plan.now.deployment.now last }
-    requires sound { O.faults out.old ≡ 0 }
-    ensures { Writes (ending_of last plan.now.platform.now plan.now.deployment.now) result
-        (O.contents out.old) (O.contents out.new) (O.faults out.new) }
-{
-    let text = ending_line(&last, plan.platform, plan.deployment);
-    match write_all(out, Stream::Out, text.as_bytes()) {
-        Ok(()) => Ok(()),
-        Err(Failed) => Err(Failed),
-    }
-}
-
-// Puts a last line into the buffer.
-fn put_last<O: Sinks>(
+/// Puts a last line into the buffer.
+pub fn put_last<O: Sinks>(
     plan: &Plan<'_>,
     last: Last,
     buffer: &mut Buffer,
@@ -114,8 +95,8 @@ fn put_last<O: Sinks>(
     buffer.put(text.as_bytes(), out)
 }
 
-/// Writes two last lines.
-pub fn print_two<O: Sinks>(
+/// Puts two last lines into the buffer.
+pub fn put_two<O: Sinks>(
     plan: &Plan<'_>,
     first: Last,
     second: Last,
@@ -124,21 +105,16 @@ pub fn print_two<O: Sinks>(
 ) -> Result<(), Failed>
     requires first { IsLastOf plan.now.deployment.now first }
     requires second { IsLastOf plan.now.deployment.now second }
-    requires empty { buffer.old ≡ [] }
     requires sound { O.faults out.old ≡ 0 }
-    ensures { Writes (ending_of first plan.now.platform.now plan.now.deployment.now
-        ++ ending_of second plan.now.platform.now plan.now.deployment.now) result
+    ensures { Puts (buffer.old ++ (ending_of first plan.now.platform.now plan.now.deployment.now
+        ++ ending_of second plan.now.platform.now plan.now.deployment.now)) buffer.new result
         (O.contents out.old) (O.contents out.new) (O.faults out.new) }
 {
     match put_last(plan, first, buffer, out) {
         Ok(()) => {}
         Err(Failed) => return Err(Failed),
     }
-    match put_last(plan, second, buffer, out) {
-        Ok(()) => {}
-        Err(Failed) => return Err(Failed),
-    }
-    buffer.flush(out)
+    put_last(plan, second, buffer, out)
 }
 
 // Puts the line of an actor into the buffer, if it is blocked.
@@ -184,8 +160,8 @@ fn put_all_blocked<O: Sinks>(
     Ok(())
 }
 
-/// Writes a last line, and behind it one for each blocked actor, in rising id.
-pub fn print_stuck<O: Sinks>(
+/// Puts a last line into the buffer, and behind it one for each blocked actor, in rising id.
+pub fn put_stuck<O: Sinks>(
     plan: &Plan<'_>,
     kernel: &Kernel,
     last: Last,
@@ -194,20 +170,15 @@ pub fn print_stuck<O: Sinks>(
 ) -> Result<(), Failed>
     requires last { IsLastOf plan.now.deployment.now last }
     requires of { IsOfSetup plan.now.deployment.now kernel.now }
-    requires empty { buffer.old ≡ [] }
     requires sound { O.faults out.old ≡ 0 }
-    ensures { Writes (ending_of last plan.now.platform.now plan.now.deployment.now
-        ++ blocked_lines plan.now.platform.now plan.now.deployment.now 1 kernel.now.core.actors)
-        result
+    ensures { Puts (buffer.old ++ (ending_of last plan.now.platform.now plan.now.deployment.now
+        ++ blocked_lines plan.now.platform.now plan.now.deployment.now 1 kernel.now.core.actors))
+        buffer.new result
         (O.contents out.old) (O.contents out.new) (O.faults out.new) }
 {
     match put_last(plan, last, buffer, out) {
         Ok(()) => {}
         Err(Failed) => return Err(Failed),
     }
-    match put_all_blocked(plan, kernel, buffer, out) {
-        Ok(()) => {}
-        Err(Failed) => return Err(Failed),
-    }
-    buffer.flush(out)
+    put_all_blocked(plan, kernel, buffer, out)
 }

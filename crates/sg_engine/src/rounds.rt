@@ -23,16 +23,16 @@ use std::thread::Threads;
 fn round<R: Threads + Sync, F: Files>(
     rt: &R,
     plan: &Plan<'_>,
-    router: &Router,
+    router: &mut Router,
     sim: &mut Simulation,
     seats: &mut [Seat],
     files: &mut F,
 ) -> Result<Option<Ended>, Memory>
-    requires roads { AreOver sim.old.kernel.setup.links router.now }
+    requires roads { AreOver sim.old.kernel.setup.links router.old }
     requires fits { FitsNow plan.now (F.shows files.old) sim.old }
     requires room { HasRoom sim.old (seat_views (λ b. mind b) seats.old) }
     ensures step { Leads plan.now (λ world. world.work)
-        (round_at plan.now router.now sim.old.kernel) result
+        (round_at plan.now router.old sim.old.kernel) result
         (minds_of (seat_views (λ b. mind b) seats.old))
         (minds_of (seat_views (λ b. mind b) seats.new))
         (now_at plan.now (F.shows files.old) sim.old)
@@ -40,6 +40,7 @@ fn round<R: Threads + Sync, F: Files>(
     ensures fits { FitsNow plan.now (F.shows files.new) sim.new }
     ensures seats { KeepsSeats sim.old sim.new (seat_views (λ b. mind b) seats.new) }
     ensures script { UsesScript F.shows plan.now.script result files.old files.new }
+    ensures router { router.new ≡ router.old }
 {
     take_turns(rt, &sim.kernel, seats, &mut sim.calls, plan.terms.threads);
     answer_calls(
@@ -56,18 +57,18 @@ fn round<R: Threads + Sync, F: Files>(
 pub fn round_or_pass<R: Threads + Sync, F: Files, L: Ledger>(
     rt: &R,
     plan: &Plan<'_>,
-    router: &Router,
+    router: &mut Router,
     sim: &mut Simulation,
     seats: &mut [Seat],
     files: &mut F,
     steps: &mut Steps<L>,
 ) -> Result<Option<Ended>, Memory>
-    requires roads { AreOver sim.old.kernel.setup.links router.now }
+    requires roads { AreOver sim.old.kernel.setup.links router.old }
     requires fits { FitsNow plan.now (F.shows files.old) sim.old }
     requires room { HasRoom sim.old (seat_views (λ b. mind b) seats.old) }
     requires going { are_completed sim.old.kernel.core ≡ false }
     ensures step { Leads plan.now work_behind
-        (part_at plan.now router.now sim.old.kernel) result
+        (part_at plan.now router.old sim.old.kernel) result
         (minds_of (seat_views (λ b. mind b) seats.old))
         (minds_of (seat_views (λ b. mind b) seats.new))
         (now_at plan.now (F.shows files.old) sim.old)
@@ -76,6 +77,7 @@ pub fn round_or_pass<R: Threads + Sync, F: Files, L: Ledger>(
     ensures seats { KeepsSeats sim.old sim.new (seat_views (λ b. mind b) seats.new) }
     ensures script { UsesScript F.shows plan.now.script result files.old files.new }
     ensures steps { steps.new ≤ steps.old + next_work sim.old.kernel.core }
+    ensures router { router.new ≡ router.old }
 {
     if sim.kernel.any_ready() {
         round(rt, plan, router, sim, seats, files)

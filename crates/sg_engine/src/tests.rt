@@ -350,14 +350,14 @@ const NO_ROUTE: Ended = Ended::NoRoute {
 fn run_counted<R: Threads + Sync + Abort, F: Files, O: Sinks, L: Ledger>(
     rt: &R,
     alloc: Global,
-    setup: &Setup,
+    setup: &mut Setup,
     files: &mut F,
     crew: &mut Vec<Box<dyn Actor + Send>>,
     terms: (u32, u64, Show),
     out: &mut O,
     blank: Blank,
 ) -> Ended
-    requires begun { IsTrue setup.now.script → (F.shows files.old Part.Script).stage ≢ Fresh }
+    requires begun { IsTrue setup.old.script → (F.shows files.old Part.Script).stage ≢ Fresh }
     requires sound { O.faults out.old ≡ 0 }
     requires name { blank.name ≡ L.name }
     requires parts { blank.parts ≡ L.parts }
@@ -393,14 +393,14 @@ fn ends_with<R: Threads + Sync + Abort>(
     crew: &mut Vec<Box<dyn Actor + Send>>,
     terms: (u32, u64, Show),
 ) -> Result<(Ended, MemSinks), Fail> {
-    let setup = setup(alloc, actors, script.is_some())?;
+    let mut setup = setup(alloc, actors, script.is_some())?;
     let lines = script.unwrap_or("");
     let mut files = begun(alloc, lines.as_bytes())?;
     let mut out = MemSinks::new(alloc, 1000, 1000, &[], 7)?;
     let ended = run_counted::<R, MemFiles, MemSinks, Brand>(
         rt,
         alloc,
-        &setup,
+        &mut setup,
         &mut files,
         crew,
         terms,

@@ -3,7 +3,7 @@ ghost use Rattle.std.specs.Prelude.{◌≡◌, ◌≢◌, ◌+◌, ◌<◌, ◌�
 ghost use Rattle.sg_actor.specs.Seats.{seat_views};
 ghost use Rattle.sg_edge.specs.declared.files.Stage.TheVariants.{Fresh, Broken};
 ghost use Rattle.sg_edge.specs.Cause.{HasCause};
-ghost use Rattle.sg_engine.specs.RunContract.{is_cut as is_cut_spec, ForSources, HasBroken, IsRun, TakesScript, output_of};
+ghost use Rattle.sg_engine.specs.RunContract.{is_cut as is_cut_spec, ForSources, HasBroken, IsReadOnDemand, IsRun, StandsAsBefore, TakesScript, output_of};
 ghost use Rattle.sg_engine.specs.kept.Invariant.{AreRoadsOf, IsKept, IsFirst};
 ghost use Rattle.sg_engine.specs.Output.{contexts_of};
 ghost use Rattle.sg_engine.specs.kept.Moments.{script_in, ReadsScript};
@@ -26,11 +26,11 @@ use std::alloc::Global;
 use std::sync::ledger::Ledger;
 use std::thread::Threads;
 
-// Simulates to the end of the run, and writes the trace lines.
+// Simulates to the end of the run. The trace lines are written or wait in the buffer, where the run wasn't cut off.
 fn simulate<R: Threads + Sync, F: Files, O: Sinks, L: Ledger>(
     rt: &R,
     plan: &Plan<'_>,
-    router: &Router,
+    router: &mut Router,
     sim: &mut Simulation,
     seats: &mut [Seat],
     files: &mut F,
@@ -40,9 +40,9 @@ fn simulate<R: Threads + Sync, F: Files, O: Sinks, L: Ledger>(
     requires first { IsFirst plan.now.platform.now plan.now.deployment.now
         plan.now.terms.budget (script_in plan.now (F.shows files.old)) sim.old
         (seat_views (λ b. mind b) seats.old) }
-    requires roads { AreRoadsOf plan.now.platform.now router.now }
+    requires roads { AreRoadsOf plan.now.platform.now router.old }
     requires sound { O.faults out.old ≡ 0 }
-    ensures run { HasRun plan.now result sim.new.kernel.core steps.old steps.new
+    ensures run { HasRun plan.now result sim.new steps.old steps.new
         (script_in plan.now (F.shows files.old))
         (script_in plan.now (F.shows files.new))
         (O.contents out.old Stream.Out) (O.contents out.new Stream.Out) }
@@ -52,6 +52,7 @@ fn simulate<R: Threads + Sync, F: Files, O: Sinks, L: Ledger>(
     ensures cause { HasCause (result ≡ Ended.WriteFault) (result ≡ Ended.ReadFault)
         (O.faults out.new) ((script_in plan.now (F.shows files.new)).stage ≡ Broken) }
     ensures script { ReadsScript F.shows plan.now.script files.old files.new }
+    ensures router { router.new ≡ router.old }
 {
     for _turn in 0..plan.terms.budget + 1 {
         if sim.kernel.ending() {
@@ -85,7 +86,7 @@ fn is_cut(how: Ended) -> bool
 fn run_from<R: Threads + Sync, F: Files, O: Sinks, L: Ledger>(
     rt: &R,
     plan: &Plan<'_>,
-    router: &Router,
+    router: &mut Router,
     sim: &mut Simulation,
     seats: &mut [Seat],
     files: &mut F,
@@ -95,16 +96,20 @@ fn run_from<R: Threads + Sync, F: Files, O: Sinks, L: Ledger>(
     requires first { IsFirst plan.now.platform.now plan.now.deployment.now
         plan.now.terms.budget (script_in plan.now (F.shows files.old)) sim.old
         (seat_views (λ b. mind b) seats.old) }
-    requires roads { AreRoadsOf plan.now.platform.now router.now }
+    requires roads { AreRoadsOf plan.now.platform.now router.old }
     requires sound { O.faults out.old ≡ 0 }
     ensures output { ForSources plan.now.script (F.shows files.old) (F.shows files.new)
         (λ source. IsRun (planned_output plan.now source) result
         (O.contents out.old) (O.contents out.new) steps.old steps.new) }
+    ensures needed { ForSources plan.now.script (F.shows files.old) (F.shows files.new)
+        (λ source. IsReadOnDemand (planned_output plan.now source).need
+        (F.shows files.old) (F.shows files.new)) }
     ensures cause { HasCause (result ≡ Ended.WriteFault) (result ≡ Ended.ReadFault)
         (O.faults out.new) (HasBroken F.shows files.old files.new) }
     ensures memory { result ≡ Ended.Memory →
         O.contents out.new Stream.Err ≡ O.contents out.old Stream.Err }
     ensures script { TakesScript F.shows plan.now.script files.old files.new }
+    ensures router { router.new ≡ router.old }
 {
     let how = simulate(rt, plan, router, sim, seats, files, out, steps);
     if is_cut(how) {
@@ -119,15 +124,15 @@ fn run_from<R: Threads + Sync, F: Files, O: Sinks, L: Ledger>(
 /// The i-th actor takes the i-th context of the crew, which has those that aren't taken afterwards. Each round takes its
 /// turns on up to so many threads at once; how many can't be seen in anything that is written. The script is read
 /// while the run goes on, and only as far as an actor asks for its lines. `budget` is the most events that there may
-/// be, and `steps` counts the looks at uses of hosts and links.
+/// be, and `steps` counts the looks at uses of hosts and links. What the setup stands for stays as it was.
 ///
 /// What is written, and the end, are those of the definition, for what the script's part gives, and the looks are at
-/// most as many as its passes may take. Memory is taken at the
-/// beginning, before each round, and for lines of the script, and none once the run has ended.
+/// most as many as its passes may take. Of the script at most 4,095 bytes more are taken than the Asks of the run need.
+/// Memory is taken at the beginning, before each round, and for lines of the script, and none once the run has ended.
 pub fn run<R: Threads + Sync, F: Files, O: Sinks, L: Ledger>(
     rt: &R,
     alloc: Global,
-    setup: &Setup,
+    setup: &mut Setup,
     files: &mut F,
     crew: &mut Vec<Box<dyn Actor + Send>>,
     threads: u32,
@@ -138,20 +143,24 @@ pub fn run<R: Threads + Sync, F: Files, O: Sinks, L: Ledger>(
 ) -> Ended
     requires budget { budget ≤ 1000000000 }
     requires threads { 0 < threads }
-    requires begun { IsTrue setup.now.script → (F.shows files.old Part.Script).stage ≢ Fresh }
+    requires begun { IsTrue setup.old.script → (F.shows files.old Part.Script).stage ≢ Fresh }
     requires blank { All (λ b. mind b ≡ None) crew.old.items }
-    requires enough { length setup.now.deployment.actors ≤ length crew.old.items }
+    requires enough { length setup.old.deployment.actors ≤ length crew.old.items }
     requires sound { O.faults out.old ≡ 0 }
-    ensures output { ForSources setup.now.script (F.shows files.old) (F.shows files.new)
-        (λ source. IsRun (output_of setup.now budget show source) result
+    ensures output { ForSources setup.old.script (F.shows files.old) (F.shows files.new)
+        (λ source. IsRun (output_of setup.old budget show source) result
         (O.contents out.old) (O.contents out.new) steps.old steps.new) }
     ensures crew { result ≢ Ended.Memory →
-        crew.new.items ≡ drop (contexts_of setup.now.deployment) crew.old.items }
+        crew.new.items ≡ drop (contexts_of setup.old.deployment) crew.old.items }
+    ensures needed { ForSources setup.old.script (F.shows files.old) (F.shows files.new)
+        (λ source. IsReadOnDemand (output_of setup.old budget show source).need
+        (F.shows files.old) (F.shows files.new)) }
     ensures cause { HasCause (result ≡ Ended.WriteFault) (result ≡ Ended.ReadFault)
         (O.faults out.new) (HasBroken F.shows files.old files.new) }
     ensures memory { result ≡ Ended.Memory →
         O.contents out.new Stream.Err ≡ O.contents out.old Stream.Err }
-    ensures script { TakesScript F.shows setup.now.script files.old files.new }
+    ensures script { TakesScript F.shows setup.old.script files.old files.new }
+    ensures setup { StandsAsBefore setup.old setup.new }
 {
     let plan = Plan {
         platform: &setup.platform,
@@ -170,7 +179,7 @@ pub fn run<R: Threads + Sync, F: Files, O: Sinks, L: Ledger>(
     match start(alloc, &plan) {
         Ok(mut sim) => {
             let seats = seats.as_mut_slice();
-            let router = &setup.router;
+            let router = &mut setup.router;
             run_from(rt, &plan, router, &mut sim, seats, files, out, steps)
         }
         Err(Memory) => Ended::Memory,

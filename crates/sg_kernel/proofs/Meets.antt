@@ -9,7 +9,9 @@ use Rattle.sg_base.specs.declared.ids.BoxId.{BoxId}
 use Rattle.sg_base.specs.declared.ids.Serial.{Serial}
 use Rattle.sg_activity.specs.Task.{Task}
 use Rattle.sg_mailbox.specs.declared.sides.Side.{Side}
-use Rattle.sg_mailbox.specs.Posts.{Post, Posts, box_eq, is_other, without, waiting, meets, arrives, arrives_by}
+use Rattle.sg_mailbox.proofs.Lists.{box_found}
+use Rattle.sg_mailbox.specs.declared.sides.Post.{Post}
+use Rattle.sg_mailbox.specs.Posts.{Posts, box_eq, is_other, without, waiting, meets, arrives, arrives_by}
 use Rattle.sg_base.specs.declared.awaits.Await.{Await}
 use Rattle.sg_requests.specs.Requested.{queue_at, oldest, rest_of, queued, taken}
 use Rattle.sg_kernel.specs.declared.owners.How.TheVariants as how
@@ -17,7 +19,7 @@ use Rattle.sg_kernel.specs.declared.owners.Whose.{Whose}
 use Rattle.sg_kernel.specs.declared.owners.Whose.TheVariants.{Over, Posted}
 use Rattle.sg_kernel.specs.Meetings.{post_in, posts_from}
 use Rattle.sg_kernel.specs.kept.Sound.{is_posted, IsMade}
-use Rattle.sg_kernel.proofs.Postings.{FoundAt, box_found, box_found_same, posts-push, posts-set, posted_elsewhere, posted_here, found_post, not_posted}
+use Rattle.sg_kernel.proofs.Postings.{FoundAt, box_found_same, posts-push, posts-set, posted_elsewhere, posted_here, found_post, not_posted}
 
 -- ---- requests are for communications that were made
 abbrev pub AreMade : ℕ → List (List Await) → Type 0

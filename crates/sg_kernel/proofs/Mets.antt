@@ -8,7 +8,8 @@ use Rattle.sg_base.specs.declared.ids.PointId.{PointId}
 use Rattle.sg_base.specs.declared.ids.Serial.{Serial}
 use Rattle.sg_base.specs.Limits.{Extent}
 use Rattle.sg_mailbox.specs.declared.sides.Side.{Side}
-use Rattle.sg_mailbox.specs.Posts.{Post, is_other, waiting, meets, met}
+use Rattle.sg_mailbox.specs.declared.sides.Post.{Post}
+use Rattle.sg_mailbox.specs.Posts.{is_other, waiting, meets, met}
 use Rattle.sg_route.specs.declared.router.RouteFault.{RouteFault}
 use Rattle.sg_route.specs.Roads.{Roads}
 use Rattle.sg_route.specs.Route.{Route, route_of}

@@ -2,13 +2,13 @@
 use Rattle.std.proofs.Common.{◌≡◌, ◌≢◌, ℕ, zero, suc, ◌+◌, ◌-◌, ◌<◌, ◌≤◌, Bool, true, false, cond, true≢false, Option, None, Some, List, [], ◌∷◌, ◌++◌, length, set, get_or, append_assoc, refl, sym, ap, ap₂, subst, ◌∙◌, arith}
 use Rattle.std.specs.Prelude.{option_to_list}
 use Rattle.std.specs.List.{find, All}
-use Rattle.std.proofs.lemmas.Bool.Decides.{nat_tests}
 use Rattle.std.proofs.lemmas.List.{append-nil}
 use Rattle.std.proofs.lemmas.List.Elements.{All-nil, All-cons, All-append}
 use Rattle.sg_base.specs.declared.ids.BoxId.{BoxId}
-use Rattle.sg_base.specs.declared.ids.BoxId.TheVariants as box
 use Rattle.sg_mailbox.specs.declared.sides.Side.{Side}
-use Rattle.sg_mailbox.specs.Posts.{Post, box_eq, without}
+use Rattle.sg_mailbox.specs.declared.sides.Post.{Post}
+use Rattle.sg_mailbox.specs.Posts.{box_eq, without}
+use Rattle.sg_mailbox.proofs.Lists.{box_found, box_same}
 use Rattle.sg_kernel.specs.declared.owners.How.TheVariants as how
 use Rattle.sg_kernel.specs.declared.owners.Whose.{Whose}
 use Rattle.sg_kernel.specs.declared.owners.Whose.TheVariants.{Over, Alone, Posted, Pair}
@@ -16,16 +16,6 @@ use Rattle.sg_kernel.specs.Meetings.{post_in, posts_from}
 use Rattle.sg_kernel.specs.kept.Sound.{is_posted}
 
 -- ---- mailboxes
-pub box_found : (a b : BoxId) → box_eq a b ≡ true → a ≡ b
-box_found (box.Pair a b) (box.Pair c d) h = grind (arith, h, nat_tests)
-box_found (box.Pair a b) (box.Named c) h = absurd (cc h)
-box_found (box.Named a) (box.Pair b c) h = absurd (cc h)
-box_found (box.Named a) (box.Named b) h = grind (arith, h, nat_tests)
-
-pub box_same : (a : BoxId) → box_eq a a ≡ true
-box_same (box.Pair a b) = grind (arith, nat_tests)
-box_same (box.Named a) = grind (arith, nat_tests)
-
 pub box_found_same : (a b : BoxId) → a ≡ b → box_eq a b ≡ true
 box_found_same a b is = ap (box_eq a) (sym is) ∙ box_same a
 

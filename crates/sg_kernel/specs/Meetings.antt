@@ -13,7 +13,8 @@ use Rattle.sg_base.specs.declared.ids.Serial.{Serial}
 use Rattle.sg_activity.specs.Task.{comm_of}
 use Rattle.sg_activity.specs.Underway.{begun, drawn}
 use Rattle.sg_mailbox.specs.declared.sides.Side.{Side}
-use Rattle.sg_mailbox.specs.Posts.{Post, box_eq, meets}
+use Rattle.sg_mailbox.specs.declared.sides.Post.{Post}
+use Rattle.sg_mailbox.specs.Posts.{box_eq, meets}
 use Rattle.sg_base.specs.declared.awaits.Await.{Await}
 use Rattle.sg_base.specs.declared.awaits.Party.{Party}
 use Rattle.sg_base.specs.declared.awaits.Party.TheVariants.{Sender, Receiver}

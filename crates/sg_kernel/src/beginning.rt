@@ -1,6 +1,11 @@
 //! A simulation begins.
 
-ghost use Rattle.std.specs.Prelude.{◌≡◌, ◌≤◌, ◌^◌, IfOk};
+ghost use Rattle.std.specs.Prelude.{◌≡◌, ◌≤◌, ◌^◌, [], All, IfOk};
+ghost use Rattle.sg_base.specs.declared.ids.BoxId.{BoxId};
+ghost use Rattle.sg_activity.specs.Doing.{idle_on};
+ghost use Rattle.sg_activity.specs.Hosts.{IsHost};
+ghost use Rattle.sg_activity.specs.Links.{IsLink};
+ghost use Rattle.sg_mailbox.specs.Posts.{waiting};
 ghost use Rattle.sg_rows.specs.Deployment.{IsDeployedOn};
 ghost use Rattle.sg_kernel.specs.Start.{capacities_in, setup_of};
 ghost use Rattle.sg_kernel.specs.Known.{first_known};
@@ -10,7 +15,7 @@ ghost use Rattle.sg_kernel.specs.kept.Whole.{IsWhole};
 use crate::fields::Fields;
 use crate::owners::Owners;
 use crate::setup::{capacities, homes, hosts, links, members};
-use sg_activity::Activities;
+use sg_activity::{Activities, HostCap, LinkCap};
 use sg_base::Memory;
 use sg_mailbox::Boxes;
 use sg_requests::Requests;
@@ -18,6 +23,26 @@ use sg_rows::{Deployment, PlatformText};
 use sg_states::States;
 use sg_sync::Sync;
 use std::alloc::Global;
+
+// Nothing under way, and nobody in the mailboxes: last of all, so that no want of memory drops them.
+#[derive(Drop)]
+struct Idle {
+    doing: Activities,
+    boxes: Boxes,
+}
+
+fn make_idle(alloc: Global, hosts: &[HostCap], links: &[LinkCap]) -> Result<Idle, Memory>
+    requires hosts { All IsHost hosts.now }
+    requires links { All IsLink links.now }
+    ensures doing { IfOk result (λ idle. idle.doing ≡ idle_on hosts.now links.now) }
+    ensures boxes { IfOk result (λ idle. (mailbox : BoxId) → waiting idle.boxes mailbox ≡ []) }
+{
+    let boxes = Boxes::new(alloc)?;
+    Ok(Idle {
+        doing: Activities::new(alloc, hosts, links)?,
+        boxes,
+    })
+}
 
 /// Where a simulation begins.
 pub(crate) fn first_fields(
@@ -39,21 +64,25 @@ pub(crate) fn first_fields(
     let mutexes = deployment.mutexes().len();
     let actors = deployment.actors().len();
     let members = members(deployment.actors());
+    let states = States::new(alloc, actors, mutexes, semaphores.len())?;
+    let requests = Requests::new(alloc, actors)?;
+    let objects = Sync::new(alloc, actors as u32, mutexes as u32, &semaphores, members)?;
+    let homes = homes(alloc, deployment.actors())?;
+    let idle = make_idle(alloc, &hosts, &links)?;
     Ok(Fields {
-        states: States::new(alloc, actors, mutexes, semaphores.len())?,
+        states,
         whose: Owners::new(alloc),
-        boxes: Boxes::new(alloc),
-        requests: Requests::new(alloc, actors)?,
-        objects: Sync::new(alloc, actors as u32, mutexes as u32, &semaphores, members)?,
+        requests,
+        objects,
         hosts: hosts.len(),
         links: links.len(),
-        homes: homes(alloc, deployment.actors())?,
+        homes,
         mutexes,
         semaphores,
         members,
         events: 0,
         budget,
-        // last, so that no want of memory drops it
-        doing: Activities::new(alloc, &hosts, &links)?,
+        doing: idle.doing,
+        boxes: idle.boxes,
     })
 }

@@ -53,20 +53,21 @@ pub(crate) fn answer_call(
     fields: &mut Fields,
     actor: ActorId,
     call: Call,
-    router: &Router,
+    router: &mut Router,
 ) -> Result<(), Stop>
     requires caller { MayCall (core_of fields.old) actor.0 }
     requires call { IsCall (extent (setup_in fields.old)) call }
     requires room { 0 < fields.old.states.room }
-    requires roads { AreOver fields.old.links router.now }
+    requires roads { AreOver fields.old.links router.old }
     requires whole { IsWhole fields.old }
     ensures known { let setup = setup_in fields.old in
-        let step = answered router.now setup (core_of fields.old) actor.0 call in
+        let step = answered router.old setup (core_of fields.old) actor.0 call in
         known_of fields.new ≡ after_call (is_ok result) step (known_of fields.old) }
     ensures result { let setup = setup_in fields.old in
-        let step = answered router.now setup (core_of fields.old) actor.0 call in
+        let step = answered router.old setup (core_of fields.old) actor.0 call in
         result ≡ result_of step.stop }
     ensures whole { IsWhole fields.new }
+    ensures router { router.new ≡ router.old }
 {
     if fields.events == fields.budget {
         return Err(Stop::Budget);

@@ -92,16 +92,17 @@ impl Kernel {
     }
 
     /// Answers a call of a ready actor. An Ask is refused: `tell` is its answer where there is a script. `router` has
-    /// the routes of the kernel's platform.
-    pub fn answer(&mut self, actor: ActorId, call: Call, router: &Router) -> Result<(), Stop>
+    /// the routes of the kernel's platform, and stands for the same ones afterwards.
+    pub fn answer(&mut self, actor: ActorId, call: Call, router: &mut Router) -> Result<(), Stop>
         requires caller { MayCall self.old.core actor.0 }
         requires call { IsCall (extent self.old.setup) call }
         requires room { 0 < self.old.room }
-        requires roads { AreOver self.old.setup.links router.now }
+        requires roads { AreOver self.old.setup.links router.old }
         ensures step { self.new ≡ after_call (is_ok result)
-            (answered router.now self.old.setup self.old.core actor.0 call) self.old }
+            (answered router.old self.old.setup self.old.core actor.0 call) self.old }
         ensures result { result
-            ≡ result_of (answered router.now self.old.setup self.old.core actor.0 call).stop }
+            ≡ result_of (answered router.old self.old.setup self.old.core actor.0 call).stop }
+        ensures router { router.new ≡ router.old }
     {
         answer_call(&mut self.fields, actor, call, router)
     }

@@ -3,7 +3,7 @@
 ghost use Rattle.std.specs.Prelude.{◌≡◌, ◌≢◌, ◌-◌, ◌<◌, ◌≤◌, AllPairs, None, Some, is_ok, length, true};
 ghost use Rattle.sg_base.specs.declared.ids.BoxId.{BoxId};
 ghost use Rattle.sg_base.specs.Limits.{IsActorIn};
-ghost use Rattle.sg_mailbox.specs.Posts.{meets, met, arrives, waiting, AreBelow};
+ghost use Rattle.sg_mailbox.specs.Posts.{meets, waiting, IsFound};
 ghost use Rattle.sg_states.specs.Records.{IsTellable};
 ghost use Rattle.sg_states.specs.States.{CanCall};
 ghost use Rattle.sg_kernel.specs.World.{extent};
@@ -20,7 +20,7 @@ use crate::owners::{How, Whose};
 use crate::stop::Stop;
 use arrayvec::ArrayVec;
 use sg_base::{ActorId, Answer, Await, BoxId, Call, LinkId, Msg, Party, PointId, Serial};
-use sg_mailbox::{Boxes, Side};
+use sg_mailbox::{Found, Side};
 use sg_route::{RouteFault, Router};
 
 /// A side of a communication that comes to a mailbox.
@@ -114,39 +114,11 @@ fn take_part(fields: &mut Fields, comer: Comer, serial: Serial)
     }
 }
 
-// Whom a side meets.
-fn whom(fields: &Fields, comer: Comer) -> Option<(Serial, Side)>
-    ensures { result ≡ met (meets comer.sends (waiting fields.now.boxes comer.mailbox)) }
-{
-    if comer.sends {
-        fields.boxes.meets_send(comer.mailbox)
-    } else {
-        fields.boxes.meets_recv(comer.mailbox)
-    }
-}
-
-// The side goes into its mailbox: it waits there, or takes the one that it meets away.
-fn enter(boxes: &mut Boxes, comer: Comer, serial: Serial)
-    requires room { 0 < boxes.old.room }
-    requires serial { 0 < serial.0 }
-    requires above { AreBelow serial (waiting boxes.old comer.mailbox) }
-    ensures there { waiting boxes.new comer.mailbox
-        ≡ arrives comer.sends comer.side serial (waiting boxes.old comer.mailbox) }
-    ensures elsewhere { (other : BoxId) → other ≢ comer.mailbox
-        → waiting boxes.new other ≡ waiting boxes.old other }
-    ensures room { boxes.new.room ≡ boxes.old.room - 1 }
-{
-    if comer.sends {
-        boxes.send(comer.mailbox, comer.side, serial);
-    } else {
-        boxes.recv(comer.mailbox, comer.side, serial);
-    }
-}
-
 // The side is posted, as a communication with the next serial.
-fn post(fields: &mut Fields, comer: Comer)
+fn post(fields: &mut Fields, comer: Comer, found: Found)
     requires able { CanStep fields.old comer.side.actor.0 }
     requires comer { IsComer (extent (setup_in fields.old)) comer }
+    requires found { IsFound fields.old.boxes comer.mailbox comer.sends found }
     requires alone { meets comer.sends (waiting fields.old.boxes comer.mailbox) ≡ None }
     ensures known { CallsBy (posts comer) fields.old fields.new }
     ensures whole { IsWhole fields.new }
@@ -156,7 +128,9 @@ fn post(fields: &mut Fields, comer: Comer)
     fields
         .whose
         .push(Whose::Posted(comer.mailbox, comer.sends, comer.side));
-    enter(&mut fields.boxes, comer, serial);
+    fields
+        .boxes
+        .enter(comer.mailbox, comer.sends, found, comer.side, serial);
     take_part(fields, comer, serial);
 }
 
@@ -203,27 +177,30 @@ fn point_of(fields: &Fields, side: Side) -> PointId
 fn begin(
     fields: &mut Fields,
     comer: Comer,
-    serial: Serial,
-    other: Side,
+    found: Found,
+    met: (Serial, Side),
     links: &[LinkId],
     latency: u128,
 )
     requires able { CanStep fields.old comer.side.actor.0 }
     requires comer { IsComer (extent (setup_in fields.old)) comer }
-    requires met { met (meets comer.sends (waiting fields.old.boxes comer.mailbox))
-        ≡ Some (serial, other) }
+    requires found { IsFound fields.old.boxes comer.mailbox comer.sends found }
+    requires met { found.met ≡ Some met }
     requires route { IsOver fields.old.links
         (record { links = links.now; latency = latency }) }
     requires apart { AllPairs (λ a b. a ≢ b) links.now }
     ensures known { CallsBy
         (joins_with (record { links = links.now; latency = latency }) (setup_in fields.old)
-        comer serial other)
+        comer met.0 met.1)
         fields.old fields.new }
     ensures whole { IsWhole fields.new }
 {
+    let (serial, other) = met;
     fields.events += 1;
     let next = fields.doing.next_serial();
-    enter(&mut fields.boxes, comer, next);
+    fields
+        .boxes
+        .enter(comer.mailbox, comer.sends, found, comer.side, next);
     let sender = sender_of(comer, other);
     fields
         .doing
@@ -237,27 +214,29 @@ fn begin(
 // Both sides are there, and the communication begins over its route.
 fn join(
     fields: &mut Fields,
-    router: &Router,
+    router: &mut Router,
     comer: Comer,
-    serial: Serial,
-    other: Side,
+    found: Found,
+    met: (Serial, Side),
 ) -> Result<(), Stop>
     requires able { CanStep fields.old comer.side.actor.0 }
     requires comer { IsComer (extent (setup_in fields.old)) comer }
-    requires met { met (meets comer.sends (waiting fields.old.boxes comer.mailbox))
-        ≡ Some (serial, other) }
-    requires roads { AreOver fields.old.links router.now }
+    requires found { IsFound fields.old.boxes comer.mailbox comer.sends found }
+    requires met { found.met ≡ Some met }
+    requires roads { AreOver fields.old.links router.old }
     ensures known { known_of fields.new ≡ after_call (is_ok result)
-        (comes_in router.now comer fields.old) (known_of fields.old) }
-    ensures result { result ≡ result_of (comes_in router.now comer fields.old).stop }
+        (comes_in router.old comer fields.old) (known_of fields.old) }
+    ensures result { result ≡ result_of (comes_in router.old comer fields.old).stop }
     ensures whole { IsWhole fields.new }
+    ensures router { router.new ≡ router.old }
 {
+    let (_, other) = met;
     let from = point_of(fields, sender_of(comer, other));
     let to = point_of(fields, receiver_of(comer, other));
     let mut links: ArrayVec<LinkId, 64> = ArrayVec::new();
     match router.route(from, to, &mut links) {
         Ok(latency) => {
-            begin(fields, comer, serial, other, links.as_slice(), latency);
+            begin(fields, comer, found, met, links.as_slice(), latency);
             Ok(())
         }
         Err(fault) => Err(stop_of(from, to, fault)),
@@ -265,19 +244,21 @@ fn join(
 }
 
 /// A side comes to its mailbox. A missing or too long route stops the run, with all as it was.
-pub(crate) fn come(fields: &mut Fields, router: &Router, comer: Comer) -> Result<(), Stop>
+pub(crate) fn come(fields: &mut Fields, router: &mut Router, comer: Comer) -> Result<(), Stop>
     requires able { CanStep fields.old comer.side.actor.0 }
     requires comer { IsComer (extent (setup_in fields.old)) comer }
-    requires roads { AreOver fields.old.links router.now }
+    requires roads { AreOver fields.old.links router.old }
     ensures known { known_of fields.new ≡ after_call (is_ok result)
-        (comes_in router.now comer fields.old) (known_of fields.old) }
-    ensures result { result ≡ result_of (comes_in router.now comer fields.old).stop }
+        (comes_in router.old comer fields.old) (known_of fields.old) }
+    ensures result { result ≡ result_of (comes_in router.old comer fields.old).stop }
     ensures whole { IsWhole fields.new }
+    ensures router { router.new ≡ router.old }
 {
-    match whom(fields, comer) {
-        Some((serial, other)) => join(fields, router, comer, serial, other),
+    let found = fields.boxes.look(comer.mailbox, comer.sends);
+    match found.met {
+        Some(met) => join(fields, router, comer, found, met),
         None => {
-            post(fields, comer);
+            post(fields, comer, found);
             Ok(())
         }
     }

@@ -1,15 +1,15 @@
 -- One flow more is fixed, and what the parts of a step do together.
-use Rattle.std.proofs.Common.{◌≡◌, ◌≢◌, ℕ, zero, suc, ◌+◌, ◌-◌, ◌*◌, ◌<◌, ◌≤◌, ◌⊎◌, inl, inr, Bool, true, false, true≢false, cond, is_none, Option, None, Some, IsSome, option_to_list, List, [], ◌∷◌, ◌++◌, map, length, get_or, set, sum_by, AllPairs, Contains, get_or-set_same, get_or-set_other, refl, sym, ap, subst, ◌∙◌, arith}
+use Rattle.std.proofs.Common.{◌≡◌, ◌≢◌, ℕ, zero, suc, ◌+◌, ◌-◌, ◌*◌, ◌<◌, ◌≤◌, inl, inr, Bool, true, false, true≢false, cond, is_none, Option, None, Some, IsSome, option_to_list, List, [], ◌∷◌, map, length, get_or, set, sum_by, AllPairs, Contains, get_or-set_same, get_or-set_other, refl, sym, ap, subst, ◌∙◌, arith}
 use Rattle.std.proofs.lemmas.List.Sums.{sum_by-cons}
 use Rattle.sg_base.specs.MarkSet.{is_in}
 use Rattle.sg_chains.specs.Chained.{times, users_on}
-use Rattle.sg_maxmin.specs.Fill.{Flow, share_at}
-use Rattle.sg_maxmin.specs.Sharing.{Sharing, IsSound, uses_at}
+use Rattle.sg_maxmin.specs.Fill.{share_at}
+use Rattle.sg_maxmin.specs.Sharing.{Sharing, uses_at}
 use Rattle.sg_maxmin.proofs.Members.{In, In-from_contains, contains_from_In, In-append_left, In-append_right, In-append_cases, In-map, In-map_back}
 use Rattle.sg_maxmin.proofs.Sums.{sum_by_same}
 use Rattle.sg_lazy.specs.declared.filling.Filling.{Filling}
 use Rattle.sg_lazy.specs.kept.Component.{AreIn}
-use Rattle.sg_lazy.specs.kept.Filling.{AreAbove, AreCounted, AreFixed, AreJoined, HasPlaces, IsLeast, IsLessBy, IsStepped, KeepsCount, MayStep, StaysAt, StepsPartly, bound_limit, fixed_at, flow_in, given, limits_at, taken_on, unfixed_uses, waiting_on, waits_with, weight_on}
+use Rattle.sg_lazy.specs.kept.Filling.{AreAbove, AreCounted, AreFixed, AreJoined, HasPlaces, IsLeast, IsLessBy, IsStepped, KeepsCount, MayStep, StepsPartly, bound_limit, fixed_at, flow_in, given, limits_at, taken_on, unfixed_uses, waiting_on, waits_with, weight_on}
 use Rattle.sg_lazy.proofs.Growing.{at_in, in_at}
 use Rattle.sg_lazy.proofs.Listing.{bool_cases, eq_cases}
 use Rattle.sg_lazy.proofs.Rows.{in_is, into, is_in_In, same_in, times_out}
@@ -53,6 +53,10 @@ was_none low at (Some x) b h e = absurd (none_some (sym e ∙ h))
 pub some_stays : (low : ℕ) (at : Type 0) (a b : Option ℕ) → MayStep low at a b → IsSome a → IsSome b
 some_stays low at None b h s = absurd (true≢false (sym s))
 some_stays low at (Some x) b h s = subst IsSome (sym h) refl
+
+pub level_stays : (low : ℕ) (at : Type 0) (a b : Option ℕ) (x : ℕ) → MayStep low at a b → a ≡ Some x → b ≡ Some x
+level_stays low at None b x h e = absurd (none_some e)
+level_stays low at (Some y) b x h e = h ∙ e
 
 -- where whoever is at the level was fixed, it is a step
 pub may_step : (low : ℕ) (at : Type 0) (a b : Option ℕ) → MayStep low at a b → (at → IsSome b) → IsStepped low at a b

@@ -13,7 +13,6 @@ pub mod Rows
 pub mod Walked
 pub mod Prefix
 pub mod Stepped
-pub mod Lessened
 pub mod Starts
 pub mod Starting
 pub mod Settled
@@ -21,3 +20,9 @@ pub mod Whole
 pub mod Looks
 pub mod Fixing
 pub mod Waited
+pub mod Floors
+pub mod Alone
+pub mod OneEach
+pub mod Pairs
+pub mod Apart
+pub mod Filled

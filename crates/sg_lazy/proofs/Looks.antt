@@ -12,14 +12,14 @@ use Rattle.sg_lazy.specs.Touch.{touches, spread, reach}
 use Rattle.sg_lazy.specs.RunningFlow.{RunningFlow, running_at, running_flows}
 use Rattle.sg_lazy.specs.Work.{is_marked, is_joined, touched_count, work}
 use Rattle.sg_lazy.specs.declared.component.Component.{Component}
-use Rattle.sg_lazy.specs.kept.Component.{AllPass, MarksRows, RowPasses, Passes, StaysWithin, lengths}
+use Rattle.sg_lazy.specs.kept.Component.{AllPass, MarksRows, PassAlong, StaysWithin, lengths}
 use Rattle.sg_lazy.specs.kept.Held.{IsWithout, running_in, flow_or_none, ended_in}
 use Rattle.sg_lazy.proofs.Growing.{in_at}
 use Rattle.sg_lazy.proofs.Listing.{some_of}
 use Rattle.sg_lazy.proofs.Reached.{all_reached_lem}
-use Rattle.sg_lazy.proofs.Rows.{in_is, in_uses, is_in_In, on_held, uses_held}
+use Rattle.sg_lazy.proofs.Rows.{in_uses, is_in_In, on_held, uses_held}
 use Rattle.sg_lazy.proofs.Settled.{held_runs, runs_held}
-use Rattle.sg_lazy.proofs.Whole.{length-ended, lengths-ended}
+use Rattle.sg_lazy.proofs.Whole.{lengths-ended}
 use Rattle.sg_lazy.proofs.Works.{suffices_lem}
 
 -- ---- sums over what runs
@@ -154,15 +154,17 @@ module _ (s t : Sharing) (rates began ended : List ℕ) (without : IsWithout s t
   at_row : (i : ℕ) (row : List ℕ) → i < length row → is_in (get_or row i 0) row ≡ true
   at_row i row h = in_at (get_or row i 0) row i h refl
 
-  pub touched_joined : ((id : ℕ) → is_in id began ≡ true → IsSome (flow_at s.slots id)) → (none reached : MarkSet) (a b c : Component) → none.members ≡ [] → MarksRows (uses_at s.slots) ended none reached → a.touched.members ≡ [] → a.reached.members ≡ reached.members →
-      ((p q : ℕ → Bool) → Passes p q (uses_at t.slots) → ((id : ℕ) → is_in id began ≡ true → is_in id ended ≡ false → p id ≡ true) → StaysWithin p q a b) →
-      ((p q : ℕ → Bool) → Passes p q (uses_at t.slots) → Passes q p (users_on t.users) → StaysWithin p q b c) → AllPass goes c.touched.members
-  touched_joined began_are none reached a b c empty marks ta ra least1 least2 =
-      let rows : Passes goes close (uses_at t.slots) = λ id k i h. rows_pass id (get_or (uses_at t.slots id) i 0) k (at_row i (uses_at t.slots id) h) in
-      let back : Passes close goes (users_on t.users) = λ c k i h. users_pass c (get_or (users_on t.users c) i 0) k (at_row i (users_on t.users c) h) in
+  pub touched_joined : ((id : ℕ) → is_in id began ≡ true → IsSome (flow_at s.slots id)) → (none freed : MarkSet) (a b z : Component) → none.members ≡ [] → MarksRows (uses_at s.slots) ended none freed → a.touched.members ≡ [] → a.reached.members ≡ [] →
+      ((p q : ℕ → Bool) → PassAlong t p q → ((id : ℕ) → is_in id began ≡ true → is_in id ended ≡ false → p id ≡ true) → StaysWithin p q a b) →
+      ((p q : ℕ → Bool) → PassAlong t p q → AllPass q freed.members → StaysWithin p q b z) → AllPass goes z.touched.members
+  touched_joined began_are none freed a b z empty marks ta ra least1 least2 =
+      let along : PassAlong t goes close = record {
+        uses = λ id k i h. rows_pass id (get_or (uses_at t.slots id) i 0) k (at_row i (uses_at t.slots id) h);
+        users = λ c k i h. users_pass c (get_or (users_on t.users c) i 0) k (at_row i (users_on t.users c) h);
+      } in
       let zeroth = marks.least close (λ i h j k. ended_pass (get_or ended i 0) (get_or (uses_at s.slots (get_or ended i 0)) j 0) (at_row i ended h) (at_row j (uses_at s.slots (get_or ended i 0)) k)) (λ c h. absurd (true≢false (sym h ∙ ap (is_in c) empty))) in
-      let one = least1 goes close rows (λ id m off. began_pass id m off (began_are id m)) (λ id h. absurd (true≢false (sym h ∙ ap (is_in id) ta))) (subst (AllPass close) (sym ra) zeroth) in
-      (least2 goes close rows back one.0 one.1).0
+      let one = least1 goes close along (λ id m off. began_pass id m off (began_are id m)) (λ id h. absurd (true≢false (sym h ∙ ap (is_in id) ta))) (λ c h. absurd (true≢false (sym h ∙ ap (is_in c) ra))) in
+      (least2 goes close along zeroth one.0 one.1).0
 
   module _ (touched : List ℕ) (once : AllPairs (λ a b. a ≢ b) touched) (joined : AllPass goes touched) where
     there : (id : ℕ) → goes id ≡ true → (r : RunningFlow) × (running_at all id ≡ Some r) × (is_joined run gone r ≡ true)
@@ -184,7 +186,7 @@ module _ (s t : Sharing) (rates began ended : List ℕ) (without : IsWithout s t
         let id = get_or touched i 0 in
         (k.0, k.1, ap length (uses_held t.slots id k.0.flow (runs_held s t rates began ended without sound id k.0 k.1)) ∙ sym (ap {B = ℕ} (λ b. cond b (length k.0.flow.uses) 0) k.2)))
 
-    pub within_work : (steps steps' : ℕ) → steps' ≤ steps + lengths (uses_at s.slots) ended + 2 * lengths (uses_at t.slots) touched + lengths (uses_at t.slots) touched + length touched * (3 * lengths (uses_at t.slots) touched) → steps' ≤ steps + work run gone
+    pub within_work : (steps steps' : ℕ) → steps' ≤ steps + 2 * lengths (uses_at s.slots) ended + (3 * lengths (uses_at t.slots) touched + length touched * (3 * lengths (uses_at t.slots) touched)) → steps' ≤ steps + work run gone
     unfolding work
     within_work steps steps' h =
         let u = lengths (uses_at t.slots) touched in
@@ -199,5 +201,5 @@ module _ (s t : Sharing) (rates began ended : List ℕ) (without : IsWithout s t
         product : (m k u v : ℕ) → m ≤ k → u ≤ v → m * (3 * u) ≤ k * (3 * v)
         product m k u v h l = let a = mul-le-mul_right (3 * u) h in let three : 3 * u ≤ 3 * v = omega (arith, l) in let b = mul-le-mul_left k three in omega (arith, a, b)
 
-        finish : (s s' e e' u v p k : ℕ) → s' ≤ s + e + 2 * u + u + p → e' ≡ e → u ≤ v → p ≤ k * (3 * v) → s' ≤ s + 4 * (k + 1) * (k + (e' + v))
+        finish : (s s' e e' u v p k : ℕ) → s' ≤ s + 2 * e + (3 * u + p) → e' ≡ e → u ≤ v → p ≤ k * (3 * v) → s' ≤ s + 4 * (k + 1) * (k + (e' + v))
         finish s s' e e' u v p k h q l b = omega (arith, h, q, l, b, suffices_lem k e' v)

@@ -1,7 +1,7 @@
 -- What a sound system says of its flows and of the flows on its resources.
-use Rattle.std.proofs.Common.{◌≡◌, ◌≢◌, ℕ, zero, suc, ◌+◌, ◌^◌, ◌<◌, ◌≤◌, ◌⊎◌, inl, inr, Bool, true, false, true≢false, is_some, cond, ◌||◌, eqb, eq-eqb, eqb-true, Option, None, Some, IsSome, IfSome, List, [], ◌∷◌, length, get_or, set, take, sum_by, All, AllPairs, get_or-set_other, lit<, refl, sym, ap, subst, ◌∙◌, arith}
+use Rattle.std.proofs.Common.{◌≡◌, ◌≢◌, ℕ, zero, suc, ◌^◌, ◌<◌, ◌≤◌, ◌⊎◌, inl, inr, true, false, true≢false, is_some, cond, ◌||◌, eqb, eq-eqb, eqb-true, Option, None, Some, IsSome, IfSome, List, [], ◌∷◌, length, get_or, set, take, sum_by, All, AllPairs, get_or-set_other, lit<, refl, sym, ap, subst, ◌∙◌, arith}
 use Rattle.std.proofs.lemmas.List.{get_or_past}
-use Rattle.std.proofs.lemmas.List.Elements.{All-from_get_or, All-get_or}
+use Rattle.std.proofs.lemmas.List.Elements.{All-from_get_or}
 use Rattle.std.proofs.lemmas.List.Sums.{sum_by-cons, sum_by-set, count_by-le-length}
 use Rattle.sg_base.specs.MarkSet.{is_in}
 use Rattle.sg_maxmin.specs.Fill.{Flow, is_on}

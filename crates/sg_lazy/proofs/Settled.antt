@@ -1,7 +1,6 @@
 -- After a settling each flow has its share of the whole.
-use Rattle.std.proofs.Common.{◌≡◌, ◌≢◌, ℕ, zero, suc, ◌+◌, ◌<◌, ◌≤◌, ◌⊎◌, inl, inr, Bool, true, false, true≢false, cond, ◌||◌, ◌&&◌, not, eqb, eq-eqb, ne_eqb, Option, None, Some, IsSome, is_some, List, [], ◌∷◌, map, length, get_or, set, sum_by, All, AllPairs, Contains, get_or-set_same, get_or-set_other, refl, sym, ap, subst, ◌∙◌, arith}
+use Rattle.std.proofs.Common.{◌≡◌, ◌≢◌, ℕ, suc, ◌<◌, ◌≤◌, ◌⊎◌, inl, inr, Bool, true, false, true≢false, cond, ◌||◌, ◌&&◌, not, eqb, eq-eqb, ne_eqb, Option, None, Some, IsSome, is_some, List, [], ◌∷◌, map, length, get_or, set, sum_by, AllPairs, Contains, get_or-set_same, get_or-set_other, refl, sym, ap, subst, ◌∙◌, arith}
 use Rattle.std.proofs.lemmas.List.{get_or_past}
-use Rattle.std.proofs.lemmas.List.Elements.{All-from_get_or}
 use Rattle.std.proofs.lemmas.List.Sums.{sum_by-cons}
 use Rattle.sg_base.specs.MarkSet.{is_in}
 use Rattle.sg_maxmin.specs.Fill.{Flow, is_on, share_of}
@@ -14,8 +13,7 @@ use Rattle.sg_maxmin.proofs.Same.{IsPart, share_of_part}
 use Rattle.sg_maxmin.proofs.Proved.{limited_from}
 use Rattle.sg_lazy.specs.Touch.{IsClosed}
 use Rattle.sg_lazy.specs.RunningFlow.{RunningFlow, running_at, flows_in}
-use Rattle.sg_lazy.specs.declared.component.Component.{Component}
-use Rattle.sg_lazy.specs.kept.Component.{AreIn, IsClosure, AllPass, Passes, StaysWithin}
+use Rattle.sg_lazy.specs.kept.Component.{AreIn, IsClosure, AllPass}
 use Rattle.sg_lazy.specs.kept.Changes.{WritesRates, did_change}
 use Rattle.sg_lazy.specs.kept.Filling.{flow_in, flows_at}
 use Rattle.sg_lazy.specs.kept.Keeping.{IsUnmarked, AreKept}
@@ -25,7 +23,7 @@ use Rattle.sg_lazy.proofs.Keeps.{settles_rates_lem}
 use Rattle.sg_lazy.proofs.Parts.{free_rate_lem}
 use Rattle.sg_lazy.proofs.Slots.{In-flows, In-flows_back, sum_written}
 use Rattle.sg_lazy.proofs.Listing.{bool_cases, eq_cases, at_listed, some_of}
-use Rattle.sg_lazy.proofs.Rows.{flow_below, flow_in_is, in_is, into, is_in_In, none_some, on_held, same_in, uses_held, uses_in_row}
+use Rattle.sg_lazy.proofs.Rows.{flow_below, flow_in_is, in_is, into, is_in_In, none_some, same_in, uses_in_row}
 use Rattle.sg_lazy.proofs.Starting.{is_here}
 
 -- ---- a sum over flows by their numbers
@@ -204,22 +202,3 @@ module _ (s t : Sharing) (rates began ended : List ℕ) (without : IsWithout s t
           | inr off ↦ written.changed_are id ∙ ap (λ b. b && did_change began rates given id) off
           | inl i ↦ absurd (true≢false (sym (live id i) ∙ ap {B = Bool} (λ o. is_some o) none))
         ]
-
--- ---- what is touched is held
-users_live : (t : Sharing) → IsSound t → Passes (λ c. true) (λ id. is_some (flow_at t.slots id)) (users_on t.users)
-users_live t sound c i k h =
-    let id = get_or (users_on t.users c) k 0 in
-    let u = on_held t sound c id (in_at id (users_on t.users c) k h refl) in
-    ap {B = Bool} (λ o. is_some o) u.1
-
-pub touched_live : (s t : Sharing) (began ended : List ℕ) (a b c : Component) → IsWithout s t ended → IsSound t → ((id : ℕ) → is_in id began ≡ true → IsSome (flow_at s.slots id)) → a.touched.members ≡ [] →
-    ((p q : ℕ → Bool) → Passes p q (uses_at t.slots) → ((id : ℕ) → is_in id began ≡ true → is_in id ended ≡ false → p id ≡ true) → StaysWithin p q a b) →
-    ((p q : ℕ → Bool) → Passes p q (uses_at t.slots) → Passes q p (users_on t.users) → StaysWithin p q b c) → AllPass (λ id. is_some (flow_at t.slots id)) c.touched.members
-touched_live s t began ended a b c without sound some none least1 least2 =
-    let p : ℕ → Bool = λ id. is_some (flow_at t.slots id) in
-    let q : ℕ → Bool = λ c. true in
-    let one = least1 p q (λ id h i k. refl)
-    (λ id i off. ap {B = Bool} (λ o. is_some o) (without.slots id ∙ ap (λ e. cond e None (flow_at s.slots id)) off) ∙ some id i)
-    (λ id e. absurd (true≢false (sym e ∙ ap (is_in id) none)))
-    (λ c e. refl) in
-    (least2 p q (λ id h i k. refl) (users_live t sound) one.0 one.1).0

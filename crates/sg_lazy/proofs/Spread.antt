@@ -1,8 +1,8 @@
 -- Spreading goes on from what was spread.
 use Rattle.std.proofs.Common.{◌∙◌, arith}
-use Rattle.sg_maxmin.specs.Sharing.{Sharing, uses_at}
+use Rattle.sg_maxmin.specs.Sharing.{Sharing}
 use Rattle.sg_lazy.specs.declared.component.Component.{Component}
-use Rattle.sg_lazy.specs.kept.Component.{IsOpen, Spreads}
+use Rattle.sg_lazy.specs.kept.Component.{Spreads}
 use Rattle.sg_lazy.proofs.Growing.{grows_on}
 
 pub spreads_on : (s : Sharing) (a b c : Component) → Spreads s a b → Spreads s b c → Spreads s a c

@@ -3,7 +3,7 @@ use Rattle.std.proofs.Common.{◌≡◌, ℕ, ◌<◌, ◌≤◌, ◌⊎◌, inl
 use Rattle.sg_base.specs.MarkSet.{is_in, with_mark}
 use Rattle.sg_maxmin.specs.Fill.{Flow}
 use Rattle.sg_maxmin.specs.Sharing.{Sharing, IsSound, Changes, flow_at}
-use Rattle.sg_maxmin.proofs.Members.{In, In-from_contains, contains_from_In, In-append_left, In-append_right}
+use Rattle.sg_maxmin.proofs.Members.{In-from_contains, contains_from_In, In-append_left, In-append_right}
 use Rattle.sg_lazy.specs.RunningFlow.{RunningFlow, running_at}
 use Rattle.sg_lazy.specs.kept.Keeping.{AreKept}
 use Rattle.sg_lazy.specs.kept.Held.{IsLazy, listed, running_of, running_in, flow_or_none, ended_in}

@@ -1,11 +1,10 @@
 -- How a filling starts, and what it gives fits.
-use Rattle.std.proofs.Common.{◌≡◌, ◌≢◌, ℕ, zero, suc, ◌+◌, ◌-◌, ◌*◌, ◌^◌, ◌<◌, ◌≤◌, ◌⊎◌, inl, inr, Bool, true, false, cond, true≢false, eqb, Option, None, Some, IsSome, List, [], ◌∷◌, length, get_or, sum_by, AllPairs, All, Contains, mul-le-mul_right, lit<, refl, sym, ap, subst, ◌∙◌, arith}
+use Rattle.std.proofs.Common.{◌≡◌, ◌≢◌, ℕ, suc, ◌+◌, ◌-◌, ◌*◌, ◌^◌, ◌<◌, ◌≤◌, inl, inr, Bool, true, false, cond, true≢false, eqb, Option, None, Some, IsSome, List, [], ◌∷◌, length, get_or, sum_by, AllPairs, mul-le-mul_right, lit<, refl, sym, ap, subst, ◌∙◌, arith}
 use Rattle.std.specs.List.{list_any}
 use Rattle.std.proofs.lemmas.List.Sums.{sum_by-cons}
 use Rattle.std.proofs.lemmas.List.Elements.{All-get_or}
 use Rattle.sg_base.specs.MarkSet.{is_in}
 use Rattle.sg_maxmin.specs.Fill.{Flow, is_on, share_of}
-use Rattle.sg_maxmin.specs.Fair.{IsFair, load}
 use Rattle.sg_maxmin.specs.Laws.{HaveLimits}
 use Rattle.sg_chains.specs.Chained.{times}
 use Rattle.sg_maxmin.specs.Sharing.{Sharing, HasLimit, uses_at, flow_at}
@@ -13,8 +12,8 @@ use Rattle.sg_maxmin.proofs.Members.{In, In-map_back, In-from_contains, contains
 use Rattle.sg_maxmin.proofs.Sums.{le-sum_by}
 use Rattle.sg_maxmin.proofs.Rises.{is_on_uses}
 use Rattle.sg_maxmin.proofs.Proved.{is_fair_lem}
-use Rattle.sg_lazy.specs.kept.Component.{AreIn, Covers}
-use Rattle.sg_lazy.specs.kept.Filling.{AreCounted, ArePart, IsMoreBy, bound_at, fixed_at, flow_in, flows_at, given, taken_on, waiting_on, waits_with, weight_at, weight_of, weight_on}
+use Rattle.sg_lazy.specs.kept.Component.{Covers}
+use Rattle.sg_lazy.specs.kept.Filling.{AreCounted, ArePart, IsMoreBy, fixed_at, flow_in, flows_at, given, taken_on, waiting_on, waits_with, weight_at, weight_of, weight_on}
 use Rattle.sg_lazy.proofs.Growing.{at_in, in_at}
 use Rattle.sg_lazy.proofs.Listing.{bool_cases, some_of}
 use Rattle.sg_lazy.proofs.Rows.{few_held, flow_in_is, into, in_is, rows_once, weighs}

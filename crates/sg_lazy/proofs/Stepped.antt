@@ -1,5 +1,5 @@
 -- The passes of one step over the touched flows are a step of filling.
-use Rattle.std.proofs.Common.{◌≡◌, ◌≢◌, ℕ, suc, ◌+◌, ◌-◌, ◌*◌, ◌/◌, ◌<◌, ◌≤◌, ◌⊎◌, inl, inr, Bool, true, false, cond, ◌&&◌, eqb, eq-eqb, ne_eqb, is_none, Option, None, Some, option_map, option_to_list, List, [], ◌∷◌, ◌++◌, map, filter, flat_map, length, get_or, sum_by, AllPairs, refl, sym, ap, ap₂, subst, ◌∙◌, arith}
+use Rattle.std.proofs.Common.{◌≡◌, ◌≢◌, ℕ, suc, ◌+◌, ◌-◌, ◌*◌, ◌/◌, ◌<◌, ◌≤◌, inl, inr, Bool, true, false, cond, ◌&&◌, eqb, eq-eqb, ne_eqb, is_none, Option, None, Some, option_map, option_to_list, List, [], ◌∷◌, ◌++◌, map, filter, flat_map, length, get_or, sum_by, AllPairs, refl, sym, ap, ap₂, subst, ◌∙◌, arith}
 use Rattle.std.specs.List.{list_any}
 use Rattle.std.proofs.lemmas.List.Sums.{sum_by-cons}
 use Rattle.sg_maxmin.specs.Fill.{Flow, Fixed, share_of_fixed, bound_level, is_on, taken, waiting, level, limits, least, lowest, step}
@@ -7,7 +7,7 @@ use Rattle.sg_chains.specs.Chained.{times}
 use Rattle.sg_maxmin.specs.Sharing.{Sharing, uses_at}
 use Rattle.sg_maxmin.proofs.Members.{In, In-map, In-from_contains, contains_from_In}
 use Rattle.sg_maxmin.proofs.Sums.{sum_by_same}
-use Rattle.sg_maxmin.proofs.OneStep.{least_le, least_in, lowest_le, step_fixed, step_at, Stepped, was, gets, waits, step_cases}
+use Rattle.sg_maxmin.proofs.OneStep.{least_le, least_in, lowest_le, step_fixed, step_at, was, gets, waits, step_cases}
 use Rattle.sg_lazy.specs.kept.Filling.{AreCounted, IsLeast, IsStepped, bound_at, fixed_at, flow_in, flows_at, given, limits_at, taken_on, unfixed_limits, waiting_on, waits_with, weight_at}
 use Rattle.sg_lazy.proofs.Listing.{eq_cases}
 

@@ -1,5 +1,5 @@
 -- The levels where a flow waits, and the bounds of unfixed flows, are what limits the unfixed flows.
-use Rattle.std.proofs.Common.{◌≡◌, ℕ, zero, suc, ◌+◌, ◌*◌, ◌<◌, ◌≤◌, ◌⊎◌, inl, inr, Bool, true, false, true≢false, cond, eqb, eq-eqb, ne_eqb, is_none, Option, None, Some, option_to_list, List, [], ◌∷◌, ◌++◌, map, flat_map, length, get_or, sum_by, Contains, refl, sym, ap, subst, ◌∙◌, arith}
+use Rattle.std.proofs.Common.{◌≡◌, ℕ, zero, suc, ◌*◌, ◌<◌, ◌≤◌, ◌⊎◌, inl, inr, true, false, cond, eqb, eq-eqb, ne_eqb, is_none, Option, None, Some, option_to_list, List, [], ◌∷◌, ◌++◌, map, get_or, sum_by, refl, sym, ap, subst, ◌∙◌, arith}
 use Rattle.std.proofs.lemmas.List.Sums.{sum_by-cons}
 use Rattle.sg_base.specs.MarkSet.{is_in}
 use Rattle.sg_chains.specs.Chained.{times}

@@ -1,5 +1,5 @@
 -- What a settling does to a `Lazy`, and what more room leaves as it was.
-use Rattle.std.proofs.Common.{◌≡◌, ◌≢◌, ℕ, zero, suc, ◌+◌, ◌<◌, ◌≤◌, ◌⊎◌, inl, inr, ◌↔◌, Bool, true, false, true≢false, cond, ◌||◌, not, eqb, eq-eqb, ne_eqb, Option, None, Some, IsSome, option_map, List, [], ◌∷◌, length, get_or, sum_by, AllPairs, refl, sym, ap, ap₂, subst, ◌∙◌, arith}
+use Rattle.std.proofs.Common.{◌≡◌, ◌≢◌, ℕ, zero, suc, ◌<◌, ◌≤◌, ◌⊎◌, inl, inr, ◌↔◌, Bool, true, false, true≢false, cond, ◌||◌, not, eqb, eq-eqb, ne_eqb, Option, None, Some, IsSome, option_map, List, [], ◌∷◌, length, get_or, sum_by, refl, sym, ap, ap₂, subst, ◌∙◌, arith}
 use Rattle.std.proofs.lemmas.List.{get_or_past}
 use Rattle.std.proofs.lemmas.List.Sums.{sum_by-cons}
 use Rattle.sg_base.specs.MarkSet.{is_in}
@@ -13,7 +13,7 @@ use Rattle.sg_lazy.specs.kept.Held.{IsLazy, IsRefilled, listed, running_of, runn
 use Rattle.sg_lazy.proofs.Keeps.{settle_keeps}
 use Rattle.sg_lazy.proofs.Listing.{at_listed, length_listed, past_listed, map_same, some_of}
 use Rattle.sg_lazy.proofs.Rows.{flow_below, none_some, some_same, uses_held}
-use Rattle.sg_lazy.proofs.Settled.{held_before, held_runs}
+use Rattle.sg_lazy.proofs.Settled.{held_runs}
 use Rattle.sg_lazy.proofs.Starting.{is_here}
 
 front : (a b : Option RunningFlow) (xs ys : List (Option RunningFlow)) → option_map (λ (r : RunningFlow). r.flow) a ≡ option_map (λ (r : RunningFlow). r.flow) b → flows_in xs ≡ flows_in ys → flows_in (a ∷ xs) ≡ flows_in (b ∷ ys)

@@ -3,4 +3,5 @@ pub mod Touch
 pub mod Work
 pub mod Lazily
 pub mod Laws
+pub mod Tested
 pub mod kept

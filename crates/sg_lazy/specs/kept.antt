@@ -5,3 +5,4 @@ pub mod Filling
 pub mod Keeping
 pub mod Held
 pub mod Changes
+pub mod Parts

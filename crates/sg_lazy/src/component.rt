@@ -1,9 +1,9 @@
 //! The flows and resources that sharing joins to what changed.
-ghost use Rattle.std.specs.Prelude.{◌≡◌, ◌≤◌, ◌<◌, ◌+◌, ℕ, Bool, IsTrue, All, length};
+ghost use Rattle.std.specs.Prelude.{◌≡◌, ◌≤◌, ◌<◌, ◌+◌, ℕ, Bool, IsTrue, All, length, take};
 ghost use Rattle.sg_base.specs.MarkSet.{is_in};
 ghost use Rattle.sg_chains.specs.Chained.{users_on};
 ghost use Rattle.sg_maxmin.specs.Sharing.{IsSound, uses_at};
-ghost use Rattle.sg_lazy.specs.kept.Component.{AreIn, IsClosure, IsOpen, MarksRow, Passes, RowPasses, Spreads, StaysWithin, lengths, touched_uses};
+ghost use Rattle.sg_lazy.specs.kept.Component.{AreIn, AreVisited, IsClosedBy, IsOpen, MarksRow, PassAlong, Passes, RowPasses, Spreads, StaysWithin, lengths, touched_uses};
 
 use sg_base::{Marks, Steps};
 use sg_maxmin::System;
@@ -82,22 +82,27 @@ fn touch_users<L: Ledger>(
     }
 }
 
-/// Touches all flows that are joined to the touched flows and the reached resources.
-pub fn reach<L: Ledger>(system: &System, component: &mut Component, steps: &mut Steps<L>)
+/// Touches all flows that are joined to the touched flows and the reached resources. Those on the first so many
+/// resources are touched already.
+pub fn reach<L: Ledger>(
+    system: &System,
+    visited: usize,
+    component: &mut Component,
+    steps: &mut Steps<L>,
+)
     requires sound { IsSound system.now }
     requires open { IsOpen system.now component.old }
+    requires visited { AreVisited system.now visited component.old }
     ensures spreads { Spreads system.now component.old component.new }
-    ensures closed { IsClosure (uses_at system.now.slots)
-        (users_on system.now.users)
-        component.new.touched.members component.new.reached.members }
-    ensures least { (p q : ℕ → Bool) → Passes p q (uses_at system.now.slots)
-        → Passes q p (users_on system.now.users)
+    ensures closed { IsClosedBy system.now component.new }
+    ensures least { (p q : ℕ → Bool) → PassAlong system.now p q
         → StaysWithin p q component.old component.new }
     ensures looks { steps.new + touched_uses system.now component.old
+        + lengths (users_on system.now.users) (take visited component.old.reached.members)
         ≤ steps.old + touched_uses system.now component.new
         + lengths (users_on system.now.users) component.new.reached.members }
 {
-    let mut k = 0;
+    let mut k = visited;
     while k < component.reached.members().len() {
         let resource = component.reached.members()[k];
         touch_users(system, resource, component, steps);

@@ -1,12 +1,12 @@
 //! The filling of the touched flows alone.
-ghost use Rattle.std.specs.Prelude.{◌≡◌, ◌≢◌, ◌≤◌, ◌<◌, ◌+◌, ◌-◌, ◌*◌, ◌/◌, ◌^◌, ◌++◌, ◌∷◌, ℕ, List, [], Option, None, Some, IsSome, true, false, AllPairs, All, length, min, option_map, option_to_list, slice_index, slice_set};
+ghost use Rattle.std.specs.Prelude.{◌≡◌, ◌≢◌, ◌≤◌, ◌<◌, ◌+◌, ◌-◌, ◌*◌, ◌/◌, ◌^◌, ◌++◌, ◌∷◌, ℕ, List, [], Option, None, Some, IfSome, IsSome, true, false, AllPairs, All, length, min, option_map, option_to_list, slice_index, slice_set};
 ghost use Rattle.sg_base.specs.MarkSet.{is_in};
 ghost use Rattle.sg_chains.specs.Chained.{times, users_on};
 ghost use Rattle.sg_maxmin.specs.Fill.{bound_level as level_of_bound, level_of, share_at, share_of, bounded};
 ghost use Rattle.sg_maxmin.specs.Laws.{HaveLimits};
 ghost use Rattle.sg_maxmin.specs.Sharing.{IsSound, flow_at, uses_at};
-ghost use Rattle.sg_lazy.specs.kept.Component.{AreIn, Covers, MarksRow, lengths};
-ghost use Rattle.sg_lazy.specs.kept.Filling.{AreAbove, AreCounted, AreFixed, AreJoined, AreLevels, ArePart, FlowSteps, HasPlaces, IsLeast, IsLessBy, IsMoreBy, KeepsCount, StepsPartly, bound_at, bound_limit, fixed_at, flow_in, flows_at, least_with, level_where, limits_at, unfixed_bounds, unfixed_limits, waited_levels, weight_of, weight_on};
+ghost use Rattle.sg_lazy.specs.kept.Component.{AreIn, MarksRow, lengths};
+ghost use Rattle.sg_lazy.specs.kept.Filling.{AreAbove, AreCounted, AreFixed, AreJoined, AreLeveled, AreLevels, ArePart, FlowSteps, HasPlaces, IsFloor, IsLeast, IsLessBy, IsLow, IsMoreBy, IsOver, KeepsCount, KeepsFixed, KeepsOthers, StepsPartly, bound_at, bound_limit, fixed_at, flow_in, flows_at, least_with, level_where, limits_at, unfixed_bounds, unfixed_limits, waited_levels, weight_of, weight_on};
 
 use crate::component::mark_uses;
 use sg_base::{Marks, Steps};
@@ -24,6 +24,13 @@ pub struct Filling {
     pub levels: Vec<u64>,
     // the resources whose levels must be divided again
     pub stale: Marks,
+}
+
+// The level of a step, and one that no bound of an unfixed flow is below. Where there is none, no such flow has a bound.
+#[derive(Clone, Copy)]
+struct Low {
+    level: u64,
+    floor: Option<u64>,
 }
 
 // The level of a bound.
@@ -213,19 +220,13 @@ fn least_with_bound(system: &System, flow: usize, least: Option<u64>) -> Option<
     }
 }
 
-// The lesser of what was found before, and of the least level of the bound of an unfixed flow.
-fn lowest_bound(
-    system: &System,
-    touched: &[usize],
-    fixed: &[Option<u64>],
-    first: Option<u64>,
-) -> Option<u64>
+// The least level of the bound of an unfixed flow.
+fn lowest_bound(system: &System, touched: &[usize], fixed: &[Option<u64>]) -> Option<u64>
     requires part { ArePart system.now touched.now }
     requires fixed { length system.now.slots ≤ length fixed.now }
-    ensures { (list : List ℕ) → IsLeast first list → IsLeast result
-        (list ++ unfixed_bounds system.now.slots fixed.now touched.now) }
+    ensures { IsLeast result (unfixed_bounds system.now.slots fixed.now touched.now) }
 {
-    let mut least = first;
+    let mut least = None;
     for flow in touched {
         if fixed[*flow].is_none() {
             least = least_with_bound(system, *flow, least);
@@ -234,17 +235,91 @@ fn lowest_bound(
     least
 }
 
-// The least of what limits the unfixed flows.
-fn lowest(system: &System, touched: &[usize], reached: &[usize], filling: &Filling) -> Option<u64>
+// Whether the bounds of all unfixed flows are above this level.
+fn is_over(floor: Option<u64>, level: u64) -> bool
+    ensures { result ≡ true → IsOver floor level }
+{
+    match floor {
+        None => true,
+        Some(floor) => level < floor,
+    }
+}
+
+// The level, where it is below all bounds of unfixed flows.
+fn below_bounds(level: Option<u64>, floor: Option<u64>) -> Option<Low>
+    ensures { IfSome result (λ low. (level ≡ Some low.level) × (low.floor ≡ floor)
+        × IsOver floor low.level) }
+{
+    match level {
+        None => None,
+        Some(level) => {
+            if is_over(floor, level) {
+                Some(Low { level, floor })
+            } else {
+                None
+            }
+        }
+    }
+}
+
+// The lesser of a level, where there is one, and of a bound's.
+fn lesser_of(level: Option<u64>, bound: u64) -> u64
+    ensures { result ≡ least_with level bound }
+{
+    match level {
+        None => bound,
+        Some(level) => level.min(bound),
+    }
+}
+
+// The level, where there are no bounds.
+fn unbounded(level: Option<u64>) -> Option<Low>
+    ensures { (levels : List ℕ) → IsLeast level levels → IsLow result levels [] }
+{
+    match level {
+        Some(level) => Some(Low { level, floor: None }),
+        None => None,
+    }
+}
+
+// The lesser of the least level and of the least level of a bound, where there are any.
+fn lesser(level: Option<u64>, floor: Option<u64>) -> Option<Low>
+    ensures { (levels bounds : List ℕ) → IsLeast level levels → IsLeast floor bounds
+        → IsLow result (levels ++ bounds) bounds }
+{
+    match floor {
+        Some(bound) => Some(Low {
+            level: lesser_of(level, bound),
+            floor,
+        }),
+        None => unbounded(level),
+    }
+}
+
+// The least of what limits the unfixed flows. Their bounds are looked at only where the lowest level reaches them.
+fn lowest(
+    system: &System,
+    touched: &[usize],
+    reached: &[usize],
+    filling: &Filling,
+    floor: Option<u64>,
+) -> Option<Low>
     requires joined { AreJoined system.now touched.now reached.now }
     requires places { HasPlaces system.now filling.now }
     requires counted { AreCounted system.now filling.now.fixed.items touched.now
         filling.now.left.items filling.now.waiting.items (λ c. is_in c reached.now) }
-    ensures { IsLeast result (unfixed_limits system.now.slots
-        filling.now.fixed.items filling.now.levels.items touched.now) }
+    requires floor { IsFloor floor
+        (unfixed_bounds system.now.slots filling.now.fixed.items touched.now) }
+    ensures { IsLow result
+        (unfixed_limits system.now.slots filling.now.fixed.items filling.now.levels.items
+        touched.now)
+        (unfixed_bounds system.now.slots filling.now.fixed.items touched.now) }
 {
     let level = lowest_level(reached, &filling.waiting, &filling.levels);
-    lowest_bound(system, touched, &filling.fixed, level)
+    match below_bounds(level, floor) {
+        Some(low) => Some(low),
+        None => lesser(level, lowest_bound(system, touched, &filling.fixed)),
+    }
 }
 
 // Fixes an unfixed flow at this level.
@@ -398,8 +473,38 @@ fn fix_bounded<L: Ledger>(
     }
 }
 
-// Fixes each unfixed flow that is at this level.
-fn fix_all<L: Ledger>(
+// Fixes each unfixed flow whose bound is at this level.
+fn fix_all_bounded<L: Ledger>(
+    system: &System,
+    touched: &[usize],
+    low: u64,
+    floor: Option<u64>,
+    filling: &mut Filling,
+    steps: &mut Steps<L>,
+)
+    requires part { ArePart system.now touched.now }
+    requires once { AllPairs (λ a b. a ≢ b) touched.now }
+    requires places { HasPlaces system.now filling.old }
+    requires above { AreAbove system.now touched.now low filling.old }
+    requires floor { IsFloor floor
+        (unfixed_bounds system.now.slots filling.old.fixed.items touched.now) }
+    ensures partly { StepsPartly system.now low filling.old filling.new }
+    ensures bounds { (i : ℕ) → i < length touched.now
+        → bound_limit system.now.slots (slice_index touched.now i) ≡ Some low
+        → IsSome (fixed_at filling.new.fixed.items (slice_index touched.now i)) }
+    ensures count { KeepsCount system.now touched.now filling.old filling.new
+        steps.old steps.new }
+{
+    if is_over(floor, low) {
+        return;
+    }
+    for flow in touched {
+        fix_bounded(system, *flow, low, filling, steps);
+    }
+}
+
+// Fixes the unfixed flows on the resources that are at this level.
+fn fix_all_users<L: Ledger>(
     system: &System,
     touched: &[usize],
     reached: &[usize],
@@ -411,18 +516,40 @@ fn fix_all<L: Ledger>(
     requires places { HasPlaces system.now filling.old }
     requires above { AreAbove system.now touched.now low filling.old }
     ensures partly { StepsPartly system.now low filling.old filling.new }
-    ensures stepped { (i : ℕ) → i < length touched.now
-        → FlowSteps system.now.slots filling.old.levels.items low
-        filling.old.fixed.items filling.new.fixed.items (slice_index touched.now i) }
+    ensures on { (i : ℕ) → i < length reached.now
+        → slice_index filling.old.levels.items (slice_index reached.now i) ≡ low
+        → AreFixed (users_on system.now.users (slice_index reached.now i)) filling.new }
     ensures count { KeepsCount system.now touched.now filling.old filling.new
         (steps.old + lengths (users_on system.now.users) reached.now) steps.new }
 {
     for c in reached {
         fix_on(system, *c, low, filling, steps);
     }
-    for flow in touched {
-        fix_bounded(system, *flow, low, filling, steps);
-    }
+}
+
+// Fixes each unfixed flow that is at this level.
+fn fix_all<L: Ledger>(
+    system: &System,
+    touched: &[usize],
+    reached: &[usize],
+    low: Low,
+    filling: &mut Filling,
+    steps: &mut Steps<L>,
+)
+    requires joined { AreJoined system.now touched.now reached.now }
+    requires places { HasPlaces system.now filling.old }
+    requires above { AreAbove system.now touched.now low.level filling.old }
+    requires floor { IsFloor low.floor
+        (unfixed_bounds system.now.slots filling.old.fixed.items touched.now) }
+    ensures partly { StepsPartly system.now low.level filling.old filling.new }
+    ensures stepped { (i : ℕ) → i < length touched.now
+        → FlowSteps system.now.slots filling.old.levels.items low.level
+        filling.old.fixed.items filling.new.fixed.items (slice_index touched.now i) }
+    ensures count { KeepsCount system.now touched.now filling.old filling.new
+        (steps.old + lengths (users_on system.now.users) reached.now) steps.new }
+{
+    fix_all_users(system, touched, reached, low.level, filling, steps);
+    fix_all_bounded(system, touched, low.level, low.floor, filling, steps);
 }
 
 // Divides the levels of the stale resources again.
@@ -450,19 +577,22 @@ fn step<L: Ledger>(
     system: &System,
     touched: &[usize],
     reached: &[usize],
-    low: u64,
+    low: Low,
     filling: &mut Filling,
     steps: &mut Steps<L>,
 )
     requires joined { AreJoined system.now touched.now reached.now }
     requires places { HasPlaces system.now filling.old }
     requires levels { AreLevels reached.now filling.old }
-    requires above { AreAbove system.now touched.now low filling.old }
+    requires above { AreAbove system.now touched.now low.level filling.old }
+    requires floor { IsFloor low.floor
+        (unfixed_bounds system.now.slots filling.old.fixed.items touched.now) }
     ensures places { HasPlaces system.now filling.new }
     ensures stepped { (i : ℕ) → i < length touched.now
-        → FlowSteps system.now.slots filling.old.levels.items low
+        → FlowSteps system.now.slots filling.old.levels.items low.level
         filling.old.fixed.items filling.new.fixed.items (slice_index touched.now i) }
     ensures levels { AreLevels reached.now filling.new }
+    ensures kept { KeepsFixed filling.old filling.new }
     ensures count { KeepsCount system.now touched.now filling.old filling.new
         (steps.old + lengths (users_on system.now.users) reached.now) steps.new }
 {
@@ -486,18 +616,19 @@ fn fill_steps<L: Ledger>(
         filling.old.left.items filling.old.waiting.items (λ c. is_in c reached.now) }
     requires levels { AreLevels reached.now filling.old }
     ensures places { HasPlaces system.now filling.new }
-    ensures fixed { (i : ℕ) → i < length touched.now
-        → fixed_at filling.new.fixed.items (slice_index touched.now i)
-        ≡ Some (level_of system.now.capacities
-        (flows_at system.now.slots touched.now)
-        (flow_in system.now.slots (slice_index touched.now i))) }
+    ensures kept { KeepsFixed filling.old filling.new }
+    ensures fixed { AreLeveled system.now touched.now filling.new }
     ensures looks { steps.new ≤ steps.old + length touched.now
         * (3 * lengths (uses_at system.now.slots) touched.now) }
 {
+    let mut floor = Some(0);
     for n in 0..touched.len() {
-        match lowest(system, touched, reached, filling) {
+        match lowest(system, touched, reached, filling, floor) {
             None => return,
-            Some(low) => step(system, touched, reached, low, filling, steps),
+            Some(low) => {
+                step(system, touched, reached, low, filling, steps);
+                floor = low.floor;
+            }
         }
     }
 }
@@ -537,6 +668,8 @@ fn unfix<L: Ledger>(
         + weight_of system.now.slots touched.now c < 2 ^ 64 }
     ensures fixed { (i : ℕ) → i < length touched.now
         → fixed_at fixed.new (slice_index touched.now i) ≡ None }
+    ensures others { (id : ℕ) → is_in id touched.now ≡ false
+        → fixed_at fixed.new id ≡ fixed_at fixed.old id }
     ensures waiting { IsMoreBy (weight_of system.now.slots touched.now)
         waiting.old waiting.new }
     ensures looks { steps.new
@@ -556,19 +689,11 @@ pub fn fill<L: Ledger>(
     filling: &mut Filling,
     steps: &mut Steps<L>,
 )
-    requires part { ArePart system.now touched.now }
-    requires once { AllPairs (λ a b. a ≢ b) touched.now }
-    requires covers { Covers (uses_at system.now.slots) touched.now reached.now }
-    requires covered { Covers (users_on system.now.users) reached.now touched.now }
-    requires distinct { AllPairs (λ a b. a ≢ b) reached.now }
-    requires exist { All (λ c. c < length system.now.capacities) reached.now }
+    requires joined { AreJoined system.now touched.now reached.now }
     requires places { HasPlaces system.now filling.old }
     ensures places { HasPlaces system.now filling.new }
-    ensures fixed { (i : ℕ) → i < length touched.now
-        → fixed_at filling.new.fixed.items (slice_index touched.now i)
-        ≡ Some (level_of system.now.capacities
-        (flows_at system.now.slots touched.now)
-        (flow_in system.now.slots (slice_index touched.now i))) }
+    ensures kept { KeepsOthers touched.now filling.old filling.new }
+    ensures fixed { AreLeveled system.now touched.now filling.new }
     ensures fits { (i : ℕ) → i < length touched.now
         → bound_at system.now.slots (slice_index touched.now i) ≡ None
         → share_of system.now.capacities (flows_at system.now.slots touched.now)

@@ -8,7 +8,7 @@ ghost use Rattle.sg_lazy.specs.Lazily.{IsFresh, IsRoomier, IsSettled, looks_of, 
 use crate::component::Component;
 use crate::filling::Filling;
 use crate::room::{grow_marks, grow_rows};
-use crate::settle::{Pending, Rated, settle_flows};
+use crate::settle::{Found, Pending, Rated, settle_flows};
 use sg_base::{Marks, Memory, Steps};
 use sg_maxmin::System;
 use std::alloc::Global;
@@ -28,7 +28,7 @@ pub struct Lazy {
     pending: Pending,
     rated: Rated,
     // where a settling notes what it touches, and fills
-    component: Component,
+    found: Found,
     filling: Filling,
 }
 
@@ -51,7 +51,7 @@ impl Model for Lazy {
     } };
 
     ghost invariant = { λ s. IsLazy s.system s.rated.rates.items s.pending.began.members s.pending.ended.members
-        × HasRoom s.system s.pending s.component s.filling s.rated };
+        × HasRoom s.system s.pending s.found s.filling s.rated };
 }
 
 impl Lazy {
@@ -59,6 +59,8 @@ impl Lazy {
     pub fn new(alloc: Global, capacities: &[u64]) -> Result<Lazy, Memory>
         ensures { IfOk result (IsFresh capacities.now) }
     {
+        let mut freed = Marks::new(alloc);
+        freed.reserve(capacities.len())?;
         let mut reached = Marks::new(alloc);
         reached.reserve(capacities.len())?;
         let mut stale = Marks::new(alloc);
@@ -75,9 +77,12 @@ impl Lazy {
                 rates: Vec::new(alloc),
                 changed: Marks::new(alloc),
             },
-            component: Component {
-                touched: Marks::new(alloc),
-                reached,
+            found: Found {
+                freed,
+                component: Component {
+                    touched: Marks::new(alloc),
+                    reached,
+                },
             },
             filling: Filling {
                 fixed: Vec::new(alloc),
@@ -110,7 +115,7 @@ impl Lazy {
         grow_marks(
             n,
             &mut self.pending,
-            &mut self.component.touched,
+            &mut self.found.component.touched,
             &mut self.rated.changed,
         )?;
         grow_rows(n, &mut self.rated.rates, &mut self.filling.fixed)?;
@@ -154,7 +159,7 @@ impl Lazy {
         settle_flows(
             &mut self.system,
             &self.pending,
-            &mut self.component,
+            &mut self.found,
             &mut self.filling,
             &mut self.rated,
             steps,

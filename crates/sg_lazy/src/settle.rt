@@ -1,14 +1,14 @@
 //! Settling: the rates of the touched flows are filled anew.
-ghost use Rattle.std.specs.Prelude.{◌≡◌, ◌≢◌, ◌≤◌, ◌<◌, ◌+◌, ℕ, Bool, true, false, IsSome, IsTrue, All, AllPairs, length, slice_index};
-ghost use Rattle.sg_base.specs.MarkSet.{is_in};
+ghost use Rattle.std.specs.Prelude.{◌≡◌, ◌≢◌, ◌≤◌, ◌<◌, ◌+◌, ℕ, IsSome, AllPairs, length, slice_index};
 ghost use Rattle.sg_maxmin.specs.Sharing.{IsSound, flow_at, uses_at};
 ghost use Rattle.sg_lazy.specs.RunningFlow.{running_flows};
 ghost use Rattle.sg_lazy.specs.Work.{work};
-ghost use Rattle.sg_lazy.specs.kept.Component.{IsOpen, MarksRows, Passes, Spreads, StaysWithin, lengths, touched_uses};
+ghost use Rattle.sg_lazy.specs.kept.Component.{MarksRows, lengths};
 ghost use Rattle.sg_lazy.specs.kept.Held.{HasRoom, IsLazy, IsRefilled, IsWithout, running_in, ended_in};
 
-use crate::component::{Component, mark_uses, reach, touch};
-use crate::filling::{Filling, fill};
+use crate::by_part::{fill_began, fill_freed};
+use crate::component::{Component, mark_uses};
+use crate::filling::Filling;
 use crate::writing::write_rates;
 use sg_base::{Marks, Steps};
 use sg_maxmin::System;
@@ -19,6 +19,13 @@ use std::sync::ledger::Ledger;
 pub struct Pending {
     pub began: Marks,
     pub ended: Marks,
+}
+
+/// The resources that ended flows used, and what is touched and reached.
+#[derive(Drop)]
+pub struct Found {
+    pub freed: Marks,
+    pub component: Component,
 }
 
 /// The rates, and the flows whose rates the last settling changed.
@@ -59,105 +66,53 @@ fn remove_all(system: &mut System, ended: &[usize])
     }
 }
 
-// Touches a flow that began, unless it ended.
-fn touch_running<L: Ledger>(
-    system: &System,
-    flow: usize,
-    ended: &Marks,
-    component: &mut Component,
-    steps: &mut Steps<L>,
-)
-    requires flow { flow < component.old.touched.room }
-    requires ended { flow < ended.now.room }
-    requires sound { IsSound system.now }
-    requires open { IsOpen system.now component.old }
-    ensures spreads { Spreads system.now component.old component.new }
-    ensures there { is_in flow ended.now.members ≡ false
-        → IsTrue (is_in flow component.new.touched.members) }
-    ensures least { (p q : ℕ → Bool) → Passes p q (uses_at system.now.slots)
-        → (is_in flow ended.now.members ≡ false → IsTrue (p flow))
-        → StaysWithin p q component.old component.new }
-    ensures looks { steps.new + touched_uses system.now component.old
-        ≡ steps.old + touched_uses system.now component.new }
-{
-    if ended.contains(flow) {
-        return;
-    }
-    touch(system, flow, component, steps);
-}
-
-// Touches the flows that began, but for those that ended.
-fn touch_began<L: Ledger>(
-    system: &System,
-    pending: &Pending,
-    component: &mut Component,
-    steps: &mut Steps<L>,
-)
-    requires began { All (λ flow. flow < length system.now.slots)
-        pending.now.began.members }
-    requires ended { length system.now.slots ≤ pending.now.ended.room }
-    requires sound { IsSound system.now }
-    requires open { IsOpen system.now component.old }
-    ensures spreads { Spreads system.now component.old component.new }
-    ensures there { (id : ℕ) → is_in id pending.now.began.members ≡ true
-        → is_in id pending.now.ended.members ≡ false
-        → IsTrue (is_in id component.new.touched.members) }
-    ensures least { (p q : ℕ → Bool) → Passes p q (uses_at system.now.slots)
-        → ((id : ℕ) → is_in id pending.now.began.members ≡ true
-        → is_in id pending.now.ended.members ≡ false → IsTrue (p id))
-        → StaysWithin p q component.old component.new }
-    ensures looks { steps.new + touched_uses system.now component.old
-        ≡ steps.old + touched_uses system.now component.new }
-{
-    for flow in pending.began.members() {
-        touch_running(system, *flow, &pending.ended, component, steps);
-    }
-}
-
-/// Brings the rates of all flows up to date: those of the touched ones by filling these alone.
+/// Brings the rates of all flows up to date: those of the touched ones by filling these alone,
+/// part by part.
 pub fn settle_flows<L: Ledger>(
     system: &mut System,
     pending: &Pending,
-    component: &mut Component,
+    found: &mut Found,
     filling: &mut Filling,
     rated: &mut Rated,
     steps: &mut Steps<L>,
 )
     requires lazy { IsLazy system.old rated.old.rates.items
         pending.now.began.members pending.now.ended.members }
-    requires room { HasRoom system.old pending.now component.old filling.old rated.old }
+    requires room { HasRoom system.old pending.now found.old filling.old rated.old }
     ensures refilled { IsRefilled system.old system.new
         pending.now.began.members pending.now.ended.members
         rated.old.rates.items rated.new.rates.items rated.new.changed.members }
-    ensures room { HasRoom system.new pending.now component.new filling.new rated.new }
+    ensures room { HasRoom system.new pending.now found.new filling.new rated.new }
     ensures looks { steps.new ≤ steps.old + work
         (running_flows (running_in system.old.slots rated.old.rates.items
         pending.now.began.members pending.now.ended.members))
         (ended_in system.old.slots pending.now.ended.members) }
 {
-    component.touched.clear();
-    component.reached.clear();
+    found.freed.clear();
+    found.component.touched.clear();
+    found.component.reached.clear();
     rated.changed.clear();
-    reach_ended(
-        system,
-        pending.ended.members(),
-        &mut component.reached,
-        steps,
-    );
+    reach_ended(system, pending.ended.members(), &mut found.freed, steps);
     remove_all(system, pending.ended.members());
     system.is_sound();
-    touch_began(system, pending, component, steps);
-    reach(system, component, steps);
-    fill(
+    fill_began(
         system,
-        component.touched.members(),
-        component.reached.members(),
+        pending.began.members(),
+        &pending.ended,
+        &mut found.component,
+        filling,
+        steps,
+    );
+    fill_freed(
+        system,
+        found.freed.members(),
+        &mut found.component,
         filling,
         steps,
     );
     write_rates(
         system,
-        component.touched.members(),
+        found.component.touched.members(),
         &pending.began,
         &filling.fixed,
         &mut rated.rates,

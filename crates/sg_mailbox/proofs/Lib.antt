@@ -1,1 +1,5 @@
-pub mod QueueLemmas
+pub mod Lists
+pub mod Numbers
+pub mod Places
+pub mod Steps
+pub mod Tested

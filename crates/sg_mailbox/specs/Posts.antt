@@ -1,31 +1,36 @@
 -- Communications of which one side is there, mailbox by mailbox.
-use Rattle.std.specs.Prelude.{ℕ, ◌<◌, ◌≤◌, Bool, true, false, not, Option, None, Some, option_map, unwrap_or, List, [], ◌∷◌, ◌++◌, All, if◌then◌else◌}
+use Rattle.std.specs.Prelude.{◌≡◌, ◌≢◌, ℕ, ◌<◌, ◌≤◌, Bool, true, false, not, ◌==◌, Option, None, Some, option_map, List, [], ◌∷◌, ◌++◌, All, filter, slice_index_or, if◌then◌else◌}
 use Rattle.std.specs.List.{find, AllPairs}
 use Rattle.std.specs.Map.{lookup}
 use Rattle.sg_base.specs.declared.ids.BoxId.{BoxId}
 use Rattle.sg_base.specs.declared.ids.Serial.{Serial}
 use Rattle.sg_base.specs.contracts.ids.BoxIdPartialEq.TheImpl as box_eq_impl
 use Rattle.sg_mailbox.specs.declared.sides.Side.{Side}
+use Rattle.sg_mailbox.specs.declared.sides.Found.{Found}
 use Rattle.sg_mailbox.specs.declared.sides.Meeting.{Meeting}
 use Rattle.sg_mailbox.specs.declared.sides.Meeting.TheVariants.{Posted, Met}
+use Rattle.sg_mailbox.specs.declared.sides.Post.{Post}
 
--- a side that waits: the serial of its communication, and whether it sends
-pub record Post : Type 0 where
-  pub serial : Serial
-  pub sends : Bool
-  pub side : Side
-
--- the mailboxes in which somebody waits, each with who waits there in the order of arrival, and room for so many more sides that come
+-- the queue of each mailbox in which somebody waits, who waits in each queue in the order of arrival, and room for so many more sides that come
 pub record Posts : Type 0 where
-  pub queues : List (BoxId × List Post)
+  pub numbers : List (BoxId × ℕ)
+  pub queues : List (List Post)
   pub room : ℕ
 
 abbrev pub box_eq : BoxId → BoxId → Bool
 box_eq = (box_eq_impl.ghosts).eq
 
+-- the queue of a mailbox
+abbrev pub queue_of : Posts → BoxId → Option ℕ
+queue_of posts mailbox = lookup (box_eq mailbox) posts.numbers
+
+abbrev pub posts_in : List (List Post) → Option ℕ → List Post
+posts_in queues None = []
+posts_in queues (Some queue) = slice_index_or queues queue []
+
 -- who waits in a mailbox
 abbrev pub waiting : Posts → BoxId → List Post
-waiting posts mailbox = unwrap_or (lookup (box_eq mailbox) posts.queues) []
+waiting posts mailbox = posts_in posts.queues (queue_of posts mailbox)
 
 -- whether the other kind of side waits: a receiver for one that sends, and a sender for one that receives
 abbrev pub is_other : Bool → Post → Bool
@@ -57,9 +62,26 @@ meeting (Some post) serial = Met post.serial post.side
 abbrev pub met : Option Post → Option (Serial × Side)
 met found = option_map (λ post. (post.serial, post.side)) found
 
+-- what a side that comes to this mailbox finds there
+pub record IsFound (posts : Posts) (mailbox : BoxId) (sends : Bool) (found : Found) : Type 0 where
+  pub queue : found.queue ≡ queue_of posts mailbox
+  pub met : found.met ≡ met (meets sends (waiting posts mailbox))
+
+-- the post of this serial has left
+abbrev pub withdrawn : Serial → List Post → List Post
+withdrawn serial posts = filter (λ (post : Post). not (post.serial.0 == serial.0)) posts
+
 -- all that wait have lower serials
-abbrev pub AreBelow : Serial → List Post → Type 0
-AreBelow serial posts = All (λ (post : Post). post.serial.0 < serial.0) posts
+abbrev pub AreBelow : ℕ → Posts → Type 0
+AreBelow serial posts = (mailbox : BoxId) → All (λ (post : Post). post.serial.0 < serial) (waiting posts mailbox)
+
+-- the same sides wait
+abbrev pub AllStay : Posts → Posts → Type 0
+AllStay old new = (mailbox : BoxId) → waiting new mailbox ≡ waiting old mailbox
+
+-- the same sides wait in all mailboxes but this one
+abbrev pub OthersStay : BoxId → Posts → Posts → Type 0
+OthersStay mailbox old new = (other : BoxId) → other ≢ mailbox → waiting new other ≡ waiting old other
 
 -- serials rise in the order of arrival
 abbrev pub AreRising : List Post → Type 0

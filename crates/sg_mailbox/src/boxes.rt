@@ -1,19 +1,32 @@
 //! The mailboxes.
-ghost use Rattle.std.specs.Prelude.{◌≡◌, ◌≢◌, ◌-◌, ◌<◌, ◌≤◌, [], true, false, OnOk, IfSome, All};
+ghost use Rattle.std.specs.Prelude.{◌≡◌, ◌-◌, ◌<◌, ◌≤◌, [], true, false, IfOk, OnOk};
 ghost use Rattle.sg_base.specs.declared.ids.BoxId.{BoxId};
-ghost use Rattle.sg_mailbox.specs.Posts.{waiting, meets, arrives, meeting, met, AreBelow, AreRising};
+ghost use Rattle.sg_mailbox.specs.Posts.{waiting, meets, arrives, meeting, met, withdrawn, AllStay, AreBelow, AreRising, IsFound, OthersStay};
 
-use crate::kept::{Kept, arrive, front, reserve};
-use crate::sides::{Meeting, Side};
-use sg_base::{BoxId, Memory, Serial};
+use crate::kept::{Kept, enter, look, reserve, withdraw};
+use crate::sides::{Found, Meeting, Post, Side};
+use sg_base::{ActorId, BoxId, Memory, Msg, Serial};
+use sg_queues::Queues;
 use std::alloc::Global;
 use std::collections::HashMap;
 use std::marker::Model;
 
+// What stands where nobody waits.
+const BLANK: Post = Post {
+    serial: Serial(0),
+    sends: false,
+    side: Side {
+        actor: ActorId(0),
+        bytes: 0,
+        msg: Msg::Empty,
+    },
+};
+
 /// Communications of which one side is there, mailbox by mailbox.
 ///
 /// A side that comes meets the one that has waited longest, where the other kind waits; else it waits itself. No
-/// other mailbox is looked at.
+/// other mailbox is looked at. What a call costs depends on no number of mailboxes or of sides that wait, and only
+/// `new` and `reserve` take memory.
 #[derive(Drop)]
 pub struct Boxes {
     kept: Kept,
@@ -21,7 +34,7 @@ pub struct Boxes {
 
 impl Model for Boxes {
     ghost use Rattle.sg_mailbox.specs.Posts.{Posts};
-    ghost use Rattle.sg_mailbox.specs.Queues.{posts_of, IsKept};
+    ghost use Rattle.sg_mailbox.specs.kept.Queues.{posts_of, IsKept};
 
     ghost Value = { Posts };
 
@@ -32,56 +45,95 @@ impl Model for Boxes {
 
 impl Boxes {
     /// Nobody waits, and there is no room.
-    pub fn new(alloc: Global) -> Boxes
-        ensures empty { (mailbox : BoxId) → waiting result mailbox ≡ [] }
-        ensures room { result.room ≡ 0 }
+    pub fn new(alloc: Global) -> Result<Boxes, Memory>
+        ensures empty { IfOk result (λ boxes. (mailbox : BoxId) → waiting boxes mailbox ≡ []) }
+        ensures room { IfOk result (λ boxes. boxes.room ≡ 0) }
     {
-        Boxes {
+        Ok(Boxes {
             kept: Kept {
-                queues: HashMap::new(alloc),
-                waiting: HashMap::new(alloc),
+                numbers: HashMap::new(alloc),
+                queues: Queues::new(alloc, BLANK)?,
+                empty: Vec::new(alloc),
+                places: HashMap::new(alloc),
                 room: 0,
             },
-        }
+        })
     }
 
     /// Makes room for so many sides that come.
     pub fn reserve(&mut self, n: usize) -> Result<(), Memory>
         ensures room { OnOk result (n ≤ self.new.room) }
         ensures grows { self.old.room ≤ self.new.room }
-        ensures kept { (mailbox : BoxId) → waiting self.new mailbox ≡ waiting self.old mailbox }
+        ensures kept { AllStay self.old self.new }
     {
         reserve(&mut self.kept, n)
+    }
+
+    /// What a side finds that comes to a mailbox: nothing changes.
+    pub fn look(&self, mailbox: BoxId, sends: bool) -> Found
+        ensures found { IsFound self.now mailbox sends result }
+        ensures rising { AreRising (waiting self.now mailbox) }
+    {
+        look(&self.kept, mailbox, sends)
+    }
+
+    /// A side comes that found this there. Where it meets nobody it waits under the serial.
+    pub fn enter(
+        &mut self,
+        mailbox: BoxId,
+        sends: bool,
+        found: Found,
+        side: Side,
+        serial: Serial,
+    ) -> Meeting
+        requires room { 0 < self.old.room }
+        requires found { IsFound self.old mailbox sends found }
+        requires above { AreBelow serial.0 self.old }
+        ensures meeting { result ≡ meeting (meets sends (waiting self.old mailbox)) serial }
+        ensures there { waiting self.new mailbox
+            ≡ arrives sends side serial (waiting self.old mailbox) }
+        ensures elsewhere { OthersStay mailbox self.old self.new }
+        ensures room { self.new.room ≡ self.old.room - 1 }
+    {
+        enter(&mut self.kept, mailbox, sends, found, side, serial)
+    }
+
+    /// The side of this serial leaves its mailbox, from wherever it waits there. Nothing changes where no side of
+    /// this serial waits.
+    pub fn withdraw(&mut self, serial: Serial)
+        ensures left { (mailbox : BoxId) → waiting self.new mailbox
+            ≡ withdrawn serial (waiting self.old mailbox) }
+        ensures room { self.new.room ≡ self.old.room }
+    {
+        withdraw(&mut self.kept, serial);
     }
 
     /// A side comes that sends.
     pub fn send(&mut self, mailbox: BoxId, side: Side, serial: Serial) -> Meeting
         requires room { 0 < self.old.room }
-        requires serial { 0 < serial.0 }
-        requires above { AreBelow serial (waiting self.old mailbox) }
+        requires above { AreBelow serial.0 self.old }
         ensures meeting { result ≡ meeting (meets true (waiting self.old mailbox)) serial }
         ensures there { waiting self.new mailbox
             ≡ arrives true side serial (waiting self.old mailbox) }
-        ensures elsewhere { (other : BoxId) → other ≢ mailbox
-            → waiting self.new other ≡ waiting self.old other }
+        ensures elsewhere { OthersStay mailbox self.old self.new }
         ensures room { self.new.room ≡ self.old.room - 1 }
     {
-        arrive(&mut self.kept, true, mailbox, side, serial)
+        let found = self.look(mailbox, true);
+        self.enter(mailbox, true, found, side, serial)
     }
 
     /// A side comes that receives.
     pub fn recv(&mut self, mailbox: BoxId, side: Side, serial: Serial) -> Meeting
         requires room { 0 < self.old.room }
-        requires serial { 0 < serial.0 }
-        requires above { AreBelow serial (waiting self.old mailbox) }
+        requires above { AreBelow serial.0 self.old }
         ensures meeting { result ≡ meeting (meets false (waiting self.old mailbox)) serial }
         ensures there { waiting self.new mailbox
             ≡ arrives false side serial (waiting self.old mailbox) }
-        ensures elsewhere { (other : BoxId) → other ≢ mailbox
-            → waiting self.new other ≡ waiting self.old other }
+        ensures elsewhere { OthersStay mailbox self.old self.new }
         ensures room { self.new.room ≡ self.old.room - 1 }
     {
-        arrive(&mut self.kept, false, mailbox, side, serial)
+        let found = self.look(mailbox, false);
+        self.enter(mailbox, false, found, side, serial)
     }
 
     /// Whom `send` would meet: nothing changes.
@@ -89,7 +141,7 @@ impl Boxes {
         ensures is { result ≡ met (meets true (waiting self.now mailbox)) }
         ensures rising { AreRising (waiting self.now mailbox) }
     {
-        front(&self.kept, true, mailbox)
+        self.look(mailbox, true).met
     }
 
     /// Whom `recv` would meet: nothing changes.
@@ -97,6 +149,6 @@ impl Boxes {
         ensures is { result ≡ met (meets false (waiting self.now mailbox)) }
         ensures rising { AreRising (waiting self.now mailbox) }
     {
-        front(&self.kept, false, mailbox)
+        self.look(mailbox, false).met
     }
 }

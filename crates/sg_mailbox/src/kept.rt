@@ -1,23 +1,73 @@
 //! What the mailboxes keep: a queue for each in which somebody waits.
-ghost use Rattle.std.specs.Prelude.{◌≡◌, ◌≢◌, ◌+◌, ◌-◌, ◌<◌, ◌≤◌, ◌==◌, ◌⊎◌, ℕ, [], ◌∷◌, ◌++◌, None, Some, OnOk, MatchOption, if◌then◌else◌};
+ghost use Rattle.std.specs.Prelude.{◌≡◌, ◌+◌, ◌-◌, ◌<◌, ◌≤◌, [], ◌∷◌, ◌++◌, None, Some, OnOk, All, length, vec_len, vec_capacity};
 ghost use Rattle.std.specs.HashMap.{spare};
 ghost use Rattle.sg_base.specs.declared.ids.BoxId.{BoxId};
-ghost use Rattle.sg_mailbox.specs.Posts.{meets, arrives, meeting, met, AreBelow, AreRising};
-ghost use Rattle.sg_mailbox.specs.Queues.{waits, queue_in, places, post_of, IsKept};
+ghost use Rattle.sg_mailbox.specs.declared.sides.Post.{Post as PostSpec};
+ghost use Rattle.sg_mailbox.specs.Posts.{meets, arrives, meeting, waiting, withdrawn, AllStay, AreBelow, AreRising, IsFound, OthersStay};
+ghost use Rattle.sg_mailbox.specs.kept.Queues.{number, posts_of, IsKept, IsKeptBut};
 
-use crate::sides::{Meeting, Queue, Side, Spot, Waiting};
+use crate::sides::{Found, Meeting, Place, Post, Side};
 use sg_base::{BoxId, Memory, Serial};
+use sg_queues::Queues;
 use std::collections::HashMap;
 
 /// The fields of the mailboxes.
 #[derive(Drop)]
 pub(crate) struct Kept {
     /// The queue of each mailbox in which somebody waits.
-    pub(crate) queues: HashMap<BoxId, Queue>,
-    /// Who waits at each place of a queue.
-    pub(crate) waiting: HashMap<Spot, Waiting>,
+    pub(crate) numbers: HashMap<BoxId, usize>,
+    pub(crate) queues: Queues<Post>,
+    /// The queues that are no mailbox's.
+    pub(crate) empty: Vec<usize>,
+    /// Where the side of each serial waits.
+    pub(crate) places: HashMap<u64, Place>,
     /// Room for so many sides that come.
     pub(crate) room: usize,
+}
+
+fn push(items: &mut Vec<usize>, item: usize)
+    requires { vec_len items.old < vec_capacity items.old }
+    ensures items { items.new.items ≡ items.old.items ++ item ∷ [] }
+    ensures capacity { vec_capacity items.old ≤ vec_capacity items.new }
+{
+    match items.push(item) {
+        Ok(()) => {}
+        Err(_) => unreachable!(),
+    }
+}
+
+// Room for so many more sides, but for the queues of so many mailboxes.
+fn grow(kept: &mut Kept, n: usize) -> Result<(), Memory>
+    requires kept { IsKept kept.old }
+    ensures numbers { OnOk result (n ≤ spare kept.new.numbers) }
+    ensures places { OnOk result (n ≤ spare kept.new.places) }
+    ensures queues { OnOk result (n ≤ kept.new.queues.room) }
+    ensures same { AllStay (posts_of kept.old) (posts_of kept.new) }
+    ensures room { kept.new.room ≡ kept.old.room }
+    ensures kept { IsKept kept.new }
+{
+    kept.numbers.reserve(n)?;
+    kept.places.reserve(n)?;
+    kept.queues.reserve(n)?;
+    Ok(())
+}
+
+// A queue more that is no mailbox's.
+fn add_queue(kept: &mut Kept) -> Result<(), Memory>
+    requires kept { IsKept kept.old }
+    ensures one { OnOk result (length kept.new.empty.items ≡ length kept.old.empty.items + 1) }
+    ensures rest { kept.new ≡ record kept.old {
+      queues = kept.new.queues;
+      empty = kept.new.empty;
+    } }
+    ensures queues { kept.new.queues.room ≡ kept.old.queues.room }
+    ensures same { AllStay (posts_of kept.old) (posts_of kept.new) }
+    ensures kept { IsKept kept.new }
+{
+    kept.empty.reserve(kept.numbers.len() + 1)?;
+    let queue = kept.queues.add_queue()?;
+    push(&mut kept.empty, queue);
+    Ok(())
 }
 
 /// Makes room for so many sides that come.
@@ -25,234 +75,171 @@ pub(crate) fn reserve(kept: &mut Kept, n: usize) -> Result<(), Memory>
     requires kept { IsKept kept.old }
     ensures room { OnOk result (n ≤ kept.new.room) }
     ensures grows { kept.old.room ≤ kept.new.room }
-    ensures same { (mailbox : BoxId) → waits kept.new mailbox ≡ waits kept.old mailbox }
+    ensures same { AllStay (posts_of kept.old) (posts_of kept.new) }
     ensures kept { IsKept kept.new }
 {
-    let n = n.max(kept.room);
-    kept.queues.reserve(n)?;
-    kept.waiting.reserve(n)?;
-    kept.room = n;
+    let room = n.max(kept.room);
+    grow(kept, room)?;
+    while kept.empty.len() < room {
+        add_queue(kept)?;
+    }
+    kept.room = room;
     Ok(())
 }
 
-fn queue_of(kept: &Kept, mailbox: BoxId) -> Option<Queue>
-    ensures { result ≡ queue_in kept.now mailbox }
-{
-    kept.queues.get(&mailbox).copied()
-}
-
-fn at_front(kept: &Kept, mailbox: BoxId, queue: Queue) -> Option<Waiting>
-    ensures { result ≡ places kept.now mailbox queue.from }
-{
-    let spot = Spot {
-        mailbox,
-        at: queue.from,
-    };
-    kept.waiting.get(&spot).copied()
-}
-
-/// Whom a side would meet.
-pub(crate) fn front(kept: &Kept, sends: bool, mailbox: BoxId) -> Option<(Serial, Side)>
+/// What a side finds that comes to this mailbox.
+pub(crate) fn look(kept: &Kept, mailbox: BoxId, sends: bool) -> Found
     requires kept { IsKept kept.now }
-    ensures is { result ≡ met (meets sends (waits kept.now mailbox)) }
-    ensures rising { AreRising (waits kept.now mailbox) }
+    ensures found { IsFound (posts_of kept.now) mailbox sends result }
+    ensures rising { AreRising (waiting (posts_of kept.now) mailbox) }
 {
-    let Some(queue) = queue_of(kept, mailbox) else {
-        return None;
+    let Some(queue) = kept.numbers.get(&mailbox).copied() else {
+        return Found {
+            queue: None,
+            met: None,
+        };
     };
-    if queue.sends == sends {
-        return None;
-    }
-    match at_front(kept, mailbox, queue) {
-        Some(first) => Some((first.serial, first.side)),
-        None => None,
+    let met = match kept.queues.front(queue) {
+        Some((_, first)) if first.sends != sends => Some((first.serial, first.side)),
+        _ => None,
+    };
+    Found {
+        queue: Some(queue),
+        met,
     }
 }
 
-// Somebody waits at this place.
-fn put(kept: &mut Kept, mailbox: BoxId, at: u64, waiting: Waiting)
-    requires { 0 < spare kept.old.waiting }
-    ensures is { places kept.new mailbox at ≡ Some waiting }
-    ensures others { (other : BoxId) (i : ℕ) → other ≢ mailbox ⊎ i ≢ at
-        → places kept.new other i ≡ places kept.old other i }
-    ensures kept { kept.new ≡ record kept.old { waiting = kept.new.waiting } }
-    ensures spare { spare kept.old.waiting ≤ spare kept.new.waiting + 1 }
+// A mailbox gets a queue.
+fn open(kept: &mut Kept, mailbox: BoxId) -> usize
+    requires kept { IsKept kept.old }
+    requires room { 0 < kept.old.room }
+    requires nobody { number kept.old mailbox ≡ None }
+    ensures queue { number kept.new mailbox ≡ Some result }
+    ensures same { AllStay (posts_of kept.old) (posts_of kept.new) }
+    ensures room { kept.new.room ≡ kept.old.room }
+    ensures kept { IsKeptBut mailbox (kept.new.room - 1) kept.new }
 {
-    match kept.waiting.insert(Spot { mailbox, at }, waiting) {
+    let Some(queue) = kept.empty.pop() else {
+        unreachable!()
+    };
+    match kept.numbers.insert(mailbox, queue) {
         Ok(_) => {}
         Err(_) => unreachable!(),
     }
+    queue
 }
 
-// Who waited at this place goes.
-fn take(kept: &mut Kept, mailbox: BoxId, at: u64) -> Option<Waiting>
-    ensures was { result ≡ places kept.old mailbox at }
-    ensures others { (other : BoxId) (i : ℕ) → other ≢ mailbox ⊎ i ≢ at
-        → places kept.new other i ≡ places kept.old other i }
-    ensures kept { kept.new ≡ record kept.old { waiting = kept.new.waiting } }
-    ensures spare { spare kept.old.waiting ≤ spare kept.new.waiting }
+// The queue of a mailbox, also where it had none.
+fn queue_for(kept: &mut Kept, mailbox: BoxId, queue: Option<usize>) -> usize
+    requires kept { IsKept kept.old }
+    requires room { 0 < kept.old.room }
+    requires queue { queue ≡ number kept.old mailbox }
+    ensures queue { number kept.new mailbox ≡ Some result }
+    ensures same { AllStay (posts_of kept.old) (posts_of kept.new) }
+    ensures room { kept.new.room ≡ kept.old.room }
+    ensures kept { IsKeptBut mailbox (kept.new.room - 1) kept.new }
 {
-    kept.waiting.remove(&Spot { mailbox, at })
+    match queue {
+        Some(queue) => queue,
+        None => open(kept, mailbox),
+    }
 }
 
-// A mailbox has this queue.
-fn set_queue(kept: &mut Kept, mailbox: BoxId, queue: Queue)
-    requires { 0 < spare kept.old.queues }
-    ensures is { queue_in kept.new mailbox ≡ Some queue }
-    ensures others { (other : BoxId) → other ≢ mailbox
-        → queue_in kept.new other ≡ queue_in kept.old other }
-    ensures kept { kept.new ≡ record kept.old { queues = kept.new.queues } }
-    ensures spare { spare kept.old.queues ≤ spare kept.new.queues + 1 }
+// A side comes to the end of the queue of its mailbox.
+fn put(kept: &mut Kept, mailbox: BoxId, queue: usize, post: Post)
+    requires kept { IsKeptBut mailbox (kept.old.room - 1) kept.old }
+    requires room { 0 < kept.old.room }
+    requires queue { number kept.old mailbox ≡ Some queue }
+    requires above { AreBelow post.serial.0 (posts_of kept.old) }
+    requires alike { All (λ (first : PostSpec). first.sends ≡ post.sends)
+        (waiting (posts_of kept.old) mailbox) }
+    ensures there { waiting (posts_of kept.new) mailbox
+        ≡ waiting (posts_of kept.old) mailbox ++ post ∷ [] }
+    ensures elsewhere { OthersStay mailbox (posts_of kept.old) (posts_of kept.new) }
+    ensures room { kept.new.room ≡ kept.old.room - 1 }
+    ensures kept { IsKept kept.new }
 {
-    match kept.queues.insert(mailbox, queue) {
+    let slot = kept.queues.push_back(queue, post);
+    let place = Place {
+        mailbox,
+        queue,
+        slot,
+    };
+    match kept.places.insert(post.serial.0, place) {
         Ok(_) => {}
         Err(_) => unreachable!(),
     }
-}
-
-// A mailbox has no queue.
-fn drop_queue(kept: &mut Kept, mailbox: BoxId)
-    ensures is { queue_in kept.new mailbox ≡ None }
-    ensures others { (other : BoxId) → other ≢ mailbox
-        → queue_in kept.new other ≡ queue_in kept.old other }
-    ensures kept { kept.new ≡ record kept.old { queues = kept.new.queues } }
-    ensures spare { spare kept.old.queues ≤ spare kept.new.queues }
-{
-    kept.queues.remove(&mailbox);
-}
-
-// Somebody comes to this place of a mailbox, which then has this queue.
-fn place(kept: &mut Kept, mailbox: BoxId, at: u64, waiting: Waiting, queue: Queue)
-    requires room { 0 < kept.old.room }
-    requires queues_fit { kept.old.room ≤ spare kept.old.queues }
-    requires waiting_fit { kept.old.room ≤ spare kept.old.waiting }
-    ensures is { places kept.new mailbox at ≡ Some waiting }
-    ensures others { (other : BoxId) (i : ℕ) → other ≢ mailbox ⊎ i ≢ at
-        → places kept.new other i ≡ places kept.old other i }
-    ensures queue { queue_in kept.new mailbox ≡ Some queue }
-    ensures other_queues { (other : BoxId) → other ≢ mailbox
-        → queue_in kept.new other ≡ queue_in kept.old other }
-    ensures room { kept.new.room ≡ kept.old.room - 1 }
-    ensures queues_fit { kept.new.room ≤ spare kept.new.queues }
-    ensures waiting_fit { kept.new.room ≤ spare kept.new.waiting }
-{
-    put(kept, mailbox, at, waiting);
-    set_queue(kept, mailbox, queue);
     kept.room -= 1;
 }
 
-// A side is the first to wait in a mailbox.
-fn open(kept: &mut Kept, mailbox: BoxId, sends: bool, waiting: Waiting)
-    requires kept { IsKept kept.old }
-    requires room { 0 < kept.old.room }
-    requires queue { queue_in kept.old mailbox ≡ None }
-    requires serial { 0 < waiting.serial.0 }
-    ensures there { waits kept.new mailbox ≡ post_of sends waiting ∷ [] }
-    ensures elsewhere { (other : BoxId) → other ≢ mailbox
-        → waits kept.new other ≡ waits kept.old other }
-    ensures room { kept.new.room ≡ kept.old.room - 1 }
+// A mailbox in which nobody waits any more leaves its queue to others.
+fn close(kept: &mut Kept, mailbox: BoxId, queue: usize)
+    requires kept { IsKeptBut mailbox kept.old.room kept.old }
+    requires queue { number kept.old mailbox ≡ Some queue }
+    ensures same { AllStay (posts_of kept.old) (posts_of kept.new) }
+    ensures room { kept.new.room ≡ kept.old.room }
     ensures kept { IsKept kept.new }
 {
-    let queue = Queue {
-        sends,
-        from: 0,
-        to: 1,
-    };
-    place(kept, mailbox, 0, waiting, queue);
-}
-
-// A side goes to the end of a queue of its kind.
-fn join(kept: &mut Kept, mailbox: BoxId, queue: Queue, waiting: Waiting)
-    requires kept { IsKept kept.old }
-    requires room { 0 < kept.old.room }
-    requires queue { queue_in kept.old mailbox ≡ Some queue }
-    requires above { AreBelow waiting.serial (waits kept.old mailbox) }
-    ensures there { waits kept.new mailbox
-        ≡ waits kept.old mailbox ++ post_of queue.sends waiting ∷ [] }
-    ensures elsewhere { (other : BoxId) → other ≢ mailbox
-        → waits kept.new other ≡ waits kept.old other }
-    ensures room { kept.new.room ≡ kept.old.room - 1 }
-    ensures kept { IsKept kept.new }
-{
-    let longer = Queue {
-        to: queue.to + 1,
-        ..queue
-    };
-    place(kept, mailbox, queue.to, waiting, longer);
-}
-
-// What is left of a queue without its first place.
-fn shorten(kept: &mut Kept, mailbox: BoxId, queue: Queue)
-    requires some { queue.from < queue.to }
-    requires room { 0 < spare kept.old.queues }
-    ensures is { queue_in kept.new mailbox
-        ≡ (if queue.from + 1 == queue.to then None
-        else Some (record queue { from = queue.from + 1 })) }
-    ensures others { (other : BoxId) → other ≢ mailbox
-        → queue_in kept.new other ≡ queue_in kept.old other }
-    ensures kept { kept.new ≡ record kept.old { queues = kept.new.queues } }
-    ensures spare { spare kept.old.queues ≤ spare kept.new.queues + 1 }
-{
-    let from = queue.from + 1;
-    if from == queue.to {
-        drop_queue(kept, mailbox);
-    } else {
-        set_queue(kept, mailbox, Queue { from, ..queue });
+    if kept.queues.front(queue).is_none() {
+        kept.numbers.remove(&mailbox);
+        push(&mut kept.empty, queue);
     }
 }
 
-// The first of a queue leaves it.
-fn leave(kept: &mut Kept, mailbox: BoxId, queue: Queue) -> Option<Waiting>
+/// The side of this serial leaves its mailbox, if it waits in one.
+pub(crate) fn withdraw(kept: &mut Kept, serial: Serial)
     requires kept { IsKept kept.old }
-    requires room { 0 < kept.old.room }
-    requires queue { queue_in kept.old mailbox ≡ Some queue }
-    ensures first { MatchOption result ⊥
-        (λ first. waits kept.old mailbox ≡ post_of queue.sends first ∷ waits kept.new mailbox) }
-    ensures elsewhere { (other : BoxId) → other ≢ mailbox
-        → waits kept.new other ≡ waits kept.old other }
-    ensures room { kept.new.room ≡ kept.old.room - 1 }
+    ensures left { (mailbox : BoxId) → waiting (posts_of kept.new) mailbox
+        ≡ withdrawn serial (waiting (posts_of kept.old) mailbox) }
+    ensures room { kept.new.room ≡ kept.old.room }
     ensures kept { IsKept kept.new }
 {
-    let first = take(kept, mailbox, queue.from);
-    shorten(kept, mailbox, queue);
-    kept.room -= 1;
-    first
+    if let Some(place) = kept.places.remove(&serial.0) {
+        kept.queues.remove(place.slot);
+        close(kept, place.mailbox, place.queue);
+    }
 }
 
-/// A side comes.
-pub(crate) fn arrive(
+/// A side comes that found this.
+pub(crate) fn enter(
     kept: &mut Kept,
-    sends: bool,
     mailbox: BoxId,
+    sends: bool,
+    found: Found,
     side: Side,
     serial: Serial,
 ) -> Meeting
     requires kept { IsKept kept.old }
     requires room { 0 < kept.old.room }
-    requires serial { 0 < serial.0 }
-    requires above { AreBelow serial (waits kept.old mailbox) }
-    ensures meeting { result ≡ meeting (meets sends (waits kept.old mailbox)) serial }
-    ensures there { waits kept.new mailbox ≡ arrives sends side serial (waits kept.old mailbox) }
-    ensures elsewhere { (other : BoxId) → other ≢ mailbox
-        → waits kept.new other ≡ waits kept.old other }
+    requires found { IsFound (posts_of kept.old) mailbox sends found }
+    requires above { AreBelow serial.0 (posts_of kept.old) }
+    ensures meeting { result
+        ≡ meeting (meets sends (waiting (posts_of kept.old) mailbox)) serial }
+    ensures there { waiting (posts_of kept.new) mailbox
+        ≡ arrives sends side serial (waiting (posts_of kept.old) mailbox) }
+    ensures elsewhere { OthersStay mailbox (posts_of kept.old) (posts_of kept.new) }
     ensures room { kept.new.room ≡ kept.old.room - 1 }
     ensures kept { IsKept kept.new }
 {
-    match queue_of(kept, mailbox) {
-        None => {
-            open(kept, mailbox, sends, Waiting { serial, side });
-            Meeting::Posted(serial)
+    match found.met {
+        Some((met, other)) => {
+            kept.room -= 1;
+            withdraw(kept, met);
+            Meeting::Met(met, other)
         }
-        Some(queue) => {
-            if queue.sends == sends {
-                join(kept, mailbox, queue, Waiting { serial, side });
-                Meeting::Posted(serial)
-            } else {
-                match leave(kept, mailbox, queue) {
-                    Some(first) => Meeting::Met(first.serial, first.side),
-                    None => unreachable!(),
-                }
-            }
+        None => {
+            let queue = queue_for(kept, mailbox, found.queue);
+            put(
+                kept,
+                mailbox,
+                queue,
+                Post {
+                    serial,
+                    sends,
+                    side,
+                },
+            );
+            Meeting::Posted(serial)
         }
     }
 }

@@ -6,7 +6,7 @@ mod kept;
 mod sides;
 
 pub use boxes::Boxes;
-pub use sides::{Meeting, Side};
+pub use sides::{Found, Meeting, Post, Side};
 
 #[cfg(test)]
 mod tests;

@@ -19,27 +19,28 @@ pub enum Meeting {
     Met(Serial, Side),
 }
 
-/// A side that waits, and the serial of its communication.
+/// What a side that comes to a mailbox finds there.
 #[derive(Clone, Copy, Debug, PartialEq, Eq)]
-pub(crate) struct Waiting {
-    pub(crate) serial: Serial,
-    pub(crate) side: Side,
+pub struct Found {
+    /// The queue of the mailbox, where somebody waits there.
+    pub queue: Option<usize>,
+    /// Whom the side meets.
+    pub met: Option<(Serial, Side)>,
 }
 
-/// A place in the queue of a mailbox.
-#[derive(Clone, Copy, Debug, PartialEq, Eq, Hash)]
-pub(crate) struct Spot {
+/// A side that waits: the serial of its communication, and whether it sends.
+#[derive(Clone, Copy, Debug, PartialEq, Eq)]
+pub struct Post {
+    pub serial: Serial,
+    pub sends: bool,
+    pub side: Side,
+}
+
+/// Where a side waits.
+#[derive(Clone, Copy, Debug, PartialEq, Eq)]
+pub(crate) struct Place {
     pub(crate) mailbox: BoxId,
-    pub(crate) at: u64,
-}
-
-/// The queue of a mailbox, which isn't empty: sides of one kind, at these places.
-#[derive(Clone, Copy, Debug, PartialEq, Eq)]
-pub(crate) struct Queue {
-    /// Whether those that wait are senders.
-    pub(crate) sends: bool,
-    /// The place of the first one.
-    pub(crate) from: u64,
-    /// The place behind the last one.
-    pub(crate) to: u64,
+    /// The queue of the mailbox.
+    pub(crate) queue: usize,
+    pub(crate) slot: usize,
 }

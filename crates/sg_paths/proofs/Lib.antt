@@ -1,3 +1,11 @@
 pub mod OrderLemmas
 pub mod TrailLemmas
 pub mod PathLemmas
+pub mod LeastLemmas
+pub mod KeyLemmas
+pub mod AheadLemmas
+pub mod WorkLemmas
+pub mod SearchLemmas
+pub mod StateLemmas
+pub mod ArrivalLemmas
+pub mod ReachLemmas

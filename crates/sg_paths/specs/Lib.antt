@@ -1,6 +1,9 @@
 pub mod Order
 pub mod Path
+pub mod Least
 pub mod Trail
+pub mod Arrivals
+pub mod Ahead
 pub mod Crossing
 pub mod Reach
 pub mod Kept

@@ -1,18 +1,28 @@
 -- The room of a search.
-use Rattle.std.specs.Prelude.{◌≡◌, ℕ, ◌≤◌, List, length, vec_capacity}
-use Rattle.sg_paths.specs.declared.route.PathRoute.{PathRoute}
+use Rattle.std.specs.Prelude.{◌≡◌, ℕ, ◌+◌, ◌*◌, ◌<◌, ◌≤◌, List, length, vec_capacity}
+use Rattle.sg_paths.specs.declared.arrivals.Arrivals.{Arrivals}
 use Rattle.sg_paths.specs.declared.least.Reach.{Reach}
-use Rattle.sg_paths.specs.Crossing.{AreWithin, HasRoom}
+use Rattle.sg_paths.specs.declared.route.PathRoute.{PathRoute}
+use Rattle.sg_paths.specs.Ahead.{HasPlaceFor, steps_in}
+use Rattle.sg_paths.specs.Arrivals.{AreArrivals}
+use Rattle.sg_paths.specs.Crossing.{AreWithin}
 use Rattle.sg_paths.specs.Trail.{AreShort}
 
--- there is room for so many points, and for a path over each of them
+-- there is room for so many points, for a place of each route, and for a path over each point
 pub record IsRoomy (routes : List PathRoute) (points : ℕ) (reach : Reach) : Type 0 where
   pub places : length reach.places.items ≡ points
   pub settled : points ≤ vec_capacity reach.settled
-  pub lists : HasRoom points reach.lists
-  pub short : AreShort reach.lists.most routes
+  pub ahead : HasPlaceFor routes reach.ahead
+  pub short : AreShort reach.most routes
+  pub best : points * reach.most ≤ vec_capacity reach.best
 
--- routes join points that there are, and there is room to search
-pub record IsReady (points : ℕ) (routes : List PathRoute) (reach : Reach) : Type 0 where
+-- routes join points that there are, and all steps of a search can be counted
+pub record CanSearch (points : ℕ) (routes : List PathRoute) (arrivals : Arrivals) : Type 0 where
   pub within : AreWithin points routes
+  pub arrive : AreArrivals points routes arrivals
+  pub steps : steps_in routes + 1 < 18446744073709551616
+
+-- the routes can be searched, and there is room
+pub record IsReady (points : ℕ) (routes : List PathRoute) (arrivals : Arrivals) (reach : Reach) : Type 0 where
+  pub search : CanSearch points routes arrivals
   pub roomy : IsRoomy routes points reach

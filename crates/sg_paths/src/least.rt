@@ -1,47 +1,91 @@
 //! The search for a least path.
 ghost use Rattle.std.specs.Prelude.{◌≡◌, ◌≢◌, ◌<◌, length};
 ghost use Rattle.std.specs.Bool.{OnFalse, OnTrue};
-ghost use Rattle.sg_paths.specs.Crossing.{AreWithin};
 ghost use Rattle.sg_paths.specs.Path.{HasNoPath, IsLeastPath};
-ghost use Rattle.sg_paths.specs.Reach.{IsRoomy};
+ghost use Rattle.sg_paths.specs.Reach.{CanSearch, IsRoomy};
 
-use crate::nearest::{Lists, nearest};
+use crate::ahead::{Ahead, Mark, clear, enter, go_back};
+use crate::arrivals::Arrivals;
 use crate::route::PathRoute;
-use crate::settle::{begin, settle};
-use crate::trail::Settled;
+use crate::settle::{begin, place_of, settle};
+use crate::trail::{Settled, write_links};
+use sg_base::LinkId;
 
-/// Room for a search: the points that are settled, the place of each, and lists of links.
-#[derive(Debug, Drop)]
+/// Room for a search: the points that are settled, the place of each, the routes to them that are gone back over, and the
+/// links of a path.
+#[derive(Drop)]
 pub struct Reach {
     pub settled: Vec<Settled>,
     pub places: Vec<usize>,
-    pub lists: Lists,
+    pub ahead: Ahead,
+    pub best: Vec<LinkId>,
+    pub most: usize,
 }
 
 /// Whether there is a path; where there is one, the least one's links are the best list.
 ///
-/// Points are settled from `to` on, the one with the least path first.
-pub fn find(routes: &[PathRoute], reach: &mut Reach, from: u32, to: u32) -> bool
-    requires within { AreWithin (length reach.old.places.items) routes.now }
+/// Points are settled from `to` on, the one with the least path first: the routes to those that are settled are gone back
+/// over a link at a time, the one first whose list from where it stands is least.
+pub fn find(
+    routes: &[PathRoute],
+    arrivals: &Arrivals,
+    reach: &mut Reach,
+    from: u32,
+    to: u32,
+) -> bool
+    requires search { CanSearch (length reach.old.places.items) routes.now arrivals.now }
     requires roomy { IsRoomy routes.now (length reach.old.places.items) reach.old }
     requires from { from < length reach.old.places.items }
     requires to { to < length reach.old.places.items }
     requires apart { from ≢ to }
-    ensures yes { OnTrue result (IsLeastPath routes.now from to reach.new.lists.best.items) }
+    ensures yes { OnTrue result (IsLeastPath routes.now from to reach.new.best.items) }
     ensures no { OnFalse result (HasNoPath routes.now from to) }
     ensures roomy { IsRoomy routes.now (length reach.old.places.items) reach.new }
 {
     begin(&mut reach.settled, &mut reach.places, to);
-    'settling: while let Some(hop) = nearest(
-        routes,
-        reach.settled.as_slice(),
-        reach.places.as_slice(),
-        &mut reach.lists,
-    ) {
+    clear(&mut reach.ahead);
+    let mut rank: u64 = 0;
+    let first = Mark {
+        date: 0,
+        serial: 0,
+        rank,
+    };
+    enter(routes, arrivals, &mut reach.ahead, to, first);
+    'settling: while let Some((i, date, serial)) = reach.ahead.agenda.least() {
+        let mark = Mark {
+            date,
+            serial: serial.0,
+            rank: rank + 1,
+        };
+        let left = reach.ahead.left[i];
+        if left > 0 {
+            go_back(routes, &mut reach.ahead, i, left, mark);
+            rank += 1;
+            continue;
+        }
+        reach.ahead.agenda.clear(i);
+        let point = routes[i].from;
+        if let Some(_known) = place_of(reach.settled.as_slice(), reach.places.as_slice(), point) {
+            continue;
+        }
+        let hop = Settled {
+            point,
+            route: i,
+            next: reach.places[routes[i].to as usize],
+        };
         settle(&mut reach.settled, &mut reach.places, hop);
-        if hop.point == from {
+        if point == from {
+            write_links(
+                routes,
+                reach.settled.as_slice(),
+                hop,
+                reach.most,
+                &mut reach.best,
+            );
             return true;
         }
+        enter(routes, arrivals, &mut reach.ahead, point, mark);
+        rank += 1;
     }
     false
 }

@@ -1,15 +1,17 @@
 //! Paths of fewest links over routes between numbered points.
 #![tactic(auto)]
 
+mod ahead;
+mod arrivals;
+mod laws;
 mod least;
-mod nearest;
-mod order;
 mod paths;
 mod room;
 mod route;
 mod settle;
 mod trail;
 
+pub use laws::least_path_is_least;
 pub use paths::Paths;
 pub use route::PathRoute;
 

@@ -1,12 +1,15 @@
 //! What is made before the first search.
-ghost use Rattle.std.specs.Prelude.{◌≡◌, ◌≤◌, ◌*◌, length, vec_capacity, IfOk};
-ghost use Rattle.sg_paths.specs.Crossing.{HasRoom};
+ghost use Rattle.std.specs.Prelude.{◌≡◌, ◌+◌, ◌*◌, ◌^◌, ◌<◌, ◌≤◌, length, vec_capacity, IfOk, IfSome};
+ghost use Rattle.std.specs.Bool.{OnTrue};
+ghost use Rattle.sg_paths.specs.Ahead.{steps_in};
 ghost use Rattle.sg_paths.specs.Trail.{AreShort};
 
+use crate::ahead::Ahead;
 use crate::least::Reach;
-use crate::nearest::Lists;
 use crate::route::PathRoute;
-use sg_base::{LinkId, Links, Memory};
+use crate::trail::links_at;
+use sg_base::{Links, Memory};
+use sg_heap::Agenda;
 use std::alloc::Global;
 
 /// The most links that a route has.
@@ -36,34 +39,63 @@ pub fn copy(alloc: Global, routes: &[PathRoute]) -> Result<Vec<PathRoute>, Memor
     Ok(copied)
 }
 
-/// Room for two lists of the links of a path over so many points.
-fn lists(alloc: Global, points: usize, most: usize) -> Result<Lists, Memory>
-    ensures room { IfOk result (HasRoom points) }
-    ensures most { IfOk result (λ lists. lists.most ≡ most) }
+/// How many steps a search takes at most: each route goes back over all its links, and stops once.
+fn steps(routes: &[PathRoute]) -> Option<u64>
+    ensures { IfSome result (λ steps. steps ≡ steps_in routes.now) }
 {
-    match points.checked_mul(most) {
-        Some(links) => Ok(Lists {
-            best: Vec::with_capacity(alloc, links)?,
-            trial: Vec::with_capacity(alloc, links)?,
-            most,
-        }),
-        None => Err(Memory),
+    let mut steps: u64 = 0;
+    for i in 0..routes.len() {
+        let more = links_at(routes, i).len() as u64 + 1;
+        match steps.checked_add(more) {
+            Some(sum) => steps = sum,
+            None => return None,
+        }
+    }
+    Some(steps)
+}
+
+/// That all steps of a search can be counted.
+pub fn countable(routes: &[PathRoute]) -> bool
+    ensures { OnTrue result (steps_in routes.now + 1 < 2 ^ 64) }
+{
+    match steps(routes) {
+        Some(steps) => steps < u64::MAX,
+        None => false,
     }
 }
 
-/// Room for a search over so many points, whose routes have at most so many links.
-pub fn room(alloc: Global, points: usize, most: usize) -> Result<Reach, Memory>
+/// A place for each of so many routes.
+fn ahead(alloc: Global, routes: usize) -> Result<Ahead, Memory>
+    ensures slots { IfOk result (λ ahead. length ahead.agenda ≡ routes) }
+    ensures lefts { IfOk result (λ ahead. length ahead.left.items ≡ routes) }
+{
+    let left = vec![in alloc; 0; routes]?;
+    let mut agenda = Agenda::new(alloc)?;
+    agenda.reserve(routes)?;
+    Ok(Ahead { agenda, left })
+}
+
+/// Room for a search over so many points and routes, of which each has at most so many links.
+pub fn room(alloc: Global, points: usize, routes: usize, most: usize) -> Result<Reach, Memory>
     ensures places { IfOk result (λ reach. length reach.places.items ≡ points) }
     ensures settled { IfOk result (λ reach. points ≤ vec_capacity reach.settled) }
-    ensures lists { IfOk result (λ reach. HasRoom points reach.lists) }
-    ensures most { IfOk result (λ reach. reach.lists.most ≡ most) }
+    ensures slots { IfOk result (λ reach. length reach.ahead.agenda ≡ routes) }
+    ensures lefts { IfOk result (λ reach. length reach.ahead.left.items ≡ routes) }
+    ensures best { IfOk result (λ reach. points * most ≤ vec_capacity reach.best) }
+    ensures most { IfOk result (λ reach. reach.most ≡ most) }
 {
-    let lists = lists(alloc, points, most)?;
+    let Some(links) = points.checked_mul(most) else {
+        return Err(Memory);
+    };
+    let best = Vec::with_capacity(alloc, links)?;
     let places = vec![in alloc; 0; points]?;
     let settled = Vec::with_capacity(alloc, points)?;
+    let ahead = ahead(alloc, routes)?;
     Ok(Reach {
         settled,
         places,
-        lists,
+        ahead,
+        best,
+        most,
     })
 }

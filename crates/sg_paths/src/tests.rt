@@ -98,6 +98,9 @@ const CASES: &[Case] = &[
     },
 ];
 
+/// How many points a drawn network has.
+const MANY: u32 = 200;
+
 fn route(alloc: Global, from: u32, to: u32, numbers: &[u32]) -> Result<PathRoute, Memory>
     requires from { from < POINTS }
     requires to { to < POINTS }
@@ -126,7 +129,6 @@ fn network(alloc: Global, rows: &[(u32, u32, &[u32])]) -> Result<Paths, Memory>
 
 /// Whether a search gives these links.
 fn gives(paths: &mut Paths, from: u32, to: u32, expected: Option<&[u32]>) -> bool
-    requires { paths.old.points ≡ POINTS }
     ensures { paths.new ≡ paths.old }
 {
     let (from, to) = (from % POINTS, to % POINTS);
@@ -169,6 +171,137 @@ fn gives_least_paths(rt: HostRuntime) -> Result<(), Fail> {
         let mut paths = network(rt.alloc(), case.routes)?;
         let right = right(&mut paths, case.searches);
         assert_eq!(rt; right, case.searches.len(), "{:?}", case.searches);
+    }
+    Ok(())
+}
+
+/// The next number of a linear congruential sequence.
+fn draw(state: &mut u64) -> u32 {
+    *state = state
+        .wrapping_mul(6_364_136_223_846_793_005)
+        .wrapping_add(1_442_695_040_888_963_407);
+    (*state >> 33) as u32
+}
+
+/// A route between drawn points, over one to three links of eight.
+fn drawn_route(alloc: Global, state: &mut u64) -> Result<PathRoute, Memory>
+    ensures { IfOk result (λ route. (route.from < MANY) × (route.to < MANY)) }
+{
+    let from = draw(state) % MANY;
+    let to = draw(state) % MANY;
+    let mut links = Vec::new(alloc);
+    for _ in 0..draw(state) % 3 + 1 {
+        links.push(LinkId(draw(state) % 8))?;
+    }
+    Ok(PathRoute {
+        from,
+        to,
+        links: Links::from_vec(links),
+    })
+}
+
+fn drawn_routes(alloc: Global, seed: u64) -> Result<Vec<PathRoute>, Memory>
+    ensures { IfOk result (λ routes. All (λ route. (route.from < MANY) × (route.to < MANY)) routes.items) }
+{
+    let mut state = seed;
+    let mut routes = Vec::new(alloc);
+    for _ in 0..450 {
+        routes.push(drawn_route(alloc, &mut state)?)?;
+    }
+    Ok(routes)
+}
+
+fn comes_before(a: &[LinkId], b: &[LinkId]) -> bool {
+    if a.len() != b.len() {
+        return a.len() < b.len();
+    }
+    for (x, y) in a.iter().zip(b) {
+        if x.0 != y.0 {
+            return x.0 < y.0;
+        }
+    }
+    false
+}
+
+/// The links of a route and then others.
+fn joined(alloc: Global, links: &[LinkId], rest: &[LinkId]) -> Result<Vec<LinkId>, Memory> {
+    let mut all = Vec::from_slice(alloc, links)?;
+    for link in rest {
+        all.push(*link)?;
+    }
+    Ok(all)
+}
+
+/// Takes a route in place of the links from its beginning on, where that is less; whether it was.
+fn improve(
+    alloc: Global,
+    lists: &mut Vec<Option<Vec<LinkId>>>,
+    route: &PathRoute,
+) -> Result<bool, Memory> {
+    let links = match lists.get(route.to as usize) {
+        Some(Some(rest)) => joined(alloc, route.links.as_slice(), rest.as_slice())?,
+        _ => return Ok(false),
+    };
+    let is_less = match lists.get(route.from as usize) {
+        Some(Some(held)) => comes_before(links.as_slice(), held.as_slice()),
+        Some(None) => true,
+        None => false,
+    };
+    if is_less {
+        if let Some(list) = lists.get_mut(route.from as usize) {
+            *list = Some(links);
+        }
+    }
+    Ok(is_less)
+}
+
+/// Of each point the links of the least path to the first one: routes are taken until none is less any more.
+fn slow_lists(alloc: Global, routes: &[PathRoute]) -> Result<Vec<Option<Vec<LinkId>>>, Memory> {
+    let mut lists = Vec::new(alloc);
+    lists.push(Some(Vec::new(alloc)))?;
+    for _ in 1..MANY {
+        lists.push(None)?;
+    }
+    for _ in 0..MANY {
+        let mut is_changed = false;
+        for route in routes {
+            if improve(alloc, &mut lists, route)? {
+                is_changed = true;
+            }
+        }
+        if !is_changed {
+            break;
+        }
+    }
+    Ok(lists)
+}
+
+/// Whether a search to the first point gives these links.
+fn agrees(paths: &mut Paths, from: u32, list: Option<&Option<Vec<LinkId>>>) -> bool
+    requires { 0 < from }
+{
+    match paths.search(from, 0) {
+        Some(links) => match list {
+            Some(Some(expected)) => links == expected.as_slice(),
+            _ => false,
+        },
+        None => matches!(list, Some(None)),
+    }
+}
+
+#[test]
+fn agrees_with_a_slow_search(rt: HostRuntime) -> Result<(), Fail> {
+    for seed in 1..4 {
+        let routes = drawn_routes(rt.alloc(), seed)?;
+        let lists = slow_lists(rt.alloc(), routes.as_slice())?;
+        let mut paths = Paths::build(rt.alloc(), MANY, routes.as_slice())?;
+        for from in 1..MANY {
+            let list = lists.get(from as usize);
+            assert!(rt;
+                agrees(&mut paths, from, list),
+                "from {from} with seed {seed}"
+            );
+        }
     }
     Ok(())
 }

@@ -1,5 +1,5 @@
 -- What an actor does, where its row breaks no rule.
-use Rattle.std.proofs.Common.{◌≡◌, ℕ, ◌+◌, ◌<◌, ◌≤◌, Bool, true, false, cond, ◌&&◌, is_some, List, [], ◌∷◌, map, length, Option, Some, None, IfSome, option_and_then, unwrap_or, codes, refl, sym, subst, inl, inr, arith}
+use Rattle.std.proofs.Common.{◌≡◌, ℕ, ◌+◌, ◌<◌, ◌≤◌, Bool, true, false, cond, is_some, List, [], ◌∷◌, map, length, Option, Some, None, IfSome, unwrap_or, codes, refl, sym, subst, inl, inr, arith}
 use Rattle.std.proofs.lemmas.Bool.{cases_Bool}
 use Rattle.std.proofs.lemmas.List.{length-map}
 use Rattle.std.proofs.lemmas.List.Elements.{All-cons, All-nil}
@@ -7,7 +7,6 @@ use Rattle.std.specs.List.{All, list_all}
 use Rattle.std.specs.Map.{lookup}
 use Rattle.std.specs.Str.{bytes_eq}
 use Rattle.sg_base.specs.Limits.{Extent, IsActorIn}
-use Rattle.sg_base.specs.declared.ids.ActorId.{ActorId}
 use Rattle.sg_platform.proofs.LinkLists.{and_left, and_right}
 use Rattle.sg_platform.specs.Build.{actor_row}
 use Rattle.sg_rows.specs.Deployment.{IsFunction}
@@ -16,7 +15,7 @@ use Rattle.sg_rows.specs.declared.rows.Function.TheVariants.{Replay, Worker}
 use Rattle.sg_rules.proofs.Greatest.{amount_within}
 use Rattle.sg_rules.proofs.Kept.{KeysKept}
 use Rattle.sg_rules.proofs.KeptArguments.{HasWorkers, arguments_fit, master_fits, tasks_within, workers_below, workers_fit}
-use Rattle.sg_rules.specs.Arguments.{are_for_master, are_workers, has_function, is_task_count, text_of, worker_numbers}
+use Rattle.sg_rules.specs.Arguments.{are_for_master, are_workers, has_function, text_of, worker_numbers}
 use Rattle.sg_rules.specs.Names.{Known}
 use Rattle.sg_rules.specs.Rules.{key_kinds}
 use Rattle.sg_rules.specs.Tables.{key, keys_of}

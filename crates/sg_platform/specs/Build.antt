@@ -18,7 +18,7 @@ use Rattle.sg_rows.specs.declared.rows.Policy.TheVariants.{Shared, Fatpipe, Spli
 use Rattle.sg_rows.specs.declared.rows.RouteRow.{RouteRow}
 use Rattle.sg_rows.specs.declared.rows.RouterRow.{RouterRow}
 use Rattle.sg_rows.specs.declared.rows.Routing.{Routing}
-use Rattle.sg_rows.specs.declared.rows.Routing.TheVariants.{Full, Star}
+use Rattle.sg_rows.specs.declared.rows.Routing.TheVariants.{Full, Star, Dijkstra}
 use Rattle.sg_rows.specs.declared.rows.SemaphoreRow.{SemaphoreRow}
 use Rattle.sg_rows.specs.declared.rows.SpokeRow.{SpokeRow}
 use Rattle.sg_rows.specs.declared.rows.ZoneRouteRow.{ZoneRouteRow}
@@ -41,7 +41,7 @@ abbrev pub point_id : Known → List ℕ → PointId
 point_id names name = record { 0 = number_of names.points name - names.zones }
 
 abbrev pub routing_of : List ℕ → Routing
-routing_of text = if bytes_eq text (codes "Star") then Star else Full
+routing_of text = if bytes_eq text (codes "Star") then Star else if bytes_eq text (codes "Dijkstra") then Dijkstra else Full
 
 abbrev pub speed_of : List ℕ → ℕ
 speed_of text = unwrap_or (speed_value text) 0

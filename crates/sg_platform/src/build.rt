@@ -45,10 +45,10 @@ fn point_id(names: &Names, name: &str) -> PointId
 fn routing_of(text: &str) -> Routing
     ensures { result ≡ routing_of text.now }
 {
-    if text == "Star" {
-        Routing::Star
-    } else {
-        Routing::Full
+    match text {
+        "Star" => Routing::Star,
+        "Dijkstra" => Routing::Dijkstra,
+        _ => Routing::Full,
     }
 }
 

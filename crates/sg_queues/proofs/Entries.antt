@@ -8,6 +8,7 @@ use Rattle.sg_queues.specs.Rings.{Rings, is_in, queue_at, front, behind, without
 use Rattle.sg_queues.specs.Queues.{holds, queued, shortened, without_slot, let_go, AreSlots, IsHeld}
 use Rattle.sg_queues.specs.kept.Entries.{entry, entries, entries_of, AreKept}
 use Rattle.sg_queues.proofs.Paths.{differs}
+use Rattle.sg_queues.proofs.Moves.{read_grown}
 
 pub from_front : {X : Type 0} (queue : List X) (first : X) → front queue ≡ Some first → queue ≡ first ∷ behind queue
 from_front [] first is = absurd (cc)
@@ -17,13 +18,13 @@ pub front_in : (queue : List ℕ) (first : ℕ) → front queue ≡ Some first �
 front_in queue first is = rw (from_front queue first is) (ap (λ b. b || is_in first (behind queue)) (eq-eqb first first refl))
 
 -- a slot that isn't there leaves nothing behind
-without_absent : (slot : ℕ) (queue : List ℕ) → is_in slot queue ≡ false → without slot queue ≡ queue
+pub without_absent : (slot : ℕ) (queue : List ℕ) → is_in slot queue ≡ false → without slot queue ≡ queue
 without_absent slot [] absent = refl
 without_absent slot (x ∷ xs) absent =
     let parts = or_parts (eqb slot x) (is_in slot xs) absent in
     rw (ne_eqb x slot (differs slot x parts.0)) (ap (λ (l : List ℕ). x ∷ l) (without_absent slot xs parts.1))
 
-without_first : (slot : ℕ) (queue : List ℕ) → AllPairs (λ a b. a ≢ b) queue → front queue ≡ Some slot → without slot queue ≡ behind queue
+pub without_first : (slot : ℕ) (queue : List ℕ) → AllPairs (λ a b. a ≢ b) queue → front queue ≡ Some slot → without slot queue ≡ behind queue
 without_first slot [] once is = absurd (cc)
 without_first slot (x ∷ xs) once is =
     let same : x ≡ slot = cc in
@@ -146,7 +147,7 @@ module _ {T : Type 0} where
       let there : is_in slot (queue_at rings.queues (held.queue + 1)) ≡ true = sym (holds_user blank values rings.queues slot held.queue) ∙ held.there in
       (kept.apart.slots (held.queue + 1) slot there, absent_from rings slot (held.queue + 1) 0 kept.apart there (λ e. omega (arith, e)))
 
-  without_none : (slot : ℕ) (queue : List (ℕ × T)) → holds slot queue ≡ false → without_slot slot queue ≡ queue
+  pub without_none : (slot : ℕ) (queue : List (ℕ × T)) → holds slot queue ≡ false → without_slot slot queue ≡ queue
   without_none slot [] absent = refl
   without_none slot (x ∷ xs) absent =
       let parts = or_parts (eqb slot x.0) (holds slot xs) absent in
@@ -163,19 +164,10 @@ module _ {T : Type 0} where
   holds_front queue first is = rw (from_front queue first is) (ap (λ b. b || holds first.0 (behind queue)) (eq-eqb first.0 first.0 refl))
 
   -- a place more for a value, which isn't used
-  value_grown : (blank : T) (values : List T) (slot : ℕ) → get_or (values ++ blank ∷ []) slot blank ≡ get_or values slot blank
-  value_grown blank values slot = elim (cases_order slot (length values)) [
-    | inl is ↦ get_or_push values blank blank slot (sym is) ∙ sym (get_or_past values slot blank (omega (arith, is)))
-    | inr apart ↦ elim apart [
-      | inl below ↦ get_or_append_left values (blank ∷ []) blank slot below
-      | inr past ↦ get_or_past (values ++ blank ∷ []) slot blank (omega (arith, past, length-append values (blank ∷ []))) ∙ sym (get_or_past values slot blank (omega (arith, past)))
-    ]
-  ]
-
   entries_grown : (blank : T) (values : List T) (slots : List ℕ) → entries blank (values ++ blank ∷ []) slots ≡ entries blank values slots
   entries_grown blank values [] = refl
   entries_grown blank values (x ∷ xs) =
-      ap (λ (v : T). (x, v) ∷ entries blank (values ++ blank ∷ []) xs) (value_grown blank values x) ∙ ap (λ (l : List (ℕ × T)). entry blank values x ∷ l) (entries_grown blank values xs)
+      ap (λ (v : T). (x, v) ∷ entries blank (values ++ blank ∷ []) xs) (read_grown values blank blank x (λ e. refl)) ∙ ap (λ (l : List (ℕ × T)). entry blank values x ∷ l) (entries_grown blank values xs)
 
   -- a slot more, which is free
   pub slot_more : (blank : T) (old new : Rings) (values : List T) (room : ℕ) → AreKept old values room → AreApart new → IsMoved old.nodes 0 old.queues new.queues → new ≡ record old { nodes = old.nodes + 1; queues = new.queues }

@@ -87,15 +87,19 @@ moved_rings next prev next' prev' heads rings slot head kept inverse shifted slo
   ];
 }
 
--- a node more, which is linked to itself
-at_grown : (links : List ℕ) (n node : ℕ) → length links ≡ n → at (links ++ n ∷ []) node ≡ at links node
-at_grown links n node len = elim (cases_order node n) [
-  | inl is ↦ rw is (get_or_push links n n n len ∙ sym (get_or_past links n n (omega (arith, len))))
+-- a list that its default makes longer reads the same
+pub read_grown : {X : Type 0} (xs : List X) (y d : X) (i : ℕ) → (i ≡ length xs → y ≡ d) → get_or (xs ++ y ∷ []) i d ≡ get_or xs i d
+read_grown xs y d i default = elim (cases_order i (length xs)) [
+  | inl is ↦ get_or_push xs y d i (sym is) ∙ default is ∙ sym (get_or_past xs i d (omega (arith, is)))
   | inr apart ↦ elim apart [
-    | inl below ↦ get_or_append_left links (n ∷ []) node node (omega (arith, below, len))
-    | inr past ↦ get_or_past (links ++ n ∷ []) node node (omega (arith, past, len, length-append links (n ∷ []))) ∙ sym (get_or_past links node node (omega (arith, past, len)))
+    | inl below ↦ get_or_append_left xs (y ∷ []) d i below
+    | inr past ↦ get_or_past (xs ++ y ∷ []) i d (omega (arith, past, length-append xs (y ∷ []))) ∙ sym (get_or_past xs i d (omega (arith, past)))
   ]
 ]
+
+-- a node more, which is linked to itself
+at_grown : (links : List ℕ) (n node : ℕ) → length links ≡ n → at (links ++ n ∷ []) node ≡ at links node
+at_grown links n node len = read_grown links n node node (λ is. sym len ∙ sym is)
 
 path_same : (f g : ℕ → ℕ) → ((node : ℕ) → g node ≡ f node) → (from : ℕ) (nodes : List ℕ) (to : ℕ) → Path f from nodes to → Path g from nodes to
 path_same f g same from [] to path = same from ∙ path
@@ -152,23 +156,10 @@ pub headed_rings : (next prev heads : List ℕ) → AreRings next prev heads (ri
 headed_rings next prev heads kept =
     let n : ℕ = length next in
     let grown : AreRings (next ++ n ∷ []) (prev ++ n ∷ []) heads (ring next) = grown_rings next prev heads (ring next) kept in
-    let old_below : (q : ℕ) → q < length heads → at (heads ++ n ∷ []) q < n = λ q below. rw (get_or_append_left heads (n ∷ []) q q below) (kept.below (at heads q) (list_any_at (eqb (at heads q)) heads q q below (eq-eqb (at heads q) (at heads q) refl))) in
-    let more : length (heads ++ n ∷ []) ≡ length heads + 1 = length-append heads (n ∷ []) in
-    let last : (q : ℕ) → q < length (heads ++ n ∷ []) → length heads ≤ q → (q ≡ length heads) × (at (heads ++ n ∷ []) q ≡ n) =
-    λ q below past. let is : length heads ≡ q = omega (arith, below, past, more) in (sym is, get_or_push heads n q q is) in
     record {
       inverse = grown.inverse;
       below = λ head is. elim (in_more head n heads is) [ inl old ↦ grown.below head old | inr new ↦ omega (arith, new, longer next) ];
-      distinct = λ p q p_below q_below same. elim (cases_lt p (length heads)) [
-        | inl p_old ↦ elim (cases_lt q (length heads)) [
-          | inl q_old ↦ kept.distinct p q p_old q_old (sym (get_or_append_left heads (n ∷ []) p p p_old) ∙ same ∙ get_or_append_left heads (n ∷ []) q q q_old)
-          | inr q_new ↦ absurd (omega (arith, old_below p p_old, same, (last q q_below q_new).1))
-        ]
-        | inr p_new ↦ elim (cases_lt q (length heads)) [
-          | inl q_old ↦ absurd (omega (arith, old_below q q_old, same, (last p p_below p_new).1))
-          | inr q_new ↦ (last p p_below p_new).0 ∙ sym ((last q q_below q_new).0)
-        ]
-      ];
+      distinct = all_pairs_push (λ a b. a ≢ b) heads n kept.distinct (λ k d below same. omega (arith, same, kept.below (get_or heads k d) (list_any_at (eqb (get_or heads k d)) heads k d below (eq-eqb (get_or heads k d) (get_or heads k d) refl))));
       paths = λ head is. elim (in_more head n heads is) [
         | inl old ↦ grown.paths head old
         | inr new ↦ rw (new, nobody next) (at_grown next n n refl ∙ get_or_past next n n (omega arith))
@@ -209,10 +200,20 @@ is_head heads q below = list_any_at (eqb (at heads q)) heads q q below (eq-eqb (
 pub queue_is : (next heads : List ℕ) (q : ℕ) → q < length heads → queue_at (queues_of next heads) q ≡ ring next (at heads q)
 queue_is next heads q below = get_or-map (ring next) heads q q [] below
 
+-- a head is that of one queue
+one_place : (heads : List ℕ) (p q : ℕ) → AllPairs (λ a b. a ≢ b) heads → p < length heads → q < length heads → at heads p ≡ at heads q → p ≡ q
+one_place heads p q distinct p_below q_below same = elim (cases_order p q) [
+  | inl is ↦ is
+  | inr apart ↦ elim apart [
+    | inl less ↦ absurd (distinct p q p less q_below (same ∙ get_or_default heads q q p q_below))
+    | inr more ↦ absurd (distinct q p q more p_below (sym same ∙ get_or_default heads p p q p_below))
+  ]
+]
+
 same_test : (next prev heads : List ℕ) (rings : ℕ → List ℕ) (p q : ℕ) → AreRings next prev heads rings → p < length heads → q < length heads → eqb (at heads p) (at heads q) ≡ eqb p q
 same_test next prev heads rings p q kept p_below q_below = elim (cases_eq p q) [
   | inl same ↦ eq-eqb (at heads p) (at heads q) (ap (at heads) same) ∙ sym (eq-eqb p q same)
-  | inr apart ↦ ne_eqb (at heads p) (at heads q) (λ same. apart (kept.distinct p q p_below q_below same)) ∙ sym (ne_eqb p q apart)
+  | inr apart ↦ ne_eqb (at heads p) (at heads q) (λ same. apart (one_place heads p q kept.distinct p_below q_below same)) ∙ sym (ne_eqb p q apart)
 ]
 
 pub is_moved : (next next' prev' heads : List ℕ) (slot queue : ℕ) → queue < length heads → AreRings next' prev' heads (λ h. moved slot (eqb h (at heads queue)) (ring next h)) → IsMoved slot queue (queues_of next heads) (queues_of next' heads)
@@ -241,17 +242,12 @@ all_apart next prev heads kept = record {
   apart = λ p q slot p_in q_in.
       let at_p = in_queue next heads p slot p_in in
       let at_q = in_queue next heads q slot q_in in
-      kept.distinct p q at_p.0 at_q.0 (kept.apart (at heads p) (at heads q) slot (is_head heads p at_p.0) (is_head heads q at_q.0) at_p.1 at_q.1);
+      one_place heads p q kept.distinct at_p.0 at_q.0 (kept.apart (at heads p) (at heads q) slot (is_head heads p at_p.0) (is_head heads q at_q.0) at_p.1 at_q.1);
   short = λ q. elim (cases_lt q (length heads)) [
     | inl below ↦ rw (queue_is next heads q below) (ring_short next prev heads (ring next) (at heads q) kept (is_head heads q below))
     | inr past ↦ rw (get_or_past (queues_of next heads) q [] (omega (arith, past, length-map heads (ring next)))) (omega arith)
   ];
-  few = omega (
-    arith,
-    length-map heads (ring next),
-    length-le_from_distinct_below heads (length next) (IsDistinct-from_AllPairs Decides-eqb heads
-        (λ i j d less below same. omega (arith, less, kept.distinct i j (omega (arith, less, below)) below (sym (get_or_default heads i d i (omega (arith, less, below))) ∙ same ∙ get_or_default heads j d j below)))) kept.below,
-  );
+  few = omega (arith, length-map heads (ring next), length-le_from_distinct_below heads (length next) (IsDistinct-from_AllPairs Decides-eqb heads kept.distinct) kept.below);
 }
 
 first_of : (next : ℕ → ℕ) (head : ℕ) (nodes : List ℕ) → Path next head nodes head → is_in head nodes ≡ false → front nodes ≡ cond (eqb (next head) head) None (Some (next head))

@@ -14,6 +14,13 @@ queues_code {T} code =
     code_by (List (List (ℕ × T)) × ℕ) (coded× (coded_list (coded_list (coded× coded_ℕ code))) coded_ℕ) (λ q. (q.queues, q.room)) (λ p. record { queues = p.0; room = p.1 }) (λ _. refl)
 
 module _ {T : Type 0} where
+  abbrev pub value : ℕ × T → T
+  value entry = entry.1
+
+  -- the values of each queue, without their slots
+  abbrev pub values_of : List (List (ℕ × T)) → List (List T)
+  values_of queues = map (map value) queues
+
   -- whether the slot is in a queue
   abbrev pub holds : ℕ → List (ℕ × T) → Bool
   holds slot queue = list_any (λ (entry : ℕ × T). slot == entry.0) queue

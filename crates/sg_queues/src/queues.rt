@@ -59,17 +59,20 @@ impl<T: Copy + Drop> Queues<T> {
         })
     }
 
-    /// A queue more, which is empty. Its number is how many queues there were.
-    pub fn add_queue(&mut self) -> Result<(), Memory>
+    /// A queue more, which is empty. It answers its number, which is how many queues there were.
+    pub fn add_queue(&mut self) -> Result<usize, Memory>
+        ensures number { IfOk result (λ number. number ≡ length self.old.queues) }
         ensures queue { OnOk result (self.new ≡ record self.old {
           queues = self.old.queues ++ [] ∷ [];
         }) }
+        ensures slots { OnOk result (AreSlots self.new.queues) }
         ensures kept { OnErr result (self.new ≡ self.old) }
     {
         self.values.reserve(1)?;
-        self.rings.add_queue()?;
+        let number = self.rings.add_queue()?;
         push(&mut self.values, self.blank);
-        Ok(())
+        // the first queue has the free slots
+        Ok(number - 1)
     }
 
     // A slot more, which is free.

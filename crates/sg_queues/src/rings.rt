@@ -1,5 +1,5 @@
 //! Slots that move from queue to queue.
-ghost use Rattle.std.specs.Prelude.{◌≡◌, ◌<◌, ◌+◌, ◌++◌, ◌∷◌, [], length, OnOk, OnErr};
+ghost use Rattle.std.specs.Prelude.{◌≡◌, ◌<◌, ◌+◌, ◌++◌, ◌∷◌, [], length, IfOk, OnOk, OnErr};
 ghost use Rattle.sg_queues.specs.Rings.{front, queue_at, AreApart, IsMoved, IsSlot};
 
 use crate::links::{Links, push};
@@ -49,8 +49,9 @@ impl Rings {
         }
     }
 
-    /// A queue more, which is empty. Its number is how many queues there were.
-    pub fn add_queue(&mut self) -> Result<(), Memory>
+    /// A queue more, which is empty. It answers its number, which is how many queues there were.
+    pub fn add_queue(&mut self) -> Result<usize, Memory>
+        ensures number { IfOk result (λ number. number ≡ length self.old.queues) }
         ensures queue { OnOk result (self.new ≡ record {
           nodes = self.old.nodes + 1;
           heads = self.old.heads ++ self.old.nodes ∷ [];
@@ -61,8 +62,9 @@ impl Rings {
     {
         self.heads.reserve(1)?;
         let head = self.links.add()?;
+        let number = self.heads.len();
         push(&mut self.heads, head);
-        Ok(())
+        Ok(number)
     }
 
     /// A slot more, at the end of a queue. Its number is how many nodes there were.

@@ -1,6 +1,7 @@
 -- The requests of actors.
-use Rattle.std.specs.Prelude.{ℕ, ◌-◌, Option, None, Some, List, [], ◌∷◌, ◌++◌, slice_index_or, slice_set}
+use Rattle.std.specs.Prelude.{ℕ, ◌-◌, Option, List, [], ◌∷◌, ◌++◌, slice_index_or, slice_set}
 use Rattle.sg_base.specs.declared.awaits.Await.{Await}
+use Rattle.sg_queues.specs.Rings.{front, behind}
 
 -- what each actor may wait for, by actor from 1 on, oldest first; how many requests were made in all; and room for so many more
 pub record Requested : Type 0 where
@@ -13,12 +14,10 @@ abbrev pub queue_at : List (List Await) → ℕ → List Await
 queue_at queues actor = slice_index_or queues (actor - 1) []
 
 abbrev pub oldest : List Await → Option Await
-oldest [] = None
-oldest (first ∷ rest) = Some first
+oldest queue = front queue
 
 abbrev pub rest_of : List Await → List Await
-rest_of [] = []
-rest_of (first ∷ rest) = rest
+rest_of queue = behind queue
 
 -- an actor makes a request, which becomes its newest
 abbrev pub queued : List (List Await) → ℕ → Await → List (List Await)

@@ -29,7 +29,7 @@ pub struct Requests {
 impl Model for Requests {
     ghost use Rattle.std.specs.Prelude.{◌≤◌};
     ghost use Rattle.sg_requests.specs.Requested.{Requested};
-    ghost use Rattle.sg_requests.specs.kept.Entries.{values_of};
+    ghost use Rattle.sg_queues.specs.Queues.{values_of};
 
     ghost Value = { Requested };
 

@@ -1,7 +1,7 @@
 -- What holds of each element of lists that are made of others, and of one that is found.
 use Rattle.std.proofs.Common.{◌≡◌, ◌<◌, ℕ, zero, suc, Bool, true, false, cond, List, [], ◌∷◌, length, get_or, Some, arith, refl, subst}
 use Rattle.std.specs.List.{find, flat_map}
-use Rattle.std.specs.Prelude.{All}
+use Rattle.std.specs.Prelude.{All, Contains}
 use Rattle.sg_zones.proofs.Each.{Each, each_append}
 
 pub each_from : {X : Type 0} (P : X → Type 0) (xs : List X) → ((k : ℕ) (d : X) → k < length xs → P (get_or xs k d)) → Each P xs
@@ -29,3 +29,8 @@ pub each_at : {X : Type 0} (P : X → Type 0) (xs : List X) (d : X) → Each P x
 each_at P [] d each h k = h
 each_at P (x ∷ xs) d each h zero = each.0
 each_at P (x ∷ xs) d each h (suc k) = each_at P xs d each.1 h k
+
+pub each_contained : {X : Type 0} (P : X → Type 0) (xs : List X) (x : X) → Each P xs → Contains xs x → P x
+each_contained P [] x each (k, few, at) = absurd (omega arith)
+each_contained {X} P (y ∷ xs) x each (zero, few, at) = subst P at each.0
+each_contained P (y ∷ xs) x each (suc k, few, at) = each_contained P xs x each.1 (k, omega arith, at)

@@ -1,9 +1,11 @@
 pub mod IndexLemmas
 pub mod KeptLemmas
+pub mod LegLemmas
 pub mod WalkLemmas
 pub mod RouteLemmas
 pub mod FirstsLemmas
 pub mod EndsLemmas
 pub mod Each
 pub mod Latency
+pub mod StepsLemmas
 pub mod Links

@@ -1,8 +1,8 @@
 -- A route has a link, and all its links exist.
-use Rattle.std.proofs.Common.{◌≡◌, ◌<◌, ◌≤◌, ℕ, zero, suc, Bool, true, false, cond, List, [], ◌∷◌, ◌++◌, length, length-append, get_or, Option, None, Some, Ok, Err, arith, refl, subst}
+use Rattle.std.proofs.Common.{◌≡◌, ◌≢◌, ◌<◌, ◌≤◌, ℕ, zero, suc, Bool, true, false, cond, List, [], ◌∷◌, ◌++◌, length, length-append, get_or, Option, None, Some, Ok, Err, arith, refl, subst}
 use Rattle.std.specs.Prelude.{◌==◌, nat_lt, sum_by}
 use Rattle.sg_base.specs.declared.ids.Child.{Child}
-use Rattle.sg_base.specs.declared.ids.Child.TheVariants.{Point}
+use Rattle.sg_base.specs.declared.ids.Child.TheVariants.{Point, Zone}
 use Rattle.sg_base.specs.declared.ids.LinkId.{LinkId}
 use Rattle.sg_base.specs.declared.ids.PointId.{PointId}
 use Rattle.sg_rows.proofs.EndsBelow.{link_ends_count, way_back_kept}
@@ -10,23 +10,31 @@ use Rattle.sg_rows.specs.Ends.{link_ends, way_back}
 use Rattle.sg_rows.specs.Platform.{IsLinkList, IsPlatform, Platform, counts_of}
 use Rattle.sg_rows.specs.declared.rows.RouteRow.{RouteRow}
 use Rattle.sg_rows.specs.declared.rows.Routing.{Routing}
-use Rattle.sg_rows.specs.declared.rows.Routing.TheVariants.{Full, Star}
+use Rattle.sg_rows.specs.declared.rows.Routing.TheVariants.{Full, Star, Dijkstra}
 use Rattle.sg_rows.specs.declared.rows.SpokeRow.{SpokeRow}
 use Rattle.sg_rows.specs.declared.rows.ZoneRouteRow.{ZoneRouteRow}
 use Rattle.sg_route.specs.Equal.{child_eq, pair_eq}
 use Rattle.sg_route.specs.Firsts.{firsts, is_among}
 use Rattle.sg_route.specs.Local.{row_locals, declared_route, route_local, routes_declared, spoke_at, zone_route_local, zone_routes_declared}
+use Rattle.sg_paths.proofs.LeastLemmas.{least_found}
+use Rattle.sg_paths.specs.Least.{least_path}
+use Rattle.sg_paths.specs.Path.{IsPath, links_of}
+use Rattle.sg_paths.specs.declared.route.PathRoute.{PathRoute}
 use Rattle.sg_route.specs.Roads.{Roads, roads_of}
-use Rattle.sg_route.specs.Route.{Passage, Route, Way, by_declared, by_passage, by_spokes, way_over, latency_of, leg, route_or_fault, or_loopback, passage, passage_on, route_of, to_itself, unless_there, way, whole_way}
+use Rattle.sg_route.specs.Steps.{local_steps, steps_between, steps_of}
+use Rattle.sg_route.specs.Route.{Passage, Route, Way, by_declared, by_passage, by_path, by_spokes, way_over, latency_of, leg, route_or_fault, or_loopback, passage, passage_on, route_of, to_itself, unless_there, way, whole_way}
 use Rattle.sg_route.specs.declared.leg.Leg.{Leg}
 use Rattle.sg_route.specs.declared.locals.Local.{Local}
 use Rattle.sg_route.specs.declared.locals.Pair.{Pair}
 use Rattle.sg_route.specs.declared.router.RouteFault.TheVariants.{TooLong}
 use Rattle.sg_route.specs.Good.{RoutesAreGood}
-use Rattle.sg_route.proofs.Each.{each_all, each_flat, each_found, each_from}
+use Rattle.sg_route.proofs.Each.{each_all, each_contained, each_flat, each_found, each_from}
 use Rattle.sg_route.proofs.Latency.{route_quick}
 use Rattle.sg_zones.proofs.Each.{Each, each_append}
+use Rattle.sg_zones.specs.Faults.{is_dijkstra}
 use Rattle.sg_zones.specs.Tree.{home, routing_in, tree_of}
+use Rattle.std.specs.Option.{option_map}
+use Rattle.std.proofs.lemmas.Bool.Decides.{nat_tests}
 
 abbrev Exists : Platform → LinkId → Type 0
 Exists p link = link.0 < length (link_ends p.links)
@@ -86,9 +94,59 @@ star_links p kept from to (Some a) (Some b) w found other is =
     let P : List LinkId → Type 0 = Good p in
     subst P e (record { some = omega arith; each = each_append (Exists p) a.up b.down r.up.each s.down.each })
 
+-- each step of a path has links that exist
+steps_links : (p : Platform) → IsPlatform p → Each (λ (r : PathRoute). Good p r.links) (steps_of (tree_of p) (roads_of p).locals)
+steps_links p kept =
+    let G : PathRoute → Type 0 = λ r. Good p r.links in
+    let L : Local → Type 0 = λ l. Good p l.links in
+    each_flat G L (local_steps (tree_of p)) (roads_of p).locals (λ l good. one l.pair.from l.pair.to l.links good) (locals_links p kept)
+  where
+    one : (from to : Child) (links : List LinkId) → Good p links → Each (λ (r : PathRoute). Good p r.links) (steps_between (tree_of p) from to links)
+    one (Zone a) to links good = tt
+    one (Point a) (Zone b) links good = tt
+    one (Point a) (Point b) links good = go (is_dijkstra (routing_in (tree_of p) (home (tree_of p) a)))
+      where
+        go : (t : Bool) → Each (λ (r : PathRoute). Good p r.links) (cond t (record { from = a.0; to = b.0; links = links } ∷ []) [])
+        go true = (good, tt)
+        go false = tt
+
+-- and so has a path between two points
+tour_links : (p : Platform) (steps : List PathRoute) (from to : ℕ) (path : List PathRoute) → Each (λ (r : PathRoute). Good p r.links) steps → IsPath steps from to path → Each (Exists p) (links_of path)
+tour_links p steps from to [] each is = tt
+tour_links p steps from to (route ∷ path) each is =
+    let good = each_contained (λ (r : PathRoute). Good p r.links) steps route each is.0 in
+    each_append (Exists p) route.links (links_of path) good.each (tour_links p steps route.to to path each is.2)
+
+some_links : (p : Platform) (steps : List PathRoute) (from to : ℕ) (path : List PathRoute) → Each (λ (r : PathRoute). Good p r.links) steps → IsPath steps from to path → from ≢ to → 1 ≤ length (links_of path)
+some_links p steps from to [] each is apart = absurd (apart is)
+some_links p steps from to (route ∷ path) each is apart =
+    let good = each_contained (λ (r : PathRoute). Good p r.links) steps route each is.0 in
+    let some = good.some in
+    omega (arith, length-append route.links (links_of path))
+
+path_links : (p : Platform) → IsPlatform p → (from to : Child) (w : Passage) → by_path (steps_of (tree_of p) (roads_of p).locals) from to ≡ Some w → Good p w.links
+path_links p kept (Zone x) to w is = absurd (cc)
+path_links p kept (Point a) (Zone x) w is = absurd (cc)
+path_links p kept (Point a) (Point b) w is = go (a.0 == b.0) refl (least_path (steps_of (tree_of p) (roads_of p).locals) a.0 b.0) refl is
+  where
+    go : (t : Bool) → (a.0 == b.0) ≡ t → (o : Option (List LinkId)) → least_path (steps_of (tree_of p) (roads_of p).locals) a.0 b.0 ≡ o
+        → cond t None (option_map (λ links. record { start = a; end = b; links = links }) o) ≡ Some w → Good p w.links
+    go true e o f h = absurd (cc)
+    go false e None f h = absurd (cc)
+    go false e (Some links) f h =
+        let apart : a.0 ≢ b.0 = grind (arith, nat_tests) in
+        let same : links ≡ w.links = cc in
+        let steps = steps_of (tree_of p) (roads_of p).locals in
+        let r = (least_found steps a.0 b.0 links f).reached in
+        let each = steps_links p kept in
+        let G : List LinkId → Type 0 = Good p in
+        let good : Good p (links_of r.0) = record { some = some_links p steps a.0 b.0 r.0 each r.1 apart; each = tour_links p steps a.0 b.0 r.0 each r.1 } in
+        subst G same (subst G r.2 good)
+
 passage_links : (p : Platform) → IsPlatform p → (r : Routing) (from to : Child) (w : Passage) → passage (roads_of p) r from to ≡ Some w → Good p w.links
 passage_links p kept Full from to w is = full_links p kept (record { from = from; to = to }) (declared_route (roads_of p).locals (record { from = from; to = to })) w refl is
 passage_links p kept Star from to w is = star_links p kept from to (spoke_at p.spokes from) (spoke_at p.spokes to) w refl refl is
+passage_links p kept Dijkstra from to w is = path_links p kept from to w is
 
 -- ---- ways
 
@@ -144,6 +202,7 @@ way_good levels p kept a b =
 
 loop_good : (p : Platform) → IsPlatform p → (r : Routing) (a : PointId) → Good p (to_itself (roads_of p) r a)
 loop_good p kept Star a = let n = link_ends_count p.links in record { some = omega arith; each = (omega arith, tt) }
+loop_good p kept Dijkstra a = let n = link_ends_count p.links in record { some = omega arith; each = (omega arith, tt) }
 loop_good p kept Full a = go (declared_route (roads_of p).locals (record { from = Point a; to = Point a })) refl
   where
     go : (o : Option Local) → declared_route (roads_of p).locals (record { from = Point a; to = Point a }) ≡ o → Good p (or_loopback (roads_of p) o)

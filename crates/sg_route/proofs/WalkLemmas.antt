@@ -6,9 +6,22 @@ use Rattle.sg_base.specs.declared.ids.PointId.{PointId}
 use Rattle.sg_base.specs.declared.ids.LinkId.{LinkId}
 use Rattle.sg_route.specs.declared.leg.Leg.{Leg}
 use Rattle.sg_route.specs.Roads.{Roads}
-use Rattle.sg_route.specs.Route.{Way, Passage, leg, passage_on, way_over, unless_there, by_passage, through_lowest, way}
-use Rattle.sg_route.specs.kept.Kept.{Kept, keep_all, KeepsWay}
+use Rattle.sg_rows.specs.declared.rows.Routing.{Routing}
+use Rattle.sg_rows.specs.declared.rows.Routing.TheVariants.{Dijkstra}
+use Rattle.sg_base.specs.declared.ids.Child.{Child}
+use Rattle.sg_base.specs.declared.ids.Child.TheVariants.{Point, Zone}
+use Rattle.sg_paths.proofs.LeastLemmas.{least_path_is, no_least_path}
+use Rattle.sg_paths.specs.Least.{least_path}
+use Rattle.sg_paths.specs.Path.{HasNoPath, IsLeastPath}
+use Rattle.sg_paths.specs.declared.route.PathRoute.{PathRoute}
+use Rattle.sg_route.specs.Route.{Way, Passage, by_path, leg, passage, passage_on, way_over, unless_there, by_passage, through_lowest, way}
+use Rattle.sg_route.specs.Steps.{steps_of}
+use Rattle.sg_zones.specs.Tree.{home, path_in, routing_in}
+use Rattle.sg_route.specs.kept.Kept.{Kept, keep_all, path_way, KeepsWay}
 use Rattle.sg_route.proofs.KeptLemmas.{keep_all-append}
+use Rattle.sg_route.proofs.LegLemmas.{from_point, to_point}
+use Rattle.std.specs.Option.{option_map}
+use Rattle.std.proofs.lemmas.List.{append-nil}
 
 pub way_zero : (levels : ℕ) (m : Roads) (a b : PointId) → levels ≡ 0 → way levels m a b ≡ Ok []
 unfolding way
@@ -89,3 +102,66 @@ walked_through levels m a b p result old mid next new apart some is front own be
 pub err_is : (r : Result (Unit {0}) Leg) (e : Leg) → IsErrAnd r (λ x. x ≡ e) → r ≡ Err e
 err_is (Ok x) e h = absurd h
 err_is (Err x) e h = ap Err h
+
+-- ---- by a path
+
+-- a local route between the points themselves is the whole way
+pub direct : (w : PointId → PointId → Way) (a b : PointId) (l : Leg) (q : Passage) → a.0 ≡ q.start.0 → q.end.0 ≡ b.0 → by_passage w a b l (Some q) ≡ Ok q.links
+direct w a b l q e f = go (unless_there w a q.start) (unless_there w q.end b) (there w a q.start e) (there w q.end b f)
+  where
+    go : (x y : Way) → x ≡ Ok [] → y ≡ Ok [] → way_over x q.links y ≡ Ok q.links
+    go x y g h = ap (λ z. way_over z q.links y) g ∙ ap (λ z. way_over (Ok []) q.links z) h ∙ ap (λ xs. Ok xs) (append-nil q.links)
+
+way_by_path : (w : PointId → PointId → Way) (a b : PointId) (l : Leg) (steps : List PathRoute) (f t : Child) → ((q : PointId) → f ≡ Point q → a ≡ q) → ((q : PointId) → t ≡ Point q → b ≡ q)
+    → by_passage w a b l (by_path steps f t) ≡ path_way l (by_path steps f t)
+way_by_path w a b l steps (Zone x) t from to = refl
+way_by_path w a b l steps (Point p) (Zone x) from to = refl
+way_by_path w a b l steps (Point p) (Point q) from to = go (p.0 == q.0) (least_path steps p.0 q.0)
+  where
+    go : (same : Bool) (o : Option (List LinkId))
+        → (let found : Option Passage = cond same None (option_map (λ links. record { start = p; end = q; links = links }) o) in by_passage w a b l found ≡ path_way l found)
+    go true o = refl
+    go false None = refl
+    go false (Some links) =
+        let passage : Passage = record { start = p; end = q; links = links } in
+        direct w a b l passage (ap (λ x. x.0) (from p refl)) (ap (λ x. x.0) (sym (to q refl)))
+
+pub walked_path : (levels : ℕ) (m : Roads) (a b : PointId) (l : Leg) (steps : List PathRoute) (result : Result (Unit {0}) Leg) (old new : Kept) → a.0 ≢ b.0 → 0 < levels
+    → l ≡ leg m a b → routing_in m.tree l.zone ≡ Dijkstra → steps ≡ steps_of m.tree m.locals
+    → KeepsWay (path_way l (by_path steps l.from l.to)) result old new
+    → KeepsWay (unless_there (way levels m) a b) result old new
+walked_path levels m a b l steps result old new apart some is routing over keeps =
+    let P : Way → Type 0 = λ x. KeepsWay x result old new in
+    let Q : Leg → Type 0 = λ k. routing_in m.tree k.zone ≡ Dijkstra in
+    let R : Leg → Type 0 = λ k. KeepsWay (path_way k (by_path (steps_of m.tree m.locals) k.from k.to)) result old new in
+    let S : List PathRoute → Type 0 = λ s. KeepsWay (path_way l (by_path s l.from l.to)) result old new in
+    let k : Leg = leg m a b in
+    let own : Child → Child → Option Passage = by_path (steps_of m.tree m.locals) in
+    let found : passage_on m k ≡ own k.from k.to = ap (λ (r : Routing). passage m r k.from k.to) (subst Q is routing) in
+    let za = home m.tree a in
+    let same = way_by_path (way (levels - 1) m) a b k (steps_of m.tree m.locals) k.from k.to
+    (λ q e. from_point za a b (path_in m.tree za) (path_in m.tree (home m.tree b)) q e)
+    (λ q e. to_point za a b (path_in m.tree za) (path_in m.tree (home m.tree b)) q e) in
+    subst P (sym (way_by levels m a b (own k.from k.to) apart some found ∙ same)) (subst R is (subst S over keeps))
+
+-- what is kept of a leg between two points
+path_told : (steps : List PathRoute) (l : Leg) (from to : PointId) (o : Option (List LinkId)) (result : Result (Unit {0}) Leg) (old new : Kept) → l.from ≡ Point from → l.to ≡ Point to → from.0 ≢ to.0
+    → least_path steps from.0 to.0 ≡ o → KeepsWay (path_way l (option_map (λ links. record { start = from; end = to; links = links }) o)) result old new
+    → KeepsWay (path_way l (by_path steps l.from l.to)) result old new
+path_told steps l from to o result old new f t apart is keeps =
+    let P : Option Passage → Type 0 = λ x. KeepsWay (path_way l x) result old new in
+    let make : Option (List LinkId) → Option Passage = option_map (λ links. record { start = from; end = to; links = links }) in
+    let there : by_path steps (Point from) (Point to) ≡ make o = go (from.0 == to.0) (grind (arith, nat_tests)) ∙ ap make is in
+    subst P (sym (ap (λ x. by_path steps x l.to) f ∙ ap (by_path steps (Point from)) t ∙ there)) keeps
+  where
+    go : (b : Bool) → b ≡ false → (let found : Option Passage = option_map (λ links. record { start = from; end = to; links = links }) (least_path steps from.0 to.0) in cond {A = Option Passage} b None found ≡ found)
+    go true e = absurd (cc)
+    go false e = refl
+
+pub path_kept : (steps : List PathRoute) (l : Leg) (from to : PointId) (links : List LinkId) (old new : Kept) → l.from ≡ Point from → l.to ≡ Point to → from.0 ≢ to.0
+    → IsLeastPath steps from.0 to.0 links → new ≡ keep_all old links → KeepsWay (path_way l (by_path steps l.from l.to)) (Ok tt) old new
+path_kept steps l from to links old new f t apart least kept = path_told steps l from to (Some links) (Ok tt) old new f t apart (least_path_is steps from.0 to.0 links least) (refl, kept)
+
+pub path_missing : (steps : List PathRoute) (l : Leg) (from to : PointId) (old new : Kept) → l.from ≡ Point from → l.to ≡ Point to → from.0 ≢ to.0
+    → HasNoPath steps from.0 to.0 → KeepsWay (path_way l (by_path steps l.from l.to)) (Err l) old new
+path_missing steps l from to old new f t apart none = path_told steps l from to None (Err l) old new f t apart (no_least_path steps from.0 to.0 none) refl

@@ -3,6 +3,7 @@ pub mod Firsts
 pub mod Leg
 pub mod Local
 pub mod Roads
+pub mod Steps
 pub mod Route
 pub mod Good
 pub mod kept

@@ -3,11 +3,13 @@ use Rattle.std.specs.Prelude.{◌≡◌, ◌==◌, ℕ, suc, zero, ◌-◌, if�
 use Rattle.sg_base.specs.declared.ids.LinkId.{LinkId}
 use Rattle.sg_base.specs.declared.ids.PointId.{PointId}
 use Rattle.sg_base.specs.declared.ids.Child.{Child}
-use Rattle.sg_base.specs.declared.ids.Child.TheVariants.{Point}
+use Rattle.sg_base.specs.declared.ids.Child.TheVariants.{Point, Zone}
 use Rattle.sg_rows.specs.declared.rows.Routing.{Routing}
-use Rattle.sg_rows.specs.declared.rows.Routing.TheVariants.{Full, Star}
+use Rattle.sg_rows.specs.declared.rows.Routing.TheVariants.{Full, Star, Dijkstra}
 use Rattle.sg_rows.specs.declared.rows.SpokeRow.{SpokeRow}
 use Rattle.sg_rows.specs.Ends.{link_end}
+use Rattle.sg_paths.specs.Least.{least_path}
+use Rattle.sg_paths.specs.declared.route.PathRoute.{PathRoute}
 use Rattle.sg_route.specs.declared.locals.Local.{Local}
 use Rattle.sg_route.specs.declared.leg.Leg.{Leg}
 use Rattle.sg_route.specs.declared.router.RouteFault.{RouteFault}
@@ -16,6 +18,7 @@ use Rattle.sg_route.specs.Firsts.{firsts}
 use Rattle.sg_route.specs.Leg.{parting}
 use Rattle.sg_route.specs.Local.{declared_route, spoke_at}
 use Rattle.sg_route.specs.Roads.{Roads}
+use Rattle.sg_route.specs.Steps.{steps_of}
 use Rattle.sg_zones.specs.Tree.{home, path_in, routing_in}
 
 -- ---- the local route from one child of a zone to another
@@ -35,9 +38,17 @@ by_spokes None to = None
 by_spokes (Some from) None = None
 by_spokes (Some from) (Some to) = Some (record { start = from.gateway; end = to.gateway; links = from.up ++ to.down })
 
+-- the least path from a point to another: it begins and ends at the points themselves
+abbrev pub by_path : List PathRoute → Child → Child → Option Passage
+by_path steps (Point a) (Point b) =
+    if a.0 == b.0 then None else option_map (λ links. record { start = a; end = b; links = links }) (least_path steps a.0 b.0)
+by_path steps (Point a) (Zone b) = None
+by_path steps (Zone a) to = None
+
 abbrev pub passage : Roads → Routing → Child → Child → Option Passage
 passage m Full from to = by_declared (declared_route m.locals (record { from = from; to = to }))
 passage m Star from to = by_spokes (spoke_at m.spokes from) (spoke_at m.spokes to)
+passage m Dijkstra from to = by_path (steps_of m.tree m.locals) from to
 
 -- ---- whole routes
 
@@ -90,6 +101,7 @@ or_loopback m (Some local) = local.links
 -- the route that a Full zone declares for it, else the loopback
 abbrev pub to_itself : Roads → Routing → PointId → List LinkId
 to_itself m Star a = loopback m ∷ []
+to_itself m Dijkstra a = loopback m ∷ []
 to_itself m Full a = or_loopback m (declared_route m.locals (record { from = Point a; to = Point a }))
 
 -- ---- what is answered

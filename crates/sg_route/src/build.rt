@@ -2,13 +2,18 @@
 ghost use Rattle.std.specs.Prelude.{◌≡◌, ◌++◌, IfOk, OnOk};
 ghost use Rattle.sg_route.specs.Local.{local_back, row_locals, routes_declared, zone_routes_declared, locals_of};
 ghost use Rattle.sg_route.specs.Roads.{roads_of};
+ghost use Rattle.sg_route.specs.Steps.{local_steps, net_of, steps_of};
 ghost use Rattle.sg_zones.specs.Tree.{tree_of};
 
 use crate::locals::{Local, Locals, Pair};
 use crate::router::Router;
 use crate::spokes::Spokes;
+use crate::ways::Ways;
 use sg_base::{Child, LinkId, Links, Memory};
-use sg_rows::{LinkEnd, PlatformText, RouteRow, SpokeRow, ZoneRouteRow, link_ends, way_back};
+use sg_paths::{PathRoute, Paths};
+use sg_rows::{
+    LinkEnd, PlatformText, RouteRow, Routing, SpokeRow, ZoneRouteRow, link_ends, way_back,
+};
 use sg_zones::Zones;
 use std::alloc::Global;
 
@@ -137,6 +142,85 @@ fn copies_of(alloc: Global, rows: &[SpokeRow]) -> Result<Vec<SpokeRow>, Memory>
     Ok(copies)
 }
 
+/// Adds the route between two points of a Dijkstra zone, where this is one.
+fn add_steps(
+    alloc: Global,
+    zones: &Zones,
+    local: &Local,
+    steps: &mut Vec<PathRoute>,
+) -> Result<(), Memory>
+    ensures { OnOk result (steps.new.items ≡ steps.old.items ++ local_steps zones.now local.now) }
+{
+    match (local.pair.from, local.pair.to) {
+        (Child::Point(from), Child::Point(to)) => match zones.routing(zones.home(from)) {
+            Routing::Dijkstra => {
+                steps.push(PathRoute {
+                    from: from.0,
+                    to: to.0,
+                    links: copy_of(alloc, &local.links)?,
+                })?;
+                Ok(())
+            }
+            Routing::Full | Routing::Star => Ok(()),
+        },
+        _ => Ok(()),
+    }
+}
+
+/// The routes over which paths go.
+fn steps_of(alloc: Global, zones: &Zones, locals: &[Local]) -> Result<Vec<PathRoute>, Memory>
+    ensures { IfOk result (λ steps. steps.items ≡ steps_of zones.now locals.now) }
+{
+    let mut steps = Vec::new(alloc);
+    for local in locals {
+        add_steps(alloc, zones, local, &mut steps)?;
+    }
+    Ok(steps)
+}
+
+/// The points of a platform, and the routes over which paths go between them.
+fn paths_of(
+    alloc: Global,
+    platform: &PlatformText,
+    zones: &Zones,
+    rows: &[Local],
+) -> Result<Paths, Memory>
+    requires zones { zones.now ≡ tree_of platform.now }
+    requires rows { rows.now ≡ (roads_of platform.now).locals }
+    ensures { IfOk result (λ paths. paths ≡ net_of (roads_of platform.now)) }
+{
+    let points = platform.hosts().len() as u32 + platform.routers().len() as u32;
+    let steps = steps_of(alloc, zones, rows)?;
+    Paths::build(alloc, points, steps.as_slice())
+}
+
+/// What a router knows of a platform, with its local routes.
+fn ways_of(
+    alloc: Global,
+    platform: &PlatformText,
+    zones: &Zones,
+    ends: Vec<LinkEnd>,
+    rows: Vec<Local>,
+) -> Result<Ways, Memory>
+    requires zones { zones.now ≡ tree_of platform.now }
+    requires ends { ends.items ≡ (roads_of platform.now).ends }
+    requires rows { rows.items ≡ (roads_of platform.now).locals }
+    ensures { IfOk result (λ ways. ways ≡ roads_of platform.now) }
+{
+    let copies = copies_of(alloc, platform.spokes())?;
+    let loopback = LinkId(ends.len() as u32 - 1);
+    let locals = Locals::from_rows(alloc, rows)?;
+    let spokes = Spokes::from_rows(alloc, copies)?;
+    let zones = zones.copy(alloc)?;
+    Ok(Ways {
+        zones,
+        locals,
+        spokes,
+        ends,
+        loopback,
+    })
+}
+
 impl Router {
     /// The router of a platform, with the zones that were made from it.
     ///
@@ -148,22 +232,14 @@ impl Router {
         ensures { IfOk result (λ router. router ≡ roads_of platform.now) }
     {
         let ends = link_ends(alloc, platform.links())?;
-        let loopback = LinkId(ends.len() as u32 - 1);
         let rows = locals_of(
             alloc,
             ends.as_slice(),
             platform.routes(),
             platform.zone_routes(),
         )?;
-        let locals = Locals::from_rows(alloc, rows)?;
-        let spokes = Spokes::from_rows(alloc, copies_of(alloc, platform.spokes())?)?;
-        let zones = zones.copy(alloc)?;
-        Ok(Router {
-            zones,
-            locals,
-            spokes,
-            ends,
-            loopback,
-        })
+        let paths = paths_of(alloc, platform, zones, rows.as_slice())?;
+        let ways = ways_of(alloc, platform, zones, ends, rows)?;
+        Ok(Router { ways, paths })
     }
 }

@@ -18,7 +18,8 @@ use Rattle.sg_route_laws.proofs.Good.{GoodLocal, IsGood, Stands, pair_eq_true}
 use Rattle.sg_route_laws.proofs.Levels.{whole_apart}
 use Rattle.sg_route_laws.proofs.Nested.{path_to}
 use Rattle.sg_route_laws.proofs.StarGateways.{gateways_apart, goes_on, leg_between}
-use Rattle.sg_route_laws.proofs.StarWays.{direct, leg_same, one_step}
+use Rattle.sg_route_laws.proofs.StarWays.{leg_same, one_step}
+use Rattle.sg_route.proofs.WalkLemmas.{direct}
 
 -- the gateways of a local route that a pair has stand in the two of them
 record StandsIn (p : Platform) (from to : Child) (l : Local) : Type 0 where

@@ -1,7 +1,7 @@
 -- A platform without zone faults has nested routes.
 use Rattle.std.proofs.Common.{◌≡◌, ◌≢◌, ◌+◌, ◌<◌, ◌≤◌, ℕ, suc, Bool, true, false, cond, List, [], ◌∷◌, length, length-append, take, get_or, Option, None, Some, arith, refl, sym, ◌∙◌, ap, subst}
 use Rattle.std.specs.Prelude.{◌==◌, ◌&&◌, map, not}
-use Rattle.std.specs.Option.{option_or}
+use Rattle.std.specs.Option.{option_map, option_or}
 use Rattle.std.proofs.lemmas.Bool.Decides.{nat_tests}
 use Rattle.std.proofs.lemmas.List.{length-map}
 use Rattle.sg_base.specs.declared.ids.Child.{Child}
@@ -12,26 +12,35 @@ use Rattle.sg_rows.specs.Ends.{link_ends}
 use Rattle.sg_rows.specs.Platform.{IsPlatform, Platform}
 use Rattle.sg_rows.specs.declared.ends.LinkEnd.{LinkEnd}
 use Rattle.sg_rows.specs.declared.rows.Routing.{Routing}
-use Rattle.sg_rows.specs.declared.rows.Routing.TheVariants.{Full, Star}
+use Rattle.sg_rows.specs.declared.rows.Routing.TheVariants.{Full, Star, Dijkstra}
 use Rattle.sg_rows.specs.declared.rows.SpokeRow.{SpokeRow}
 use Rattle.sg_rows.specs.declared.rows.ZoneRow.{ZoneRow}
 use Rattle.sg_route.specs.Equal.{child_eq, pair_eq}
 use Rattle.sg_route.specs.Local as local
 use Rattle.sg_route.specs.Local.{row_locals, declared_route, route_local, zone_route_local}
 use Rattle.sg_route.specs.Roads.{Roads, roads_of}
-use Rattle.sg_route.specs.Route.{Passage, by_declared, by_spokes, leg, passage}
+use Rattle.sg_paths.proofs.LeastLemmas.{least_found}
+use Rattle.sg_paths.specs.Least.{least_path}
+use Rattle.sg_paths.specs.Path.{IsPath}
+use Rattle.sg_paths.specs.declared.route.PathRoute.{PathRoute}
+use Rattle.sg_base.specs.declared.ids.LinkId.{LinkId}
+use Rattle.sg_rows.specs.Platform.{counts_of}
+use Rattle.sg_route.proofs.StepsLemmas.{IsWithin, steps_join}
+use Rattle.sg_route.specs.Route.{Passage, by_declared, by_path, by_spokes, leg, passage}
+use Rattle.sg_route.specs.Steps.{steps_of}
 use Rattle.sg_route.specs.declared.locals.Local.{Local}
 use Rattle.sg_route.specs.declared.locals.Pair.{Pair}
 use Rattle.sg_route_laws.specs.Laws.{IsPoint}
-use Rattle.sg_route.proofs.Each.{each_from, each_flat, each_found}
+use Rattle.sg_route.proofs.Each.{each_contained, each_from, each_flat, each_found}
 use Rattle.sg_route_laws.proofs.Nested.{IsNested, depth_of_both, home, passage_between, path_to, routing, shared}
-use Rattle.sg_route_laws.proofs.Parting.{from_parts, to_parts, from_point, to_point, got, shared_front}
+use Rattle.sg_route_laws.proofs.Parting.{from_parts, to_parts, got, shared_front}
+use Rattle.sg_route.proofs.LegLemmas.{from_point, to_point}
 use Rattle.sg_zones.proofs.Cycles.{parents_exist}
 use Rattle.sg_zones.proofs.Each.{Each, each_append}
 use Rattle.sg_zones.proofs.GoodTree.{both_none, not_told, each_told, HasDepth, depth_here, exists_on, any_at, first_root, root_once, path_at}
 use Rattle.sg_zones.proofs.Ups as ups
 use Rattle.sg_zones.proofs.TreeLemmas.{path_deep, path_length, path_front, depth_once}
-use Rattle.sg_zones.specs.Faults.{child_holds, first_along, gateways_at, gateway_at, route_at, zone_route_at, spoke_at, tree_fault, row_fault, zone_fault}
+use Rattle.sg_zones.specs.Faults.{child_holds, first_along, gateways_at, gateway_at, child_zone_at, route_at, zone_route_at, spoke_at, tree_fault, row_fault, zone_fault}
 use Rattle.sg_zones.specs.Paths.{parent, path}
 use Rattle.sg_zones.specs.Tree.{tree_of}
 
@@ -156,6 +165,42 @@ star_good p from to way (Some a) (Some b) found other each is =
     let end : b.gateway ≡ way.end = cc in
     record { start = moved p a.child from a.gateway way.start (sym f) start r.0; end = moved p b.child to b.gateway way.end (sym t) end s.0 }
 
+-- both ends of a path that leads to another point are there
+ends_there : (p : Platform) (steps : List PathRoute) (from to : ℕ) (path : List PathRoute) → Each (IsWithin p) steps → IsPath steps from to path → from ≢ to
+    → (from < (counts_of p).points) × (to < (counts_of p).points)
+ends_there p steps from to [] each is far = absurd (far is)
+ends_there p steps from to (route ∷ path) each is far =
+    let w = each_contained (IsWithin p) steps route each is.0 in
+    let begins : route.from ≡ from = is.1 in
+    let start : route.from < (counts_of p).points = w.0 in
+    (omega arith, end_there steps route.to path each is.2 w.1)
+  where
+    end_there : (steps : List PathRoute) (at : ℕ) (rest : List PathRoute) → Each (IsWithin p) steps → IsPath steps at to rest → at < (counts_of p).points → to < (counts_of p).points
+    end_there steps at [] each same there = let e : at ≡ to = same in omega arith
+    end_there steps at (next ∷ rest) each on there = end_there steps next.to rest each on.2 (each_contained (IsWithin p) steps next each on.0).1
+
+path_good : (p : Platform) → IsPlatform p → (from to : Child) (way : Passage) → by_path (steps_of (tree_of p) (roads_of p).locals) from to ≡ Some way → GoodPassage p from to way
+path_good p kept (Zone x) to way is = absurd (cc)
+path_good p kept (Point a) (Zone x) way is = absurd (cc)
+path_good p kept (Point a) (Point b) way is = go (a.0 == b.0) refl (least_path (steps_of (tree_of p) (roads_of p).locals) a.0 b.0) refl is
+  where
+    go : (t : Bool) → (a.0 == b.0) ≡ t → (o : Option (List LinkId)) → least_path (steps_of (tree_of p) (roads_of p).locals) a.0 b.0 ≡ o
+        → cond t None (option_map (λ links. record { start = a; end = b; links = links }) o) ≡ Some way → GoodPassage p (Point a) (Point b) way
+    go true e o f h = absurd (cc)
+    go false e None f h = absurd (cc)
+    go false e (Some links) f h =
+        let far : a.0 ≢ b.0 = grind (arith, nat_tests) in
+        let n = points_count p in
+        let steps = steps_of (tree_of p) (roads_of p).locals in
+        let r = (least_found steps a.0 b.0 links f).reached in
+        let ends = ends_there p steps a.0 b.0 r.0 (steps_join p kept) r.1 far in
+        let start : a ≡ way.start = cc in
+        let end : b ≡ way.end = cc in
+        record {
+          start = moved p (Point a) (Point a) a way.start refl start (itself p a (omega (arith, n, ends.0)));
+          end = moved p (Point b) (Point b) b way.end refl end (itself p b (omega (arith, n, ends.1)));
+        }
+
 -- ---- a good platform
 
 pub record IsGood (p : Platform) : Type 0 where
@@ -168,15 +213,16 @@ pub good_from : (p : Platform) → IsPlatform p → zone_fault p ≡ None → Is
 good_from p kept none =
     let two = both_none (tree_fault p.zones) (row_fault (tree_of p) p) none in
     let a = both_none (first_along (gateways_at (tree_of p)) 0 p.zone_routes)
-    (option_or (first_along (gateway_at (tree_of p)) 0 p.spokes) (option_or (first_along (route_at (tree_of p)) 0 p.routes)
-    (option_or (first_along (zone_route_at (tree_of p)) 0 p.zone_routes) (first_along (spoke_at (tree_of p)) 0 p.spokes)))) two.1 in
-    let b = both_none (first_along (gateway_at (tree_of p)) 0 p.spokes) (option_or (first_along (route_at (tree_of p)) 0 p.routes)
-    (option_or (first_along (zone_route_at (tree_of p)) 0 p.zone_routes) (first_along (spoke_at (tree_of p)) 0 p.spokes))) a.1 in
+    (option_or (first_along (gateway_at (tree_of p)) 0 p.spokes) (option_or (first_along (child_zone_at (tree_of p)) 0 p.zones) (option_or (first_along (route_at (tree_of p)) 0 p.routes)
+    (option_or (first_along (zone_route_at (tree_of p)) 0 p.zone_routes) (first_along (spoke_at (tree_of p)) 0 p.spokes))))) two.1 in
+    let b = both_none (first_along (gateway_at (tree_of p)) 0 p.spokes) (option_or (first_along (child_zone_at (tree_of p)) 0 p.zones) (option_or (first_along (route_at (tree_of p)) 0 p.routes)
+    (option_or (first_along (zone_route_at (tree_of p)) 0 p.zone_routes) (first_along (spoke_at (tree_of p)) 0 p.spokes)))) a.1 in
     record { kept = kept; tree = two.0; locals = locals_good p kept a.0; spokes = spokes_good p kept b.0 }
 
 pub passage_good : (p : Platform) → IsGood p → (r : Routing) (from to : Child) (way : Passage) → passage (roads_of p) r from to ≡ Some way → GoodPassage p from to way
 passage_good p good Full from to way is = full_good p from to way (declared_route (roads_of p).locals (record { from = from; to = to })) refl good.locals is
 passage_good p good Star from to way is = star_good p from to way (local.spoke_at p.spokes from) (local.spoke_at p.spokes to) refl refl good.spokes is
+passage_good p good Dijkstra from to way is = path_good p good.kept from to way is
 
 -- ---- paths
 

@@ -6,5 +6,6 @@ pub mod Lowest
 pub mod StarWays
 pub mod StarGateways
 pub mod FullWays
+pub mod DijkstraWays
 pub mod Backs
 pub mod Complete

@@ -22,7 +22,8 @@ use Rattle.sg_route.specs.Leg.{parting}
 use Rattle.sg_route.specs.Route.{leg}
 use Rattle.sg_route_laws.specs.Laws.{IsChildOver, IsPoint, LegsAreLowest}
 use Rattle.sg_route_laws.proofs.Nested.{depth_of_both, home, path_to, shared}
-use Rattle.sg_route_laws.proofs.Parting.{from_parts, from_point, got, to_parts, to_point, zone_from, zone_to}
+use Rattle.sg_route_laws.proofs.Parting.{from_parts, got, to_parts, zone_from, zone_to}
+use Rattle.sg_route.proofs.LegLemmas.{from_point, to_point}
 use Rattle.sg_route_laws.proofs.Good.{IsGood, common_front, home_exists, path_of, root_shared, shared_short}
 
 parted_zone : (last : ZoneId) (a b : PointId) (xs ys : List ZoneId) → (parting last a b xs ys).zone ≡ get_or (last ∷ xs) (shared xs ys) last

@@ -23,7 +23,8 @@ use Rattle.sg_route_laws.proofs.Levels.{whole_apart}
 use Rattle.sg_route_laws.proofs.Lowest.{parents_same}
 use Rattle.sg_route_laws.proofs.Nested.{home, path_to}
 use Rattle.sg_route_laws.proofs.Parting.{got}
-use Rattle.sg_route_laws.proofs.StarWays.{direct, one_step}
+use Rattle.sg_route_laws.proofs.StarWays.{one_step}
+use Rattle.sg_route.proofs.WalkLemmas.{direct}
 use Rattle.sg_zones.proofs.GoodTree.{any_at, depth_here}
 use Rattle.sg_zones.proofs.TreeLemmas.{AboveIs, IsDepth, depth_once, path_front, path_last, path_length}
 use Rattle.sg_zones.specs.Faults.{zone_above}

@@ -1,7 +1,6 @@
 -- The route between two points of one Star zone.
-use Rattle.std.proofs.Common.{◌≡◌, ℕ, suc, Bool, true, false, cond, List, [], ◌∷◌, ◌++◌, length, get_or, Some, Ok, arith, refl, sym, ◌∙◌, ap, subst}
+use Rattle.std.proofs.Common.{◌≡◌, ℕ, suc, Bool, true, false, cond, List, [], ◌∷◌, ◌++◌, length, get_or, Some, arith, refl, sym, ◌∙◌, ap, subst}
 use Rattle.std.proofs.lemmas.Bool.Decides.{nat_tests}
-use Rattle.std.proofs.lemmas.List.{append-nil}
 use Rattle.std.specs.Prelude.{◌==◌}
 use Rattle.sg_base.specs.declared.ids.Child.{Child}
 use Rattle.sg_base.specs.declared.ids.Child.TheVariants.{Point, Zone}
@@ -13,10 +12,11 @@ use Rattle.sg_route.specs.Equal.{child_eq}
 use Rattle.sg_route.specs.Leg.{parting}
 use Rattle.sg_route.specs.Local.{spoke_at}
 use Rattle.sg_route.specs.Roads.{Roads, roads_of}
-use Rattle.sg_route.specs.Route.{Passage, Way, by_passage, by_spokes, way_over, leg, passage, passage_on, unless_there, way}
+use Rattle.sg_route.specs.Route.{Passage, by_passage, by_spokes, leg, passage, passage_on, way}
 use Rattle.sg_route.specs.declared.leg.Leg.{Leg}
 use Rattle.sg_route_laws.specs.Laws.{IsPoint, StarGoesUpAndDown}
 use Rattle.sg_route.proofs.Each.{each_found}
+use Rattle.sg_route.proofs.WalkLemmas.{direct}
 use Rattle.sg_route_laws.proofs.Good.{GoodSpoke, IsGood, child_eq_true, home_exists, path_of}
 use Rattle.sg_route_laws.proofs.Levels.{whole_apart}
 use Rattle.sg_route_laws.proofs.Nested.{home, path_to}
@@ -55,19 +55,6 @@ leg_same p good a b there same =
     let make : ZoneId → Leg = λ z. record { zone = z; from = Point a; to = Point b } in
     let last : get_or (za ∷ xs) (length xs) za ≡ za = ap (λ i. get_or (za ∷ xs) i za) n ∙ ap (λ q. get_or q d.depth za) e ∙ path_last d.depth p.zones za za d.is in
     ap P (sym same) ∙ parted_same za a b xs ∙ ap make last
-
-there : (w : PointId → PointId → Way) (a b : PointId) → a.0 ≡ b.0 → unless_there w a b ≡ Ok []
-there w a b same = go (a.0 == b.0) (grind (arith, nat_tests))
-  where
-    go : (t : Bool) → t ≡ true → cond t (Ok []) (w a b) ≡ Ok []
-    go t e = rw e refl
-
--- a local route from a point to another, whose gateways they are themselves
-pub direct : (w : PointId → PointId → Way) (a b : PointId) (l : Leg) (q : Passage) → a.0 ≡ q.start.0 → q.end.0 ≡ b.0 → by_passage w a b l (Some q) ≡ Ok q.links
-direct w a b l q e f = go (unless_there w a q.start) (unless_there w q.end b) (there w a q.start e) (there w q.end b f)
-  where
-    go : (x y : Way) → x ≡ Ok [] → y ≡ Ok [] → way_over x q.links y ≡ Ok q.links
-    go x y g h = ap (λ z. way_over z q.links y) g ∙ ap (λ z. way_over (Ok []) q.links z) h ∙ ap (λ xs. Ok xs) (append-nil q.links)
 
 -- the gateway of a point is itself
 own_gateway : (p : Platform) → IsGood p → (a : PointId) (s : SpokeRow) → spoke_at p.spokes (Point a) ≡ Some s → a.0 ≡ s.gateway.0

@@ -1,5 +1,5 @@
 -- Laws of routes.
-use Rattle.std.specs.Prelude.{◌≡◌, ◌≢◌, ◌<◌, ◌≤◌, ◌++◌, true, false, None, Some, Ok, Err, List, length, All}
+use Rattle.std.specs.Prelude.{◌≡◌, ◌≢◌, ◌<◌, ◌≤◌, ◌++◌, true, false, None, Some, Ok, Err, List, MatchResult, length, All}
 use Rattle.sg_base.specs.declared.ids.Child.{Child}
 use Rattle.sg_base.specs.declared.ids.Child.TheVariants.{Point}
 use Rattle.sg_base.specs.declared.ids.LinkId.{LinkId}
@@ -7,14 +7,16 @@ use Rattle.sg_base.specs.declared.ids.PointId.{PointId}
 use Rattle.sg_base.specs.declared.ids.ZoneId.{ZoneId}
 use Rattle.sg_rows.specs.Ends.{link_ends, way_back}
 use Rattle.sg_rows.specs.Platform.{Platform}
-use Rattle.sg_rows.specs.declared.rows.Routing.TheVariants.{Full, Star}
+use Rattle.sg_rows.specs.declared.rows.Routing.TheVariants.{Full, Star, Dijkstra}
 use Rattle.sg_rows.specs.declared.rows.SpokeRow.{SpokeRow}
 use Rattle.sg_route.specs.declared.leg.Leg.{Leg}
 use Rattle.sg_route.specs.declared.locals.Local.{Local}
 use Rattle.sg_route.specs.Equal.{child_eq}
 use Rattle.sg_route.specs.Local.{declared_route, spoke_at}
 use Rattle.sg_route.specs.Roads.{Roads, roads_of}
+use Rattle.sg_paths.specs.Path.{HasNoPath, IsLeastPath}
 use Rattle.sg_route.specs.Route.{leg, passage_on, through_lowest, whole_way}
+use Rattle.sg_route.specs.Steps.{steps_of}
 use Rattle.sg_zones.specs.Faults.{child_holds, zone_above}
 use Rattle.sg_zones.specs.Tree.{Tree, depth, holds, home, routing_in, tree_of}
 
@@ -68,6 +70,18 @@ FullJoinsGateways p = (from to : Child) (l : Local) (zone : ZoneId)
     → declared_route (roads_of p).locals (record { from = from; to = to }) ≡ Some l → child_eq from to ≡ false
     → zone_above (tree_of p) from ≡ Some zone → zone_above (tree_of p) to ≡ Some zone
     → routing_in (tree_of p) zone ≡ Full → whole_way (roads_of p) l.start l.end ≡ Ok l.links
+
+-- the links between two points are those of a least path, or no path leads from the one to the other
+abbrev pub TakesLeastPath : Roads → PointId → PointId → Type 0
+TakesLeastPath m a b = MatchResult (whole_way m a b)
+    (λ links. IsLeastPath (steps_of m.tree m.locals) a.0 b.0 links)
+    (λ missing. HasNoPath (steps_of m.tree m.locals) a.0 b.0)
+
+-- so between any two that stand in one Dijkstra zone
+abbrev pub DijkstraTakesLeastPaths : Platform → Type 0
+DijkstraTakesLeastPaths p = (a b : PointId) → IsPoint (roads_of p) a → IsPoint (roads_of p) b → a.0 ≢ b.0
+    → home (tree_of p) a ≡ home (tree_of p) b → routing_in (tree_of p) (home (tree_of p) a) ≡ Dijkstra
+    → TakesLeastPath (roads_of p) a b
 
 abbrev pub WayBackReturns : Platform → Type 0
 WayBackReturns p = (links : List LinkId) → All (λ link. link.0 < length (link_ends p.links)) links

@@ -1,7 +1,7 @@
 //! What holds of routes on a platform, and where said, on one without zone faults.
 ghost use Rattle.std.specs.Prelude.{◌≡◌, None};
 ghost use Rattle.sg_route.specs.Roads.{roads_of};
-ghost use Rattle.sg_route_laws.specs.Laws.{FollowsLowestZone, FullGoesAsDeclared, FullJoinsGateways, HasRoutes, LegsAreLowest, StarGoesUpAndDown, StarJoinsGateways, WayBackReturns};
+ghost use Rattle.sg_route_laws.specs.Laws.{DijkstraTakesLeastPaths, FollowsLowestZone, FullGoesAsDeclared, FullJoinsGateways, HasRoutes, LegsAreLowest, StarGoesUpAndDown, StarJoinsGateways, WayBackReturns};
 ghost use Rattle.sg_zones.specs.Faults.{zone_fault};
 
 use sg_rows::PlatformText;
@@ -53,6 +53,15 @@ pub fn full_goes_as_declared(platform: &PlatformText)
 pub fn full_joins_gateways(platform: &PlatformText)
     requires { zone_fault platform.now ≡ None }
     ensures { FullJoinsGateways platform.now }
+{
+    let _zones = platform.zones();
+}
+
+/// Between two points of one Dijkstra zone a route is the path with the fewest links, and of these the one with the least
+/// list; none is told exactly where there is no path.
+pub fn dijkstra_takes_least_paths(platform: &PlatformText)
+    requires { zone_fault platform.now ≡ None }
+    ensures { DijkstraTakesLeastPaths platform.now }
 {
     let _zones = platform.zones();
 }

@@ -4,6 +4,7 @@
 mod laws;
 
 pub use laws::{
-    complete_has_routes, follows_lowest_zone, full_goes_as_declared, full_joins_gateways,
-    legs_are_lowest, star_goes_up_and_down, star_joins_gateways, way_back_returns,
+    complete_has_routes, dijkstra_takes_least_paths, follows_lowest_zone, full_goes_as_declared,
+    full_joins_gateways, legs_are_lowest, star_goes_up_and_down, star_joins_gateways,
+    way_back_returns,
 };

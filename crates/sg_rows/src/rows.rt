@@ -8,6 +8,8 @@ pub enum Routing {
     Full,
     /// Each child has a route to and from the centre.
     Star,
+    /// Each pair has the least path over the routes between points that stand in the zone.
+    Dijkstra,
 }
 
 /// A zone.

@@ -80,7 +80,7 @@ unfoldable pub word_kinds : List (List ℕ) → Kind → List ℕ → List Kind
 word_kinds words kind text = kind_if (not (list_any (λ word. bytes_eq text word) words)) kind
 
 abbrev pub routings : List (List ℕ)
-routings = codes "Full" ∷ codes "Star" ∷ []
+routings = codes "Full" ∷ codes "Star" ∷ codes "Dijkstra" ∷ []
 
 abbrev pub policies : List (List ℕ)
 policies = codes "SHARED" ∷ codes "FATPIPE" ∷ codes "SPLITDUPLEX" ∷ []

@@ -248,7 +248,7 @@ fn routing_fault(text: &str) -> Option<Kind>
     ensures { result ≡ first (word_kinds routings kind.BadValue text.now) }
 {
     match text {
-        "Full" | "Star" => None,
+        "Full" | "Star" | "Dijkstra" => None,
         _ => Some(Kind::BadValue),
     }
 }

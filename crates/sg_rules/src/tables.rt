@@ -67,7 +67,7 @@ pub enum Rule {
     ZoneRouteEnd,
     /// The name of a zone or point that no earlier spoke row has.
     SpokeChild,
-    /// `Full` or `Star`.
+    /// `Full`, `Star` or `Dijkstra`.
     RoutingWord,
     /// `SHARED`, `FATPIPE` or `SPLITDUPLEX`.
     PolicyWord,

@@ -1,13 +1,13 @@
 -- What the bytes behind a line need, and the line in front of them.
-use Rattle.std.proofs.Common.{◌≡◌, ◌+◌, ◌-◌, ◌∙◌, suc, ap, refl, ℕ, Bool, true, false, cond, eqb, ltb, List, [], ◌∷◌, length, min, Option, None, Some, Ok, Err, arith}
+use Rattle.std.proofs.Common.{◌≡◌, ◌+◌, ◌-◌, ◌∙◌, suc, sym, ap, refl, ℕ, Bool, true, false, cond, ltb, List, [], ◌∷◌, length, min, Option, None, Some, Ok, Err, arith}
 use Rattle.std.specs.Prelude.{option_map}
 use Rattle.std.specs.List.{slice_split}
 use Rattle.std.proofs.lemmas.Bool.Decides.{nat_tests}
+use Rattle.sg_script.specs.declared.fault.LineFault.{LineFault}
 use Rattle.sg_script.specs.declared.fault.LineFault.TheVariants.{TooLong, NotAscii, UnknownActor, UnknownAction, ArgumentCount, BadAmount, TooManyLines, UnknownObject}
 use Rattle.sg_script.specs.declared.line.Entry.{Entry}
 use Rattle.sg_script.specs.Known.{Known}
 use Rattle.sg_script.specs.Answer.{is_newline, judgements}
-use Rattle.sg_script.specs.kept.Front.{IsNoOwn}
 use Rattle.sg_script.specs.Line.{Judgement}
 use Rattle.sg_script.specs.Needed.{behind_one, deciding_line, front_length, need_by, need_from, own_actions, through, told_at}
 
@@ -41,36 +41,41 @@ needed_more before line whole behind (Some at) cut size =
     ∙ ap (λ (end : ℕ). told_at late (k + through behind at.0) end at.1) (through_more line whole behind (suc at.0) cut size)
     ∙ told_more late k (through behind at.0) (through behind (suc at.0)) at.1
 
-own_none : (actor : ℕ) (said : Option Entry) → IsNoOwn actor said → own_actions actor said ≡ 0
-own_none actor None other = refl
-own_none actor (Some entry) other =
-    let isnt : eqb entry.actor.0 actor ≡ false = grind (arith, nat_tests) in
-    rw isnt refl
+-- behind the actions of a line the lines behind it decide
+passed_over : (actor later own : ℕ) (said : Option Entry) (more : List Judgement)
+    → cond (ltb (own + later) own) (Some (0, Ok said)) (option_map behind_one (deciding_line actor (own + later - own) more)) ≡ option_map behind_one (deciding_line actor later more)
+passed_over actor later own said more =
+    let no : ltb (own + later) own ≡ false = grind (arith, nat_tests) in
+    let same : own + later - own ≡ later = omega arith in
+    rw (no, same) refl
 
--- a line without an action of the actor decides nothing
-passed_over : (actor earlier own : ℕ) (said : Option Entry) (more : List Judgement) → own ≡ 0
-    → cond (ltb earlier own) (Some (0, Ok said)) (option_map behind_one (deciding_line actor (earlier - own) more)) ≡ option_map behind_one (deciding_line actor earlier more)
-passed_over actor earlier own said more none =
-    let no : ltb earlier 0 ≡ false = grind (arith, nat_tests) in
-    let same : earlier - 0 ≡ earlier = omega arith in
-    rw none (rw (no, same) refl)
+pub deciding_more : (actor later : ℕ) (said : Option Entry) (more : List Judgement) → deciding_line actor (own_actions actor said + later) (Ok said ∷ more) ≡ option_map behind_one (deciding_line actor later more)
+deciding_more actor later said more = passed_over actor later (own_actions actor said) said more
 
-pub deciding_more : (actor earlier : ℕ) (said : Option Entry) (more : List Judgement) → IsNoOwn actor said → deciding_line actor earlier (Ok said ∷ more) ≡ option_map behind_one (deciding_line actor earlier more)
-deciding_more actor earlier said more other = passed_over actor earlier (own_actions actor said) said more (own_none actor said other)
-
--- a line with its newline that isn't the actor's
-pub needs_more : (known : Known) (broken : Bool) (actor before earlier : ℕ) (line whole behind : List ℕ) (said : Option Entry)
-    → slice_split is_newline whole ≡ line ∷ slice_split is_newline behind → length whole ≡ length line + 1 + length behind → IsNoOwn actor said
+-- a line with its newline, behind its actions
+pub needs_more : (known : Known) (broken : Bool) (actor before later : ℕ) (line whole behind : List ℕ) (said : Option Entry)
+    → slice_split is_newline whole ≡ line ∷ slice_split is_newline behind → length whole ≡ length line + 1 + length behind
     → judgements known before whole broken ≡ Ok said ∷ judgements known (before + 1) behind broken
-    → need_from known broken actor before whole earlier ≡ length line + 1 + need_from known broken actor (before + 1) behind earlier
-needs_more known broken actor before earlier line whole behind said cut size other all =
+    → need_from known broken actor before whole (own_actions actor said + later) ≡ length line + 1 + need_from known broken actor (before + 1) behind later
+needs_more known broken actor before later line whole behind said cut size all =
     let more : List Judgement = judgements known (before + 1) behind broken in
-    ap (λ (js : List Judgement). need_by before whole (deciding_line actor earlier js)) all
-    ∙ ap (need_by before whole) (deciding_more actor earlier said more other)
-    ∙ needed_more before line whole behind (deciding_line actor earlier more) cut size
+    ap (λ (js : List Judgement). need_by before whole (deciding_line actor (own_actions actor said + later) js)) all
+    ∙ ap (need_by before whole) (deciding_more actor later said more)
+    ∙ needed_more before line whole behind (deciding_line actor later more) cut size
 
--- the last line, where it isn't the actor's
-pub needs_last : (known : Known) (broken : Bool) (actor before earlier : ℕ) (whole : List ℕ) (said : Option Entry) → IsNoOwn actor said → judgements known before whole broken ≡ Ok said ∷ [] → need_from known broken actor before whole earlier ≡ length whole
-needs_last known broken actor before earlier whole said other all =
-    ap (λ (js : List Judgement). need_by before whole (deciding_line actor earlier js)) all
-    ∙ ap (need_by before whole) (deciding_more actor earlier said [] other)
+-- the last line, behind its actions
+pub needs_last : (known : Known) (broken : Bool) (actor before later : ℕ) (whole : List ℕ) (said : Option Entry) → judgements known before whole broken ≡ Ok said ∷ [] → need_from known broken actor before whole (own_actions actor said + later) ≡ length whole
+needs_last known broken actor before later whole said all =
+    ap (λ (js : List Judgement). need_by before whole (deciding_line actor (own_actions actor said + later) js)) all
+    ∙ ap (need_by before whole) (deciding_more actor later said [])
+
+-- a bad line in front decides each Ask, and where there is no line the end does
+pub needs_bad : (known : Known) (broken : Bool) (actor before : ℕ) (whole : List ℕ) (kind : LineFault) (others : List Judgement) → judgements known before whole broken ≡ Err kind ∷ others → (i j : ℕ) → need_from known broken actor before whole i ≡ need_from known broken actor before whole j
+needs_bad known broken actor before whole kind others all i j =
+    ap (λ (js : List Judgement). need_by before whole (deciding_line actor i js)) all
+    ∙ sym (ap (λ (js : List Judgement). need_by before whole (deciding_line actor j js)) all)
+
+pub needs_none : (known : Known) (broken : Bool) (actor before : ℕ) (whole : List ℕ) → judgements known before whole broken ≡ [] → (i j : ℕ) → need_from known broken actor before whole i ≡ need_from known broken actor before whole j
+needs_none known broken actor before whole all i j =
+    ap (λ (js : List Judgement). need_by before whole (deciding_line actor i js)) all
+    ∙ sym (ap (λ (js : List Judgement). need_by before whole (deciding_line actor j js)) all)

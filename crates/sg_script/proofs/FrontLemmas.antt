@@ -78,10 +78,10 @@ leads_newline known before bytes i rest broken e =
       others = judgements known (before + 1) (drop (i + 1) bytes ++ rest) broken;
       all = ap (λ (list : List (List ℕ)). line_judgements known before (lines_among broken before list)) cut ∙ ap (line_judgements known before) (among_more broken before (take i bytes) (drop (i + 1) bytes ++ rest));
       behind = λ _. refl;
-      needs = λ actor earlier said is other.
-          needs_more known broken actor before earlier (take i bytes) (bytes ++ rest) (drop (i + 1) bytes ++ rest) said cut (omega (arith, length-append bytes rest, length-append (drop (i + 1) bytes) rest, length-drop (i + 1) bytes, taken_length i bytes (below bytes i e), below bytes i e)) other
+      needs = λ actor later said is.
+          needs_more known broken actor before later (take i bytes) (bytes ++ rest) (drop (i + 1) bytes ++ rest) said cut (omega (arith, length-append bytes rest, length-append (drop (i + 1) bytes) rest, length-drop (i + 1) bytes, taken_length i bytes (below bytes i e), below bytes i e))
           (ap (λ (list : List (List ℕ)). line_judgements known before (lines_among broken before list)) cut ∙ ap (line_judgements known before) (among_more broken before (take i bytes) (drop (i + 1) bytes ++ rest)) ∙ ap (λ (j : Judgement). j ∷ judgements known (before + 1) (drop (i + 1) bytes ++ rest) broken) is)
-          ∙ ap (λ (n : ℕ). n + 1 + need_from known broken actor (before + 1) (drop (i + 1) bytes ++ rest) earlier) (taken_length i bytes (below bytes i e));
+          ∙ ap (λ (n : ℕ). n + 1 + need_from known broken actor (before + 1) (drop (i + 1) bytes ++ rest) later) (taken_length i bytes (below bytes i e));
     }
 
 -- a line that is bad however it goes on
@@ -156,7 +156,7 @@ leads_bad known before bytes rest broken none bad =
     record {
       others = line_judgements known (before + 1) more;
       all = ap (λ (list : List (List ℕ)). line_judgements known before (lines_among broken before list)) cut ∙ ap (line_judgements known before) first ∙ ap (λ (j : Judgement). j ∷ line_judgements known (before + 1) more) same;
-      needs = λ actor earlier said good other. absurd (err_not_ok _ is.kind (ap (judgement_of known (before + 1)) (take_whole bytes) ∙ is.whole) (ap is_ok good));
+      needs = λ actor later said good. absurd (err_not_ok _ is.kind (ap (judgement_of known (before + 1)) (take_whole bytes) ∙ is.whole) (ap is_ok good));
       behind = λ ok. absurd (err_not_ok _ is.kind (ap (judgement_of known (before + 1)) (take_whole bytes) ∙ is.whole) ok);
     }
 
@@ -172,12 +172,12 @@ leads_end known before bytes none some =
       others = [];
       all = ap (λ (list : List (List ℕ)). line_judgements known before (lines_among false before list)) (cut ∙ ap (λ (line : List ℕ). line ∷ []) whole) ∙ rw last refl;
       behind = λ _. ap (λ (b : List ℕ). judgements known (before + 1) b false) (sym (drop_whole bytes));
-      needs = λ actor earlier said is other.
+      needs = λ actor later said is.
           let size : length (bytes ++ []) ≡ length bytes + 0 = omega (arith, length-append bytes []) in
-          needs_last known false actor before earlier (bytes ++ []) said other
+          needs_last known false actor before later (bytes ++ []) said
           (ap (λ (list : List (List ℕ)). line_judgements known before (lines_among false before list)) (cut ∙ ap (λ (line : List ℕ). line ∷ []) whole) ∙ rw last (ap (λ (j : Judgement). j ∷ []) is))
           ∙ size
-          ∙ ap (λ (b : List ℕ). length bytes + need_from known false actor (before + 1) b earlier) (sym (drop_whole bytes));
+          ∙ ap (λ (b : List ℕ). length bytes + need_from known false actor (before + 1) b later) (sym (drop_whole bytes));
     }
 
 pub leads_last : (known : Known) (before : ℕ) (bytes rest : List ℕ) (broken : Bool) → position is_newline bytes ≡ None → 0 < length bytes → May Over rest broken → Leads known before bytes (length bytes) (length bytes) rest broken

@@ -1,7 +1,9 @@
+pub mod AllNeeds
 pub mod Asking
 pub mod Chains
 pub mod Deciding
 pub mod FrontLemmas
+pub mod Going
 pub mod KnownLemmas
 pub mod LimitLemmas
 pub mod Needs

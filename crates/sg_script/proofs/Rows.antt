@@ -1,5 +1,5 @@
 -- The definition at small scripts, by computing.
-use Rattle.std.proofs.Common.{◌≡◌, refl, true, false, cond, None, Some, Ok, Err}
+use Rattle.std.proofs.Common.{◌≡◌, refl, true, false, cond, eqb, None, Some, Ok, Err}
 use Rattle.std.specs.Prelude.{codes}
 use Rattle.std.specs.Str.{bytes_eq}
 use Rattle.sg_base.specs.declared.call.Action.TheVariants.{Compute}
@@ -8,7 +8,7 @@ use Rattle.sg_script.specs.declared.fault.LineFault.TheVariants.{UnknownAction}
 use Rattle.sg_script.specs.declared.fault.ScriptFault.TheVariants.{Line, Read}
 use Rattle.sg_script.specs.Answer.{answer_of}
 use Rattle.sg_script.specs.Known.{Known}
-use Rattle.sg_script.specs.Needed.{need_of}
+use Rattle.sg_script.specs.Needed.{need_of, needed_by}
 
 abbrev two : Known
 two = record {
@@ -32,6 +32,16 @@ first_needs = refl
 
 second_needs : need_of two bad_third 2 1 ≡ 40
 second_needs = refl
+
+-- a run with one Ask of each actor, and with a second one of p1
+one_each : needed_by two bad_third 2 (λ actor. cond (eqb actor 0) 0 1) ≡ 30
+one_each = refl
+
+two_each : needed_by two bad_third 2 (λ actor. cond (eqb actor 2) 2 (cond (eqb actor 0) 0 1)) ≡ 40
+two_each = refl
+
+no_asks : needed_by two bad_third 2 (λ actor. 0) ≡ 0
+no_asks = refl
 
 comments : answer_of two (record { bytes = codes "# head\r\n\r\np0 compute 1e9"; broken = false }) 1 0 ≡ Ok (Some (Compute 1000000000))
 comments = refl

@@ -1,8 +1,11 @@
 -- What one step reads, and several.
-use Rattle.std.proofs.Common.{◌≡◌, ◌≢◌, ◌≤◌, ◌+◌, sym, ap, refl, ℕ, Bool, List, [], ◌++◌, length, take, drop, Option, None, Some, Result, Ok, Err, inl, inr, arith, append_assoc, length-append, length-drop}
-use Rattle.std.proofs.lemmas.Bool.{cases_lt}
+use Rattle.std.proofs.Common.{◌≡◌, ◌≢◌, ◌<◌, ◌≤◌, ◌+◌, ◌∙◌, sym, ap, ap₂, refl, ℕ, Bool, true, false, eqb, List, [], ◌∷◌, ◌++◌, length, take, drop, Option, None, Some, Result, Ok, Err, inl, inr, arith, append_assoc, length-append, length-drop}
+use Rattle.std.proofs.lemmas.Bool.{cases_Bool, cases_lt}
+use Rattle.std.proofs.lemmas.Bool.Decides.{nat_tests}
+use Rattle.std.proofs.lemmas.List.{get_or-set_same, get_or-set_other}
 use Rattle.sg_edge.specs.Files.{PartView}
-use Rattle.sg_edge.specs.declared.files.Stage.TheVariants.{Fresh}
+use Rattle.sg_edge.specs.declared.files.Stage.{Stage}
+use Rattle.sg_edge.specs.declared.files.Stage.TheVariants.{Begun}
 use Rattle.sg_base.specs.declared.call.Action.{Action}
 use Rattle.sg_script.specs.declared.line.Entry.{Entry}
 use Rattle.sg_script.specs.Known.{Known}
@@ -10,26 +13,115 @@ use Rattle.sg_script.specs.declared.fault.ScriptFault.{ScriptFault}
 use Rattle.sg_script.specs.declared.fault.ScriptFault.TheVariants.{Line, Read, Memory}
 use Rattle.sg_script.specs.Answer.{judgement_of}
 use Rattle.sg_script.specs.Rest.{May}
-use Rattle.sg_script.specs.kept.Front.{Leads, IsOpen, IsNoOwn}
-use Rattle.sg_script.specs.Needed.{need_from}
+use Rattle.sg_script.specs.kept.Front.{Leads, IsOpen}
+use Rattle.sg_script.specs.Needed.{need_from, own_actions}
 use Rattle.sg_script.specs.kept.Queues.{queue_at}
 use Rattle.sg_script.specs.Stands.{Kept}
-use Rattle.sg_script.specs.kept.Steps.{ReadIs, LineIs, IsOther}
+use Rattle.sg_script.specs.kept.Steps.{Ends, IsOther, ReadIs, its_entry, no_ask, one_ask, queues_with}
 use Rattle.sg_script.specs.Frugal.{cost_from, IsNear, Frugal}
-use Rattle.sg_script.specs.kept.Spending.{Spends, StepSpends}
-use Rattle.sg_script.proofs.Chains.{reads_none, reads_then, may_back}
+use Rattle.sg_script.specs.kept.Spending.{IsThrifty, Spends}
+use Rattle.sg_script.proofs.Chains.{may_back}
 use Rattle.sg_script.proofs.Needs.{open_needs}
 
+-- ---- one step
 -- nothing was read
-spent_not : (known : Known) (actor : ℕ) (piece : List ℕ) (old : Kept) (rest : List ℕ) (broken : Bool) → piece ≡ [] → IsNear known actor piece old rest broken
-spent_not known actor piece old rest broken none = inl (ap length none)
+pub thrifty_none : (known : Known) (actor : ℕ) (stage : Stage) (old : Kept) → IsThrifty known actor stage [] old
+thrifty_none known actor stage old = record { near = λ rest broken may. inl refl; idle = λ waits. refl }
 
-pub spent_start : (known : Known) (actor : ℕ) (v : PartView) (a : Kept) → v.stage ≢ Fresh → Spends known actor v v a a
-spent_start known actor v a begun = record {
-  piece = [];
-  reads = reads_none v begun;
-  cost = λ rest broken may. omega arith;
-  near = λ rest broken may. inl refl;
+-- what isn't read or asked for needs what it needed
+pub later_same : (known : Known) (broken : Bool) (actor lines : ℕ) (bytes : List ℕ) (n later : ℕ) → n ≡ 0 → need_from known broken actor lines bytes (n + later) ≡ need_from known broken actor lines bytes later
+later_same known broken actor lines bytes n later none =
+    let same : n + later ≡ later = omega (arith, none) in
+    ap (λ (k : ℕ). need_from known broken actor lines bytes k) same
+
+pub spends_none : (known : Known) (stage : Stage) (kept : Kept) → Spends known stage [] no_ask kept kept
+spends_none known stage kept = record {
+  own = no_ask;
+  queued = λ x. omega arith;
+  cost = λ rest broken may x later. omega (arith, later_same known broken x kept.lines (kept.pending ++ rest) 0 later refl);
+}
+
+-- an Ask that gets no action, where each Ask needs the same
+pub spends_stuck : (known : Known) (stage : Stage) (actor : ℕ) (kept : Kept) → ((rest : List ℕ) (broken : Bool) → May stage rest broken → (x i j : ℕ) → need_from known broken x kept.lines (kept.pending ++ rest) i ≡ need_from known broken x kept.lines (kept.pending ++ rest) j)
+    → Spends known stage [] (one_ask actor) kept kept
+spends_stuck known stage actor kept same = record {
+  own = one_ask actor;
+  queued = λ x. omega arith;
+  cost = λ rest broken may x later. omega (arith, same rest broken may x (one_ask actor x + later) later);
+}
+
+-- a piece was read
+pub spends_piece : (known : Known) (v w : PartView) (old new : Kept) → (read : ReadIs v w old new) → Spends known w.stage read.piece no_ask old new
+spends_piece known v w old new read = record {
+  own = no_ask;
+  queued = λ x. omega (arith, ap (λ (qs : List (List Action)). length (queue_at qs x)) read.queues);
+  cost = λ rest broken may x later.
+      let after : need_from known broken x old.lines (old.pending ++ (read.piece ++ rest)) later ≡ need_from known broken x new.lines (new.pending ++ rest) later = rw (read.lines, read.pending) (ap (λ (bytes : List ℕ). need_from known broken x old.lines bytes later) (sym (append_assoc old.pending read.piece rest))) in
+      omega (arith, after, later_same known broken x old.lines (old.pending ++ (read.piece ++ rest)) 0 later refl, ap length read.pending, length-append old.pending read.piece);
+}
+
+pub thrifty_piece : (known : Known) (actor : ℕ) (v w : PartView) (old new : Kept) → IsOpen old.lines old.pending → old.lines ≤ 100000000 → queue_at old.queues actor ≡ [] → (read : ReadIs v w old new) → IsThrifty known actor w.stage read.piece old
+thrifty_piece known actor v w old new is few empty read = record {
+  near = λ rest broken may. elim (cases_lt 0 (length read.piece)) [
+    | inl some ↦ inr (omega (arith, open_needs known broken actor old.lines 0 old.pending (read.piece ++ rest) is few (omega (arith, some, length-append read.piece rest)), read.short))
+    | inr none ↦ inl (omega (arith, none))
+  ];
+  idle = λ waits. absurd (waits empty);
+}
+
+-- a line was taken off the front
+pub spends_line : (known : Known) (stage : Stage) (asked : ℕ → ℕ) (old new : Kept) (len end : ℕ) (said : Option Entry) → end ≤ length old.pending
+    → ((rest : List ℕ) (broken : Bool) → May stage rest broken → Leads known old.lines old.pending len end rest broken)
+    → judgement_of known (old.lines + 1) (take len old.pending) ≡ Ok said → ((x : ℕ) → asked x + length (queue_at new.queues x) ≡ length (queue_at old.queues x) + own_actions x said)
+    → new.lines ≡ old.lines + 1 → new.pending ≡ drop end old.pending → Spends known stage [] asked old new
+spends_line known stage asked old new len end said fits leads is queued lines pending = record {
+  own = λ x. own_actions x said;
+  queued = queued;
+  cost = λ rest broken may x later.
+      let l : Leads known old.lines old.pending len end rest broken = leads rest broken may in
+      let need : need_from known broken x old.lines (old.pending ++ rest) (own_actions x said + later) ≡ end + need_from known broken x new.lines (new.pending ++ rest) later = rw (lines, pending) (l.needs x later said is) in
+      omega (arith, need, ap length pending, length-drop end old.pending, fits);
+}
+
+entry_queued : (queues : List (List Action)) (entry : Entry) (x : ℕ) → entry.actor.0 < length queues → length (queue_at (queues_with (Some entry) queues) x) ≡ length (queue_at queues x) + own_actions x (Some entry)
+entry_queued queues entry x below = elim (cases_Bool (eqb entry.actor.0 x)) [
+  | inl is ↦
+      let same : x ≡ entry.actor.0 = grind (arith, nat_tests) in
+      rw is (rw same (ap length (get_or-set_same queues entry.actor.0 (queue_at queues entry.actor.0 ++ entry.action ∷ []) [] below) ∙ length-append (queue_at queues entry.actor.0) (entry.action ∷ [])))
+  | inr isnt ↦
+      let other : x ≢ entry.actor.0 = grind (arith, nat_tests) in
+      let kept : length (queue_at (queues_with (Some entry) queues) x) ≡ length (queue_at queues x) = ap length (get_or-set_other queues entry.actor.0 x (queue_at queues entry.actor.0 ++ entry.action ∷ []) [] other) in
+      rw isnt (omega (arith, kept))
+]
+
+-- the line of another actor, or one that is passed over
+pub other_queued : (queues : List (List Action)) (said : Option Entry) (me x : ℕ) → IsOther (length queues) me said → no_ask x + length (queue_at (queues_with said queues) x) ≡ length (queue_at queues x) + own_actions x said
+other_queued queues None me x other = omega arith
+other_queued queues (Some entry) me x other = omega (arith, entry_queued queues entry x other.1)
+
+ask_of : (actor x : ℕ) (action : Action) → one_ask actor x ≡ own_actions x (Some (its_entry actor action))
+ask_of actor x action = elim (cases_Bool (eqb actor x)) [
+  | inl is ↦
+      let same : eqb x actor ≡ true = grind (arith, nat_tests) in
+      rw (is, same) refl
+  | inr isnt ↦
+      let other : eqb x actor ≡ false = grind (arith, nat_tests) in
+      rw (isnt, other) refl
+]
+
+-- the line of the actor that asks
+pub own_queued : (queues new : List (List Action)) (actor x : ℕ) (action : Action) → new ≡ queues → one_ask actor x + length (queue_at new x) ≡ length (queue_at queues x) + own_actions x (Some (its_entry actor action))
+own_queued queues new actor x action same = omega (arith, ask_of actor x action, ap (λ (qs : List (List Action)). length (queue_at qs x)) same)
+
+-- ---- several
+pub spends_then : (known : Known) (s t : Stage) (p q : List ℕ) (asked : ℕ → ℕ) (a b c : Kept) → (s ≢ Begun → (q ≡ []) × (t ≡ s)) → Spends known s p no_ask a b → Spends known t q asked b c → Spends known t (p ++ q) asked a c
+spends_then known s t p q asked a b c stayed first second = record {
+  own = λ x. first.own x + second.own x;
+  queued = λ x. omega (arith, first.queued x, second.queued x);
+  cost = λ rest broken may x later.
+      let numbers : first.own x + second.own x + later ≡ first.own x + (second.own x + later) = omega arith in
+      let joined : need_from known broken x a.lines (a.pending ++ ((p ++ q) ++ rest)) (first.own x + second.own x + later) ≡ need_from known broken x a.lines (a.pending ++ (p ++ (q ++ rest))) (first.own x + (second.own x + later)) = ap₂ (λ (bytes : List ℕ) (k : ℕ). need_from known broken x a.lines (a.pending ++ bytes) k) (append_assoc p q rest) numbers in
+      omega (arith, joined, first.cost (q ++ rest) broken (may_back s t q rest broken stayed may) x (second.own x + later), second.cost rest broken may x later, length-append p q);
 }
 
 near_then : (known : Known) (actor : ℕ) (a b : Kept) (p q rest : List ℕ) (broken : Bool) → cost_from known a (p ++ (q ++ rest)) broken actor + length b.pending ≡ length a.pending + length p + cost_from known b (q ++ rest) broken actor → IsNear known actor p a (q ++ rest) broken → IsNear known actor q b rest broken → IsNear known actor (p ++ q) a rest broken
@@ -41,62 +133,20 @@ near_then known actor a b p q rest broken one first second = elim second [
   | inr near ↦ inr (rw (append_assoc p q rest) (omega (arith, near, one, length-append p q)))
 ]
 
-pub spent_then : (known : Known) (actor : ℕ) (u v w : PartView) (a b c : Kept) → Spends known actor u v a b → Spends known actor v w b c → Spends known actor u w a c
-spent_then known actor u v w a b c first second =
-    let p : List ℕ = first.piece in
-    let q : List ℕ = second.piece in
-    let joined : (rest : List ℕ) (broken : Bool) → cost_from known a ((p ++ q) ++ rest) broken actor ≡ cost_from known a (p ++ (q ++ rest)) broken actor = λ rest broken. ap (λ (bytes : List ℕ). cost_from known a bytes broken actor) (append_assoc p q rest) in
-    let one : (rest : List ℕ) (broken : Bool) → May w.stage rest broken → cost_from known a (p ++ (q ++ rest)) broken actor + length b.pending ≡ length a.pending + length p + cost_from known b (q ++ rest) broken actor = λ rest broken may. first.cost (q ++ rest) broken (may_back v.stage w.stage q rest broken second.reads.stayed may) in
-    record {
-      piece = p ++ q;
-      reads = reads_then p q u v w first.reads second.reads;
-      cost = λ rest broken may. omega (arith, joined rest broken, one rest broken may, second.cost rest broken may, length-append p q);
-      near = λ rest broken may. near_then known actor a b p q rest broken (one rest broken may) (first.near (q ++ rest) broken (may_back v.stage w.stage q rest broken second.reads.stayed may)) (second.near rest broken may);
-    }
-
-pub spent_piece : (known : Known) (actor : ℕ) (v w : PartView) (old new : Kept) → IsOpen old.lines old.pending → old.lines ≤ 100000000 → ReadIs v w old new → Spends known actor v w old new
-spent_piece known actor v w old new is few read =
-    let after : (rest : List ℕ) (broken : Bool) → cost_from known old (read.piece ++ rest) broken actor ≡ cost_from known new rest broken actor = λ rest broken. rw (read.lines, read.pending) (ap (λ (bytes : List ℕ). need_from known broken actor old.lines bytes 0) (sym (append_assoc old.pending read.piece rest))) in
-    record {
-      piece = read.piece;
-      reads = read.reads;
-      cost = λ rest broken may. omega (arith, after rest broken, ap length read.pending, length-append old.pending read.piece);
-      near = λ rest broken may. elim (cases_lt 0 (length read.piece)) [
-        | inl some ↦ inr (omega (arith, open_needs known broken actor old.lines 0 old.pending (read.piece ++ rest) is few (omega (arith, some, length-append read.piece rest)), read.short))
-        | inr none ↦ inl (omega (arith, none))
-      ];
-    }
-
-no_own : (actors actor : ℕ) (said : Option Entry) → IsOther actors actor said → IsNoOwn actor said
-no_own actors actor None other = tt
-no_own actors actor (Some entry) other = other.0
-
--- a line of another actor, or one that is passed over
-spent_line : (known : Known) (actor : ℕ) (v : PartView) (old new : Kept) (len end actors : ℕ) (said : Option Entry) → v.stage ≢ Fresh → end ≤ length old.pending
-    → ((rest : List ℕ) (broken : Bool) → May v.stage rest broken → Leads known old.lines old.pending len end rest broken)
-    → judgement_of known (old.lines + 1) (take len old.pending) ≡ Ok said → IsOther actors actor said → new.lines ≡ old.lines + 1 → new.pending ≡ drop end old.pending → Spends known actor v v old new
-spent_line known actor v old new len end actors said begun fits leads is other lines pending = record {
-  piece = [];
-  reads = reads_none v begun;
-  cost = λ rest broken may.
-      let l : Leads known old.lines old.pending len end rest broken = leads rest broken may in
-      let need : cost_from known old rest broken actor ≡ end + cost_from known new rest broken actor = rw (lines, pending) (l.needs actor 0 said is (no_own actors actor said other)) in
-      omega (arith, need, ap length pending, length-drop end old.pending, fits);
-  near = λ rest broken may. inl refl;
+pub thrifty_then : (known : Known) (actor : ℕ) (s t : Stage) (p q : List ℕ) (a b : Kept) → queue_at a.queues actor ≡ [] → queue_at b.queues actor ≡ [] → (s ≢ Begun → (q ≡ []) × (t ≡ s))
+    → Spends known s p no_ask a b → IsThrifty known actor s p a → IsThrifty known actor t q b → IsThrifty known actor t (p ++ q) a
+thrifty_then known actor s t p q a b empty empty' stayed spends first second = record {
+  near = λ rest broken may.
+      let may' : May s (q ++ rest) broken = may_back s t q rest broken stayed may in
+      let none : spends.own actor ≡ 0 = omega (arith, spends.queued actor, ap length empty, ap length empty') in
+      let one : cost_from known a (p ++ (q ++ rest)) broken actor + length b.pending ≡ length a.pending + length p + cost_from known b (q ++ rest) broken actor = omega (arith, spends.cost (q ++ rest) broken may' actor 0, later_same known broken actor a.lines (a.pending ++ (p ++ (q ++ rest))) (spends.own actor) 0 none) in
+      near_then known actor a b p q rest broken one (first.near (q ++ rest) broken may') (second.near rest broken may);
+  idle = λ waits. absurd (waits empty);
 }
 
-pub line_spends : (known : Known) (v : PartView) (old new : Kept) (len end actor : ℕ) (r : Option (Result (Option Action) ScriptFault)) → v.stage ≢ Fresh → end ≤ length old.pending
-    → ((rest : List ℕ) (broken : Bool) → May v.stage rest broken → Leads known old.lines old.pending len end rest broken)
-    → LineIs (judgement_of known (old.lines + 1) (take len old.pending)) actor end r old new → StepSpends known actor r v v old new
-line_spends known v old new len end actor None begun fits leads is = spent_line known actor v old new len end (length old.queues) is.0 begun fits leads is.1 is.2 is.3.lines is.3.pending
-line_spends known v old new len end actor (Some (Ok (Some action))) begun fits leads is = refl
-line_spends known v old new len end actor (Some (Ok None)) begun fits leads is = absurd is
-line_spends known v old new len end actor (Some (Err (Line n kind))) begun fits leads is = refl
-line_spends known v old new len end actor (Some (Err Read)) begun fits leads is = absurd is
-line_spends known v old new len end actor (Some (Err Memory)) begun fits leads is = refl
-
-pub frugal_of : (known : Known) (actor : ℕ) (v w x : PartView) (old new : Kept) → queue_at old.queues actor ≡ [] → Spends known actor v w old new → x ≡ w → Frugal known actor v x old
-frugal_of known actor v w x old new empty spent same = rw same (record { piece = spent.piece; reads = spent.reads; near = spent.near; idle = λ waits. absurd (waits empty) })
-
-pub frugal_none : (known : Known) (actor : ℕ) (v : PartView) (old : Kept) → v.stage ≢ Fresh → Frugal known actor v v old
-frugal_none known actor v old begun = record { piece = []; reads = reads_none v begun; near = λ rest broken may. inl refl; idle = λ waits. refl }
+-- ---- an Ask
+pub frugal_of : (known : Known) (actor : ℕ) (answer : Result (Option Action) ScriptFault) (v w : PartView) (old new : Kept) → Ends known actor answer v w old new → Frugal known actor v w old
+frugal_of known actor (Ok found) v w old new is = record { piece = is.piece; reads = is.reads; near = is.thrifty.near; idle = is.thrifty.idle }
+frugal_of known actor (Err (Line n kind)) v w old new is = record { piece = is.piece; reads = is.reads; near = is.thrifty.near; idle = is.thrifty.idle }
+frugal_of known actor (Err Read) v w old new is = record { piece = is.piece; reads = is.reads; near = is.thrifty.near; idle = is.thrifty.idle }
+frugal_of known actor (Err Memory) v w old new is = record { piece = is.piece; reads = is.reads; near = is.thrifty.near; idle = is.thrifty.idle }

@@ -109,7 +109,7 @@ tells_end known stage kept actor over none empty = stuck known actor (Ok None) s
     let may' : (rest ≡ []) × (broken ≡ false) = rw over at may in
     rw (may'.0, may'.1, none, empty) refl)
 
-none_left : (known : Known) (lines : ℕ) (bytes : List ℕ) → IsOpen lines bytes → judgements known lines (bytes ++ []) true ≡ []
+pub none_left : (known : Known) (lines : ℕ) (bytes : List ℕ) → IsOpen lines bytes → judgements known lines (bytes ++ []) true ≡ []
 none_left known lines bytes unended =
     ap (λ (list : List (List ℕ)). line_judgements known lines (lines_among true lines list)) (ap (slice_split is_newline) (append-nil bytes) ∙ split_none is_newline bytes unended.unended)
     ∙ rw unended.not_bad refl

@@ -1,6 +1,6 @@
 -- How many bytes of a script the answer to an Ask needs: first the line that decides it, then
 -- the bytes through it.
-use Rattle.std.specs.Prelude.{ℕ, zero, suc, Bool, true, false, ◌+◌, ◌-◌, ◌==◌, List, [], ◌∷◌, length, min, Option, None, Some, Ok, Err, option_map, if◌then◌else◌, nat_lt}
+use Rattle.std.specs.Prelude.{ℕ, zero, suc, Bool, true, false, ◌+◌, ◌-◌, ◌==◌, List, [], ◌∷◌, length, max, min, Option, None, Some, Ok, Err, option_map, if◌then◌else◌, nat_lt}
 use Rattle.std.specs.List.{slice_split}
 use Rattle.sg_edge.specs.Sources.{Source}
 use Rattle.sg_script.specs.declared.fault.LineFault.TheVariants.{TooLong}
@@ -60,3 +60,16 @@ need_from known broken actor before bytes earlier =
 
 abbrev pub need_of : Known → Source → ℕ → ℕ → ℕ
 need_of known source actor earlier = need_from known source.broken actor 0 source.bytes earlier
+
+-- ---- the Asks of a run
+-- the greatest of so many first values, 0 of none
+abbrev pub greatest : ℕ → (ℕ → ℕ) → ℕ
+greatest zero value = 0
+greatest (suc n) value = max (value n) (greatest n value)
+
+-- The bytes that so many Asks of each actor need, where identifiers go up to this one: the most
+-- that one of these Asks does.
+abbrev pub needed_by : Known → Source → ℕ → (ℕ → ℕ) → ℕ
+needed_by known source actors asks =
+    greatest (actors + 1)
+    (λ actor. greatest (asks actor) (λ earlier. need_of known source actor earlier))

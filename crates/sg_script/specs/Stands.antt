@@ -10,7 +10,9 @@ use Rattle.sg_script.specs.Known.{Known}
 use Rattle.sg_script.specs.declared.script.Script.{Script}
 use Rattle.sg_script.specs.declared.fault.ScriptFault.{ScriptFault}
 use Rattle.sg_script.specs.Answer.{judgements, actions_of, first_bad, answer_by, answer_of}
-use Rattle.sg_script.specs.Rest.{May}
+use Rattle.sg_edge.specs.Sources.{Source}
+use Rattle.sg_script.specs.Needed.{need_from, need_of}
+use Rattle.sg_script.specs.Rest.{GoesOn, May}
 use Rattle.sg_script.specs.kept.Queues.{queue_at}
 use Rattle.sg_edge.specs.declared.files.Stage.TheVariants.{Fresh, Broken, Begun}
 use Rattle.sg_script.specs.declared.fault.ScriptFault.TheVariants.{Line, Read, Memory}
@@ -41,12 +43,17 @@ answer_from known kept rest broken actor earlier =
     (slice_get (queue_at kept.queues actor ++ actions_of actor more) earlier)
 
 -- The script stands for these bytes and Asks: whatever may still come, each later Ask has its
--- answer by what is kept.
-abbrev pub Stands : Known → List ℕ → Stage → (ℕ → ℕ) → Kept → Type 0
-Stands known taken stage asks kept = (rest : List ℕ) (broken : Bool) → May stage rest broken →
-    (actor later : ℕ) →
-    answer_of known (record { bytes = taken ++ rest; broken = broken }) actor (asks actor + later)
-    ≡ answer_from known kept rest broken actor later
+-- answer by what is kept; and where no action waits for it, what it needs lies behind what was
+-- taken off the front.
+pub record Stands (known : Known) (taken : List ℕ) (stage : Stage) (asks : ℕ → ℕ)
+    (kept : Kept) : Type 0 where
+  pub answers : (rest : List ℕ) (broken : Bool) → May stage rest broken → (actor later : ℕ) →
+      answer_of known (record { bytes = taken ++ rest; broken = broken }) actor (asks actor + later)
+      ≡ answer_from known kept rest broken actor later
+  pub needs : (rest : List ℕ) (broken : Bool) → May stage rest broken → (actor later : ℕ) →
+      need_of known (record { bytes = taken ++ rest; broken = broken }) actor
+      (asks actor + length (queue_at kept.queues actor) + later) + length kept.pending
+      ≡ length taken + need_from known broken actor kept.lines (kept.pending ++ rest) later
 
 -- this piece was taken, and the name stays; the part broke only by a call that failed
 pub record Reads (piece : List ℕ) (old new : PartView) : Type 0 where
@@ -62,22 +69,30 @@ pub record Reads (piece : List ℕ) (old new : PartView) : Type 0 where
 abbrev pub one_more : ℕ → (ℕ → ℕ) → ℕ → ℕ
 one_more actor asks other = if other == actor then suc (asks other) else asks other
 
+-- for this Ask nothing was read, or what was taken in all is less than a piece more than it needs
+abbrev pub IsNearNeed : Known → List ℕ → List ℕ → Stage → ℕ → ℕ → Type 0
+IsNearNeed known taken piece stage actor earlier =
+    (source : Source) → GoesOn (taken ++ piece) stage source → (piece ≡ [])
+    ⊎ (length (taken ++ piece) ≤ need_of known source actor earlier + 4095)
+
 -- the answer is the whole script's, and the script stands for what was read and asked
 pub record IsAsked (known : Known) (taken : List ℕ) (asks : ℕ → ℕ) (actor : ℕ)
     (answer : Result (Option Action) ScriptFault) (old_part new_part : PartView)
     (new : Kept) : Type 0 where
   pub piece : List ℕ
   pub reads : Reads piece old_part new_part
+  pub near : IsNearNeed known taken piece new_part.stage actor (asks actor)
   pub answer_is : (rest : List ℕ) (broken : Bool) → May new_part.stage rest broken →
       answer_of known (record { bytes = (taken ++ piece) ++ rest; broken = broken }) actor
       (asks actor) ≡ answer
   pub stands : Stands known (taken ++ piece) new_part.stage (one_more actor asks) new
 
 -- without memory the Ask wasn't answered, and the script stands for what was read
-pub record IsCut (known : Known) (taken : List ℕ) (asks : ℕ → ℕ) (old_part new_part : PartView)
-    (new : Kept) : Type 0 where
+pub record IsCut (known : Known) (taken : List ℕ) (asks : ℕ → ℕ) (actor : ℕ)
+    (old_part new_part : PartView) (new : Kept) : Type 0 where
   pub piece : List ℕ
   pub reads : Reads piece old_part new_part
+  pub near : IsNearNeed known taken piece new_part.stage actor (asks actor)
   pub stands : Stands known (taken ++ piece) new_part.stage asks new
 
 -- What an Ask did that had this answer. Before it these bytes were taken, and so many Asks of
@@ -88,7 +103,7 @@ AskIs known taken asks actor (Ok answer) = IsAsked known taken asks actor (Ok an
 AskIs known taken asks actor (Err (Line n kind)) =
     IsAsked known taken asks actor (Err (Line n kind))
 AskIs known taken asks actor (Err Read) = IsAsked known taken asks actor (Err Read)
-AskIs known taken asks actor (Err Memory) = IsCut known taken asks
+AskIs known taken asks actor (Err Memory) = IsCut known taken asks actor
 
 -- what an Ask did, whatever was taken and asked before it
 abbrev pub LeadsAsk : Known → ℕ → Result (Option Action) ScriptFault → PartView → PartView → Kept →
@@ -96,6 +111,23 @@ abbrev pub LeadsAsk : Known → ℕ → Result (Option Action) ScriptFault → P
 LeadsAsk known actor answer old_part new_part old new = (taken : List ℕ) (asks : ℕ → ℕ) →
     Stands known taken old_part.stage asks old →
     AskIs known taken asks actor answer old_part new_part new
+
+-- so many bytes are less than a piece more than one of so many Asks of each actor needs
+pub record HasNeed (known : Known) (source : Source) (asks : ℕ → ℕ) (count : ℕ) : Type 0 where
+  pub actor : ℕ
+  pub earlier : ℕ
+  pub made : earlier < asks actor
+  pub few : count ≤ need_of known source actor earlier + 4095
+
+-- they are, or they are none
+abbrev pub IsWithinNeed : Known → Source → (ℕ → ℕ) → ℕ → Type 0
+IsWithinNeed known source asks count = (count ≡ 0) ⊎ HasNeed known source asks count
+
+-- so it is with what was taken, whatever may still come
+abbrev pub AreNeeded : Known → List ℕ → Stage → (ℕ → ℕ) → Type 0
+AreNeeded known taken stage asks =
+    (source : Source) → GoesOn taken stage source →
+    IsWithinNeed known source asks (length taken)
 
 -- a read fault is told only where the part is broken
 abbrev pub IsRead : Result (Option Action) ScriptFault → PartView → Type 0

@@ -1,7 +1,17 @@
-//! A law of answers to Asks, the contract of a function that does nothing.
-ghost use Rattle.sg_script.specs.Laws.{FaultsRepeat};
+//! Laws of Asks, each the contract of a function that does nothing.
+ghost use Rattle.sg_script.specs.Laws.{FaultsRepeat, NeedIsMost, NeedsAddUp};
 
 /// The fault that an Ask of an actor is told is told again to each later Ask of it.
 pub fn faults_repeat()
     ensures { FaultsRepeat }
+{}
+
+/// What is read over a run stays within a piece of what its Asks need, as it does for each of them.
+pub fn needs_add_up()
+    ensures { NeedsAddUp }
+{}
+
+/// What is within a piece of what an Ask needs is within a piece of what all Asks need.
+pub fn need_is_most()
+    ensures { NeedIsMost }
 {}

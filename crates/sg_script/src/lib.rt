@@ -16,6 +16,6 @@ mod verbs;
 mod words;
 
 pub use fault::{LineFault, ScriptFault};
-pub use laws::faults_repeat;
+pub use laws::{faults_repeat, need_is_most, needs_add_up};
 pub use line::{Entry, read_line};
 pub use script::Script;

@@ -38,7 +38,6 @@ pub struct Script {
 impl Script {
     ghost use Rattle.sg_edge.specs.declared.files.Stage.{Stage};
     ghost use Rattle.sg_script.specs.Frugal.{Frugal};
-    ghost use Rattle.sg_script.specs.kept.Spending.{StepSpends};
     ghost use Rattle.sg_script.specs.Known.{Known};
     ghost use Rattle.sg_script.specs.kept.Queues.{queue_at};
     ghost use Rattle.sg_script.specs.Stands.{AreLimited, IsLimited, IsRead, LeadsAsk, BreaksOnFailure, actors_of, kept_of, Stands};
@@ -157,9 +156,6 @@ impl Script {
             (kept_of self.new) }
         ensures limited { IfSome result (IsLimited (extent_of deployment.now)) }
         ensures waiting { AreLimited (extent_of deployment.now) (kept_of self.new) }
-        ensures spent { StepSpends (known_in deployment.now) actor.0 result
-            (F.shows files.old Part.Script) (F.shows files.new Part.Script) (kept_of self.old)
-            (kept_of self.new) }
         ensures others { Only Part.Script (F.shows files.old) (F.shows files.new) }
     {
         let front = front_of(self.pending.bytes(), self.before, files.stage(Part::Script));
@@ -190,8 +186,6 @@ impl Script {
             (kept_of self.new) }
         ensures limited { IsLimited (extent_of deployment.now) result }
         ensures waiting { AreLimited (extent_of deployment.now) (kept_of self.new) }
-        ensures frugal { Frugal (known_in deployment.now) actor.0 (F.shows files.old Part.Script)
-            (F.shows files.new Part.Script) (kept_of self.old) }
         ensures read { IsRead result (F.shows files.new Part.Script) }
         ensures others { Only Part.Script (F.shows files.old) (F.shows files.new) }
     {
@@ -219,8 +213,6 @@ impl Script {
             (kept_of self.new) }
         ensures limited { IsLimited (extent_of deployment.now) result }
         ensures waiting { AreLimited (extent_of deployment.now) (kept_of self.new) }
-        ensures frugal { Frugal (known_in deployment.now) actor.0 (F.shows files.old Part.Script)
-            (F.shows files.new Part.Script) (kept_of self.old) }
         ensures read { IsRead result (F.shows files.new Part.Script) }
         ensures others { Only Part.Script (F.shows files.old) (F.shows files.new) }
     {

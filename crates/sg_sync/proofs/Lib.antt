@@ -1,3 +1,4 @@
 pub mod Counts
-pub mod Chains
 pub mod Losses
+pub mod Slots
+pub mod Leaving

@@ -1,5 +1,5 @@
 pub mod Queues
-pub mod Links
 pub mod Objects
-pub mod Kept
 pub mod Laws
+pub mod Tested
+pub mod kept

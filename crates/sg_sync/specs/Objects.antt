@@ -4,7 +4,7 @@ use Rattle.std.specs.Option.{option_to_list}
 use Rattle.sg_base.specs.declared.ids.ActorId.{ActorId}
 use Rattle.sg_sync.specs.declared.outcome.Outcome.{Outcome}
 use Rattle.sg_sync.specs.declared.outcome.Outcome.TheVariants.{GoesOn, Waits, Refused}
-use Rattle.sg_sync.specs.Queues.{queue_at, front, joined, shortened, times, waits}
+use Rattle.sg_sync.specs.Queues.{queue_at, front, joined, left, shortened, times, waits, without}
 
 -- the owner of each mutex and who waits for it; the count of each semaphore and who waits there; who has arrived at the barrier, in order, and how many members it has; and who else went on by the last call
 pub record Objects : Type 0 where
@@ -78,3 +78,7 @@ arrived actor o =
     if nat_lt (length o.arrived + 1) o.members
     then record { outcome = Waits; after = record o { arrived = o.arrived ++ actor ∷ []; others = [] } }
     else record { outcome = GoesOn; after = record o { arrived = []; others = o.arrived } }
+
+-- an actor waits nowhere any more, and nobody goes on by that
+abbrev pub withdrawn : ActorId → Objects → Objects
+withdrawn actor o = record o { locking = left actor o.locking; acquiring = left actor o.acquiring; arrived = without actor o.arrived; others = [] }

@@ -1,5 +1,5 @@
 -- First-in-first-out queues of actors.
-use Rattle.std.specs.Prelude.{ℕ, ◌<◌, ◌≤◌, ◌==◌, List, [], ◌∷◌, ◌++◌, Option, None, Some, slice_index_or, slice_set}
+use Rattle.std.specs.Prelude.{ℕ, ◌<◌, ◌≤◌, ◌==◌, not, List, [], ◌∷◌, ◌++◌, map, filter, Option, None, Some, slice_index_or, slice_set}
 use Rattle.std.specs.List.{sum_by, count_by}
 use Rattle.sg_base.specs.declared.ids.ActorId.{ActorId}
 
@@ -30,6 +30,13 @@ joined queues at actor = slice_set queues at (queue_at queues at ++ actor ∷ []
 -- the first leaves a queue, if anybody waits there
 abbrev pub shortened : List (List ActorId) → ℕ → List (List ActorId)
 shortened queues at = slice_set queues at (behind (queue_at queues at))
+
+-- an actor leaves a queue, and all of them, from wherever it stands there
+abbrev pub without : ActorId → List ActorId → List ActorId
+without actor queue = filter (λ (other : ActorId). not (other.0 == actor.0)) queue
+
+abbrev pub left : ActorId → List (List ActorId) → List (List ActorId)
+left actor queues = map (without actor) queues
 
 -- how often an actor waits in a queue, and in all
 abbrev pub times : ActorId → List ActorId → ℕ

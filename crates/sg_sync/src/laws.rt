@@ -1,7 +1,7 @@
 //! Laws of the calls.
-ghost use Rattle.std.specs.Prelude.{◌≡◌, ◌<◌, length, ℕ};
+ghost use Rattle.std.specs.Prelude.{◌≡◌, ◌≢◌, ◌<◌, length, ℕ};
 ghost use Rattle.sg_base.specs.declared.ids.ActorId.{ActorId};
-ghost use Rattle.sg_sync.specs.Objects.{Done, Objects, acquired, arrived, locked, released, unlocked, waiting};
+ghost use Rattle.sg_sync.specs.Objects.{Done, Objects, acquired, arrived, locked, released, unlocked, waiting, withdrawn};
 ghost use Rattle.sg_sync.specs.Laws.{KeepsAll, WaitsOnce};
 
 /// No call loses an actor that waits, or lets one go on that doesn't.
@@ -21,4 +21,11 @@ pub fn nobody_is_lost()
 pub fn actors_wait_once()
     ensures { (o : Objects) (caller : ActorId) (done : Done) → KeepsAll caller o done
         → waiting o caller ≡ 0 → WaitsOnce o → WaitsOnce done.after }
+{}
+
+/// Who leaves waits nowhere any more, and all others wait as before.
+pub fn leaving_lets_others_wait()
+    ensures gone { (o : Objects) (actor : ActorId) → waiting (withdrawn actor o) actor ≡ 0 }
+    ensures others { (o : Objects) (actor other : ActorId) → other.0 ≢ actor.0
+        → waiting (withdrawn actor o) other ≡ waiting o other }
 {}

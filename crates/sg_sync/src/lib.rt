@@ -1,12 +1,13 @@
 //! Mutexes, semaphores and the barrier: the simulated objects at which actors wait.
 #![tactic(auto)]
 
+mod arrivals;
 mod laws;
 mod outcome;
 mod queues;
 mod sync;
 
-pub use laws::{actors_wait_once, nobody_is_lost};
+pub use laws::{actors_wait_once, leaving_lets_others_wait, nobody_is_lost};
 pub use outcome::Outcome;
 pub use sync::Sync;
 

@@ -2,8 +2,9 @@
 ghost use Rattle.std.specs.Prelude.{◌≡◌, ◌<◌, ◌≤◌, ◌+◌, ◌∷◌, ◌++◌, ◌^◌, [], None, IfOk, length, replicate};
 ghost use Rattle.std.specs.Vec.{vec_capacity};
 ghost use Rattle.sg_sync.specs.Queues.{IsActor, queue_at};
-ghost use Rattle.sg_sync.specs.Objects.{acquired, arrived, count_of, locked, passed_on, released, unlocked, waiting};
+ghost use Rattle.sg_sync.specs.Objects.{acquired, arrived, count_of, locked, passed_on, released, unlocked, waiting, withdrawn};
 
+use crate::arrivals::Arrivals;
 use crate::outcome::Outcome;
 use crate::queues::Queues;
 use sg_base::{ActorId, Memory};
@@ -21,8 +22,7 @@ pub struct Sync {
     counts: Vec<u64>,
     acquiring: Queues,
     members: u32,
-    /// One queue: those that have arrived at the barrier.
-    arrived: Queues,
+    arrived: Arrivals,
     others: Vec<ActorId>,
 }
 
@@ -31,7 +31,7 @@ impl Model for Sync {
     ghost use Rattle.std.specs.Vec.{vec_capacity};
     ghost use Rattle.sg_sync.specs.Queues.{queue_at};
     ghost use Rattle.sg_sync.specs.Objects.{Objects};
-    ghost use Rattle.sg_sync.specs.Kept.{IsKept};
+    ghost use Rattle.sg_sync.specs.kept.Objects.{IsKept};
 
     ghost Value = { Objects };
 
@@ -52,17 +52,17 @@ fn tell(others: &mut Vec<ActorId>, actor: ActorId)
     }
 }
 
-// All leave the first queue, in order.
-fn tell_all(others: &mut Vec<ActorId>, queues: &mut Queues)
-    requires queue { length queues.old.queues ≡ 1 }
+// All leave the barrier, in order.
+fn tell_all(others: &mut Vec<ActorId>, arrived: &mut Arrivals)
+    requires queue { length arrived.old.queues ≡ 1 }
     requires none { others.old.items ≡ [] }
-    requires few { length (queue_at queues.old.queues 0) ≤ queues.old.actors }
-    requires room { queues.old.actors ≤ vec_capacity others.old }
-    ensures all { others.new.items ≡ queue_at queues.old.queues 0 }
+    requires few { length (queue_at arrived.old.queues 0) ≤ arrived.old.actors + 2 }
+    requires room { arrived.old.actors + 2 ≤ vec_capacity others.old }
+    ensures all { others.new.items ≡ queue_at arrived.old.queues 0 }
     ensures capacity { vec_capacity others.old ≤ vec_capacity others.new }
-    ensures left { queues.new ≡ record queues.old { queues = [] ∷ [] } }
+    ensures left { arrived.new ≡ record arrived.old { queues = [] ∷ [] } }
 {
-    while let Some(actor) = queues.leave(0) {
+    while let Some(actor) = arrived.take_first() {
         tell(others, actor);
     }
 }
@@ -93,8 +93,8 @@ impl Sync {
             counts: Vec::from_slice(alloc, semaphores)?,
             acquiring: Queues::new(alloc, actors, semaphores.len())?,
             members,
-            arrived: Queues::new(alloc, actors, 1)?,
-            others: Vec::with_capacity(alloc, actors as usize)?,
+            arrived: Arrivals::new(alloc, actors)?,
+            others: Vec::with_capacity(alloc, actors as usize + 2)?,
         })
     }
 
@@ -113,7 +113,7 @@ impl Sync {
                 Outcome::GoesOn
             }
             Some(_) => {
-                self.locking.join(mutex as usize, actor);
+                self.locking.join(mutex, actor);
                 Outcome::Waits
             }
         }
@@ -141,7 +141,7 @@ impl Sync {
         requires none { self.old.others ≡ [] }
         ensures { self.new ≡ (passed_on mutex self.old).after }
     {
-        let first = self.locking.leave(mutex as usize);
+        let first = self.locking.take_first(mutex);
         self.owners[mutex as usize] = first;
         if let Some(first) = first {
             tell(&mut self.others, first);
@@ -162,7 +162,7 @@ impl Sync {
             self.counts[semaphore as usize] = count - 1;
             Outcome::GoesOn
         } else {
-            self.acquiring.join(semaphore as usize, actor);
+            self.acquiring.join(semaphore, actor);
             Outcome::Waits
         }
     }
@@ -175,7 +175,7 @@ impl Sync {
         ensures after { self.new ≡ (released semaphore self.old).after }
     {
         self.others.clear();
-        match self.acquiring.leave(semaphore as usize) {
+        match self.acquiring.take_first(semaphore) {
             Some(first) => tell(&mut self.others, first),
             None => self.counts[semaphore as usize] += 1,
         }
@@ -191,13 +191,25 @@ impl Sync {
         ensures after { self.new ≡ (arrived actor self.old).after }
     {
         self.others.clear();
-        if self.arrived.len(0) + 1 < self.members as usize {
-            self.arrived.join(0, actor);
+        if self.arrived.len() as u64 + 1 < self.members as u64 {
+            self.arrived.join(actor);
             Outcome::Waits
         } else {
             tell_all(&mut self.others, &mut self.arrived);
             Outcome::GoesOn
         }
+    }
+
+    /// An actor leaves whatever queue it waits in, from wherever it stands there, and all others keep their order. It
+    /// keeps the mutexes that it owns. Nobody goes on by this.
+    pub fn leave(&mut self, actor: ActorId)
+        requires { IsActor self.old.actors actor }
+        ensures { self.new ≡ withdrawn actor self.old }
+    {
+        self.others.clear();
+        self.locking.leave(actor);
+        self.acquiring.leave(actor);
+        self.arrived.leave(actor);
     }
 
     /// Who goes on by the last call beside the one that made it, in order. That one goes on before them at a mutex and

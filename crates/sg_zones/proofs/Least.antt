@@ -8,7 +8,7 @@ use Rattle.sg_rows.specs.declared.rows.ZoneRouteRow.{ZoneRouteRow}
 use Rattle.sg_rows.specs.declared.rows.ZoneRow.{ZoneRow}
 use Rattle.sg_tree.specs.Along.{along, first}
 use Rattle.sg_zones.specs.AllFaults.{TellsLeast, IsBefore, IsRising, faults_along, gateway_faults, kind_number, as_list, place_of, root_faults, row_faults, tree_faults}
-use Rattle.sg_zones.specs.Faults.{cycle_at, deep_at, dst_gateway_at, first_along, gateway_at, gateways_at, place, root_fault, roots, route_at, row_fault, spoke_at, src_gateway_at, fault_if, tree_fault, zone_route_at}
+use Rattle.sg_zones.specs.Faults.{child_zone_at, cycle_at, deep_at, dst_gateway_at, first_along, gateway_at, gateways_at, place, root_fault, roots, route_at, row_fault, spoke_at, src_gateway_at, fault_if, tree_fault, zone_route_at}
 use Rattle.sg_zones.specs.Paths.{ancestors_of}
 use Rattle.sg_zones.specs.Tree.{Tree, tree_of}
 use Rattle.sg_zones.specs.declared.fault.ZoneFault.{ZoneFault}
@@ -59,18 +59,21 @@ first-row_faults : (t : Tree) (p : Platform) → first (row_faults t p) ≡ row_
 first-row_faults t p =
     let g = along (gateway_faults t) 0 p.zone_routes in
     let s = faults_along (gateway_at t) p.spokes in
+    let c = faults_along (child_zone_at t) p.zones in
     let r = faults_along (route_at t) p.routes in
     let z = faults_along (zone_route_at t) p.zone_routes in
     let w = faults_along (spoke_at t) p.spokes in
     let z1 = first_along (zone_route_at t) 0 p.zone_routes in
     let w1 = first_along (spoke_at t) 0 p.spokes in
     let r1 = first_along (route_at t) 0 p.routes in
+    let c1 = first_along (child_zone_at t) 0 p.zones in
     let s1 = first_along (gateway_at t) 0 p.spokes in
     let g1 = first_along (gateways_at t) 0 p.zone_routes in
-    first_of_both g (s ++ (r ++ (z ++ w))) g1 (option_or s1 (option_or r1 (option_or z1 w1))) (first-along (gateway_faults t) (gateways_at t) (first-gateway_faults t) 0 p.zone_routes)
-    (first_of_both s (r ++ (z ++ w)) s1 (option_or r1 (option_or z1 w1)) (first-faults_along (gateway_at t) p.spokes)
+    first_of_both g (s ++ (c ++ (r ++ (z ++ w)))) g1 (option_or s1 (option_or c1 (option_or r1 (option_or z1 w1)))) (first-along (gateway_faults t) (gateways_at t) (first-gateway_faults t) 0 p.zone_routes)
+    (first_of_both s (c ++ (r ++ (z ++ w))) s1 (option_or c1 (option_or r1 (option_or z1 w1))) (first-faults_along (gateway_at t) p.spokes)
+    (first_of_both c (r ++ (z ++ w)) c1 (option_or r1 (option_or z1 w1)) (first-faults_along (child_zone_at t) p.zones)
     (first_of_both r (z ++ w) r1 (option_or z1 w1) (first-faults_along (route_at t) p.routes)
-    (first_of_both z w z1 w1 (first-faults_along (zone_route_at t) p.zone_routes) (first-faults_along (spoke_at t) p.spokes))))
+    (first_of_both z w z1 w1 (first-faults_along (zone_route_at t) p.zone_routes) (first-faults_along (spoke_at t) p.spokes)))))
 
 -- ---- they rise
 
@@ -198,31 +201,37 @@ by_table : (n kind table : ℕ) (xs ys : List ZoneFault) → Rise kind table n x
 by_table n kind table xs ys r ry ey =
     rising_append xs ys r.rise ry (each_cross IsBefore (IsIn kind table n) (IsLater kind table) (λ a b p q. inr (p.0 ∙ sym q.0, inl (omega (arith, p.1, q.1)))) xs ys r.each ey)
 
--- these five lists, whose kinds and tables rise, in the order of the rows
-rows_rise : (g s r z w : List ZoneFault) → Rise 5 6 1 g → Rise 5 7 1 s → Rise 6 5 1 r → Rise 6 6 1 z → Rise 6 7 1 w
-    → IsRising (g ++ (s ++ (r ++ (z ++ w)))) × Each (IsFrom 5) (g ++ (s ++ (r ++ (z ++ w))))
-rows_rise g s r z w rg rs rr rz rw = (
-  rising_append g (s ++ (r ++ (z ++ w))) rg.rise spokes_on
-      (each_cross IsBefore (IsIn 5 6 1) (λ f. IsLater 5 6 f ⊎ IsFrom 6 f) (λ a b p q. first_before a b p q) g (s ++ (r ++ (z ++ w))) rg.each behind),
-  each_append (IsFrom 5) g (s ++ (r ++ (z ++ w))) (from 5 1 5 6 g (omega arith) rg)
-      (each_append (IsFrom 5) s (r ++ (z ++ w)) (from 5 1 5 7 s (omega arith) rs) (each_mono (IsFrom 6) (IsFrom 5) (λ f p. omega (arith, p)) (r ++ (z ++ w)) six)),
+-- the four lists of the last kind, whose tables rise
+last_rise : (c r z w : List ZoneFault) → Rise 6 1 1 c → Rise 6 5 1 r → Rise 6 6 1 z → Rise 6 7 1 w → IsRising (c ++ (r ++ (z ++ w))) × Each (IsFrom 6) (c ++ (r ++ (z ++ w)))
+last_rise c r z w rc rr rz rw = (
+  by_table 1 6 1 c (r ++ (z ++ w)) rc routes_on
+      (each_append (IsLater 6 1) r (z ++ w) (later 1 6 1 5 r (omega arith) rr) (each_append (IsLater 6 1) z w (later 1 6 1 6 z (omega arith) rz) (later 1 6 1 7 w (omega arith) rw))),
+  each_append (IsFrom 6) c (r ++ (z ++ w)) (from 6 1 6 1 c (omega arith) rc)
+      (each_append (IsFrom 6) r (z ++ w) (from 6 1 6 5 r (omega arith) rr) (each_append (IsFrom 6) z w (from 6 1 6 6 z (omega arith) rz) (from 6 1 6 7 w (omega arith) rw))),
 )
   where
-    six : Each (IsFrom 6) (r ++ (z ++ w))
-    six = each_append (IsFrom 6) r (z ++ w) (from 6 1 6 5 r (omega arith) rr) (each_append (IsFrom 6) z w (from 6 1 6 6 z (omega arith) rz) (from 6 1 6 7 w (omega arith) rw))
-
     routes_on : IsRising (r ++ (z ++ w))
     routes_on =
         by_table 1 6 5 r (z ++ w) rr (by_table 1 6 6 z w rz rw.rise (later 1 6 6 7 w (omega arith) rw))
         (each_append (IsLater 6 5) z w (later 1 6 5 6 z (omega arith) rz) (later 1 6 5 7 w (omega arith) rw))
 
-    spokes_on : IsRising (s ++ (r ++ (z ++ w)))
-    spokes_on = below_from 5 s (r ++ (z ++ w)) rs.rise (up_to 5 1 5 7 s (omega arith) rs) routes_on six
+-- two lists of the kind before, and what rises behind them
+rows_rise : (g s rest : List ZoneFault) → Rise 5 6 1 g → Rise 5 7 1 s → IsRising rest × Each (IsFrom 6) rest
+    → IsRising (g ++ (s ++ rest)) × Each (IsFrom 5) (g ++ (s ++ rest))
+rows_rise g s rest rg rs (rising, six) = (
+  rising_append g (s ++ rest) rg.rise spokes_on
+      (each_cross IsBefore (IsIn 5 6 1) (λ f. IsLater 5 6 f ⊎ IsFrom 6 f) (λ a b p q. first_before a b p q) g (s ++ rest) rg.each behind),
+  each_append (IsFrom 5) g (s ++ rest) (from 5 1 5 6 g (omega arith) rg)
+      (each_append (IsFrom 5) s rest (from 5 1 5 7 s (omega arith) rs) (each_mono (IsFrom 6) (IsFrom 5) (λ f p. omega (arith, p)) rest six)),
+)
+  where
+    spokes_on : IsRising (s ++ rest)
+    spokes_on = below_from 5 s rest rs.rise (up_to 5 1 5 7 s (omega arith) rs) rising six
 
-    behind : Each (λ f. IsLater 5 6 f ⊎ IsFrom 6 f) (s ++ (r ++ (z ++ w)))
+    behind : Each (λ f. IsLater 5 6 f ⊎ IsFrom 6 f) (s ++ rest)
     behind =
-        each_append (λ f. IsLater 5 6 f ⊎ IsFrom 6 f) s (r ++ (z ++ w)) (each_mono (IsLater 5 6) (λ f. IsLater 5 6 f ⊎ IsFrom 6 f) (λ f p. inl p) s (later 1 5 6 7 s (omega arith) rs))
-        (each_mono (IsFrom 6) (λ f. IsLater 5 6 f ⊎ IsFrom 6 f) (λ f p. inr p) (r ++ (z ++ w)) six)
+        each_append (λ f. IsLater 5 6 f ⊎ IsFrom 6 f) s rest (each_mono (IsLater 5 6) (λ f. IsLater 5 6 f ⊎ IsFrom 6 f) (λ f p. inl p) s (later 1 5 6 7 s (omega arith) rs))
+        (each_mono (IsFrom 6) (λ f. IsLater 5 6 f ⊎ IsFrom 6 f) (λ f p. inr p) rest six)
 
     first_before : (a b : ZoneFault) → IsIn 5 6 1 a → (IsLater 5 6 b ⊎ IsFrom 6 b) → IsBefore a b
     first_before a b p (inl q) = inr (p.0 ∙ sym q.0, inl (omega (arith, p.1, q.1)))
@@ -230,12 +239,15 @@ rows_rise g s r z w rg rs rr rz rw = (
 
 row_faults_rise : (t : Tree) (p : Platform) → IsRising (row_faults t p) × Each (IsFrom 5) (row_faults t p)
 row_faults_rise t p =
-    rows_rise (along (gateway_faults t) 0 p.zone_routes) (faults_along (gateway_at t) p.spokes) (faults_along (route_at t) p.routes) (faults_along (zone_route_at t) p.zone_routes) (faults_along (spoke_at t) p.spokes)
+    rows_rise (along (gateway_faults t) 0 p.zone_routes) (faults_along (gateway_at t) p.spokes)
+    (faults_along (child_zone_at t) p.zones ++ (faults_along (route_at t) p.routes ++ (faults_along (zone_route_at t) p.zone_routes ++ faults_along (spoke_at t) p.spokes)))
     (gateways_rise t p.zone_routes)
     (told_rise 5 7 (gateway_at t) (λ i x. one_each (IsOf 5 7 (i + 1)) _ _ (refl, refl, refl)) p.spokes)
+    (last_rise (faults_along (child_zone_at t) p.zones) (faults_along (route_at t) p.routes) (faults_along (zone_route_at t) p.zone_routes) (faults_along (spoke_at t) p.spokes)
+    (told_rise 6 1 (child_zone_at t) (λ i x. one_each (IsOf 6 1 (i + 1)) _ _ (refl, refl, refl)) p.zones)
     (told_rise 6 5 (route_at t) (λ i x. one_each (IsOf 6 5 (i + 1)) _ _ (refl, refl, refl)) p.routes)
     (told_rise 6 6 (zone_route_at t) (λ i x. one_each (IsOf 6 6 (i + 1)) _ _ (refl, refl, refl)) p.zone_routes)
-    (told_rise 6 7 (spoke_at t) (λ i x. one_each (IsOf 6 7 (i + 1)) _ _ (refl, refl, refl)) p.spokes)
+    (told_rise 6 7 (spoke_at t) (λ i x. one_each (IsOf 6 7 (i + 1)) _ _ (refl, refl, refl)) p.spokes))
 
 pub tells_least : (p : Platform) → TellsLeast p
 tells_least p =

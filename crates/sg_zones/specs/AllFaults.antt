@@ -6,7 +6,7 @@ use Rattle.sg_rows.specs.declared.rows.ZoneRouteRow.{ZoneRouteRow}
 use Rattle.sg_rows.specs.declared.rows.ZoneRow.{ZoneRow}
 use Rattle.sg_tree.specs.Along.{along, first}
 use Rattle.sg_tree.specs.declared.fault.Place.{Place}
-use Rattle.sg_zones.specs.Faults.{place, roots, cycle_at, deep_at, src_gateway_at, dst_gateway_at, gateway_at, route_at, zone_route_at, spoke_at, zone_fault}
+use Rattle.sg_zones.specs.Faults.{place, roots, cycle_at, deep_at, src_gateway_at, dst_gateway_at, gateway_at, child_zone_at, route_at, zone_route_at, spoke_at, zone_fault}
 use Rattle.sg_zones.specs.FaultWords.{zone_place}
 use Rattle.sg_zones.specs.Paths.{ancestors_of}
 use Rattle.sg_zones.specs.Tree.{Tree, tree_of}
@@ -40,9 +40,10 @@ abbrev pub row_faults : Tree → Platform → List ZoneFault
 row_faults t p =
     along (gateway_faults t) 0 p.zone_routes
     ++ (faults_along (gateway_at t) p.spokes
+    ++ (faults_along (child_zone_at t) p.zones
     ++ (faults_along (route_at t) p.routes
     ++ (faults_along (zone_route_at t) p.zone_routes
-    ++ faults_along (spoke_at t) p.spokes)))
+    ++ faults_along (spoke_at t) p.spokes))))
 
 abbrev pub zone_faults : Platform → List ZoneFault
 zone_faults p = tree_faults p.zones ++ row_faults (tree_of p) p

@@ -7,7 +7,7 @@ use Rattle.sg_base.specs.declared.ids.PointId.{PointId}
 use Rattle.sg_base.specs.declared.ids.ZoneId.{ZoneId}
 use Rattle.sg_rows.specs.Platform.{Platform}
 use Rattle.sg_rows.specs.declared.rows.Routing.{Routing}
-use Rattle.sg_rows.specs.declared.rows.Routing.TheVariants.{Full, Star}
+use Rattle.sg_rows.specs.declared.rows.Routing.TheVariants.{Full, Star, Dijkstra}
 use Rattle.sg_rows.specs.declared.rows.RouteRow.{RouteRow}
 use Rattle.sg_rows.specs.declared.rows.SpokeRow.{SpokeRow}
 use Rattle.sg_rows.specs.declared.rows.ZoneRouteRow.{ZoneRouteRow}
@@ -78,10 +78,23 @@ gateway_at t row s = fault_if (not (child_holds t s.child s.gateway)) (GatewayOu
 abbrev pub is_full : Routing → Bool
 is_full Full = true
 is_full Star = false
+is_full Dijkstra = false
 
 abbrev pub is_star : Routing → Bool
 is_star Star = true
 is_star Full = false
+is_star Dijkstra = false
+
+abbrev pub is_dijkstra : Routing → Bool
+is_dijkstra Dijkstra = true
+is_dijkstra Full = false
+is_dijkstra Star = false
+
+-- zones of this routing have routes between points
+abbrev pub has_routes : Routing → Bool
+has_routes Full = true
+has_routes Dijkstra = true
+has_routes Star = false
 
 -- the zone whose child this is; the root is no child
 abbrev pub zone_above : Tree → Child → Option ZoneId
@@ -102,9 +115,22 @@ abbrev pub is_point : Child → Bool
 is_point (Point point) = true
 is_point (Zone zone) = false
 
--- the ends of a route stand in one Full zone
+-- the zone above is Dijkstra
+abbrev pub is_in_dijkstra : Tree → Option ZoneId → Bool
+is_in_dijkstra t None = false
+is_in_dijkstra t (Some zone) = is_dijkstra (routing_in t zone)
+
+-- no zone stands in a Dijkstra zone
+abbrev pub child_zone_at : Tree → ℕ → ZoneRow → Option ZoneFault
+child_zone_at t row z = fault_if (is_in_dijkstra t z.parent) (WrongRouting (place 1 (row + 1) 1))
+
+-- both are one zone, and it has routes between points
+abbrev pub in_one_routed : Tree → ZoneId → ZoneId → Bool
+in_one_routed t a b = a.0 == b.0 && has_routes (routing_in t a)
+
+-- the ends of a route stand in one Full or Dijkstra zone
 abbrev pub route_at : Tree → ℕ → RouteRow → Option ZoneFault
-route_at t row r = fault_if (not (in_one_full t (Some (home t r.src)) (Some (home t r.dst)))) (WrongRouting (place 5 (row + 1) 1))
+route_at t row r = fault_if (not (in_one_routed t (home t r.src) (home t r.dst))) (WrongRouting (place 5 (row + 1) 1))
 
 -- those of a zone_route are children of one Full zone, and not both points
 abbrev pub zone_route_at : Tree → ℕ → ZoneRouteRow → Option ZoneFault
@@ -130,9 +156,10 @@ abbrev pub row_fault : Tree → Platform → Option ZoneFault
 row_fault t p =
     option_or (first_along (gateways_at t) 0 p.zone_routes)
     (option_or (first_along (gateway_at t) 0 p.spokes)
+    (option_or (first_along (child_zone_at t) 0 p.zones)
     (option_or (first_along (route_at t) 0 p.routes)
     (option_or (first_along (zone_route_at t) 0 p.zone_routes)
-    (first_along (spoke_at t) 0 p.spokes))))
+    (first_along (spoke_at t) 0 p.spokes)))))
 
 abbrev pub zone_fault : Platform → Option ZoneFault
 zone_fault p = option_or (tree_fault p.zones) (row_fault (tree_of p) p)

@@ -1,11 +1,11 @@
 //! That rows stand in zones whose routing has such rows.
 ghost use Rattle.std.specs.Prelude.{◌≡◌, ◌≤◌, ◌<◌, length};
-ghost use Rattle.sg_zones.specs.Faults.{first_along, route_at, zone_route_at, spoke_at, is_point};
+ghost use Rattle.sg_zones.specs.Faults.{first_along, child_zone_at, route_at, zone_route_at, spoke_at, is_point};
 
 use crate::fault::{ZoneFault, place};
 use crate::zones::Zones;
 use sg_base::Child;
-use sg_rows::{RouteRow, SpokeRow, ZoneRouteRow};
+use sg_rows::{RouteRow, SpokeRow, ZoneRouteRow, ZoneRow};
 
 fn is_point(child: Child) -> bool
     ensures { result ≡ is_point child }
@@ -16,12 +16,23 @@ fn is_point(child: Child) -> bool
     }
 }
 
-/// That the ends of a route don't stand in one Full zone.
+/// That a zone stands in a Dijkstra zone.
+fn child_zone_at(zones: &Zones, i: usize, row: &ZoneRow) -> Option<ZoneFault>
+    requires { i < 262144 }
+    ensures { result ≡ child_zone_at zones.now i row.now }
+{
+    if zones.is_in_dijkstra(row.parent) {
+        return Some(ZoneFault::WrongRouting(place(1, i, 1)));
+    }
+    None
+}
+
+/// That the ends of a route don't stand in one Full or Dijkstra zone.
 fn route_at(zones: &Zones, i: usize, row: &RouteRow) -> Option<ZoneFault>
     requires { i < 262144 }
     ensures { result ≡ route_at zones.now i row.now }
 {
-    if zones.in_one_full(Some(zones.home(row.src)), Some(zones.home(row.dst))) {
+    if zones.in_one_routed(zones.home(row.src), zones.home(row.dst)) {
         return None;
     }
     Some(ZoneFault::WrongRouting(place(5, i, 1)))
@@ -50,7 +61,20 @@ fn spoke_at(zones: &Zones, i: usize, row: &SpokeRow) -> Option<ZoneFault>
     None
 }
 
-/// The first route in no Full zone.
+/// The first zone in a Dijkstra zone.
+pub(crate) fn first_child_zone(zones: &Zones, rows: &[ZoneRow]) -> Option<ZoneFault>
+    requires { length rows.now ≤ 262144 }
+    ensures { result ≡ first_along (child_zone_at zones.now) 0 rows.now }
+{
+    for (i, row) in rows.iter().enumerate() {
+        if let Some(fault) = child_zone_at(zones, i, row) {
+            return Some(fault);
+        }
+    }
+    None
+}
+
+/// The first route in no Full or Dijkstra zone.
 pub(crate) fn first_route(zones: &Zones, rows: &[RouteRow]) -> Option<ZoneFault>
     requires { length rows.now ≤ 262144 }
     ensures { result ≡ first_along (route_at zones.now) 0 rows.now }

@@ -1,13 +1,13 @@
 //! The zone tree.
 ghost use Rattle.std.specs.Prelude.{◌≡◌, ◌≢◌, ◌≤◌, ◌++◌, length, map, Err, IfOk};
-ghost use Rattle.sg_zones.specs.Faults.{child_holds, in_one_full, is_full, is_star, is_zone, row_fault, zone_above, zones_of};
+ghost use Rattle.sg_zones.specs.Faults.{child_holds, has_routes, in_one_full, in_one_routed, is_dijkstra, is_full, is_in_dijkstra, is_star, is_zone, row_fault, zone_above, zones_of};
 ghost use Rattle.sg_zones.specs.Tree.{depth, holds, home, parent_in, path_in, routing_in, tree_of};
 ghost use Rattle.sg_zones.specs.declared.fault.ZoneFault.TheVariants.{Memory};
 
 use crate::fault::ZoneFault;
 use crate::gateways::{first_gateway, first_gateways};
 use crate::paths::{Path, parents_of, paths_of};
-use crate::routing::{first_route, first_spoke, first_zone_route};
+use crate::routing::{first_child_zone, first_route, first_spoke, first_zone_route};
 use crate::tree::tree_fault;
 use sg_base::{Child, Memory as NoMemory, PointId, ZoneId};
 use sg_rows::{HostRow, PlatformText, RouterRow, Routing, ZoneRow};
@@ -81,6 +81,9 @@ fn row_fault(zones: &Zones, platform: &PlatformText) -> Option<ZoneFault>
         return Some(fault);
     }
     if let Some(fault) = first_gateway(zones, platform.spokes()) {
+        return Some(fault);
+    }
+    if let Some(fault) = first_child_zone(zones, platform.zones()) {
         return Some(fault);
     }
     if let Some(fault) = first_route(zones, platform.routes()) {
@@ -215,7 +218,7 @@ impl Zones {
     {
         match self.routing(zone) {
             Routing::Full => true,
-            Routing::Star => false,
+            Routing::Star | Routing::Dijkstra => false,
         }
     }
 
@@ -224,9 +227,46 @@ impl Zones {
         ensures { result ≡ is_star (routing_in self.now zone) }
     {
         match self.routing(zone) {
-            Routing::Full => false,
             Routing::Star => true,
+            Routing::Full | Routing::Dijkstra => false,
         }
+    }
+
+    /// Whether there is such a zone, and it is Dijkstra.
+    pub(crate) fn is_in_dijkstra(&self, zone: Option<ZoneId>) -> bool
+        ensures { result ≡ is_in_dijkstra self.now zone }
+    {
+        match zone {
+            Some(zone) => self.is_dijkstra(zone),
+            None => false,
+        }
+    }
+
+    /// Whether the zone is Dijkstra.
+    fn is_dijkstra(&self, zone: ZoneId) -> bool
+        ensures { result ≡ is_dijkstra (routing_in self.now zone) }
+    {
+        match self.routing(zone) {
+            Routing::Dijkstra => true,
+            Routing::Full | Routing::Star => false,
+        }
+    }
+
+    /// Whether the zone has routes between points.
+    fn has_routes(&self, zone: ZoneId) -> bool
+        ensures { result ≡ has_routes (routing_in self.now zone) }
+    {
+        match self.routing(zone) {
+            Routing::Full | Routing::Dijkstra => true,
+            Routing::Star => false,
+        }
+    }
+
+    /// Whether both are the same zone, and it has routes between points.
+    pub(crate) fn in_one_routed(&self, a: ZoneId, b: ZoneId) -> bool
+        ensures { result ≡ in_one_routed self.now a b }
+    {
+        a.0 == b.0 && self.has_routes(a)
     }
 
     /// Whether both are the same zone, and it is Full.

@@ -6,7 +6,7 @@ use Rattle.sg_base.specs.declared.status.Status.TheVariants as S
 use Rattle.sg_edge.specs.declared.sinks.Stream.{Stream}
 use Rattle.sg_edge.specs.declared.sinks.Stream.TheVariants.{Out, Err}
 use Rattle.sg_edge.specs.Sinks.{gain}
-use Rattle.sg_edge.specs.Files.{PartView, KeepsTelling}
+use Rattle.sg_edge.specs.Files.{PartView, KeepsTelling, TakesUpTo}
 use Rattle.sg_edge.specs.Sources.{Source, Gives}
 use Rattle.sg_engine.specs.declared.ended.Ended.{Ended}
 use Rattle.sg_engine.specs.declared.ended.Ended.TheVariants as E
@@ -158,6 +158,14 @@ pub run_counts_on : (job : Asked) (on : Setting) (script : Bool) (budget : ℕ) 
 run_counts_on job on script budget show source start count scripted counted shown work =
     subst (λ (o : Output). count ≤ start + o.work) (as_job job on script budget show source scripted counted shown) work
 
+-- and of what is taken of the script
+pub run_needs_on : (job : Asked) (on : Setting) (script : Bool) (budget : ℕ) (show : Show) (source : Source) (old mid new : PartView) →
+    script ≡ has_script job.request → budget ≡ job.budget → show ≡ show_of job.request job.quiet → mid.left ≡ old.left →
+    TakesUpTo ((run_output on.platform on.deployment script budget show source).need + 4095) mid new → TakesUpTo ((run_on job source on).need + 4095) old new
+run_needs_on job on script budget show source old mid new scripted counted shown left takes =
+    let all : TakesUpTo ((run_on job source on).need + 4095) mid new = subst (λ (o : Output). TakesUpTo (o.need + 4095) mid new) (as_job job on script budget show source scripted counted shown) takes in
+    record { bytes = all.bytes; left = sym left ∙ all.left; few = all.few }
+
 -- where there is no run nobody takes a context
 pub none_taken : {X A : Type 0} (count : Result X Refusal → ℕ) (given : Result X Refusal) (why : Refusal) (crew : List A) → ((r : Refusal) → count (C.Err r) ≡ 0) →
     (◌≢◌ {A = Result X Refusal} (C.Err why) (C.Err R.Memory) → C.Err why ≡ given) → ¬ (why ≡ R.Memory) → crew ≡ drop (count given) crew
@@ -173,6 +181,12 @@ setting_prints job s given on code old new is prints = subst (λ (r : Result Set
 pub setting_counts : (job : Asked) (s : Source) (given : Result Setting Refusal) (on : Setting) (start count : ℕ) → given ≡ Ok on →
     count ≤ start + (run_on job s on).work → count ≤ start + (or_refused job s given).work
 setting_counts job s given on start count is work = subst (λ (r : Result Setting Refusal). count ≤ start + (or_refused job s r).work) (sym is) work
+
+pub setting_needs : (job : Asked) (s : Source) (given : Result Setting Refusal) (on : Setting) (old mid new : PartView) → given ≡ Ok on → mid ≡ old →
+    TakesUpTo ((run_on job s on).need + 4095) mid new → TakesUpTo ((or_refused job s given).need + 4095) old new
+setting_needs job s given on old mid new is same takes =
+    subst (λ (v : PartView). TakesUpTo ((or_refused job s given).need + 4095) v new) same
+    (subst (λ (r : Result Setting Refusal). TakesUpTo ((or_refused job s r).need + 4095) mid new) (sym is) takes)
 
 -- a setting that is there is no refusal
 pub not_refused : {X E : Type 0} (given : Result X E) (on : X) → given ≡ Ok on → IsErr given → ⊥

@@ -22,12 +22,14 @@ use Rattle.simgrid_replay.specs.Requests.{has_script, show_of}
 use Rattle.simgrid_replay.specs.declared.refusal.Refusal.{Refusal}
 use Rattle.simgrid_replay.specs.declared.refusal.Refusal.TheVariants as refusal
 
--- what is written, the status, and the work: how many looks the fillings of the run may take
+-- What is written, the status, the work: how many looks the fillings of the run may take; and the need: how many bytes of
+-- the script its Asks need.
 pub record Outcome : Type 0 where
   pub out : List ℕ
   pub err : List ℕ
   pub status : Status
   pub work : ℕ
+  pub need : ℕ
 
 abbrev pub status_of : Ended → Status
 status_of ended.Completed = status.Completed
@@ -43,8 +45,8 @@ status_of ended.Memory = status.Memory
 
 -- a text on one stream, and nothing on the other
 abbrev pub one_text : Stream → List ℕ → Status → Outcome
-one_text stream.Out text how = record { out = text; err = []; status = how; work = 0 }
-one_text stream.Err text how = record { out = []; err = text; status = how; work = 0 }
+one_text stream.Out text how = record { out = text; err = []; status = how; work = 0; need = 0 }
+one_text stream.Err text how = record { out = []; err = text; status = how; work = 0; need = 0 }
 
 -- one line on Err, that a part is refused: why, and where
 abbrev pub fault_outcome : List ℕ → List ℕ → Option Place → Status → Outcome
@@ -61,7 +63,7 @@ refusal_outcome refusal.ReadDeployment = one_text stream.Err (codes "cannot read
 refusal_outcome refusal.Memory = one_text stream.Err [] status.Memory
 
 abbrev pub of_run : Output → Outcome
-of_run run = record { out = run.out; err = run.err; status = status_of run.ended; work = run.work }
+of_run run = record { out = run.out; err = run.err; status = status_of run.ended; work = run.work; need = run.need }
 
 -- the run of a setting as a job asks for it, with what its script gives
 abbrev pub run_on : Asked → Source → Setting → Outcome

@@ -4,6 +4,7 @@ ghost use Rattle.sg_edge.specs.declared.files.Stage.TheVariants.{Fresh, Broken};
 ghost use Rattle.sg_edge.specs.Files.{Only};
 ghost use Rattle.sg_edge.specs.Sources.{Source};
 ghost use Rattle.sg_engine.specs.Output.{contexts_of};
+ghost use Rattle.sg_engine.specs.RunContract.{IsReadOnDemand};
 ghost use Rattle.sg_words.specs.Views.{job_view};
 ghost use Rattle.sg_edge.specs.Cause.{HasCause};
 ghost use Rattle.simgrid_replay.specs.PartSources.{request_of, IsNamedBy, ScriptGives};
@@ -78,23 +79,27 @@ pub fn run_job<R: Threads + Sync, F: Files, O: Sinks, L: Ledger>(
     rt: &R,
     alloc: Global,
     job: &Job,
-    setup: &Setup,
+    setup: &mut Setup,
     files: &mut F,
     out: &mut O,
     crew: &mut Vec<Box<dyn Actor + Send>>,
     steps: &mut Steps<L>,
 ) -> Status
     requires setup { IsSetupFor (has_script (request_of job.now)) (length crew.old.items)
-        setup.now }
+        setup.old }
     requires fresh { (F.shows files.old Part.Script).stage ≡ Fresh }
     requires sound { O.faults out.old ≡ 0 }
     requires blank { All (λ b. mind b ≡ None) crew.old.items }
     ensures output { (s : Source)
         → ScriptGives (request_of job.now) (F.shows files.old) (F.shows files.new) s
-        → HasOutcome (run_on (job_view job.now) s (setting_in setup.now)) result
+        → HasOutcome (run_on (job_view job.now) s (setting_in setup.old)) result
         (O.contents out.old) (O.contents out.new) steps.old steps.new }
+    ensures needed { (s : Source)
+        → ScriptGives (request_of job.now) (F.shows files.old) (F.shows files.new) s
+        → IsReadOnDemand (run_on (job_view job.now) s (setting_in setup.old)).need
+        (F.shows files.old) (F.shows files.new) }
     ensures crew { result ≢ Status.Memory
-        → crew.new.items ≡ drop (contexts_of setup.now.deployment) crew.old.items }
+        → crew.new.items ≡ drop (contexts_of setup.old.deployment) crew.old.items }
     ensures unrefused { is_refusal result ≡ false }
     ensures cause { HasCause (result ≡ Status.WriteFault) (result ≡ Status.ReadFault)
         (O.faults out.new) (Broke Part.Script (F.shows files.old) (F.shows files.new)) }

@@ -6,7 +6,7 @@ ghost use Rattle.sg_edge.specs.declared.files.Stage.TheVariants.{Fresh};
 use crate::whole_call::simgrid;
 use sg_actor::{Actor, PlainContext, TapeContext, all_blank};
 use sg_base::{Memory, Steps};
-use sg_edge::{Files, MemFiles, MemSinks, Sinks, Stream};
+use sg_edge::{Files, MemFiles, MemSinks, Part, Sinks, Stream};
 use std::alloc::Global;
 use std::marker::Brand;
 use std::process::Abort;
@@ -63,11 +63,12 @@ pub struct Call<'a> {
     pub writes: &'a [u64],
 }
 
-/// What a call has written, and its exit status.
+/// What a call has written, its exit status, and how many bytes of the script it has left.
 #[derive(Drop)]
 pub struct Done {
     pub out: MemSinks,
     pub status: u8,
+    pub left: usize,
 }
 
 /// A call with contexts enough, in which nothing fails.
@@ -186,7 +187,8 @@ pub fn make<R: Threads + Sync>(
         crew,
         Blank::new(1),
     );
-    Ok(Done { out, status })
+    let left = files.left(Part::Script).len();
+    Ok(Done { out, status, left })
 }
 
 /// Makes a call, and compares what stands on Out and on Err, and the exit status.

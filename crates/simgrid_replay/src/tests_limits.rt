@@ -1,6 +1,7 @@
 //! Calls near the limits, with ample memory.
-use crate::testing::{Call, FAST, Kinds, LINE, ONE, REPLAY, TWO, call_of, compare};
+use crate::testing::{Call, FAST, Kinds, LINE, ONE, REPLAY, TWO, call_of, compare, crew_of, make};
 use sg_base::Memory;
+use sg_edge::{Sinks, Stream};
 use sg_platform::GREATEST_TEXT;
 use std::alloc::Global;
 use std::test::Fail;
@@ -84,6 +85,58 @@ fn lines_wait_for_their_actor(rt: HostRuntime) -> Result<(), Fail> {
         ..call_of("p replay p d s --quiet", FAST, TWO, "")
     };
     compare(&rt, alloc, &long, (DONE, "", 0))?;
+    Ok(())
+}
+
+/// A line that is passed over.
+const COMMENT: &[u8; 64] = b"# 34567890 234567890 234567890 234567890 234567890 234567890 23\n";
+
+/// A script of these lines, and many comments behind them.
+fn commented(alloc: Global, lines: &str) -> Result<Vec<u8>, Memory> {
+    let mut script = Vec::from_slice(alloc, lines.as_bytes())?;
+    for _i in 0..100_000u32 {
+        script.extend_from_slice(COMMENT)?;
+    }
+    Ok(script)
+}
+
+const SPENT: &str = "budget of 4 events used at 0.000000000\n";
+
+const JUMP: &str = "script line 2: unknown action\n";
+
+/// The words, a deployment, the lines in front of the comments, what stands on Out and on Err, the exit status, and how
+/// many bytes the Asks need.
+const NEEDS: [(&str, &str, &str, &str, &str, u8, u16); 3] = [
+    (
+        "p replay p d s --budget 4",
+        TWO,
+        "p0 compute 1e9\np1 compute 1e9\n",
+        SPENT,
+        "",
+        8,
+        30,
+    ),
+    (REPLAY, TWO, "p0 compute 0\np0 jump\n", "", JUMP, 5, 21),
+    (REPLAY, "", "p0 compute 0\n", DONE, "", 0, 0),
+];
+
+#[test]
+fn a_script_is_read_as_far_as_it_is_needed(rt: HostRuntime) -> Result<(), Fail> {
+    let alloc = rt.alloc();
+    for (words, deployment, lines, out, err, status, need) in NEEDS {
+        let script = commented(alloc, lines)?;
+        let call = Call {
+            script: &script,
+            ..call_of(words, FAST, deployment, "")
+        };
+        let mut crew = crew_of(alloc, call.kinds, call.contexts)?;
+        let done = make(&rt, alloc, &call, &mut crew)?;
+        assert_eq!(rt; done.out.held(Stream::Out), out.as_bytes(), "{lines}");
+        assert_eq!(rt; done.out.held(Stream::Err), err.as_bytes(), "{lines}");
+        assert_eq!(rt; done.status, status, "{lines}");
+        let least = script.len().saturating_sub(need as usize + 4095);
+        assert!(rt; done.left >= least, "{lines}");
+    }
     Ok(())
 }
 

@@ -74,6 +74,64 @@ link = [
 spoke = [{zone = 'z', child = 'h1', up = ['l1', 'bb']}, {zone = 'z', child = 'h2', up = ['l2', 'bb']}]
 ";
 
+/// Two paths of two links from h1 to h3, of which that over h2 comes first, and no route to h4.
+const MESH: &str = "zone = [{id = 'z', routing = 'Dijkstra'}]
+host = [
+    {id = 'h1', zone = 'z', speed = '1Gf'},
+    {id = 'h2', zone = 'z', speed = '1Gf'},
+    {id = 'h3', zone = 'z', speed = '1Gf'},
+    {id = 'h4', zone = 'z', speed = '1Gf'},
+]
+link = [
+    {id = 'a', bandwidth = '1MBps', latency = '10ms'},
+    {id = 'b', bandwidth = '1MBps', latency = '10ms'},
+    {id = 'c', bandwidth = '1MBps', latency = '10ms'},
+    {id = 'd', bandwidth = '1MBps', latency = '10ms'},
+]
+route = [
+    {src = 'h1', dst = 'h2', links = ['a']},
+    {src = 'h2', dst = 'h3', links = ['b']},
+    {src = 'h1', dst = 'h3', links = ['c', 'd']},
+]
+";
+
+/// The same, but that the path around h2 comes first.
+const MESH_AROUND: &str = "zone = [{id = 'z', routing = 'Dijkstra'}]
+host = [
+    {id = 'h1', zone = 'z', speed = '1Gf'},
+    {id = 'h2', zone = 'z', speed = '1Gf'},
+    {id = 'h3', zone = 'z', speed = '1Gf'},
+    {id = 'h4', zone = 'z', speed = '1Gf'},
+]
+link = [
+    {id = 'c', bandwidth = '1MBps', latency = '10ms'},
+    {id = 'd', bandwidth = '1MBps', latency = '10ms'},
+    {id = 'a', bandwidth = '1MBps', latency = '10ms'},
+    {id = 'b', bandwidth = '1MBps', latency = '10ms'},
+]
+route = [
+    {src = 'h1', dst = 'h2', links = ['a']},
+    {src = 'h2', dst = 'h3', links = ['b']},
+    {src = 'h1', dst = 'h3', links = ['c', 'd']},
+]
+";
+
+/// Actors on hosts between which two paths lead, and on hosts next to each other.
+const ACROSS: &str = "actor = [
+    {name = 'p0', host = 'h1', function = 'replay'},
+    {name = 'p1', host = 'h3', function = 'replay'},
+    {name = 'p2', host = 'h1', function = 'replay'},
+    {name = 'p3', host = 'h2', function = 'replay'},
+]
+";
+
+/// An actor on a host that no route leads to.
+const OFF: &str = "actor = [
+    {name = 'p0', host = 'h1', function = 'replay'},
+    {name = 'p1', host = 'h4', function = 'replay'},
+]
+";
+
 const THREE: &str = "actor = [
     {name = 'p0', host = 'h1', function = 'replay'},
     {name = 'p1', host = 'h2', function = 'replay'},
@@ -128,7 +186,7 @@ const SEND: &str = "p0 send p1 1e6\np1 recv p0\n";
 const TWO_SENDS: &str = "p0 send p1 1e6\np1 recv p0\np2 send p3 1e6\np3 recv p2\n";
 
 /// Replays over links, routes and objects.
-static RUNS: [Row; 21] = [
+static RUNS: [Row; 25] = [
     (
         REPLAY,
         LINE,
@@ -338,6 +396,55 @@ Simulation time 2.000000000
         "p0 send p1 1\np1 recv p0\n",
         "",
         "no route from h1 to h2: zone z, h1 to h2\n",
+        9,
+    ),
+    (
+        REPLAY,
+        MESH,
+        ACROSS,
+        SEND,
+        "[h1:p0:(1) 1.020000000] send p1 1000000 1.020000000
+[h3:p1:(2) 1.020000000] recv p0 1000000 1.020000000
+Simulation time 1.020000000
+",
+        "",
+        0,
+    ),
+    (
+        REPLAY,
+        MESH,
+        ACROSS,
+        TWO_SENDS,
+        "[h1:p2:(3) 2.000000000] send p3 1000000 2.000000000
+[h2:p3:(4) 2.000000000] recv p2 1000000 2.000000000
+[h1:p0:(1) 2.010000000] send p1 1000000 2.010000000
+[h3:p1:(2) 2.010000000] recv p0 1000000 2.010000000
+Simulation time 2.010000000
+",
+        "",
+        0,
+    ),
+    (
+        REPLAY,
+        MESH_AROUND,
+        ACROSS,
+        TWO_SENDS,
+        "[h1:p2:(3) 1.010000000] send p3 1000000 1.010000000
+[h2:p3:(4) 1.010000000] recv p2 1000000 1.010000000
+[h1:p0:(1) 1.020000000] send p1 1000000 1.020000000
+[h3:p1:(2) 1.020000000] recv p0 1000000 1.020000000
+Simulation time 1.020000000
+",
+        "",
+        0,
+    ),
+    (
+        REPLAY,
+        MESH,
+        OFF,
+        SEND,
+        "",
+        "no route from h1 to h4: zone z, h1 to h4\n",
         9,
     ),
     (

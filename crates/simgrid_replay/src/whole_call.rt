@@ -4,6 +4,7 @@ ghost use Rattle.sg_edge.specs.declared.files.Part.{Part};
 ghost use Rattle.sg_edge.specs.declared.files.Stage.TheVariants.{Fresh, Broken};
 ghost use Rattle.sg_edge.specs.Files.{KeepsTelling, SameFrom, SomeBroke};
 ghost use Rattle.sg_edge.specs.Sources.{Source, Gives};
+ghost use Rattle.sg_engine.specs.RunContract.{IsReadOnDemand};
 ghost use Rattle.sg_words.specs.CommandLine.{Asked, refusals};
 ghost use Rattle.sg_words.specs.Views.{job_view};
 ghost use Rattle.sg_edge.specs.Cause.{HasCause};
@@ -42,6 +43,10 @@ fn do_job<R: Threads + Sync, F: Files, O: Sinks, L: Ledger>(
         → PartsGive (request_of job.now) (F.shows files.old) (F.shows files.new) p d s
         → HasOutcome (outcome (job_view job.now) (length crew.old.items) p d s) result
         (O.contents out.old) (O.contents out.new) steps.old steps.new }
+    ensures needed { (p d s : Source)
+        → PartsGive (request_of job.now) (F.shows files.old) (F.shows files.new) p d s
+        → IsReadOnDemand (outcome (job_view job.now) (length crew.old.items) p d s).need
+        (F.shows files.old) (F.shows files.new) }
     ensures crew { TakesContexts (job_view job.now) result (F.shows files.old) (F.shows files.new)
         crew.old.items crew.new.items }
     ensures parts { TakesParts F.shows (request_of job.now) (length crew.old.items)
@@ -52,7 +57,7 @@ fn do_job<R: Threads + Sync, F: Files, O: Sinks, L: Ledger>(
         (O.faults out.new) (SomeBroke (F.shows files.old) (F.shows files.new)) }
 {
     match prepare(alloc, files, job, crew.len()) {
-        Ok(setup) => run_job(rt, alloc, job, &setup, files, out, crew, steps),
+        Ok(mut setup) => run_job(rt, alloc, job, &mut setup, files, out, crew, steps),
         Err(why) => refuse(alloc, why, out),
     }
 }
@@ -61,9 +66,10 @@ fn do_job<R: Threads + Sync, F: Files, O: Sinks, L: Ledger>(
 ///
 /// `words` are the words of the command line, the program's name first. The platform, the deployment and the script
 /// are taken from `files` in this order, as far as the command has them, each only once the one before it was
-/// accepted; the script is read while the run goes on. The actors of the deployment take the first contexts of the
-/// `crew`, and take their turns on as many threads as the words say. Lines go to `out`, and `steps` counts the looks
-/// of the fillings, which are no more than the work of the run.
+/// accepted; the script is read while the run goes on, and less than a piece of 4,096 bytes further than its Asks need.
+/// The actors of the deployment take the first contexts of the `crew`, and take their turns on as many threads as the
+/// words say. Lines go to `out`, and `steps` counts the looks of the fillings, which are no more than the work of the
+/// run.
 pub fn simgrid<R: Threads + Sync, F: Files, O: Sinks, L: Ledger>(
     rt: &R,
     alloc: Global,
@@ -100,6 +106,12 @@ pub fn simgrid<R: Threads + Sync, F: Files, O: Sinks, L: Ledger>(
         → O.faults out.new ≡ 0
         → (outcome job (length crew.old.items) p d s).status ≡ Status.Completed
         → (result ≡ Status.Completed) ⊎ (result ≡ Status.Memory) }
+
+    // Of the script at most 4,095 bytes more were taken than the Asks of the run need.
+    ensures needed { (job : Asked) → AskFor (map string_bytes words.now) job
+        → (p d s : Source) → PartsGive job.request (F.shows files.old) (F.shows files.new) p d s
+        → IsReadOnDemand (outcome job (length crew.old.items) p d s).need
+        (F.shows files.old) (F.shows files.new) }
 
     // A part that told its bytes still does.
     ensures telling { (q : Part) → KeepsTelling (F.shows files.old q) (F.shows files.new q) }

@@ -1,9 +1,11 @@
 -- What holds of a simulation between the parts of a run.
-use Rattle.std.specs.Prelude.{◌≡◌, ◌≤◌, ◌+◌, ℕ, List, [], length, All, Option, MatchBool, vec_capacity}
+use Rattle.std.specs.Prelude.{◌≡◌, ◌≤◌, ℕ, ⊤, List, [], length, All, Option, Some, MatchBool, vec_capacity}
 use Rattle.sg_base.specs.Mind.{Mind}
 use Rattle.sg_actor.specs.Seats.{SeatView}
+use Rattle.sg_edge.specs.Cause.{HasCause}
 use Rattle.sg_edge.specs.Files.{PartView}
 use Rattle.sg_edge.specs.declared.files.Part.{Part}
+use Rattle.sg_edge.specs.declared.files.Stage.TheVariants.{Broken}
 use Rattle.sg_edge.specs.declared.sinks.Stream.{Stream}
 use Rattle.sg_edge.specs.declared.sinks.Stream.TheVariants.{Out, Err}
 use Rattle.sg_rows.specs.Deployment.{Deployed, extent_of}
@@ -11,6 +13,7 @@ use Rattle.sg_rows.specs.Platform.{Platform}
 use Rattle.sg_script.specs.Known.{Known as Names, known_in}
 use Rattle.sg_script.specs.Stands.{kept_of}
 use Rattle.sg_engine.specs.declared.ended.Ended.{Ended}
+use Rattle.sg_engine.specs.declared.ended.Ended.TheVariants as ended
 use Rattle.sg_engine.specs.declared.plan.Plan.{Plan}
 use Rattle.sg_engine.specs.declared.simulation.Simulation.{Simulation}
 use Rattle.sg_kernel.specs.Known.{Known}
@@ -22,6 +25,7 @@ use Rattle.sg_engine.specs.kept.Moments.{Moment, moment, moment_in, names_of, pa
 use Rattle.sg_engine.specs.kept.SeatRules.{IsSeated, minds_of}
 use Rattle.sg_engine.specs.Run.{Answering, Progress, work_behind}
 use Rattle.sg_engine.specs.kept.Stretches.{Trace, trace_in, Advances, CutsOff}
+use Rattle.sg_engine.specs.kept.Writing.{Pending, pending}
 use Rattle.sg_route.specs.Roads.{Roads, roads_of}
 use Rattle.sg_kernel.specs.Roads.{AreOver}
 
@@ -52,7 +56,7 @@ pub record IsOfSetup (deployed : Deployed) (known : Known) : Type 0 where
   pub extent : extent known.setup ≡ extent_of deployed
   pub few : length known.core.actors ≤ 65536
 
--- all lists are of the deployment's actors, who are seated; there is room for a call of each, and no record and no line waits
+-- all lists are of the deployment's actors, who are seated; there is room for a call of each, and no record waits
 pub record IsKept (deployed : Deployed) (part : PartView) (sim : Simulation) (places : List SeatView) : Type 0 where
   pub fits : Fits deployed (at_moment part sim)
   pub homes : length sim.kernel.setup.homes ≡ length deployed.actors
@@ -61,23 +65,23 @@ pub record IsKept (deployed : Deployed) (part : PartView) (sim : Simulation) (pl
   pub calls : length deployed.actors ≤ vec_capacity sim.calls
   pub few : length deployed.actors ≤ 65536
   pub cleared : sim.kernel.records ≡ []
-  pub empty : sim.buffer ≡ []
 
 -- the router has the routes of the platform, over its links
 pub record AreRoadsOf (platform : Platform) (roads : Roads) : Type 0 where
   pub are : roads ≡ roads_of platform
   pub over : AreOver (length (link_caps platform.links)) roads
 
--- the simulation of a setup at its beginning, with nothing of the script taken
+-- the simulation of a setup at its beginning, with nothing of the script taken and no line that waits
 pub record IsFirst (platform : Platform) (deployed : Deployed) (budget : ℕ) (part : PartView) (sim : Simulation) (places : List SeatView) : Type 0 where
   pub kept : IsKept deployed part sim places
   pub setup : sim.kernel.setup ≡ setup_of platform deployed budget
   pub stands : StandsFor (known_in deployed) [] (minds_of places) (at_moment part sim) (first_of platform deployed budget)
+  pub empty : sim.buffer ≡ []
 
 -- what a part of a run has done
-abbrev pub PartIs : ℕ → Names → Trace → (Answering → Progress) → Option Ended → List ℕ → List (Option Mind) → Moment → Moment → Option (List ℕ) → Option (List ℕ) → Type 0
+abbrev pub PartIs : ℕ → Names → Trace → (Answering → Progress) → Option Ended → List ℕ → List (Option Mind) → Moment → Moment → Pending → Pending → Type 0
 PartIs spent names trace whole how taken had old new before after =
-    MatchBool (cuts how) (CutsOff names trace whole taken old.part new.part before after) (Advances spent names trace whole how taken had old new before after)
+    MatchBool (cuts how) (CutsOff names trace whole taken old.part new.part before after.held) (Advances spent names trace whole how taken had old new before after)
 
 -- so it is in the run of a plan
 abbrev pub Holds : Plan → (Part → PartView) → Simulation → List SeatView → Type 0
@@ -86,8 +90,31 @@ Holds plan shows sim places = IsKept plan.deployment.now (script_in plan shows) 
 abbrev pub FitsNow : Plan → (Part → PartView) → Simulation → Type 0
 FitsNow plan shows sim = Fits plan.deployment.now (now_at plan shows sim)
 
--- How a part of a run leads from one moment to another, with its lines on Out: of each world for which the first moment
--- stands. Err stays.
-abbrev pub LeadsPart : Plan → Roads → Option Ended → (Stream → Option (List ℕ)) → (Stream → Option (List ℕ)) → List (Option Mind) → List (Option Mind) → Moment → Moment → Type 0
-LeadsPart plan roads how before after had has old new = (after Err ≡ before Err) × ((taken : List ℕ) (world : World) → StandsFor (names_of plan) taken had old world →
-    PartIs (work_behind world) (names_of plan) (trace_in plan) (λ answers. part_at plan roads old.kernel answers world) how taken has old new (before Out) (after Out))
+-- behind a part that didn't cut the run off all of that holds again, of the same setup
+pub record StaysKept (plan : Plan) (how : Option Ended) (shows : Part → PartView) (old new : Simulation) (places : List SeatView) : Type 0 where
+  pub setup : new.kernel.setup ≡ old.kernel.setup
+  pub kept : MatchBool (cuts how) ⊤ (Holds plan shows new places)
+
+-- a part that ended a run by a failed write or read has its cause
+abbrev pub IsCaused : Plan → Option Ended → (Part → PartView) → ℕ → Type 0
+IsCaused plan how shows faults = HasCause (how ≡ Some ended.WriteFault) (how ≡ Some ended.ReadFault) faults ((script_in plan shows).stage ≡ Broken)
+
+-- ---- with what is written
+-- a moment of a run, what its actors have in mind, what the streams hold, and the lines that wait
+pub record Snapshot : Type 0 where
+  pub now : Moment
+  pub minds : List (Option Mind)
+  pub streams : Stream → Option (List ℕ)
+  pub waiting : List ℕ
+
+abbrev pub snapshot_of : Plan → (Part → PartView) → (Stream → Option (List ℕ)) → Simulation → List SeatView → Snapshot
+snapshot_of plan shows streams sim places = record { now = now_at plan shows sim; minds = minds_of places; streams = streams; waiting = sim.buffer }
+
+abbrev pub pending_in : Snapshot → Pending
+pending_in shot = pending (shot.streams Out) shot.waiting
+
+-- How a part of a run leads from one moment to another, with its lines on Out or in wait for it: of each world for which
+-- the first moment stands. Err stays.
+abbrev pub LeadsPart : Plan → Roads → Option Ended → Snapshot → Snapshot → Type 0
+LeadsPart plan roads how old new = (new.streams Err ≡ old.streams Err) × ((taken : List ℕ) (world : World) → StandsFor (names_of plan) taken old.minds old.now world →
+    PartIs (work_behind world) (names_of plan) (trace_in plan) (λ answers. part_at plan roads old.now.kernel answers world) how taken new.minds old.now new.now (pending_in old) (pending_in new))

@@ -7,6 +7,7 @@ use Rattle.sg_edge.specs.Files.{PartView, Only}
 use Rattle.sg_edge.specs.declared.files.Part.{Part}
 use Rattle.sg_edge.specs.declared.files.Part.TheVariants.{Script}
 use Rattle.sg_edge.specs.Sources.{Source}
+use Rattle.sg_edge.specs.declared.files.Stage.{Stage}
 use Rattle.sg_edge.specs.declared.files.Stage.TheVariants.{Fresh, Begun, Broken}
 use Rattle.sg_kernel.specs.Known.{Known}
 use Rattle.sg_kernel.specs.World.{Core, MayCall, extent}
@@ -15,7 +16,7 @@ use Rattle.sg_rows.specs.Deployment.{Deployed, extent_of}
 use Rattle.sg_script.specs.Answer.{answer_of}
 use Rattle.sg_script.specs.Rest.{GoesOn}
 use Rattle.sg_script.specs.Known.{Known as Names, known_in}
-use Rattle.sg_script.specs.Stands.{AreLimited, Kept, kept_of, Stands, Reads}
+use Rattle.sg_script.specs.Stands.{AreLimited, AreNeeded, IsWithinNeed, Kept, kept_of, Stands, Reads}
 use Rattle.sg_script.specs.declared.script.Script.{Script as Reader}
 use Rattle.sg_engine.specs.declared.ended.Ended.{Ended}
 use Rattle.sg_engine.specs.declared.plan.Plan.{Plan}
@@ -59,9 +60,14 @@ cuts (Some how) = is_cut how
 abbrev pub LeavesFree : ℕ → Core → Core → Type 0
 LeavesFree actor old new = (other : ℕ) → other ≢ actor → MayCall old other → MayCall new other
 
+-- the script stands for what was taken and asked, and less than a piece of what was taken isn't needed
+pub record ScriptStands (names : Names) (taken : List ℕ) (stage : Stage) (asks : ℕ → ℕ) (kept : Kept) : Type 0 where
+  pub stands : Stands names taken stage asks kept
+  pub needed : AreNeeded names taken stage asks
+
 -- with these bytes of the script taken, the moment and the minds stand for the world
 pub record StandsFor (names : Names) (taken : List ℕ) (had : List (Option Mind)) (now : Moment) (world : World) : Type 0 where
-  pub script : Stands names taken now.part.stage world.asks now.kept
+  pub script : ScriptStands names taken now.part.stage world.asks now.kept
   pub core : now.kernel.core ≡ world.core
   pub minds : had ≡ world.minds
 
@@ -79,10 +85,15 @@ pub record IsStretch (spent : ℕ) (names : Names) (whole : Answering → Progre
   pub records : new.kernel.records ≡ old.kernel.records ++ made
   pub is : (source : Source) → GoesOn (taken ++ piece) new.part.stage source → whole (answer_of names source) ≡ with_front made (rest (answer_of names source) world)
 
--- memory was wanting: some of the script was read, and nothing else is told
-pub record LacksMemory (old new : PartView) : Type 0 where
+-- less than a piece of what was taken isn't needed by the Asks of the whole, for each source that goes on from there
+abbrev pub AreNeededBy : Names → (Answering → Progress) → List ℕ → Stage → Type 0
+AreNeededBy names whole taken stage = (source : Source) → GoesOn taken stage source → IsWithinNeed names source (whole (answer_of names source)).world.asks (length taken)
+
+-- memory was wanting: some of the script was read that the whole needs, and nothing else is told
+pub record LacksMemory (names : Names) (whole : Answering → Progress) (taken : List ℕ) (old new : PartView) : Type 0 where
   pub piece : List ℕ
   pub reads : Reads piece old new
+  pub needed : AreNeededBy names whole (taken ++ piece) new.stage
 
 -- nothing is left of the stretch but how it ended
 abbrev pub ending : Option Ended → Answering → World → Progress
@@ -135,7 +146,7 @@ IsReadFrom result part = result ≡ Ok (Some ended.ReadFault) → part.stage ≡
 -- which the first moment stands, with so much work spent in all. Without memory it was cut off.
 abbrev pub Leads : Plan → (World → ℕ) → (Answering → World → Progress) → Result (Option Ended) Memory → List (Option Mind) → List (Option Mind) → Moment → Moment → Type 0
 Leads plan spends whole result had has old new = (taken : List ℕ) (world : World) → StandsFor (names_of plan) taken had old world →
-    MatchResult result (λ how. IsStretch (spends world) (names_of plan) (λ answers. whole answers world) (ending how) taken has old new) (λ _. LacksMemory old.part new.part)
+    MatchResult result (λ how. IsStretch (spends world) (names_of plan) (λ answers. whole answers world) (ending how) taken has old new) (λ _. LacksMemory (names_of plan) (λ answers. whole answers world) taken old.part new.part)
 
 -- the same where no turn is taken, so that the minds stay
 abbrev pub LeadsCalls : Plan → (Answering → World → Progress) → Result (Option Ended) Memory → Moment → Moment → Type 0

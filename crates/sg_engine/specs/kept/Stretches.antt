@@ -4,7 +4,6 @@ use Rattle.sg_base.specs.declared.trace_record.Record.{Record}
 use Rattle.sg_base.specs.Mind.{Mind}
 use Rattle.sg_edge.specs.Files.{PartView}
 use Rattle.sg_edge.specs.Sources.{Source}
-use Rattle.sg_edge.specs.Sinks.{gain, GainsFront}
 use Rattle.sg_kernel.specs.World.{Core}
 use Rattle.sg_engine.specs.World.{World}
 use Rattle.sg_script.specs.Answer.{answer_of}
@@ -13,42 +12,46 @@ use Rattle.sg_script.specs.Stands.{Reads}
 use Rattle.sg_script.specs.Rest.{GoesOn}
 use Rattle.sg_engine.specs.declared.ended.Ended.{Ended}
 use Rattle.sg_engine.specs.declared.plan.Plan.{Plan}
+use Rattle.sg_engine.specs.declared.simulation.Simulation.{Simulation}
 use Rattle.sg_engine.specs.RunContract.{is_cut}
 use Rattle.sg_engine.specs.Output.{Output, first_of, run_output, trace_of, scene_of}
 use Rattle.sg_engine.specs.Run.{Answering, Progress, run_of}
-use Rattle.sg_engine.specs.kept.Moments.{Moment, moment, IsStretch, ending}
+use Rattle.sg_engine.specs.kept.Moments.{AreNeededBy, Moment, moment, IsStretch, ending}
+use Rattle.sg_engine.specs.kept.Writing.{Pending, pending, Adds, AddsFront}
 
 -- how records are written as lines
 abbrev pub Trace : Type 0
 Trace = List Record → List ℕ
 
--- A part of a run was made, and its trace lines are written. The kernel has cleared its records since.
-pub record Advances (spent : ℕ) (names : Names) (trace : Trace) (whole : Answering → Progress) (how : Option Ended) (taken : List ℕ) (had : List (Option Mind)) (old new : Moment) (before after : Option (List ℕ)) : Type 0 where
+-- A part of a run was made, and its trace lines wait or are written. The kernel has cleared its records since.
+pub record Advances (spent : ℕ) (names : Names) (trace : Trace) (whole : Answering → Progress) (how : Option Ended) (taken : List ℕ) (had : List (Option Mind)) (old new : Moment) (before after : Pending) : Type 0 where
   pub records : List Record
   pub reached : IsStretch spent names whole (ending how) taken had old (moment new.part new.kept (record new.kernel { records = records }))
-  pub printed : after ≡ gain before (trace records)
+  pub printed : Adds (trace records) before after
 
--- A part of a run was cut off, and a front of its trace lines is written.
-pub record CutsOff (names : Names) (trace : Trace) (whole : Answering → Progress) (taken : List ℕ) (old new : PartView) (before after : Option (List ℕ)) : Type 0 where
+-- A part of a run was cut off, and a front of what waited and of its trace lines is written.
+pub record CutsOff (names : Names) (trace : Trace) (whole : Answering → Progress) (taken : List ℕ) (old new : PartView) (before : Pending) (after : Option (List ℕ)) : Type 0 where
   pub piece : List ℕ
   pub reads : Reads piece old new
-  pub front : (source : Source) → GoesOn (taken ++ piece) new.stage source → GainsFront (trace (whole (answer_of names source)).made) before after
+  pub needed : AreNeededBy names whole (taken ++ piece) new.stage
+  pub front : (source : Source) → GoesOn (taken ++ piece) new.stage source → AddsFront (trace (whole (answer_of names source)).made) before after
 
 -- The run was cut off, and a front of its trace lines is written; the count went on from this start by the work of the
 -- whole run at most.
-pub record IsCutOff (start count : ℕ) (names : Names) (trace : Trace) (whole : Answering → Progress) (old new : PartView) (before after : Option (List ℕ)) : Type 0 where
+pub record IsCutOff (start count : ℕ) (names : Names) (trace : Trace) (whole : Answering → Progress) (old new : PartView) (before : Pending) (after : Option (List ℕ)) : Type 0 where
   pub cut : CutsOff names trace whole [] old new before after
   pub worked : (source : Source) → GoesOn cut.piece new.stage source → count ≤ start + (whole (answer_of names source)).world.work
 
--- The run came to this end, and all its trace lines are written; the count went on from this start by the work at most.
-pub record IsOver (start count : ℕ) (names : Names) (trace : Trace) (whole : Answering → Progress) (how : Ended) (core : Core) (old new : PartView) (before after : Option (List ℕ)) : Type 0 where
+-- The run came to this end, and all its trace lines wait or are written; the count went on from this start by the work at most.
+pub record IsOver (start count : ℕ) (names : Names) (trace : Trace) (whole : Answering → Progress) (how : Ended) (core : Core) (old new : PartView) (before after : Pending) : Type 0 where
   pub piece : List ℕ
   pub reads : Reads piece old new
+  pub needed : AreNeededBy names whole piece new.stage
   pub world : World
   pub core_is : core ≡ world.core
   pub worked : count ≤ start + world.work
   pub made : List Record
-  pub printed : after ≡ gain before (trace made)
+  pub printed : Adds (trace made) before after
   pub is : (source : Source) → GoesOn piece new.stage source → whole (answer_of names source) ≡ record { world = world; made = made; ended = Some how }
 
 -- ---- in the words of contracts
@@ -63,9 +66,10 @@ run_by plan answers = run_of (scene_of plan.platform.now plan.deployment.now pla
 abbrev pub planned_output : Plan → Source → Output
 planned_output plan source = run_output plan.platform.now plan.deployment.now plan.script plan.terms.budget plan.terms.show source
 
--- The run was cut off behind a front of its trace lines, or has come to this end with this core behind all of them.
-abbrev pub HasRun : Plan → Ended → Core → ℕ → ℕ → PartView → PartView → Option (List ℕ) → Option (List ℕ) → Type 0
-HasRun plan how core start count old new before after =
+-- The run was cut off behind a front of its trace lines, or this simulation has come to this end behind all of them, of
+-- which the last may wait in its buffer. None waited at the beginning.
+abbrev pub HasRun : Plan → Ended → Simulation → ℕ → ℕ → PartView → PartView → Option (List ℕ) → Option (List ℕ) → Type 0
+HasRun plan how sim start count old new before after =
     MatchBool (is_cut how)
-    (IsCutOff start count (known_in plan.deployment.now) (trace_in plan) (run_by plan) old new before after)
-    (IsOver start count (known_in plan.deployment.now) (trace_in plan) (run_by plan) how core old new before after)
+    (IsCutOff start count (known_in plan.deployment.now) (trace_in plan) (run_by plan) old new (pending before []) after)
+    (IsOver start count (known_in plan.deployment.now) (trace_in plan) (run_by plan) how sim.kernel.core old new (pending before []) (pending after sim.buffer))

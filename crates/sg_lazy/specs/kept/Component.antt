@@ -52,6 +52,7 @@ pub record MarksRows (rows : ℕ → List ℕ) (numbers : List ℕ) (old new : M
   pub grows : Grows old.members new.members
   pub marked : (i : ℕ) → i < length numbers → AreIn (rows (slice_index numbers i)) new.members
   pub room : new.room ≡ old.room
+  pub few : length new.members ≤ length old.members + lengths rows numbers
   pub least : (test : ℕ → Bool) → ((i : ℕ) → i < length numbers → RowPasses test (rows (slice_index numbers i))) → AllPass test old.members → AllPass test new.members
 
 -- there is room for all flows and all resources, and what the touched flows use is reached
@@ -77,3 +78,17 @@ pub record Spreads (s : Sharing) (old new : Component) : Type 0 where
 abbrev pub StaysWithin : (ℕ → Bool) → (ℕ → Bool) → Component → Component → Type 0
 StaysWithin one other old new =
     AllPass one old.touched.members → AllPass other old.reached.members → AllPass one new.touched.members × AllPass other new.reached.members
+
+-- all resources of the touched flows are reached, and all flows on the reached resources are touched
+abbrev pub IsClosedBy : Sharing → Component → Type 0
+IsClosedBy s component = IsClosure (uses_at s.slots) (users_on s.users) component.touched.members component.reached.members
+
+-- all flows on the first so many resources are touched
+pub record AreVisited (s : Sharing) (visited : ℕ) (component : Component) : Type 0 where
+  pub within : visited ≤ length component.reached.members
+  pub touched : (i : ℕ) → i < visited → AreIn (users_on s.users (slice_index component.reached.members i)) component.touched.members
+
+-- a test of flows and one of resources hold along all uses, where the one or the other holds
+pub record PassAlong (s : Sharing) (flows resources : ℕ → Bool) : Type 0 where
+  pub uses : Passes flows resources (uses_at s.slots)
+  pub users : Passes resources flows (users_on s.users)

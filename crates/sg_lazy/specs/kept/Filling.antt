@@ -1,12 +1,13 @@
 -- A filling of the touched flows, by their numbers.
 use Rattle.std.specs.Prelude.{◌≡◌, ◌≢◌, ℕ, ◌+◌, ◌-◌, ◌*◌, ◌/◌, ◌<◌, ◌≤◌, ◌==◌, ◌⊎◌, Bool, true, false, AllPairs, Option, None, Some, IsSome, is_none, option_map, option_to_list, if◌then◌else◌, List, [], ◌∷◌, ◌++◌, map, flat_map, length, sum_by, min, All, Contains, slice_index, slice_index_or}
-use Rattle.sg_maxmin.specs.Fill.{Flow, flow, share_at, bound_level}
+use Rattle.sg_maxmin.specs.Fill.{Flow, flow, share_at, bound_level, level_of}
 use Rattle.sg_chains.specs.Chained.{times}
 use Rattle.sg_maxmin.specs.Sharing.{Sharing, IsSound, flow_at, uses_at}
 use Rattle.sg_base.specs.MarkSet.{is_in}
 use Rattle.sg_chains.specs.Chained.{users_on}
 use Rattle.sg_lazy.specs.declared.filling.Filling.{Filling}
-use Rattle.sg_lazy.specs.kept.Component.{AreIn, IsClosure}
+use Rattle.sg_lazy.specs.declared.filling.Low.{Low}
+use Rattle.sg_lazy.specs.kept.Component.{IsClosure}
 
 -- the weight and the bound of the flow in a slot; a slot without a flow weighs 1
 abbrev pub slot_weight : Option Flow → ℕ
@@ -134,6 +135,21 @@ waited_levels waiting levels reached = flat_map (λ c. level_where (slice_index 
 abbrev pub unfixed_bounds : List (Option Flow) → List (Option ℕ) → List ℕ → List ℕ
 unfixed_bounds slots fixed touched = flat_map (λ id. if is_none (fixed_at fixed id) then option_to_list (bound_limit slots id) else []) touched
 
+-- none of the list is below this; none: the list is empty
+abbrev pub IsFloor : Option ℕ → List ℕ → Type 0
+IsFloor None list = list ≡ []
+IsFloor (Some floor) list = (x : ℕ) → Contains list x → floor ≤ x
+
+-- it is above the level, or there is none
+abbrev pub IsOver : Option ℕ → ℕ → Type 0
+IsOver None level = Unit {0}
+IsOver (Some floor) level = level < floor
+
+-- the level is the least of the limits, and the floor is one of the bounds; none: there are no limits
+abbrev pub IsLow : Option Low → List ℕ → List ℕ → Type 0
+IsLow None limits bounds = limits ≡ []
+IsLow (Some low) limits bounds = IsLeast (Some low.level) limits × IsFloor low.floor bounds
+
 -- the touched flows with all resources that they use, and all flows on these
 pub record AreJoined (s : Sharing) (touched reached : List ℕ) : Type 0 where
   pub part : ArePart s touched
@@ -184,3 +200,19 @@ AreAbove s row low filling =
 -- all flows of the row are fixed
 abbrev pub AreFixed : List ℕ → Filling → Type 0
 AreFixed row filling = (i : ℕ) → i < length row → IsSome (fixed_at filling.fixed.items (slice_index row i))
+
+-- each touched flow is fixed at its level among the touched flows
+abbrev pub AreLeveled : Sharing → List ℕ → Filling → Type 0
+AreLeveled s touched filling =
+    (i : ℕ) → i < length touched →
+    fixed_at filling.fixed.items (slice_index touched i) ≡ Some (level_of s.capacities (flows_at s.slots touched) (flow_in s.slots (slice_index touched i)))
+
+-- what was fixed stays at its level
+abbrev pub KeepsFixed : Filling → Filling → Type 0
+KeepsFixed old new = (id level : ℕ) → fixed_at old.fixed.items id ≡ Some level → fixed_at new.fixed.items id ≡ Some level
+
+-- the same of the flows that aren't touched
+abbrev pub KeepsOthers : List ℕ → Filling → Filling → Type 0
+KeepsOthers touched old new =
+    (id level : ℕ) → is_in id touched ≡ false →
+    fixed_at old.fixed.items id ≡ Some level → fixed_at new.fixed.items id ≡ Some level

@@ -1,10 +1,10 @@
 -- What a `Lazy` keeps its flows in: the system holds those that run, and until the next settling those that ended.
-use Rattle.std.specs.Prelude.{◌≡◌, ◌≢◌, ℕ, zero, suc, ◌+◌, ◌<◌, ◌≤◌, ◌==◌, ◌||◌, not, true, false, if◌then◌else◌, Option, None, Some, IsSome, option_map, List, [], ◌∷◌, map, length, slice_index, AllPairs}
+use Rattle.std.specs.Prelude.{◌≡◌, ◌≢◌, ℕ, zero, suc, ◌+◌, ◌≤◌, ◌==◌, ◌||◌, not, true, false, if◌then◌else◌, Option, None, Some, IsSome, option_map, List, [], ◌∷◌, map, length, slice_index, AllPairs}
 use Rattle.sg_base.specs.MarkSet.{MarkSet, is_in}
 use Rattle.sg_maxmin.specs.Fill.{Flow, flow, share_of}
 use Rattle.sg_maxmin.specs.Sharing.{Sharing, IsSound, flow_at, uses_at}
-use Rattle.sg_lazy.specs.declared.component.Component.{Component}
 use Rattle.sg_lazy.specs.declared.filling.Filling.{Filling}
+use Rattle.sg_lazy.specs.declared.settle.Found.{Found}
 use Rattle.sg_lazy.specs.declared.settle.Pending.{Pending}
 use Rattle.sg_lazy.specs.declared.settle.Rated.{Rated}
 use Rattle.sg_lazy.specs.RunningFlow.{RunningFlow, flows_in}
@@ -32,11 +32,12 @@ abbrev pub ended_in : List (Option Flow) → List ℕ → List Flow
 ended_in slots ended = map (λ id. flow_or_none (flow_at slots id)) ended
 
 -- there is room for all flows, and for all resources
-pub record HasRoom (s : Sharing) (pending : Pending) (component : Component) (filling : Filling) (rated : Rated) : Type 0 where
+pub record HasRoom (s : Sharing) (pending : Pending) (found : Found) (filling : Filling) (rated : Rated) : Type 0 where
   pub began : length s.slots ≤ pending.began.room
   pub ended : length s.slots ≤ pending.ended.room
-  pub touched : length s.slots ≤ component.touched.room
-  pub reached : component.reached.room ≡ length s.capacities
+  pub freed : found.freed.room ≡ length s.capacities
+  pub touched : length s.slots ≤ found.component.touched.room
+  pub reached : found.component.reached.room ≡ length s.capacities
   pub places : HasPlaces s filling
   pub rates : length s.slots ≤ length rated.rates.items
   pub changed : length s.slots ≤ rated.changed.room

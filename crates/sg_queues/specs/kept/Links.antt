@@ -46,7 +46,7 @@ pub record IsShifted (old new : List ℕ) (slot head : ℕ) : Type 0 where
 pub record AreRings (next prev heads : List ℕ) (ring : ℕ → List ℕ) : Type 0 where
   pub inverse : AreInverse next prev
   pub below : (head : ℕ) → is_in head heads ≡ true → head < length next
-  pub distinct : (p q : ℕ) → p < length heads → q < length heads → at heads p ≡ at heads q → p ≡ q
+  pub distinct : AllPairs (λ a b. a ≢ b) heads
   pub paths : (head : ℕ) → is_in head heads ≡ true → Path (at next) head (ring head) head
   pub slots : (head slot : ℕ) → is_in head heads ≡ true → is_in slot (ring head) ≡ true → IsSlot (length next) heads slot
   pub once : (head : ℕ) → is_in head heads ≡ true → AllPairs (λ a b. a ≢ b) (ring head)

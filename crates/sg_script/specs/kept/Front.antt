@@ -1,21 +1,16 @@
 -- What stands at the front of bytes that were read, whatever is still to come.
-use Rattle.std.specs.Prelude.{◌≡◌, ◌≢◌, Option, Some, Ok, ◌≤◌, ◌<◌, ℕ, Bool, true, false, ◌+◌, ◌++◌, List, [], ◌∷◌, length, take, drop, None, IsOk, ⊤}
+use Rattle.std.specs.Prelude.{◌≡◌, Option, Ok, ◌≤◌, ◌<◌, ℕ, Bool, true, false, ◌+◌, ◌++◌, List, [], ◌∷◌, length, take, drop, None, IsOk}
 use Rattle.std.specs.List.{position}
 use Rattle.sg_edge.specs.declared.files.Stage.{Stage}
 use Rattle.sg_edge.specs.declared.files.Stage.TheVariants.{Begun, Over, Broken as IsBroken}
 use Rattle.sg_script.specs.declared.line.Entry.{Entry}
 use Rattle.sg_script.specs.Known.{Known}
-use Rattle.sg_script.specs.Needed.{need_from}
+use Rattle.sg_script.specs.Needed.{need_from, own_actions}
 use Rattle.sg_script.specs.Rest.{May}
 use Rattle.sg_script.specs.Answer.{is_newline, is_last_line, judgement_of, judgements}
 use Rattle.sg_script.specs.Line.{Judgement}
 use Rattle.sg_script.specs.declared.front.Front.{Front}
 use Rattle.sg_script.specs.declared.front.Front.TheVariants.{Line, Unread, End, Broken}
-
--- an entry isn't this actor's
-abbrev pub IsNoOwn : ℕ → Option Entry → Type 0
-IsNoOwn actor None = ⊤
-IsNoOwn actor (Some entry) = entry.actor.0 ≢ actor
 
 -- the first line is judged as these bytes of it are; where it is good or passed over, the others
 -- are those behind it
@@ -26,10 +21,10 @@ pub record Leads (known : Known) (before : ℕ) (bytes : List ℕ) (len end : �
       ≡ judgement_of known (before + 1) (take len bytes) ∷ others
   pub behind : IsOk (judgement_of known (before + 1) (take len bytes)) →
       others ≡ judgements known (before + 1) (drop end bytes ++ rest) broken
-  pub needs : (actor earlier : ℕ) (said : Option Entry) →
-      judgement_of known (before + 1) (take len bytes) ≡ Ok said → IsNoOwn actor said →
-      need_from known broken actor before (bytes ++ rest) earlier
-      ≡ end + need_from known broken actor (before + 1) (drop end bytes ++ rest) earlier
+  pub needs : (actor later : ℕ) (said : Option Entry) →
+      judgement_of known (before + 1) (take len bytes) ≡ Ok said →
+      need_from known broken actor before (bytes ++ rest) (own_actions actor said + later)
+      ≡ end + need_from known broken actor (before + 1) (drop end bytes ++ rest) later
 
 -- no line is whole, and none is bad however it goes on
 pub record IsOpen (before : ℕ) (bytes : List ℕ) : Type 0 where

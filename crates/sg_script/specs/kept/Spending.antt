@@ -1,26 +1,30 @@
--- What the steps of an Ask have read.
-use Rattle.std.specs.Prelude.{◌≡◌, ◌+◌, ◌++◌, ℕ, Bool, List, length, Option, None, Some, Result}
-use Rattle.sg_edge.specs.Files.{PartView}
-use Rattle.sg_base.specs.declared.call.Action.{Action}
-use Rattle.sg_script.specs.Frugal.{cost_from, IsNear}
+-- What the steps of an Ask have read, and what is needed from then on.
+use Rattle.std.specs.Prelude.{◌≡◌, ◌≢◌, ◌+◌, ◌++◌, ℕ, Bool, List, [], length}
+use Rattle.sg_edge.specs.declared.files.Stage.{Stage}
+use Rattle.sg_script.specs.Frugal.{IsNear}
 use Rattle.sg_script.specs.Known.{Known}
-use Rattle.sg_script.specs.declared.fault.ScriptFault.{ScriptFault}
+use Rattle.sg_script.specs.Needed.{need_from}
 use Rattle.sg_script.specs.Rest.{May}
-use Rattle.sg_script.specs.Stands.{Kept, Reads}
+use Rattle.sg_script.specs.Stands.{Kept}
+use Rattle.sg_script.specs.kept.Queues.{queue_at}
 
--- what a step without an answer read; what the Ask needs from then on is less by what was taken
-pub record Spends (known : Known) (actor : ℕ) (old_part new_part : PartView)
+-- A piece was read, lines with so many actions of each actor were taken off the front, and so many
+-- Asks of each were answered: what is needed behind these actions is less by what was taken off.
+pub record Spends (known : Known) (stage : Stage) (piece : List ℕ) (asked : ℕ → ℕ)
     (old new : Kept) : Type 0 where
-  pub piece : List ℕ
-  pub reads : Reads piece old_part new_part
-  pub cost : (rest : List ℕ) (broken : Bool) → May new_part.stage rest broken →
-      cost_from known old (piece ++ rest) broken actor + length new.pending
-      ≡ length old.pending + length piece + cost_from known new rest broken actor
-  pub near : (rest : List ℕ) (broken : Bool) → May new_part.stage rest broken →
-      IsNear known actor piece old rest broken
+  pub own : ℕ → ℕ
+  pub queued : (actor : ℕ) → asked actor + length (queue_at new.queues actor)
+      ≡ length (queue_at old.queues actor) + own actor
+  pub cost : (rest : List ℕ) (broken : Bool) → May stage rest broken → (actor later : ℕ) →
+      need_from known broken actor old.lines (old.pending ++ (piece ++ rest)) (own actor + later)
+      + length new.pending
+      ≡ length old.pending + length piece
+      + need_from known broken actor new.lines (new.pending ++ rest) later
 
--- what a step read; one that answers reads nothing
-abbrev pub StepSpends : Known → ℕ → Option (Result (Option Action) ScriptFault) → PartView →
-    PartView → Kept → Kept → Type 0
-StepSpends known actor None old_part new_part old new = Spends known actor old_part new_part old new
-StepSpends known actor (Some answer) old_part new_part old new = new_part ≡ old_part
+-- an Ask of this actor read nothing, or less than a piece more than it needs, whatever may still
+-- come; and nothing where an action waits for it
+pub record IsThrifty (known : Known) (actor : ℕ) (stage : Stage) (piece : List ℕ)
+    (old : Kept) : Type 0 where
+  pub near : (rest : List ℕ) (broken : Bool) → May stage rest broken →
+      IsNear known actor piece old rest broken
+  pub idle : queue_at old.queues actor ≢ [] → piece ≡ []

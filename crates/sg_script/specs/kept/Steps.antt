@@ -11,7 +11,8 @@ use Rattle.sg_edge.specs.declared.files.Stage.TheVariants.{Fresh, Broken, Begun,
 use Rattle.sg_script.specs.declared.fault.ScriptFault.TheVariants.{Line, Read, Memory}
 use Rattle.sg_script.specs.declared.line.Entry.{Entry}
 use Rattle.sg_script.specs.Line.{Judgement}
-use Rattle.sg_script.specs.Stands.{Kept, answer_from, Reads, IsRead}
+use Rattle.sg_script.specs.Stands.{Kept, answer_from, one_more, Reads, IsRead}
+use Rattle.sg_script.specs.kept.Spending.{IsThrifty, Spends}
 
 -- reading this piece, and moving lines into queues, changed no answer
 abbrev pub Moves : Known → Stage → List ℕ → Kept → Kept → Type 0
@@ -33,10 +34,20 @@ pub record Tells (known : Known) (actor : ℕ) (answer : Result (Option Action) 
       other ≢ actor → answer_from known old (piece ++ rest) broken other later
       ≡ answer_from known new rest broken other later
 
--- the script goes on as it was, but for what was read
-pub record Goes (known : Known) (old_part new_part : PartView) (old new : Kept) : Type 0 where
+-- no Ask of any actor, and one of this actor
+abbrev pub no_ask : ℕ → ℕ
+no_ask other = 0
+
+abbrev pub one_ask : ℕ → ℕ → ℕ
+one_ask actor = one_more actor no_ask
+
+-- for an Ask of this actor the script goes on as it was, but for what was read
+pub record Goes (known : Known) (actor : ℕ) (old_part new_part : PartView)
+    (old new : Kept) : Type 0 where
   pub piece : List ℕ
   pub reads : Reads piece old_part new_part
+  pub thrifty : IsThrifty known actor new_part.stage piece old
+  pub spends : Spends known new_part.stage piece no_ask old new
   pub moves : Moves known new_part.stage piece old new
   pub queues : length new.queues ≡ length old.queues
 
@@ -45,6 +56,8 @@ pub record Answers (known : Known) (actor : ℕ) (answer : Result (Option Action
     (old_part new_part : PartView) (old new : Kept) : Type 0 where
   pub piece : List ℕ
   pub reads : Reads piece old_part new_part
+  pub thrifty : IsThrifty known actor new_part.stage piece old
+  pub spends : Spends known new_part.stage piece (one_ask actor) old new
   pub tells : Tells known actor answer new_part.stage piece old new
   pub queues : length new.queues ≡ length old.queues
 
@@ -54,7 +67,7 @@ abbrev pub Ends : Known → ℕ → Result (Option Action) ScriptFault → PartV
 Ends known actor (Ok answer) = Answers known actor (Ok answer)
 Ends known actor (Err (Line n kind)) = Answers known actor (Err (Line n kind))
 Ends known actor (Err Read) = Answers known actor (Err Read)
-Ends known actor (Err Memory) = Goes known
+Ends known actor (Err Memory) = Goes known actor
 
 -- whether a read may still come
 abbrev pub once : Stage → ℕ
@@ -71,7 +84,7 @@ to_do stage kept = (100000000 - kept.lines) * 20000 + (8192 - length kept.pendin
 -- what a step did: without an answer it went on, and less is to do
 abbrev pub StepIs : Known → ℕ → Option (Result (Option Action) ScriptFault) → PartView → PartView →
     Kept → Kept → Type 0
-StepIs known actor None old_part new_part old new = Goes known old_part new_part old new
+StepIs known actor None old_part new_part old new = Goes known actor old_part new_part old new
     × (queue_at new.queues actor ≡ []) × (to_do new_part.stage new < to_do old_part.stage old)
 StepIs known actor (Some answer) old_part new_part old new =
     Ends known actor answer old_part new_part old new × IsRead answer new_part

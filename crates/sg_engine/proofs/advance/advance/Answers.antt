@@ -1,22 +1,22 @@
-use Rattle.std.proofs.Common.{◌≡◌, ◌≤◌, ◌+◌, ◌∙◌, sym, ap, arith, refl, subst, ℕ, List, [], length, Ok, Option}
+use Rattle.std.proofs.Common.{◌≡◌, ◌≤◌, ◌+◌, ◌∙◌, sym, ap, arith, refl, subst, ℕ, List, length, Ok, Option}
 use Rattle.std.proofs.lemmas.List.{length-map}
 use Rattle.sg_base.specs.declared.trace_record.Record.{Record}
 use Rattle.sg_edge.specs.declared.files.Part.TheVariants.{Script}
 use Rattle.sg_edge.specs.declared.sinks.Stream.TheVariants.{Out}
-use Rattle.sg_edge.specs.Sinks.{gain, GainsFront}
 use Rattle.sg_kernel.specs.Known.{Known}
 use Rattle.sg_kernel.specs.Roads.{AreOver}
 use Rattle.sg_kernel.specs.World.{Setup}
 use Rattle.sg_script.specs.Known.{known_in}
 use Rattle.sg_script.specs.Stands.{kept_of}
-use Rattle.sg_script.proofs.Chains.{reads_none}
 use Rattle.sg_engine.specs.declared.ended.Ended.{Ended}
 use Rattle.sg_engine.specs.Output.{trace_of}
 use Rattle.sg_engine.specs.kept.Moments.{moment, script_part}
+use Rattle.sg_engine.specs.kept.Writing.{Adds, AddsFront, pending}
 use Rattle.sg_engine.specs.Run.{next_work, scene, round_or_pass}
 use Rattle.sg_engine.proofs.Parts.{room_for, seats_few}
 use Rattle.sg_engine.proofs.Files.{script_unread}
-use Rattle.sg_engine.proofs.Simulating.{advances, cuts_off_at, cuts_off_by, kept_on, part_is, scene_as}
+use Rattle.sg_engine.proofs.Fronts.{memory_cause, memory_cuts, memory_err}
+use Rattle.sg_engine.proofs.Simulating.{advances, cuts_off_at, kept_on, lacks_room, lacks_scene, part_is, part_kept, part_short, scene_as, short_kept}
 use Rattle.sg_engine.proofs.Uncut.{uncut_write}
 use Rattle.sg_engine.proofs.advance.advance.Goals as goal
 
@@ -33,22 +33,26 @@ round_or_pass-requires-clause-roads g c κs within =
 
 pub returns-in-Err-clause-part : goal.returns-in-Err-clause-part
 returns-in-Err-clause-part g c = (
-  refl,
+  memory_err _ _ _ _ _ c.end_for_memory.ensures,
   λ taken world stands.
-      cuts_off_by _ _ _ taken _ _ _ (record { piece = []; reads = reads_none _ c.requires.kept.fits.begun }),
+      part_short _ _ _ _ c.end_for_memory.result taken _ _ _ c.args.sim.now.buffer c.args.sim.now.buffer c.end_for_memory.new.buffer (g.O.Sinks.contents c.args.out.now) (g.O.Sinks.contents c.end_for_memory.new.out) _
+      (lacks_room _ (scene c.args.router.now c.args.sim.now.kernel.setup c.args.plan.now.script) taken _ _ world c.requires.kept.fits.begun stands) refl c.end_for_memory.ensures,
 )
 
 pub returns-in-Err-round_or_pass-clause-part : goal.returns-in-Err-round_or_pass-clause-part
 returns-in-Err-round_or_pass-clause-part g c = (
-  refl,
+  memory_err _ _ _ _ _ c.end_for_memory-in-Err-round_or_pass.ensures,
   λ taken world stands.
       let core = ap (λ (k : Known). k.core) c.in-Ok.ensures.kept in
-      cuts_off_by _ _ _ taken _ _ _ (c.in-Err-round_or_pass.ensures.step taken world (record { script = stands.script; core = core ∙ stands.core; minds = stands.minds })),
+      part_short _ _ _ _ c.end_for_memory-in-Err-round_or_pass.result taken _ _ _ c.round_or_pass.new.sim.buffer c.args.sim.now.buffer c.end_for_memory-in-Err-round_or_pass.new.buffer (g.O.Sinks.contents c.args.out.now) (g.O.Sinks.contents c.end_for_memory-in-Err-round_or_pass.new.out) _
+      (lacks_scene _ c.args.router.now c.args.plan.now.script c.args.sim.now.kernel.setup c.reserve_round.new.self.setup taken world _ _ (ap (λ (k : Known). k.setup) c.in-Ok.ensures.kept)
+      (c.in-Err-round_or_pass.ensures.step taken world (record { script = stands.script; core = core ∙ stands.core; minds = stands.minds }))) c.round_or_pass.ensures.seats.buffer
+      c.end_for_memory-in-Err-round_or_pass.ensures,
 )
 
-pub returns-in-Err-print_records-clause-part : goal.returns-in-Err-print_records-clause-part
-returns-in-Err-print_records-clause-part g c = (
-  c.in-Err-print_records.ensures.writes.err_held,
+pub returns-in-Err-put_trace-clause-part : goal.returns-in-Err-put_trace-clause-part
+returns-in-Err-put_trace-clause-part g c = (
+  c.in-Err-put_trace.ensures.err_held,
   λ taken world stands.
       let names = known_in c.args.plan.now.deployment.now in
       let trace = trace_of c.args.plan.now.terms.show c.args.plan.now.platform.now c.args.plan.now.deployment.now in
@@ -61,9 +65,11 @@ returns-in-Err-print_records-clause-part g c = (
       let kept' = kept_of c.round_or_pass.new.sim.script in
       let same : mid ≡ record old { room = mid.room } = c.in-Ok.ensures.kept in
       let reached = c.in-Ok-round_or_pass.ensures.step taken world (record { script = stands.script; core = ap (λ (k : Known). k.core) same ∙ stands.core; minds = stands.minds }) in
-      let before = g.O.Sinks.contents c.args.out.now Out in
-      let after = g.O.Sinks.contents c.print_records.new.out Out in
-      let front : GainsFront (trace new.records) before after = subst (λ (l : List Record). GainsFront (trace l) before after) c.records.ensures.are c.in-Err-print_records.ensures.writes.front in
+      let before = pending (g.O.Sinks.contents c.args.out.now Out) c.args.sim.now.buffer in
+      let after = g.O.Sinks.contents c.put_trace.new.out Out in
+      let front : AddsFront (trace new.records) before after =
+      subst (λ (b : List ℕ). AddsFront (trace new.records) (pending before.held b) after) c.round_or_pass.ensures.seats.buffer
+      (subst (λ (l : List Record). AddsFront (trace l) (pending before.held c.round_or_pass.new.sim.buffer) after) c.records.ensures.are c.in-Err-put_trace.ensures.front) in
       cuts_off_at names trace (λ answers. round_or_pass (scene c.args.router.now old.setup c.args.plan.now.script) answers world) c.in-Ok-round_or_pass.how taken _ part part' kept kept' mid new before after
       (scene_as names c.args.router.now c.args.plan.now.script old.setup mid.setup c.in-Ok-round_or_pass.how taken _ world (moment part kept mid) (moment part' kept' new) (ap (λ (k : Known). k.setup) same) reached)
       (ap (λ (k : Known). k.records) same ∙ c.requires.kept.cleared) front,
@@ -71,7 +77,7 @@ returns-in-Err-print_records-clause-part g c = (
 
 pub returns-clause-part : goal.returns-clause-part
 returns-clause-part g c = (
-  c.in-Ok-print_records.ensures.writes.err_held,
+  c.in-Ok-put_trace.ensures.err_held,
   λ taken world stands.
       let names = known_in c.args.plan.now.deployment.now in
       let trace = trace_of c.args.plan.now.terms.show c.args.plan.now.platform.now c.args.plan.now.deployment.now in
@@ -86,15 +92,18 @@ returns-clause-part g c = (
       let kept' = kept_of c.round_or_pass.new.sim.script in
       let same : mid ≡ record old { room = mid.room } = c.in-Ok.ensures.kept in
       let reached = c.in-Ok-round_or_pass.ensures.step taken world (record { script = stands.script; core = ap (λ (k : Known). k.core) same ∙ stands.core; minds = stands.minds }) in
-      let before = g.O.Sinks.contents c.args.out.now Out in
-      let after = g.O.Sinks.contents c.print_records.new.out Out in
+      let before = pending (g.O.Sinks.contents c.args.out.now Out) c.args.sim.now.buffer in
+      let after = pending (g.O.Sinks.contents c.put_trace.new.out Out) c.put_trace.new.buffer in
+      let printed : Adds (trace new.records) before after =
+      subst (λ (b : List ℕ). Adds (trace new.records) (pending before.held b) after) c.round_or_pass.ensures.seats.buffer
+      (subst (λ (l : List Record). Adds (trace l) (pending before.held c.round_or_pass.new.sim.buffer) after) c.records.ensures.are c.in-Ok-put_trace.ensures.written) in
       part_is names trace _ how taken _ _ _ before after c.in-Ok-round_or_pass.ensures.script.uncut
       (advances names trace (λ answers. round_or_pass (scene c.args.router.now old.setup c.args.plan.now.script) answers world) how taken _ part part' kept kept' old mid new before after
       (scene_as names c.args.router.now c.args.plan.now.script old.setup mid.setup how taken _ world (moment part kept mid) (moment part' kept' new) (ap (λ (k : Known). k.setup) same) reached)
       (ap (λ (k : Known). k.records) same ∙ c.requires.kept.cleared)
       c.requires.kept.cleared
       (ap (λ (k : Known). k.setup) same)
-      (c.in-Ok-print_records.ensures.writes.out_held ∙ ap (λ (l : List Record). gain before (trace l)) c.records.ensures.are)
+      printed
       new'
       (ap (λ (k : Known). k.core) c.clear_records.ensures)
       (ap (λ (k : Known). k.setup) c.clear_records.ensures)),
@@ -104,21 +113,32 @@ pub round_or_pass-requires-clause-room : goal.round_or_pass-requires-clause-room
 round_or_pass-requires-clause-room g c κs within = room_for c.reserve_round.new.self c.requires.kept c.in-Ok.ensures.kept (seats_few _ c.args.seats.now _ c.in-Ok.ensures.room)
 
 pub returns-in-Err-clause-cause : goal.returns-in-Err-clause-cause
-returns-in-Err-clause-cause g c = record { write = λ is. cc is; sound = λ isnt. c.requires.sound; read = λ is. cc is }
+returns-in-Err-clause-cause g c = memory_cause _ _ _ _ _ _ c.end_for_memory.ensures
+
+pub returns-in-Err-clause-kept : goal.returns-in-Err-clause-kept
+returns-in-Err-clause-kept g c = short_kept _ c.end_for_memory.result _ _ _ _ (memory_cuts _ _ _ _ _ c.end_for_memory.ensures) (ap (λ (k : Known). k.setup) c.in-Err.ensures.kept)
 
 pub returns-in-Err-clause-script : goal.returns-in-Err-clause-script
 returns-in-Err-clause-script g c = script_unread g.F.Files.shows c.args.plan.now.script c.args.files.now
 
 pub returns-in-Err-round_or_pass-clause-cause : goal.returns-in-Err-round_or_pass-clause-cause
-returns-in-Err-round_or_pass-clause-cause g c = record { write = λ is. cc is; sound = λ isnt. c.requires.sound; read = λ is. cc is }
+returns-in-Err-round_or_pass-clause-cause g c = memory_cause _ _ _ _ _ _ c.end_for_memory-in-Err-round_or_pass.ensures
 
-pub returns-in-Err-print_records-clause-cause : goal.returns-in-Err-print_records-clause-cause
-returns-in-Err-print_records-clause-cause g c = record { write = λ is. c.in-Err-print_records.ensures.writes.failed; sound = λ isnt. absurd (isnt refl); read = λ is. cc is }
+pub returns-in-Err-round_or_pass-clause-kept : goal.returns-in-Err-round_or_pass-clause-kept
+returns-in-Err-round_or_pass-clause-kept g c =
+    short_kept _ c.end_for_memory-in-Err-round_or_pass.result _ _ _ _ (memory_cuts _ _ _ _ _ c.end_for_memory-in-Err-round_or_pass.ensures)
+    (c.round_or_pass.ensures.seats.setup ∙ ap (λ (k : Known). k.setup) c.in-Ok.ensures.kept)
+
+pub returns-in-Err-put_trace-clause-cause : goal.returns-in-Err-put_trace-clause-cause
+returns-in-Err-put_trace-clause-cause g c = record { write = λ is. c.in-Err-put_trace.ensures.failed; sound = λ isnt. absurd (isnt refl); read = λ is. cc is }
+
+pub returns-in-Err-put_trace-clause-kept : goal.returns-in-Err-put_trace-clause-kept
+returns-in-Err-put_trace-clause-kept g c = record { setup = c.round_or_pass.ensures.seats.setup ∙ ap (λ (k : Known). k.setup) c.in-Ok.ensures.kept; kept = tt }
 
 pub returns-clause-cause : goal.returns-clause-cause
 returns-clause-cause g c = record {
   write = λ is. absurd (uncut_write c.in-Ok-round_or_pass.how c.in-Ok-round_or_pass.ensures.script.uncut is);
-  sound = λ isnt. c.in-Ok-print_records.ensures.writes.sound;
+  sound = λ isnt. c.in-Ok-put_trace.ensures.sound;
   read = λ is. c.in-Ok-round_or_pass.ensures.script.cause (ap (λ (h : Option Ended). Ok h) is);
 }
 
@@ -127,9 +147,9 @@ returns-clause-kept g c =
     let kept = c.requires.kept in
     let seats = c.round_or_pass.ensures.seats in
     let setup = seats.setup ∙ ap (λ (k : Known). k.setup) c.in-Ok.ensures.kept in
-    rw c.in-Ok-round_or_pass.ensures.script.uncut
+    part_kept _ _ _ _ _ _ c.in-Ok-round_or_pass.ensures.script.uncut (ap (λ (k : Known). k.setup) c.clear_records.ensures ∙ setup)
     (kept_on c.args.plan.now.deployment.now _ _ _ c.round_or_pass.new.sim.kernel c.round_or_pass.ensures.fits c.clear_records.ensures (ap (λ (s : Setup). length s.homes) setup ∙ kept.homes) seats.seated
-    (length-map c.round_or_pass.new.seats _ ∙ c.round_or_pass.auto.seats ∙ sym (length-map c.args.seats.now _) ∙ kept.number) (omega (arith, seats.calls, kept.calls)) kept.few c.in-Ok-print_records.ensures.empty)
+    (length-map c.round_or_pass.new.seats _ ∙ c.round_or_pass.auto.seats ∙ sym (length-map c.args.seats.now _) ∙ kept.number) (omega (arith, seats.calls, kept.calls)) kept.few)
 
 pub returns-clause-steps : goal.returns-clause-steps
 returns-clause-steps g c = next_as c.args.sim.now.kernel c.reserve_round.new.self c.args.steps.now c.round_or_pass.new.steps c.in-Ok.ensures.kept c.round_or_pass.ensures.steps
@@ -137,14 +157,14 @@ returns-clause-steps g c = next_as c.args.sim.now.kernel c.reserve_round.new.sel
 pub returns-in-Err-round_or_pass-clause-steps : goal.returns-in-Err-round_or_pass-clause-steps
 returns-in-Err-round_or_pass-clause-steps g c = next_as c.args.sim.now.kernel c.reserve_round.new.self c.args.steps.now c.round_or_pass.new.steps c.in-Ok.ensures.kept c.round_or_pass.ensures.steps
 
-pub returns-in-Err-print_records-clause-steps : goal.returns-in-Err-print_records-clause-steps
-returns-in-Err-print_records-clause-steps g c = next_as c.args.sim.now.kernel c.reserve_round.new.self c.args.steps.now c.round_or_pass.new.steps c.in-Ok.ensures.kept c.round_or_pass.ensures.steps
+pub returns-in-Err-put_trace-clause-steps : goal.returns-in-Err-put_trace-clause-steps
+returns-in-Err-put_trace-clause-steps g c = next_as c.args.sim.now.kernel c.reserve_round.new.self c.args.steps.now c.round_or_pass.new.steps c.in-Ok.ensures.kept c.round_or_pass.ensures.steps
 
 pub returns-in-Err-round_or_pass-clause-script : goal.returns-in-Err-round_or_pass-clause-script
 returns-in-Err-round_or_pass-clause-script g c = c.in-Err-round_or_pass.ensures.script.reads
 
-pub returns-in-Err-print_records-clause-script : goal.returns-in-Err-print_records-clause-script
-returns-in-Err-print_records-clause-script g c = c.in-Ok-round_or_pass.ensures.script.reads
+pub returns-in-Err-put_trace-clause-script : goal.returns-in-Err-put_trace-clause-script
+returns-in-Err-put_trace-clause-script g c = c.in-Ok-round_or_pass.ensures.script.reads
 
 pub returns-clause-script : goal.returns-clause-script
 returns-clause-script g c = c.in-Ok-round_or_pass.ensures.script.reads

@@ -1,6 +1,7 @@
-use Rattle.std.proofs.Common.{◌∙◌, ◌++◌, sym, subst, refl, arith, get_or, length}
+use Rattle.std.proofs.Common.{◌∙◌, ◌++◌, sym, subst, refl, arith, get_or}
 use Rattle.sg_kernel.specs.Roads.{AreOver}
 use Rattle.sg_kernel.specs.World.{Setup}
+use Rattle.sg_route.specs.Roads.{Roads}
 use Rattle.sg_script.proofs.Chains.{reads_none}
 use Rattle.sg_engine.specs.Run.{scene}
 use Rattle.sg_engine.proofs.Reaching.{reached_none}
@@ -14,24 +15,28 @@ loop-place-init g c = record {
   reached = λ minds taken world stands. reached_none _ (rest_from (scene c.args.router.now c.args.kernel.now.setup c.args.plan.now.script) c.args.calls.now 0) taken minds _ world (reads_none _ c.requires.fits.begun) stands;
   fits = c.requires.fits;
   script = record { others = λ q away. refl; unscripted = λ isnt. refl };
+  router = refl;
   setup = refl;
   room = omega (arith, c.requires.room);
   callers = λ j d from below. (c.requires.callers j d below).0;
 }
 
 pub answer_one-requires-clause-roads : goal.answer_one-requires-clause-roads
-answer_one-requires-clause-roads g c = subst (λ (setup : Setup). AreOver setup.links c.args.router.now) (sym c.loop-place.invariant.setup) c.requires.roads
+answer_one-requires-clause-roads g c =
+    subst (λ (setup : Setup). AreOver setup.links c.loop-place.router) (sym c.loop-place.invariant.setup)
+    (subst (λ (roads : Roads). AreOver c.args.kernel.now.setup.links roads) (sym c.loop-place.invariant.router) c.requires.roads)
 
 pub returns-in-Ok-Some-clause-step : goal.returns-in-Ok-Some-clause-step
 returns-in-Ok-Some-clause-step g c = λ minds taken world stands.
     let first = c.loop-place.invariant.reached minds taken world stands in
     last_call _ _ c.args.router.now c.args.kernel.now.setup c.args.plan.now.script c.args.calls.now c.loop-place.place _ c.in-Ok-Some.how taken minds _ _ _ c.loop-place-test.true c.loop-place.invariant.setup first
-    (rw c.in-Ok-Some.field-0-is at (c.in-Ok-Some.ensures.step minds (taken ++ first.piece) first.world first.stands))
+    (rw (c.in-Ok-Some.field-0-is, c.loop-place.invariant.router) at (c.in-Ok-Some.ensures.step minds (taken ++ first.piece) first.world first.stands))
 
 pub returns-in-Err-clause-step : goal.returns-in-Err-clause-step
 returns-in-Err-clause-step g c = λ minds taken world stands.
     let first = c.loop-place.invariant.reached minds taken world stands in
-    cut_later first.piece _ _ _ first.reads (c.in-Err.ensures.step minds (taken ++ first.piece) first.world first.stands)
+    cut_later _ _ c.args.router.now c.args.kernel.now.setup c.args.plan.now.script c.args.calls.now c.loop-place.place _ taken minds _ _ _ c.loop-place-test.true c.loop-place.invariant.setup first
+    (rw c.loop-place.invariant.router at (c.in-Err.ensures.step minds (taken ++ first.piece) first.world first.stands))
 
 pub loop-place-preserved : goal.loop-place-preserved
 loop-place-preserved g c =
@@ -40,9 +45,10 @@ loop-place-preserved g c =
       reached = λ minds taken world stands.
           let first = inv.reached minds taken world stands in
           one_more_call _ _ c.args.router.now c.args.kernel.now.setup c.args.plan.now.script c.args.calls.now c.loop-place.place _ taken minds _ _ _ c.loop-place-test.true inv.setup first
-          (rw c.in-Ok-None.field-0-is at (c.in-Ok-None.ensures.step minds (taken ++ first.piece) first.world first.stands));
+          (rw (c.in-Ok-None.field-0-is, inv.router) at (c.in-Ok-None.ensures.step minds (taken ++ first.piece) first.world first.stands));
       fits = c.in-Ok-None.ensures.fits;
       script = script_then _ _ _ _ _ inv.script c.in-Ok-None.ensures.script.reads;
+      router = c.in-Ok-None.ensures.router ∙ inv.router;
       setup = c.in-Ok-None.ensures.setup ∙ inv.setup;
       room = omega (arith, inv.room, c.in-Ok-None.ensures.room);
       callers = λ j d from below.

@@ -17,9 +17,10 @@ invariant-loop-place g l =
     let now = moment_of l.plan.script (g.F.Files.shows l.files Script) l.script l.kernel in
     record {
       reached : (minds : List (Option Mind)) (taken : List ℕ) (world : World) → StandsFor (known_in l.plan.deployment.now) taken minds first world →
-          IsStretch world.work (known_in l.plan.deployment.now) (λ answers. calls_of (scene l.router l.fn.kernel.setup l.plan.script) answers l.calls world) (rest_from (scene l.router l.fn.kernel.setup l.plan.script) l.calls l.place) taken minds first now;
+          IsStretch world.work (known_in l.plan.deployment.now) (λ answers. calls_of (scene l.fn.router l.fn.kernel.setup l.plan.script) answers l.calls world) (rest_from (scene l.fn.router l.fn.kernel.setup l.plan.script) l.calls l.place) taken minds first now;
       fits : Fits l.plan.deployment.now now;
       script : ReadsScript g.F.Files.shows l.plan.script l.fn.files l.files;
+      router : l.router ≡ l.fn.router;
       setup : l.kernel.setup ≡ l.fn.kernel.setup;
       room : length l.calls ≤ l.kernel.room + l.place;
       callers : (j : ℕ) (d : ActorCall) → l.place ≤ j → j < length l.calls → MayCall l.kernel.core (get_or l.calls j d).actor.0;

@@ -16,7 +16,7 @@ answer_calls-requires-clause-room g c = calls_few _ c.args.seats.now c.args.sim.
 
 pub returns-clause-step : goal.returns-clause-step
 returns-clause-step g c = λ taken world stands.
-    round_as c.answer_calls.result _ (scene c.args.router.now c.args.sim.now.kernel.setup c.args.plan.now.script) taken _ _ c.as_slice.result.now world _ _ _ stands c.take_turns.ensures.minds (c.as_slice.ensures.value ∙ c.take_turns.ensures.calls)
+    round_as c.answer_calls.result _ (scene c.args.router.now c.args.sim.now.kernel.setup c.args.plan.now.script) taken _ _ c.as_slice.result.now world _ _ stands c.take_turns.ensures.minds (c.as_slice.ensures.value ∙ c.take_turns.ensures.calls)
     (λ next. c.answer_calls.ensures.step _ taken next)
 
 pub returns-clause-seats : goal.returns-clause-seats

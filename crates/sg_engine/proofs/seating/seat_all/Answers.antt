@@ -1,7 +1,5 @@
-use Rattle.std.proofs.Common.{◌≡◌, ◌+◌, ◌<◌, ◌≤◌, ◌∙◌, ap, arith, get_or, length, List, map, None, refl, subst, sym}
-use Rattle.std.specs.Prelude.{All}
-use Rattle.sg_rows.specs.Deployment.{extent_of, IsFunction}
-use Rattle.sg_rows.specs.declared.rows.ActorRow.{ActorRow}
+use Rattle.std.proofs.Common.{◌≡◌, ◌+◌, ◌∙◌, ap, arith, length, None, sym}
+use Rattle.sg_rows.specs.Deployment.{extent_of}
 use Rattle.sg_engine.proofs.Castings.{all_but_last, all_seated_more, function_can, function_is, function_of, minds_more, seats_more, the_last}
 use Rattle.sg_engine.proofs.seating.seat_all.Goals as goal
 

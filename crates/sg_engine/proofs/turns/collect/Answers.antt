@@ -1,4 +1,4 @@
-use Rattle.std.proofs.Common.{◌≡◌, ◌+◌, ◌-◌, ◌∙◌, arith, ap, false, get_or, length, map, None, refl, sym, take}
+use Rattle.std.proofs.Common.{◌≡◌, ◌∙◌, arith, ap, length, map, refl, take}
 use Rattle.std.proofs.lemmas.List.{length-map, length-take}
 use Rattle.sg_actor.specs.Seats.{seat_views}
 use Rattle.sg_engine.specs.kept.CallList.{call_list}
@@ -6,7 +6,7 @@ use Rattle.sg_engine.specs.kept.SeatRules.{call_in, at_rest}
 use Rattle.sg_engine.proofs.Listing.{listed_short}
 use Rattle.sg_engine.proofs.Queues.{last_id, last_before}
 use Rattle.sg_engine.proofs.SeatSteps.{idle_rests}
-use Rattle.sg_engine.proofs.Stepping.{id_at, change_next, changes_end, change_was, called_on, all_called}
+use Rattle.sg_engine.proofs.Stepping.{change_next, changes_end, change_was, called_on, all_called}
 use Rattle.sg_engine.proofs.turns.collect.Goals as goal
 
 pub loop-actor-init : goal.loop-actor-init

@@ -1,7 +1,6 @@
-use Rattle.std.proofs.Common.{◌∙◌, arith, false, List, map, None, refl, subst, sym}
+use Rattle.std.proofs.Common.{arith, refl, subst, sym}
 use Rattle.std.specs.Prelude.{All}
-use Rattle.std.proofs.lemmas.List.{length-map}
-use Rattle.sg_actor.specs.Seats.{SeatView, after}
+use Rattle.sg_actor.specs.Seats.{after}
 use Rattle.sg_engine.specs.kept.SeatRules.{IsCast}
 use Rattle.sg_engine.proofs.Merging.{all_merged}
 use Rattle.sg_engine.proofs.Queues.{last_id}

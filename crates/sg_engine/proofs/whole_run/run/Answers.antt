@@ -1,7 +1,10 @@
-use Rattle.std.proofs.Common.{refl, arith}
+use Rattle.std.proofs.Common.{◌∙◌, sym, subst, refl, arith, length}
 use Rattle.sg_edge.specs.declared.files.Part.TheVariants.{Script}
+use Rattle.sg_kernel.specs.Roads.{AreOver}
+use Rattle.sg_kernel.specs.Start.{link_caps}
+use Rattle.sg_route.specs.Roads.{Roads}
 use Rattle.sg_engine.specs.kept.Moments.{script_part}
-use Rattle.sg_engine.proofs.Endings.{is_begun}
+use Rattle.sg_engine.proofs.Endings.{is_begun, takes_none}
 use Rattle.sg_engine.proofs.Fronts.{fronts_none}
 use Rattle.sg_engine.proofs.Starting.{first_as}
 use Rattle.sg_engine.proofs.whole_run.run.Goals as goal
@@ -28,3 +31,19 @@ returns-clause-cause g c = record { write = λ is. cc is; sound = λ isnt. c.req
 
 pub returns-clause-script : goal.returns-clause-script
 returns-clause-script g c = record { others = λ q away. refl; unscripted = λ isnt. refl; name = refl; telling = λ some. some }
+
+pub returns-in-Err-clause-needed : goal.returns-in-Err-clause-needed
+returns-in-Err-clause-needed g c = λ source gives. takes_none _ _ _ refl
+
+pub returns-clause-needed : goal.returns-clause-needed
+returns-clause-needed g c = λ source gives. takes_none _ _ _ refl
+
+pub invariant_of-setup-in-Ok-start : goal.invariant_of-setup-in-Ok-start
+invariant_of-setup-in-Ok-start g c = record {
+  deployed = c.args.setup.now.deployed;
+  roads = c.run_from.ensures.router ∙ c.args.setup.now.roads;
+  over = subst (λ (roads : Roads). AreOver (length (link_caps c.args.setup.now.platform.links)) roads) (sym c.run_from.ensures.router) c.args.setup.now.over;
+}
+
+pub returns-in-Ok-start-clause-setup : goal.returns-in-Ok-start-clause-setup
+returns-in-Ok-start-clause-setup g c = record { platform = refl; deployment = refl; router = c.run_from.ensures.router; script = refl }

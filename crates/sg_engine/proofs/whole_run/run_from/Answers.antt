@@ -1,15 +1,12 @@
-use Rattle.std.proofs.Common.{◌≡◌, ◌∙◌, ap, sym, arith, true, false}
+use Rattle.std.proofs.Common.{◌∙◌, ap, sym, arith}
 use Rattle.sg_edge.specs.declared.files.Part.TheVariants.{Script}
-use Rattle.sg_engine.proofs.Endings.{run_ends, run_cut, run_work, is_going, goes_on_telling, keeps_name, broken_part, in_cut, in_over}
+use Rattle.sg_engine.proofs.Endings.{run_ends, run_cut, run_needed, run_work, is_going, goes_on_telling, keeps_name, broken_part, in_cut, in_over}
 use Rattle.sg_engine.proofs.whole_run.run_from.Goals as goal
 
 pub finish-requires-clause-of : goal.finish-requires-clause-of
 finish-requires-clause-of g c =
     let kept = in_over _ _ (sym c.is_cut.ensures ∙ c.if-is_cut.false) c.simulate-how.ensures.kept in
     record { number = kept.fits.actors; extent = kept.fits.extent; few = omega (arith, kept.fits.actors, kept.few) }
-
-pub finish-requires-clause-empty : goal.finish-requires-clause-empty
-finish-requires-clause-empty g c = (in_over _ _ (sym c.is_cut.ensures ∙ c.if-is_cut.false) c.simulate-how.ensures.kept).empty
 
 pub finish-requires-clause-how : goal.finish-requires-clause-how
 finish-requires-clause-how g c = sym c.is_cut.ensures ∙ c.if-is_cut.false
@@ -25,6 +22,13 @@ returns-then-is_cut-clause-output g c = λ source gives.
           c.simulate-how.ensures.err;
       work = cut.worked source (going cut.cut.piece cut.cut.reads);
     }
+
+pub returns-then-is_cut-clause-needed : goal.returns-then-is_cut-clause-needed
+returns-then-is_cut-clause-needed g c = λ source gives.
+    let going = is_going c.args.plan.now.script _ _ source (λ over. g.met.F.Files.nothing_left c.simulate-how.new.files Script over) gives in
+    let cut = (in_cut _ _ (sym c.is_cut.ensures ∙ c.if-is_cut.true) c.simulate-how.ensures.run).cut in
+    run_needed c.args.plan.now.platform.now c.args.plan.now.deployment.now c.args.plan.now.script c.args.plan.now.terms.budget c.args.plan.now.terms.show cut.piece _ _ source going cut.reads
+    (λ isnt. ap (λ (f : _). g.F.Files.shows f Script) (c.simulate-how.ensures.script.unscripted isnt)) cut.needed
 
 pub returns-then-is_cut-clause-cause : goal.returns-then-is_cut-clause-cause
 returns-then-is_cut-clause-cause g c =
@@ -48,10 +52,17 @@ returns-else-is_cut-clause-output g c = λ source gives.
     let going = is_going c.args.plan.now.script _ _ source (λ over. g.met.F.Files.nothing_left c.simulate-how.new.files Script over) gives in
     let over = in_over _ _ (sym c.is_cut.ensures ∙ c.if-is_cut.false) c.simulate-how.ensures.run in
     record {
-      ends = run_ends c.args.steps.now c.simulate-how.new.steps c.args.plan.now.platform.now c.args.plan.now.deployment.now c.args.plan.now.script c.args.plan.now.terms.budget c.args.plan.now.terms.show c.simulate-how.result c.finish.result c.simulate-how.new.sim.kernel.core _ _ _ _ _ source
+      ends = run_ends c.args.steps.now c.simulate-how.new.steps c.args.plan.now.platform.now c.args.plan.now.deployment.now c.args.plan.now.script c.args.plan.now.terms.budget c.args.plan.now.terms.show c.simulate-how.result c.finish.result c.simulate-how.new.sim.kernel.core _ _ c.simulate-how.new.sim.buffer _ _ _ source
           going over c.simulate-how.ensures.err c.finish.ensures.ends;
       work = run_work c.args.steps.now c.simulate-how.new.steps c.args.plan.now.platform.now c.args.plan.now.deployment.now c.args.plan.now.script c.args.plan.now.terms.budget c.args.plan.now.terms.show c.simulate-how.result c.simulate-how.new.sim.kernel.core _ _ _ _ source going over;
     }
+
+pub returns-else-is_cut-clause-needed : goal.returns-else-is_cut-clause-needed
+returns-else-is_cut-clause-needed g c = λ source gives.
+    let going = is_going c.args.plan.now.script _ _ source (λ over. g.met.F.Files.nothing_left c.simulate-how.new.files Script over) gives in
+    let over = in_over _ _ (sym c.is_cut.ensures ∙ c.if-is_cut.false) c.simulate-how.ensures.run in
+    run_needed c.args.plan.now.platform.now c.args.plan.now.deployment.now c.args.plan.now.script c.args.plan.now.terms.budget c.args.plan.now.terms.show over.piece _ _ source going over.reads
+    (λ isnt. ap (λ (f : _). g.F.Files.shows f Script) (c.simulate-how.ensures.script.unscripted isnt)) over.needed
 
 pub returns-else-is_cut-clause-cause : goal.returns-else-is_cut-clause-cause
 returns-else-is_cut-clause-cause g c =

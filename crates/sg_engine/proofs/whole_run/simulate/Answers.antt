@@ -1,4 +1,4 @@
-use Rattle.std.proofs.Common.{◌≡◌, ◌≤◌, false, ◌∙◌, ◌+◌, ◌-◌, suc, sym, ap, ap₂, refl, arith, None, Some, length, subst}
+use Rattle.std.proofs.Common.{◌≡◌, ◌≤◌, ◌∙◌, ◌+◌, ◌-◌, suc, sym, ap, ap₂, refl, arith, None, Some, [], subst}
 use Rattle.sg_edge.specs.declared.files.Part.TheVariants.{Script}
 use Rattle.sg_edge.specs.declared.sinks.Stream.TheVariants.{Out}
 use Rattle.sg_kernel.specs.Roads.{AreOver}
@@ -7,13 +7,16 @@ use Rattle.sg_route.specs.Roads.{Roads}
 use Rattle.sg_script.specs.Known.{known_in}
 use Rattle.sg_script.specs.Stands.{kept_of}
 use Rattle.sg_engine.specs.declared.ended.Ended.{Ended}
+use Rattle.sg_engine.specs.declared.ended.Ended.TheVariants as ended
 use Rattle.sg_engine.specs.RunContract.{is_cut}
-use Rattle.sg_engine.specs.kept.Moments.{cuts, script_part}
+use Rattle.sg_engine.specs.kept.Moments.{script_part}
 use Rattle.sg_engine.specs.kept.Invariant.{at_moment}
+use Rattle.sg_engine.specs.kept.Writing.{pending}
 use Rattle.sg_engine.specs.Output.{first_of, trace_of, scene_of}
-use Rattle.sg_engine.specs.Run.{scene, run_of, run_from, next_work, round_or_pass}
+use Rattle.sg_engine.specs.Run.{scene, run_of, run_from, next_work}
 use Rattle.sg_engine.proofs.Files.{script_then, script_unread}
 use Rattle.sg_engine.proofs.Simulating.{rest_of, far_first, far_on, far_ends, completed, part_as, trace_appends, trace_none, used_up, work_more}
+use Rattle.sg_engine.proofs.Uncut.{none_not}
 use Rattle.sg_engine.proofs.whole_run.simulate.Goals as goal
 
 pub loop-turn-init : goal.loop-turn-init
@@ -25,11 +28,12 @@ loop-turn-init g c =
     let first = c.requires.first in
     let none : c.args.plan.now.terms.budget + 1 - 0 ≡ c.args.plan.now.terms.budget + 1 = omega arith in
     record {
-      far = far_first c.args.steps.now (known_in deployed) (trace_of c.args.plan.now.terms.show platform deployed) (run_of at origin) (rest_of (c.args.plan.now.terms.budget + 1 - 0) at) _ (script_part c.args.plan.now.script (g.F.Files.shows c.args.files.now Script)) (kept_of c.args.sim.now.script) c.args.sim.now.kernel (g.O.Sinks.contents c.args.out.now Out)
+      far = far_first c.args.steps.now (known_in deployed) (trace_of c.args.plan.now.terms.show platform deployed) (run_of at origin) (rest_of (c.args.plan.now.terms.budget + 1 - 0) at) _ (script_part c.args.plan.now.script (g.F.Files.shows c.args.files.now Script)) (kept_of c.args.sim.now.script) c.args.sim.now.kernel (g.O.Sinks.contents c.args.out.now Out) c.args.sim.now.buffer
           origin first.kept.fits.begun first.stands
           (λ answers. sym (ap (λ n. run_from n at answers origin) none))
-          refl (trace_none c.args.plan.now.terms.show platform deployed);
+          refl (trace_none c.args.plan.now.terms.show platform deployed) first.empty;
       kept = first.kept;
+      router = refl;
       same = first.setup;
       err = refl;
       sound = c.requires.sound;
@@ -37,7 +41,9 @@ loop-turn-init g c =
     }
 
 pub advance-requires-clause-roads : goal.advance-requires-clause-roads
-advance-requires-clause-roads g c κs within = subst (λ (s : Setup). AreOver s.links c.args.router.now) (sym c.loop-turn.invariant.same) c.requires.roads.over
+advance-requires-clause-roads g c κs within =
+    subst (λ (roads : Roads). AreOver c.loop-turn.sim.kernel.setup.links roads) (sym c.loop-turn.invariant.router)
+    (subst (λ (s : Setup). AreOver s.links c.args.router.now) (sym c.loop-turn.invariant.same) c.requires.roads.over)
 
 pub returns-then-ending-clause-run : goal.returns-then-ending-clause-run
 returns-then-ending-clause-run g c =
@@ -65,9 +71,10 @@ returns-in-Some-clause-run g c =
     let how = c.in-Some.how in
     let old = at_moment (script_part c.args.plan.now.script (g.F.Files.shows c.loop-turn.files Script)) c.loop-turn.sim in
     let new = at_moment (script_part c.args.plan.now.script (g.F.Files.shows c.advance.new.files Script)) c.advance.new.sim in
-    let before = g.O.Sinks.contents c.loop-turn.out Out in
-    let after = g.O.Sinks.contents c.advance.new.out Out in
-    let part = c.in-Some.ensures.part.1 far.reached.piece far.reached.world (record { script = far.reached.stands.script; core = far.reached.stands.core; minds = far.reached.stands.minds }) in
+    let before = pending (g.O.Sinks.contents c.loop-turn.out Out) c.loop-turn.sim.buffer in
+    let after = pending (g.O.Sinks.contents c.advance.new.out Out) c.advance.new.sim.buffer in
+    let leads = rw inv.router at c.in-Some.ensures.part in
+    let part = leads.1 far.reached.piece far.reached.world (record { script = far.reached.stands.script; core = far.reached.stands.core; minds = far.reached.stands.minds }) in
     let next = far.reached.world.work + next_work far.reached.world.core in
     let same : scene c.args.router.now c.loop-turn.sim.kernel.setup c.args.plan.now.script ≡ at = ap₂ (λ (r : Roads) (t : Setup). scene r t c.args.plan.now.script) c.requires.roads.are inv.same in
     let part' = part_as next names trace _ at (Some how) far.reached.piece _ far.reached.world old new before after same part in
@@ -75,7 +82,7 @@ returns-in-Some-clause-run g c =
     work_more c.args.steps.now c.loop-turn.steps c.advance.new.steps far.spent far.reached.world.work (next_work c.loop-turn.sim.kernel.core) (next_work far.reached.world.core) far.worked far.reached.work
     (ap next_work far.reached.stands.core) c.in-Some.ensures.steps in
     far_ends c.args.steps.now c.loop-turn.steps c.advance.new.steps names trace (trace_appends c.args.plan.now.terms.show platform deployed) (run_of at origin) how (is_cut how) n m at _ _
-    _ _ _ _ _ _ c.args.sim.now.kernel c.loop-turn.sim.kernel c.advance.new.sim.kernel (g.O.Sinks.contents c.args.out.now Out) before after far more (sym c.ending.ensures.is ∙ c.if-ending.false) c.requires.first.kept.cleared inv.kept.cleared part' worked
+    _ _ _ _ _ _ c.args.sim.now.kernel c.loop-turn.sim.kernel c.advance.new.sim.kernel (pending (g.O.Sinks.contents c.args.out.now Out) []) before after far more (sym c.ending.ensures.is ∙ c.if-ending.false) c.requires.first.kept.cleared inv.kept.cleared part' worked
 
 pub loop-turn-preserved : goal.loop-turn-preserved
 loop-turn-preserved g c =
@@ -92,9 +99,10 @@ loop-turn-preserved g c =
     let more : n ≡ suc m = omega (arith, c.loop-turn-test.true) in
     let old = at_moment (script_part c.args.plan.now.script (g.F.Files.shows c.loop-turn.files Script)) c.loop-turn.sim in
     let new = at_moment (script_part c.args.plan.now.script (g.F.Files.shows c.advance.new.files Script)) c.advance.new.sim in
-    let before = g.O.Sinks.contents c.loop-turn.out Out in
-    let after = g.O.Sinks.contents c.advance.new.out Out in
-    let part = c.in-None.ensures.part.1 far.reached.piece far.reached.world (record { script = far.reached.stands.script; core = far.reached.stands.core; minds = far.reached.stands.minds }) in
+    let before = pending (g.O.Sinks.contents c.loop-turn.out Out) c.loop-turn.sim.buffer in
+    let after = pending (g.O.Sinks.contents c.advance.new.out Out) c.advance.new.sim.buffer in
+    let leads = rw inv.router at c.in-None.ensures.part in
+    let part = leads.1 far.reached.piece far.reached.world (record { script = far.reached.stands.script; core = far.reached.stands.core; minds = far.reached.stands.minds }) in
     let next = far.reached.world.work + next_work far.reached.world.core in
     let same : scene c.args.router.now c.loop-turn.sim.kernel.setup c.args.plan.now.script ≡ at = ap₂ (λ (r : Roads) (t : Setup). scene r t c.args.plan.now.script) c.requires.roads.are inv.same in
     let part' = part_as next names trace _ at None far.reached.piece _ far.reached.world old new before after same part in
@@ -103,11 +111,12 @@ loop-turn-preserved g c =
     (ap next_work far.reached.stands.core) c.in-None.ensures.steps in
     record {
       far = far_on c.args.steps.now c.loop-turn.steps c.advance.new.steps names trace (trace_appends c.args.plan.now.terms.show platform deployed) (run_of at origin) n m at _ _
-          _ _ _ _ _ _ c.args.sim.now.kernel c.loop-turn.sim.kernel c.advance.new.sim.kernel (g.O.Sinks.contents c.args.out.now Out) before after far more (sym c.ending.ensures.is ∙ c.if-ending.false) c.requires.first.kept.cleared inv.kept.cleared part' worked;
-      kept = c.in-None.ensures.kept;
-      same = c.in-None.ensures.setup ∙ inv.same;
+          _ _ _ _ _ _ c.args.sim.now.kernel c.loop-turn.sim.kernel c.advance.new.sim.kernel (pending (g.O.Sinks.contents c.args.out.now Out) []) before after far more (sym c.ending.ensures.is ∙ c.if-ending.false) c.requires.first.kept.cleared inv.kept.cleared part' worked;
+      kept = c.in-None.ensures.kept.kept;
+      router = c.in-None.ensures.router ∙ inv.router;
+      same = c.in-None.ensures.kept.setup ∙ inv.same;
       err = c.in-None.ensures.part.0 ∙ inv.err;
-      sound = c.in-None.ensures.cause.sound (λ e. cc e);
+      sound = c.in-None.ensures.cause.sound (none_not ended.WriteFault);
       script = script_then _ _ _ _ _ inv.script c.in-None.ensures.script;
     }
 
@@ -137,6 +146,9 @@ returns-in-Some-clause-script g c = script_then _ _ _ _ _ c.loop-turn.invariant.
 
 pub returns-clause-cause : goal.returns-clause-cause
 returns-clause-cause g c = record { write = λ is. cc is; sound = λ isnt. c.loop-turn.invariant.sound; read = λ is. cc is }
+
+pub returns-in-Some-clause-kept : goal.returns-in-Some-clause-kept
+returns-in-Some-clause-kept g c = c.in-Some.ensures.kept.kept
 
 pub returns-in-Some-clause-err : goal.returns-in-Some-clause-err
 returns-in-Some-clause-err g c = c.in-Some.ensures.part.0 ∙ c.loop-turn.invariant.err

@@ -14,28 +14,28 @@ use Rattle.sg_kernel.proofs.Firsts.{links_fit, IsFirst, first_is, first_meeting,
 use Rattle.sg_kernel.proofs.beginning.first_fields.Goals.{After-drop-hosts-2}
 use Rattle.sg_kernel.proofs.beginning.first_fields.Goals as goal
 
-pub new-requires-6-clause-hosts : goal.new-requires-6-clause-hosts
-new-requires-6-clause-hosts c =
+pub make_idle-requires-clause-hosts : goal.make_idle-requires-clause-hosts
+make_idle-requires-clause-hosts c =
     let are : c.deref-2.result.now ≡ map host_cap c.args.platform.now.hosts = c.deref-2.ensures.value ∙ c.in_ok-hosts.ensures ∙ ap (map host_cap) c.hosts.ensures.rows in
     subst (All IsHost) (sym are) (All-map IsHost host_cap _ (λ k d within. let fit = c.hosts.ensures.kept.hosts k d within in (fit.speed, fit.cores)))
 
-pub new-requires-6-clause-links : goal.new-requires-6-clause-links
-new-requires-6-clause-links c =
+pub make_idle-requires-clause-links : goal.make_idle-requires-clause-links
+make_idle-requires-clause-links c =
     let are : c.deref-3.result.now ≡ link_caps c.args.platform.now.links = c.deref-3.ensures.value ∙ c.in_ok-links.ensures ∙ ap link_caps c.links.ensures.rows in
     subst (All IsLink) (sym are) (links_fit _ c.links.ensures.kept.links)
 
 -- what is made
 abbrev made : After-drop-hosts-2 → Fields
 made c = record {
-  doing = c.in_ok-new-4.field-0;
-  states = c.in_ok-new.field-0;
-  whose = c.new-2.result;
-  boxes = c.new-3.result;
-  requests = c.in_ok-new-2.field-0;
-  objects = c.in_ok-new-3.field-0;
+  doing = c.in_ok-idle.idle.doing;
+  states = c.in_ok-states.states;
+  whose = c.new-4.result;
+  boxes = c.in_ok-idle.idle.boxes;
+  requests = c.in_ok-requests.requests;
+  objects = c.in_ok-objects.objects;
   hosts = c.len-2.result;
   links = c.len-3.result;
-  homes = c.in_ok-homes.field-0;
+  homes = c.in_ok-homes.homes;
   mutexes = length c.mutexes-mutexes.result.now;
   semaphores = c.in_ok-semaphores.semaphores;
   members = c.members-members.result;
@@ -59,15 +59,15 @@ first c =
     let mutexes = ap length c.mutexes-mutexes.ensures.rows in
     let semaphores : c.len.result ≡ length deployed.semaphores = c.len.ensures ∙ c.in_ok-semaphores.semaphores.ok.0 ∙ ap length (capacities_are c) ∙ length-map deployed.semaphores capacity_of in
     record {
-      doing = c.in_ok-new-4.ensures ∙ ap₂ (λ hosts links. idle_on hosts links) (hosts_are c) (links_are c);
-      states = c.in_ok-new.ensures
+      doing = c.in_ok-idle.ensures.doing ∙ ap₂ (λ hosts links. idle_on hosts links) (hosts_are c) (links_are c);
+      states = c.in_ok-states.ensures
           ∙ ap (λ n. first_states n (length c.mutexes-mutexes.result.now) c.len.result) actors
           ∙ ap (λ n. first_states (length deployed.actors) n c.len.result) mutexes
           ∙ ap (λ n. first_states (length deployed.actors) (length deployed.mutexes) n) semaphores;
-      whose = c.new-2.ensures;
-      boxes = c.new-3.ensures.empty;
-      requests = c.in_ok-new-2.ensures ∙ ap (λ n. record { queues = replicate n []; asked = 0; room = 0 }) actors;
-      objects = c.in_ok-new-3.ensures ∙ objects_first c.args.platform.now deployed c.args.budget _ _ _ _ actors mutexes (c.deref.ensures.value ∙ capacities_are c) (c.members-members.ensures ∙ ap (count_by replays) c.actors.ensures.rows);
+      whose = c.new-4.ensures;
+      boxes = c.in_ok-idle.ensures.boxes;
+      requests = c.in_ok-requests.ensures ∙ ap (λ n. record { queues = replicate n []; asked = 0; room = 0 }) actors;
+      objects = c.in_ok-objects.ensures ∙ objects_first c.args.platform.now deployed c.args.budget _ _ _ _ actors mutexes (c.deref.ensures.value ∙ capacities_are c) (c.members-members.ensures ∙ ap (count_by replays) c.actors.ensures.rows);
       hosts = c.len-2.ensures ∙ c.in_ok-hosts.hosts.ok.0 ∙ ap length (c.in_ok-hosts.ensures ∙ ap (map host_cap) c.hosts.ensures.rows);
       links = c.len-3.ensures ∙ c.in_ok-links.links.ok.0 ∙ ap length (c.in_ok-links.ensures ∙ ap link_caps c.links.ensures.rows);
       homes = c.in_ok-homes.ensures ∙ ap (map (λ (actor : ActorRow). actor.host)) c.actors-2.ensures.rows;

@@ -16,7 +16,7 @@ use Rattle.sg_kernel.proofs.Moves.{whole_counted}
 use Rattle.sg_kernel.proofs.meetings.post.Goals as goal
 
 pub enter-requires-clause-above : goal.enter-requires-clause-above
-enter-requires-clause-above c = waiting_below c.args.fields.now c.args.comer.mailbox c.take_serial-serial.result.0 c.take_serial-serial.ensures.serial c.requires.able.whole.sound c.requires.able.whole.meeting
+enter-requires-clause-above c = λ other. waiting_below c.args.fields.now other c.take_serial-serial.result.0 c.take_serial-serial.ensures.serial c.requires.able.whole.sound c.requires.able.whole.meeting
 
 pub take_part-requires-clause-whole : goal.take_part-requires-clause-whole
 take_part-requires-clause-whole c =
@@ -36,7 +36,7 @@ take_part-requires-clause-whole c =
     let many = ap (λ (l : List Whose). length l) whose ∙ length-append old.whose.whose (w ∷ []) in
     let more : length old.whose.whose ≤ length c.push.new.self.whose = omega (arith, many) in
     record {
-      sound = sound_with counted doing c.push.new.self c.enter.new.boxes (omega (arith, long, many, was.sound.numbered)) (omega (arith, long, c.requires.able.whole.sound.few)) (ap (λ (d : Doing). d.under.capacities) drawn) was.sound;
+      sound = sound_with counted doing c.push.new.self c.enter.new.self (omega (arith, long, many, was.sound.numbered)) (omega (arith, long, c.requires.able.whole.sound.few)) (ap (λ (d : Doing). d.under.capacities) drawn) was.sound;
       roomy = record {
         starts = omega (arith, was.roomy.starts, ap (λ (d : Doing). d.room) drawn);
         owners = omega (arith, was.roomy.owners, ap (λ (o : Owned). o.room) c.push.ensures);
@@ -47,14 +47,14 @@ take_part-requires-clause-whole c =
       limited = subst (All (IsOwner e)) (sym whose) (All-push (IsOwner e) old.whose.whose w was.limited c.requires.comer.side);
       meeting = record {
         posts =
-            subst (AreTold c.enter.new.boxes) (sym whose)
-            (told_posted old.boxes c.enter.new.boxes comer.mailbox comer.sends comer.side c.take_serial-serial.result old.whose.whose next c.requires.alone entered.there entered.elsewhere was.meeting.posts);
+            subst (AreTold c.enter.new.self) (sym whose)
+            (told_posted old.boxes c.enter.new.self comer.mailbox comer.sends comer.side c.take_serial-serial.result old.whose.whose next c.requires.alone entered.there entered.elsewhere was.meeting.posts);
         idle =
             subst (λ (l : List Whose). AreIdle l doing.under.tasks) (sym whose)
             (subst (λ (l : List (Option Task)). AreIdle (old.whose.whose ++ w ∷ []) l) (sym tasks)
             (idle_more old.whose.whose old.doing.under.tasks w None was.sound.numbered (λ e. refl) was.meeting.idle));
         asked = made_more (length old.whose.whose) (length c.push.new.self.whose) old.requests.queues more was.meeting.asked;
       };
-      held = held_with counted doing c.push.new.self c.enter.new.boxes was.held;
+      held = held_with counted doing c.push.new.self c.enter.new.self was.held;
       round = was.round;
     }

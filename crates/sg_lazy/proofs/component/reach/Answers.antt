@@ -1,4 +1,4 @@
-use Rattle.std.proofs.Common.{◌≡◌, ℕ, ◌<◌, length, get_or, below_more, refl, ap, ◌∙◌, subst, sym, arith}
+use Rattle.std.proofs.Common.{◌≡◌, ◌<◌, length, get_or, below_more, refl, ap, subst, sym, arith}
 use Rattle.sg_chains.specs.Chained.{users_on}
 use Rattle.sg_lazy.specs.kept.Component.{RowPasses, AreIn}
 use Rattle.sg_lazy.proofs.Growing.{all_stay, at_in, in_at, lengths_more}
@@ -26,9 +26,9 @@ loop-k-preserved g c =
           (all_stay (users_on s.users (get_or old i 0)) were are out.spreads.touched (inv.visited i h)))
           (subst (λ n. AreIn (users_on s.users n) are) (sym (out.spreads.reached.same k less)) there);
       within = omega (arith, less, out.spreads.reached.longer);
-      least = λ p q closed back t r.
-          let b = inv.least p q closed back t r in
-          out.least p q closed (subst (λ n. RowPasses p (users_on s.users n)) (sym number) (back (get_or old k 0) (b.1 (get_or old k 0) (in_at (get_or old k 0) old k less refl)))) b.0 b.1;
+      least = λ p q along t r.
+          let b = inv.least p q along t r in
+          out.least p q along.uses (subst (λ n. RowPasses p (users_on s.users n)) (sym number) (along.users (get_or old k 0) (b.1 (get_or old k 0) (in_at (get_or old k 0) old k less refl)))) b.0 b.1;
       looks = omega (arith, inv.looks, out.looks, lengths_more (users_on s.users) old new k less out.spreads.reached, ap (λ n. length (users_on s.users n)) number);
     }
 

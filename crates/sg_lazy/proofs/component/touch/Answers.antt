@@ -1,5 +1,5 @@
-use Rattle.std.proofs.Common.{◌≡◌, ◌<◌, ℕ, inl, inr, true, false, All, length, ap, ◌∙◌, subst, sym, arith}
-use Rattle.sg_base.specs.MarkSet.{MarkSet, is_in, with_mark}
+use Rattle.std.proofs.Common.{◌≡◌, ◌<◌, inl, inr, true, false, All, ap, ◌∙◌, subst, sym, arith}
+use Rattle.sg_base.specs.MarkSet.{MarkSet, is_in}
 use Rattle.sg_maxmin.specs.Sharing.{uses_at}
 use Rattle.sg_lazy.specs.kept.Component.{AreIn, AllPass, Grows, lengths}
 use Rattle.sg_lazy.proofs.Growing.{all_stay, grows_mark, lengths_mark, mark_cases, pass_mark}

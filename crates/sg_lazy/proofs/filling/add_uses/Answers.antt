@@ -1,10 +1,9 @@
-use Rattle.std.proofs.Common.{◌≡◌, ◌+◌, ◌-◌, ◌*◌, ◌<◌, ◌≤◌, ℕ, suc, List, Option, Some, min, IsSome, length, take, get_or, set, refl, sym, ap, subst, ◌∙◌, arith}
+use Rattle.std.proofs.Common.{◌+◌, ◌*◌, ◌<◌, ◌≤◌, suc, length, take, get_or, ap, ◌∙◌, arith}
 use Rattle.std.proofs.lemmas.List.Elements.{All-get_or}
 use Rattle.sg_chains.specs.Chained.{times}
 use Rattle.sg_maxmin.specs.Sharing.{uses_at}
 use Rattle.sg_chains.specs.Walk.{next_of_flow, resource_of}
 use Rattle.sg_lazy.proofs.Led.{can_look, looked, walk_on, nearer, walked}
-use Rattle.sg_lazy.specs.kept.Filling.{weight_at}
 use Rattle.sg_lazy.proofs.Rows.{take_all, weight_is}
 use Rattle.sg_lazy.proofs.Walked.{add_more, room_more}
 use Rattle.sg_lazy.proofs.filling.add_uses.Goals as goal

@@ -1,10 +1,10 @@
-use Rattle.std.proofs.Common.{◌≡◌, ◌+◌, ◌^◌, ◌/◌, ◌<◌, ℕ, List, length, get_or, refl, sym, ap, subst, ◌∙◌, arith}
+use Rattle.std.proofs.Common.{◌≡◌, ◌+◌, ◌^◌, ◌/◌, ◌<◌, ℕ, List, Option, get_or, refl, sym, ap, subst, ◌∙◌}
 use Rattle.std.specs.Vec.{with_items}
 use Rattle.std.proofs.lemmas.List.{with_items_is}
 use Rattle.sg_base.specs.MarkSet.{is_in}
 use Rattle.sg_maxmin.specs.Sharing.{uses_at}
-use Rattle.sg_maxmin.proofs.Members.{In, In-map}
-use Rattle.sg_lazy.specs.kept.Filling.{AreCounted, flow_in, flows_at, weight_of}
+use Rattle.sg_maxmin.proofs.Members.{In-map}
+use Rattle.sg_lazy.specs.kept.Filling.{AreCounted, fixed_at, flow_in, flows_at, weight_of}
 use Rattle.sg_lazy.proofs.Growing.{at_in, in_at}
 use Rattle.sg_lazy.proofs.Rows.{in_is, into, is_in_In}
 use Rattle.sg_lazy.proofs.Starts.{fits, part_limits, share_fits, starts}
@@ -16,7 +16,7 @@ unfix-requires-clause-fits g c = λ x.
     let v = c.args.filling.now.waiting in
     let e : c.deref_mut-4.result.now ≡ c.reset.new.waiting = c.deref_mut-4.ensures.value ∙ with_items_is v c.reset.new.waiting (c.reset.auto.waiting ∙ c.deref_mut-2.ensures.len) in
     subst (λ (xs : List ℕ). get_or xs x 0 + weight_of s.slots c.args.touched.now x < 2 ^ 64) (sym e)
-    (fits s c.args.touched.now c.args.reached.now c.requires.part c.requires.covers c.reset.new.waiting c.requires.once x c.reset.ensures.waiting (c.reset.ensures.small x))
+    (fits s c.args.touched.now c.args.reached.now c.requires.joined.part c.requires.joined.closed.covers c.reset.new.waiting c.requires.joined.once x c.reset.ensures.waiting (c.reset.ensures.small x))
 
 pub fill_steps-requires-clause-counted : goal.fill_steps-requires-clause-counted
 fill_steps-requires-clause-counted g c =
@@ -29,7 +29,7 @@ fill_steps-requires-clause-counted g c =
     let fixed : (with_items f.fixed c.unfix.new.fixed).items ≡ c.unfix.new.fixed = with_items_is f.fixed c.unfix.new.fixed (c.unfix.auto.fixed ∙ c.deref_mut-3.ensures.len) in
     let left : (with_items f.left c.reset.new.left).items ≡ c.reset.new.left = with_items_is f.left c.reset.new.left (c.reset.auto.left ∙ c.deref_mut.ensures.len) in
     let waiting : (with_items v c.unfix.new.waiting).items ≡ c.unfix.new.waiting = with_items_is v c.unfix.new.waiting (c.unfix.auto.waiting ∙ c.deref_mut-4.ensures.len) in
-    let out = starts s touched reached c.requires.part c.requires.covers c.reset.new.left c.reset.new.waiting c.unfix.new.waiting c.unfix.new.fixed c.reset.ensures.left c.reset.ensures.waiting c.unfix.ensures.fixed
+    let out = starts s touched reached c.requires.joined.part c.requires.joined.closed.covers c.reset.new.left c.reset.new.waiting c.unfix.new.waiting c.unfix.new.fixed c.reset.ensures.left c.reset.ensures.waiting c.unfix.ensures.fixed
     (λ x. c.unfix.ensures.waiting x ∙ ap (λ (xs : List ℕ). get_or xs x 0 + weight_of s.slots touched x) were) in
     subst (λ xs. AreCounted s xs touched (with_items f.left c.reset.new.left).items (with_items v c.unfix.new.waiting).items (λ x. is_in x reached)) (sym fixed)
     (subst (λ (xs : List ℕ). AreCounted s c.unfix.new.fixed touched xs (with_items v c.unfix.new.waiting).items (λ x. is_in x reached)) (sym left)
@@ -42,12 +42,9 @@ returns-clause-fits g c = λ i h free.
     let reached = c.args.reached.now in
     let id = get_or touched i 0 in
     let here = in_at id touched i h refl in
-    share_fits s.capacities (flows_at s.slots touched) (flow_in s.slots id) (part_limits s touched c.requires.part) (In-map (flow_in s.slots) touched id (is_in_In id touched here)) free
-    (λ x u. let at = at_in x reached (into (uses_at s.slots id) reached x (c.requires.covers id here) (in_is x (uses_at s.slots id) u)) in
+    share_fits s.capacities (flows_at s.slots touched) (flow_in s.slots id) (part_limits s touched c.requires.joined.part) (In-map (flow_in s.slots) touched id (is_in_In id touched here)) free
+    (λ x u. let at = at_in x reached (into (uses_at s.slots id) reached x (c.requires.joined.closed.covers id here) (in_is x (uses_at s.slots id) u)) in
     subst (λ n. get_or s.capacities n 0 < 2 ^ 64) at.2 (c.reset.ensures.fit at.0 at.1))
-
-pub fill_steps-requires-clause-joined : goal.fill_steps-requires-clause-joined
-fill_steps-requires-clause-joined g c = record { part = c.requires.part; once = c.requires.once; closed = record { covers = c.requires.covers; covered = c.requires.covered }; distinct = c.requires.distinct; exist = c.requires.exist }
 
 pub fill_steps-requires-clause-levels : goal.fill_steps-requires-clause-levels
 fill_steps-requires-clause-levels g c = λ x r.
@@ -61,3 +58,10 @@ fill_steps-requires-clause-levels g c = λ x r.
     let n = get_or reached at.0 0 in
     subst (λ n. get_or (with_items f.levels levels).items n 0 ≡ get_or left.items n 0 / get_or waiting.items n 0) at.2
     (ap (λ xs. get_or xs n 0) kept ∙ c.set_levels.ensures.listed at.0 at.1 ∙ ap (λ (xs : List ℕ). get_or xs n 0 / get_or c.deref-2.result.now n 0) c.deref.ensures.value ∙ ap (λ (xs : List ℕ). get_or left.items n 0 / get_or xs n 0) c.deref-2.ensures.value)
+
+pub returns-clause-kept : goal.returns-clause-kept
+returns-clause-kept g c = λ id x off e.
+    let f = c.args.filling.now in
+    let fixed : (with_items f.fixed c.unfix.new.fixed).items ≡ c.unfix.new.fixed = with_items_is f.fixed c.unfix.new.fixed (c.unfix.auto.fixed ∙ c.deref_mut-3.ensures.len) in
+    c.fill_steps.ensures.kept id x
+    (ap (λ xs. fixed_at xs id) fixed ∙ c.unfix.ensures.others id off ∙ ap (λ (xs : List (Option ℕ)). fixed_at xs id) c.deref_mut-3.ensures.value ∙ e)

@@ -1,4 +1,4 @@
-use Rattle.std.proofs.Common.{◌≡◌, ◌≢◌, ℕ, zero, suc, ◌+◌, ◌*◌, ◌/◌, ◌<◌, ◌≤◌, ◌⊎◌, inl, inr, Bool, true, false, is_none, cond, Option, None, Some, List, [], ◌∷◌, length, get_or, sum_by, AllPairs, refl, sym, ap, subst, ◌∙◌, arith}
+use Rattle.std.proofs.Common.{◌≡◌, ℕ, zero, suc, ◌+◌, ◌*◌, ◌<◌, ◌≤◌, ◌⊎◌, inl, inr, Bool, true, false, is_none, cond, Option, None, Some, List, [], ◌∷◌, length, get_or, sum_by, refl, sym, ap, subst, ◌∙◌, arith}
 use Rattle.std.proofs.lemmas.List.{length-map}
 use Rattle.std.proofs.lemmas.List.Sums.{count_by-le-length, sum_by-cons}
 use Rattle.sg_base.specs.MarkSet.{is_in}
@@ -10,6 +10,7 @@ use Rattle.sg_maxmin.proofs.Leveled.{all_fixed}
 use Rattle.sg_maxmin.proofs.Proved.{level_fixed, limited_from, steps-next}
 use Rattle.sg_lazy.specs.kept.Component.{Covers, lengths}
 use Rattle.sg_lazy.specs.kept.Filling.{IsLeast, IsStepped, fixed_at, flow_in, flows_at, limits_at, unfixed_limits, unfixed_uses}
+use Rattle.sg_lazy.proofs.Floors.{floor_fewer, floor_zero}
 use Rattle.sg_lazy.proofs.Rows.{in_is, into, is_in_In, rows_once}
 use Rattle.sg_lazy.proofs.Starts.{part_limits}
 use Rattle.sg_lazy.proofs.Stepped.{limits_are, next_fixed}
@@ -59,15 +60,20 @@ above_least s fixed levels touched low least id i none x k =
     let part : In x (cond (is_none (fixed_at fixed id)) (limits_at s.slots levels id) []) = subst (λ (o : Option ℕ). In x (cond (is_none o) (limits_at s.slots levels id) [])) (sym none) k in
     least.1 x (contains_from_In (unfixed_limits s.slots fixed levels touched) x (In-flat_map (λ f. cond (is_none (fixed_at fixed f)) (limits_at s.slots levels f) []) touched id x (is_in_In id touched i) part))
 
+-- what is unfixed after a step was so before
+unfixed_before : (low : ℕ) (at : Type 0) (old new : Option ℕ) → IsStepped low at old new → new ≡ None → old ≡ None
+unfixed_before low at None new h e = refl
+unfixed_before low at (Some x) new h e = sym h ∙ e
+
 pub loop-n-init : goal.loop-n-init
 unfolding steps_from
-loop-n-init g c = record { places = c.requires.places; fixed_are = λ i h. sym (c.requires.unfixed i h); counted = c.requires.counted; levels = c.requires.levels; looks = omega arith }
+loop-n-init g c = record { places = c.requires.places; kept = λ id x e. e; fixed_are = λ i h. sym (c.requires.unfixed i h); counted = c.requires.counted; levels = c.requires.levels; floor = floor_zero _; looks = omega arith }
 
 pub step-requires-clause-above : goal.step-requires-clause-above
 step-requires-clause-above g c = λ id i none x k.
     let s = c.args.system.now in
     let f = c.loop-n.filling in
-    above_least s f.fixed.items f.levels.items c.args.touched.now c.in-Some.low c.in-Some.ensures id i none x (In-from_contains (limits_at s.slots f.levels.items id) x k)
+    above_least s f.fixed.items f.levels.items c.args.touched.now c.in-Some.low.level c.in-Some.ensures.0 id i none x (In-from_contains (limits_at s.slots f.levels.items id) x k)
 
 pub loop-n-preserved : goal.loop-n-preserved
 loop-n-preserved g c =
@@ -81,17 +87,19 @@ loop-n-preserved g c =
     let new = c.step.new.filling in
     let levels = f.levels.items in
     let inv = c.loop-n.invariant in
-    let low = c.in-Some.low in
+    let low = c.in-Some.low.level in
     let stepped = of_each (λ f. IsStepped low (IsLeast (Some low) (limits_at s.slots levels f)) (fixed_at old f) (fixed_at new.fixed.items f)) touched c.step.ensures.stepped in
     let next = next_fixed s old touched (steps_from c.loop-n.n s.capacities flows unfixed) (λ f i. rows_once s joined.part.sound f)
     (of_each (λ f. steps_from c.loop-n.n s.capacities flows unfixed (flow_in s.slots f) ≡ fixed_at old f) touched inv.fixed_are) f.left.items f.waiting.items levels (λ x. is_in x reached) inv.counted
-    inv.levels (covers_in (uses_at s.slots) touched reached joined.closed.covers) new.fixed.items low c.in-Some.ensures stepped in
+    inv.levels (covers_in (uses_at s.slots) touched reached joined.closed.covers) new.fixed.items low c.in-Some.ensures.0 stepped in
     let twice = counts_twice_lem (uses_at s.slots) (users_on s.users) touched reached joined.part.sound.both joined.distinct joined.closed.covered in
     record {
       places = c.step.ensures.places;
+      kept = λ id x e. c.step.ensures.kept id x (inv.kept id x e);
       fixed_are = λ i h. ap (λ (k : Fixed). k (flow_in s.slots (get_or touched i 0))) (steps-next c.loop-n.n s.capacities flows unfixed) ∙ next (get_or touched i 0) (in_index touched i h);
       counted = c.step.ensures.count.counted (λ x. is_in x reached) inv.counted;
       levels = c.step.ensures.levels;
+      floor = floor_fewer c.in-Some.low.floor s old new.fixed.items touched (λ f i e. unfixed_before low (IsLeast (Some low) (limits_at s.slots levels f)) (fixed_at old f) (fixed_at new.fixed.items f) (stepped f i) e) c.in-Some.ensures.1;
       looks = more c.loop-n.n (lengths (uses_at s.slots) touched) c.loop-n.steps c.step.new.steps c.args.steps.now (lengths (users_on s.users) reached) (unfixed_uses s.slots old touched) (unfixed_uses s.slots new.fixed.items touched) inv.looks c.step.ensures.count.looks twice (few_unfixed (uses_at s.slots) old touched);
     }
   where
@@ -131,3 +139,6 @@ returns-clause-fixed g c = λ i h.
     level_at s old touched c.loop-n.n id (omega arith) (c.loop-n.invariant.fixed_are i h) (λ none.
     all_fixed (length flows) s.capacities flows unfixed (limited_from s.capacities flows (part_limits s touched c.requires.joined.part)) (count_by-le-length (λ f. true) flows) (flow_in s.slots id) (In-map (flow_in s.slots) touched id (in_index touched i h))
     (ap (λ k. steps_from k s.capacities flows unfixed (flow_in s.slots id)) (sym all) ∙ c.loop-n.invariant.fixed_are i h ∙ none))
+
+pub step-requires-clause-floor : goal.step-requires-clause-floor
+step-requires-clause-floor g c = c.in-Some.ensures.1

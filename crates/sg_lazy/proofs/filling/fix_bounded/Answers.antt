@@ -1,6 +1,4 @@
-use Rattle.std.proofs.Common.{◌≡◌, ◌+◌, ◌<◌, ℕ, true, false, true≢false, None, Some, Option, IsSome, is_some, length, get_or, refl, sym, subst, ap, ◌∙◌, arith}
-use Rattle.sg_lazy.specs.kept.Filling.{fixed_at}
-use Rattle.sg_lazy.proofs.Rows.{any_default, held_below}
+use Rattle.std.proofs.Common.{arith}
 use Rattle.sg_lazy.proofs.Fixing.{bound_in, in_one_self, partly_same}
 use Rattle.sg_lazy.proofs.filling.fix_bounded.Goals as goal
 

@@ -1,13 +1,13 @@
-use Rattle.std.proofs.Common.{◌≡◌, true, suc, ◌+◌, ◌<◌, IsSome, Some, None, length, get_or, below_more, refl, sym, ap, subst, ◌∙◌, arith}
+use Rattle.std.proofs.Common.{◌≡◌, true, suc, IsSome, Some, get_or, below_more, refl, sym, ap, subst, ◌∙◌, arith}
 use Rattle.sg_base.specs.MarkSet.{is_in}
 use Rattle.sg_chains.specs.Chained.{users_on}
 use Rattle.sg_chains.specs.Walk.{next_on, user_of}
-use Rattle.sg_maxmin.specs.Sharing.{flow_at, uses_at}
+use Rattle.sg_maxmin.specs.Sharing.{uses_at}
 use Rattle.sg_lazy.specs.kept.Filling.{IsLeast, fixed_at, limits_at}
 use Rattle.sg_lazy.proofs.Growing.{in_at}
 use Rattle.sg_lazy.proofs.Led.{can_look, looked, walk_from, walk_on, nearer, walked}
 use Rattle.sg_lazy.proofs.Rows.{on_held, same_in}
-use Rattle.sg_lazy.proofs.Fixing.{above_still, count_on, count_same, level_in, partly_on, partly_same, some_stays}
+use Rattle.sg_lazy.proofs.Fixing.{above_still, level_in, partly_on, partly_same, some_stays}
 use Rattle.sg_lazy.proofs.filling.fix_users.Goals as goal
 
 pub loop-at-init : goal.loop-at-init

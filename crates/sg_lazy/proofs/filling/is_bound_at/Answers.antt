@@ -1,7 +1,5 @@
-use Rattle.std.proofs.Common.{◌≡◌, ℕ, Option, None, Some, true, false, true≢false, eqb, eqb-true, eq-eqb, option_map, sym, ap, ap₂, ◌∙◌, arith}
-use Rattle.sg_maxmin.specs.Fill.{bound_level}
-use Rattle.sg_lazy.specs.kept.Filling.{bound_at, bound_limit, weight_at}
-use Rattle.sg_lazy.proofs.Rows.{bound_is, weighs, weight_is}
+use Rattle.std.proofs.Common.{◌≡◌, ℕ, None, Some, arith}
+use Rattle.sg_lazy.proofs.Rows.{weighs, weight_is}
 use Rattle.sg_lazy.proofs.filling.is_bound_at.Goals as goal
 
 none_some : {x : ℕ} → None ≡ Some x → ⊥

@@ -1,4 +1,4 @@
-use Rattle.std.proofs.Common.{◌≡◌, ◌++◌, ℕ, Option, None, Some, List, [], ◌∷◌, option_map, option_to_list, refl, sym, ap, subst, ◌∙◌, arith}
+use Rattle.std.proofs.Common.{◌≡◌, ◌++◌, ℕ, Option, Some, option_map, option_to_list, sym, ap, subst, ◌∙◌, arith}
 use Rattle.sg_maxmin.specs.Fill.{bound_level}
 use Rattle.sg_lazy.specs.kept.Filling.{IsLeast, bound_at, bound_limit, least_with}
 use Rattle.sg_lazy.proofs.Rows.{bound_is, weighs, weight_is}

@@ -1,7 +1,8 @@
-use Rattle.std.proofs.Common.{◌≡◌, ◌/◌, ℕ, inl, inr, get_or, ap, ap₂, sym, ◌∙◌}
+use Rattle.std.proofs.Common.{◌/◌, inl, inr, Some, get_or, ap, ap₂, sym, ◌∙◌}
 use Rattle.sg_base.specs.MarkSet.{is_in}
 use Rattle.sg_lazy.proofs.Listing.{bool_cases}
-use Rattle.sg_lazy.proofs.Fixing.{count_kept}
+use Rattle.sg_lazy.specs.kept.Filling.{IsLeast, fixed_at, limits_at}
+use Rattle.sg_lazy.proofs.Fixing.{count_kept, level_stays}
 use Rattle.sg_lazy.proofs.filling.step.Goals as goal
 
 pub returns-clause-stepped : goal.returns-clause-stepped
@@ -23,3 +24,11 @@ returns-clause-levels g c = λ x r.
 
 pub returns-clause-count : goal.returns-clause-count
 returns-clause-count g c = count_kept c.args.system.now c.args.touched.now c.args.filling.now c.fix_all.new.filling c.renew.new.filling _ _ c.renew.ensures.kept.0 c.renew.ensures.kept.1 c.renew.ensures.kept.2 c.fix_all.ensures.count
+
+pub returns-clause-kept : goal.returns-clause-kept
+returns-clause-kept g c = λ id x e.
+    let old = c.args.filling.now in
+    let mid = c.fix_all.new.filling in
+    let low = c.args.low.level in
+    ap (λ xs. fixed_at xs id) c.renew.ensures.kept.0
+    ∙ level_stays low (IsLeast (Some low) (limits_at c.args.system.now.slots old.levels.items id)) (fixed_at old.fixed.items id) (fixed_at mid.fixed.items id) x (c.fix_all.ensures.partly.flows id) e

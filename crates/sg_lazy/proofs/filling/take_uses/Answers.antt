@@ -1,11 +1,11 @@
-use Rattle.std.proofs.Common.{◌≡◌, ◌+◌, ◌-◌, ◌*◌, ◌<◌, ℕ, suc, List, Option, Some, min, IsSome, length, take, get_or, set, refl, sym, ap, subst, ◌∙◌, arith}
+use Rattle.std.proofs.Common.{◌-◌, ◌*◌, ◌<◌, suc, length, get_or, ap, ◌∙◌, arith}
 use Rattle.std.proofs.lemmas.List.Elements.{All-get_or}
 use Rattle.sg_chains.specs.Chained.{times}
 use Rattle.sg_maxmin.specs.Sharing.{uses_at}
 use Rattle.sg_chains.specs.Walk.{next_of_flow, resource_of}
 use Rattle.sg_lazy.proofs.Led.{can_look, looked, walk_on, nearer, walked}
 use Rattle.sg_maxmin.specs.Fill.{bounded, share_at}
-use Rattle.sg_lazy.specs.kept.Filling.{bound_at, flow_in, weight_at}
+use Rattle.sg_lazy.specs.kept.Filling.{weight_at}
 use Rattle.sg_lazy.proofs.Rows.{bound_is, take_all, weight_is}
 use Rattle.sg_lazy.proofs.Walked.{take_off}
 use Rattle.sg_lazy.proofs.filling.take_uses.Goals as goal

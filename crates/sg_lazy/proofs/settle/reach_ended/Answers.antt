@@ -1,4 +1,4 @@
-use Rattle.std.proofs.Common.{◌<◌, ℕ, length, get_or, below_more, ◌∙◌, arith}
+use Rattle.std.proofs.Common.{◌<◌, length, get_or, below_more, ◌∙◌, arith}
 use Rattle.std.proofs.lemmas.List.Elements.{All-get_or, All-from_get_or}
 use Rattle.sg_maxmin.specs.Sharing.{uses_at}
 use Rattle.sg_lazy.proofs.Growing.{grows_on, all_stay}
@@ -24,6 +24,7 @@ loop-flow-preserved g c =
     record {
       grows = grows_on c.args.reached.now.members c.loop-flow.reached.members c.mark_uses.new.reached.members inv.grows out.grows;
       room = out.room ∙ inv.room;
+      few = omega (arith, inv.few, out.few, part_next (λ n. length (uses_at s.slots n)) c.args.ended.now k c.loop-flow-test.true);
       done = below_more _ _ (λ i h. all_stay (uses_at s.slots (get_or c.args.ended.now i 0)) c.loop-flow.reached.members c.mark_uses.new.reached.members out.grows (inv.done i h)) out.marked;
       least = λ q all start. out.least q (all k c.loop-flow-test.true) (inv.least q all start);
       looks = omega (arith, inv.looks, c.mark_uses.ensures.looks, part_next (λ n. length (uses_at s.slots n)) c.args.ended.now k c.loop-flow-test.true);

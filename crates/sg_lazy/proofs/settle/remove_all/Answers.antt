@@ -1,4 +1,4 @@
-use Rattle.std.proofs.Common.{◌≡◌, ◌+◌, ℕ, inl, inr, cond, None, IsSome, IfSome, length, length-take, get_or, take, ap, ◌∙◌, subst, sym, arith}
+use Rattle.std.proofs.Common.{◌≡◌, ◌+◌, inl, inr, cond, None, IsSome, IfSome, length, length-take, get_or, take, ap, ◌∙◌, subst, sym, arith}
 use Rattle.sg_base.specs.MarkSet.{is_in}
 use Rattle.sg_maxmin.specs.Fill.{Flow}
 use Rattle.sg_maxmin.specs.Sharing.{flow_at, uses_at}

@@ -1,19 +1,29 @@
-use Rattle.std.proofs.Common.{◌≡◌, ◌<◌, ◌++◌, [], ◌∷◌, ℕ, List, length, refl, sym, subst, ◌∙◌, arith}
-use Rattle.std.proofs.lemmas.Option.{slice_get_within}
+-- The search begins, makes a step, and ends.
+use Rattle.std.proofs.Common.{◌≡◌, ◌≤◌, ◌<◌, ◌+◌, ◌++◌, [], ◌∷◌, ℕ, List, Some, length, length-append, get_or, vec_len, refl, sym, subst, ap, ◌∙◌, arith}
+use Rattle.std.specs.Prelude.{slice_get}
+use Rattle.std.proofs.lemmas.Option.{slice_get-get_or, slice_get_within}
+use Rattle.sg_heap.specs.Agenda.{Key, key}
 use Rattle.sg_paths.specs.declared.trail.Settled.{Settled}
+use Rattle.sg_paths.specs.declared.ahead.Ahead.{Ahead}
+use Rattle.sg_paths.specs.declared.route.PathRoute.{PathRoute}
+use Rattle.sg_paths.specs.Ahead.{GoesBack}
 use Rattle.sg_paths.specs.Path.{IsLeastPath}
-use Rattle.sg_paths.specs.Trail.{first_settled, AreShort, IsNew, IsSettledAt, LeadsBack}
-use Rattle.sg_paths.specs.Crossing.{IsNearest, IsNoCrossing}
+use Rattle.sg_paths.specs.Trail.{first_settled, AreLinksOf, IsNew, IsSettledAt, LeadsBack}
+use Rattle.sg_paths.proofs.AheadLemmas.{back_places, got}
+use Rattle.sg_paths.proofs.StateLemmas.{IsFirst, IsUnderWay, Leaves, begins, below, few_left, first_of, goes_back, hop_is_least, inside_left, is_left, is_nearest, key_small, next_place, ranks_left, same_route, settles}
+use Rattle.sg_paths.proofs.PathLemmas.{no_path}
+use Rattle.sg_paths.proofs.SearchLemmas.{none_crosses}
+use Rattle.sg_paths.proofs.WorkLemmas.{work}
 use Rattle.sg_paths.proofs.TrailLemmas.{leads_back, leads_first, new_first, new_more, root_still}
-use Rattle.sg_paths.proofs.PathLemmas.{IsKnown, hop_least, known_first, known_more, no_path}
 use Rattle.sg_paths.proofs.least.find.Goals as goal
 
 pub settling-init : goal.settling-init
 settling-init c =
     let start : Settled = first_settled c.args.to in
     let settled : c.begin.new.settled.items ≡ start ∷ [] = c.begin.ensures.settled in
+    let state : IsUnderWay c.args.routes.now c.args.to (start ∷ []) c.enter.new.ahead 1 = begins c.args.routes.now start c.clear.new.ahead c.enter.new.ahead c.clear.ensures.keys c.enter.ensures in
     record {
-      known = subst (λ (l : List Settled). IsKnown c.args.routes.now l c.args.to) (sym settled) (known_first c.args.routes.now start);
+      state = subst (λ (l : List Settled). IsUnderWay c.args.routes.now c.args.to l c.enter.new.ahead 1) (sym settled) state;
       root = subst (λ (l : List Settled). IsSettledAt l 0 c.args.to) (sym settled) (start, refl, refl);
       back = subst (λ (l : List Settled). LeadsBack l) (sym settled) (leads_first start);
       places = c.begin.ensures.places;
@@ -22,41 +32,417 @@ settling-init c =
       roomy = record {
         places = c.begin.ensures.count;
         settled = omega (arith, c.requires.roomy.settled, c.begin.ensures.capacity);
-        lists = c.requires.roomy.lists;
+        ahead = c.enter.ensures.places;
         short = c.requires.roomy.short;
+        best = c.requires.roomy.best;
       };
     }
 
-pub returns-then-hop-from-clause-yes : goal.returns-then-hop-from-clause-yes
-returns-then-hop-from-clause-yes c =
-    let near : IsNearest c.args.routes.now c.settling.reach.settled.items (length c.args.routes.now) c.nearest.new.lists.best.items c.in-Some.hop =
-    subst (λ (l : List Settled). IsNearest c.args.routes.now l (length c.args.routes.now) c.nearest.new.lists.best.items c.in-Some.hop) c.as_slice.ensures.value c.in-Some.ensures.nearest in
-    subst (λ (p : ℕ). IsLeastPath c.args.routes.now p c.args.to c.nearest.new.lists.best.items) c.if-hop-from.true
-    (hop_least c.args.routes.now c.settling.reach.settled.items c.args.to c.settling.invariant.known c.settling.invariant.root c.nearest.new.lists.best.items c.in-Some.hop near)
+pub go_back-requires-clause-left : goal.go_back-requires-clause-left
+go_back-requires-clause-left c =
+    let k : Key = key c.in-Some.date c.in-Some.serial in
+    let state = c.settling.invariant.state in
+    let first : IsFirst c.settling.reach.ahead c.in-Some.i k = first_of c.settling.reach.ahead c.in-Some.i k c.in-Some.ensures.first in
+    let at : c.index-left.result.now ≡ get_or c.settling.reach.ahead.left.items c.in-Some.i 0 =
+    c.index-left.ensures ∙ got c.settling.reach.ahead.left.items c.in-Some.i _ 0 (inside_left c.args.routes.now c.args.to c.settling.reach.settled.items c.settling.reach.ahead (c.settling.rank + 1) c.in-Some.i k state first) in
+    let few = few_left c.args.routes.now c.args.to c.settling.reach.settled.items c.settling.reach.ahead (c.settling.rank + 1) c.in-Some.i k state first in
+    omega (arith, at, few)
+
+pub go_back-requires-clause-small : goal.go_back-requires-clause-small
+go_back-requires-clause-small c =
+    let k : Key = key c.in-Some.date c.in-Some.serial in
+    let first : IsFirst c.settling.reach.ahead c.in-Some.i k = first_of c.settling.reach.ahead c.in-Some.i k c.in-Some.ensures.first in
+    let state = c.settling.invariant.state in
+    let fit : c.settling.rank + 1 ≤ 18446744073709551616 = let r = ranks_left c.args.routes.now c.args.to c.settling.reach.settled.items c.settling.reach.ahead (c.settling.rank + 1) c.in-Some.i k state first in let s = c.requires.search.steps in omega (arith, r, s) in
+    key_small c.args.routes.now c.args.to c.settling.reach.settled.items c.settling.reach.ahead (c.settling.rank + 1) c.in-Some.i k state first fit
+
+pub settling-smaller-then-left-gt0 : goal.settling-smaller-then-left-gt0
+settling-smaller-then-left-gt0 c =
+    let k : Key = key c.in-Some.date c.in-Some.serial in
+    let routes = c.args.routes.now in
+    let old = c.settling.reach.ahead in
+    let new = c.go_back.new.ahead in
+    let state = c.settling.invariant.state in
+    let first : IsFirst old c.in-Some.i k = first_of old c.in-Some.i k c.in-Some.ensures.first in
+    let at : c.index-left.result.now ≡ get_or old.left.items c.in-Some.i 0 =
+    c.index-left.ensures ∙ got old.left.items c.in-Some.i _ 0 (inside_left routes c.args.to c.settling.reach.settled.items old (c.settling.rank + 1) c.in-Some.i k state first) in
+    let P : ℕ → Type 0 = λ n. GoesBack routes c.in-Some.i n (record { date = k.date; serial = k.serial; rank = c.settling.rank + 1 }) old new in
+    let goes = subst P at c.go_back.ensures in
+    let some : 0 < get_or old.left.items c.in-Some.i 0 = let s = c.if-left-gt0.true in omega (arith, at, s) in
+    let places = back_places routes c.in-Some.i (get_or old.left.items c.in-Some.i 0) (record { date = k.date; serial = k.serial; rank = c.settling.rank + 1 }) old new state.places goes in
+    (goes_back routes c.args.to c.settling.reach.settled.items (c.settling.rank + 1) c.in-Some.i k old new state first some goes places).less
+
+pub settling-preserved-then-left-gt0 : goal.settling-preserved-then-left-gt0
+settling-preserved-then-left-gt0 c =
+    let k : Key = key c.in-Some.date c.in-Some.serial in
+    let routes = c.args.routes.now in
+    let old = c.settling.reach.ahead in
+    let new = c.go_back.new.ahead in
+    let inv = c.settling.invariant in
+    let first : IsFirst old c.in-Some.i k = first_of old c.in-Some.i k c.in-Some.ensures.first in
+    let at : c.index-left.result.now ≡ get_or old.left.items c.in-Some.i 0 =
+    c.index-left.ensures ∙ got old.left.items c.in-Some.i _ 0 (inside_left routes c.args.to c.settling.reach.settled.items old (c.settling.rank + 1) c.in-Some.i k inv.state first) in
+    let P : ℕ → Type 0 = λ n. GoesBack routes c.in-Some.i n (record { date = k.date; serial = k.serial; rank = c.settling.rank + 1 }) old new in
+    let goes = subst P at c.go_back.ensures in
+    let some : 0 < get_or old.left.items c.in-Some.i 0 = let s = c.if-left-gt0.true in omega (arith, at, s) in
+    let places = back_places routes c.in-Some.i (get_or old.left.items c.in-Some.i 0) (record { date = k.date; serial = k.serial; rank = c.settling.rank + 1 }) old new (inv.state).places goes in
+    record {
+      state = (goes_back routes c.args.to c.settling.reach.settled.items (c.settling.rank + 1) c.in-Some.i k old new inv.state first some goes places).state;
+      root = inv.root;
+      back = inv.back;
+      places = inv.places;
+      fits = inv.fits;
+      new = inv.new;
+      roomy = record { places = inv.roomy.places; settled = inv.roomy.settled; ahead = places; short = inv.roomy.short; best = inv.roomy.best };
+    }
+
+pub place_of-requires-clause-point : goal.place_of-requires-clause-point
+place_of-requires-clause-point c =
+    let k : Key = key c.in-Some.date c.in-Some.serial in
+    let routes = c.args.routes.now in
+    let to = c.args.to in
+    let old = c.settling.reach.ahead in
+    let settled = c.settling.reach.settled.items in
+    let places = c.settling.reach.places.items in
+    let i = c.in-Some.i in
+    let ranks = c.settling.rank + 1 in
+    let inv = c.settling.invariant in
+    let first : IsFirst old i k = first_of old i k c.in-Some.ensures.first in
+    let few : i < length routes = below routes old i k (inv.state).places first.there in
+    let route : PathRoute = get_or routes i c.index-routes-i.result in
+    let there : slice_get routes i ≡ Some route = slice_get-get_or routes i c.index-routes-i.result few in
+    let within = c.requires.search.within i route there in
+    let count = inv.roomy.places in
+    let same : length c.as_slice-in-Some.result.now ≡ length places = ap (length {A = ℕ}) c.as_slice-in-Some.ensures.value in
+    let w = within.0 in
+    omega (arith, w, count, same)
+
+pub settling-smaller-in-Some-place_of : goal.settling-smaller-in-Some-place_of
+settling-smaller-in-Some-place_of c =
+    let k : Key = key c.in-Some.date c.in-Some.serial in
+    let routes = c.args.routes.now in
+    let to = c.args.to in
+    let old = c.settling.reach.ahead in
+    let settled = c.settling.reach.settled.items in
+    let places = c.settling.reach.places.items in
+    let i = c.in-Some.i in
+    let ranks = c.settling.rank + 1 in
+    let inv = c.settling.invariant in
+    let first : IsFirst old i k = first_of old i k c.in-Some.ensures.first in
+    let few : i < length routes = below routes old i k (inv.state).places first.there in
+    let route : PathRoute = get_or routes i c.index-routes-i.result in
+    let there : slice_get routes i ≡ Some route = slice_get-get_or routes i c.index-routes-i.result few in
+    let within = c.requires.search.within i route there in
+    let count = inv.roomy.places in
+    let mid : Ahead = record { agenda = c.clear-in-Some.new.self; left = c.settling.reach.ahead.left } in
+    let leaves : Leaves i old mid = record { keys = c.clear-in-Some.ensures; lefts = refl } in
+    let P : List Settled → Type 0 = λ l. IsSettledAt l c.in-Some-place_of._known route.from in
+    let from : IsSettledAt settled c.in-Some-place_of._known route.from = subst P c.as_slice.ensures.value c.in-Some-place_of.ensures.some in
+    (is_left routes to settled ranks i c.in-Some-place_of._known k route old mid inv.state first there from leaves).less
+
+pub settling-preserved-in-Some-place_of : goal.settling-preserved-in-Some-place_of
+settling-preserved-in-Some-place_of c =
+    let k : Key = key c.in-Some.date c.in-Some.serial in
+    let routes = c.args.routes.now in
+    let to = c.args.to in
+    let old = c.settling.reach.ahead in
+    let settled = c.settling.reach.settled.items in
+    let places = c.settling.reach.places.items in
+    let i = c.in-Some.i in
+    let ranks = c.settling.rank + 1 in
+    let inv = c.settling.invariant in
+    let first : IsFirst old i k = first_of old i k c.in-Some.ensures.first in
+    let few : i < length routes = below routes old i k (inv.state).places first.there in
+    let route : PathRoute = get_or routes i c.index-routes-i.result in
+    let there : slice_get routes i ≡ Some route = slice_get-get_or routes i c.index-routes-i.result few in
+    let within = c.requires.search.within i route there in
+    let count = inv.roomy.places in
+    let mid : Ahead = record { agenda = c.clear-in-Some.new.self; left = c.settling.reach.ahead.left } in
+    let leaves : Leaves i old mid = record { keys = c.clear-in-Some.ensures; lefts = refl } in
+    let P : List Settled → Type 0 = λ l. IsSettledAt l c.in-Some-place_of._known route.from in
+    let from : IsSettledAt settled c.in-Some-place_of._known route.from = subst P c.as_slice.ensures.value c.in-Some-place_of.ensures.some in
+    let on = is_left routes to settled ranks i c.in-Some-place_of._known k route old mid inv.state first there from leaves in
+    record {
+      state = on.state;
+      root = inv.root;
+      back = inv.back;
+      places = inv.places;
+      fits = inv.fits;
+      new = inv.new;
+      roomy = record { places = inv.roomy.places; settled = inv.roomy.settled; ahead = (on.state).places; short = inv.roomy.short; best = inv.roomy.best };
+    }
+
+pub index-requires : goal.index-requires
+index-requires c =
+    let k : Key = key c.in-Some.date c.in-Some.serial in
+    let routes = c.args.routes.now in
+    let to = c.args.to in
+    let old = c.settling.reach.ahead in
+    let settled = c.settling.reach.settled.items in
+    let places = c.settling.reach.places.items in
+    let i = c.in-Some.i in
+    let ranks = c.settling.rank + 1 in
+    let inv = c.settling.invariant in
+    let first : IsFirst old i k = first_of old i k c.in-Some.ensures.first in
+    let few : i < length routes = below routes old i k (inv.state).places first.there in
+    let route : PathRoute = get_or routes i c.index-routes-i.result in
+    let there : slice_get routes i ≡ Some route = slice_get-get_or routes i c.index-routes-i.result few in
+    let within = c.requires.search.within i route there in
+    let count = inv.roomy.places in
+    let other : get_or routes i c.index-routes-i-in-Some.result ≡ route = same_route routes i c.index-routes-i-in-Some.result c.index-routes-i.result few in
+    let other_to : (get_or routes i c.index-routes-i-in-Some.result).to ≡ route.to = ap (λ (r : PathRoute). r.to) other in
+    let w = within.1 in
+    let n : vec_len c.settling.reach.places ≡ length places = c.settling.reach.places.ok.0 in
+    omega (arith, w, count, other_to, n)
+
+pub settle-requires-clause-point : goal.settle-requires-clause-point
+settle-requires-clause-point c =
+    let k : Key = key c.in-Some.date c.in-Some.serial in
+    let routes = c.args.routes.now in
+    let to = c.args.to in
+    let old = c.settling.reach.ahead in
+    let settled = c.settling.reach.settled.items in
+    let places = c.settling.reach.places.items in
+    let i = c.in-Some.i in
+    let ranks = c.settling.rank + 1 in
+    let inv = c.settling.invariant in
+    let first : IsFirst old i k = first_of old i k c.in-Some.ensures.first in
+    let few : i < length routes = below routes old i k (inv.state).places first.there in
+    let route : PathRoute = get_or routes i c.index-routes-i.result in
+    let there : slice_get routes i ≡ Some route = slice_get-get_or routes i c.index-routes-i.result few in
+    let within = c.requires.search.within i route there in
+    let count = inv.roomy.places in
+    let w = within.0 in
+    omega (arith, w, count)
+
+pub write_links-requires-clause-back : goal.write_links-requires-clause-back
+write_links-requires-clause-back c =
+    let k : Key = key c.in-Some.date c.in-Some.serial in
+    let routes = c.args.routes.now in
+    let to = c.args.to in
+    let old = c.settling.reach.ahead in
+    let settled = c.settling.reach.settled.items in
+    let places = c.settling.reach.places.items in
+    let i = c.in-Some.i in
+    let ranks = c.settling.rank + 1 in
+    let inv = c.settling.invariant in
+    let first : IsFirst old i k = first_of old i k c.in-Some.ensures.first in
+    let few : i < length routes = below routes old i k (inv.state).places first.there in
+    let route : PathRoute = get_or routes i c.index-routes-i.result in
+    let there : slice_get routes i ≡ Some route = slice_get-get_or routes i c.index-routes-i.result few in
+    let within = c.requires.search.within i route there in
+    let count = inv.roomy.places in
+    let other : get_or routes i c.index-routes-i-in-Some.result ≡ route = same_route routes i c.index-routes-i-in-Some.result c.index-routes-i.result few in
+    let inside : route.to < length places = let w = within.1 in omega (arith, w, count) in
+    let other_to : (get_or routes i c.index-routes-i-in-Some.result).to ≡ route.to = ap (λ (r : PathRoute). r.to) other in
+    let inside_other : (get_or routes i c.index-routes-i-in-Some.result).to < length places = omega (arith, inside, other_to) in
+    let at : c.index.result.now ≡ get_or places route.to 0 = c.index.ensures ∙ got places (get_or routes i c.index-routes-i-in-Some.result).to _ 0 inside_other ∙ ap (λ n. get_or places n 0) other_to in
+    let P : ℕ → Type 0 = λ n. IsSettledAt settled n route.to in
+    let next : IsSettledAt settled c.index.result.now route.to = subst P (sym at) (next_place routes to settled places old ranks i k route inv.state first inv.places there inside) in
+    let hop : Settled = record { point = route.from; route = i; next = c.index.result.now } in
+    let Q : List Settled → Type 0 = λ l. IsNew l route.from in
+    let new_point : IsNew settled route.from = subst Q c.as_slice.ensures.value (c.in_default-place_of.ensures.none refl) in
+    let below_next : c.index.result.now < length settled = slice_get_within settled c.index.result.now next.0 next.1 in
+    let R : List Settled → Type 0 = λ l. LeadsBack l in
+    let same : settled ++ hop ∷ [] ≡ c.as_slice-then-point-from.result.now = sym (c.as_slice-then-point-from.ensures.value ∙ c.settle.ensures.settled) in
+    subst R same (leads_back settled hop inv.back below_next)
+
+pub write_links-requires-clause-next : goal.write_links-requires-clause-next
+write_links-requires-clause-next c =
+    let k : Key = key c.in-Some.date c.in-Some.serial in
+    let routes = c.args.routes.now in
+    let to = c.args.to in
+    let old = c.settling.reach.ahead in
+    let settled = c.settling.reach.settled.items in
+    let places = c.settling.reach.places.items in
+    let i = c.in-Some.i in
+    let ranks = c.settling.rank + 1 in
+    let inv = c.settling.invariant in
+    let first : IsFirst old i k = first_of old i k c.in-Some.ensures.first in
+    let few : i < length routes = below routes old i k (inv.state).places first.there in
+    let route : PathRoute = get_or routes i c.index-routes-i.result in
+    let there : slice_get routes i ≡ Some route = slice_get-get_or routes i c.index-routes-i.result few in
+    let within = c.requires.search.within i route there in
+    let count = inv.roomy.places in
+    let other : get_or routes i c.index-routes-i-in-Some.result ≡ route = same_route routes i c.index-routes-i-in-Some.result c.index-routes-i.result few in
+    let inside : route.to < length places = let w = within.1 in omega (arith, w, count) in
+    let other_to : (get_or routes i c.index-routes-i-in-Some.result).to ≡ route.to = ap (λ (r : PathRoute). r.to) other in
+    let inside_other : (get_or routes i c.index-routes-i-in-Some.result).to < length places = omega (arith, inside, other_to) in
+    let at : c.index.result.now ≡ get_or places route.to 0 = c.index.ensures ∙ got places (get_or routes i c.index-routes-i-in-Some.result).to _ 0 inside_other ∙ ap (λ n. get_or places n 0) other_to in
+    let P : ℕ → Type 0 = λ n. IsSettledAt settled n route.to in
+    let next : IsSettledAt settled c.index.result.now route.to = subst P (sym at) (next_place routes to settled places old ranks i k route inv.state first inv.places there inside) in
+    let hop : Settled = record { point = route.from; route = i; next = c.index.result.now } in
+    let Q : List Settled → Type 0 = λ l. IsNew l route.from in
+    let new_point : IsNew settled route.from = subst Q c.as_slice.ensures.value (c.in_default-place_of.ensures.none refl) in
+    let below_next : c.index.result.now < length settled = slice_get_within settled c.index.result.now next.0 next.1 in
+    let same : length c.as_slice-then-point-from.result.now ≡ length (settled ++ hop ∷ []) = ap (length {A = Settled}) (c.as_slice-then-point-from.ensures.value ∙ c.settle.ensures.settled) in
+    omega (arith, below_next, same, length-append settled (hop ∷ []))
+
+pub returns-then-point-from-clause-yes : goal.returns-then-point-from-clause-yes
+returns-then-point-from-clause-yes c =
+    let k : Key = key c.in-Some.date c.in-Some.serial in
+    let routes = c.args.routes.now in
+    let to = c.args.to in
+    let old = c.settling.reach.ahead in
+    let settled = c.settling.reach.settled.items in
+    let places = c.settling.reach.places.items in
+    let i = c.in-Some.i in
+    let ranks = c.settling.rank + 1 in
+    let inv = c.settling.invariant in
+    let first : IsFirst old i k = first_of old i k c.in-Some.ensures.first in
+    let few : i < length routes = below routes old i k (inv.state).places first.there in
+    let route : PathRoute = get_or routes i c.index-routes-i.result in
+    let there : slice_get routes i ≡ Some route = slice_get-get_or routes i c.index-routes-i.result few in
+    let within = c.requires.search.within i route there in
+    let count = inv.roomy.places in
+    let read : c.index-left.result.now ≡ get_or old.left.items i 0 = c.index-left.ensures ∙ got old.left.items i _ 0 (inside_left routes to settled old ranks i k inv.state first) in
+    let back : get_or old.left.items i 0 ≡ 0 = let z = c.if-left-gt0.false in omega (arith, read, z) in
+    let other : get_or routes i c.index-routes-i-in-Some.result ≡ route = same_route routes i c.index-routes-i-in-Some.result c.index-routes-i.result few in
+    let inside : route.to < length places = let w = within.1 in omega (arith, w, count) in
+    let other_to : (get_or routes i c.index-routes-i-in-Some.result).to ≡ route.to = ap (λ (r : PathRoute). r.to) other in
+    let inside_other : (get_or routes i c.index-routes-i-in-Some.result).to < length places = omega (arith, inside, other_to) in
+    let at : c.index.result.now ≡ get_or places route.to 0 = c.index.ensures ∙ got places (get_or routes i c.index-routes-i-in-Some.result).to _ 0 inside_other ∙ ap (λ n. get_or places n 0) other_to in
+    let P : ℕ → Type 0 = λ n. IsSettledAt settled n route.to in
+    let next : IsSettledAt settled c.index.result.now route.to = subst P (sym at) (next_place routes to settled places old ranks i k route inv.state first inv.places there inside) in
+    let hop : Settled = record { point = route.from; route = i; next = c.index.result.now } in
+    let Q : List Settled → Type 0 = λ l. IsNew l route.from in
+    let new_point : IsNew settled route.from = subst Q c.as_slice.ensures.value (c.in_default-place_of.ensures.none refl) in
+    let below_next : c.index.result.now < length settled = slice_get_within settled c.index.result.now next.0 next.1 in
+    let nearest = is_nearest routes to settled places ranks i k hop route old inv.state first inv.places back there refl refl next new_point in
+    let same : c.as_slice-then-point-from.result.now ≡ settled ++ hop ∷ [] = c.as_slice-then-point-from.ensures.value ∙ c.settle.ensures.settled in
+    let R : List Settled → Type 0 = λ l. AreLinksOf routes l hop c.write_links.new.out.items in
+    let S : ℕ → Type 0 = λ p. IsLeastPath routes p to c.write_links.new.out.items in
+    subst S c.if-point-from.true (hop_is_least routes to settled ranks hop old c.write_links.new.out.items inv.state inv.root inv.back nearest (subst R same c.write_links.ensures.links))
+
+pub enter-requires-in-Some-clause-point : goal.enter-requires-in-Some-clause-point
+enter-requires-in-Some-clause-point c =
+    let k : Key = key c.in-Some.date c.in-Some.serial in
+    let routes = c.args.routes.now in
+    let to = c.args.to in
+    let old = c.settling.reach.ahead in
+    let settled = c.settling.reach.settled.items in
+    let places = c.settling.reach.places.items in
+    let i = c.in-Some.i in
+    let ranks = c.settling.rank + 1 in
+    let inv = c.settling.invariant in
+    let first : IsFirst old i k = first_of old i k c.in-Some.ensures.first in
+    let few : i < length routes = below routes old i k (inv.state).places first.there in
+    let route : PathRoute = get_or routes i c.index-routes-i.result in
+    let there : slice_get routes i ≡ Some route = slice_get-get_or routes i c.index-routes-i.result few in
+    let within = c.requires.search.within i route there in
+    let count = inv.roomy.places in
+    let w = within.0 in
+    let n = c.requires.search.arrive.lasts in
+    omega (arith, w, n)
+
+pub enter-requires-in-Some-clause-small : goal.enter-requires-in-Some-clause-small
+enter-requires-in-Some-clause-small c =
+    let k : Key = key c.in-Some.date c.in-Some.serial in
+    let routes = c.args.routes.now in
+    let to = c.args.to in
+    let old = c.settling.reach.ahead in
+    let settled = c.settling.reach.settled.items in
+    let places = c.settling.reach.places.items in
+    let i = c.in-Some.i in
+    let ranks = c.settling.rank + 1 in
+    let inv = c.settling.invariant in
+    let first : IsFirst old i k = first_of old i k c.in-Some.ensures.first in
+    let few : i < length routes = below routes old i k (inv.state).places first.there in
+    let route : PathRoute = get_or routes i c.index-routes-i.result in
+    let there : slice_get routes i ≡ Some route = slice_get-get_or routes i c.index-routes-i.result few in
+    let within = c.requires.search.within i route there in
+    let count = inv.roomy.places in
+    let fit : ranks ≤ 18446744073709551616 = let r = ranks_left routes to settled old ranks i k inv.state first in let s = c.requires.search.steps in omega (arith, r, s) in
+    key_small routes to settled old ranks i k inv.state first fit
+
+pub settling-smaller : goal.settling-smaller
+settling-smaller c =
+    let k : Key = key c.in-Some.date c.in-Some.serial in
+    let routes = c.args.routes.now in
+    let to = c.args.to in
+    let old = c.settling.reach.ahead in
+    let settled = c.settling.reach.settled.items in
+    let places = c.settling.reach.places.items in
+    let i = c.in-Some.i in
+    let ranks = c.settling.rank + 1 in
+    let inv = c.settling.invariant in
+    let first : IsFirst old i k = first_of old i k c.in-Some.ensures.first in
+    let few : i < length routes = below routes old i k (inv.state).places first.there in
+    let route : PathRoute = get_or routes i c.index-routes-i.result in
+    let there : slice_get routes i ≡ Some route = slice_get-get_or routes i c.index-routes-i.result few in
+    let within = c.requires.search.within i route there in
+    let count = inv.roomy.places in
+    let read : c.index-left.result.now ≡ get_or old.left.items i 0 = c.index-left.ensures ∙ got old.left.items i _ 0 (inside_left routes to settled old ranks i k inv.state first) in
+    let back : get_or old.left.items i 0 ≡ 0 = let z = c.if-left-gt0.false in omega (arith, read, z) in
+    let other : get_or routes i c.index-routes-i-in-Some.result ≡ route = same_route routes i c.index-routes-i-in-Some.result c.index-routes-i.result few in
+    let inside : route.to < length places = let w = within.1 in omega (arith, w, count) in
+    let other_to : (get_or routes i c.index-routes-i-in-Some.result).to ≡ route.to = ap (λ (r : PathRoute). r.to) other in
+    let inside_other : (get_or routes i c.index-routes-i-in-Some.result).to < length places = omega (arith, inside, other_to) in
+    let at : c.index.result.now ≡ get_or places route.to 0 = c.index.ensures ∙ got places (get_or routes i c.index-routes-i-in-Some.result).to _ 0 inside_other ∙ ap (λ n. get_or places n 0) other_to in
+    let P : ℕ → Type 0 = λ n. IsSettledAt settled n route.to in
+    let next : IsSettledAt settled c.index.result.now route.to = subst P (sym at) (next_place routes to settled places old ranks i k route inv.state first inv.places there inside) in
+    let hop : Settled = record { point = route.from; route = i; next = c.index.result.now } in
+    let Q : List Settled → Type 0 = λ l. IsNew l route.from in
+    let new_point : IsNew settled route.from = subst Q c.as_slice.ensures.value (c.in_default-place_of.ensures.none refl) in
+    let below_next : c.index.result.now < length settled = slice_get_within settled c.index.result.now next.0 next.1 in
+    let mid : Ahead = record { agenda = c.clear-in-Some.new.self; left = c.settling.reach.ahead.left } in
+    let leaves : Leaves i old mid = record { keys = c.clear-in-Some.ensures; lefts = refl } in
+    let on = settles routes to settled places ranks i k hop route old mid c.enter-in-Some.new.ahead inv.state first inv.root inv.back inv.places back there refl refl next new_point leaves c.enter-in-Some.ensures in
+    let R : List Settled → Type 0 = λ l. work routes l c.enter-in-Some.new.ahead < work routes settled old in
+    subst R (sym c.settle.ensures.settled) on.less
 
 pub settling-preserved : goal.settling-preserved
 settling-preserved c =
-    let near : IsNearest c.args.routes.now c.settling.reach.settled.items (length c.args.routes.now) c.nearest.new.lists.best.items c.in-Some.hop =
-    subst (λ (l : List Settled). IsNearest c.args.routes.now l (length c.args.routes.now) c.nearest.new.lists.best.items c.in-Some.hop) c.as_slice.ensures.value c.in-Some.ensures.nearest in
-    let settled : c.settle.new.settled.items ≡ c.settling.reach.settled.items ++ c.in-Some.hop ∷ [] = c.settle.ensures.settled in
-    let below : c.in-Some.hop.next < length c.settling.reach.settled.items = slice_get_within c.settling.reach.settled.items c.in-Some.hop.next (near.crossing).next (near.crossing).next_is in
+    let k : Key = key c.in-Some.date c.in-Some.serial in
+    let routes = c.args.routes.now in
+    let to = c.args.to in
+    let old = c.settling.reach.ahead in
+    let settled = c.settling.reach.settled.items in
+    let places = c.settling.reach.places.items in
+    let i = c.in-Some.i in
+    let ranks = c.settling.rank + 1 in
+    let inv = c.settling.invariant in
+    let first : IsFirst old i k = first_of old i k c.in-Some.ensures.first in
+    let few : i < length routes = below routes old i k (inv.state).places first.there in
+    let route : PathRoute = get_or routes i c.index-routes-i.result in
+    let there : slice_get routes i ≡ Some route = slice_get-get_or routes i c.index-routes-i.result few in
+    let within = c.requires.search.within i route there in
+    let count = inv.roomy.places in
+    let read : c.index-left.result.now ≡ get_or old.left.items i 0 = c.index-left.ensures ∙ got old.left.items i _ 0 (inside_left routes to settled old ranks i k inv.state first) in
+    let back : get_or old.left.items i 0 ≡ 0 = let z = c.if-left-gt0.false in omega (arith, read, z) in
+    let other : get_or routes i c.index-routes-i-in-Some.result ≡ route = same_route routes i c.index-routes-i-in-Some.result c.index-routes-i.result few in
+    let inside : route.to < length places = let w = within.1 in omega (arith, w, count) in
+    let other_to : (get_or routes i c.index-routes-i-in-Some.result).to ≡ route.to = ap (λ (r : PathRoute). r.to) other in
+    let inside_other : (get_or routes i c.index-routes-i-in-Some.result).to < length places = omega (arith, inside, other_to) in
+    let at : c.index.result.now ≡ get_or places route.to 0 = c.index.ensures ∙ got places (get_or routes i c.index-routes-i-in-Some.result).to _ 0 inside_other ∙ ap (λ n. get_or places n 0) other_to in
+    let P : ℕ → Type 0 = λ n. IsSettledAt settled n route.to in
+    let next : IsSettledAt settled c.index.result.now route.to = subst P (sym at) (next_place routes to settled places old ranks i k route inv.state first inv.places there inside) in
+    let hop : Settled = record { point = route.from; route = i; next = c.index.result.now } in
+    let Q : List Settled → Type 0 = λ l. IsNew l route.from in
+    let new_point : IsNew settled route.from = subst Q c.as_slice.ensures.value (c.in_default-place_of.ensures.none refl) in
+    let below_next : c.index.result.now < length settled = slice_get_within settled c.index.result.now next.0 next.1 in
+    let mid : Ahead = record { agenda = c.clear-in-Some.new.self; left = c.settling.reach.ahead.left } in
+    let leaves : Leaves i old mid = record { keys = c.clear-in-Some.ensures; lefts = refl } in
+    let on = settles routes to settled places ranks i k hop route old mid c.enter-in-Some.new.ahead inv.state first inv.root inv.back inv.places back there refl refl next new_point leaves c.enter-in-Some.ensures in
+    let same : settled ++ hop ∷ [] ≡ c.settle.new.settled.items = sym c.settle.ensures.settled in
     record {
-      known = subst (λ (l : List Settled). IsKnown c.args.routes.now l c.args.to) (sym settled) (known_more c.args.routes.now c.settling.reach.settled.items c.args.to c.settling.invariant.known c.settling.invariant.root c.settling.invariant.back c.nearest.new.lists.best.items c.in-Some.hop near);
-      root = subst (λ (l : List Settled). IsSettledAt l 0 c.args.to) (sym settled) (root_still c.settling.reach.settled.items c.in-Some.hop c.args.to c.settling.invariant.root);
-      back = subst (λ (l : List Settled). LeadsBack l) (sym settled) (leads_back c.settling.reach.settled.items c.in-Some.hop c.settling.invariant.back below);
+      state = subst (λ (l : List Settled). IsUnderWay routes to l c.enter-in-Some.new.ahead (ranks + 1)) same on.state;
+      root = subst (λ (l : List Settled). IsSettledAt l 0 to) same (root_still settled hop to inv.root);
+      back = subst (λ (l : List Settled). LeadsBack l) same (leads_back settled hop inv.back below_next);
       places = c.settle.ensures.places;
       fits = c.settle.ensures.fits;
-      new = subst (λ (l : List Settled). IsNew l c.args.from) (sym settled) (new_more c.settling.reach.settled.items c.in-Some.hop c.args.from c.settling.invariant.new c.if-hop-from.false);
+      new = subst (λ (l : List Settled). IsNew l c.args.from) same (new_more settled hop c.args.from inv.new c.if-point-from.false);
       roomy = record {
-        places = c.settle.ensures.count ∙ c.settling.invariant.roomy.places;
-        settled = omega (arith, c.settling.invariant.roomy.settled, c.settle.ensures.capacity);
-        lists = c.nearest.ensures.room (length c.args.reach.now.places.items) c.settling.invariant.roomy.lists;
-        short = subst (λ (n : ℕ). AreShort n c.args.routes.now) (sym c.nearest.ensures.most) c.settling.invariant.roomy.short;
+        places = c.settle.ensures.count ∙ inv.roomy.places;
+        settled = omega (arith, inv.roomy.settled, c.settle.ensures.capacity);
+        ahead = (on.state).places;
+        short = inv.roomy.short;
+        best = inv.roomy.best;
       };
     }
 
 pub returns-clause-no : goal.returns-clause-no
 returns-clause-no c =
-    let none : IsNoCrossing c.args.routes.now c.settling.reach.settled.items (length c.args.routes.now) =
-    subst (λ (l : List Settled). IsNoCrossing c.args.routes.now l (length c.args.routes.now)) c.as_slice.ensures.value c.in_default.ensures.nearest in
-    no_path c.args.routes.now c.settling.reach.settled.items c.args.to c.settling.invariant.known c.settling.invariant.root c.args.from c.settling.invariant.new none
+    let inv = c.settling.invariant in
+    no_path c.args.routes.now c.settling.reach.settled.items c.args.to (inv.state).label (inv.state).known inv.root c.args.from inv.new
+    (λ hop crossing. none_crosses c.args.routes.now c.settling.reach.settled.items c.settling.reach.ahead (inv.state).begun c.in_default.ensures.none hop crossing)

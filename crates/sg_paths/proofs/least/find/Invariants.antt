@@ -1,12 +1,13 @@
-use Rattle.std.proofs.Common.{◌-◌, ◌≤◌, length}
+use Rattle.std.proofs.Common.{◌+◌, ◌≤◌, length}
 use Rattle.sg_paths.specs.Trail.{HasPlaces, IsNew, IsSettledAt, LeadsBack}
 use Rattle.sg_paths.specs.Reach.{IsRoomy}
-use Rattle.sg_paths.proofs.PathLemmas.{IsKnown}
+use Rattle.sg_paths.proofs.StateLemmas.{IsUnderWay}
+use Rattle.sg_paths.proofs.WorkLemmas.{work}
 use Rattle.sg_paths.proofs.least.find.Given as goal
 
 abbrev pub invariant-settling : goal.invariant-settling
 invariant-settling l = record {
-  known : IsKnown l.routes l.reach.settled.items l.to;
+  state : IsUnderWay l.routes l.to l.reach.settled.items l.reach.ahead (l.rank + 1);
   root : IsSettledAt l.reach.settled.items 0 l.to;
   back : LeadsBack l.reach.settled.items;
   places : HasPlaces l.reach.settled.items l.reach.places.items;
@@ -16,4 +17,4 @@ invariant-settling l = record {
 }
 
 abbrev pub decreases-settling : goal.decreases-settling
-decreases-settling l = length l.reach.places.items - length l.reach.settled.items
+decreases-settling l = work l.routes l.reach.settled.items l.reach.ahead

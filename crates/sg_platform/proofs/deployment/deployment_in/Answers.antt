@@ -1,4 +1,4 @@
-use Rattle.std.proofs.Common.{ℕ, ◌<◌, ◌≤◌, sym, ap, subst, length, arith, codes, ◌∙◌}
+use Rattle.std.proofs.Common.{◌≤◌, sym, ap, subst, length, arith, ◌∙◌}
 use Rattle.sg_platform.proofs.Deployed.{actors_few, deployed_without_faults, deployment_small, deployment_without_faults, known_hosts}
 use Rattle.sg_rows.proofs.Numbers.{hosts_small}
 use Rattle.sg_rows.specs.Deployment.{IsDeployedOn}

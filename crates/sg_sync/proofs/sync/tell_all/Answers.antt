@@ -5,6 +5,6 @@ use Rattle.sg_sync.proofs.sync.tell_all.Goals as goal
 
 pub tell-requires : goal.tell-requires
 tell-requires c =
-    let queue = queue_at c.loop-actor.queues.queues 0 in
-    let some = front_some queue c.in-Some.actor (sym c.in-Some.is ∙ c.leave.ensures.first) in
+    let queue = queue_at c.loop-actor.arrived.queues 0 in
+    let some = front_some queue c.in-Some.actor (sym c.in-Some.is ∙ c.take_first.ensures.first) in
     omega (arith, some, ap length c.loop-actor.invariant.told, length-append c.loop-actor.others.items queue, c.loop-actor.invariant.few, c.loop-actor.invariant.room)

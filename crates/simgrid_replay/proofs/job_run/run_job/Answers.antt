@@ -6,7 +6,7 @@ use Rattle.simgrid_replay.specs.PartSources.{request_of}
 use Rattle.simgrid_replay.specs.Outcome.{status_of}
 use Rattle.simgrid_replay.specs.kept.Setups.{setting_in}
 use Rattle.simgrid_replay.proofs.PartLemmas.{named_on}
-use Rattle.simgrid_replay.proofs.TopLemmas.{begun_gives, run_cause, run_counts_on, run_prints_on}
+use Rattle.simgrid_replay.proofs.TopLemmas.{begun_gives, run_cause, run_counts_on, run_needs_on, run_prints_on}
 use Rattle.simgrid_replay.proofs.job_run.run_job.Goals as goal
 
 pub returns-clause-output : goal.returns-clause-output
@@ -18,6 +18,12 @@ returns-clause-output g c = λ s gives.
       counts = run_counts_on (job_view c.args.job.now) (setting_in c.args.setup.now) c.args.setup.now.script c.terms_for-terms.result.budget c.terms_for-terms.result.show s
           _ _ c.requires.setup.script c.terms_for-terms.ensures.budget c.terms_for-terms.ensures.show run.work;
     }
+
+pub returns-clause-needed : goal.returns-clause-needed
+returns-clause-needed g c = λ s gives.
+    let needed = c.run-ended.ensures.needed s (λ scripted. begun_gives _ _ _ s c.begin_script.ensures.left (gives (subst (λ (b : Bool). IsTrue b) c.requires.setup.script scripted))) in
+    run_needs_on (job_view c.args.job.now) (setting_in c.args.setup.now) c.args.setup.now.script c.terms_for-terms.result.budget c.terms_for-terms.result.show s
+    _ _ _ c.requires.setup.script c.terms_for-terms.ensures.budget c.terms_for-terms.ensures.show c.begin_script.ensures.left needed
 
 pub returns-clause-crew : goal.returns-clause-crew
 returns-clause-crew g c = λ ends. c.run-ended.ensures.crew (λ is. ends (c.status.ensures.is ∙ ap status_of is))

@@ -10,8 +10,8 @@ use Rattle.simgrid_replay.specs.kept.Setups.{IsSetupFor, setting_in}
 use Rattle.simgrid_replay.specs.Settings.{Setting, contexts_in, setting}
 use Rattle.simgrid_replay.specs.Requests.{has_script}
 use Rattle.simgrid_replay.specs.declared.refusal.Refusal.{Refusal}
-use Rattle.simgrid_replay.proofs.TopLemmas.{none_broken, none_taken, not_refused, partless, refusal_prints, script_after, setting_counts, setting_prints, telling_before, texts_before, unrefused_spares}
-use Rattle.simgrid_replay.proofs.PartLemmas.{named_parts, nameless_by}
+use Rattle.simgrid_replay.proofs.TopLemmas.{none_broken, none_taken, not_refused, partless, refusal_prints, script_after, setting_counts, setting_needs, setting_prints, telling_before, texts_before, unrefused_spares}
+use Rattle.simgrid_replay.proofs.PartLemmas.{named_parts, nameless_by, takes_none}
 use Rattle.simgrid_replay.proofs.whole_call.do_job.Goals as goal
 
 pub run_job-requires-clause-setup : goal.run_job-requires-clause-setup
@@ -43,6 +43,21 @@ returns-in-Err-clause-output g c = λ p d s gives.
           (λ told. sym (ap (λ (n : ℕ). setting (request_of c.args.job.now) n p d) (sym contexts) ∙ c.in-Err.ensures.given p d gives.texts (λ e. told (cc)))) c.refuse.ensures.prints;
       counts = omega (arith);
     }
+
+pub returns-in-Ok-clause-needed : goal.returns-in-Ok-clause-needed
+returns-in-Ok-clause-needed g c = λ p d s gives.
+    let old = g.F.Files.shows c.args.files.now in
+    let mid = g.F.Files.shows c.prepare.new.files in
+    let new = g.F.Files.shows c.run_job.new.files in
+    let contexts : c.len.result ≡ length c.args.crew.now.items = search rules in
+    let others = c.run_job.ensures.script.others in
+    let before = texts_before (request_of c.args.job.now) old mid new p d (others Platform (λ e. cc)) (others Deployment (λ e. cc)) gives.texts in
+    let is = ap (λ (n : ℕ). setting (request_of c.args.job.now) n p d) (sym contexts) ∙ c.in-Ok.ensures.given p d before in
+    setting_needs (job_view c.args.job.now) s _ (setting_in c.in-Ok.setup) (old Script) (mid Script) (new Script) is c.prepare.ensures.read.unbegun
+    (c.run_job.ensures.needed s (script_after (request_of c.args.job.now) old mid new s c.prepare.ensures.read.unbegun gives.script))
+
+pub returns-in-Err-clause-needed : goal.returns-in-Err-clause-needed
+returns-in-Err-clause-needed g c = λ p d s gives. takes_none _ _ _ c.in-Err.ensures.read.unbegun
 
 pub returns-in-Ok-clause-crew : goal.returns-in-Ok-clause-crew
 returns-in-Ok-clause-crew g c = record {

@@ -1,5 +1,6 @@
 use Rattle.std.proofs.Common.{◌≡◌, inr, sym, subst, refl, length, drop, map, false, arith}
 use Rattle.std.specs.Prelude.{IsErr, string_bytes}
+use Rattle.sg_engine.specs.RunContract.{IsReadOnDemand}
 use Rattle.sg_words.specs.CommandLine.{Asked, asked_of, refusals}
 use Rattle.sg_words.specs.Views.{job_view}
 use Rattle.simgrid_replay.specs.PartSources.{IsNamedBy, PartsGive, TextsGive}
@@ -17,6 +18,16 @@ returns-in-Ok-clause-output g c = λ job asks p d s gives.
     subst (λ (j : Asked). PartsGive j.request (g.F.Files.shows c.args.files.now) (g.F.Files.shows c.do_job.new.files) p d s →
     HasOutcome (outcome j (length c.args.crew.now.items) p d s) c.do_job.result (g.O.Sinks.contents c.args.out.now) (g.O.Sinks.contents c.do_job.new.out) c.args.steps.now c.do_job.new.steps) same
     (c.do_job.ensures.output p d s) gives
+
+pub returns-in-Ok-clause-needed : goal.returns-in-Ok-clause-needed
+returns-in-Ok-clause-needed g c = λ job asks p d s gives.
+    let same : job_view c.in-Ok.job ≡ job = job_is _ _ c.read_words.result c.in-Ok.job job c.read_words.ensures c.in-Ok.is asks.job in
+    subst (λ (j : Asked). PartsGive j.request (g.F.Files.shows c.args.files.now) (g.F.Files.shows c.do_job.new.files) p d s →
+    IsReadOnDemand (outcome j (length c.args.crew.now.items) p d s).need (g.F.Files.shows c.args.files.now) (g.F.Files.shows c.do_job.new.files)) same
+    (c.do_job.ensures.needed p d s) gives
+
+pub returns-in-Err-clause-needed : goal.returns-in-Err-clause-needed
+returns-in-Err-clause-needed g c = λ job asks p d s gives. takes_none _ _ _ refl
 
 pub returns-in-Ok-clause-crew : goal.returns-in-Ok-clause-crew
 returns-in-Ok-clause-crew g c = λ job asks p d texts ends.

@@ -1,10 +1,9 @@
-use Rattle.std.proofs.Common.{◌≡◌, ◌++◌, ◌∷◌, ◌-◌, ◌<◌, ◌≤◌, ℕ, true, List, [], None, Some, IfSome, length, set, length-set, refl, sym, ap, ap₂, subst, ◌∙◌, arith}
-use Rattle.sg_base.specs.MarkSet.{MarkSet, with_mark}
-use Rattle.sg_maxmin.specs.Fill.{Flow, flow}
+use Rattle.std.proofs.Common.{◌≡◌, IfSome, sym, ap, ap₂, subst, ◌∙◌, arith}
+use Rattle.sg_base.specs.MarkSet.{MarkSet}
 use Rattle.sg_lazy.specs.RunningFlow.{RunningFlow, running_at}
-use Rattle.sg_lazy.specs.Lazily.{Lazily, with_flow, without_flow}
-use Rattle.sg_lazy.specs.kept.Held.{IsLazy, running_of, running_in, ended_in}
-use Rattle.sg_lazy.proofs.Listing.{at_listed, length_listed, some_of}
+use Rattle.sg_lazy.specs.Lazily.{Lazily, without_flow}
+use Rattle.sg_lazy.specs.kept.Held.{IsLazy, running_in, ended_in}
+use Rattle.sg_lazy.proofs.Listing.{some_of}
 use Rattle.sg_lazy.proofs.Starting.{is_here, end_slots, end_lazy, ended_more}
 use Rattle.sg_lazy.proofs.lazy.Lazy.end.Goals as goal
 
@@ -27,6 +26,7 @@ invariant_of-self c =
       record {
         began = inv.1.began;
         ended = omega (arith, inv.1.ended, ap (λ (m : MarkSet). m.room) c.insert.ensures);
+        freed = inv.1.freed;
         touched = inv.1.touched;
         reached = inv.1.reached;
         places = inv.1.places;

@@ -1,4 +1,4 @@
-use Rattle.std.proofs.Common.{◌≡◌, List, [], length, sym, ap, ◌∙◌, arith}
+use Rattle.std.proofs.Common.{List, length, ap, arith}
 use Rattle.sg_base.specs.MarkSet.{MarkSet}
 use Rattle.sg_lazy.specs.kept.Held.{ended_in}
 use Rattle.sg_lazy.proofs.Whole.{fresh_lazy, nothing_runs}
@@ -13,14 +13,15 @@ invariant_of-result c =
       record {
         began = omega (arith, none);
         ended = omega (arith, none);
+        freed = omega (arith, c.in_ok-reserve.ensures.room, c.new-freed.ensures.room, caps, ap (λ (m : MarkSet). m.room) c.freed.view_is);
         touched = omega (arith, none);
-        reached = omega (arith, c.in_ok-reserve.ensures.room, c.new-reached.ensures.room, caps, ap (λ (m : MarkSet). m.room) c.reached.view_is);
+        reached = omega (arith, c.in_ok-reserve-2.ensures.room, c.new-reached.ensures.room, caps, ap (λ (m : MarkSet). m.room) c.reached.view_is);
         places = record {
           fixed_len = omega (arith, none);
           left_len = omega (arith, ap length c.in_ok-from_slice.ensures.items, caps);
           waiting_len = omega (arith, ap length c.in_ok-from_slice-2.ensures.items, caps);
           levels_len = omega (arith, ap length c.in_ok-from_slice-3.ensures.items, caps);
-          stale_room = omega (arith, c.in_ok-reserve-2.ensures.room, c.new-stale.ensures.room, caps, ap (λ (m : MarkSet). m.room) c.stale.view_is);
+          stale_room = omega (arith, c.in_ok-reserve-3.ensures.room, c.new-stale.ensures.room, caps, ap (λ (m : MarkSet). m.room) c.stale.view_is);
         };
         rates = omega (arith, none);
         changed = omega (arith, none);

@@ -1,5 +1,4 @@
-use Rattle.std.proofs.Common.{◌≡◌, ℕ, ◌≤◌, length, refl, ap, ◌∙◌, arith}
-use Rattle.sg_base.specs.MarkSet.{MarkSet}
+use Rattle.std.proofs.Common.{◌≤◌, length, ap, ◌∙◌, arith}
 use Rattle.sg_lazy.specs.RunningFlow.{running_at}
 use Rattle.sg_lazy.specs.Lazily.{Lazily}
 use Rattle.sg_lazy.specs.kept.Held.{running_in, running_of, ended_in}
@@ -22,6 +21,7 @@ invariant_of-self-2 c =
       record {
         began = omega (arith, n, c.in_ok-grow_marks.ensures.room.0);
         ended = omega (arith, n, c.in_ok-grow_marks.ensures.room.1);
+        freed = omega (arith, inv.1.freed, caps);
         touched = omega (arith, n, c.in_ok-grow_marks.ensures.room.2);
         reached = omega (arith, inv.1.reached, caps);
         places = record {

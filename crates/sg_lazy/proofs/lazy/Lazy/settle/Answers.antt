@@ -1,7 +1,7 @@
-use Rattle.std.proofs.Common.{◌≡◌, ℕ, ◌<◌, ◌≤◌, ◌+◌, List, [], IsSome, length, get_or, refl, sym, ap, subst, ◌∙◌, arith}
-use Rattle.sg_base.specs.MarkSet.{MarkSet, is_in}
+use Rattle.std.proofs.Common.{ℕ, ◌<◌, [], IsSome, length, get_or, refl, sym, ap, subst, arith}
+use Rattle.sg_base.specs.MarkSet.{MarkSet}
 use Rattle.sg_maxmin.specs.Sharing.{flow_at}
-use Rattle.sg_lazy.specs.Lazily.{Lazily, IsSettled}
+use Rattle.sg_lazy.specs.Lazily.{IsSettled}
 use Rattle.sg_lazy.specs.kept.Held.{IsLazy, running_in, ended_in}
 use Rattle.sg_lazy.proofs.Growing.{in_at}
 use Rattle.sg_lazy.proofs.Whole.{is_settled, settled_lazy}
@@ -21,6 +21,7 @@ invariant_of-self g c =
       record {
         began = omega (arith, room.began, ap (λ (m : MarkSet). m.room) c.clear.ensures);
         ended = omega (arith, room.ended, ap (λ (m : MarkSet). m.room) c.clear-2.ensures);
+        freed = room.freed;
         touched = room.touched;
         reached = room.reached;
         places = room.places;

@@ -1,10 +1,10 @@
-use Rattle.std.proofs.Common.{◌≡◌, ◌++◌, ◌∷◌, ◌-◌, ◌<◌, ◌≤◌, ℕ, true, List, [], None, Some, IfSome, length, set, length-set, refl, sym, ap, ap₂, subst, ◌∙◌, arith}
-use Rattle.sg_base.specs.MarkSet.{MarkSet, with_mark}
-use Rattle.sg_maxmin.specs.Fill.{Flow, flow}
-use Rattle.sg_lazy.specs.RunningFlow.{RunningFlow, running_at}
-use Rattle.sg_lazy.specs.Lazily.{Lazily, with_flow, without_flow}
+use Rattle.std.proofs.Common.{◌≡◌, ◌-◌, true, None, Some, length, set, length-set, refl, sym, ap, ap₂, subst, ◌∙◌, arith}
+use Rattle.sg_base.specs.MarkSet.{MarkSet}
+use Rattle.sg_maxmin.specs.Fill.{flow}
+use Rattle.sg_lazy.specs.RunningFlow.{running_at}
+use Rattle.sg_lazy.specs.Lazily.{Lazily, with_flow}
 use Rattle.sg_lazy.specs.kept.Held.{IsLazy, running_of, running_in, ended_in}
-use Rattle.sg_lazy.proofs.Listing.{at_listed, length_listed, some_of}
+use Rattle.sg_lazy.proofs.Listing.{at_listed, length_listed}
 use Rattle.sg_lazy.proofs.Starting.{start_slots, start_lazy, ended_same, free_not_ended}
 use Rattle.sg_lazy.proofs.lazy.Lazy.start.Goals as goal
 
@@ -25,6 +25,7 @@ invariant_of-self c =
       record {
         began = omega (arith, inv.1.began, len, ap (λ (m : MarkSet). m.room) m);
         ended = omega (arith, inv.1.ended, len);
+        freed = omega (arith, inv.1.freed, caps);
         touched = omega (arith, inv.1.touched, len);
         reached = omega (arith, inv.1.reached, caps);
         places = record {

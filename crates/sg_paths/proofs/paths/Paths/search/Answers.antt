@@ -1,8 +1,10 @@
-use Rattle.std.proofs.Common.{◌≡◌, List, refl, subst, ap, sym}
+use Rattle.std.proofs.Common.{◌≡◌, ◌≤◌, ◌⊎◌, List, inl, inr, refl, subst, ap, sym, ◌∙◌}
 use Rattle.sg_base.specs.declared.ids.LinkId.{LinkId}
 use Rattle.sg_paths.specs.declared.route.PathRoute.{PathRoute}
 use Rattle.sg_paths.specs.Path.{Net, HasPath, IsLeastPath}
+use Rattle.sg_paths.proofs.PathLemmas.{no_path_outside}
 use Rattle.sg_paths.proofs.paths.Paths.search.Goals as goal
+use Rattle.sg_paths.proofs.paths.Paths.search.Goals.{then-from-self-via-then-from-self, then-from-self-via-else-from-self+then-to-self}
 
 pub returns-then-find : goal.returns-then-find
 returns-then-find c =
@@ -28,5 +30,22 @@ returns-else-find c =
         least = tt;
         kept = tt;
         none = λ e links has. c.if-find.ensures.no links (subst (λ (routes : List PathRoute). HasPath routes c.args.from c.args.to links) (sym same) has);
+      },
+    )
+
+pub returns-then-from-self : goal.returns-then-from-self
+returns-then-from-self c =
+    let routes : c.self.inside.routes.items ≡ c.args.self.now.routes = ap (λ (n : Net). n.routes) c.self.view_is in
+    let far : (c.self.inside.points ≤ c.args.from) ⊎ (c.self.inside.points ≤ c.args.to) =
+    elim c.then-from-self.branch [ then-from-self-via-then-from-self w ↦ inl w.if-from-self.true | then-from-self-via-else-from-self+then-to-self w ↦ inr w.if-to-self.true ] in
+    let stays : c.then-from-self.self.0 ≡ c.args.self.now =
+    elim c.then-from-self.branch [ then-from-self-via-then-from-self w ↦ let e = w.self-is in ap (λ p. p.0) e ∙ c.self.view_is | then-from-self-via-else-from-self+then-to-self w ↦ let e = w.self-is in ap (λ p. p.0) e ∙ c.self.view_is ] in (
+      (refl, λ _. tt, stays),
+      record {
+        reached = tt;
+        least = tt;
+        kept = tt;
+        none = λ e links has. no_path_outside c.self.inside.points c.self.inside.routes.items c.self.invariant.search.within c.args.from c.args.to c.requires far links
+            (subst (λ (rs : List PathRoute). HasPath rs c.args.from c.args.to links) (sym routes) has);
       },
     )

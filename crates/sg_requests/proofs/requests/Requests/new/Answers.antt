@@ -1,6 +1,6 @@
 use Rattle.std.proofs.Common.{◌∙◌, ap}
-use Rattle.sg_requests.specs.kept.Entries.{values_of}
-use Rattle.sg_requests.proofs.Values.{no_values}
+use Rattle.sg_queues.specs.Queues.{values_of}
+use Rattle.sg_queues.proofs.Values.{no_values}
 use Rattle.sg_requests.proofs.requests.Requests.new.Goals as goal
 
 pub returns : goal.returns

@@ -1,7 +1,6 @@
-use Rattle.std.proofs.Common.{◌∙◌, ap}
-use Rattle.sg_queues.specs.Queues.{shortened}
-use Rattle.sg_requests.specs.kept.Entries.{values_of}
-use Rattle.sg_requests.proofs.Values.{taken_values}
+use Rattle.std.proofs.Common.{◌-◌, ◌∙◌, ap}
+use Rattle.sg_queues.specs.Queues.{values_of, shortened}
+use Rattle.sg_queues.proofs.Values.{shortened_values}
 use Rattle.sg_requests.proofs.requests.Requests.take.Goals as goal
 
 pub returns-clause-rest : goal.returns-clause-rest
@@ -9,6 +8,4 @@ returns-clause-rest c =
     let inside = c.self.inside in
     rw (← c.self.view_is)
     (ap (λ l. record { queues = l; asked = inside.asked; room = inside.room })
-    (ap values_of c.pop_front.ensures.rest
-    ∙ ap (λ place. values_of (shortened inside.queues.queues place)) c.index.ensures
-    ∙ taken_values inside.queues.queues c.args.actor.0))
+    (ap values_of c.pop_front.ensures.rest ∙ ap (λ place. values_of (shortened inside.queues.queues place)) c.index.ensures ∙ shortened_values inside.queues.queues (c.args.actor.0 - 1)))

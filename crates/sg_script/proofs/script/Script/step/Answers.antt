@@ -1,26 +1,25 @@
 use Rattle.sg_edge.specs.declared.files.Part.TheVariants.{Script as ScriptPart}
 use Rattle.sg_script.specs.Known.{known_in}
 use Rattle.sg_script.specs.Stands.{kept_of}
-use Rattle.sg_script.proofs.Steps.{line_steps, broken_steps}
-use Rattle.sg_script.proofs.Spending.{line_spends, spent_piece}
+use Rattle.sg_script.proofs.Steps.{broken_steps, end_steps, line_steps, piece_steps}
 use Rattle.sg_script.proofs.script.Script.step.Goals as goal
 
 pub returns-in-Line-clause-step : goal.returns-in-Line-clause-step
 returns-in-Line-clause-step g c =
     let front = rw (c.stage.ensures, c.bytes.ensures.value) at c.in-Line.ensures in
-    line_steps (known_in c.args.deployment.now) (g.F.Files.shows c.args.files.now ScriptPart) (kept_of c.args.self.now) (kept_of c.take_line.new.self) c.in-Line.len c.in-Line.end c.args.actor.0 c.take_line.result c.requires.begun (front.3 (known_in c.args.deployment.now)) c.requires.empty c.take_line.ensures.line
+    line_steps (known_in c.args.deployment.now) (g.F.Files.shows c.args.files.now ScriptPart) (kept_of c.args.self.now) (kept_of c.take_line.new.self) c.in-Line.len c.in-Line.end c.args.actor.0 c.take_line.result c.requires.begun front.1 (front.3 (known_in c.args.deployment.now)) c.requires.empty c.take_line.ensures.line
+
+pub returns-in-Unread-clause-step : goal.returns-in-Unread-clause-step
+returns-in-Unread-clause-step g c =
+    let front = rw (c.stage.ensures, c.bytes.ensures.value) at c.in-Unread.ensures in
+    piece_steps (known_in c.args.deployment.now) (g.F.Files.shows c.args.files.now ScriptPart) (g.F.Files.shows c.read_piece.new.files ScriptPart) (kept_of c.args.self.now) (kept_of c.read_piece.new.self) c.args.actor.0 front.1 c.args.self.now.few c.requires.empty c.read_piece.ensures.read
+
+pub returns-in-End-clause-step : goal.returns-in-End-clause-step
+returns-in-End-clause-step g c =
+    let front = rw (c.stage.ensures, c.bytes.ensures.value) at c.in-End.ensures in
+    end_steps (known_in c.args.deployment.now) (g.F.Files.shows c.args.files.now ScriptPart) (kept_of c.args.self.now) c.args.actor.0 front.0 front.1 c.requires.empty c.requires.begun
 
 pub returns-in-Broken-clause-step : goal.returns-in-Broken-clause-step
 returns-in-Broken-clause-step g c =
     let front = rw (c.stage.ensures, c.bytes.ensures.value) at c.in-Broken.ensures in
     broken_steps (known_in c.args.deployment.now) (g.F.Files.shows c.args.files.now ScriptPart) (kept_of c.args.self.now) c.args.actor.0 front.0 front.1 c.requires.empty c.requires.begun
-
-pub returns-in-Line-clause-spent : goal.returns-in-Line-clause-spent
-returns-in-Line-clause-spent g c =
-    let front = rw (c.stage.ensures, c.bytes.ensures.value) at c.in-Line.ensures in
-    line_spends (known_in c.args.deployment.now) (g.F.Files.shows c.args.files.now ScriptPart) (kept_of c.args.self.now) (kept_of c.take_line.new.self) c.in-Line.len c.in-Line.end c.args.actor.0 c.take_line.result c.requires.begun front.1 (front.3 (known_in c.args.deployment.now)) c.take_line.ensures.line
-
-pub returns-in-Unread-clause-spent : goal.returns-in-Unread-clause-spent
-returns-in-Unread-clause-spent g c =
-    let front = rw (c.stage.ensures, c.bytes.ensures.value) at c.in-Unread.ensures in
-    spent_piece (known_in c.args.deployment.now) c.args.actor.0 (g.F.Files.shows c.args.files.now ScriptPart) (g.F.Files.shows c.read_piece.new.files ScriptPart) (kept_of c.args.self.now) (kept_of c.read_piece.new.self) front.1 c.args.self.now.few c.read_piece.ensures.read

@@ -1,22 +1,22 @@
-use Rattle.std.proofs.Common.{◌≡◌, ◌+◌, ap, refl, length, arith}
-use Rattle.std.proofs.lemmas.List.{length-replicate}
-use Rattle.sg_base.specs.declared.ids.ActorId.{ActorId}
-use Rattle.sg_sync.specs.declared.queues.Ends.{Ends}
-use Rattle.sg_sync.specs.Links.{actors_of}
-use Rattle.sg_sync.proofs.Chains.{all_empty, new_linked}
+use Rattle.std.proofs.Common.{◌≡◌, ◌++◌, ◌∷◌, [], ◌∙◌, ap, arith}
+use Rattle.std.specs.Prelude.{drop, map, replicate}
+use Rattle.std.proofs.lemmas.List.{drop-append-le, replicate-append-replicate}
+use Rattle.sg_queues.specs.Rings.{Rings}
+use Rattle.sg_sync.specs.kept.Slots.{actors_in}
+use Rattle.sg_sync.proofs.Slots.{queue_more, nobody_in}
 use Rattle.sg_sync.proofs.queues.Queues.new.Goals as goal
 
-abbrev nobody : ActorId
-nobody = record { 0 = 0 }
-
-abbrev empty : Ends
-empty = record { first = nobody; last = nobody; len = 0 }
-
-pub invariant_of-result : goal.invariant_of-result
-invariant_of-result c =
-    new_linked c.in_ok-next.next.items c.in_ok-ends.ends.items c.args.queues empty (omega (arith, ap length (c.in_ok-next.ensures.items_if_clones_equal (λ y same. same)), length-replicate (c.args.actors + 1) nobody)) (c.in_ok-ends.ensures.items_if_clones_equal (λ y same. same)) refl
+pub loop-queue-preserved : goal.loop-queue-preserved
+loop-queue-preserved c =
+    let was = c.loop-queue.rings in
+    let more = c.in_ok-add_queue-2.ensures in
+    record {
+      kept = queue_more c.args.actors was c.add_queue-in-loop-queue.new.self c.loop-queue.invariant.kept more.apart more.queue;
+      nobody = ap (λ (r : Rings). drop 1 r.queues) more.queue ∙ drop-append-le 1 was.queues ([] ∷ []) (omega (arith, c.loop-queue.invariant.kept.some))
+          ∙ ap (λ l. l ++ [] ∷ []) c.loop-queue.invariant.nobody ∙ replicate-append-replicate c.loop-queue._queue 1 [];
+    }
 
 pub returns : goal.returns
 returns c =
-    let actors : actors_of c.in_ok-next.next.items ≡ c.args.actors = omega (arith, ap length (c.in_ok-next.ensures.items_if_clones_equal (λ y same. same)), length-replicate (c.args.actors + 1) nobody) in
-    rw (actors, c.in_ok-ends.ensures.items_if_clones_equal (λ y same. same), all_empty c.in_ok-next.next.items c.args.queues empty refl) refl
+    let end : c.loop-queue._queue ≡ c.args.queues = omega arith in
+    ap (λ queues. record { actors = c.args.actors; queues = queues }) (ap (map actors_in) c.loop-queue.invariant.nobody ∙ nobody_in c.loop-queue._queue ∙ ap (λ n. replicate n []) end)

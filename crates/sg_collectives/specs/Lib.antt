@@ -1,0 +1,5 @@
+pub mod Actions
+pub mod Expansion
+pub mod Laws
+pub mod Members
+pub mod Tree

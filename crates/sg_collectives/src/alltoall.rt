@@ -1,0 +1,41 @@
+//! From each to each.
+ghost use Rattle.std.specs.Prelude.{◌≡◌, ℕ, ◌%◌, ◌<◌, length, slice_get};
+ghost use Rattle.sg_collectives.specs.Expansion.{alltoall};
+
+use crate::step::Step;
+
+// The rank that is met there by going round all members.
+fn around(way: u64, members: u32) -> u32
+    requires { 0 < members }
+    ensures { result ≡ way % members }
+{
+    (way % u64::from(members)) as u32
+}
+
+#[tactic(auto, using(crate::proofs::Places::alltoall_recv, crate::proofs::Places::alltoall_send, crate::proofs::Places::alltoall_wait, crate::proofs::Places::alltoall_past))]
+pub fn alltoall_step(bytes: u64, rank: u32, members: u32, place: u64) -> Option<Step>
+    requires { rank < members }
+    ensures { result ≡ slice_get (alltoall bytes rank members) place }
+{
+    let at = u64::from(rank);
+    let all = u64::from(members);
+    let others = all - 1;
+    if place < others {
+        return Some(Step::IRecv(around(at + all - (place + 1), members)));
+    }
+    if place < 2 * others {
+        return Some(Step::ISend(around(at + (place + 1 - others), members), bytes));
+    }
+    if place < 4 * others {
+        return Some(Step::Wait);
+    }
+    None
+}
+
+#[tactic(auto, using(crate::proofs::Places::length_alltoall))]
+pub fn alltoall_len(members: u32) -> u64
+    requires { 0 < members }
+    ensures { (bytes rank : ℕ) → result ≡ length (alltoall bytes rank members) }
+{
+    4 * (u64::from(members) - 1)
+}

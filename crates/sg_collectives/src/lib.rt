@@ -1,0 +1,19 @@
+//! Collective actions of numbered members, each as the sends, receives and computes that every member does for it.
+#![tactic(auto)]
+
+mod alltoall;
+mod bcast;
+mod collective;
+mod laws;
+mod members;
+mod reduce;
+mod step;
+mod tree;
+
+pub use collective::Collective;
+pub use laws::{alone_does_nothing, peers_are_others, requests_are_awaited, sends_are_received};
+pub use members::Members;
+pub use step::Step;
+
+#[cfg(test)]
+mod tests;

@@ -1,0 +1,44 @@
+//! From all to rank 0.
+ghost use Rattle.std.specs.Prelude.{◌≡◌, ℕ, ◌^◌, ◌<◌, length, slice_get};
+ghost use Rattle.sg_collectives.specs.Expansion.{reduce, to_parent};
+
+use crate::step::Step;
+use crate::tree::{child_count, parent};
+
+// What a rank sends to its parent.
+#[tactic(auto, using(crate::proofs::Places::to_parent_first, crate::proofs::Places::to_parent_behind, crate::proofs::Places::to_parent_none))]
+fn to_parent(bytes: u64, rank: u32, place: u64) -> Option<Step>
+    ensures { result ≡ slice_get (to_parent bytes rank) place }
+{
+    if rank > 0 && place == 0 {
+        Some(Step::Send(parent(rank), bytes))
+    } else {
+        None
+    }
+}
+
+#[tactic(auto, using(crate::proofs::Places::reduce_recv, crate::proofs::Places::reduce_compute, crate::proofs::Places::reduce_behind))]
+pub fn reduce_step(bytes: u64, flops: u64, rank: u32, members: u32, place: u64) -> Option<Step>
+    requires { rank < members }
+    ensures { result ≡ slice_get (reduce bytes flops rank members) place }
+{
+    let behind = 2 * u64::from(child_count(rank, members));
+    if place >= behind {
+        return to_parent(bytes, rank, place - behind);
+    }
+    if place % 2 == 1 {
+        return Some(Step::Compute(flops));
+    }
+    let child = (place / 2) as u32;
+    Some(Step::Recv(rank + 2u32.pow(child)))
+}
+
+#[tactic(auto, using(crate::proofs::Places::length_reduce_root, crate::proofs::Places::length_reduce_other))]
+pub fn reduce_len(rank: u32, members: u32) -> u64
+    requires { rank < members }
+    ensures counted { (bytes flops : ℕ) → result ≡ length (reduce bytes flops rank members) }
+    ensures few { result < 2 ^ 33 }
+{
+    let received = 2 * u64::from(child_count(rank, members));
+    if rank == 0 { received } else { received + 1 }
+}

@@ -1,0 +1,149 @@
+//! Filling part by part: what sharing joins to one flow is filled by itself.
+ghost use Rattle.std.specs.Prelude.{◌≡◌, ◌≤◌, ◌<◌, ◌+◌, ℕ, Bool, true, false, IsSome, IsTrue, All, length};
+ghost use Rattle.sg_base.specs.MarkSet.{is_in};
+ghost use Rattle.sg_maxmin.specs.Sharing.{IsSound, flow_at};
+ghost use Rattle.sg_lazy.specs.kept.Component.{AllPass, PassAlong, StaysWithin};
+ghost use Rattle.sg_lazy.specs.kept.Parts.{AreHeldUnless, FillsOn, IsFilled};
+
+use crate::component::{Component, reach, touch};
+use crate::filling::{Filling, fill};
+use sg_base::{Marks, Steps};
+use sg_maxmin::System;
+use std::sync::ledger::Ledger;
+
+// Fills what sharing joins to a flow.
+fn fill_part<L: Ledger>(
+    system: &System,
+    flow: usize,
+    component: &mut Component,
+    filling: &mut Filling,
+    steps: &mut Steps<L>,
+)
+    requires held { IsSome (flow_at system.now.slots flow) }
+    requires sound { IsSound system.now }
+    requires filled { IsFilled system.now component.old filling.old }
+    ensures filled { IsFilled system.now component.new filling.new }
+    ensures on { FillsOn system.now component.old component.new steps.old steps.new }
+    ensures there { IsTrue (is_in flow component.new.touched.members) }
+    ensures least { (p q : ℕ → Bool) → PassAlong system.now p q → IsTrue (p flow)
+        → StaysWithin p q component.old component.new }
+{
+    let touched = component.touched.members().len();
+    let reached = component.reached.members().len();
+    touch(system, flow, component, steps);
+    reach(system, reached, component, steps);
+    fill(
+        system,
+        &component.touched.members()[touched..],
+        &component.reached.members()[reached..],
+        filling,
+        steps,
+    );
+}
+
+// Fills what sharing joins to a flow that began, unless it ended or is filled already.
+fn fill_running<L: Ledger>(
+    system: &System,
+    flow: usize,
+    ended: &Marks,
+    component: &mut Component,
+    filling: &mut Filling,
+    steps: &mut Steps<L>,
+)
+    requires flow { (flow < ended.now.room) × (flow < length system.now.slots) }
+    requires held { is_in flow ended.now.members ≡ false → IsSome (flow_at system.now.slots flow) }
+    requires sound { IsSound system.now }
+    requires filled { IsFilled system.now component.old filling.old }
+    ensures filled { IsFilled system.now component.new filling.new }
+    ensures on { FillsOn system.now component.old component.new steps.old steps.new }
+    ensures there { is_in flow ended.now.members ≡ false
+        → IsTrue (is_in flow component.new.touched.members) }
+    ensures least { (p q : ℕ → Bool) → PassAlong system.now p q
+        → (is_in flow ended.now.members ≡ false → IsTrue (p flow))
+        → StaysWithin p q component.old component.new }
+{
+    if ended.contains(flow) {
+        return;
+    }
+    if component.touched.contains(flow) {
+        return;
+    }
+    fill_part(system, flow, component, filling, steps);
+}
+
+/// Fills what sharing joins to the flows that began, but for those that ended: one part after the other.
+pub fn fill_began<L: Ledger>(
+    system: &System,
+    began: &[usize],
+    ended: &Marks,
+    component: &mut Component,
+    filling: &mut Filling,
+    steps: &mut Steps<L>,
+)
+    requires began { AreHeldUnless system.now ended.now began.now }
+    requires sound { IsSound system.now }
+    requires filled { IsFilled system.now component.old filling.old }
+    ensures filled { IsFilled system.now component.new filling.new }
+    ensures on { FillsOn system.now component.old component.new steps.old steps.new }
+    ensures there { (id : ℕ) → is_in id began.now ≡ true → is_in id ended.now.members ≡ false
+        → IsTrue (is_in id component.new.touched.members) }
+    ensures least { (p q : ℕ → Bool) → PassAlong system.now p q
+        → ((id : ℕ) → is_in id began.now ≡ true → is_in id ended.now.members ≡ false
+        → IsTrue (p id)) → StaysWithin p q component.old component.new }
+{
+    for flow in began {
+        fill_running(system, *flow, ended, component, filling, steps);
+    }
+}
+
+// Fills what sharing joins to a resource, unless it is filled already. It takes a look.
+fn fill_on<L: Ledger>(
+    system: &System,
+    resource: usize,
+    component: &mut Component,
+    filling: &mut Filling,
+    steps: &mut Steps<L>,
+)
+    requires resource { resource < length system.now.capacities }
+    requires sound { IsSound system.now }
+    requires filled { IsFilled system.now component.old filling.old }
+    ensures filled { IsFilled system.now component.new filling.new }
+    ensures on { FillsOn system.now component.old component.new (steps.old + 1) steps.new }
+    ensures there { IsTrue (is_in resource component.new.reached.members) }
+    ensures least { (p q : ℕ → Bool) → PassAlong system.now p q → IsTrue (q resource)
+        → StaysWithin p q component.old component.new }
+{
+    if component.reached.contains(resource) {
+        return;
+    }
+    match system.first_on(resource) {
+        None => component.reached.insert(resource),
+        Some(i) => {
+            let one = system.look(i, steps);
+            fill_part(system, one.flow, component, filling, steps);
+        }
+    }
+}
+
+/// Fills what sharing joins to the resources that ended flows used: one part after the other.
+pub fn fill_freed<L: Ledger>(
+    system: &System,
+    freed: &[usize],
+    component: &mut Component,
+    filling: &mut Filling,
+    steps: &mut Steps<L>,
+)
+    requires freed { All (λ c. c < length system.now.capacities) freed.now }
+    requires sound { IsSound system.now }
+    requires filled { IsFilled system.now component.old filling.old }
+    ensures filled { IsFilled system.now component.new filling.new }
+    ensures on { FillsOn system.now component.old component.new
+        (steps.old + length freed.now) steps.new }
+    ensures there { AllPass (λ c. is_in c component.new.reached.members) freed.now }
+    ensures least { (p q : ℕ → Bool) → PassAlong system.now p q → AllPass q freed.now
+        → StaysWithin p q component.old component.new }
+{
+    for c in freed {
+        fill_on(system, *c, component, filling, steps);
+    }
+}

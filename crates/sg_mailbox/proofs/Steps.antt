@@ -1,0 +1,134 @@
+-- Who waits in the mailboxes, as a side comes and as one leaves.
+use Rattle.std.proofs.Common.{◌≡◌, ◌≢◌, ℕ, ◌+◌, ◌<◌, ◌≤◌, inl, inr, true, Bool, cond, Option, None, Some, List, [], ◌∷◌, ◌++◌, length, get_or, refl, sym, ap, subst, ◌∙◌, arith}
+use Rattle.std.specs.Prelude.{All, AllPairs, map, vec_capacity, IfSome}
+use Rattle.std.specs.HashMap.{spare, hash_map_len}
+use Rattle.std.proofs.lemmas.Bool.{eqb-false}
+use Rattle.std.proofs.Math.Bool.{beq}
+use Rattle.std.proofs.lemmas.List.{get_or-map, get_or-set_same, get_or-set_other, length-map}
+use Rattle.std.proofs.lemmas.List.Elements.{All-nil, All-map}
+use Rattle.sg_base.specs.declared.ids.BoxId.{BoxId}
+use Rattle.sg_base.specs.declared.ids.Serial.{Serial}
+use Rattle.sg_mailbox.specs.declared.sides.Side.{Side}
+use Rattle.sg_queues.specs.Rings.{queue_at, front, behind}
+use Rattle.sg_queues.specs.Queues.{holds, value, values_of, queued, let_go, without_slot}
+use Rattle.sg_queues.proofs.Entries.{map_at, from_front}
+use Rattle.sg_queues.proofs.Values.{values_at, queued_values}
+use Rattle.sg_mailbox.specs.declared.kept.Kept.{Kept}
+use Rattle.sg_mailbox.specs.declared.sides.Post.{Post}
+use Rattle.sg_mailbox.specs.declared.sides.Place.{Place}
+use Rattle.sg_mailbox.specs.Posts.{posts_in, waiting, meets, met, withdrawn, AreBelow, AreRising}
+use Rattle.sg_mailbox.specs.kept.Queues.{number, place, posts_of, is_at, IsPlace, AreNumbered, AreOrdered, AreKept, IsKept}
+use Rattle.sg_mailbox.proofs.Lists.{first_met}
+use Rattle.sg_mailbox.proofs.Numbers.{numbered_less}
+use Rattle.sg_mailbox.proofs.Places.{placed_like, side_at, one_queue}
+
+-- what holds of all that are kept holds of all that wait in a mailbox
+pub in_posts : (P : Post → Type 0) (kept : Kept) → ((q : ℕ) → All (λ (entry : ℕ × Post). P entry.1) (queue_at kept.queues.queues q)) → (mailbox : BoxId) → All P (waiting (posts_of kept) mailbox)
+in_posts P kept all mailbox = go (number kept mailbox)
+  where
+    go : (o : Option ℕ) → All P (posts_in (values_of kept.queues.queues) o)
+    go None = All-nil P
+    go (Some q) = subst (All P) (sym (values_at kept.queues.queues q)) (All-map P value (queue_at kept.queues.queues q) (all q))
+
+pub ordered_in : (kept : Kept) → ((q : ℕ) → AreOrdered (map value (queue_at kept.queues.queues q))) → (mailbox : BoxId) → AreOrdered (waiting (posts_of kept) mailbox)
+ordered_in kept ordered mailbox = go (number kept mailbox)
+  where
+    go : (o : Option ℕ) → AreOrdered (posts_in (values_of kept.queues.queues) o)
+    go None = λ i j d less below. absurd (omega (arith, below))
+    go (Some q) = subst AreOrdered (sym (values_at kept.queues.queues q)) (ordered q)
+
+pub rising_in : (kept : Kept) → IsKept kept → (mailbox : BoxId) → AreRising (waiting (posts_of kept) mailbox)
+rising_in kept was mailbox = λ i j d less below. (ordered_in kept was.ordered mailbox i j d less below).1
+
+-- no side waits under a serial that is above all
+pub unknown : (more : ℕ) (may : BoxId → Type 0) (kept : Kept) (serial : Serial) → AreKept more may kept → AreBelow serial.0 (posts_of kept) → place kept serial.0 ≡ None
+unknown more may kept serial was above = go (place kept serial.0) refl (was.placed.held serial.0)
+  where
+    go : (o : Option Place) → place kept serial.0 ≡ o → IfSome o (IsPlace (number kept) kept.queues.queues) → o ≡ None
+    go None is held = refl
+    go (Some p) is held =
+        let queue : List (ℕ × Post) = queue_at kept.queues.queues p.queue in
+        let below : All (λ (post : Post). post.serial.0 < serial.0) (map value queue) = subst (All (λ (post : Post). post.serial.0 < serial.0)) (ap (posts_in (values_of kept.queues.queues)) held.queue ∙ values_at kept.queues.queues p.queue) (above p.mailbox) in
+        let one = side_at (number kept) (place kept) kept.queues.queues serial.0 p was.placed is held (λ (e : ℕ × Post). e.1.serial.0 < serial.0) (λ k d less. subst (λ (post : Post). post.serial.0 < serial.0) (get_or-map value queue k d d.1 less) (below k d.1 (omega (arith, less, length-map queue value)))) in
+        absurd (omega (arith, one.2, one.3))
+
+-- the maps and the queues grow
+pub grown : (old new : Kept) → IsKept old → ((m : BoxId) → number new m ≡ number old m) → hash_map_len new.numbers ≡ hash_map_len old.numbers → spare old.numbers ≤ spare new.numbers → ((s : ℕ) → place new s ≡ place old s) → spare old.places ≤ spare new.places
+    → new.queues.queues ≡ old.queues.queues → old.queues.room ≤ new.queues.room → new.empty ≡ old.empty → new.room ≡ old.room → IsKept new
+grown old new was numbers count numbers_fit places places_fit queues queues_fit empty room =
+    let items : new.empty.items ≡ old.empty.items = ap (λ v. v.items) empty in
+    record {
+      roomy = record {
+        numbers = omega (arith, was.roomy.numbers, numbers_fit, room);
+        empty = omega (arith, was.roomy.empty, ap length items, room);
+        places = omega (arith, was.roomy.places, places_fit, room);
+        queues = omega (arith, was.roomy.queues, queues_fit, room);
+        stack = omega (arith, was.roomy.stack, count, ap length items, ap (λ v. vec_capacity v) empty);
+      };
+      numbered = subst (λ l. AreNumbered (number new) l new.queues.queues) (sym items) (rw queues (numbered_less (number old) (number new) old.empty.items old.queues.queues (λ m q is. sym (numbers m) ∙ is) was.numbered));
+      placed = placed_like (number old) (number new) (place old) (place new) old.queues.queues new.queues.queues (λ q. ap (λ l. queue_at l q) queues) places (λ m q slot is there. numbers m ∙ is) was.placed;
+      slots = rw queues was.slots;
+      ordered = rw queues was.ordered;
+      filled = rw queues (λ m q is none. was.filled m q (sym (numbers m) ∙ is) none);
+    }
+
+-- ---- a side comes to the end of a queue
+module _ (queues : List (List (ℕ × Post))) (queue slot : ℕ) (post : Post) where
+  pub put_there : queue < length queues → queue_at (values_of (queued queues queue (slot, post))) queue ≡ queue_at (values_of queues) queue ++ post ∷ []
+  put_there below =
+      ap (λ l. queue_at l queue) (queued_values queues queue slot post) ∙ get_or-set_same (values_of queues) queue (queue_at (values_of queues) queue ++ post ∷ []) [] (omega (arith, below, length-map queues (map value)))
+
+  pub put_elsewhere : (o : Option ℕ) → o ≢ Some queue → posts_in (values_of (queued queues queue (slot, post))) o ≡ posts_in (values_of queues) o
+  put_elsewhere None apart = refl
+  put_elsewhere (Some q) apart = ap (λ l. queue_at l q) (queued_values queues queue slot post) ∙ get_or-set_other (values_of queues) queue q (queue_at (values_of queues) queue ++ post ∷ []) [] (λ e. apart (ap (λ n. Some n) e))
+
+-- ---- a side leaves
+pub taken_in : (queues : List (List (ℕ × Post))) (slot : ℕ) (serial : Serial) → ((q : ℕ) → map value (without_slot slot (queue_at queues q)) ≡ withdrawn serial (map value (queue_at queues q)))
+    → (o : Option ℕ) → posts_in (values_of (let_go slot queues)) o ≡ withdrawn serial (posts_in (values_of queues) o)
+taken_in queues slot serial each None = refl
+taken_in queues slot serial each (Some q) =
+    values_at (let_go slot queues) q ∙ ap (map value) (map_at (without_slot slot) [] queues q) ∙ each q ∙ ap (withdrawn serial) (sym (values_at queues q))
+
+-- ---- a side is met
+pub nobody_met : (o : Option Post) → None ≡ met o → o ≡ None
+nobody_met None e = refl
+nobody_met (Some post) e = absurd (cc e)
+
+pub somebody_met : (serial : Serial) (side : Side) (o : Option Post) → Some (serial, side) ≡ met o → (post : Post) × (o ≡ Some post) × (post.serial ≡ serial)
+somebody_met serial side None e = absurd (cc e)
+somebody_met serial side (Some post) e =
+    let mine : Serial × Side = (serial, side) in
+    let theirs : Serial × Side = (post.serial, post.side) in
+    let same : mine ≡ theirs = cc e in (post, refl, sym (ap (λ (p : Serial × Side). p.0) same))
+
+front_value : (queue : List (ℕ × Post)) (post : Post) → front (map value queue) ≡ Some post → (first : ℕ × Post) × (front queue ≡ Some first) × (first.1 ≡ post)
+front_value [] post is = absurd (cc is)
+front_value (first ∷ rest) post is = (first, refl, cc is)
+
+-- who is met waits in no other mailbox
+pub only_there : (kept : Kept) → IsKept kept → (mailbox other : BoxId) → other ≢ mailbox → (post : Post) → front (waiting (posts_of kept) mailbox) ≡ Some post → All (λ (p : Post). p.serial.0 ≢ post.serial.0) (waiting (posts_of kept) other)
+only_there kept was mailbox other apart post is = go (number kept mailbox) (number kept other) refl refl is
+  where
+    go : (a b : Option ℕ) → number kept mailbox ≡ a → number kept other ≡ b → front (posts_in (values_of kept.queues.queues) a) ≡ Some post → All (λ (p : Post). p.serial.0 ≢ post.serial.0) (posts_in (values_of kept.queues.queues) b)
+    go None b a_is b_is e = absurd (cc e)
+    go (Some p) None a_is b_is e = All-nil (λ (p : Post). p.serial.0 ≢ post.serial.0)
+    go (Some p) (Some q) a_is b_is e =
+        let first = front_value (queue_at kept.queues.queues p) post (ap front (sym (values_at kept.queues.queues p)) ∙ e) in
+        let one = one_queue (number kept) (place kept) kept.queues.queues p q first.0 was.placed was.slots first.1 in
+        subst (All (λ (p : Post). p.serial.0 ≢ post.serial.0)) (sym (values_at kept.queues.queues q))
+        (All-map (λ (p : Post). p.serial.0 ≢ post.serial.0) value (queue_at kept.queues.queues q)
+        (λ k d below same. apart (was.numbered.once other mailbox q b_is (a_is ∙ ap (λ n. Some n) (one k d below (same ∙ sym (ap (λ (p : Post). p.serial.0) first.2)))))))
+
+-- no side waits under a serial that has no place
+pub unplaced : (kept : Kept) (serial : Serial) → IsKept kept → place kept serial.0 ≡ None → (mailbox : BoxId) → All (λ (post : Post). post.serial.0 ≢ serial.0) (waiting (posts_of kept) mailbox)
+unplaced kept serial was none mailbox =
+    in_posts (λ (post : Post). post.serial.0 ≢ serial.0) kept
+    (λ q k d below. let entry : ℕ × Post = get_or (queue_at kept.queues.queues q) k d in eqb-false entry.1.serial.0 serial.0 (sym (was.placed.told q serial.0 k d below) ∙ ap (is_at entry.0) none)) mailbox
+
+-- who is first tells whom a side meets
+pub front_met : (kept : Kept) → IsKept kept → (mailbox : BoxId) (sends : Bool) (queue : ℕ) (first : ℕ × Post) → number kept mailbox ≡ Some queue → front (queue_at kept.queues.queues queue) ≡ Some first
+    → meets sends (waiting (posts_of kept) mailbox) ≡ cond (beq first.1.sends sends) None (Some first.1)
+front_met kept was mailbox sends queue first has is =
+    let rest : List Post = map value (behind (queue_at kept.queues.queues queue)) in
+    let list : map value (queue_at kept.queues.queues queue) ≡ first.1 ∷ rest = ap (map value) (from_front (queue_at kept.queues.queues queue) first is) in
+    ap (λ o. meets sends (posts_in (values_of kept.queues.queues) o)) has ∙ ap (meets sends) (values_at kept.queues.queues queue ∙ list) ∙ first_met sends first.1 rest (subst AreOrdered list (was.ordered queue))

@@ -1,0 +1,85 @@
+//! Routes to settled points, gone back over a link at a time.
+ghost use Rattle.std.specs.Prelude.{◌≡◌, ◌+◌, ◌*◌, ◌/◌, ◌^◌, ◌<◌, ◌≤◌, ℕ, None, length};
+ghost use Rattle.sg_heap.specs.Agenda.{key_at};
+ghost use Rattle.sg_paths.specs.Ahead.{EntersFrom, GoesBack, HasPlaceFor};
+ghost use Rattle.sg_paths.specs.Arrivals.{AreArrivals};
+ghost use Rattle.sg_paths.specs.Trail.{links_at};
+
+use crate::arrivals::Arrivals;
+use crate::route::PathRoute;
+use crate::trail::links_at;
+use sg_base::{LinkId, Serial};
+use sg_heap::Agenda;
+
+/// Of each route to a settled point how many of its links lie ahead of it, and its key: how many links lie behind it up
+/// to the end of all paths, which comes first of these, and the rank of the list of the others.
+#[derive(Drop)]
+pub struct Ahead {
+    pub agenda: Agenda,
+    pub left: Vec<usize>,
+}
+
+/// The key of a list of links that was at hand, and its rank among all that were.
+#[derive(Clone, Copy, Debug)]
+pub struct Mark {
+    pub date: u128,
+    pub serial: u64,
+    pub rank: u64,
+}
+
+/// No route is gone back over any more.
+pub fn clear(ahead: &mut Ahead)
+    ensures keys { (i : ℕ) → key_at ahead.new.agenda i ≡ None }
+    ensures slots { length ahead.new.agenda ≡ length ahead.old.agenda }
+    ensures lefts { ahead.new.left ≡ ahead.old.left }
+{
+    while let Some((i, _, _)) = ahead.agenda.least() {
+        ahead.agenda.clear(i);
+    }
+}
+
+/// The first part of the key of a list with one more link in front.
+fn date_with(date: u128, link: LinkId) -> u128
+    requires { date < 2 ^ 100 }
+    ensures date { result ≡ (date / 4294967296 + 1) * 4294967296 + link.0 }
+    ensures fits { link.0 < 4294967296 }
+{
+    (date / 4294967296 + 1) * 4294967296 + u128::from(link.0)
+}
+
+/// A route goes back over a link. Where none lies ahead, as at the end of a route without links, its key is that of the
+/// list itself.
+pub fn go_back(routes: &[PathRoute], ahead: &mut Ahead, i: usize, left: usize, mark: Mark)
+    requires route { i < length routes.now }
+    requires places { HasPlaceFor routes.now ahead.old }
+    requires left { left ≤ length (links_at routes.now i) }
+    requires small { mark.date < 2 ^ 100 }
+    ensures { GoesBack routes.now i left mark ahead.old ahead.new }
+{
+    if left == 0 {
+        ahead.left[i] = 0;
+        ahead.agenda.set(i, mark.date, Serial(mark.serial));
+    } else {
+        let link = links_at(routes, i)[left - 1];
+        ahead.left[i] = left - 1;
+        let date = date_with(mark.date, link);
+        ahead.agenda.set(i, date, Serial(mark.rank));
+    }
+}
+
+/// The routes that lead to a point which was just settled go back over their last links.
+pub fn enter(routes: &[PathRoute], arrivals: &Arrivals, ahead: &mut Ahead, point: u32, mark: Mark)
+    requires arrivals { AreArrivals (length arrivals.now.last.items) routes.now arrivals.now }
+    requires point { point < length arrivals.now.last.items }
+    requires places { HasPlaceFor routes.now ahead.old }
+    requires small { mark.date < 2 ^ 100 }
+    ensures { EntersFrom routes.now point 0 mark ahead.old ahead.new }
+{
+    let mut next = arrivals.last[point as usize];
+    while next > 0 {
+        let i = next - 1;
+        let left = links_at(routes, i).len();
+        go_back(routes, ahead, i, left, mark);
+        next = arrivals.before[i];
+    }
+}
