@@ -2,14 +2,17 @@
 //! congruential sequence. It prints how many routes there were, and how many links they had in all.
 #![tactic(auto)]
 
-ghost use Rattle.std.specs.Prelude.{◌<◌};
+ghost use Rattle.std.specs.Prelude.{◌≡◌, ◌<◌};
+ghost use Rattle.sg_zones.specs.Tree.{tree_of};
 
 use anyhow::{Context, bail};
 use arrayvec::ArrayVec;
 use sg_base::{LinkId, PointId};
 use sg_platform::read_platform;
 use sg_route::Router;
+use sg_rows::PlatformText;
 use sg_zones::Zones;
+use std::alloc::Global;
 use std::{env, fs};
 
 /// The number behind this one in the sequence.
@@ -47,6 +50,23 @@ fn ask(router: &mut Router, hosts: u64, count: u64) -> (u64, u64)
     (routes, all)
 }
 
+/// The same of the router of a platform, where there is memory for it.
+fn ask_all(
+    alloc: Global,
+    platform: &PlatformText,
+    zones: &Zones,
+    hosts: u64,
+    count: u64,
+) -> Option<(u64, u64)>
+    requires some { 0 < hosts }
+    requires zones { zones.now ≡ tree_of platform.now }
+{
+    match Router::build(alloc, platform, zones) {
+        Ok(mut router) => Some(ask(&mut router, hosts, count)),
+        Err(_) => None,
+    }
+}
+
 fn main(rt: HostRuntime) -> anyhow::Result<()> {
     let alloc = rt.alloc();
     let mut words = env::args(&rt)?.skip(1);
@@ -56,14 +76,13 @@ fn main(rt: HostRuntime) -> anyhow::Result<()> {
     let text = fs::read_to_string(&rt, path.as_str())?;
     let platform = read_platform(alloc, text.as_bytes())?;
     let zones = Zones::build(alloc, &platform)?;
-    let Ok(mut router) = Router::build(alloc, &platform, &zones) else {
-        bail!("out of memory");
-    };
     let hosts = platform.hosts().len() as u64;
     if hosts == 0 {
         bail!("no host");
     }
-    let (routes, all) = ask(&mut router, hosts, count);
+    let Some((routes, all)) = ask_all(alloc, &platform, &zones, hosts, count) else {
+        bail!("out of memory");
+    };
     println!(rt; "{routes} routes, {all} links")?;
     Ok(())
 }
