@@ -3,9 +3,9 @@ use Rattle.std.specs.Prelude.{ℕ, List, ◌++◌, Option, Some, None, codes, de
 use Rattle.sg_tree.specs.declared.fault.Place.{Place}
 
 -- PART: WORDS (table T, row R, key K), or PART: WORDS alone
-abbrev pub fault_line : List ℕ → List ℕ → Option Place → List ℕ
-fault_line part words None = part ++ (codes ": " ++ (words ++ codes "\n"))
-fault_line part words (Some place) =
+abbrev pub refusal_line : List ℕ → List ℕ → Option Place → List ℕ
+refusal_line part words None = part ++ (codes ": " ++ (words ++ codes "\n"))
+refusal_line part words (Some place) =
     part ++ (codes ": " ++ (words ++ (codes " (table " ++ (decimal place.table ++ (codes ", row " ++ (decimal place.row ++ (codes ", key " ++ (decimal place.key ++ codes ")\n"))))))))
 
 -- the row of an actor that replays where there is no script

@@ -1,7 +1,7 @@
 use Rattle.std.proofs.Common.{refl}
 use Rattle.sg_engine.proofs.Fronts.{fronts_none}
 use Rattle.simgrid_replay.proofs.WordLemmas.{tells_nothing}
-use Rattle.simgrid_replay.proofs.reports.tell_words.Goals as goal
+use Rattle.simgrid_replay.proofs.reports.report_words.Goals as goal
 
 pub returns-in-Memory-clause-tells : goal.returns-in-Memory-clause-tells
 returns-in-Memory-clause-tells g c = λ kinds asked answers some. tells_nothing kinds _ _ _ some (fronts_none _ _ _ _ refl refl)
