@@ -6,7 +6,7 @@ BIN = $(DESTDIR)$(PREFIX)/bin
 SHARE = $(DESTDIR)$(PREFIX)/share
 LIBEXEC = $(DESTDIR)$(PREFIX)/libexec/simgrid_replay
 PROGRAM = crates/simgrid_replay/out/simgrid_replay
-TOOLS = explain gantt usage totable report cluster
+TOOLS = explain gantt usage totable report cluster from_simgrid
 
 # The launcher knows whether the program is as new as its sources.
 all:

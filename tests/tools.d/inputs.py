@@ -11,8 +11,8 @@ WORDS = ["Full", "Star", "full", "Dijkstra", "SHARED", "FATPIPE", "SPLITDUPLEX",
 VALUES = [1, 0, -1, 1024, 1025, 10**9, 10**9 + 1, True, False, 1.5, [], {}, ["l1"], ["l2_UP", "l1"], ["l1"] * 65, ["nobody"], [1],
           [["l1"]], ["1", "1", "1", "w"], ["1", "x", "1", "w"], ["1", "1", "1", "p0"], {"id": "x"}]
 KEYS = ["id", "zone", "speed", "core", "cores", "parent", "routing", "latency", "links", "symmetrical", "gateway", "gw_src", "down",
-        "name", "host", "function", "argument", "capacity", "Id"]
-TABLES = ["zone", "host", "router", "link", "route", "zone_route", "spoke", "actor", "mutex", "semaphore", "hosts", "network"]
+        "name", "host", "function", "argument", "capacity", "Id", "latency_factor", "bandwidth_factor", "window"]
+TABLES = ["zone", "host", "router", "link", "route", "zone_route", "spoke", "network", "actor", "mutex", "semaphore", "hosts", "profile"]
 
 
 def platform(rng):
@@ -31,6 +31,8 @@ def platform(rng):
         tables["spoke"] = [{"zone": "in", "child": child, "up": rng.choice(links)} for child in inside]
     else:
         tables["route"] = [{"src": a, "dst": b, "links": rng.choice(links)} for i, a in enumerate(inside) for b in inside[i + 1:]]
+    if rng.random() < 0.3:
+        tables["network"] = [{"latency_factor": "13.01", "bandwidth_factor": "0.97", "window": "4194304"}]
     if tables["host"][2]["zone"] == "z":
         tables["route"] = tables.get("route", []) + [{"src": "h1", "dst": "h3", "links": ["l1"], "symmetrical": True}]
         tables["zone_route"].append({"src": "h3", "dst": "in", "gw_dst": "r1", "links": ["l1"]})
@@ -45,18 +47,23 @@ def deployment(rng, replay):
                       {"name": "w", "host": rng.choice(["h2", "h3"]), "function": "worker"}]}
 
 
+COLLECTIVES = ["bcast 10", "reduce 10 1e3", "allreduce 5 1", "alltoall 7"]
+
+
 def script(rng):
     """Rounds that complete, and now and then a bad line."""
     lines = ["# a script", ""]
     for _ in range(rng.randint(0, 4)):
         lines += rng.choice([
             ["p0 compute 1e6", "p1 sleep 1ms"], ["p0 send p1 10", "p1 recv p0"], ["p2 isend p0 5", "p0 irecv p2 5", "p0 wait", "p2 wait"],
-            ["p1 lock m", "p1 yield", "p1 unlock m"], ["p2 acquire s", "p2 release s"], ["p0 barrier", "p1 barrier", "p2\tbarrier\r"]])
+            ["p1 lock m", "p1 yield", "p1 unlock m"], ["p2 acquire s", "p2 release s"], ["p0 barrier", "p1 barrier", "p2\tbarrier\r"],
+            ["p2 compute 1e6 3", "p0 isend p1 10 1kBps", "p1 recv p0"],
+            [f"p{rank} {collective}" for collective in [rng.choice(COLLECTIVES)] for rank in range(3)]])
     if rng.random() < 0.5:
         lines.insert(rng.randint(0, len(lines)), rng.choice([
-            "p0 jump", "nobody wait", "p0", "p0 compute", "p0 compute 1 1", "p0 compute " + rng.choice(NUMBERS), "p0 sleep " + rng.choice(
+            "p0 jump", "nobody wait", "p0", "p0 compute", "p0 compute 1 1", "p0 compute 1 0", "p0 compute 1 1 1", "p0 compute " + rng.choice(NUMBERS), "p0 sleep " + rng.choice(
                 NUMBERS), "p1 send " + rng.choice(NAMES) + " 1", "p1 lock " + rng.choice(NAMES), "p1 acquire " + rng.choice(NAMES),
-            "p0 compute 1 # x", "p0 recv p1 x", "p0 wait\x00", "p0 w\u00e4it", "#" * 4097, "p0 wait" + " " * 4089 + "\r", "\ufeff", "\r\r",
+            "p0 compute 1 # x", "p1 reduce 1", "p0 alltoall x", "p0 recv p1 x", "p0 wait\x00", "p0 w\u00e4it", "#" * 4097, "p0 wait" + " " * 4089 + "\r", "\ufeff", "\r\r",
             "p0 wait " + rng.choice(NAMES)]))
     return "\n".join(lines) + rng.choice(["", "\n"])
 

@@ -18,6 +18,7 @@ ROUTE = '[[route]]\nsrc = "h1"\ndst = "h2"\nlinks = ["l"]\n'
 NEST = ZONE + '[[zone]]\nid = "in"\nparent = "z"\nrouting = "Full"\n'
 ZROUTE = '[[zone_route]]\nsrc = "in"\ndst = "h2"\ngw_src = "h1"\nlinks = ["l"]\n'
 SPOKE = '[[spoke]]\nzone = "z"\nchild = "h1"\nup = ["l"]\n'
+NETWORK = "[[network]]\n"
 MASTER = '[[actor]]\nname = "m"\nhost = "h1"\nfunction = "master"\nargument = ["1", "1", "1", "w"]\n'
 WORKER = '[[actor]]\nname = "w"\nhost = "h1"\nfunction = "worker"\n'
 MUTEX = '[[mutex]]\nid = "m"\n[[semaphore]]\nid = "s"\ncapacity = 1\n'
@@ -67,9 +68,15 @@ PLATFORMS = [
     (ZONE + LINK.replace("1MBps", "500kB/s"), "bad value (table 4, row 1, key 2)", "6:13", '"500kB/s"', "did you mean `500kBps`?"),
     (ZONE + LINK.replace("1MBps", "500 kBps"), "bad value (table 4, row 1, key 2)", "6:13", '"500 kBps"', "unit: `500kBps`"),
     (ZONE + LINK + 'latency = "1000001s"\n', "bad value (table 4, row 1, key 3)", "7:11", '"1000001s"', "10^15 ns (1,000,000 s)"),
+    (GOOD + NETWORK + 'latency_factor = 13.01\n', "wrong type (table 8, row 1, key 1)", "9:18", "13.01", 'as `latency_factor = "13.01"`'),
+    (GOOD + NETWORK + 'latency_factor = "1000.5"\n', "bad value (table 8, row 1, key 1)", "9:18", '"1000.5"', "above 1,000"),
+    (GOOD + NETWORK + 'bandwidth_factor = "0"\n', "bad value (table 8, row 1, key 2)", "9:20", '"0"', "it is zero"),
+    (GOOD + NETWORK + 'window = "4MiB"\n', "bad value (table 8, row 1, key 3)", "9:10", '"4MiB"', "without a unit: `4`"),
+    (GOOD + NETWORK + 'weight_s = "20537"\n', "unknown name (table 8, row 1, key 0)", "9:1", "weight_s", "`window`"),
+    (GOOD + NETWORK * 2, "over a limit (table 8, row 0, key 0)", "9:1", "[[network]]", "at most 1 row"),
     (GOOD + "core = 2000\n", "bad value (table 2, row 1, key 4)", "8:8", "2000", "from 1 to 1024"),
     (ZONE.replace("Full", "full"), "bad value (table 1, row 1, key 3)", "3:11", '"full"', "did you mean `Full`?"),
-    (ZONE.replace("Full", "Floyd"), "bad value (table 1, row 1, key 3)", "3:11", '"Floyd"', "declare each route"),
+    (ZONE.replace("Full", "Floyd"), "bad value (table 1, row 1, key 3)", "3:11", '"Floyd"', "the same paths"),
     (ZONE.replace("Full", "Cluster"), "bad value (table 1, row 1, key 3)", "3:11", '"Cluster"', "tools/cluster"),
     (ZONE + LINK + 'sharing_policy = "shared"\n', "bad value (table 4, row 1, key 4)", "7:18", '"shared"', "did you mean `SHARED`?"),
     (ZONE + TWO + LINK + ROUTE.replace('["l"]', "[]"), "bad value (table 5, row 1, key 3)", "18:9", "[]", "at least one link"),
@@ -140,7 +147,16 @@ SCRIPTS = [
     ("p0 compute 1e9 # note\n", "wrong number of arguments", "1:16", "a comment stands on a line of its own"),
     ("p0 sleep 1 s\n", "wrong number of arguments", "1:12", "in front of the unit: `1s`"),
     ("p0 wait 0 1 0\n", "wrong number of arguments", "1:9", "`wait` takes none"),
-    ("p0 send p0\n", "wrong number of arguments", "1:11", "`send` takes an actor and an amount"),
+    ("p0 send p0\n", "wrong number of arguments", "1:11", "`send` takes an actor and an amount and perhaps a rate"),
+    ("p0 reduce 1e6\n", "wrong number of arguments", "1:14", "`reduce` takes an amount and an amount"),
+    ("p0 gather 1e6\n", "unknown action", "1:4", "`bcast`, `reduce`, `allreduce` and `alltoall`"),
+    ("p0 allReduce 1e6 1e6\n", "unknown action", "1:4", "did you mean `allreduce`?"),
+    ("p0 bcast 1Gf\n", "bad amount", "1:10", "without a unit: `1`"),
+    ("p0 compute 1 #note\n", "bad amount", "1:14", "a comment stands on a line of its own"),
+    ("p0 compute 1 0\n", "bad amount", "1:14", "a priority: a number above 0 up to 10^3"),
+    ("p0 compute 1 1001\n", "bad amount", "1:14", "above 10^3"),
+    ("p0 send p0 1 1Gf\n", "bad amount", "1:14", "`Gf` is no unit of a bandwidth"),
+    ("p0 isend p0 1 7bps\n", "bad amount", "1:15", "zero when rounded down"),
     ("p0 compute 1e16\n", "bad amount", "1:12", "above 10^15"),
     ("p0 compute 1Gf\n", "bad amount", "1:12", "without a unit: `1`"),
     ("p0 compute -5\n", "bad amount", "1:12", "numbers are never below 0"),

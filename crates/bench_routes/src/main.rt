@@ -1,5 +1,6 @@
-//! Asks for routes between hosts of a platform: `bench_routes PLATFORM COUNT`. The hosts are drawn by a linear
-//! congruential sequence. It prints how many routes there were, and how many links they had in all.
+//! Asks for routes between hosts of a platform: `bench_routes PLATFORM COUNT [PAIRS]`. The hosts are drawn by a linear
+//! congruential sequence, which begins anew after so many pairs. It prints how many routes there were, and how many links
+//! they had in all.
 #![tactic(auto)]
 
 ghost use Rattle.std.specs.Prelude.{◌≡◌, ◌<◌};
@@ -28,15 +29,28 @@ fn host(x: u64, hosts: u64) -> PointId
     PointId(((x >> 33) % hosts) as u32)
 }
 
+/// How many routes are asked for, and how many pairs of hosts there are.
+#[derive(Clone, Copy)]
+struct Load {
+    count: u64,
+    pairs: u64,
+}
+
 /// How many of so many routes there are, and how many links they have in all.
-fn ask(router: &mut Router, hosts: u64, count: u64) -> (u64, u64)
+fn ask(router: &mut Router, hosts: u64, load: Load) -> (u64, u64)
     requires { 0 < hosts }
 {
     let mut links: ArrayVec<LinkId, 64> = ArrayVec::new();
     let mut routes: u64 = 0;
     let mut all: u64 = 0;
     let mut from: u64 = 1;
-    for _ in 0..count {
+    let mut left = load.pairs;
+    for _ in 0..load.count {
+        if left == 0 {
+            from = 1;
+            left = load.pairs;
+        }
+        left = left.wrapping_sub(1);
         let to = next(from);
         if router
             .route(host(from, hosts), host(to, hosts), &mut links)
@@ -56,13 +70,13 @@ fn ask_all(
     platform: &PlatformText,
     zones: &Zones,
     hosts: u64,
-    count: u64,
+    load: Load,
 ) -> Option<(u64, u64)>
     requires some { 0 < hosts }
     requires zones { zones.now ≡ tree_of platform.now }
 {
     match Router::build(alloc, platform, zones) {
-        Ok(mut router) => Some(ask(&mut router, hosts, count)),
+        Ok(mut router) => Some(ask(&mut router, hosts, load)),
         Err(_) => None,
     }
 }
@@ -73,6 +87,10 @@ fn main(rt: HostRuntime) -> anyhow::Result<()> {
     let path = words.next().context("no platform")?;
     let count = words.next().context("no count")?;
     let count: u64 = count.as_str().parse()?;
+    let pairs: u64 = match words.next() {
+        Some(word) => word.as_str().parse()?,
+        None => count,
+    };
     let text = fs::read_to_string(&rt, path.as_str())?;
     let platform = read_platform(alloc, text.as_bytes())?;
     let zones = Zones::build(alloc, &platform)?;
@@ -80,7 +98,7 @@ fn main(rt: HostRuntime) -> anyhow::Result<()> {
     if hosts == 0 {
         bail!("no host");
     }
-    let Some((routes, all)) = ask_all(alloc, &platform, &zones, hosts, count) else {
+    let Some((routes, all)) = ask_all(alloc, &platform, &zones, hosts, Load { count, pairs }) else {
         bail!("out of memory");
     };
     println!(rt; "{routes} routes, {all} links")?;

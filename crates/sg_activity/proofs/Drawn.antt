@@ -23,6 +23,7 @@ drawn_kept s is = record {
         in_time = h.in_time;
         small = h.small;
         few_bytes = h.few_bytes;
+        weighs = h.weighs;
         paced = h.paced;
         over = h.over;
         flow = λ full. let f = h.flow full in record { runs = f.runs; limit = f.limit; within = f.within; known = f.known };

@@ -144,6 +144,7 @@ module _ (s : State) (is : IsKept s) (set : IsTrue s.settled) where
                 (not_past (wait_in (under_of s) (task_of s key live)) (up_to_each (wait_in (under_of s)) (under_of s).tasks span (live.serial - 1) (task_of s key live) upto (task_there s is key live at)));
             small = h.small;
             few_bytes = h.few_bytes;
+            weighs = h.weighs;
             paced = h.paced;
             over = h.over;
             flow = λ full. let f = h.flow full in record { runs = f.runs; limit = f.limit; within = f.within; known = f.known };

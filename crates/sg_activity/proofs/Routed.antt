@@ -3,6 +3,7 @@ use Rattle.std.proofs.Common.{◌≡◌, ◌≢◌, ℕ, zero, suc, ◌+◌, ◌
 use Rattle.std.proofs.lemmas.List.{at_drop_more, length-append, length-map}
 use Rattle.std.proofs.lemmas.List.Kept.{AllPairs-cons}
 use Rattle.sg_base.specs.declared.ids.LinkId.{LinkId}
+use Rattle.sg_base.specs.Limits.{IsPriority}
 use Rattle.sg_maxmin.specs.Fill.{flow}
 use Rattle.sg_maxmin.specs.Sharing.{IsFlow}
 use Rattle.sg_activity.specs.declared.kinds.HostCap.{HostCap}
@@ -99,20 +100,25 @@ resources_are capacities =
     ∙ ap (λ n. n + length (bandwidths_of capacities.links)) (length-map capacities.hosts offer_of)
     ∙ ap (λ n. length capacities.hosts + n) (length-map capacities.links bandwidth_of)
 
--- without a bound of its own a flow over a way may be in the system
-pub way_is_flow : (capacities : Capacities) (route : List LinkId) → IsWay capacities route →
-    IsFlow (capacities_of capacities) (flow (shared_of (length capacities.hosts) capacities.links route) 1 (sooner (route_bound capacities.links route) None))
-way_is_flow capacities route is = record {
+-- a second bound changes nothing of that there is one
+sooner_more : (one other : Option ℕ) → IsSome one → IsSome (sooner one other)
+sooner_more None other some = absurd (cc some)
+sooner_more (Some n) other some = sooner_some n other
+
+-- a flow over a way may be in the system
+pub way_is_flow : (capacities : Capacities) (route : List LinkId) (weight : ℕ) (bound : Option ℕ) → IsWay capacities route → IsPriority weight →
+    IsFlow (capacities_of capacities) (flow (shared_of (length capacities.hosts) capacities.links route) weight (sooner (route_bound capacities.links route) bound))
+way_is_flow capacities route weight bound is weighs = record {
   exist = shared_exist (length capacities.hosts) (length (capacities_of capacities)) capacities.links route (omega (arith, resources_are capacities)) is.exist;
   once = shared_once (length capacities.hosts) capacities.links route is.apart;
-  light = omega arith;
-  limit = record { weighs = omega arith; bounds = λ none. subst (λ o. IsSome o) (sym (sooner_never (route_bound capacities.links route))) (bounded (length capacities.hosts) capacities.links route is.some none) };
+  light = omega (arith, weighs);
+  limit = record { weighs = weighs.0; bounds = λ none. sooner_more (route_bound capacities.links route) bound (bounded (length capacities.hosts) capacities.links route is.some none) };
 }
 
-pub host_is_flow : (capacities : Capacities) (host : ℕ) (bound : Option ℕ) → host < length capacities.hosts → IsSome bound → IsFlow (capacities_of capacities) (flow (host ∷ []) 1 bound)
-host_is_flow capacities host bound within some = record {
+pub host_is_flow : (capacities : Capacities) (host weight : ℕ) (bound : Option ℕ) → host < length capacities.hosts → IsPriority weight → IsSome bound → IsFlow (capacities_of capacities) (flow (host ∷ []) weight bound)
+host_is_flow capacities host weight bound within weighs some = record {
   exist = all_cons (λ resource. resource < length (capacities_of capacities)) host [] (omega (arith, within, resources_are capacities)) (λ k d w. absurd (omega (arith, w)));
   once = λ i j d less w. absurd (omega (arith, less, w));
-  light = omega arith;
-  limit = record { weighs = omega arith; bounds = λ _. some };
+  light = omega (arith, weighs);
+  limit = record { weighs = weighs.0; bounds = λ _. some };
 }

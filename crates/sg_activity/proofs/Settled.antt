@@ -138,6 +138,7 @@ module _ (s : State) (lazy new : Lazily) (pool : Pool) (marks more : MarkSet) (k
               in_time = fresh_in_time s.date (rate_in (running_at new.slots w.old.flow)) (left_at w.old.kept w.old.rate w.old.stamp s.date);
               small = omega (arith, h.small);
               few_bytes = h.few_bytes;
+              weighs = h.weighs;
               paced = λ empty. absurd (true≢false (sym full.0 ∙ empty));
               over = h.over;
               flow = λ _.
@@ -161,6 +162,7 @@ module _ (s : State) (lazy new : Lazily) (pool : Pool) (marks more : MarkSet) (k
               in_time = h.in_time;
               small = h.small;
               few_bytes = h.few_bytes;
+              weighs = h.weighs;
               paced = h.paced;
               over = h.over;
               flow = λ full.

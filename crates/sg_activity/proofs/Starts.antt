@@ -3,6 +3,7 @@ use Rattle.std.proofs.Common.{◌≡◌, ◌≢◌, ℕ, ◌+◌, ◌-◌, ◌*�
 use Rattle.std.specs.Option.{IfSome}
 use Rattle.std.proofs.lemmas.List.{append-nil}
 use Rattle.sg_base.specs.declared.ids.LinkId.{LinkId}
+use Rattle.sg_base.specs.Limits.{IsPriority}
 use Rattle.sg_base.specs.MarkSet.{is_in}
 use Rattle.sg_heap.specs.Agenda.{Key, key_at}
 use Rattle.sg_maxmin.specs.Fill.{Flow}
@@ -31,15 +32,16 @@ pub undated : (fresh : List ℕ) (key : ℕ) (live : Live) → is_in key fresh �
 undated fresh key live e = ap (λ b. cond b None (date_of live)) e
 
 -- of an activity that takes no share
-pub held_unfilled : (new : State) (key : ℕ) (live : Live) → takes_share live.kind ≡ false → 0 < live.serial → live.serial ≤ new.drawn → live.stamp ≡ new.date → live.rate ≡ pace live.kind → live.kept ≤ 10 ^ 24 → live.bytes ≤ 10 ^ 15 →
+pub held_unfilled : (new : State) (key : ℕ) (live : Live) → takes_share live.kind ≡ false → 0 < live.serial → live.serial ≤ new.drawn → live.stamp ≡ new.date → live.rate ≡ pace live.kind → live.kept ≤ 10 ^ 24 → live.bytes ≤ 10 ^ 15 → IsPriority live.weight →
     (live.kind ≡ phase.Latency → IsWay new.capacities (links_at new.ways key)) → is_in key new.fresh ≡ true → key_at new.keys key ≡ None → IsHeld new key live
-held_unfilled new key live empty from to stamp rate small bytes over fresh no_key = record {
+held_unfilled new key live empty from to stamp rate small bytes weighs over fresh no_key = record {
   from = from;
   to = to;
   stamped = omega (arith, stamp);
   in_time = subst (λ n. IfSome (due_of live.stamp live.kept live.rate) (λ due. n ≤ due)) stamp (fresh_in_time live.stamp live.rate live.kept);
   small = small;
   few_bytes = bytes;
+  weighs = weighs;
   paced = λ _. rate;
   over = over;
   flow = λ full. absurd (true≢false (sym full ∙ empty));
@@ -50,15 +52,16 @@ not_latency : (kind : PhaseKind) → IsTrue (takes_share kind) → kind ≢ phas
 not_latency kind full e = true≢false (sym full ∙ ap takes_share e)
 
 -- of one whose flow begins
-pub held_filled : (new : State) (key : ℕ) (live : Live) → IsTrue (takes_share live.kind) → 0 < live.serial → live.serial ≤ new.drawn → live.stamp ≡ new.date → live.kept ≤ 10 ^ 24 → live.bytes ≤ 10 ^ 15 →
+pub held_filled : (new : State) (key : ℕ) (live : Live) → IsTrue (takes_share live.kind) → 0 < live.serial → live.serial ≤ new.drawn → live.stamp ≡ new.date → live.kept ≤ 10 ^ 24 → live.bytes ≤ 10 ^ 15 → IsPriority live.weight →
     running_at new.runs live.flow ≡ Some (record { flow = asked_by new key live; rate = live.rate; began = true }) → HasLimit (asked_by new key live) → live.flow < length new.by_flow → slice_index new.by_flow live.flow ≡ key → is_in key new.fresh ≡ true → key_at new.keys key ≡ None → IsHeld new key live
-held_filled new key live full from to stamp small bytes runs limit within known fresh no_key = record {
+held_filled new key live full from to stamp small bytes weighs runs limit within known fresh no_key = record {
   from = from;
   to = to;
   stamped = omega (arith, stamp);
   in_time = subst (λ n. IfSome (due_of live.stamp live.kept live.rate) (λ due. n ≤ due)) stamp (fresh_in_time live.stamp live.rate live.kept);
   small = small;
   few_bytes = bytes;
+  weighs = weighs;
   paced = λ empty. absurd (true≢false (sym full ∙ empty));
   over = λ latency. absurd (not_latency live.kind full latency);
   flow = λ _. record {

@@ -42,6 +42,7 @@ held_still s new k live caps date drawn ways keys fresh long flows is =
       in_time = subst (λ n. IfSome (due_of live.stamp live.kept live.rate) (λ due. n ≤ due)) (sym date) is.in_time;
       small = is.small;
       few_bytes = is.few_bytes;
+      weighs = is.weighs;
       paced = is.paced;
       over = λ latency. subst (λ c. IsWay c (links_at new.ways k)) (sym caps) (subst (IsWay s.capacities) (sym ways) (is.over latency));
       flow = λ full.

@@ -2,6 +2,7 @@
 use Rattle.std.proofs.Common.{◌≡◌, ◌≢◌, ℕ, ◌+◌, ◌-◌, ◌*◌, ◌^◌, ◌<◌, ◌≤◌, ◌⊎◌, inl, inr, Bool, true, false, cond, true≢false, is_some, Option, None, Some, option_map, option_to_list, List, [], ◌∷◌, ◌++◌, length, map, set, get_or, length-set, get_or-set_same, slice_index, IsTrue, IsSome, refl, sym, ap, ap₂, subst, ◌∙◌, arith}
 use Rattle.std.proofs.lemmas.List.{append-nil}
 use Rattle.sg_base.specs.declared.ids.LinkId.{LinkId}
+use Rattle.sg_base.specs.Limits.{IsPriority}
 use Rattle.sg_base.specs.MarkSet.{is_in}
 use Rattle.sg_heap.specs.Agenda.{Key, key_at}
 use Rattle.sg_maxmin.specs.Fill.{Flow}
@@ -65,6 +66,7 @@ pub record Begins (s : State) (drawn key : ℕ) (live : Live) (keys : List (Opti
   pub stamp : live.stamp ≡ s.date
   pub small : live.kept ≤ 10 ^ 24
   pub bytes : live.bytes ≤ 10 ^ 15
+  pub weighs : IsPriority live.weight
   pub unfilled : (old : Live) → slot_at s.slots key ≡ Some old → takes_share old.kind ≡ false
   pub was : (old : Live) → slot_at s.slots key ≡ Some old → old.serial ≡ live.serial
   pub alone : (k : ℕ) (other : Live) → k ≢ key → slot_at s.slots k ≡ Some other → other.serial ≢ live.serial
@@ -91,7 +93,7 @@ flow_turns s drawn key live keys is b full rate idle id_in by_in limit = record 
   by_flow_long = omega (arith, length-set s.by_flow live.flow key);
   flows = λ k other ne at filled. flows_came s key live.flow is run idle k other at filled;
   back = back_came s key live.flow is new run live idle b.unfilled by_in refl refl others here full refl;
-  holds = λ l e. subst (IsHeld new key) (some_same e) (held_filled new key live full b.from b.to b.stamp b.small b.bytes
+  holds = λ l e. subst (IsHeld new key) (some_same e) (held_filled new key live full b.from b.to b.stamp b.small b.bytes b.weighs
       (set_here s.runs live.flow (Some run) id_in ∙ ap (λ r. Some (record { flow = asked; rate = r; began = true })) (sym rate)) limit (omega (arith, by_in, length-set s.by_flow live.flow key))
       (get_or-set_same s.by_flow live.flow key 0 by_in) (in_last key s.fresh) b.no_key);
   was = b.was;
@@ -133,7 +135,7 @@ time_turns s drawn key live ways is b free empty rate ways_same over = record {
   by_flow_long = omega arith;
   flows = λ k other ne at filled. (refl, refl);
   back = λ id r e. back_still s new key id (λ old at. absurd (nothing_there (slot_at s.slots key) free old at)) others refl (is.back id r e);
-  holds = λ l e. subst (IsHeld new key) (some_same e) (held_unfilled new key live empty b.from b.to b.stamp rate b.small b.bytes over (in_last key s.fresh) b.no_key);
+  holds = λ l e. subst (IsHeld new key) (some_same e) (held_unfilled new key live empty b.from b.to b.stamp rate b.small b.bytes b.weighs over (in_last key s.fresh) b.no_key);
   was = b.was;
   is = λ l e. ap (λ (x : Live). x.serial) (sym (some_same e));
   alone = b.alone;
@@ -213,7 +215,7 @@ flow_under s key old live keys runs by_flow is at latency stale live_is by =
     let h = is.each key old at in
     let serial : live.serial ≡ old.serial = ap (λ (l : Live). l.serial) live_is in
     let place : task_from s.date (links_at s.ways key) (record old { kind = phase.Flow; kept = old.bytes * 1000000000; stamp = s.date; rate = 0; flow = live.flow }) ≡ record (task_of s key old) { kind = phase.Flow; left = old.bytes * 1000000000 } =
-    ap₂ (λ n p. record { kind = phase.Flow; left = n; place = p; bound = None; bytes = old.bytes }) (left_fresh (old.bytes * 1000000000) 0 s.date) (ap (λ k. place_of k old.host (links_at s.ways key)) (sym latency)) in
+    ap₂ (λ n p. record { kind = phase.Flow; left = n; place = p; weight = old.weight; bound = old.bound; bytes = old.bytes }) (left_fresh (old.bytes * 1000000000) 0 s.date) (ap (λ k. place_of k old.host (links_at s.ways key)) (sym latency)) in
     let next : Some (task_of new key live) ≡ next_phase old.kind (task_of s key old) = ap Some (ap (task_from s.date (links_at s.ways key)) live_is ∙ place) ∙ sym (latency_next old.kind (task_of s key old) latency) in
     let before : told_at (task_of s) s.slots live.serial ≡ Some (task_of s key old) = told_found (task_of s) s.slots live.serial key old is.apart at (sym serial) in
     under_set s new key live.serial (Some live) is by (Some (task_of new key live)) refl (omega (arith, h.from, serial)) (omega (arith, h.to, serial)) (told_here s new key live.serial (Some live) is by (task_of new) live refl)
@@ -239,8 +241,8 @@ ended_unfilled s key live empty = sym (append-nil s.ended) ∙ ap (λ o. s.ended
 
 -- ---- what begins
 -- the next serial begins
-pub new_begins : (s : State) (key : ℕ) (live : Live) → IsKept s → key < length s.slots → slot_at s.slots key ≡ None → live.serial ≡ s.drawn + 1 → live.stamp ≡ s.date → live.kept ≤ 10 ^ 24 → live.bytes ≤ 10 ^ 15 → Begins s (s.drawn + 1) key live s.keys
-new_begins s key live is within free serial stamp small bytes = record {
+pub new_begins : (s : State) (key : ℕ) (live : Live) → IsKept s → key < length s.slots → slot_at s.slots key ≡ None → live.serial ≡ s.drawn + 1 → live.stamp ≡ s.date → live.kept ≤ 10 ^ 24 → live.bytes ≤ 10 ^ 15 → IsPriority live.weight → Begins s (s.drawn + 1) key live s.keys
+new_begins s key live is within free serial stamp small bytes weighs = record {
   key_in = within;
   from = omega (arith, serial);
   to = omega (arith, serial);
@@ -248,6 +250,7 @@ new_begins s key live is within free serial stamp small bytes = record {
   stamp = stamp;
   small = small;
   bytes = bytes;
+  weighs = weighs;
   unfilled = λ old at. absurd (nothing_there (slot_at s.slots key) free old at);
   was = λ old at. absurd (nothing_there (slot_at s.slots key) free old at);
   alone = λ k other ne at. fresh_serial s live.serial is (omega (arith, serial)) k other at;
@@ -256,9 +259,9 @@ new_begins s key live is within free serial stamp small bytes = record {
 }
 
 -- a serial begins that was drawn, and isn't under way
-pub idle_begins : (s : State) (key : ℕ) (live : Live) → IsKept s → key < length s.slots → slot_at s.slots key ≡ None → 0 < live.serial → live.serial ≤ s.drawn → told_at (task_of s) s.slots live.serial ≡ None → live.stamp ≡ s.date → live.kept ≤ 10 ^ 24 → live.bytes ≤ 10 ^ 15 →
+pub idle_begins : (s : State) (key : ℕ) (live : Live) → IsKept s → key < length s.slots → slot_at s.slots key ≡ None → 0 < live.serial → live.serial ≤ s.drawn → told_at (task_of s) s.slots live.serial ≡ None → live.stamp ≡ s.date → live.kept ≤ 10 ^ 24 → live.bytes ≤ 10 ^ 15 → IsPriority live.weight →
     Begins s s.drawn key live s.keys
-idle_begins s key live is within free from to idle stamp small bytes = record {
+idle_begins s key live is within free from to idle stamp small bytes weighs = record {
   key_in = within;
   from = from;
   to = to;
@@ -266,6 +269,7 @@ idle_begins s key live is within free from to idle stamp small bytes = record {
   stamp = stamp;
   small = small;
   bytes = bytes;
+  weighs = weighs;
   unfilled = λ old at. absurd (nothing_there (slot_at s.slots key) free old at);
   was = λ old at. absurd (nothing_there (slot_at s.slots key) free old at);
   alone = λ k other ne at. idle_serial s live.serial is idle k other at;
@@ -274,9 +278,9 @@ idle_begins s key live is within free from to idle stamp small bytes = record {
 }
 
 -- a flow follows its latency
-pub flow_begins : (s : State) (key : ℕ) (old live : Live) → IsKept s → slot_at s.slots key ≡ Some old → old.kind ≡ phase.Latency → key < length s.slots → key < length s.keys → live.serial ≡ old.serial → live.stamp ≡ s.date → live.kept ≡ old.bytes * 1000000000 → live.bytes ≡ old.bytes →
+pub flow_begins : (s : State) (key : ℕ) (old live : Live) → IsKept s → slot_at s.slots key ≡ Some old → old.kind ≡ phase.Latency → key < length s.slots → key < length s.keys → live.serial ≡ old.serial → live.stamp ≡ s.date → live.kept ≡ old.bytes * 1000000000 → live.bytes ≡ old.bytes → live.weight ≡ old.weight →
     Begins s s.drawn key live (set s.keys key None)
-flow_begins s key old live is at latency within keys_in serial stamp kept bytes =
+flow_begins s key old live is at latency within keys_in serial stamp kept bytes weight =
     let h = is.each key old at in
     record {
       key_in = within;
@@ -286,6 +290,7 @@ flow_begins s key old live is at latency within keys_in serial stamp kept bytes 
       stamp = stamp;
       small = omega (arith, kept, h.few_bytes);
       bytes = omega (arith, bytes, h.few_bytes);
+      weighs = subst IsPriority (sym weight) h.weighs;
       unfilled = λ other at'. ap (λ (l : Live). takes_share l.kind) (some_same (sym at' ∙ at)) ∙ ap takes_share latency;
       was = λ other at'. ap (λ (l : Live). l.serial) (some_same (sym at' ∙ at)) ∙ sym serial;
       alone = λ k other ne at' e. own_serial s key old is at k other ne at' (e ∙ serial);

@@ -8,7 +8,7 @@ use Rattle.sg_activity.specs.Slots.{sooner}
 
 -- its bandwidth keeps to its limit
 abbrev pub IsLink : LinkCap → Type 0
-IsLink link = link.bandwidth ≤ 10 ^ 15
+IsLink link = link.bandwidth ≤ 10 ^ 18
 
 -- the hosts and links, as they are now
 pub record Capacities : Type 0 where

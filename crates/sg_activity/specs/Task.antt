@@ -18,44 +18,56 @@ pub data Place : Type 0 where
   on_host : ℕ → Place
   over : Way → Place
 
--- What goes on, and how much of it is left: unit-nanoseconds of an execution or a flow, nanoseconds of a sleep or a latency. Where it goes on; a bound of its own, where it has one; how many bytes a communication has.
+-- What goes on, and how much of it is left: unit-nanoseconds of an execution or a flow, nanoseconds of a sleep or a latency. Where it goes on; its weight among those that share with it; a bound of its own, where it has one; how many bytes a communication has.
 pub record Task : Type 0 where
   pub kind : PhaseKind
   pub left : ℕ
   pub place : Place
+  pub weight : ℕ
   pub bound : Option ℕ
   pub bytes : ℕ
 
-abbrev pub exec_of : ℕ → ℕ → Task
-exec_of host flops = record {
+-- an execution weighs as much as its priority
+abbrev pub exec_of : ℕ → ℕ → ℕ → Task
+exec_of host flops priority = record {
   kind = phase.Exec;
   left = flops * 1000000000;
   place = on_host host;
+  weight = priority;
   bound = None;
   bytes = 0;
 }
 
 abbrev pub timer_of : ℕ → Task
-timer_of ns = record { kind = phase.Timer; left = ns; place = nowhere; bound = None; bytes = 0 }
+timer_of ns = record {
+  kind = phase.Timer;
+  left = ns;
+  place = nowhere;
+  weight = 1;
+  bound = None;
+  bytes = 0;
+}
 
--- a communication over a way lets its latency pass first
-abbrev pub comm_of : Way → ℕ → ℕ → Task
-comm_of way latency bytes = record {
+-- a communication over a way lets its latency pass first; its bytes flow at no more than its bound
+abbrev pub comm_of : Way → ℕ → ℕ → Option ℕ → Task
+comm_of way latency bytes bound = record {
   kind = phase.Latency;
   left = latency;
   place = over way;
-  bound = None;
+  weight = 1;
+  bound = bound;
   bytes = bytes;
 }
 
 -- ---- what a phase asks for
--- An execution uses its host, and gets at most the host's speed. A flow uses the SHARED links of its way, and gets at most the bandwidth of each FATPIPE link on it. None gets more than its own bound.
+-- An execution uses its host, and gets at most the host's speed. A flow uses the SHARED links of its way, and gets at most the bandwidth of each FATPIPE link on it, as these are now. None gets more than its own bound.
 abbrev pub flow_at : Capacities → Task → Place → Flow
-flow_at capacities task nowhere = flow [] 1 task.bound
+flow_at capacities task nowhere = flow [] task.weight task.bound
 flow_at capacities task (on_host host) =
-    flow (host ∷ []) 1 (sooner (Some (host_at capacities.hosts host).speed) task.bound)
+    flow (host ∷ []) task.weight
+    (sooner (Some (host_at capacities.hosts host).speed) task.bound)
 flow_at capacities task (over way) =
-    flow (shared_of (length capacities.hosts) capacities.links way.links) 1
+    flow (shared_of (length capacities.hosts) capacities.links way.links) task.weight
     (sooner (route_bound capacities.links way.links) task.bound)
 
 abbrev pub flow_of : Capacities → Task → Flow

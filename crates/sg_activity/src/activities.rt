@@ -2,7 +2,7 @@
 
 ghost use Rattle.std.specs.Prelude.{◌≡◌, ◌≢◌, ◌+◌, ◌-◌, ◌*◌, ◌<◌, ◌≤◌, ◌^◌, ◌++◌, false, true, None, Some, IsTrue, IfOk, OnOk, OnErr, All, AllPairs, MatchOption, [], ◌∷◌, length, map};
 ghost use Rattle.sg_base.specs.declared.ids.LinkId.{LinkId};
-ghost use Rattle.sg_base.specs.Limits.{IsAmount, IsTime};
+ghost use Rattle.sg_base.specs.Limits.{IsAmount, IsPriority, IsTime};
 ghost use Rattle.sg_activity.specs.Hosts.{IsHost, offers_of};
 ghost use Rattle.sg_activity.specs.Links.{IsLink, bandwidths_of};
 ghost use Rattle.sg_activity.specs.Task.{exec_of, timer_of, comm_of, task_at};
@@ -23,12 +23,12 @@ use std::marker::Model;
 use std::sync::ledger::Ledger;
 
 /// The activities under way on some hosts and links: executions, sleeps and communications. Executions share their
-/// hosts and flows their links, all by one progressive filling. Each activity has the serial that it drew, counted up
-/// from 1.
+/// hosts and flows their links, all by one progressive filling, in which an execution weighs as much as its priority
+/// and a flow weighs 1. Each activity has the serial that it drew, counted up from 1.
 ///
 /// A communication has two phases: first the latency of its route passes, and takes no bandwidth; then its bytes
 /// flow. It has both also where the latency is 0 or there are no bytes. A flow uses the SHARED links of its route, and
-/// is bounded by the FATPIPE links on it.
+/// is bounded by the FATPIPE links on it, and by a bound of its own where it was given one.
 ///
 /// Contracts see the hosts and links, the date, by serial the phase that is under way or nothing, the serials that are
 /// due, whether the rates are up to date, and for how many starts there is room. Dates and times are in nanoseconds.
@@ -131,25 +131,29 @@ impl Activities {
         Ok(())
     }
 
-    /// Starts an execution of so many flops on a host, and answers its serial. It gets at most the host's speed.
-    pub fn start_exec(&mut self, host: PointId, flops: u64) -> Serial
+    /// Starts an execution of so many flops on a host, and answers its serial. Beside others there it gets as many
+    /// times the flops of one of priority 1 as its priority says, and at most the host's speed.
+    pub fn start_exec(&mut self, host: PointId, flops: u64, priority: u32) -> Serial
         requires host { host.0 < length self.old.under.capacities.hosts }
         requires flops { IsAmount flops }
+        requires priority { IsPriority priority }
         requires room { 0 < self.old.room }
         requires few { length self.old.under.tasks < 10 ^ 9 }
         ensures serial { result.0 ≡ length self.old.under.tasks + 1 }
-        ensures starts { self.new ≡ started_in (exec_of host.0 flops) self.old }
+        ensures starts { self.new ≡ started_in (exec_of host.0 flops priority) self.old }
     {
         let serial = self.next_serial();
         let host = host.0 as usize;
         let bound = self.kept.hosts[host].speed;
-        let flow = self.kept.lazy.start(&[host], 1, Some(bound));
+        let flow = self.kept.lazy.start(&[host], priority, Some(bound));
         let key = self.kept.lives.put(Live {
             serial: serial.0,
             kind: PhaseKind::Exec,
             kept: u128::from(flops) * 1_000_000_000,
             stamp: self.kept.date,
             rate: 0,
+            weight: priority,
+            bound: None,
             bytes: 0,
             host,
             flow,
@@ -178,6 +182,8 @@ impl Activities {
             kept: u128::from(ns),
             stamp: self.kept.date,
             rate: 1,
+            weight: 1,
+            bound: None,
             bytes: 0,
             host: 0,
             flow: 0,
@@ -191,8 +197,16 @@ impl Activities {
     }
 
     /// Starts the communication of a serial that was drawn and isn't under way: so many bytes over the links of a
-    /// route, which are all different. The latency of the route, in nanoseconds, passes first.
-    pub fn start_comm(&mut self, serial: Serial, links: &[LinkId], latency: u128, bytes: u64)
+    /// route, which are all different. The latency, in nanoseconds, passes first; then the bytes flow, at most as many
+    /// a second as the bound says.
+    pub fn start_comm(
+        &mut self,
+        serial: Serial,
+        links: &[LinkId],
+        latency: u128,
+        bytes: u64,
+        bound: Option<u64>,
+    )
         requires from { 0 < serial.0 }
         requires to { serial.0 ≤ length self.old.under.tasks }
         requires idle { task_at self.old.under.tasks serial.0 ≡ None }
@@ -205,7 +219,8 @@ impl Activities {
         requires bytes { IsAmount bytes }
         requires room { 0 < self.old.room }
         ensures { self.new ≡
-            begun_in serial.0 (comm_of (record { links = links.now }) latency bytes) self.old }
+            begun_in serial.0 (comm_of (record { links = links.now }) latency bytes bound)
+            self.old }
     {
         let key = self.kept.lives.put(Live {
             serial: serial.0,
@@ -213,6 +228,8 @@ impl Activities {
             kept: latency,
             stamp: self.kept.date,
             rate: 1,
+            weight: 1,
+            bound,
             bytes,
             host: 0,
             flow: 0,

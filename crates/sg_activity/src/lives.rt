@@ -20,6 +20,10 @@ pub(crate) struct Live {
     pub(crate) stamp: u128,
     /// How much a nanosecond takes of it since.
     pub(crate) rate: u64,
+    /// What it weighs among those that share with it.
+    pub(crate) weight: u32,
+    /// What its rate is to be at most.
+    pub(crate) bound: Option<u64>,
     /// The bytes of a communication.
     pub(crate) bytes: u64,
     /// The host of an execution.

@@ -11,7 +11,7 @@ ghost use Rattle.sg_activity.specs.kept.Ends.{Ends, IsFirst, IsIdle};
 use crate::kept::Kept;
 use crate::kinds::PhaseKind;
 use crate::lives::{Live, takes_share};
-use crate::routes::{bound_of, uses_of};
+use crate::routes::{bound_of, tighter, uses_of};
 
 /// The activity whose phase is due first, and its key.
 pub(crate) fn first_due(kept: &Kept) -> Option<(usize, Live)>
@@ -43,8 +43,8 @@ fn begin_flow(kept: &mut Kept, key: usize, live: Live)
 {
     let route = kept.ways[key].route();
     let uses = uses_of(kept.hosts.len(), &kept.links, route);
-    let bound = bound_of(&kept.links, route);
-    let flow = kept.lazy.start(uses.as_slice(), 1, bound);
+    let bound = tighter(bound_of(&kept.links, route), live.bound);
+    let flow = kept.lazy.start(uses.as_slice(), live.weight, bound);
     kept.lives.set(
         key,
         Live {

@@ -54,16 +54,25 @@ impl Way {
     }
 }
 
-// The less of a bound and of what bounds each flow over the link by itself.
-fn tighter(bound: Option<u64>, link: &LinkCap) -> Option<u64>
-    ensures { result ≡ sooner bound (bound_of_link link.now) }
+/// The less of two bounds.
+pub(crate) fn tighter(bound: Option<u64>, other: Option<u64>) -> Option<u64>
+    ensures { result ≡ sooner bound other }
 {
-    if !link.fatpipe {
-        return bound;
+    match (bound, other) {
+        (Some(bound), Some(other)) => Some(bound.min(other)),
+        (None, _) => other,
+        (_, None) => bound,
     }
-    match bound {
-        Some(bound) => Some(bound.min(link.bandwidth)),
-        None => Some(link.bandwidth),
+}
+
+// What bounds each flow over the link by itself.
+fn own_bound(link: &LinkCap) -> Option<u64>
+    ensures { result ≡ bound_of_link link.now }
+{
+    if link.fatpipe {
+        Some(link.bandwidth)
+    } else {
+        None
     }
 }
 
@@ -74,7 +83,7 @@ pub(crate) fn bound_of(links: &[LinkCap], route: &[LinkId]) -> Option<u64>
 {
     let mut bound = None;
     for link in route {
-        bound = tighter(bound, &links[link.0 as usize]);
+        bound = tighter(bound, own_bound(&links[link.0 as usize]));
     }
     bound
 }

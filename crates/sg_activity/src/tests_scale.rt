@@ -65,7 +65,7 @@ fn compute(
     ensures drawn { OnOk result (length doing.new.under.tasks ≡ length doing.old.under.tasks + 1) }
 {
     doing.reserve(1)?;
-    let _serial = doing.start_exec(PointId(host), MEGA);
+    let _serial = doing.start_exec(PointId(host), MEGA, 1);
     noted.push((host, number))?;
     Ok(())
 }

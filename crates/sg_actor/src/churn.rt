@@ -52,12 +52,12 @@ impl Churn {
                     return Call::Exit;
                 }
                 self.phase = Phase::Send;
-                Call::Compute(draw(&mut self.state, MOST_FLOPS))
+                Call::Compute(draw(&mut self.state, MOST_FLOPS), 1)
             }
             Phase::Send => {
                 self.phase = Phase::Receive;
                 let bytes = draw(&mut self.state, MOST_BYTES);
-                Call::ISend(BoxId::Pair(self.me, self.next), bytes, Msg::Empty)
+                Call::ISend(BoxId::Pair(self.me, self.next), bytes, Msg::Empty, 0)
             }
             Phase::Receive => {
                 self.phase = Phase::Wait;

@@ -20,11 +20,11 @@ fn action_call(me: ActorId, action: Action) -> Call
     ensures { result ≡ call_of me action }
 {
     match action {
-        Action::Compute(flops) => Call::Compute(flops),
+        Action::Compute(flops, priority) => Call::Compute(flops, priority),
         Action::Sleep(ns) => Call::Sleep(ns),
-        Action::Send(to, bytes) => Call::Send(BoxId::Pair(me, to), bytes, Msg::Empty),
+        Action::Send(to, bytes, rate) => Call::Send(BoxId::Pair(me, to), bytes, Msg::Empty, rate),
         Action::Recv(from) => Call::Recv(BoxId::Pair(from, me)),
-        Action::ISend(to, bytes) => Call::ISend(BoxId::Pair(me, to), bytes, Msg::Empty),
+        Action::ISend(to, bytes, rate) => Call::ISend(BoxId::Pair(me, to), bytes, Msg::Empty, rate),
         Action::IRecv(from) => Call::IRecv(BoxId::Pair(from, me)),
         Action::Wait => Call::Wait,
         Action::Lock(mutex) => Call::Lock(mutex),
@@ -41,7 +41,7 @@ pub(crate) fn worker_call(me: ActorId, answer: Answer) -> Call
     ensures { result ≡ (worker_turn (me.0 ∷ []) answer).call }
 {
     match answer {
-        Answer::Got(Msg::Task(flops)) => Call::Compute(flops),
+        Answer::Got(Msg::Task(flops)) => Call::Compute(flops, 1),
         Answer::Got(Msg::Stop) => Call::Exit,
         _ => Call::Recv(BoxId::Named(me)),
     }

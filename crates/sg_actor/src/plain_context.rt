@@ -173,12 +173,12 @@ fn master_call(tasks: u64, flops: u64, bytes: u64, next: &mut u64, workers: &[Ac
     if *next < tasks {
         let to = worker_at(workers, *next % count);
         *next += 1;
-        return Call::Send(BoxId::Named(to), bytes, Msg::Task(flops));
+        return Call::Send(BoxId::Named(to), bytes, Msg::Task(flops), 0);
     }
     if *next - tasks < count {
         let to = worker_at(workers, *next - tasks);
         *next += 1;
-        return Call::Send(BoxId::Named(to), 0, Msg::Stop);
+        return Call::Send(BoxId::Named(to), 0, Msg::Stop, 0);
     }
     Call::Exit
 }

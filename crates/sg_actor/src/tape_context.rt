@@ -169,12 +169,12 @@ fn master_step(numbers: &mut [u64]) -> Call
     if next < tasks {
         let to = ActorId(numbers[4 + (next % count) as usize] as u32);
         numbers[3] = next + 1;
-        return Call::Send(BoxId::Named(to), numbers[2], Msg::Task(numbers[1]));
+        return Call::Send(BoxId::Named(to), numbers[2], Msg::Task(numbers[1]), 0);
     }
     if next - tasks < count {
         let to = ActorId(numbers[4 + (next - tasks) as usize] as u32);
         numbers[3] = next + 1;
-        return Call::Send(BoxId::Named(to), 0, Msg::Stop);
+        return Call::Send(BoxId::Named(to), 0, Msg::Stop, 0);
     }
     Call::Exit
 }
@@ -194,7 +194,7 @@ fn churn_step(numbers: &mut [u64]) -> Call
                 return Call::Exit;
             }
             numbers[2] = 1;
-            Call::Compute(draw(&mut numbers[0], MOST_FLOPS))
+            Call::Compute(draw(&mut numbers[0], MOST_FLOPS), 1)
         }
         1 => {
             numbers[2] = 2;
@@ -203,6 +203,7 @@ fn churn_step(numbers: &mut [u64]) -> Call
                 BoxId::Pair(me, to),
                 draw(&mut numbers[0], MOST_BYTES),
                 Msg::Empty,
+                0,
             )
         }
         2 => {

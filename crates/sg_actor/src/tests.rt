@@ -49,11 +49,11 @@ fn turns_of_a_master(rt: HostRuntime) -> Result<(), Fail> {
         workers: Ids::from_vec(workers),
     };
     let turns = [
-        (Answer::Start, Call::Send(FIRST, 7, Msg::Task(5))),
-        (Answer::Done, Call::Send(SECOND, 7, Msg::Task(5))),
-        (Answer::Done, Call::Send(FIRST, 7, Msg::Task(5))),
-        (Answer::Done, Call::Send(FIRST, 0, Msg::Stop)),
-        (Answer::Done, Call::Send(SECOND, 0, Msg::Stop)),
+        (Answer::Start, Call::Send(FIRST, 7, Msg::Task(5), 0)),
+        (Answer::Done, Call::Send(SECOND, 7, Msg::Task(5), 0)),
+        (Answer::Done, Call::Send(FIRST, 7, Msg::Task(5), 0)),
+        (Answer::Done, Call::Send(FIRST, 0, Msg::Stop, 0)),
+        (Answer::Done, Call::Send(SECOND, 0, Msg::Stop, 0)),
         (Answer::Done, Call::Exit),
         (Answer::Start, Call::Exit),
     ];
@@ -66,7 +66,7 @@ fn turns_of_a_worker(rt: HostRuntime) -> Result<(), Fail> {
     let mine = Call::Recv(BoxId::Named(ME));
     let turns = [
         (Answer::Start, mine),
-        (Answer::Got(Msg::Task(5)), Call::Compute(5)),
+        (Answer::Got(Msg::Task(5)), Call::Compute(5, 1)),
         (Answer::Done, mine),
         (Answer::Got(Msg::Empty), mine),
         (Answer::Got(Msg::Stop), Call::Exit),
@@ -83,8 +83,8 @@ fn turns_of_a_replay(rt: HostRuntime) -> Result<(), Fail> {
     let turns = [
         (Answer::Start, Call::Ask),
         (
-            Answer::Act(Action::Send(ActorId(2), 7)),
-            Call::Send(there, 7, Msg::Empty),
+            Answer::Act(Action::Send(ActorId(2), 7, 9)),
+            Call::Send(there, 7, Msg::Empty, 9),
         ),
         (Answer::Done, Call::Ask),
         (Answer::Act(Action::Recv(ActorId(2))), Call::Recv(back)),
@@ -108,12 +108,12 @@ fn turns_of_a_churn(rt: HostRuntime) -> Result<(), Fail> {
         prev: ActorId(3),
     };
     let turns = [
-        (Answer::Start, Call::Compute(167951808)),
-        (Answer::Done, Call::ISend(there, 396425, Msg::Empty)),
+        (Answer::Start, Call::Compute(167951808, 1)),
+        (Answer::Done, Call::ISend(there, 396425, Msg::Empty, 0)),
         (Answer::Done, Call::Recv(back)),
         (Answer::Got(Msg::Empty), Call::Wait),
-        (Answer::Done, Call::Compute(299921938)),
-        (Answer::Refused, Call::ISend(there, 605237, Msg::Empty)),
+        (Answer::Done, Call::Compute(299921938, 1)),
+        (Answer::Refused, Call::ISend(there, 605237, Msg::Empty, 0)),
         (Answer::Start, Call::Recv(back)),
         (Answer::NoMore, Call::Wait),
         (Answer::Done, Call::Exit),
@@ -134,8 +134,8 @@ fn generator_turns_over(rt: HostRuntime) -> Result<(), Fail> {
         prev: ME,
     };
     let turns = [
-        (Answer::Start, Call::Compute(574552489)),
-        (Answer::Done, Call::ISend(there, 332344, Msg::Empty)),
+        (Answer::Start, Call::Compute(574552489, 1)),
+        (Answer::Done, Call::ISend(there, 332344, Msg::Empty, 0)),
         (Answer::Done, Call::Recv(there)),
         (Answer::Done, Call::Wait),
         (Answer::Done, Call::Exit),

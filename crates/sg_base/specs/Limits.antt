@@ -16,6 +16,14 @@ use Rattle.sg_base.specs.declared.call.Msg.TheVariants as msg
 abbrev pub IsAmount : ℕ → Type 0
 IsAmount n = n ≤ 1000000000000000
 
+-- how much more an execution gets of its host than one of priority 1
+abbrev pub IsPriority : ℕ → Type 0
+IsPriority n = (0 < n) × (n ≤ 1000)
+
+-- bytes a second that a message is to have at most; 0 stands for none
+abbrev pub IsRate : ℕ → Type 0
+IsRate n = n ≤ 1000000000000000
+
 -- nanoseconds of a sleep
 abbrev pub IsTime : ℕ → Type 0
 IsTime n = n ≤ 1000000000000000000
@@ -51,11 +59,11 @@ IsMsg msg.Stop = ⊤
 
 -- the amounts and times of an action keep to their limits, and what it names exists
 abbrev pub IsAction : Extent → Action → Type 0
-IsAction extent (action.Compute flops) = IsAmount flops
+IsAction extent (action.Compute flops priority) = IsAmount flops × IsPriority priority
 IsAction extent (action.Sleep ns) = IsTime ns
-IsAction extent (action.Send to bytes) = IsActorIn extent to × IsAmount bytes
+IsAction extent (action.Send to bytes rate) = IsActorIn extent to × IsAmount bytes × IsRate rate
 IsAction extent (action.Recv from) = IsActorIn extent from
-IsAction extent (action.ISend to bytes) = IsActorIn extent to × IsAmount bytes
+IsAction extent (action.ISend to bytes rate) = IsActorIn extent to × IsAmount bytes × IsRate rate
 IsAction extent (action.IRecv from) = IsActorIn extent from
 IsAction extent action.Wait = ⊤
 IsAction extent (action.Lock mutex) = IsMutexIn extent mutex
@@ -75,11 +83,13 @@ IsAnswer extent answer.Refused = ⊤
 
 abbrev pub IsCall : Extent → Call → Type 0
 IsCall extent call.Ask = ⊤
-IsCall extent (call.Compute flops) = IsAmount flops
+IsCall extent (call.Compute flops priority) = IsAmount flops × IsPriority priority
 IsCall extent (call.Sleep ns) = IsTime ns
-IsCall extent (call.Send mailbox bytes message) = IsBoxIn extent mailbox × IsAmount bytes × IsMsg message
+IsCall extent (call.Send mailbox bytes message rate) =
+    IsBoxIn extent mailbox × IsAmount bytes × IsMsg message × IsRate rate
 IsCall extent (call.Recv mailbox) = IsBoxIn extent mailbox
-IsCall extent (call.ISend mailbox bytes message) = IsBoxIn extent mailbox × IsAmount bytes × IsMsg message
+IsCall extent (call.ISend mailbox bytes message rate) =
+    IsBoxIn extent mailbox × IsAmount bytes × IsMsg message × IsRate rate
 IsCall extent (call.IRecv mailbox) = IsBoxIn extent mailbox
 IsCall extent call.Wait = ⊤
 IsCall extent (call.Lock mutex) = IsMutexIn extent mutex

@@ -6,11 +6,11 @@ use Rattle.sg_base.specs.declared.call.Call.TheVariants as call
 -- a call that does something, so that it has a line
 abbrev pub HasLine : Call → Type 0
 HasLine call.Ask = ⊥
-HasLine (call.Compute flops) = ⊤
+HasLine (call.Compute flops priority) = ⊤
 HasLine (call.Sleep ns) = ⊤
-HasLine (call.Send mailbox bytes message) = ⊤
+HasLine (call.Send mailbox bytes message rate) = ⊤
 HasLine (call.Recv mailbox) = ⊤
-HasLine (call.ISend mailbox bytes message) = ⊤
+HasLine (call.ISend mailbox bytes message rate) = ⊤
 HasLine (call.IRecv mailbox) = ⊤
 HasLine call.Wait = ⊤
 HasLine (call.Lock mutex) = ⊤

@@ -29,11 +29,11 @@ actor_of number = record { 0 = number }
 
 -- the call by which an actor does an action: what it sends to another, and receives from it, has a mailbox of its own
 abbrev pub call_of : ActorId → Action → Call
-call_of me (action.Compute flops) = call.Compute flops
+call_of me (action.Compute flops priority) = call.Compute flops priority
 call_of me (action.Sleep ns) = call.Sleep ns
-call_of me (action.Send to bytes) = call.Send (box.Pair me to) bytes msg.Empty
+call_of me (action.Send to bytes rate) = call.Send (box.Pair me to) bytes msg.Empty rate
 call_of me (action.Recv from) = call.Recv (box.Pair from me)
-call_of me (action.ISend to bytes) = call.ISend (box.Pair me to) bytes msg.Empty
+call_of me (action.ISend to bytes rate) = call.ISend (box.Pair me to) bytes msg.Empty rate
 call_of me (action.IRecv from) = call.IRecv (box.Pair from me)
 call_of me action.Wait = call.Wait
 call_of me (action.Lock mutex) = call.Lock mutex
@@ -57,11 +57,11 @@ abbrev pub receives : List ℕ → Turn
 receives numbers = turned worker numbers (call.Recv (box.Named (actor_of (slice_index numbers 0))))
 
 abbrev pub worker_got : List ℕ → Msg → Turn
-worker_got numbers (msg.Task flops) = turned worker numbers (call.Compute flops)
+worker_got numbers (msg.Task flops) = turned worker numbers (call.Compute flops 1)
 worker_got numbers msg.Stop = leaves numbers
 worker_got numbers msg.Empty = receives numbers
 
--- it does the task that it got, ends when it is told to, and else receives
+-- it does the task that it got, at priority 1, ends when it is told to, and else receives
 abbrev pub worker_turn : List ℕ → Answer → Turn
 worker_turn numbers (answer.Got message) = worker_got numbers message
 worker_turn numbers (answer.Act what) = receives numbers
@@ -73,7 +73,7 @@ worker_turn numbers answer.Refused = receives numbers
 -- what a master sends to its worker of this place
 abbrev pub sends : List ℕ → ℕ → ℕ → Msg → Turn
 sends numbers place bytes message =
-    turned master (slice_set numbers 3 (slice_index numbers 3 + 1)) (call.Send (box.Named (actor_of (slice_index numbers (4 + place)))) bytes message)
+    turned master (slice_set numbers 3 (slice_index numbers 3 + 1)) (call.Send (box.Named (actor_of (slice_index numbers (4 + place)))) bytes message 0)
 
 -- a master hands its tasks to its workers in turn, then tells each of them to stop, and ends
 abbrev pub master_turn : List ℕ → Turn
@@ -99,8 +99,8 @@ churn_turn numbers =
     let me = actor_of (slice_index numbers 4) in
     if phase == 0 then
     (if step == slice_index numbers 3 then leaves numbers
-    else churned (next_state state) step 1 numbers (call.Compute (1 + drawn state % 1000000000)))
-    else if phase == 1 then churned (next_state state) step 2 numbers (call.ISend (box.Pair me (actor_of (slice_index numbers 5))) (1 + drawn state % 1000000) msg.Empty)
+    else churned (next_state state) step 1 numbers (call.Compute (1 + drawn state % 1000000000) 1))
+    else if phase == 1 then churned (next_state state) step 2 numbers (call.ISend (box.Pair me (actor_of (slice_index numbers 5))) (1 + drawn state % 1000000) msg.Empty 0)
     else if phase == 2 then churned state step 3 numbers (call.Recv (box.Pair (actor_of (slice_index numbers 6)) me))
     else churned state (step + 1) 0 numbers call.Wait
 

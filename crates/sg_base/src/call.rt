@@ -7,16 +7,17 @@ use crate::ids::{ActorId, BoxId};
 pub enum Call {
     /// For its next script line.
     Ask,
-    /// To compute so many flops, and go on when it is done.
-    Compute(u64),
+    /// To compute so many flops at a priority, and go on when it is done.
+    Compute(u64, u32),
     /// To sleep for so many nanoseconds.
     Sleep(u64),
-    /// To send so many bytes and a message into a mailbox, and go on when they have arrived.
-    Send(BoxId, u64, Msg),
+    /// To send so many bytes and a message into a mailbox at no more than a rate in bytes a second (0: at any), and go on
+    /// when they have arrived.
+    Send(BoxId, u64, Msg, u64),
     /// To receive from a mailbox, and go on when the bytes have arrived.
     Recv(BoxId),
     /// To send without waiting: the communication becomes its newest request.
-    ISend(BoxId, u64, Msg),
+    ISend(BoxId, u64, Msg, u64),
     /// To receive without waiting: the communication becomes its newest request.
     IRecv(BoxId),
     /// To wait until the communication of its oldest request is done.
@@ -51,11 +52,13 @@ pub enum Msg {
 /// A script line, without the name of its actor.
 #[derive(Clone, Copy, Debug, PartialEq, Eq)]
 pub enum Action {
-    Compute(u64),
+    /// So many flops, at a priority.
+    Compute(u64, u32),
     Sleep(u64),
-    Send(ActorId, u64),
+    /// To an actor so many bytes, at no more than a rate in bytes a second (0: at any).
+    Send(ActorId, u64, u64),
     Recv(ActorId),
-    ISend(ActorId, u64),
+    ISend(ActorId, u64, u64),
     IRecv(ActorId),
     Wait,
     Lock(u32),

@@ -1,4 +1,4 @@
-//! Texts of platforms and deployments, and what is made of them: tables of cases, and one loop that goes over each.
+//! Texts of platforms and deployments, what is made of them, and runs on them: tables of cases, and one loop that goes over each.
 #![tactic(auto)]
 
 #[cfg(test)]
@@ -11,6 +11,8 @@ mod platforms;
 mod routes;
 #[cfg(test)]
 mod rules;
+#[cfg(test)]
+mod runs;
 #[cfg(test)]
 mod traces;
 #[cfg(test)]

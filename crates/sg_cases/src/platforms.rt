@@ -160,6 +160,29 @@ const TABLES: &str = "\
 7 1 5 wrong type | spoke = [{zone = 'y', child = 'r', up = ['l'], down = 'l'}]
 7 1 5 bad value | spoke = [{zone = 'y', child = 'r', up = ['l'], down = []}]
 7 1 5 unknown name | spoke = [{zone = 'y', child = 'r', up = ['l'], down = ['l_UP']}]
+8 0 0 wrong type | network = 'CM02'
+8 0 0 wrong type | network = {latency_factor = '1'}
+8 0 0 over a limit | network = [{}, {}]
+8 0 0 over a limit | network = [1, 1]
+8 1 0 wrong type | network = [13.01]
+8 1 0 unknown name | network = [{latency_factor = '1', model = 'LV08'}]
+8 1 1 wrong type | network = [{latency_factor = 13.01, bandwidth_factor = '0'}]
+8 1 1 bad value | network = [{latency_factor = '', window = 1}]
+8 1 1 bad value | network = [{latency_factor = '-1'}]
+8 1 1 bad value | network = [{latency_factor = '1s'}]
+8 1 1 bad value | network = [{latency_factor = '1000.000001'}]
+8 1 2 wrong type | network = [{bandwidth_factor = 1}]
+8 1 2 bad value | network = [{bandwidth_factor = '0'}]
+8 1 2 bad value | network = [{bandwidth_factor = '0.0000009', window = '-1'}]
+8 1 2 bad value | network = [{bandwidth_factor = '0.97f', latency_factor = '13.01'}]
+8 1 2 bad value | network = [{bandwidth_factor = '1001'}]
+8 1 3 wrong type | network = [{window = 4194304}]
+8 1 3 bad value | network = [{window = '4MiB'}]
+8 1 3 bad value | network = [{window = '1e16'}]
+fine | network = []
+fine | network = [{}]
+fine | network = [{latency_factor = '0', bandwidth_factor = '0.000001', window = '0'}]
+fine | network = [{latency_factor = '1000', bandwidth_factor = '1e3', window = '1e15'}]
 2 1 1 bad name | host = [{id = 'aaaaaaaaaaaaaaaaaaaaaaaaaaaaaaaaaaaaaaaaaaaaaaaaaaaaaaaaaaaaaaaaa', zone = 'z', speed = '1'}]
 2 1 1 bad name | host = [{id = \"a\\n\", zone = 'z', speed = '1'}]
 4 1 1 bad name | link = [{id = 'aaaaaaaaaaaaaaaaaaaaaaaaaaaaaaaaaaaaaaaaaaaaaaaaaaaaaaaaaaaa', bandwidth = '1', sharing_policy = 'SPLITDUPLEX'}]
@@ -238,6 +261,8 @@ not TOML | host = [{id = 'h', id = 'g'}]
 6 0 0 over a limit | zone_route = [%0%262145%0,%]
 7 1 0 wrong type | spoke = [%0%32768%0,%]
 7 0 0 over a limit | spoke = [%0%32769%0,%]
+7 1 0 wrong type | network = [1, 2] | spoke = [0]
+8 0 0 over a limit | network = [%0%2%{},%] | zone = []
 fine | host = [%0%262143%                                                                %                                                       ]
 0 0 0 over a limit | host = [%0%262143%                                                                %                                                        ]
 ";
@@ -246,6 +271,18 @@ fine | host = [%0%262143%                                                       
 const ROWS: &str = "\
 h1 0 1000000000 1;h2 0 98095000 4; | zone = [{id = 'z', routing = 'Full'}] | host = [{id = 'h1', zone = 'z', speed = '1Gf'}, {id = 'h2', zone = 'z', speed = '98.095Mf', core = 4}] | router = [{id = 'r', zone = 'z'}]
 h 0 1000000000 1;s 1000000 0;l 1250000000 59904;up [LinkId(0), LinkId(2)] down [LinkId(2), LinkId(1)]; | zone = [{id = 'z', routing = 'Star'}] | host = [{id = 'h', zone = 'z', speed = '1Gf'}] | link = [{id = 's', bandwidth = '1MBps', sharing_policy = 'SPLITDUPLEX'}, {id = 'l', bandwidth = '10Gbps', latency = '59.904us'}] | spoke = [{zone = 'z', child = 'h', up = ['s_UP', 'l']}]
+";
+
+/// Factors in millionths and the window that are read.
+const NETWORKS: &str = "\
+1000000 1000000 0
+1000000 1000000 0 | network = []
+1000000 1000000 0 | network = [{}]
+13010000 970000 4194304 | network = [{latency_factor = '13.01', bandwidth_factor = '0.97', window = '4194304'}]
+13010000 1000000 0 | network = [{latency_factor = '13.01'}]
+1000000 970000 0 | [[network]] | bandwidth_factor = '0.97'
+1000000 1000000 10000000 | network = [{window = '1e7'}]
+0 1 1 | network = [{window = '1.9', latency_factor = '0.0000009', bandwidth_factor = '0.0000019'}]
 ";
 
 /// What is told of a platform text.
@@ -310,6 +347,14 @@ fn rows(alloc: Global, text: &str) -> Result<String, Fail> {
     Ok(rows)
 }
 
+/// The network of a platform text.
+fn network(alloc: Global, text: &str) -> Result<String, Fail> {
+    let platform = read_platform(alloc, text.as_bytes())?;
+    let network = platform.network();
+    let (latency, bandwidth) = (network.latency_factor, network.bandwidth_factor);
+    Ok(format!(in alloc; "{latency} {bandwidth} {}", network.window)?)
+}
+
 #[test]
 fn each_fault_of_a_table_is_told_at_its_place(rt: HostRuntime) -> Result<(), Fail> {
     hold(&rt, rt.alloc(), TABLES, told_beside)
@@ -323,4 +368,9 @@ fn the_least_fault_of_a_text_is_told(rt: HostRuntime) -> Result<(), Fail> {
 #[test]
 fn rows_are_read(rt: HostRuntime) -> Result<(), Fail> {
     hold(&rt, rt.alloc(), ROWS, rows)
+}
+
+#[test]
+fn networks_are_read(rt: HostRuntime) -> Result<(), Fail> {
+    hold(&rt, rt.alloc(), NETWORKS, network)
 }

@@ -35,24 +35,29 @@ const NAMED: BoxId = BoxId::Named(ActorId(3));
 const LINES: [(u32, Call, u64, &str); 15] = [
     (
         1,
-        Call::Compute(1_000_000_000),
+        Call::Compute(1_000_000_000, 7),
         0,
         "h1:p0:(1)|compute 1000000000",
     ),
     (2, Call::Sleep(59_904), 0, "h2:p1:(2)|sleep"),
     (3, Call::Yield, 0, "h1:p2:(3)|yield"),
-    (1, Call::Send(PAIR, 7, Msg::Empty), 7, "h1:p0:(1)|send p1 7"),
+    (
+        1,
+        Call::Send(PAIR, 7, Msg::Empty, 9),
+        7,
+        "h1:p0:(1)|send p1 7",
+    ),
     (2, Call::Recv(PAIR), 7, "h2:p1:(2)|recv p0 7"),
     (
         1,
-        Call::ISend(PAIR, 0, Msg::Empty),
+        Call::ISend(PAIR, 0, Msg::Empty, 0),
         0,
         "h1:p0:(1)|isend p1 0",
     ),
     (2, Call::IRecv(PAIR), 0, "h2:p1:(2)|irecv p0"),
     (
         1,
-        Call::Send(NAMED, 7, Msg::Task(9)),
+        Call::Send(NAMED, 7, Msg::Task(9), 0),
         7,
         "h1:p0:(1)|send p2 7",
     ),
@@ -73,7 +78,7 @@ const REFUSED: [(u32, Call, &str); 2] = [
 
 /// Actors that are blocked, their calls, and their lines.
 const BLOCKED: [(u32, Call, &str); 5] = [
-    (1, Call::Send(PAIR, 1, Msg::Empty), "h1:p0:(1)|send p1 1"),
+    (1, Call::Send(PAIR, 1, Msg::Empty, 0), "h1:p0:(1)|send p1 1"),
     (2, Call::Recv(PAIR), "h2:p1:(2)|recv p0"),
     (2, Call::Lock(1), "h2:p1:(2)|lock m2"),
     (3, Call::Acquire(0), "h1:p2:(3)|acquire s1"),
@@ -107,16 +112,21 @@ fn is_message(message: Msg) -> bool
 }
 
 /// Whether the call has a line and names only what the deployment has.
-fn has_line(deployment: &Deployment, what: Call) -> bool
+pub fn has_line(deployment: &Deployment, what: Call) -> bool
     ensures line { OnTrue result (HasLine what) }
     ensures call { OnTrue result (IsCall (extent_of deployment.now) what) }
 {
     match what {
         Call::Ask | Call::Exit => false,
-        Call::Compute(flops) => flops <= 1_000_000_000_000_000,
+        Call::Compute(flops, priority) => {
+            flops <= 1_000_000_000_000_000 && priority >= 1 && priority <= 1000
+        }
         Call::Sleep(ns) => ns <= 1_000_000_000_000_000_000,
-        Call::Send(mailbox, bytes, message) | Call::ISend(mailbox, bytes, message) => {
-            is_box(deployment, mailbox) && bytes <= 1_000_000_000_000_000 && is_message(message)
+        Call::Send(mailbox, bytes, message, rate) | Call::ISend(mailbox, bytes, message, rate) => {
+            is_box(deployment, mailbox)
+                && bytes <= 1_000_000_000_000_000
+                && is_message(message)
+                && rate <= 1_000_000_000_000_000
         }
         Call::Recv(mailbox) | Call::IRecv(mailbox) => is_box(deployment, mailbox),
         Call::Lock(mutex) | Call::Unlock(mutex) => (mutex as usize) < deployment.mutexes().len(),

@@ -11,6 +11,7 @@ use Rattle.sg_base.specs.declared.ids.PointId.{PointId}
 use Rattle.sg_churn.proofs.GoodNames.{row_names_behind}
 use Rattle.sg_churn.proofs.NumberedRows.{all_rows, distinct_rows, length-rows}
 use Rattle.sg_churn.specs.Generated.{backbone, drawn_after, host_of, link, link_of, name_of, rows, spoke_of, star, state_after}
+use Rattle.sg_rows.proofs.Networks.{plain_kept}
 use Rattle.sg_rows.specs.Ends.{ends_from, link_ends}
 use Rattle.sg_rows.specs.OfRows.{AreDistinct, AreNames, AreRows, IsOfRow, names_of_link, platform_with, point_names}
 use Rattle.sg_rows.specs.Platform.{Counts, IsHostRow, IsLinkList, IsLinkRow, IsPlatform, IsSpokeRow, IsZoneRow, counts_of}
@@ -99,6 +100,7 @@ platform_kept seed actors counts same zones points links few = record {
   zone_routes = All-nil _;
   spokes = subst (λ c. All (IsSpokeRow c) (rows spoke_of actors)) same
       (all_rows (IsSpokeRow counts) spoke_of actors (λ k below. spoke_good counts k (omega arith) (omega arith) (omega arith)));
+  network = plain_kept;
 }
 
 star_named : IsTrue (is_name (codes "z"))

@@ -1,5 +1,5 @@
 -- Amounts of a collective's steps, and that its actions keep to the limits.
-use Rattle.std.proofs.Common.{◌≡◌, ℕ, ◌+◌, ◌-◌, ◌*◌, ◌%◌, ◌<◌, ltb, List, ◌++◌, map, reverse, replicate, length, get_or, Some, sym, subst, ◌∙◌}
+use Rattle.std.proofs.Common.{◌≡◌, ℕ, ◌+◌, ◌-◌, ◌*◌, ◌%◌, ◌<◌, ltb, List, ◌++◌, map, reverse, replicate, length, get_or, Some, sym, subst, ◌∙◌, arith}
 use Rattle.std.specs.List.{All, range_with_len, slice_get}
 use Rattle.std.specs.Prelude.{⊤}
 use Rattle.std.proofs.lemmas.List.Elements.{All-append, All-get_or, All-map, All-replicate}
@@ -63,10 +63,10 @@ amounts (Alltoall bytes) rank members are = alltoall_amounts bytes rank members 
 step_limited : (extent : Extent) (members : List ActorId) (step : Step) → All (IsActorIn extent) members →
     NamesMember (length members) step → HasStepAmount step → IsAction extent (action_of members step)
 step_limited extent members (Recv peer) exist names has = All-get_or (IsActorIn extent) members peer (record { 0 = 0 }) names exist
-step_limited extent members (Send peer bytes) exist names has = (All-get_or (IsActorIn extent) members peer (record { 0 = 0 }) names exist, has)
-step_limited extent members (Compute flops) exist names has = has
+step_limited extent members (Send peer bytes) exist names has = (All-get_or (IsActorIn extent) members peer (record { 0 = 0 }) names exist, has, omega arith)
+step_limited extent members (Compute flops) exist names has = (has, (omega arith, omega arith))
 step_limited extent members (IRecv peer) exist names has = All-get_or (IsActorIn extent) members peer (record { 0 = 0 }) names exist
-step_limited extent members (ISend peer bytes) exist names has = (All-get_or (IsActorIn extent) members peer (record { 0 = 0 }) names exist, has)
+step_limited extent members (ISend peer bytes) exist names has = (All-get_or (IsActorIn extent) members peer (record { 0 = 0 }) names exist, has, omega arith)
 step_limited extent members Wait exist names has = tt
 
 pub step_keeps_limits : (extent : Extent) (members : List ActorId) (collective : Collective) (rank place : ℕ) (step : Step) →

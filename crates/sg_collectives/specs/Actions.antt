@@ -22,8 +22,8 @@ member members rank = slice_index_or members rank (record { 0 = 0 })
 -- a step with the actor of its peer's rank
 abbrev pub action_of : List ActorId → Step → Action
 action_of members (Recv peer) = action.Recv (member members peer)
-action_of members (Send peer bytes) = action.Send (member members peer) bytes
-action_of members (Compute flops) = action.Compute flops
+action_of members (Send peer bytes) = action.Send (member members peer) bytes 0
+action_of members (Compute flops) = action.Compute flops 1
 action_of members (IRecv peer) = action.IRecv (member members peer)
-action_of members (ISend peer bytes) = action.ISend (member members peer) bytes
+action_of members (ISend peer bytes) = action.ISend (member members peer) bytes 0
 action_of members Wait = action.Wait

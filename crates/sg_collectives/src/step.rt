@@ -29,10 +29,10 @@ impl Step {
     {
         match self {
             Step::Recv(peer) => Action::Recv(members[peer as usize]),
-            Step::Send(peer, bytes) => Action::Send(members[peer as usize], bytes),
-            Step::Compute(flops) => Action::Compute(flops),
+            Step::Send(peer, bytes) => Action::Send(members[peer as usize], bytes, 0),
+            Step::Compute(flops) => Action::Compute(flops, 1),
             Step::IRecv(peer) => Action::IRecv(members[peer as usize]),
-            Step::ISend(peer, bytes) => Action::ISend(members[peer as usize], bytes),
+            Step::ISend(peer, bytes) => Action::ISend(members[peer as usize], bytes, 0),
             Step::Wait => Action::Wait,
         }
     }

@@ -279,10 +279,10 @@ fn steps_as_actions(rt: HostRuntime) {
     let members = [ActorId(2), ActorId(5)];
     let cases = [
         (Step::Recv(0), Action::Recv(ActorId(2))),
-        (Step::Send(1, BYTES), Action::Send(ActorId(5), BYTES)),
-        (Step::Compute(FLOPS), Action::Compute(FLOPS)),
+        (Step::Send(1, BYTES), Action::Send(ActorId(5), BYTES, 0)),
+        (Step::Compute(FLOPS), Action::Compute(FLOPS, 1)),
         (Step::IRecv(1), Action::IRecv(ActorId(5))),
-        (Step::ISend(0, BYTES), Action::ISend(ActorId(2), BYTES)),
+        (Step::ISend(0, BYTES), Action::ISend(ActorId(2), BYTES, 0)),
         (Step::Wait, Action::Wait),
     ];
     for (step, action) in cases {
@@ -312,7 +312,7 @@ fn members_and_their_actions(rt: HostRuntime) -> Result<(), Fail> {
     assert_eq!(rt; members.rank_of(ActorId(0)), None);
     assert_eq!(rt; members.rank_of(ActorId(4)), None);
     let bcast = Collective::Bcast { bytes: BYTES };
-    let far = Action::Send(ActorId(3), BYTES);
+    let far = Action::Send(ActorId(3), BYTES, 0);
     assert_eq!(rt; bcast.action(ActorId(1), &members, 0), Some(far));
     assert_eq!(rt; bcast.action(ActorId(1), &members, 2), None);
     let recv = Action::Recv(ActorId(1));

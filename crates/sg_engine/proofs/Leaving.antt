@@ -117,11 +117,11 @@ waiting (Some on) actor core from = until _ actor on _ from
 -- ---- any call
 called : (roads : Roads) (setup : Setup) (core : Core) (actor : ℕ) (what : Call) → 0 < actor → Leaves actor core.actors (answered_call roads setup core actor what).core.actors
 called roads setup core actor call.Ask from = own actor core.actors _ from
-called roads setup core actor (call.Compute flops) from = own actor core.actors _ from
+called roads setup core actor (call.Compute flops priority) from = own actor core.actors _ from
 called roads setup core actor (call.Sleep ns) from = own actor core.actors _ from
-called roads setup core actor (call.Send mailbox bytes message) from = coming _ roads setup _ core from
+called roads setup core actor (call.Send mailbox bytes message rate) from = coming _ roads setup _ core from
 called roads setup core actor (call.Recv mailbox) from = coming _ roads setup _ core from
-called roads setup core actor (call.ISend mailbox bytes message) from = coming _ roads setup _ core from
+called roads setup core actor (call.ISend mailbox bytes message rate) from = coming _ roads setup _ core from
 called roads setup core actor (call.IRecv mailbox) from = coming _ roads setup _ core from
 called roads setup core actor call.Wait from = waiting _ actor (counted core) from
 called roads setup core actor (call.Lock mutex) from = first _ actor (call.Lock mutex) (counted core) from

@@ -8,7 +8,6 @@ pub mod Fuel
 pub mod Leaving
 pub mod Listing
 pub mod Merging
-pub mod Over
 pub mod Parts
 pub mod PutLines
 pub mod Queues

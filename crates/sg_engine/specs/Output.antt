@@ -77,15 +77,13 @@ fault_line platform (ended.TooLong from to) = too_long_line platform from to
 fault_line platform ended.ReadFault = codes "cannot read the script\n"
 fault_line platform other = []
 
--- What a run writes, how it ends, at how many uses its passes may look, how many bytes of its script its Asks need, and
--- how many contexts it takes.
+-- What a run writes, how it ends, at how many uses its passes may look, and how many bytes of its script its Asks need.
 pub record Output : Type 0 where
   pub out : List ℕ
   pub err : List ℕ
   pub ended : Ended
   pub work : ℕ
   pub need : ℕ
-  pub contexts : ℕ
 
 -- the run ended so (each run has an end)
 abbrev pub end_of : Progress → Ended
@@ -98,7 +96,6 @@ written_of show platform deployed budget source progress = record {
   ended = end_of progress;
   work = progress.world.work;
   need = needed_by (known_in deployed) source (length deployed.actors) progress.world.asks;
-  contexts = contexts_of deployed;
 }
 
 -- what a run writes and how it ends, with or without a script, by what that gives

@@ -1,5 +1,7 @@
 -- What a whole run has done, in the words of its contract.
-use Rattle.std.specs.Prelude.{◌≡◌, ◌<◌, ◌≤◌, ◌+◌, ◌⊎◌, ℕ, Bool, true, false, IsTrue, MatchBool, List, Option}
+use Rattle.std.specs.Prelude.{◌≡◌, ◌<◌, ◌≤◌, ◌+◌, ◌⊎◌, ℕ, Bool, true, false, IsTrue, MatchBool, List, length, All, Option, None}
+use Rattle.sg_base.specs.Mind.{Mind}
+use Rattle.sg_edge.specs.Cause.{HasCause}
 use Rattle.sg_edge.specs.Files.{PartView, Only, KeepsTelling, TakesUpTo}
 use Rattle.sg_edge.specs.declared.files.Part.{Part}
 use Rattle.sg_edge.specs.declared.files.Part.TheVariants.{Script}
@@ -12,6 +14,7 @@ use Rattle.sg_engine.specs.declared.setup.Setup.{Setup}
 use Rattle.sg_engine.specs.declared.show.Show.{Show}
 use Rattle.sg_engine.specs.Gains.{GainsAll, GainsFronts}
 use Rattle.sg_engine.specs.Output.{Output, run_output}
+use Rattle.sg_rows.specs.Deployment.{Deployed}
 
 -- a failed write or want of memory cuts the run off
 abbrev pub is_cut : Ended → Bool
@@ -27,14 +30,26 @@ Ends out err want how old new = MatchBool (is_cut how) (GainsFronts out err old 
 abbrev pub IsBroken : PartView → PartView → Type 0
 IsBroken old new = (new.stage ≡ Broken) × (old.faults ≤ new.faults) × ((old.stage ≡ Broken) ⊎ (old.faults < new.faults))
 
--- what was written is this, and the end; the count went on by its work at most, also where the run was cut off
-pub record IsRun (want : Output) (how : Ended) (old new : Stream → Option (List ℕ)) (start count : ℕ) : Type 0 where
+-- where so many bytes are needed, less than a piece of 4,096 bytes more of the script was taken
+abbrev pub IsReadOnDemand : ℕ → (Part → PartView) → (Part → PartView) → Type 0
+IsReadOnDemand need old new = TakesUpTo (need + 4095) (old Script) (new Script)
+
+-- What was written is this, and the end; the count went on by its work at most, and the script was read on demand, also
+-- where the run was cut off.
+pub record IsRun (want : Output) (how : Ended) (old new : Stream → Option (List ℕ)) (start count : ℕ) (before after : Part → PartView) : Type 0 where
   pub ends : Ends want.out want.err want.ended how old new
   pub work : count ≤ start + want.work
+  pub needed : IsReadOnDemand want.need before after
 
--- the script's part is broken, and was before or has broken since
-abbrev pub HasBroken : {F : Type 0} → (F → Part → PartView) → F → F → Type 0
-HasBroken shows old new = IsBroken (shows old Script) (shows new Script)
+-- why a run ended by a failed write or a failed read: a write has failed; the script's part is broken, and was before or
+-- has broken since
+abbrev pub IsRunCause : Ended → ℕ → (Part → PartView) → (Part → PartView) → Type 0
+IsRunCause how faults old new = HasCause (how ≡ ended.WriteFault) (how ≡ ended.ReadFault) faults (IsBroken (old Script) (new Script))
+
+-- the crew has a blank context for each actor, and maybe more
+pub record HasContexts {A : Type 0} (mind : A → Option Mind) (crew : List A) (deployed : Deployed) : Type 0 where
+  pub blank : All (λ context. mind context ≡ None) crew
+  pub enough : length deployed.actors ≤ length crew
 
 -- of all files only the script's part was read, and without a script none; it keeps its name, and where it tells its
 -- bytes, it still does
@@ -47,10 +62,6 @@ pub record TakesScript {F : Type 0} (shows : F → Part → PartView) (script : 
 -- a fact for each source that the script's part may have given; without a script, for any
 abbrev pub ForSources : Bool → (Part → PartView) → (Part → PartView) → (Source → Type 0) → Type 0
 ForSources script old new P = (source : Source) → (IsTrue script → Gives (old Script) (new Script) source) → P source
-
--- where so many bytes are needed, less than a piece of 4,096 bytes more of the script was taken
-abbrev pub IsReadOnDemand : ℕ → (Part → PartView) → (Part → PartView) → Type 0
-IsReadOnDemand need old new = TakesUpTo (need + 4095) (old Script) (new Script)
 
 -- a setup stands for what it stood for
 pub record StandsAsBefore (old new : Setup) : Type 0 where

@@ -1,11 +1,10 @@
 //! One part of a run, with its lines.
-ghost use Rattle.std.specs.Prelude.{◌≡◌, ◌+◌, ◌≤◌, false};
+ghost use Rattle.std.specs.Prelude.{◌≡◌, ◌+◌, ◌≤◌};
 ghost use Rattle.sg_actor.specs.Seats.{seat_views};
-ghost use Rattle.sg_kernel.specs.Roads.{AreOver};
 ghost use Rattle.sg_engine.specs.kept.Moments.{ReadsScript};
 ghost use Rattle.sg_engine.specs.kept.Writing.{EndsForMemory};
-ghost use Rattle.sg_engine.specs.kept.Invariant.{snapshot_of, Holds, IsCaused, LeadsPart, StaysKept};
-ghost use Rattle.sg_engine.specs.Run.{are_completed, next_work};
+ghost use Rattle.sg_engine.specs.kept.Invariant.{snapshot_of, CanAdvance, IsCaused, LeadsPart, StaysKept};
+ghost use Rattle.sg_engine.specs.Run.{next_work};
 
 use crate::buffer::Buffer;
 use crate::ended::Ended;
@@ -44,10 +43,8 @@ pub fn advance<R: Threads + Sync, F: Files, O: Sinks, L: Ledger>(
     out: &mut O,
     steps: &mut Steps<L>,
 ) -> Option<Ended>
-    requires kept { Holds plan.now (F.shows files.old) sim.old
+    requires going { CanAdvance plan.now (F.shows files.old) router.old sim.old
         (seat_views (λ b. mind b) seats.old) }
-    requires roads { AreOver sim.old.kernel.setup.links router.old }
-    requires going { are_completed sim.old.kernel.core ≡ false }
     requires sound { O.faults out.old ≡ 0 }
     ensures part { LeadsPart plan.now router.old result
         (snapshot_of plan.now (F.shows files.old) (O.contents out.old) sim.old

@@ -5,6 +5,7 @@ ghost use Rattle.sg_actor.specs.Roles.{mind_of, CanCast, IsRole};
 ghost use Rattle.sg_actor.specs.Seats.{seat_view, seat_views};
 ghost use Rattle.sg_rows.specs.Deployment.{extent_of};
 ghost use Rattle.sg_engine.specs.Roles.{role_of, first_minds};
+ghost use Rattle.sg_engine.specs.RunContract.{HasContexts};
 ghost use Rattle.sg_engine.specs.kept.SeatRules.{mind_in, minds_of, IsSeated};
 
 use crate::roles::role;
@@ -64,8 +65,7 @@ pub fn seat_all(
     crew: &mut Vec<Box<dyn Actor + Send>>,
     deployment: &Deployment,
 ) -> Result<Vec<Seat>, Memory>
-    requires blank { All (λ b. mind b ≡ None) crew.old.items }
-    requires enough { length deployment.now.actors ≤ length crew.old.items }
+    requires { HasContexts (λ b. mind b) crew.old.items deployment.now }
     ensures minds { IfOk result (λ seats. minds_of (seat_views (λ b. mind b) seats.items)
         ≡ first_minds deployment.now) }
     ensures seated { IfOk result (λ seats. All (IsSeated (extent_of deployment.now))

@@ -1,11 +1,12 @@
 //! What a run is of.
 ghost use Rattle.std.specs.Prelude.{◌≡◌, length};
 ghost use Rattle.sg_kernel.specs.Roads.{AreOver};
-ghost use Rattle.sg_kernel.specs.Start.{link_caps};
 ghost use Rattle.sg_rows.specs.Deployment.{IsDeployedOn};
+ghost use Rattle.sg_rows.specs.Ends.{link_ends};
 ghost use Rattle.sg_route.specs.Roads.{roads_of};
 
-use sg_route::{Router, routes_are_good};
+use sg_kernel::roads_are_over;
+use sg_route::Router;
 use sg_rows::{Deployment, PlatformText};
 
 /// A platform, the actors that are deployed on it, the routes between its hosts, and whether there is a script.
@@ -18,7 +19,7 @@ pub struct Setup {
     pub script: bool,
     ghost deployed: { IsDeployedOn platform deployment },
     ghost roads: { router ≡ roads_of platform },
-    ghost over: { AreOver (length (link_caps platform.links)) router },
+    ghost over: { AreOver (length (link_ends platform.links)) router },
 }
 
 impl Setup {
@@ -35,7 +36,7 @@ impl Setup {
         ensures deployment { result.deployment ≡ deployment }
         ensures script { result.script ≡ script }
     {
-        routes_are_good(&platform);
+        roads_are_over(&platform, &router);
         Setup {
             platform,
             deployment,

@@ -1,10 +1,10 @@
 //! The whole run.
-ghost use Rattle.std.specs.Prelude.{◌≡◌, ◌≢◌, ◌+◌, ◌<◌, ◌≤◌, ⊤, length, drop, All, None, IsTrue, MatchBool};
+ghost use Rattle.std.specs.Prelude.{◌≡◌, ◌≢◌, ◌+◌, ◌<◌, ◌≤◌, ⊤, drop, IsTrue, MatchBool};
 ghost use Rattle.sg_actor.specs.Seats.{seat_views};
 ghost use Rattle.sg_edge.specs.declared.files.Stage.TheVariants.{Fresh, Broken};
 ghost use Rattle.sg_edge.specs.Cause.{HasCause};
-ghost use Rattle.sg_engine.specs.RunContract.{is_cut as is_cut_spec, ForSources, HasBroken, IsReadOnDemand, IsRun, StandsAsBefore, TakesScript, output_of};
-ghost use Rattle.sg_engine.specs.kept.Invariant.{AreRoadsOf, IsKept, IsFirst};
+ghost use Rattle.sg_engine.specs.RunContract.{is_cut as is_cut_spec, ForSources, HasContexts, IsRun, IsRunCause, StandsAsBefore, TakesScript, output_of};
+ghost use Rattle.sg_engine.specs.kept.Invariant.{IsBeginning, IsKept};
 ghost use Rattle.sg_engine.specs.Output.{contexts_of};
 ghost use Rattle.sg_engine.specs.kept.Moments.{script_in, ReadsScript};
 ghost use Rattle.sg_engine.specs.kept.Stretches.{HasRun, planned_output};
@@ -37,10 +37,8 @@ fn simulate<R: Threads + Sync, F: Files, O: Sinks, L: Ledger>(
     out: &mut O,
     steps: &mut Steps<L>,
 ) -> Ended
-    requires first { IsFirst plan.now.platform.now plan.now.deployment.now
-        plan.now.terms.budget (script_in plan.now (F.shows files.old)) sim.old
+    requires beginning { IsBeginning plan.now (F.shows files.old) router.old sim.old
         (seat_views (λ b. mind b) seats.old) }
-    requires roads { AreRoadsOf plan.now.platform.now router.old }
     requires sound { O.faults out.old ≡ 0 }
     ensures run { HasRun plan.now result sim.new steps.old steps.new
         (script_in plan.now (F.shows files.old))
@@ -93,19 +91,13 @@ fn run_from<R: Threads + Sync, F: Files, O: Sinks, L: Ledger>(
     out: &mut O,
     steps: &mut Steps<L>,
 ) -> Ended
-    requires first { IsFirst plan.now.platform.now plan.now.deployment.now
-        plan.now.terms.budget (script_in plan.now (F.shows files.old)) sim.old
+    requires beginning { IsBeginning plan.now (F.shows files.old) router.old sim.old
         (seat_views (λ b. mind b) seats.old) }
-    requires roads { AreRoadsOf plan.now.platform.now router.old }
     requires sound { O.faults out.old ≡ 0 }
     ensures output { ForSources plan.now.script (F.shows files.old) (F.shows files.new)
-        (λ source. IsRun (planned_output plan.now source) result
-        (O.contents out.old) (O.contents out.new) steps.old steps.new) }
-    ensures needed { ForSources plan.now.script (F.shows files.old) (F.shows files.new)
-        (λ source. IsReadOnDemand (planned_output plan.now source).need
-        (F.shows files.old) (F.shows files.new)) }
-    ensures cause { HasCause (result ≡ Ended.WriteFault) (result ≡ Ended.ReadFault)
-        (O.faults out.new) (HasBroken F.shows files.old files.new) }
+        (λ source. IsRun (planned_output plan.now source) result (O.contents out.old)
+        (O.contents out.new) steps.old steps.new (F.shows files.old) (F.shows files.new)) }
+    ensures cause { IsRunCause result (O.faults out.new) (F.shows files.old) (F.shows files.new) }
     ensures memory { result ≡ Ended.Memory →
         O.contents out.new Stream.Err ≡ O.contents out.old Stream.Err }
     ensures script { TakesScript F.shows plan.now.script files.old files.new }
@@ -144,19 +136,14 @@ pub fn run<R: Threads + Sync, F: Files, O: Sinks, L: Ledger>(
     requires budget { budget ≤ 1000000000 }
     requires threads { 0 < threads }
     requires begun { IsTrue setup.old.script → (F.shows files.old Part.Script).stage ≢ Fresh }
-    requires blank { All (λ b. mind b ≡ None) crew.old.items }
-    requires enough { length setup.old.deployment.actors ≤ length crew.old.items }
+    requires crew { HasContexts (λ b. mind b) crew.old.items setup.old.deployment }
     requires sound { O.faults out.old ≡ 0 }
     ensures output { ForSources setup.old.script (F.shows files.old) (F.shows files.new)
-        (λ source. IsRun (output_of setup.old budget show source) result
-        (O.contents out.old) (O.contents out.new) steps.old steps.new) }
+        (λ source. IsRun (output_of setup.old budget show source) result (O.contents out.old)
+        (O.contents out.new) steps.old steps.new (F.shows files.old) (F.shows files.new)) }
     ensures crew { result ≢ Ended.Memory →
         crew.new.items ≡ drop (contexts_of setup.old.deployment) crew.old.items }
-    ensures needed { ForSources setup.old.script (F.shows files.old) (F.shows files.new)
-        (λ source. IsReadOnDemand (output_of setup.old budget show source).need
-        (F.shows files.old) (F.shows files.new)) }
-    ensures cause { HasCause (result ≡ Ended.WriteFault) (result ≡ Ended.ReadFault)
-        (O.faults out.new) (HasBroken F.shows files.old files.new) }
+    ensures cause { IsRunCause result (O.faults out.new) (F.shows files.old) (F.shows files.new) }
     ensures memory { result ≡ Ended.Memory →
         O.contents out.new Stream.Err ≡ O.contents out.old Stream.Err }
     ensures script { TakesScript F.shows setup.old.script files.old files.new }

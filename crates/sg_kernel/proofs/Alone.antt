@@ -11,7 +11,7 @@ use Rattle.sg_sync.specs.Objects.{Done, locked, unlocked, acquired, released, ar
 use Rattle.sg_kernel.specs.declared.meetings.Comer.{Comer}
 use Rattle.sg_kernel.specs.World.{Setup, Core, whose_at}
 use Rattle.sg_kernel.specs.Steps.{counted}
-use Rattle.sg_kernel.specs.Meetings.{comer_of, sends_by, receives_by, answer_of_over, waits_by, waits_until}
+use Rattle.sg_kernel.specs.Meetings.{comer_of, side_of, sends_by, receives_by, answer_of_over, waits_by, waits_until}
 use Rattle.sg_kernel.specs.Locks.{caller_gets, all_wake, caller_first, caller_last, with_objects}
 use Rattle.sg_kernel.specs.Calls.{answered_call, actor_of}
 use Rattle.sg_kernel.specs.kept.Sound.{IsComer}
@@ -26,12 +26,12 @@ comes_limited ex one two e is =
 
 pub comer_limited : (ex : Extent) (actor : ℕ) (what : Call) (comer : Comer) → IsActorNumber ex actor → IsCall ex what → comer_of actor what ≡ Some comer → IsComer ex comer
 comer_limited ex actor call.Ask comer a h e = absurd (cc e)
-comer_limited ex actor (call.Compute n) comer a h e = absurd (cc e)
+comer_limited ex actor (call.Compute n p) comer a h e = absurd (cc e)
 comer_limited ex actor (call.Sleep n) comer a h e = absurd (cc e)
-comer_limited ex actor (call.Send b n m) comer a h e = comes_limited ex (sends_by actor (call.Send b n m) true b n m) comer e (record { what = record { told = tt; call = h }; side = record { actor = a; bytes = h.1; message = h.2 } })
-comer_limited ex actor (call.Recv b) comer a h e = comes_limited ex (receives_by actor (call.Recv b) true b) comer e (record { what = record { told = tt; call = h }; side = record { actor = a; bytes = omega arith; message = tt } })
-comer_limited ex actor (call.ISend b n m) comer a h e = comes_limited ex (sends_by actor (call.ISend b n m) false b n m) comer e (record { what = record { told = tt; call = h }; side = record { actor = a; bytes = h.1; message = h.2 } })
-comer_limited ex actor (call.IRecv b) comer a h e = comes_limited ex (receives_by actor (call.IRecv b) false b) comer e (record { what = record { told = tt; call = h }; side = record { actor = a; bytes = omega arith; message = tt } })
+comer_limited ex actor (call.Send b n m r) comer a h e = comes_limited ex (sends_by (side_of actor n m r) (call.Send b n m r) true b) comer e (record { what = record { told = tt; call = h }; side = record { actor = a; bytes = h.1; message = h.2; rate = h.3 } })
+comer_limited ex actor (call.Recv b) comer a h e = comes_limited ex (receives_by actor (call.Recv b) true b) comer e (record { what = record { told = tt; call = h }; side = record { actor = a; bytes = omega arith; message = tt; rate = omega arith } })
+comer_limited ex actor (call.ISend b n m r) comer a h e = comes_limited ex (sends_by (side_of actor n m r) (call.ISend b n m r) false b) comer e (record { what = record { told = tt; call = h }; side = record { actor = a; bytes = h.1; message = h.2; rate = h.3 } })
+comer_limited ex actor (call.IRecv b) comer a h e = comes_limited ex (receives_by actor (call.IRecv b) false b) comer e (record { what = record { told = tt; call = h }; side = record { actor = a; bytes = omega arith; message = tt; rate = omega arith } })
 comer_limited ex actor call.Wait comer a h e = absurd (cc e)
 comer_limited ex actor (call.Lock n) comer a h e = absurd (cc e)
 comer_limited ex actor (call.Unlock n) comer a h e = absurd (cc e)
@@ -49,11 +49,11 @@ same_actor one two e =
 -- the one that comes is the caller
 pub comer_actor : (actor : ℕ) (what : Call) (comer : Comer) → comer_of actor what ≡ Some comer → comer.side.actor.0 ≡ actor
 comer_actor actor call.Ask comer e = absurd (cc e)
-comer_actor actor (call.Compute n) comer e = absurd (cc e)
+comer_actor actor (call.Compute n p) comer e = absurd (cc e)
 comer_actor actor (call.Sleep n) comer e = absurd (cc e)
-comer_actor actor (call.Send b n m) comer e = same_actor (sends_by actor (call.Send b n m) true b n m) comer e
+comer_actor actor (call.Send b n m r) comer e = same_actor (sends_by (side_of actor n m r) (call.Send b n m r) true b) comer e
 comer_actor actor (call.Recv b) comer e = same_actor (receives_by actor (call.Recv b) true b) comer e
-comer_actor actor (call.ISend b n m) comer e = same_actor (sends_by actor (call.ISend b n m) false b n m) comer e
+comer_actor actor (call.ISend b n m r) comer e = same_actor (sends_by (side_of actor n m r) (call.ISend b n m r) false b) comer e
 comer_actor actor (call.IRecv b) comer e = same_actor (receives_by actor (call.IRecv b) false b) comer e
 comer_actor actor call.Wait comer e = absurd (cc e)
 comer_actor actor (call.Lock n) comer e = absurd (cc e)
@@ -81,11 +81,11 @@ waits_goes (Some on) actor core = waits_on (answer_of_over (whose_at core on.ser
 
 pub alone_goes : (roads : Roads) (setup : Setup) (core : Core) (actor : ℕ) (what : Call) → comer_of actor what ≡ None → (answered_call roads setup core actor what).stop ≡ None
 alone_goes roads setup core actor call.Ask e = refl
-alone_goes roads setup core actor (call.Compute n) e = refl
+alone_goes roads setup core actor (call.Compute n p) e = refl
 alone_goes roads setup core actor (call.Sleep n) e = refl
-alone_goes roads setup core actor (call.Send b n m) e = absurd (cc e)
+alone_goes roads setup core actor (call.Send b n m r) e = absurd (cc e)
 alone_goes roads setup core actor (call.Recv b) e = absurd (cc e)
-alone_goes roads setup core actor (call.ISend b n m) e = absurd (cc e)
+alone_goes roads setup core actor (call.ISend b n m r) e = absurd (cc e)
 alone_goes roads setup core actor (call.IRecv b) e = absurd (cc e)
 alone_goes roads setup core actor call.Wait e = waits_goes (oldest (queue_at core.requests actor)) actor (counted core)
 alone_goes roads setup core actor (call.Lock n) e = first_goes (locked (actor_of actor) n core.objects) actor (call.Lock n) (counted core)

@@ -32,6 +32,7 @@ sound_with fields doing whose boxes numbered few same was = record {
   requests_known = was.requests_known;
   requests_few = was.requests_few;
   extent_is = was.extent_is;
+  network_kept = was.network_kept;
 }
 
 pub held_with : (fields : Fields) (doing : Doing) (whose : Owned) (boxes : Posts) → AreHeld fields → AreHeld (record fields { doing = doing; whose = whose; boxes = boxes })

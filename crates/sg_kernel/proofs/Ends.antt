@@ -1,6 +1,5 @@
 -- Phases end one after another.
 use Rattle.std.proofs.Common.{◌≡◌, ◌≢◌, ℕ, Bool, true, false, cond, Option, None, Some, List, [], ◌∷◌, refl, sym, ap, ◌∙◌, append-nil}
-use Rattle.sg_base.specs.declared.call.Msg.TheVariants as msg
 use Rattle.sg_activity.specs.Task.{Task, phase_after, task_at}
 use Rattle.sg_mailbox.specs.declared.sides.Side.{Side}
 use Rattle.sg_base.specs.declared.awaits.Party.{Party}
@@ -13,7 +12,7 @@ use Rattle.sg_kernel.specs.declared.stop.Stop.TheVariants.{Budget}
 use Rattle.sg_kernel.specs.World.{Setup, Core, state_of, whose_at}
 use Rattle.sg_states.specs.Actors.{Blocking, blocking_in}
 use Rattle.sg_kernel.specs.Steps.{Step, stops, counted, each}
-use Rattle.sg_kernel.specs.Meetings.{side_of}
+use Rattle.sg_kernel.specs.Meetings.{bare_side}
 use Rattle.sg_kernel.specs.Passes.{is_on, for_receiver, answers_by, answers_side, answers, with_over, ends_in, ends_one, ends_by, ends}
 use Rattle.sg_kernel.specs.Known.{Known, after}
 use Rattle.sg_kernel.proofs.Each.{eq_no, eq_yes, then_after, both_on, still, still_stops, still_one, stops_one, each_stops}
@@ -39,7 +38,7 @@ after_both over serial sender receiver known =
 
 answers_goes : (over : How) (serial : ℕ) (whose : Whose) (core : Core) → (answers over serial whose core).stop ≡ None
 answers_goes over serial (Over before) core = refl
-answers_goes over serial (Alone actor) core = answers_side_goes over serial party.Alone (side_of actor.0 0 msg.Empty) core
+answers_goes over serial (Alone actor) core = answers_side_goes over serial party.Alone (bare_side actor.0) core
 answers_goes over serial (Posted mailbox sends side) core = refl
 answers_goes over serial (Pair sender receiver) core =
     both_on (answers_side over serial party.Sender sender core) (answers_side over serial party.Receiver (for_receiver sender receiver)) (answers_side_goes over serial party.Sender sender core)

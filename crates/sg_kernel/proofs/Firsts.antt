@@ -3,6 +3,7 @@ use Rattle.std.proofs.Common.{◌≡◌, ◌<◌, ◌≤◌, ◌+◌, ◌^◌, �
 use Rattle.std.specs.Prelude.{All}
 use Rattle.std.specs.List.{count_by, flat_map}
 use Rattle.std.proofs.lemmas.List.{length-map, length-replicate}
+use Rattle.std.proofs.Math.Nat.{mul-le-mul_left}
 use Rattle.std.proofs.lemmas.List.Elements.{All-nil, All-cons, All-append, All-map, All-replicate}
 use Rattle.sg_base.specs.declared.ids.ActorId.{ActorId}
 use Rattle.sg_base.specs.declared.ids.BoxId.{BoxId}
@@ -10,11 +11,13 @@ use Rattle.sg_base.specs.declared.ids.PointId.{PointId}
 use Rattle.sg_base.specs.declared.call.Answer.TheVariants as answer
 use Rattle.sg_base.specs.Limits.{Extent}
 use Rattle.sg_activity.specs.Doing.{Doing, idle_on}
-use Rattle.sg_activity.specs.declared.kinds.LinkCap.{LinkCap}
 use Rattle.sg_activity.specs.Links.{IsLink}
 use Rattle.sg_mailbox.specs.Posts.{waiting}
 use Rattle.sg_rows.specs.Deployment.{Deployed, IsDeployment, IsDeployedOn}
+use Rattle.sg_rows.specs.Ends.{link_ends}
+use Rattle.sg_rows.specs.Network.{IsNetwork, bandwidth_over}
 use Rattle.sg_rows.specs.Platform.{Platform, IsLinkRow}
+use Rattle.sg_rows.specs.declared.network.Network.{Network}
 use Rattle.sg_rows.specs.declared.rows.ActorRow.{ActorRow}
 use Rattle.sg_rows.specs.declared.rows.LinkRow.{LinkRow}
 use Rattle.sg_rows.specs.declared.rows.Policy.{Policy}
@@ -30,30 +33,35 @@ use Rattle.sg_kernel.specs.declared.owners.Whose.{Whose}
 use Rattle.sg_kernel.specs.Known.{Known, first_known}
 use Rattle.sg_kernel.specs.Meetings.{posts_from}
 use Rattle.sg_kernel.specs.kept.Owners.{Owned}
-use Rattle.sg_kernel.specs.Start.{host_cap, link_cap, caps_of, link_caps, home_of, capacity_of, replays, capacities_in, setup_of, first_objects}
+use Rattle.sg_kernel.specs.Start.{host_cap, link_cap, caps_in, caps_of, link_caps, home_of, capacity_of, replays, capacities_in, setup_of, first_objects}
 use Rattle.sg_kernel.specs.World.{extent}
 use Rattle.sg_kernel.specs.kept.Sound.{point_number, IsSound, HasRoom, known_of, setup_in, IsMade, IsOwner, AreMeeting, AreHeld, AreLimited}
 use Rattle.sg_states.specs.States.{ActorStates}
+use Rattle.sg_kernel.proofs.Over.{links_count}
 
 -- ---- links keep to their limits
-one_fits : (bandwidth : ℕ) → bandwidth ≤ 10 ^ 15 → All IsLink (link_cap bandwidth false ∷ [])
+one_fits : (bandwidth : ℕ) → bandwidth ≤ 10 ^ 18 → All IsLink (link_cap bandwidth false ∷ [])
 one_fits bandwidth fits = All-cons IsLink (link_cap bandwidth false) [] fits (All-nil IsLink)
 
-caps_fit : (policy : Policy) (bandwidth : ℕ) → bandwidth ≤ 10 ^ 15 → All IsLink (caps_of policy bandwidth)
+caps_fit : (policy : Policy) (bandwidth : ℕ) → bandwidth ≤ 10 ^ 18 → All IsLink (caps_of policy bandwidth)
 caps_fit Shared bandwidth fits = one_fits bandwidth fits
 caps_fit Fatpipe bandwidth fits = All-cons IsLink (link_cap bandwidth true) [] fits (All-nil IsLink)
 caps_fit SplitDuplex bandwidth fits = All-cons IsLink (link_cap bandwidth false) (link_cap bandwidth false ∷ []) fits (one_fits bandwidth fits)
 
-abbrev caps_in : LinkRow → List LinkCap
-caps_in row = caps_of row.policy row.bandwidth
+-- a factor of 1,000 at most takes 10^15 to 10^18
+bandwidth_fits : (network : Network) (bandwidth : ℕ) → IsNetwork network → bandwidth ≤ 10 ^ 15 → bandwidth_over network bandwidth ≤ 10 ^ 18
+bandwidth_fits network bandwidth kept fits =
+    omega (arith, fits, mul-le-mul_left bandwidth kept.bandwidth_factor)
 
-rows_fit : (rows : List LinkRow) → All IsLinkRow rows → All IsLink (flat_map caps_in rows)
-rows_fit [] fit = All-nil IsLink
-rows_fit (row ∷ rows) fit =
-    All-append IsLink (caps_in row) (flat_map caps_in rows) (caps_fit row.policy row.bandwidth (fit 0 row (omega arith)).bandwidth) (rows_fit rows (λ k d within. fit (suc k) d (omega (arith, within))))
+rows_fit : (network : Network) (rows : List LinkRow) → IsNetwork network → All IsLinkRow rows → All IsLink (flat_map (caps_in network) rows)
+rows_fit network [] kept fit = All-nil IsLink
+rows_fit network (row ∷ rows) kept fit =
+    All-append IsLink (caps_in network row) (flat_map (caps_in network) rows)
+    (caps_fit row.policy (bandwidth_over network row.bandwidth) (bandwidth_fits network row.bandwidth kept (fit 0 row (omega arith)).bandwidth))
+    (rows_fit network rows kept (λ k d within. fit (suc k) d (omega (arith, within))))
 
-pub links_fit : (rows : List LinkRow) → All IsLinkRow rows → All IsLink (link_caps rows)
-links_fit rows fit = All-append IsLink (flat_map caps_in rows) (link_cap 498000000 true ∷ []) (rows_fit rows fit) (All-cons IsLink (link_cap 498000000 true) [] (omega arith) (All-nil IsLink))
+pub links_fit : (network : Network) (rows : List LinkRow) → IsNetwork network → All IsLinkRow rows → All IsLink (link_caps network rows)
+links_fit network rows kept fit = All-append IsLink (flat_map (caps_in network) rows) (link_cap 498000000 true ∷ []) (rows_fit network rows kept fit) (All-cons IsLink (link_cap 498000000 true) [] (omega arith) (All-nil IsLink))
 
 -- ---- the fields at first
 abbrev pub first_states : ℕ → ℕ → ℕ → ActorStates
@@ -66,23 +74,24 @@ first_states actors mutexes semaphores = record {
 }
 
 pub record IsFirst (platform : Platform) (deployed : Deployed) (fields : Fields) : Type 0 where
-  pub doing : fields.doing ≡ idle_on (map host_cap platform.hosts) (link_caps platform.links)
+  pub doing : fields.doing ≡ idle_on (map host_cap platform.hosts) (link_caps platform.network platform.links)
   pub states : fields.states ≡ first_states (length deployed.actors) (length deployed.mutexes) (length deployed.semaphores)
   pub whose : fields.whose ≡ record { whose = []; room = 0 }
   pub boxes : (mailbox : BoxId) → waiting fields.boxes mailbox ≡ []
   pub requests : fields.requests ≡ record { queues = replicate (length deployed.actors) []; asked = 0; room = 0 }
   pub objects : fields.objects ≡ first_objects (setup_of platform deployed fields.budget)
   pub hosts : fields.hosts ≡ length (map host_cap platform.hosts)
-  pub links : fields.links ≡ length (link_caps platform.links)
+  pub links : fields.links ≡ length (link_caps platform.network platform.links)
+  pub network : fields.network ≡ platform.network
   pub homes : fields.homes.items ≡ map (λ (actor : ActorRow). actor.host) deployed.actors
   pub mutexes : fields.mutexes ≡ length deployed.mutexes
   pub semaphores : fields.semaphores.items ≡ map capacity_of deployed.semaphores
   pub members : fields.members ≡ count_by replays deployed.actors
   pub events : fields.events ≡ 0
 
-abbrev made_of : Doing → ActorStates → List Whose → List (List Await) → Objects → ℕ → ℕ → List ℕ → ℕ → List ℕ → ℕ → ℕ → ℕ → Known
-made_of doing states whose queues objects hosts links homes mutexes semaphores members budget events = record {
-  setup = record { hosts = hosts; links = links; homes = homes; mutexes = mutexes; semaphores = semaphores; members = members; budget = budget };
+abbrev made_of : Doing → ActorStates → List Whose → List (List Await) → Objects → ℕ → ℕ → Network → List ℕ → ℕ → List ℕ → ℕ → ℕ → ℕ → Known
+made_of doing states whose queues objects hosts links network homes mutexes semaphores members budget events = record {
+  setup = record { hosts = hosts; links = links; network = network; homes = homes; mutexes = mutexes; semaphores = semaphores; members = members; budget = budget };
   core = record { under = doing.under; actors = states.actors; whose = whose; requests = queues; objects = objects; events = events };
   records = states.records;
   room = states.room;
@@ -96,7 +105,7 @@ pub first_is : (platform : Platform) (deployed : Deployed) (fields : Fields) →
 first_is platform deployed fields is =
     let b = fields.budget in
     let n : length deployed.actors ≡ length (map home_of deployed.actors) = sym (length-map deployed.actors home_of) in
-    let d = idle_on (map host_cap platform.hosts) (link_caps platform.links) in
+    let d = idle_on (map host_cap platform.hosts) (link_caps platform.network platform.links) in
     let s = first_states (length (map home_of deployed.actors)) (length deployed.mutexes) (length deployed.semaphores) in
     let r : List (List Await) = replicate (length (map home_of deployed.actors)) [] in
     let o = first_objects (setup_of platform deployed b) in
@@ -106,19 +115,21 @@ first_is platform deployed fields is =
     let e = count_by replays deployed.actors in
     let p = fields in
     let x = length platform.hosts in
-    let y = length (link_caps platform.links) in
-    ap (λ v. made_of v p.states p.whose.whose p.requests.queues p.objects p.hosts p.links (map point_number p.homes.items) p.mutexes p.semaphores.items p.members b p.events) is.doing
-    ∙ ap (λ v. made_of d v p.whose.whose p.requests.queues p.objects p.hosts p.links (map point_number p.homes.items) p.mutexes p.semaphores.items p.members b p.events) (is.states ∙ ap (λ k. first_states k (length deployed.mutexes) (length deployed.semaphores)) n)
-    ∙ ap (λ (v : Owned). made_of d s v.whose p.requests.queues p.objects p.hosts p.links (map point_number p.homes.items) p.mutexes p.semaphores.items p.members b p.events) is.whose
-    ∙ ap (λ v. made_of d s [] v p.objects p.hosts p.links (map point_number p.homes.items) p.mutexes p.semaphores.items p.members b p.events) (ap (λ (q : Requested). q.queues) is.requests ∙ ap (λ k. replicate k []) n)
-    ∙ ap (λ v. made_of d s [] r v p.hosts p.links (map point_number p.homes.items) p.mutexes p.semaphores.items p.members b p.events) is.objects
-    ∙ ap (λ v. made_of d s [] r o v p.links (map point_number p.homes.items) p.mutexes p.semaphores.items p.members b p.events) (is.hosts ∙ length-map platform.hosts host_cap)
-    ∙ ap (λ v. made_of d s [] r o x v (map point_number p.homes.items) p.mutexes p.semaphores.items p.members b p.events) is.links
-    ∙ ap (λ v. made_of d s [] r o x y v p.mutexes p.semaphores.items p.members b p.events) (ap (map point_number) is.homes ∙ homes_first deployed.actors)
-    ∙ ap (λ v. made_of d s [] r o x y h v p.semaphores.items p.members b p.events) is.mutexes
-    ∙ ap (λ v. made_of d s [] r o x y h m v p.members b p.events) is.semaphores
-    ∙ ap (λ v. made_of d s [] r o x y h m c v b p.events) is.members
-    ∙ ap (λ v. made_of d s [] r o x y h m c e b v) is.events
+    let y = length (link_ends platform.links) in
+    let w = platform.network in
+    ap (λ v. made_of v p.states p.whose.whose p.requests.queues p.objects p.hosts p.links p.network (map point_number p.homes.items) p.mutexes p.semaphores.items p.members b p.events) is.doing
+    ∙ ap (λ v. made_of d v p.whose.whose p.requests.queues p.objects p.hosts p.links p.network (map point_number p.homes.items) p.mutexes p.semaphores.items p.members b p.events) (is.states ∙ ap (λ k. first_states k (length deployed.mutexes) (length deployed.semaphores)) n)
+    ∙ ap (λ (v : Owned). made_of d s v.whose p.requests.queues p.objects p.hosts p.links p.network (map point_number p.homes.items) p.mutexes p.semaphores.items p.members b p.events) is.whose
+    ∙ ap (λ v. made_of d s [] v p.objects p.hosts p.links p.network (map point_number p.homes.items) p.mutexes p.semaphores.items p.members b p.events) (ap (λ (q : Requested). q.queues) is.requests ∙ ap (λ k. replicate k []) n)
+    ∙ ap (λ v. made_of d s [] r v p.hosts p.links p.network (map point_number p.homes.items) p.mutexes p.semaphores.items p.members b p.events) is.objects
+    ∙ ap (λ v. made_of d s [] r o v p.links p.network (map point_number p.homes.items) p.mutexes p.semaphores.items p.members b p.events) (is.hosts ∙ length-map platform.hosts host_cap)
+    ∙ ap (λ v. made_of d s [] r o x v p.network (map point_number p.homes.items) p.mutexes p.semaphores.items p.members b p.events) (is.links ∙ sym (links_count platform.network platform.links))
+    ∙ ap (λ v. made_of d s [] r o x y v (map point_number p.homes.items) p.mutexes p.semaphores.items p.members b p.events) is.network
+    ∙ ap (λ v. made_of d s [] r o x y w v p.mutexes p.semaphores.items p.members b p.events) (ap (map point_number) is.homes ∙ homes_first deployed.actors)
+    ∙ ap (λ v. made_of d s [] r o x y w h v p.semaphores.items p.members b p.events) is.mutexes
+    ∙ ap (λ v. made_of d s [] r o x y w h m v p.members b p.events) is.semaphores
+    ∙ ap (λ v. made_of d s [] r o x y w h m c v b p.events) is.members
+    ∙ ap (λ v. made_of d s [] r o x y w h m c e b v) is.events
 
 pub first_hosts : (platform : Platform) (deployed : Deployed) (fields : Fields) → IsFirst platform deployed fields → IsDeployedOn platform deployed → All (λ (home : PointId). home.0 < length fields.doing.under.capacities.hosts) fields.homes.items
 first_hosts platform deployed fields is on =
@@ -192,8 +203,8 @@ first_extent platform deployed fields is =
     ∙ ap (λ n. extent_of (length (map point_number fields.homes.items)) n (length deployed.semaphores)) (sym is.mutexes)
     ∙ ap (λ n. extent_of (length (map point_number fields.homes.items)) fields.mutexes n) (sym semaphores)
 
-pub first_sound : (platform : Platform) (deployed : Deployed) (fields : Fields) → IsFirst platform deployed fields → IsDeployedOn platform deployed → fields.budget ≤ 10 ^ 9 → IsSound fields
-first_sound platform deployed fields is on budget =
+pub first_sound : (platform : Platform) (deployed : Deployed) (fields : Fields) → IsFirst platform deployed fields → IsDeployedOn platform deployed → IsNetwork platform.network → fields.budget ≤ 10 ^ 9 → IsSound fields
+first_sound platform deployed fields is on kept budget =
     let tasks : length fields.doing.under.tasks ≡ 0 = ap (λ (d : Doing). length d.under.tasks) is.doing in
     let states : length fields.states.actors ≡ length deployed.actors = ap (λ (q : ActorStates). length q.actors) is.states ∙ length-replicate (length deployed.actors) (Ready answer.Start) in
     record {
@@ -208,6 +219,7 @@ first_sound platform deployed fields is on budget =
       requests_known = ap (λ (q : Requested). length q.queues) is.requests ∙ length-replicate (length deployed.actors) [] ∙ sym states;
       requests_few = omega (arith, ap (λ (q : Requested). q.asked) is.requests);
       extent_is = first_extent platform deployed fields is;
+      network_kept = subst IsNetwork (sym is.network) kept;
     }
 
 pub first_roomy : (platform : Platform) (deployed : Deployed) (fields : Fields) → IsFirst platform deployed fields → HasRoom fields.states.room fields

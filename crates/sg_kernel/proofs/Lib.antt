@@ -7,6 +7,7 @@ pub mod Limits
 pub mod Meets
 pub mod Mets
 pub mod Moves
+pub mod Over
 pub mod Passed
 pub mod Postings
 pub mod PostsKept

@@ -56,6 +56,7 @@ sound_moved fields states actor state moves was =
       requests_known = was.requests_known ∙ sym long;
       requests_few = was.requests_few;
       extent_is = moves.extent ∙ was.extent_is;
+      network_kept = was.network_kept;
     }
 
 pub roomy_less : (fields : Fields) (states : ActorStates) (room less : ℕ) → less ≤ room → HasRoom room fields → HasRoom less (record fields { states = states })
@@ -124,6 +125,7 @@ whole_counted fields actor able =
         requests_known = sound.requests_known;
         requests_few = omega (arith, sound.requests_few);
         extent_is = sound.extent_is;
+        network_kept = sound.network_kept;
       };
       roomy = record { starts = was.roomy.starts; owners = was.roomy.owners; mailboxes = was.roomy.mailboxes; requests = was.roomy.requests };
       dated = omega (arith, was.dated);
@@ -165,6 +167,7 @@ steady_called fields objects actor able =
         requests_known = sound.requests_known;
         requests_few = sound.requests_few;
         extent_is = sound.extent_is;
+        network_kept = sound.network_kept;
       };
       roomy = record { starts = was.roomy.starts; owners = was.roomy.owners; mailboxes = was.roomy.mailboxes; requests = was.roomy.requests };
       dated = was.dated;

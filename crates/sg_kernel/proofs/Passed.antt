@@ -136,6 +136,7 @@ sound_states fields states extent same was = record {
   requests_known = was.requests_known ∙ sym (ap length same);
   requests_few = was.requests_few;
   extent_is = extent ∙ was.extent_is;
+  network_kept = was.network_kept;
 }
 
 pub held_states : (fields : Fields) (doing : Doing) (states : ActorStates) → states.actors ≡ fields.states.actors → AreHeld fields → AreHeld (record fields { doing = doing; states = states })
@@ -170,4 +171,5 @@ sound_later fields settled moved date is to was =
       requests_known = was.requests_known;
       requests_few = was.requests_few;
       extent_is = was.extent_is;
+      network_kept = was.network_kept;
     }

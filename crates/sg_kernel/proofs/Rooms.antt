@@ -55,6 +55,7 @@ whole_roomier fields doing whose boxes requests states is was =
         requests_known = ap length is.queues ∙ sound.requests_known ∙ sym (ap length is.actors);
         requests_few = omega (arith, is.asked, sound.requests_few);
         extent_is = is.extent_is ∙ sound.extent_is;
+        network_kept = sound.network_kept;
       };
       roomy = record { starts = is.starts_room; owners = is.owners_room; mailboxes = is.mailboxes_room; requests = is.requests_room };
       dated = omega (arith, ap (λ (u : Underway). u.date) is.tasks, was.dated);

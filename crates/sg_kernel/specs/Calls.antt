@@ -16,7 +16,7 @@ use Rattle.sg_states.specs.declared.state.State.TheVariants.{Ended}
 use Rattle.sg_kernel.specs.declared.owners.Whose.TheVariants.{Alone}
 use Rattle.sg_kernel.specs.World.{Setup, Core, host_of, with_state}
 use Rattle.sg_kernel.specs.Steps.{Step, goes_on, counted, unless_used, readied, blocked_by, at_once}
-use Rattle.sg_kernel.specs.Meetings.{sends_by, receives_by, comes, waits}
+use Rattle.sg_kernel.specs.Meetings.{side_of, sends_by, receives_by, comes, waits}
 use Rattle.sg_kernel.specs.Locks.{caller_first, caller_last}
 
 abbrev pub actor_of : ℕ → ActorId
@@ -32,15 +32,16 @@ blocks_on task actor what core =
     (record core { under = started task core.under; whose = core.whose ++ Alone (actor_of actor) ∷ [] })
 
 -- ---- what calls lead to, once they are counted
--- it computes on its host
-abbrev pub with_execution : Setup → ℕ → ℕ → Core → Core
-with_execution setup actor flops core = blocks_on (exec_of (host_of setup actor) flops) actor (call.Compute flops) core
+-- it computes on its host, and weighs there as much as its priority
+abbrev pub with_execution : Setup → ℕ → ℕ → ℕ → Core → Core
+with_execution setup actor flops priority core =
+    blocks_on (exec_of (host_of setup actor) flops priority) actor (call.Compute flops priority) core
 
-abbrev pub executes : Setup → ℕ → ℕ → Core → Step
-executes setup actor flops core = goes_on (with_execution setup actor flops core) []
+abbrev pub executes : Setup → ℕ → ℕ → ℕ → Core → Step
+executes setup actor flops priority core = goes_on (with_execution setup actor flops priority core) []
 
-abbrev pub computes : Setup → ℕ → ℕ → Core → Step
-computes setup actor flops core = executes setup actor flops core
+abbrev pub computes : Setup → ℕ → ℕ → ℕ → Core → Step
+computes setup actor flops priority core = executes setup actor flops priority core
 
 abbrev pub with_sleep : ℕ → ℕ → Core → Core
 with_sleep actor ns core = blocks_on (timer_of ns) actor (call.Sleep ns) core
@@ -52,11 +53,13 @@ leaves actor core = with_state actor Ended core
 -- the answer to a call; an Ask is refused where nobody tells the actor its next line
 abbrev pub answered_call : Roads → Setup → Core → ℕ → Call → Step
 answered_call roads setup core actor call.Ask = goes_on (readied actor answer.Refused (counted core)) []
-answered_call roads setup core actor (call.Compute flops) = computes setup actor flops (counted core)
+answered_call roads setup core actor (call.Compute flops priority) = computes setup actor flops priority (counted core)
 answered_call roads setup core actor (call.Sleep ns) = goes_on (with_sleep actor ns (counted core)) []
-answered_call roads setup core actor (call.Send mailbox bytes message) = comes roads setup (sends_by actor (call.Send mailbox bytes message) true mailbox bytes message) core
+answered_call roads setup core actor (call.Send mailbox bytes message rate) =
+    comes roads setup (sends_by (side_of actor bytes message rate) (call.Send mailbox bytes message rate) true mailbox) core
 answered_call roads setup core actor (call.Recv mailbox) = comes roads setup (receives_by actor (call.Recv mailbox) true mailbox) core
-answered_call roads setup core actor (call.ISend mailbox bytes message) = comes roads setup (sends_by actor (call.ISend mailbox bytes message) false mailbox bytes message) core
+answered_call roads setup core actor (call.ISend mailbox bytes message rate) =
+    comes roads setup (sends_by (side_of actor bytes message rate) (call.ISend mailbox bytes message rate) false mailbox) core
 answered_call roads setup core actor (call.IRecv mailbox) = comes roads setup (receives_by actor (call.IRecv mailbox) false mailbox) core
 answered_call roads setup core actor call.Wait = waits actor (counted core)
 answered_call roads setup core actor (call.Lock mutex) = caller_first (locked (actor_of actor) mutex core.objects) actor (call.Lock mutex) (counted core)

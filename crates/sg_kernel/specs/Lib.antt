@@ -1,5 +1,6 @@
 pub mod World
 pub mod Steps
+pub mod Network
 pub mod Meetings
 pub mod Locks
 pub mod Calls

@@ -10,7 +10,7 @@ use Rattle.sg_base.specs.declared.call.Msg.TheVariants as msg
 use Rattle.sg_base.specs.declared.ids.BoxId.{BoxId}
 use Rattle.sg_base.specs.declared.ids.PointId.{PointId}
 use Rattle.sg_base.specs.declared.ids.Serial.{Serial}
-use Rattle.sg_activity.specs.Task.{comm_of}
+use Rattle.sg_activity.specs.Task.{Task, comm_of}
 use Rattle.sg_activity.specs.Underway.{begun, drawn}
 use Rattle.sg_mailbox.specs.declared.sides.Side.{Side}
 use Rattle.sg_mailbox.specs.declared.sides.Post.{Post}
@@ -29,6 +29,7 @@ use Rattle.sg_kernel.specs.declared.stop.Stop.{Stop}
 use Rattle.sg_kernel.specs.declared.stop.Stop.TheVariants as stop
 use Rattle.sg_kernel.specs.declared.owners.Whose.{Whose}
 use Rattle.sg_kernel.specs.declared.owners.Whose.TheVariants.{Over, Alone, Posted, Pair}
+use Rattle.sg_kernel.specs.Network.{latency_over, own_bound}
 use Rattle.sg_kernel.specs.World.{Setup, Core, host_of, whose_at}
 use Rattle.sg_kernel.specs.Steps.{Step, goes_on, stops, counted, blocked_by, at_once}
 
@@ -48,8 +49,14 @@ abbrev pub posts_at : BoxId → Core → List Post
 posts_at mailbox core = posts_from mailbox 1 core.whose
 
 -- ---- an actor takes part in a communication
-abbrev pub side_of : ℕ → ℕ → Msg → Side
-side_of actor bytes message = record { actor = record { 0 = actor }; bytes = bytes; msg = message }
+-- the rate is that of the sender; 0 stands for none
+abbrev pub side_of : ℕ → ℕ → Msg → ℕ → Side
+side_of actor bytes message rate =
+    record { actor = record { 0 = actor }; bytes = bytes; msg = message; rate = rate }
+
+-- a side that brings nothing
+abbrev pub bare_side : ℕ → Side
+bare_side actor = side_of actor 0 msg.Empty 0
 
 abbrev pub party_of : Bool → Party
 party_of true = Sender
@@ -69,16 +76,20 @@ takes_part false comer serial core =
     at_once comer.side.actor.0 comer.what comer.side.bytes answer.Done (asks_for comer.side.actor.0 (await serial comer.sends) core)
 
 -- ---- a side comes to a mailbox
-abbrev pub sends_by : ℕ → Call → Bool → BoxId → ℕ → Msg → Comer
-sends_by actor what waits mailbox bytes message = record { what = what; mailbox = mailbox; sends = true; waits = waits; side = side_of actor bytes message }
+abbrev pub sends_by : Side → Call → Bool → BoxId → Comer
+sends_by side what waits mailbox =
+    record { what = what; mailbox = mailbox; sends = true; waits = waits; side = side }
 
 abbrev pub receives_by : ℕ → Call → Bool → BoxId → Comer
-receives_by actor what waits mailbox = record { what = what; mailbox = mailbox; sends = false; waits = waits; side = side_of actor 0 msg.Empty }
+receives_by actor what waits mailbox =
+    record { what = what; mailbox = mailbox; sends = false; waits = waits; side = bare_side actor }
 
 -- the side that comes by a call, where it is one of a communication
 abbrev pub comer_of : ℕ → Call → Option Comer
-comer_of actor (call.Send mailbox bytes message) = Some (sends_by actor (call.Send mailbox bytes message) true mailbox bytes message)
-comer_of actor (call.ISend mailbox bytes message) = Some (sends_by actor (call.ISend mailbox bytes message) false mailbox bytes message)
+comer_of actor (call.Send mailbox bytes message rate) =
+    Some (sends_by (side_of actor bytes message rate) (call.Send mailbox bytes message rate) true mailbox)
+comer_of actor (call.ISend mailbox bytes message rate) =
+    Some (sends_by (side_of actor bytes message rate) (call.ISend mailbox bytes message rate) false mailbox)
 comer_of actor (call.Recv mailbox) = Some (receives_by actor (call.Recv mailbox) true mailbox)
 comer_of actor (call.IRecv mailbox) = Some (receives_by actor (call.IRecv mailbox) false mailbox)
 comer_of actor other = None
@@ -93,10 +104,16 @@ receiver_of comer other = if comer.sends then other else comer.side
 abbrev pub posted : Comer → Core → Core
 posted comer core = record core { under = drawn core.under; whose = core.whose ++ Posted comer.mailbox comer.sends comer.side ∷ [] }
 
+-- what a sender sends over a route: the rate is the sender's alone
+abbrev pub comm_over : Setup → Route → Side → Task
+comm_over setup route sender =
+    comm_of (record { links = route.links }) (latency_over setup route) sender.bytes
+    (own_bound setup route sender.rate)
+
 -- both sides are there: the communication begins over its route
-abbrev pub joined : ℕ → Route → Side → Side → Core → Core
-joined serial route sender receiver core = record core {
-  under = begun serial (comm_of (record { links = route.links }) route.latency sender.bytes) core.under;
+abbrev pub joined : Setup → ℕ → Route → Side → Side → Core → Core
+joined setup serial route sender receiver core = record core {
+  under = begun serial (comm_over setup route sender) core.under;
   whose = slice_set core.whose (serial - 1) (Pair sender receiver);
 }
 
@@ -113,7 +130,8 @@ stop_of from to fault.TooLong = stop.TooLong from to
 
 abbrev pub joins_with : Route → Setup → Comer → Serial → Side → Core → Step
 joins_with route setup comer serial other core =
-    takes_part comer.waits comer serial.0 (joined serial.0 route (sender_of comer other) (receiver_of comer other) core)
+    takes_part comer.waits comer serial.0
+    (joined setup serial.0 route (sender_of comer other) (receiver_of comer other) core)
 
 abbrev pub joins_on : Route → Setup → Comer → Post → Core → Step
 joins_on route setup comer post core = joins_with route setup comer post.serial post.side core

@@ -5,7 +5,6 @@ use Rattle.sg_base.specs.declared.call.Answer.TheVariants as answer
 use Rattle.sg_base.specs.declared.call.Call.{Call}
 use Rattle.sg_base.specs.declared.call.Call.TheVariants as call
 use Rattle.sg_base.specs.declared.call.Msg.{Msg}
-use Rattle.sg_base.specs.declared.call.Msg.TheVariants as msg
 use Rattle.sg_activity.specs.Task.{Task, phase_after, task_at}
 use Rattle.sg_activity.specs.Underway as underway
 use Rattle.sg_activity.specs.Underway.{due_in, is_running, later, next_in, with_task}
@@ -23,7 +22,7 @@ use Rattle.sg_kernel.specs.declared.stop.Stop.TheVariants.{Deadlock, Starved}
 use Rattle.sg_kernel.specs.World.{Setup, Core, state_of, whose_at}
 use Rattle.sg_states.specs.Actors.{Blocking, blocking_in}
 use Rattle.sg_kernel.specs.Steps.{Step, goes_on, stops, counted, unless_used, and_then, each, all_of, replied}
-use Rattle.sg_kernel.specs.Meetings.{side_of}
+use Rattle.sg_kernel.specs.Meetings.{bare_side}
 
 -- ---- who is answered when an activity is done
 abbrev pub party_eq : Party → Party → Bool
@@ -36,7 +35,7 @@ is_on serial side (Some on) = (on.serial.0 == serial) && party_eq on.party side
 
 -- whether a call is a send or a receive that waits, whose record tells the bytes
 abbrev pub tells_bytes : Call → Bool
-tells_bytes (call.Send mailbox bytes message) = true
+tells_bytes (call.Send mailbox bytes message rate) = true
 tells_bytes (call.Recv mailbox) = true
 tells_bytes other = false
 
@@ -67,7 +66,7 @@ for_receiver sender receiver = record sender { actor = receiver.actor }
 -- of a communication the sending side is answered, and then the receiving side
 abbrev pub answers : How → ℕ → Whose → Core → Step
 answers over serial (Over before) core = goes_on core []
-answers over serial (Alone actor) core = answers_side over serial party.Alone (side_of actor.0 0 msg.Empty) core
+answers over serial (Alone actor) core = answers_side over serial party.Alone (bare_side actor.0) core
 answers over serial (Posted mailbox sends side) core = goes_on core []
 answers over serial (Pair sender receiver) core = and_then (answers_side over serial Sender sender core) (answers_side over serial Receiver (for_receiver sender receiver))
 

@@ -1,16 +1,16 @@
 -- Roads on which communications can begin.
-use Rattle.std.specs.Prelude.{◌≡◌, ◌≢◌, ℕ, ◌<◌, ◌≤◌, ◌^◌, Ok, [], length, All}
+use Rattle.std.specs.Prelude.{◌≡◌, ◌≢◌, ℕ, ◌<◌, ◌≤◌, Ok, [], length, All}
 use Rattle.sg_base.specs.declared.ids.LinkId.{LinkId}
 use Rattle.sg_base.specs.declared.ids.PointId.{PointId}
 use Rattle.sg_route.specs.Roads.{Roads}
 use Rattle.sg_route.specs.Route.{Route, route_of}
 
--- a route over 1 to 64 of so many links
+-- a route over 1 to 64 of so many links, whose latency is at most 64 times that of a link
 pub record IsOver (links : ℕ) (route : Route) : Type 0 where
   pub some : route.links ≢ []
   pub few : length route.links ≤ 64
   pub exist : All (λ (link : LinkId). link.0 < links) route.links
-  pub latency : route.latency ≤ 10 ^ 20
+  pub latency : route.latency ≤ 64000000000000000
 
 -- all routes are over so many links
 abbrev pub AreOver : ℕ → Roads → Type 0

@@ -14,7 +14,10 @@ use Rattle.sg_rows.specs.declared.rows.LinkRow.{LinkRow}
 use Rattle.sg_rows.specs.declared.rows.Policy.{Policy}
 use Rattle.sg_rows.specs.declared.rows.Policy.TheVariants.{Shared, Fatpipe, SplitDuplex}
 use Rattle.sg_rows.specs.declared.rows.SemaphoreRow.{SemaphoreRow}
+use Rattle.sg_rows.specs.declared.network.Network.{Network}
 use Rattle.sg_rows.specs.Deployment.{Deployed}
+use Rattle.sg_rows.specs.Ends.{link_ends}
+use Rattle.sg_rows.specs.Network.{bandwidth_over}
 use Rattle.sg_rows.specs.Platform.{Platform}
 use Rattle.sg_sync.specs.Objects.{Objects}
 use Rattle.sg_states.specs.declared.state.State.TheVariants.{Ready}
@@ -32,9 +35,13 @@ caps_of Shared bandwidth = link_cap bandwidth false ∷ []
 caps_of Fatpipe bandwidth = link_cap bandwidth true ∷ []
 caps_of SplitDuplex bandwidth = link_cap bandwidth false ∷ link_cap bandwidth false ∷ []
 
--- the links of all rows, and last the loopback, a FATPIPE link of 498,000,000 bytes a second
-abbrev pub link_caps : List LinkRow → List LinkCap
-link_caps rows = flat_map (λ row. caps_of row.policy row.bandwidth) rows ++ link_cap 498000000 true ∷ []
+-- the links of a row, whose bandwidth has the factor
+abbrev pub caps_in : Network → LinkRow → List LinkCap
+caps_in network row = caps_of row.policy (bandwidth_over network row.bandwidth)
+
+-- the links of all rows, and last the loopback, a FATPIPE link of 498,000,000 bytes a second without the factor
+abbrev pub link_caps : Network → List LinkRow → List LinkCap
+link_caps network rows = flat_map (caps_in network) rows ++ link_cap 498000000 true ∷ []
 
 abbrev pub home_of : ActorRow → ℕ
 home_of actor = actor.host.0
@@ -53,13 +60,15 @@ capacity_of semaphore = semaphore.capacity
 
 -- the hosts and links of a platform
 abbrev pub capacities_in : Platform → Capacities
-capacities_in platform = record { hosts = map host_cap platform.hosts; links = link_caps platform.links }
+capacities_in platform =
+    record { hosts = map host_cap platform.hosts; links = link_caps platform.network platform.links }
 
 -- what is simulated; the barrier has as many members as there are replay actors
 abbrev pub setup_of : Platform → Deployed → ℕ → Setup
 setup_of platform deployed budget = record {
   hosts = length platform.hosts;
-  links = length (link_caps platform.links);
+  links = length (link_ends platform.links);
+  network = platform.network;
   homes = map home_of deployed.actors;
   mutexes = length deployed.mutexes;
   semaphores = map capacity_of deployed.semaphores;

@@ -4,6 +4,7 @@ use Rattle.sg_base.specs.declared.awaits.Await.{Await}
 use Rattle.sg_base.specs.Limits.{Extent}
 use Rattle.sg_base.specs.Mind.{Mind}
 use Rattle.sg_activity.specs.Underway.{Underway}
+use Rattle.sg_rows.specs.declared.network.Network.{Network}
 use Rattle.sg_states.specs.declared.state.State.{State}
 use Rattle.sg_states.specs.Actors.{put_state, state_at}
 use Rattle.sg_states.specs.Actors as among
@@ -12,10 +13,11 @@ use Rattle.sg_kernel.specs.declared.owners.How.TheVariants as how
 use Rattle.sg_kernel.specs.declared.owners.Whose.{Whose}
 use Rattle.sg_kernel.specs.declared.owners.Whose.TheVariants.{Over}
 
--- what stays: how many hosts and links there are, the host of each actor, how many mutexes there are, the capacity of each semaphore, how many members the barrier has, and how many events there may be
+-- what stays: how many hosts and links there are, what the network does to latencies and bandwidths, the host of each actor, how many mutexes there are, the capacity of each semaphore, how many members the barrier has, and how many events there may be
 pub record Setup : Type 0 where
   pub hosts : ℕ
   pub links : ℕ
+  pub network : Network
   pub homes : List ℕ
   pub mutexes : ℕ
   pub semaphores : List ℕ

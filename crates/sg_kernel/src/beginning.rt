@@ -59,7 +59,8 @@ pub(crate) fn first_fields(
     ensures whole { IfOk result (λ fields. IsWhole fields) }
 {
     let hosts = hosts(alloc, platform.hosts())?;
-    let links = links(alloc, platform.links())?;
+    let network = platform.network();
+    let links = links(alloc, network, platform.links())?;
     let semaphores = capacities(alloc, deployment.semaphores())?;
     let mutexes = deployment.mutexes().len();
     let actors = deployment.actors().len();
@@ -76,6 +77,7 @@ pub(crate) fn first_fields(
         objects,
         hosts: hosts.len(),
         links: links.len(),
+        network,
         homes,
         mutexes,
         semaphores,

@@ -34,7 +34,7 @@ fn answer_alone(fields: &mut Fields, actor: ActorId, call: Call)
 {
     match call {
         Call::Ask => go_on(fields, actor, Answer::Refused),
-        Call::Compute(flops) => compute(fields, actor, flops),
+        Call::Compute(flops, priority) => compute(fields, actor, flops, priority),
         Call::Sleep(ns) => sleep(fields, actor, ns),
         Call::Wait => wait(fields, actor),
         Call::Lock(mutex) => lock(fields, actor, mutex),

@@ -4,6 +4,7 @@ use sg_activity::Activities;
 use sg_base::PointId;
 use sg_mailbox::Boxes;
 use sg_requests::Requests;
+use sg_rows::Network;
 use sg_states::States;
 use sg_sync::Sync;
 
@@ -23,6 +24,7 @@ pub(crate) struct Fields {
     pub(crate) hosts: usize,
     /// How many links there are, with the loopback.
     pub(crate) links: usize,
+    pub(crate) network: Network,
     /// The host of each actor.
     pub(crate) homes: Vec<PointId>,
     /// How many mutexes there are.

@@ -1,5 +1,12 @@
-//! Laws of the worlds for which a kernel stands, each the contract of a function that does nothing.
+//! Laws of kernels and of the worlds for which they stand, each the contract of a function that does nothing.
+ghost use Rattle.std.specs.Prelude.{◌≡◌, length};
+ghost use Rattle.sg_route.specs.Roads.{roads_of};
+ghost use Rattle.sg_rows.specs.Ends.{link_ends};
 ghost use Rattle.sg_kernel.specs.Known.{StandsAtFirst, StepsLead};
+ghost use Rattle.sg_kernel.specs.Roads.{AreOver};
+
+use sg_route::{Router, routes_are_good};
+use sg_rows::PlatformText;
 
 /// A new kernel stands for the first world.
 pub fn stands_at_first()
@@ -11,3 +18,12 @@ pub fn stands_at_first()
 pub fn steps_lead()
     ensures { StepsLead }
 {}
+
+/// All routes of a platform's router are such as its kernels ask for: over 1 to 64 of its links, and with a latency
+/// that a factor can't take past its limit.
+pub fn roads_are_over(platform: &PlatformText, router: &Router)
+    requires roads { router.now ≡ roads_of platform.now }
+    ensures { AreOver (length (link_ends platform.now.links)) router.now }
+{
+    routes_are_good(platform);
+}

@@ -10,12 +10,13 @@ mod kernel;
 mod laws;
 mod locks;
 mod meetings;
+mod network;
 mod owners;
 mod passes;
 mod setup;
 mod stop;
 
 pub use kernel::Kernel;
-pub use laws::{stands_at_first, steps_lead};
+pub use laws::{roads_are_over, stands_at_first, steps_lead};
 pub use owners::{How, Whose};
 pub use stop::Stop;

@@ -8,7 +8,7 @@ ghost use Rattle.sg_states.specs.Records.{IsTellable};
 ghost use Rattle.sg_states.specs.States.{CanCall};
 ghost use Rattle.sg_kernel.specs.World.{extent};
 ghost use Rattle.sg_kernel.specs.Steps.{blocked_by, result_of};
-ghost use Rattle.sg_kernel.specs.Meetings.{answer_of_over as answer_of_over_spec, comer_of, joins_with, party_of, point_of, posts, receiver_of, receives_by, sender_of, sends_by, stop_of, takes_part, waits as waits_spec};
+ghost use Rattle.sg_kernel.specs.Meetings.{answer_of_over as answer_of_over_spec, bare_side, comer_of, joins_with, party_of, point_of, posts, receiver_of, receives_by, sender_of, sends_by, side_of, stop_of, takes_part, waits as waits_spec};
 ghost use Rattle.sg_kernel.specs.Known.{after_call};
 ghost use Rattle.sg_kernel.specs.Roads.{AreOver, IsOver};
 ghost use Rattle.sg_kernel.specs.kept.Sound.{core_of, known_of, setup_in, comes_in, CallsBy, CountsBy, IsComer};
@@ -16,6 +16,7 @@ ghost use Rattle.sg_kernel.specs.kept.Whole.{CanStep, IsWhole, IsWholeFor};
 
 use crate::at_once::answer_now;
 use crate::fields::Fields;
+use crate::network::{latency_over, own_bound};
 use crate::owners::{How, Whose};
 use crate::stop::Stop;
 use arrayvec::ArrayVec;
@@ -35,15 +36,33 @@ pub struct Comer {
     pub side: Side,
 }
 
-fn sends_by(actor: ActorId, what: Call, waits: bool, mailbox: BoxId, bytes: u64, msg: Msg) -> Comer
-    ensures { result ≡ sends_by actor.0 what waits mailbox bytes msg }
+fn side_of(actor: ActorId, bytes: u64, msg: Msg, rate: u64) -> Side
+    ensures { result ≡ side_of actor.0 bytes msg rate }
+{
+    Side {
+        actor,
+        bytes,
+        msg,
+        rate,
+    }
+}
+
+/// A side that brings nothing.
+pub(crate) fn bare_side(actor: ActorId) -> Side
+    ensures { result ≡ bare_side actor.0 }
+{
+    side_of(actor, 0, Msg::Empty, 0)
+}
+
+fn sends_by(side: Side, what: Call, waits: bool, mailbox: BoxId) -> Comer
+    ensures { result ≡ sends_by side what waits mailbox }
 {
     Comer {
         what,
         mailbox,
         sends: true,
         waits,
-        side: Side { actor, bytes, msg },
+        side,
     }
 }
 
@@ -55,11 +74,7 @@ fn receives_by(actor: ActorId, what: Call, waits: bool, mailbox: BoxId) -> Comer
         mailbox,
         sends: false,
         waits,
-        side: Side {
-            actor,
-            bytes: 0,
-            msg: Msg::Empty,
-        },
+        side: bare_side(actor),
     }
 }
 
@@ -68,8 +83,14 @@ pub(crate) fn comer_of(actor: ActorId, call: Call) -> Option<Comer>
     ensures { result ≡ comer_of actor.0 call }
 {
     match call {
-        Call::Send(mailbox, bytes, msg) => Some(sends_by(actor, call, true, mailbox, bytes, msg)),
-        Call::ISend(mailbox, bytes, msg) => Some(sends_by(actor, call, false, mailbox, bytes, msg)),
+        Call::Send(mailbox, bytes, msg, rate) => {
+            let side = side_of(actor, bytes, msg, rate);
+            Some(sends_by(side, call, true, mailbox))
+        }
+        Call::ISend(mailbox, bytes, msg, rate) => {
+            let side = side_of(actor, bytes, msg, rate);
+            Some(sends_by(side, call, false, mailbox))
+        }
         Call::Recv(mailbox) => Some(receives_by(actor, call, true, mailbox)),
         Call::IRecv(mailbox) => Some(receives_by(actor, call, false, mailbox)),
         _ => None,
@@ -196,15 +217,17 @@ fn begin(
     ensures whole { IsWhole fields.new }
 {
     let (serial, other) = met;
+    let sender = sender_of(comer, other);
+    let lasts = latency_over(fields, links, latency);
+    let bound = own_bound(fields, links, latency, sender.rate);
     fields.events += 1;
     let next = fields.doing.next_serial();
     fields
         .boxes
         .enter(comer.mailbox, comer.sends, found, comer.side, next);
-    let sender = sender_of(comer, other);
     fields
         .doing
-        .start_comm(serial, links, latency, sender.bytes);
+        .start_comm(serial, links, lasts, sender.bytes, bound);
     fields
         .whose
         .put(serial, Whose::Pair(sender, receiver_of(comer, other)));

@@ -4,20 +4,19 @@ ghost use Rattle.std.specs.Prelude.{◌≡◌, ◌≢◌, ◌+◌, ◌<◌, [], 
 ghost use Rattle.sg_activity.specs.declared.kinds.PhaseKind.TheVariants as phase_kind;
 ghost use Rattle.sg_activity.specs.Doing.{IsDue};
 ghost use Rattle.sg_activity.specs.Underway.{is_running};
-ghost use Rattle.sg_base.specs.declared.call.Msg.TheVariants as msg;
 ghost use Rattle.sg_kernel.specs.declared.owners.How.TheVariants as how;
 ghost use Rattle.sg_kernel.specs.World.{extent};
 ghost use Rattle.sg_kernel.specs.Steps.{each, result_of};
-ghost use Rattle.sg_kernel.specs.Meetings.{side_of};
 ghost use Rattle.sg_kernel.specs.Passes.{answer_of_done as answer_of_done_spec, answers, answers_side, ends, ends_one, tells_bytes as tells_bytes_spec};
 ghost use Rattle.sg_kernel.specs.kept.Sound.{core_of, setup_in, IsOwner, IsSide, StepsBy};
 ghost use Rattle.sg_kernel.specs.kept.Whole.{IsPassing};
 
 use crate::fields::Fields;
+use crate::meetings::bare_side;
 use crate::owners::Whose;
 use crate::stop::Stop;
 use sg_activity::{Activities, Phase, PhaseKind};
-use sg_base::{ActorId, Answer, Call, Msg, Party, Serial};
+use sg_base::{Answer, Call, Msg, Party, Serial};
 use sg_mailbox::Side;
 use sg_states::State;
 
@@ -79,16 +78,6 @@ fn answer_side(fields: &mut Fields, serial: Serial, party: Party, given: Side)
     }
 }
 
-fn side_of(actor: ActorId) -> Side
-    ensures { result ≡ side_of actor.0 0 msg.Empty }
-{
-    Side {
-        actor,
-        bytes: 0,
-        msg: Msg::Empty,
-    }
-}
-
 // Answers those whose activity is done: the sender, and then the receiver.
 fn answer_owners(fields: &mut Fields, serial: Serial, whose: Whose)
     requires whose { IsOwner (extent (setup_in fields.old)) whose }
@@ -99,7 +88,7 @@ fn answer_owners(fields: &mut Fields, serial: Serial, whose: Whose)
     ensures events { fields.new.events ≡ fields.old.events }
 {
     match whose {
-        Whose::Alone(actor) => answer_side(fields, serial, Party::Alone, side_of(actor)),
+        Whose::Alone(actor) => answer_side(fields, serial, Party::Alone, bare_side(actor)),
         Whose::Pair(sender, receiver) => {
             answer_side(fields, serial, Party::Sender, sender);
             let given = Side {

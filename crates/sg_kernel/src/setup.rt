@@ -1,11 +1,13 @@
 //! What a platform and a deployment give to a simulation.
-ghost use Rattle.std.specs.Prelude.{◌≡◌, ◌≤◌, IfOk, length, map};
+ghost use Rattle.std.specs.Prelude.{◌≡◌, ◌≤◌, All, IfOk, length, map};
 ghost use Rattle.std.specs.List.{count_by};
+ghost use Rattle.sg_rows.specs.Network.{IsNetwork};
+ghost use Rattle.sg_rows.specs.Platform.{IsLinkRow};
 ghost use Rattle.sg_kernel.specs.Start.{capacity_of, host_cap, is_replay, link_cap, link_caps, replays};
 
 use sg_activity::{HostCap, LinkCap};
 use sg_base::{Memory, PointId};
-use sg_rows::{ActorRow, Function, HostRow, LinkRow, Policy, SemaphoreRow};
+use sg_rows::{ActorRow, Function, HostRow, LinkRow, Network, Policy, SemaphoreRow};
 use std::alloc::Global;
 
 /// The bandwidth of the loopback, in bytes a second.
@@ -30,18 +32,25 @@ fn link(bandwidth: u64, fatpipe: bool) -> LinkCap
     LinkCap { bandwidth, fatpipe }
 }
 
-/// The links in declared order, and last the loopback.
-pub(crate) fn links(alloc: Global, rows: &[LinkRow]) -> Result<Vec<LinkCap>, Memory>
-    ensures { IfOk result (λ links. links.items ≡ link_caps rows.now) }
+/// The links in declared order, whose bandwidths have the network's factor, and last the loopback, which has none.
+pub(crate) fn links(
+    alloc: Global,
+    network: Network,
+    rows: &[LinkRow],
+) -> Result<Vec<LinkCap>, Memory>
+    requires network { IsNetwork network }
+    requires rows { All IsLinkRow rows.now }
+    ensures { IfOk result (λ links. links.items ≡ link_caps network rows.now) }
 {
     let mut links = Vec::new(alloc);
     for row in rows {
+        let bandwidth = network.bandwidth_over(row.bandwidth);
         match row.policy {
-            Policy::Shared => links.push(link(row.bandwidth, false))?,
-            Policy::Fatpipe => links.push(link(row.bandwidth, true))?,
+            Policy::Shared => links.push(link(bandwidth, false))?,
+            Policy::Fatpipe => links.push(link(bandwidth, true))?,
             Policy::SplitDuplex => {
-                links.push(link(row.bandwidth, false))?;
-                links.push(link(row.bandwidth, false))?;
+                links.push(link(bandwidth, false))?;
+                links.push(link(bandwidth, false))?;
             }
         }
     }

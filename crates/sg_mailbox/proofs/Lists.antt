@@ -1,17 +1,19 @@
 -- Who waits in a queue, as one comes and as one leaves.
-use Rattle.std.proofs.Common.{◌≡◌, ◌≢◌, ℕ, zero, suc, ◌+◌, ◌<◌, inl, inr, Bool, true, false, not, ◌||◌, cond, eqb, Option, None, Some, List, [], ◌∷◌, ◌++◌, length, get_or, refl, sym, ap, subst, ◌∙◌, arith}
-use Rattle.std.specs.Prelude.{All, AllPairs, map, filter, is_some}
+use Rattle.std.proofs.Common.{◌≡◌, ◌≢◌, ℕ, zero, suc, ◌+◌, ◌<◌, inl, inr, Bool, true, false, not, cond, eqb, None, Some, List, [], ◌∷◌, ◌++◌, length, get_or, refl, sym, ap, subst, ◌∙◌, arith}
+use Rattle.std.specs.Prelude.{All, AllPairs, map, is_some}
 use Rattle.std.specs.List.{find}
 use Rattle.std.proofs.lemmas.Bool.{cases_Bool, eq-eqb, ne_eqb, eqb-true}
 use Rattle.std.proofs.lemmas.Bool.Decides.{nat_tests}
 use Rattle.std.proofs.lemmas.List.{length_push, get_or_push, get_or_append_left}
 use Rattle.std.proofs.lemmas.List.Elements.{All-nil, All-cons, All-head, All-tail}
+use Rattle.std.proofs.lemmas.Map.Views.{any-filter_same}
 use Rattle.std.proofs.Math.Bool.{beq}
 use Rattle.sg_base.specs.declared.ids.BoxId.{BoxId}
 use Rattle.sg_base.specs.declared.ids.BoxId.TheVariants.{Pair, Named}
 use Rattle.sg_base.specs.declared.ids.Serial.{Serial}
-use Rattle.sg_queues.specs.Rings.{front, behind}
+use Rattle.sg_queues.specs.Rings.{front}
 use Rattle.sg_queues.specs.Queues.{holds, value, without_slot}
+use Rattle.sg_queues.proofs.Lists.{without_none}
 use Rattle.sg_mailbox.specs.declared.sides.Post.{Post}
 use Rattle.sg_mailbox.specs.Posts.{box_eq, is_other, without, withdrawn}
 use Rattle.sg_mailbox.specs.kept.Queues.{AreOrdered}
@@ -61,12 +63,6 @@ first_met sends first rest ordered = elim (cases_Bool (beq first.sends sends)) [
   | inr apart ↦ (let is : is_other sends first ≡ true = other_is sends first ∙ ap not apart in rw (apart, is) refl)
 ]
 
-pub withdrawn_none : (serial : Serial) (posts : List Post) → All (λ (post : Post). post.serial.0 ≢ serial.0) posts → withdrawn serial posts ≡ posts
-withdrawn_none serial [] none = refl
-withdrawn_none serial (post ∷ posts) none =
-    rw (ne_eqb post.serial.0 serial.0 (All-head (λ (p : Post). p.serial.0 ≢ serial.0) post posts none))
-    (ap (λ l. post ∷ l) (withdrawn_none serial posts (All-tail (λ (p : Post). p.serial.0 ≢ serial.0) post posts none)))
-
 -- who is met is the first of all, and to take it away is to withdraw it
 pub met_first : (sends : Bool) (posts : List Post) (post : Post) → AreOrdered posts → find (is_other sends) posts ≡ Some post → (front posts ≡ Some post) × (without (is_other sends) posts ≡ withdrawn post.serial posts)
 unfolding without
@@ -78,7 +74,7 @@ met_first sends (first ∷ rest) post ordered met = elim (cases_Bool (is_other s
       let eq : first ≡ post = cc same in
       let others : All (λ (p : Post). p.serial.0 ≢ post.serial.0) rest =
       λ k d below e. (let less = (ordered zero (suc k) d (omega arith) (omega (arith, below))).1 in omega (arith, less, e, ap (λ (p : Post). p.serial.0) eq)) in
-      (same, rw (is, eq-eqb first.serial.0 post.serial.0 (ap (λ (p : Post). p.serial.0) eq)) (sym (withdrawn_none post.serial rest others)))
+      (same, rw (is, eq-eqb first.serial.0 post.serial.0 (ap (λ (p : Post). p.serial.0) eq)) (sym (without_none (λ (p : Post). p.serial.0) post.serial.0 rest others)))
 ]
 
 -- ---- slots
@@ -91,11 +87,9 @@ entry_in P slot (entry ∷ queue) there all = elim (cases_Bool (eqb slot entry.0
 ]
 
 pub holds_without : (slot other : ℕ) (queue : List (ℕ × Post)) → other ≢ slot → holds other (without_slot slot queue) ≡ holds other queue
-holds_without slot other [] apart = refl
-holds_without slot other (entry ∷ queue) apart = elim (cases_Bool (eqb entry.0 slot)) [
-  | inl is ↦ rw (is, ne_eqb other entry.0 (λ e. apart (e ∙ eqb-true entry.0 slot is))) (holds_without slot other queue apart)
-  | inr isnt ↦ rw isnt (ap (λ b. eqb other entry.0 || b) (holds_without slot other queue apart))
-]
+holds_without slot other queue apart =
+    any-filter_same (λ (entry : ℕ × Post). eqb other entry.0) (λ (entry : ℕ × Post). not (eqb entry.0 slot)) true
+    (λ entry same. ap not (ne_eqb entry.0 slot (λ e. apart (eqb-true other entry.0 same ∙ e)))) queue
 
 -- without a slot the posts are those without its serial
 pub without_posts : (slot : ℕ) (serial : Serial) (queue : List (ℕ × Post)) → All (λ (entry : ℕ × Post). eqb entry.0 slot ≡ eqb entry.1.serial.0 serial.0) queue → map value (without_slot slot queue) ≡ withdrawn serial (map value queue)

@@ -1,6 +1,6 @@
 -- Whose each queue is, as mailboxes get queues and leave them.
-use Rattle.std.proofs.Common.{◌≡◌, ◌≢◌, ℕ, ◌+◌, ◌<◌, ◌≤◌, ◌⊎◌, inl, inr, Bool, true, false, true≢false, cond, Option, None, Some, List, [], ◌∷◌, ◌++◌, length, get_or, refl, sym, ap, ◌∙◌, arith}
-use Rattle.std.specs.Prelude.{All, AllPairs}
+use Rattle.std.proofs.Common.{◌≡◌, ◌≢◌, ℕ, ◌+◌, ◌≤◌, ◌⊎◌, inl, inr, true, true≢false, cond, Option, None, Some, List, [], ◌∷◌, ◌++◌, length, get_or, refl, sym, ap, ◌∙◌, arith}
+use Rattle.std.specs.Prelude.{All}
 use Rattle.std.proofs.lemmas.Bool.{cases_Bool}
 use Rattle.std.proofs.lemmas.List.{length_push, get_or_push, get_or_append_left}
 use Rattle.std.proofs.lemmas.List.Elements.{All-pop, All-push, All-weaker}
@@ -13,21 +13,13 @@ use Rattle.sg_mailbox.specs.Posts.{box_eq}
 use Rattle.sg_mailbox.specs.kept.Queues.{IsFree, AreNumbered}
 use Rattle.sg_mailbox.proofs.Lists.{box_found, box_same, pairs_before}
 
--- fewer mailboxes have queues
-pub numbered_less : (f g : BoxId → Option ℕ) (empty : List ℕ) (queues : List (List (ℕ × Post))) → ((mailbox : BoxId) (queue : ℕ) → g mailbox ≡ Some queue → f mailbox ≡ Some queue) → AreNumbered f empty queues → AreNumbered g empty queues
-numbered_less f g empty queues less old = record {
-  within = λ m q is. old.within m q (less m q is);
+-- fewer mailboxes may have queues, and queues change, but those that are free stay empty
+pub numbered_as : (f g : BoxId → Option ℕ) (empty : List ℕ) (queues moved : List (List (ℕ × Post))) → ((mailbox : BoxId) (queue : ℕ) → g mailbox ≡ Some queue → f mailbox ≡ Some queue) → length queues ≤ length moved
+    → ((queue : ℕ) → IsFree f queues queue → queue_at moved queue ≡ []) → AreNumbered f empty queues → AreNumbered g empty moved
+numbered_as f g empty queues moved less more stay old = record {
+  within = λ m q is. omega (arith, more, old.within m q (less m q is));
   once = λ a b q a_is b_is. old.once a b q (less a q a_is) (less b q b_is);
-  free = All-weaker (IsFree f queues) (IsFree g queues) (λ q free. record { within = free.within; none = free.none; nobodys = λ m is. free.nobodys m (less m q is) }) empty old.free;
-  distinct = old.distinct;
-}
-
--- queues change, but those that are free stay empty
-pub numbered_moved : (f : BoxId → Option ℕ) (empty : List ℕ) (queues moved : List (List (ℕ × Post))) → length queues ≤ length moved → ((queue : ℕ) → IsFree f queues queue → queue_at moved queue ≡ []) → AreNumbered f empty queues → AreNumbered f empty moved
-numbered_moved f empty queues moved more stay old = record {
-  within = λ m q is. omega (arith, more, old.within m q is);
-  once = old.once;
-  free = All-weaker (IsFree f queues) (IsFree f moved) (λ q free. record { within = omega (arith, more, free.within); none = stay q free; nobodys = free.nobodys }) empty old.free;
+  free = All-weaker (IsFree f queues) (IsFree g moved) (λ q free. record { within = omega (arith, more, free.within); none = stay q free; nobodys = λ m is. free.nobodys m (less m q is) }) empty old.free;
   distinct = old.distinct;
 }
 
@@ -38,7 +30,7 @@ numbered_free f empty queues queue old free apart = record { within = old.within
 pub numbered_added : (f : BoxId → Option ℕ) (empty : List ℕ) (queues : List (List (ℕ × Post))) → AreNumbered f empty queues → AreNumbered f (empty ++ length queues ∷ []) (queues ++ [] ∷ [])
 numbered_added f empty queues old =
     let long : length (queues ++ [] ∷ []) ≡ length queues + 1 = length_push queues [] in
-    numbered_free f empty (queues ++ [] ∷ []) (length queues) (numbered_moved f empty queues (queues ++ [] ∷ []) (omega (arith, long)) (λ q free. get_or_append_left queues ([] ∷ []) [] q free.within ∙ free.none) old)
+    numbered_free f empty (queues ++ [] ∷ []) (length queues) (numbered_as f f empty queues (queues ++ [] ∷ []) (λ m q is. is) (omega (arith, long)) (λ q free. get_or_append_left queues ([] ∷ []) [] q free.within ∙ free.none) old)
     (record { within = omega (arith, long); none = get_or_push queues [] [] (length queues) refl; nobodys = λ m is. omega (arith, old.within m (length queues) is) })
     (λ k d below same. omega (arith, (old.free k d below).within, same))
 
@@ -97,6 +89,6 @@ module _ (f g : BoxId → Option ℕ) (mailbox : BoxId) (queues : List (List (�
   pub numbered_closed : (queue : ℕ) (empty : List ℕ) → f mailbox ≡ Some queue → queue_at queues queue ≡ [] → ((m : BoxId) → g m ≡ cond (box_eq mailbox m) None (f m)) → AreNumbered f empty queues → AreNumbered g (empty ++ queue ∷ []) queues
   numbered_closed queue empty has none is old =
       let at = closed_at is in
-      numbered_free g empty queues queue (numbered_less f g empty queues (λ m q has'. (at m q has').0) old)
+      numbered_free g empty queues queue (numbered_as f g empty queues queues (λ m q has'. (at m q has').0) (omega arith) (λ q free. free.none) old)
       (record { within = old.within mailbox queue has; none = none; nobodys = λ m has'. (at m queue has').1 (old.once m mailbox queue (at m queue has').0 has) })
       (λ k d below same. (old.free k d below).nobodys mailbox (has ∙ ap (λ n. Some n) (sym same)))

@@ -1,18 +1,21 @@
 -- Where each side waits, as one comes and as one leaves.
-use Rattle.std.proofs.Common.{◌≡◌, ◌≢◌, ℕ, ◌<◌, inl, inr, Bool, true, false, true≢false, not, ◌||◌, cond, eqb, nat_eq, Option, None, Some, List, [], ◌∷◌, ◌++◌, length, get_or, refl, sym, ap, subst, ◌∙◌, arith}
-use Rattle.std.specs.Prelude.{All, IfSome, filter}
-use Rattle.std.proofs.lemmas.Bool.{cases_eq, eq-eqb, ne_eqb, eqb-true, eqb-false, not-true, or_left, or_right}
+use Rattle.std.proofs.Common.{◌≡◌, ◌≢◌, ℕ, ◌<◌, inl, inr, Bool, true, false, true≢false, not, ◌||◌, cond, eqb, nat_eq, Option, None, Some, List, [], ◌∷◌, ◌++◌, length, get_or, refl, sym, ap, subst, ◌∙◌}
+use Rattle.std.specs.Prelude.{All, IfSome, filter, map}
+use Rattle.std.proofs.lemmas.Bool.{cases_eq, eq-eqb, ne_eqb, eqb-true, not-true, or_left, or_right}
 use Rattle.std.proofs.lemmas.List.{get_or-set_same, get_or-set_other}
 use Rattle.std.proofs.lemmas.List.Elements.{All-push, All-head, All-filter, filter_passes}
 use Rattle.std.proofs.lemmas.List.Folds.{list_any-append, list_any_at}
 use Rattle.sg_base.specs.declared.ids.BoxId.{BoxId}
+use Rattle.sg_base.specs.declared.ids.Serial.{Serial}
 use Rattle.sg_queues.specs.Rings.{queue_at, front, behind}
-use Rattle.sg_queues.specs.Queues.{holds, queued, let_go, without_slot, AreSlots}
-use Rattle.sg_queues.proofs.Entries.{map_at, from_front, holds_front}
+use Rattle.sg_queues.specs.Queues.{holds, value, queued, let_go, without_slot, AreSlots}
+use Rattle.sg_queues.proofs.Entries.{holds_front}
+use Rattle.sg_queues.proofs.Lists.{map_at, from_front}
 use Rattle.sg_mailbox.specs.declared.sides.Post.{Post}
 use Rattle.sg_mailbox.specs.declared.sides.Place.{Place}
+use Rattle.sg_mailbox.specs.Posts.{withdrawn}
 use Rattle.sg_mailbox.specs.kept.Queues.{is_at, IsPlace, ArePlaced}
-use Rattle.sg_mailbox.proofs.Lists.{entry_in, holds_without}
+use Rattle.sg_mailbox.proofs.Lists.{entry_in, holds_without, without_posts}
 
 carried : (f g : BoxId → Option ℕ) (queues later : List (List (ℕ × Post))) (o : Option Place) → ((p : Place) → o ≡ Some p → IsPlace f queues p → IsPlace g later p) → IfSome o (IsPlace f queues) → IfSome o (IsPlace g later)
 carried f g queues later None keep held = tt
@@ -79,6 +82,11 @@ module _ (f : BoxId → Option ℕ) (old new : ℕ → Option Place) (queues : L
       }
 
 -- ---- the side of a serial leaves
+-- its slot tells it from all others
+pub posts_left : (f : BoxId → Option ℕ) (place : ℕ → Option Place) (queues : List (List (ℕ × Post))) (serial : Serial) (gone : Place) → ArePlaced f place queues → place serial.0 ≡ Some gone → (q : ℕ) → map value (without_slot gone.slot (queue_at queues q)) ≡ withdrawn serial (map value (queue_at queues q))
+posts_left f place queues serial gone were is q =
+    without_posts gone.slot serial (queue_at queues q) (subst (λ o. All (λ (entry : ℕ × Post). is_at entry.0 o ≡ eqb entry.1.serial.0 serial.0) (queue_at queues q)) is (were.told q serial.0))
+
 pub placed_taken : (f : BoxId → Option ℕ) (place new : ℕ → Option Place) (queues : List (List (ℕ × Post))) (serial : ℕ) (gone : Place) → ArePlaced f place queues → place serial ≡ Some gone → ((s : ℕ) → new s ≡ cond (nat_eq serial s) None (place s))
     → ArePlaced f new (let_go gone.slot queues)
 placed_taken f place new queues serial gone were is now =

@@ -1,6 +1,6 @@
 -- Who waits in the mailboxes, as a side comes and as one leaves.
-use Rattle.std.proofs.Common.{◌≡◌, ◌≢◌, ℕ, ◌+◌, ◌<◌, ◌≤◌, inl, inr, true, Bool, cond, Option, None, Some, List, [], ◌∷◌, ◌++◌, length, get_or, refl, sym, ap, subst, ◌∙◌, arith}
-use Rattle.std.specs.Prelude.{All, AllPairs, map, vec_capacity, IfSome}
+use Rattle.std.proofs.Common.{◌≡◌, ◌≢◌, ℕ, ◌<◌, ◌≤◌, Bool, cond, Option, None, Some, List, [], ◌∷◌, ◌++◌, length, get_or, refl, sym, ap, subst, ◌∙◌, arith}
+use Rattle.std.specs.Prelude.{All, map, vec_capacity, IfSome}
 use Rattle.std.specs.HashMap.{spare, hash_map_len}
 use Rattle.std.proofs.lemmas.Bool.{eqb-false}
 use Rattle.std.proofs.Math.Bool.{beq}
@@ -10,8 +10,8 @@ use Rattle.sg_base.specs.declared.ids.BoxId.{BoxId}
 use Rattle.sg_base.specs.declared.ids.Serial.{Serial}
 use Rattle.sg_mailbox.specs.declared.sides.Side.{Side}
 use Rattle.sg_queues.specs.Rings.{queue_at, front, behind}
-use Rattle.sg_queues.specs.Queues.{holds, value, values_of, queued, let_go, without_slot}
-use Rattle.sg_queues.proofs.Entries.{map_at, from_front}
+use Rattle.sg_queues.specs.Queues.{value, values_of, queued, let_go, without_slot}
+use Rattle.sg_queues.proofs.Lists.{map_at, from_front}
 use Rattle.sg_queues.proofs.Values.{values_at, queued_values}
 use Rattle.sg_mailbox.specs.declared.kept.Kept.{Kept}
 use Rattle.sg_mailbox.specs.declared.sides.Post.{Post}
@@ -19,23 +19,19 @@ use Rattle.sg_mailbox.specs.declared.sides.Place.{Place}
 use Rattle.sg_mailbox.specs.Posts.{posts_in, waiting, meets, met, withdrawn, AreBelow, AreRising}
 use Rattle.sg_mailbox.specs.kept.Queues.{number, place, posts_of, is_at, IsPlace, AreNumbered, AreOrdered, AreKept, IsKept}
 use Rattle.sg_mailbox.proofs.Lists.{first_met}
-use Rattle.sg_mailbox.proofs.Numbers.{numbered_less}
+use Rattle.sg_mailbox.proofs.Numbers.{numbered_as}
 use Rattle.sg_mailbox.proofs.Places.{placed_like, side_at, one_queue}
 
--- what holds of all that are kept holds of all that wait in a mailbox
-pub in_posts : (P : Post → Type 0) (kept : Kept) → ((q : ℕ) → All (λ (entry : ℕ × Post). P entry.1) (queue_at kept.queues.queues q)) → (mailbox : BoxId) → All P (waiting (posts_of kept) mailbox)
-in_posts P kept all mailbox = go (number kept mailbox)
+-- what holds of the posts of each queue holds of those in a mailbox
+in_waiting : (P : List Post → Type 0) (kept : Kept) → P [] → ((q : ℕ) → P (map value (queue_at kept.queues.queues q))) → (mailbox : BoxId) → P (waiting (posts_of kept) mailbox)
+in_waiting P kept none each mailbox = go (number kept mailbox)
   where
-    go : (o : Option ℕ) → All P (posts_in (values_of kept.queues.queues) o)
-    go None = All-nil P
-    go (Some q) = subst (All P) (sym (values_at kept.queues.queues q)) (All-map P value (queue_at kept.queues.queues q) (all q))
+    go : (o : Option ℕ) → P (posts_in (values_of kept.queues.queues) o)
+    go None = none
+    go (Some q) = subst P (sym (values_at kept.queues.queues q)) (each q)
 
 pub ordered_in : (kept : Kept) → ((q : ℕ) → AreOrdered (map value (queue_at kept.queues.queues q))) → (mailbox : BoxId) → AreOrdered (waiting (posts_of kept) mailbox)
-ordered_in kept ordered mailbox = go (number kept mailbox)
-  where
-    go : (o : Option ℕ) → AreOrdered (posts_in (values_of kept.queues.queues) o)
-    go None = λ i j d less below. absurd (omega (arith, below))
-    go (Some q) = subst AreOrdered (sym (values_at kept.queues.queues q)) (ordered q)
+ordered_in kept ordered = in_waiting AreOrdered kept (λ i j d less below. absurd (omega (arith, below))) ordered
 
 pub rising_in : (kept : Kept) → IsKept kept → (mailbox : BoxId) → AreRising (waiting (posts_of kept) mailbox)
 rising_in kept was mailbox = λ i j d less below. (ordered_in kept was.ordered mailbox i j d less below).1
@@ -65,7 +61,7 @@ grown old new was numbers count numbers_fit places places_fit queues queues_fit 
         queues = omega (arith, was.roomy.queues, queues_fit, room);
         stack = omega (arith, was.roomy.stack, count, ap length items, ap (λ v. vec_capacity v) empty);
       };
-      numbered = subst (λ l. AreNumbered (number new) l new.queues.queues) (sym items) (rw queues (numbered_less (number old) (number new) old.empty.items old.queues.queues (λ m q is. sym (numbers m) ∙ is) was.numbered));
+      numbered = subst (λ l. AreNumbered (number new) l new.queues.queues) (sym items) (rw queues (numbered_as (number old) (number new) old.empty.items old.queues.queues old.queues.queues (λ m q is. sym (numbers m) ∙ is) (omega arith) (λ q free. free.none) was.numbered));
       placed = placed_like (number old) (number new) (place old) (place new) old.queues.queues new.queues.queues (λ q. ap (λ l. queue_at l q) queues) places (λ m q slot is there. numbers m ∙ is) was.placed;
       slots = rw queues was.slots;
       ordered = rw queues was.ordered;
@@ -121,9 +117,10 @@ only_there kept was mailbox other apart post is = go (number kept mailbox) (numb
 
 -- no side waits under a serial that has no place
 pub unplaced : (kept : Kept) (serial : Serial) → IsKept kept → place kept serial.0 ≡ None → (mailbox : BoxId) → All (λ (post : Post). post.serial.0 ≢ serial.0) (waiting (posts_of kept) mailbox)
-unplaced kept serial was none mailbox =
-    in_posts (λ (post : Post). post.serial.0 ≢ serial.0) kept
-    (λ q k d below. let entry : ℕ × Post = get_or (queue_at kept.queues.queues q) k d in eqb-false entry.1.serial.0 serial.0 (sym (was.placed.told q serial.0 k d below) ∙ ap (is_at entry.0) none)) mailbox
+unplaced kept serial was none =
+    let differs : Post → Type 0 = λ post. post.serial.0 ≢ serial.0 in
+    in_waiting (All differs) kept (All-nil differs) (λ q. All-map differs value (queue_at kept.queues.queues q) (λ k d below.
+    let entry : ℕ × Post = get_or (queue_at kept.queues.queues q) k d in eqb-false entry.1.serial.0 serial.0 (sym (was.placed.told q serial.0 k d below) ∙ ap (is_at entry.0) none)))
 
 -- who is first tells whom a side meets
 pub front_met : (kept : Kept) → IsKept kept → (mailbox : BoxId) (sends : Bool) (queue : ℕ) (first : ℕ × Post) → number kept mailbox ≡ Some queue → front (queue_at kept.queues.queues queue) ≡ Some first

@@ -1,5 +1,5 @@
 -- Communications of which one side is there, mailbox by mailbox.
-use Rattle.std.specs.Prelude.{◌≡◌, ◌≢◌, ℕ, ◌<◌, ◌≤◌, Bool, true, false, not, ◌==◌, Option, None, Some, option_map, List, [], ◌∷◌, ◌++◌, All, filter, slice_index_or, if◌then◌else◌}
+use Rattle.std.specs.Prelude.{◌≡◌, ◌≢◌, ℕ, ◌<◌, Bool, true, false, not, ◌==◌, Option, None, Some, option_map, List, [], ◌∷◌, ◌++◌, All, filter, slice_index_or, if◌then◌else◌}
 use Rattle.std.specs.List.{find, AllPairs}
 use Rattle.std.specs.Map.{lookup}
 use Rattle.sg_base.specs.declared.ids.BoxId.{BoxId}

@@ -19,6 +19,7 @@ const BLANK: Post = Post {
         actor: ActorId(0),
         bytes: 0,
         msg: Msg::Empty,
+        rate: 0,
     },
 };
 

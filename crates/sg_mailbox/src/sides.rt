@@ -8,6 +8,8 @@ pub struct Side {
     /// The size of what is sent; a receive has none.
     pub bytes: u64,
     pub msg: Msg,
+    /// The greatest rate of what is sent, in bytes a second: 0 for none, as a receive has it.
+    pub rate: u64,
 }
 
 /// What became of a side that came to a mailbox.

@@ -88,6 +88,7 @@ fn one_of(drawn: u64, serial: u64) -> One
             actor: ActorId(1),
             bytes: drawn,
             msg: Msg::Empty,
+            rate: drawn % 7,
         },
     }
 }

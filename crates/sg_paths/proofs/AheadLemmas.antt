@@ -10,8 +10,8 @@ use Rattle.sg_paths.specs.declared.ahead.Ahead.{Ahead}
 use Rattle.sg_paths.specs.declared.ahead.Mark.{Mark}
 use Rattle.sg_paths.specs.declared.route.PathRoute.{PathRoute}
 use Rattle.sg_paths.specs.declared.trail.Settled.{Settled}
-use Rattle.sg_paths.specs.Ahead.{EntersFrom, GoesBack, HasEntered, HasPlaceFor, IsKeyOf, IsMark, StandsStill}
-use Rattle.sg_paths.specs.Arrivals.{IsLast, to_at, to_in}
+use Rattle.sg_paths.specs.Ahead.{EntersFrom, GoesBack, HasEntered, HasPlaceFor, IsKeyOf, IsMark, IsPassed, MayGoBack, StandsStill, StaysOut}
+use Rattle.sg_paths.specs.Arrivals.{IsLast, from_at, to_at, to_in}
 use Rattle.sg_paths.specs.Crossing.{IsCrossing}
 use Rattle.sg_paths.specs.Order.{IsNotAfter}
 use Rattle.sg_paths.specs.Trail.{HasPlaces, IsNew, IsSettledAt, hop_links, links_at, links_in}
@@ -200,11 +200,11 @@ none_below [] k few none = omega arith
 none_below (r ∷ rs) zero few none = cc
 none_below (r ∷ rs) (suc k) few none = none_below rs k (omega arith) none
 
--- all routes to the point that was settled last enter
+-- all routes to the point that was settled last enter, but those from settled points
 pub all_entered : (routes : List PathRoute) (settled : List Settled) (label order : ℕ → List LinkId) (ranks n point : ℕ) (s : Settled) (mark : Mark) (old new : Ahead)
     → IsAhead routes settled label order ranks old → slice_get settled n ≡ Some s → s.point ≡ point → IsMark order ranks mark (label n)
     → ((j : ℕ) → j < ranks → IsNotAfter (order j) (label n))
-    → EntersFrom routes point 0 mark old new → IsAhead routes settled label order ranks new
+    → EntersFrom routes settled point 0 mark old new → IsAhead routes settled label order ranks new
 all_entered routes settled label order ranks n point s mark old new is at here marked before enters = record { ranked = is.ranked; pending = λ i its there. go i its there (eq_or (to_at routes i) point) }
   where
     go : (i : ℕ) (its : Key) → key_at new.agenda i ≡ Some its → (to_at routes i ≡ point) ⊎ (to_at routes i ≢ point) → IsPending routes settled label order ranks (get_or new.left.items i 0) i its
@@ -212,15 +212,19 @@ all_entered routes settled label order ranks n point s mark old new is at here m
         let still = enters.others i far in
         let Q : ℕ → Type 0 = λ k. IsPending routes settled label order ranks k i its in
         subst Q (sym still.left) (is.pending i its (sym still.key ∙ there))
-    go i its there (inl leads) = arrived (slice_get routes i) refl
+    go i its there (inl leads) = arrived (slice_get routes i) refl (enters.entered i (omega arith) below leads)
       where
         below : i < length routes
         below = let s = (enters.places).slots in key_within new.agenda i its (length routes) s there
 
-        arrived : (o : Option PathRoute) → slice_get routes i ≡ o → IsPending routes settled label order ranks (get_or new.left.items i 0) i its
-        arrived None none = absurd (none_below routes i below none)
-        arrived (Some route) found =
-            let e = enters.entered i (omega arith) below leads in
+        arrived : (o : Option PathRoute) → slice_get routes i ≡ o → HasEntered routes mark i new ⊎ StaysOut routes settled i old new → IsPending routes settled label order ranks (get_or new.left.items i 0) i its
+        arrived None none e = absurd (none_below routes i below none)
+        arrived (Some route) found (inr out) =
+            let Q : ℕ → Type 0 = λ k. IsPending routes settled label order ranks k i its in
+            let left = (out.still).left in
+            let key = (out.still).key in
+            subst Q (sym left) (is.pending i its (sym key ∙ there))
+        arrived (Some route) found (inl e) =
             let same : e.key ≡ its = let both : Some e.key ≡ Some its = sym e.at ∙ there in cc in
             let joins : s.point ≡ route.to = here ∙ sym leads ∙ ap to_in found in
             let P : Key → Type 0 = λ k. IsPending routes settled label order ranks (length (links_at routes i) - 1) i k in
@@ -251,12 +255,13 @@ back_still routes i j left mark old new goes far = record {
   left = ap (λ ls. get_or ls j 0) goes.lefts ∙ get_or-set_other old.left.items i j (left - 1) 0 far;
 }
 
-pub one_entered : (routes : List PathRoute) (point n m : ℕ) (mark : Mark) (first old new : Ahead) → 0 < n → n ≤ length routes → to_at routes (n - 1) ≡ point
-    → EntersFrom routes point n mark first old → IsLast routes (to_at routes (n - 1)) (n - 1) m
-    → GoesBack routes (n - 1) (length (links_at routes (n - 1))) mark old new → EntersFrom routes point m mark first new
-one_entered routes point n m mark first old new some within here enters last goes = record {
+one_back : (routes : List PathRoute) (settled : List Settled) (point n m : ℕ) (mark : Mark) (first old new : Ahead) → 0 < n → n ≤ length routes → to_at routes (n - 1) ≡ point
+    → EntersFrom routes settled point n mark first old → IsLast routes (to_at routes (n - 1)) (n - 1) m
+    → GoesBack routes (n - 1) (length (links_at routes (n - 1))) mark old new → EntersFrom routes settled point m mark first new
+one_back routes settled point n m mark first old new some within here enters last goes = record {
   entered = λ i from few leads. entered i from few leads (tri i (n - 1));
   others = λ i away. others i away;
+  below = λ i less. let w = last.within in after i (λ e. let same : i ≡ n - 1 = e in omega (arith, w, less, some)) (enters.below i (omega (arith, w, less, some)));
   places = back_places routes (n - 1) (length (links_at routes (n - 1))) mark old new enters.places goes;
 }
   where
@@ -280,19 +285,50 @@ one_entered routes point n m mark first old new some within here enters last goe
           goes.is order ranks rest (subst P whole marked);
     }
 
-    kept : (i : ℕ) → i ≢ at → HasEntered routes mark i old → HasEntered routes mark i new
-    kept i far e =
+    after : (i : ℕ) → i ≢ at → StandsStill i first old → StandsStill i first new
+    after i far before =
         let still = back_still routes at i (length (links_at routes at)) mark old new goes far in
-        record { key = e.key; at = still.key ∙ e.at; left = still.left ∙ e.left; is = e.is }
+        record { key = still.key ∙ before.key; left = still.left ∙ before.left }
 
-    entered : (i : ℕ) → m ≤ i → i < length routes → to_at routes i ≡ point → ((i < n - 1) ⊎ ((i ≡ n - 1) ⊎ (n - 1 < i))) → HasEntered routes mark i new
+    kept : (i : ℕ) → i ≢ at → HasEntered routes mark i old ⊎ StaysOut routes settled i first old → HasEntered routes mark i new ⊎ StaysOut routes settled i first new
+    kept i far (inl e) =
+        let still = back_still routes at i (length (links_at routes at)) mark old new goes far in
+        inl (record { key = e.key; at = still.key ∙ e.at; left = still.left ∙ e.left; is = e.is })
+    kept i far (inr out) = inr (record { still = after i far out.still; place = out.place; from = out.from })
+
+    entered : (i : ℕ) → m ≤ i → i < length routes → to_at routes i ≡ point → ((i < n - 1) ⊎ ((i ≡ n - 1) ⊎ (n - 1 < i))) → HasEntered routes mark i new ⊎ StaysOut routes settled i first new
     entered i from few leads (inl less) = absurd (last.none i from less (leads ∙ sym here))
-    entered i from few leads (inr (inl e)) = let P : ℕ → Type 0 = λ k. HasEntered routes mark k new in subst P (sym e) mine
+    entered i from few leads (inr (inl e)) = let P : ℕ → Type 0 = λ k. HasEntered routes mark k new in inl (subst P (sym e) mine)
     entered i from few leads (inr (inr more)) = kept i (λ e. let same : i ≡ n - 1 = e in omega arith) (enters.entered i (omega arith) few leads)
 
     others : (i : ℕ) → to_at routes i ≢ point → StandsStill i first new
     others i away =
         let far : i ≢ at = λ e. away (ap (to_at routes) e ∙ here) in
-        let still = back_still routes at i (length (links_at routes at)) mark old new goes far in
-        let before = enters.others i away in
-        record { key = still.key ∙ before.key; left = still.left ∙ before.left }
+        after i far (enters.others i away)
+
+one_passed : (routes : List PathRoute) (settled : List Settled) (point n m : ℕ) (mark : Mark) (first old new : Ahead) → 0 < n → to_at routes (n - 1) ≡ point
+    → EntersFrom routes settled point n mark first old → IsLast routes (to_at routes (n - 1)) (n - 1) m
+    → IsPassed routes settled (n - 1) old new → EntersFrom routes settled point m mark first new
+one_passed routes settled point n m mark first old new some here enters last passed =
+    subst (λ (a : Ahead). EntersFrom routes settled point m mark first a) (sym passed.same)
+    (record {
+      entered = λ i from few leads. entered i from few leads (tri i (n - 1));
+      others = enters.others;
+      below = λ i less. let w = last.within in enters.below i (omega (arith, w, less, some));
+      places = enters.places;
+    })
+  where
+    entered : (i : ℕ) → m ≤ i → i < length routes → to_at routes i ≡ point → ((i < n - 1) ⊎ ((i ≡ n - 1) ⊎ (n - 1 < i))) → HasEntered routes mark i old ⊎ StaysOut routes settled i first old
+    entered i from few leads (inl less) = absurd (last.none i from less (leads ∙ sym here))
+    entered i from few leads (inr (inl e)) =
+        let P : ℕ → Type 0 = λ k. IsSettledAt settled passed.place (from_at routes k) in
+        let same : i ≡ n - 1 = e in
+        inr (record { still = enters.below i (omega (arith, same, some)); place = passed.place; from = subst P (sym e) passed.from })
+    entered i from few leads (inr (inr more)) = enters.entered i (omega (arith, more)) few leads
+
+-- the next route enters, or is passed
+pub one_entered : (routes : List PathRoute) (settled : List Settled) (point n m : ℕ) (mark : Mark) (first old new : Ahead) → 0 < n → n ≤ length routes → to_at routes (n - 1) ≡ point
+    → EntersFrom routes settled point n mark first old → IsLast routes (to_at routes (n - 1)) (n - 1) m
+    → MayGoBack routes settled (n - 1) mark old new → EntersFrom routes settled point m mark first new
+one_entered routes settled point n m mark first old new some within here enters last (inl goes) = one_back routes settled point n m mark first old new some within here enters last goes
+one_entered routes settled point n m mark first old new some within here enters last (inr passed) = one_passed routes settled point n m mark first old new some here enters last passed

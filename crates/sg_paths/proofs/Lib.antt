@@ -7,5 +7,7 @@ pub mod AheadLemmas
 pub mod WorkLemmas
 pub mod SearchLemmas
 pub mod StateLemmas
+pub mod AtHand
 pub mod ArrivalLemmas
 pub mod ReachLemmas
+pub mod AskedLemmas

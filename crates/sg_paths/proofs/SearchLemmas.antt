@@ -8,8 +8,8 @@ use Rattle.sg_paths.specs.declared.ahead.Ahead.{Ahead}
 use Rattle.sg_paths.specs.declared.ahead.Mark.{Mark}
 use Rattle.sg_paths.specs.declared.route.PathRoute.{PathRoute}
 use Rattle.sg_paths.specs.declared.trail.Settled.{Settled}
-use Rattle.sg_paths.specs.Ahead.{EntersFrom, GoesBack}
-use Rattle.sg_paths.specs.Arrivals.{to_at, to_in}
+use Rattle.sg_paths.specs.Ahead.{EntersFrom, GoesBack, HasEntered, StaysOut}
+use Rattle.sg_paths.specs.Arrivals.{from_in, to_at, to_in}
 use Rattle.sg_paths.specs.Crossing.{IsCrossing}
 use Rattle.sg_paths.specs.Order.{IsNotAfter}
 use Rattle.sg_paths.specs.Trail.{HasPlaces, IsNew, IsSettledAt, hop_links, links_at, links_in}
@@ -104,15 +104,19 @@ begun_left routes settled i m route old new begun is from same j other k s there
 
 -- a point is settled, and all routes to it enter
 pub begun_entered : (routes : List PathRoute) (settled : List Settled) (hop : Settled) (i : ℕ) (route : PathRoute) (mark : Mark) (old mid new : Ahead) → AreBegun routes settled old → slice_get routes i ≡ Some route → hop.point ≡ route.from
-    → ((j : ℕ) → j ≢ i → key_at mid.agenda j ≡ key_at old.agenda j) → EntersFrom routes hop.point 0 mark mid new → AreBegun routes (settled ++ hop ∷ []) new
+    → ((j : ℕ) → j ≢ i → key_at mid.agenda j ≡ key_at old.agenda j) → EntersFrom routes (settled ++ hop ∷ []) hop.point 0 mark mid new → AreBegun routes (settled ++ hop ∷ []) new
 begun_entered routes settled hop i route mark old mid new begun is point same enters j other k s there at to = go (pushed settled hop k s at)
   where
     leads : to_at routes j ≡ other.to
     leads = ap to_in there
 
     entered : to_at routes j ≡ hop.point → IsBegunAt (settled ++ hop ∷ []) new j other
-    entered here = let e = enters.entered j (omega arith) (below routes j other there) here in inl (e.key, e.at)
+    entered here = either (enters.entered j (omega arith) (below routes j other there) here)
       where
+        either : HasEntered routes mark j new ⊎ StaysOut routes (settled ++ hop ∷ []) j mid new → IsBegunAt (settled ++ hop ∷ []) new j other
+        either (inl e) = inl (e.key, e.at)
+        either (inr out) = let P : ℕ → Type 0 = λ x. IsSettledAt (settled ++ hop ∷ []) out.place x in inr (out.place, subst P (ap from_in there) out.from)
+
         below : (rs : List PathRoute) (n : ℕ) (r : PathRoute) → slice_get rs n ≡ Some r → n < length rs
         below [] n r h = absurd (cc)
         below (x ∷ rs) zero r h = omega arith

@@ -9,8 +9,8 @@ use Rattle.sg_paths.specs.declared.ahead.Ahead.{Ahead}
 use Rattle.sg_paths.specs.declared.ahead.Mark.{Mark}
 use Rattle.sg_paths.specs.declared.route.PathRoute.{PathRoute}
 use Rattle.sg_paths.specs.declared.trail.Settled.{Settled}
-use Rattle.sg_paths.specs.Ahead.{EntersFrom, GoesBack, HasPlaceFor, IsMark, steps_in}
-use Rattle.sg_paths.specs.Arrivals.{to_at, to_in}
+use Rattle.sg_paths.specs.Ahead.{EntersFrom, GoesBack, HasEntered, HasPlaceFor, IsMark, StaysOut, steps_in}
+use Rattle.sg_paths.specs.Arrivals.{from_in, to_at, to_in}
 use Rattle.sg_paths.specs.Order.{IsNotAfter}
 use Rattle.sg_paths.specs.Path.{IsLeastPath}
 use Rattle.sg_paths.specs.Trail.{AreLinksOf, HasPlaces, IsNew, IsSettledAt, LeadsBack, hop_links, links_at}
@@ -201,7 +201,7 @@ is_left routes to settled ranks i m key route old new state first there from lea
 pub settles : (routes : List PathRoute) (to : ℕ) (settled : List Settled) (places : List ℕ) (ranks i : ℕ) (key : Key) (hop : Settled) (route : PathRoute) (old mid new : Ahead) → (state : IsUnderWay routes to settled old ranks) → IsFirst old i key
     → IsSettledAt settled 0 to → LeadsBack settled → HasPlaces settled places → get_or old.left.items i 0 ≡ 0
     → slice_get routes i ≡ Some route → hop.route ≡ i → hop.point ≡ route.from → IsSettledAt settled hop.next route.to → IsNew settled hop.point
-    → Leaves i old mid → EntersFrom routes hop.point 0 (record { date = key.date; serial = key.serial; rank = ranks }) mid new
+    → Leaves i old mid → EntersFrom routes (settled ++ hop ∷ []) hop.point 0 (record { date = key.date; serial = key.serial; rank = ranks }) mid new
     → GoesOn routes to settled (settled ++ hop ∷ []) old new (ranks + 1)
 settles routes to settled places ranks i key hop route old mid new state first root leads has back there route_is point next new_point leaves enters = record {
   state = record {
@@ -298,9 +298,13 @@ settles routes to settled places ranks i key hop route old mid new state first r
     none_new : (x : ℕ) → x ≡ hop.point → IsNew settled x
     none_new x e k s at is = new_point k s at (is ∙ e)
 
-    arrive : (j : ℕ) → j < length routes → to_at routes j ≡ hop.point → weight routes (settled ++ hop ∷ []) new j ≤ weight routes settled old j
-    arrive j few leads_there =
-        let e = enters.entered j (omega arith) few leads_there in
+    arrive : (j : ℕ) → j ≢ i → to_at routes j ≡ hop.point → HasEntered routes mark j new ⊎ StaysOut routes (settled ++ hop ∷ []) j mid new → weight routes (settled ++ hop ∷ []) new j ≤ weight routes settled old j
+    arrive j far leads_there (inr out) =
+        let key = (out.still).key in
+        let none : key_at new.agenda j ≡ None = key ∙ leaves_key i j old mid leaves far ∙ no_key j leads_there (key_at old.agenda j) refl in
+        let n = weight_done routes (settled ++ hop ∷ []) new j (length settled) none (hop, last_there settled hop, sym leads_there) in
+        omega (arith, n)
+    arrive j far leads_there (inl e) =
         let n = weight_pending routes (settled ++ hop ∷ []) new j e.key e.at in
         let o = weight_new routes settled old j (no_key j leads_there (key_at old.agenda j) refl) (none_new (to_at routes j) leads_there) in
         let l = e.left in
@@ -317,7 +321,7 @@ settles routes to settled places ranks i key hop route old mid new state first r
         let b = ap (weight routes settled old) e in
         let o = own in
         omega (arith, a, b, o)
-    each j few (inr far) (inl leads_there) = arrive j few leads_there
+    each j few (inr far) (inl leads_there) = arrive j far leads_there (enters.entered j (omega arith) few leads_there)
     each j few (inr far) (inr away) = stand j away far
 
     less : work routes (settled ++ hop ∷ []) new < work routes settled old
@@ -330,10 +334,10 @@ settles routes to settled places ranks i key hop route old mid new state first r
 abbrev no_lists : ℕ → List LinkId
 no_lists k = []
 
-abbrev first_mark : Mark
+abbrev pub first_mark : Mark
 first_mark = record { date = 0; serial = 0; rank = 0 }
 
-pub begins : (routes : List PathRoute) (start : Settled) (mid new : Ahead) → ((i : ℕ) → key_at mid.agenda i ≡ None) → EntersFrom routes start.point 0 first_mark mid new → IsUnderWay routes start.point (start ∷ []) new 1
+pub begins : (routes : List PathRoute) (start : Settled) (mid new : Ahead) → ((i : ℕ) → key_at mid.agenda i ≡ None) → EntersFrom routes (start ∷ []) start.point 0 first_mark mid new → IsUnderWay routes start.point (start ∷ []) new 1
 begins routes start mid new none enters = record {
   label = no_lists;
   known = known_first routes start;
@@ -353,19 +357,27 @@ begins routes start mid new none enters = record {
     marked : IsMark no_lists 1 first_mark []
     marked = record { key = record { date = omega arith; fits = omega arith; rank = omega arith; rest = refl }; rank = omega arith; at = refl }
 
+    either : (i : ℕ) (route : PathRoute) → slice_get routes i ≡ Some route → HasEntered routes first_mark i new ⊎ StaysOut routes (start ∷ []) i mid new → IsBegunAt (start ∷ []) new i route
+    either i route there (inl e) = inl (e.key, e.at)
+    either i route there (inr out) = let P : ℕ → Type 0 = λ x. IsSettledAt (start ∷ []) out.place x in inr (out.place, subst P (ap from_in there) out.from)
+
     begun : (i : ℕ) (route : PathRoute) (k : ℕ) (s : Settled) → slice_get routes i ≡ Some route → slice_get (start ∷ []) k ≡ Some s → s.point ≡ route.to → IsBegunAt (start ∷ []) new i route
     begun i route zero s there at to =
         let same : start ≡ s = cc in
-        let e = enters.entered i (omega arith) (slice_get_within routes i route there) (ap to_in there ∙ sym to ∙ ap (λ (x : Settled). x.point) (sym same)) in
-        inl (e.key, e.at)
+        either i route there (enters.entered i (omega arith) (slice_get_within routes i route there) (ap to_in there ∙ sym to ∙ ap (λ (x : Settled). x.point) (sym same)))
     begun i route (suc k) s there at to = absurd (cc)
 
-    one : (j : ℕ) → j < length routes → (to_at routes j ≡ start.point) ⊎ (to_at routes j ≢ start.point) → weight routes (start ∷ []) new j ≤ length (links_at routes j) + 1
-    one j less (inl leads) =
-        let e = enters.entered j (omega arith) less leads in
+    own : (j : ℕ) → to_at routes j ≡ start.point → HasEntered routes first_mark j new ⊎ StaysOut routes (start ∷ []) j mid new → weight routes (start ∷ []) new j ≤ length (links_at routes j) + 1
+    own j leads (inl e) =
         let n = weight_pending routes (start ∷ []) new j e.key e.at in
         let l = e.left in
         omega (arith, n, l)
+    own j leads (inr out) =
+        let key = (out.still).key in
+        weight_unbegun routes (start ∷ []) new j (key ∙ none j)
+
+    one : (j : ℕ) → j < length routes → (to_at routes j ≡ start.point) ⊎ (to_at routes j ≢ start.point) → weight routes (start ∷ []) new j ≤ length (links_at routes j) + 1
+    one j less (inl leads) = own j leads (enters.entered j (omega arith) less leads)
     one j less (inr away) = weight_unbegun routes (start ∷ []) new j ((enters.others j away).key ∙ none j)
 
     few : work routes (start ∷ []) new ≤ steps_in routes

@@ -1,12 +1,13 @@
 -- Routes to settled points, gone back over a link at a time: of the lists that begin where they stand, the least is at hand.
-use Rattle.std.specs.Prelude.{◌≡◌, ◌≢◌, ℕ, zero, suc, ◌+◌, ◌-◌, ◌*◌, ◌<◌, ◌≤◌, List, [], ◌∷◌, ◌++◌, Some, length, drop, slice_index, slice_set}
+use Rattle.std.specs.Prelude.{◌≡◌, ◌≢◌, ℕ, zero, suc, ◌+◌, ◌-◌, ◌*◌, ◌<◌, ◌≤◌, ◌⊎◌, List, [], ◌∷◌, ◌++◌, Some, length, drop, slice_index, slice_set}
 use Rattle.sg_base.specs.declared.ids.LinkId.{LinkId}
 use Rattle.sg_heap.specs.Agenda.{Key, key_at}
 use Rattle.sg_paths.specs.declared.ahead.Ahead.{Ahead}
 use Rattle.sg_paths.specs.declared.ahead.Mark.{Mark}
 use Rattle.sg_paths.specs.declared.route.PathRoute.{PathRoute}
-use Rattle.sg_paths.specs.Arrivals.{to_at}
-use Rattle.sg_paths.specs.Trail.{links_at}
+use Rattle.sg_paths.specs.declared.trail.Settled.{Settled}
+use Rattle.sg_paths.specs.Arrivals.{from_at, to_at}
+use Rattle.sg_paths.specs.Trail.{IsSettledAt, links_at}
 
 abbrev pub first_of : List LinkId → ℕ
 first_of [] = 0
@@ -53,15 +54,32 @@ pub record StandsStill (i : ℕ) (old new : Ahead) : Type 0 where
   pub key : key_at new.agenda i ≡ key_at old.agenda i
   pub left : slice_index new.left.items i ≡ slice_index old.left.items i
 
+-- nothing changes where a route begins at a settled point
+pub record IsPassed (routes : List PathRoute) (settled : List Settled) (i : ℕ) (old new : Ahead) : Type 0 where
+  pub place : ℕ
+  pub from : IsSettledAt settled place (from_at routes i)
+  pub same : new ≡ old
+
+-- a route goes back over its last link, unless it begins at a settled point
+abbrev pub MayGoBack : List PathRoute → List Settled → ℕ → Mark → Ahead → Ahead → Type 0
+MayGoBack routes settled i mark old new = GoesBack routes i (length (links_at routes i)) mark old new ⊎ IsPassed routes settled i old new
+
+-- a route stands where it stood, since it begins at a settled point
+pub record StaysOut (routes : List PathRoute) (settled : List Settled) (i : ℕ) (old new : Ahead) : Type 0 where
+  pub still : StandsStill i old new
+  pub place : ℕ
+  pub from : IsSettledAt settled place (from_at routes i)
+
 -- there is a place for each route
 pub record HasPlaceFor (routes : List PathRoute) (ahead : Ahead) : Type 0 where
   pub slots : length ahead.agenda ≡ length routes
   pub lefts : length ahead.left.items ≡ length routes
 
--- those from this number on that lead to a point have entered, and the others stand still
-pub record EntersFrom (routes : List PathRoute) (point n : ℕ) (mark : Mark) (old new : Ahead) : Type 0 where
-  pub entered : (i : ℕ) → n ≤ i → i < length routes → to_at routes i ≡ point → HasEntered routes mark i new
+-- those from this number on that lead to a point have entered, but those from settled points, and the others stand still
+pub record EntersFrom (routes : List PathRoute) (settled : List Settled) (point n : ℕ) (mark : Mark) (old new : Ahead) : Type 0 where
+  pub entered : (i : ℕ) → n ≤ i → i < length routes → to_at routes i ≡ point → HasEntered routes mark i new ⊎ StaysOut routes settled i old new
   pub others : (i : ℕ) → to_at routes i ≢ point → StandsStill i old new
+  pub below : (i : ℕ) → i < n → StandsStill i old new
   pub places : HasPlaceFor routes new
 
 -- the sum of these numbers, for each number below this one

@@ -11,6 +11,14 @@ to_in (Some route) = route.to
 abbrev pub to_at : List PathRoute → ℕ → ℕ
 to_at routes i = to_in (slice_get routes i)
 
+abbrev pub from_in : Option PathRoute → ℕ
+from_in None = 0
+from_in (Some route) = route.from
+
+-- where a route begins
+abbrev pub from_at : List PathRoute → ℕ → ℕ
+from_at routes i = from_in (slice_get routes i)
+
 -- of the routes below this number, n - 1 is the last one that leads to a point; where n is 0, none does
 pub record IsLast (routes : List PathRoute) (point below n : ℕ) : Type 0 where
   pub within : n ≤ below

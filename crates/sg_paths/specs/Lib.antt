@@ -6,4 +6,6 @@ pub mod Arrivals
 pub mod Ahead
 pub mod Crossing
 pub mod Reach
+pub mod Asked
+pub mod Whole
 pub mod Kept

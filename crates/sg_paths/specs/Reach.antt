@@ -8,13 +8,14 @@ use Rattle.sg_paths.specs.Arrivals.{AreArrivals}
 use Rattle.sg_paths.specs.Crossing.{AreWithin}
 use Rattle.sg_paths.specs.Trail.{AreShort}
 
--- there is room for so many points, for a place of each route, and for a path over each point
+-- there is room for so many points, for a place of each route, for a path over each point, and for one that is held
 pub record IsRoomy (routes : List PathRoute) (points : ℕ) (reach : Reach) : Type 0 where
   pub places : length reach.places.items ≡ points
   pub settled : points ≤ vec_capacity reach.settled
   pub ahead : HasPlaceFor routes reach.ahead
   pub short : AreShort reach.most routes
   pub best : points * reach.most ≤ vec_capacity reach.best
+  pub held : 128 ≤ vec_capacity reach.best
 
 -- routes join points that there are, and all steps of a search can be counted
 pub record CanSearch (points : ℕ) (routes : List PathRoute) (arrivals : Arrivals) : Type 0 where

@@ -1,12 +1,13 @@
 //! Routes to settled points, gone back over a link at a time.
 ghost use Rattle.std.specs.Prelude.{◌≡◌, ◌+◌, ◌*◌, ◌/◌, ◌^◌, ◌<◌, ◌≤◌, ℕ, None, length};
 ghost use Rattle.sg_heap.specs.Agenda.{key_at};
-ghost use Rattle.sg_paths.specs.Ahead.{EntersFrom, GoesBack, HasPlaceFor};
+ghost use Rattle.sg_paths.specs.Ahead.{EntersFrom, GoesBack, HasPlaceFor, MayGoBack};
 ghost use Rattle.sg_paths.specs.Arrivals.{AreArrivals};
 ghost use Rattle.sg_paths.specs.Trail.{links_at};
 
 use crate::arrivals::Arrivals;
 use crate::route::PathRoute;
+use crate::settle::{Known, settled_at};
 use crate::trail::links_at;
 use sg_base::{LinkId, Serial};
 use sg_heap::Agenda;
@@ -67,19 +68,39 @@ pub fn go_back(routes: &[PathRoute], ahead: &mut Ahead, i: usize, left: usize, m
     }
 }
 
-/// The routes that lead to a point which was just settled go back over their last links.
-pub fn enter(routes: &[PathRoute], arrivals: &Arrivals, ahead: &mut Ahead, point: u32, mark: Mark)
+/// A route goes back over its last link, unless it begins at a settled point: no path to be found takes it then.
+fn enter_one(routes: &[PathRoute], known: Known<'_>, ahead: &mut Ahead, i: usize, mark: Mark)
+    requires route { i < length routes.now }
+    requires places { HasPlaceFor routes.now ahead.old }
+    requires small { mark.date < 2 ^ 100 }
+    ensures { MayGoBack routes.now known.entry.settled.now.items i mark ahead.old ahead.new }
+{
+    if let Some(_place) = settled_at(known, routes[i].from) {
+        return;
+    }
+    let left = links_at(routes, i).len();
+    go_back(routes, ahead, i, left, mark);
+}
+
+/// The routes from points that aren't settled to one that just was go back over their last links.
+pub fn enter(
+    routes: &[PathRoute],
+    arrivals: &Arrivals,
+    known: Known<'_>,
+    ahead: &mut Ahead,
+    point: u32,
+    mark: Mark,
+)
     requires arrivals { AreArrivals (length arrivals.now.last.items) routes.now arrivals.now }
     requires point { point < length arrivals.now.last.items }
     requires places { HasPlaceFor routes.now ahead.old }
     requires small { mark.date < 2 ^ 100 }
-    ensures { EntersFrom routes.now point 0 mark ahead.old ahead.new }
+    ensures { EntersFrom routes.now known.entry.settled.now.items point 0 mark ahead.old ahead.new }
 {
     let mut next = arrivals.last[point as usize];
     while next > 0 {
         let i = next - 1;
-        let left = links_at(routes, i).len();
-        go_back(routes, ahead, i, left, mark);
+        enter_one(routes, known, ahead, i, mark);
         next = arrivals.before[i];
     }
 }

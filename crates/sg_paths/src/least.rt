@@ -7,7 +7,7 @@ ghost use Rattle.sg_paths.specs.Reach.{CanSearch, IsRoomy};
 use crate::ahead::{Ahead, Mark, clear, enter, go_back};
 use crate::arrivals::Arrivals;
 use crate::route::PathRoute;
-use crate::settle::{begin, place_of, settle};
+use crate::settle::{Known, begin, place_of, settle};
 use crate::trail::{Settled, write_links};
 use sg_base::LinkId;
 
@@ -24,8 +24,8 @@ pub struct Reach {
 
 /// Whether there is a path; where there is one, the least one's links are the best list.
 ///
-/// Points are settled from `to` on, the one with the least path first: the routes to those that are settled are gone back
-/// over a link at a time, the one first whose list from where it stands is least.
+/// Points are settled from `to` on, the one with the least path first: the routes from others to those that are settled are
+/// gone back over a link at a time, the one first whose list from where it stands is least.
 pub fn find(
     routes: &[PathRoute],
     arrivals: &Arrivals,
@@ -50,7 +50,11 @@ pub fn find(
         serial: 0,
         rank,
     };
-    enter(routes, arrivals, &mut reach.ahead, to, first);
+    let known = Known {
+        settled: &reach.settled,
+        places: &reach.places,
+    };
+    enter(routes, arrivals, known, &mut reach.ahead, to, first);
     'settling: while let Some((i, date, serial)) = reach.ahead.agenda.least() {
         let mark = Mark {
             date,
@@ -84,7 +88,11 @@ pub fn find(
             );
             return true;
         }
-        enter(routes, arrivals, &mut reach.ahead, point, mark);
+        let known = Known {
+            settled: &reach.settled,
+            places: &reach.places,
+        };
+        enter(routes, arrivals, known, &mut reach.ahead, point, mark);
         rank += 1;
     }
     false

@@ -3,9 +3,11 @@
 
 mod ahead;
 mod arrivals;
+mod asked;
 mod laws;
 mod least;
 mod paths;
+mod recall;
 mod room;
 mod route;
 mod settle;

@@ -3,12 +3,22 @@ ghost use Rattle.std.specs.Prelude.{◌≡◌, ◌≢◌, ◌<◌, All, IfOk, If
 ghost use Rattle.sg_paths.specs.Path.{HasNoPath, HasPath, IsLeast};
 
 use crate::arrivals::{Arrivals, arrivals_of};
-use crate::least::{Reach, find};
+use crate::asked::{Asked, room_for};
+use crate::least::Reach;
+use crate::recall::find_or_recall;
 use crate::room::{copy, countable, most_links, room};
 use crate::route::PathRoute;
 use sg_base::{LinkId, Memory};
 use std::alloc::Global;
 use std::marker::Model;
+
+/// How many paths are held: four for each point, and at most 4,096.
+fn places_for(points: u32, routes: usize) -> usize {
+    if routes == 0 {
+        return 0;
+    }
+    (points as usize).saturating_mul(4).min(4096)
+}
 
 /// Points, numbered from 0 on, and routes between them.
 #[derive(Drop)]
@@ -17,17 +27,18 @@ pub struct Paths {
     routes: Vec<PathRoute>,
     arrivals: Arrivals,
     reach: Reach,
+    asked: Vec<Option<Asked>>,
 }
 
 impl Model for Paths {
     ghost use Rattle.sg_paths.specs.Path.{Net};
-    ghost use Rattle.sg_paths.specs.Reach.{IsReady};
+    ghost use Rattle.sg_paths.specs.Whole.{IsWhole};
 
     ghost Value = { Net };
 
     ghost view = { λ p. record { points = p.points; routes = p.routes.items } };
 
-    ghost invariant = { λ p. IsReady p.points p.routes.items p.arrivals p.reach };
+    ghost invariant = { λ p. IsWhole p.points p.routes.items p.arrivals p.reach p.asked.items };
 }
 
 impl Paths {
@@ -46,11 +57,13 @@ impl Paths {
         let copied = copy(alloc, routes)?;
         let arrivals = arrivals_of(alloc, points as usize, routes)?;
         let reach = room(alloc, points as usize, routes.len(), most)?;
+        let asked = room_for(alloc, places_for(points, routes.len()))?;
         Ok(Paths {
             points,
             routes: copied,
             arrivals,
             reach,
+            asked,
         })
     }
 
@@ -58,7 +71,8 @@ impl Paths {
     /// time that it stands there, and of these of the one whose list is least, compared from the
     /// front. `None` is told exactly where there is no path, as where one of the points isn't there. It takes no memory.
     ///
-    /// It takes n log n steps at most, where n counts the routes and all their links, and touches only what it reaches.
+    /// It takes n log n steps at most, where n counts the routes and all their links, and touches only what it reaches. A
+    /// path of at most 128 links is held, and given again without a search, until another takes its place.
     pub fn search(&mut self, from: u32, to: u32) -> Option<&[LinkId]>
         requires { from ≢ to }
         ensures reached { IfSome result (λ links. HasPath self.old.routes from to links.now) }
@@ -69,10 +83,11 @@ impl Paths {
         if from >= self.points || to >= self.points {
             return None;
         }
-        if find(
+        if find_or_recall(
             self.routes.as_slice(),
             &self.arrivals,
             &mut self.reach,
+            &mut self.asked,
             from,
             to,
         ) {

@@ -5,6 +5,7 @@ ghost use Rattle.sg_paths.specs.Ahead.{steps_in};
 ghost use Rattle.sg_paths.specs.Trail.{AreShort};
 
 use crate::ahead::Ahead;
+use crate::asked::MOST;
 use crate::least::Reach;
 use crate::route::PathRoute;
 use crate::trail::links_at;
@@ -82,12 +83,13 @@ pub fn room(alloc: Global, points: usize, routes: usize, most: usize) -> Result<
     ensures slots { IfOk result (λ reach. length reach.ahead.agenda ≡ routes) }
     ensures lefts { IfOk result (λ reach. length reach.ahead.left.items ≡ routes) }
     ensures best { IfOk result (λ reach. points * most ≤ vec_capacity reach.best) }
+    ensures held { IfOk result (λ reach. 128 ≤ vec_capacity reach.best) }
     ensures most { IfOk result (λ reach. reach.most ≡ most) }
 {
     let Some(links) = points.checked_mul(most) else {
         return Err(Memory);
     };
-    let best = Vec::with_capacity(alloc, links)?;
+    let best = Vec::with_capacity(alloc, links.max(MOST))?;
     let places = vec![in alloc; 0; points]?;
     let settled = Vec::with_capacity(alloc, points)?;
     let ahead = ahead(alloc, routes)?;

@@ -4,6 +4,26 @@ ghost use Rattle.sg_paths.specs.Trail.{first_settled, HasPlaces, IsNew, IsSettle
 
 use crate::trail::Settled;
 
+/// The points that are settled, and the place of each.
+#[derive(Clone, Copy, Debug)]
+pub struct Known<'a> {
+    pub settled: &'a Vec<Settled>,
+    pub places: &'a Vec<usize>,
+}
+
+/// The place of a point, where it is settled.
+pub fn settled_at(known: Known<'_>, point: u32) -> Option<usize>
+    ensures { IfSome result (λ place. IsSettledAt known.entry.settled.now.items place point) }
+{
+    let Some(place) = known.places.get(point as usize) else {
+        return None;
+    };
+    match known.settled.get(*place) {
+        Some(other) if other.point == point => Some(*place),
+        _ => None,
+    }
+}
+
 /// The place of a settled point.
 pub fn place_of(settled: &[Settled], places: &[usize], point: u32) -> Option<usize>
     requires places { HasPlaces settled.now places.now }

@@ -297,10 +297,9 @@ fn agrees_with_a_slow_search(rt: HostRuntime) -> Result<(), Fail> {
         let mut paths = Paths::build(rt.alloc(), MANY, routes.as_slice())?;
         for from in 1..MANY {
             let list = lists.get(from as usize);
-            assert!(rt;
-                agrees(&mut paths, from, list),
-                "from {from} with seed {seed}"
-            );
+            let searched = agrees(&mut paths, from, list);
+            let held = agrees(&mut paths, from, list);
+            assert!(rt; searched && held, "from {from} with seed {seed}");
         }
     }
     Ok(())

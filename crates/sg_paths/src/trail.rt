@@ -25,7 +25,7 @@ pub fn links_at(routes: &[PathRoute], route: usize) -> &[LinkId]
 }
 
 /// Adds links behind others.
-fn add(links: &[LinkId], out: &mut Vec<LinkId>)
+pub fn add(links: &[LinkId], out: &mut Vec<LinkId>)
     requires { length out.old.items + length links.now ≤ vec_capacity out.old }
     ensures links { out.new.items ≡ out.old.items ++ links.now }
     ensures capacity { vec_capacity out.new ≡ vec_capacity out.old }

@@ -1,9 +1,7 @@
 -- The rows of a tree that has no fault are a deployment on its platform.
-use Rattle.std.proofs.Common.{◌≡◌, ℕ, ◌+◌, ◌<◌, ◌≤◌, IfSome, [], length, map, codes, Option, Some, None, refl, subst, arith}
+use Rattle.std.proofs.Common.{◌≡◌, ℕ, ◌<◌, ◌≤◌, [], length, map, codes, None, refl, subst, arith}
 use Rattle.std.proofs.lemmas.List.{length-map}
 use Rattle.std.proofs.lemmas.List.Elements.{All-map}
-use Rattle.std.specs.Map.{lookup}
-use Rattle.std.specs.Str.{bytes_eq}
 use Rattle.sg_base.specs.Limits.{Extent}
 use Rattle.sg_platform.proofs.KeptFunctions.{FindsWorkers, actor_function_kept}
 use Rattle.sg_platform.proofs.KeptRows.{actor_kept, mutex_kept, semaphore_kept}
@@ -12,12 +10,8 @@ use Rattle.sg_rows.specs.Deployment.{IsActorRow, IsDeployedOn, IsDeployment, IsF
 use Rattle.sg_platform.specs.DeploymentOf.{rows_of}
 use Rattle.sg_rows.specs.Platform.{Platform}
 use Rattle.sg_rules.proofs.Kept.{rows_few, rows_kept}
-use Rattle.sg_rules.proofs.KeptArguments.{workers_below}
-use Rattle.sg_rules.proofs.Small.{bound_of}
-use Rattle.sg_rules.specs.Arguments.{worker_numbers}
 use Rattle.sg_rules.specs.Faults.{faults_of, table_faults}
 use Rattle.sg_rules.specs.Names.{Known, deployment_known}
-use Rattle.sg_rules.specs.kept.NamesView.{AreSmall, FitsIn32}
 use Rattle.sg_rules.specs.Tables.{deployment_tables}
 use Rattle.sg_rules.specs.declared.tables.Table.TheVariants.{Actor, Mutex, Semaphore}
 use Rattle.sg_tree.proofs.Kept.{empty_left, empty_right, none_empty}
@@ -47,23 +41,6 @@ no_faults names tree none =
 pub known_hosts : (hosts : ℕ) (points : Finds) (tree : Members) → (deployment_known hosts points tree).hosts ≡ hosts
 unfolding deployment_known
 known_hosts hosts points tree = refl
-
-pub deployment_small : (hosts : ℕ) (points : Finds) (tree : Members) → FitsIn32 points → length (rows_at (codes "actor") tree) ≤ 65536 → AreSmall (deployment_known hosts points tree)
-unfolding deployment_known
-deployment_small hosts points tree fits few =
-    let rows = rows_at (codes "actor") tree in
-    record {
-      points = fits;
-      links = λ q i is. cc;
-      workers = λ q row is. next_small (lookup (bytes_eq q) (worker_numbers rows)) (length rows) few (workers_below rows q) row is;
-    }
-  where
-    next_small : (o : Option ℕ) (n : ℕ) → n ≤ 65536 → IfSome o (λ i. i < n) → (i : ℕ) → o ≡ Some i → i + 1 < 4294967296
-    next_small o n few below i is = let bound = bound_of o n below i is in omega (arith, few, bound)
-
--- a tree without faults has few actors
-pub actors_few : (names : Known) (tree : Members) → first (faults_of names deployment_tables tree) ≡ None → length (rows_at (codes "actor") tree) ≤ 65536
-actors_few names tree none = rows_few names tree Actor (no_faults names tree none).actors
 
 pub deployment_without_faults : (names : Known) (tree : Members) → FindsWorkers names (rows_at (codes "actor") tree) → first (faults_of names deployment_tables tree) ≡ None → IsDeployment (rows_of names tree)
 unfolding rows_of

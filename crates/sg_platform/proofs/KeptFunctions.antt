@@ -1,5 +1,5 @@
 -- What an actor does, where its row breaks no rule.
-use Rattle.std.proofs.Common.{◌≡◌, ℕ, ◌+◌, ◌<◌, ◌≤◌, Bool, true, false, cond, is_some, List, [], ◌∷◌, map, length, Option, Some, None, IfSome, unwrap_or, codes, refl, sym, subst, inl, inr, arith}
+use Rattle.std.proofs.Common.{◌≡◌, ℕ, ◌≤◌, Bool, true, false, cond, is_some, List, [], ◌∷◌, map, length, Option, Some, None, unwrap_or, codes, refl, sym, subst, inl, inr, arith}
 use Rattle.std.proofs.lemmas.Bool.{cases_Bool}
 use Rattle.std.proofs.lemmas.List.{length-map}
 use Rattle.std.proofs.lemmas.List.Elements.{All-cons, All-nil}
@@ -14,7 +14,7 @@ use Rattle.sg_platform.specs.Functions.{amount_of, arguments_at, function_of, ma
 use Rattle.sg_rows.specs.declared.rows.Function.TheVariants.{Replay, Worker}
 use Rattle.sg_rules.proofs.Greatest.{amount_within}
 use Rattle.sg_rules.proofs.Kept.{KeysKept}
-use Rattle.sg_rules.proofs.KeptArguments.{HasWorkers, arguments_fit, master_fits, tasks_within, workers_below, workers_fit}
+use Rattle.sg_rules.proofs.KeptArguments.{HasWorkers, IsNumbered, arguments_fit, master_fits, tasks_within, workers_fit, workers_numbered}
 use Rattle.sg_rules.specs.Arguments.{are_for_master, are_workers, has_function, text_of, worker_numbers}
 use Rattle.sg_rules.specs.Names.{Known}
 use Rattle.sg_rules.specs.Rules.{key_kinds}
@@ -27,7 +27,7 @@ use Rattle.sg_rules.specs.declared.tables.Table.TheVariants.{Actor}
 use Rattle.sg_tree.specs.Names.{Finds}
 use Rattle.toml.specs.Data.{Data}
 
--- workers are found by the rows of the actors
+-- workers are found by their identifiers
 abbrev pub FindsWorkers : Known → List Data → Type 0
 FindsWorkers names rows = (names.workers) ≡ (λ q. lookup (bytes_eq q) (worker_numbers rows))
 
@@ -38,17 +38,17 @@ value_bound (Some n) greatest within = within n refl
 amount_bound : (d : Data) → amount_of d ≤ 1000000000000000
 amount_bound d = value_bound (amount_value (text_of d)) 1000000000000000 (λ n same. amount_within (text_of d) n same)
 
-found_id : (extent : Extent) (found : Option ℕ) → is_some found ≡ true → IfSome found (λ row. row < extent.actors) → IsActorIn extent (record { 0 = unwrap_or found 0 + 1 })
-found_id extent None there below = cc
-found_id extent (Some row) there below = (omega arith, omega (arith, below))
+found_id : (extent : Extent) (found : Option ℕ) → is_some found ≡ true → IsNumbered extent.actors found → IsActorIn extent (record { 0 = unwrap_or found 1 })
+found_id extent None there numbered = cc
+found_id extent (Some id) there numbered = numbered
 
-ids_exist : (names : Known) (extent : Extent) → ((q : List ℕ) → IfSome (names.workers q) (λ row. row < extent.actors)) → (items : List Data)
+ids_exist : (names : Known) (extent : Extent) → ((q : List ℕ) → IsNumbered extent.actors (names.workers q)) → (items : List Data)
     → list_all (λ name. is_some (names.workers name)) (map text_of items) ≡ true → All (IsActorIn extent) (map (worker_id names) items)
-ids_exist names extent below [] known = All-nil (IsActorIn extent)
-ids_exist names extent below (d ∷ items) known =
+ids_exist names extent numbered [] known = All-nil (IsActorIn extent)
+ids_exist names extent numbered (d ∷ items) known =
     All-cons (IsActorIn extent) (worker_id names d) (map (worker_id names) items)
-    (found_id extent (names.workers (text_of d)) (and_left _ _ known) (below (text_of d)))
-    (ids_exist names extent below items (and_right _ _ known))
+    (found_id extent (names.workers (text_of d)) (and_left _ _ known) (numbered (text_of d)))
+    (ids_exist names extent numbered items (and_right _ _ known))
 
 master_kept : (names : Known) (rows : List Data) (extent : Extent) → FindsWorkers names rows → extent.actors ≡ length rows → length rows ≤ 65536 → (items : List Data)
     → are_for_master names.workers (map text_of items) ≡ true → IsFunction extent (master_of names items)
@@ -57,7 +57,9 @@ master_kept names rows extent finds same few (tasks ∷ []) fits = cc
 master_kept names rows extent finds same few (tasks ∷ (flops ∷ [])) fits = cc
 master_kept names rows extent finds same few (tasks ∷ (flops ∷ (bytes ∷ items))) fits =
     let workers : HasWorkers names.workers rows (map text_of items) = subst (λ (f : Finds). are_workers f (map text_of items) ≡ true → HasWorkers f rows (map text_of items)) (sym finds) (workers_fit rows (map text_of items)) (and_right _ _ fits) in
-    let below : (q : List ℕ) → IfSome (names.workers q) (λ row. row < extent.actors) = subst (λ (f : Finds). (q : List ℕ) → IfSome (f q) (λ row. row < extent.actors)) (sym finds) (λ q. subst (λ n. IfSome (lookup (bytes_eq q) (worker_numbers rows)) (λ row. row < n)) (sym same) (workers_below rows q)) in
+    let numbered : (q : List ℕ) → IsNumbered extent.actors (names.workers q)
+    = subst (λ (f : Finds). (q : List ℕ) → IsNumbered extent.actors (f q)) (sym finds)
+    (λ q. subst (λ n. IsNumbered n (lookup (bytes_eq q) (worker_numbers rows))) (sym same) (workers_numbered rows q)) in
     let texts = length-map items text_of in
     let ids = length-map items (worker_id names) in (
       tasks_within (amount_value (text_of tasks)) (and_left _ _ (and_left _ _ (and_left _ _ fits))),
@@ -65,7 +67,7 @@ master_kept names rows extent finds same few (tasks ∷ (flops ∷ (bytes ∷ it
       amount_bound bytes,
       omega (arith, ids, texts, workers.some),
       omega (arith, ids, texts, workers.few, few),
-      ids_exist names extent below items workers.known,
+      ids_exist names extent numbered items workers.known,
     )
 
 pub function_kept : (names : Known) (rows : List Data) (extent : Extent) → FindsWorkers names rows → extent.actors ≡ length rows → length rows ≤ 65536 → (number : ℕ) (row : Data)

@@ -1,26 +1,29 @@
 -- What holds of a row that breaks no rule.
-use Rattle.std.proofs.Common.{◌≡◌, ℕ, ◌+◌, ◌-◌, ◌<◌, ◌≤◌, ◌&&◌, false, cond, not, nat_le, nat_lt, ℤ, pos, negsuc, List, [], length, Option, Some, None, IfSome, option_and_then, option_map, unwrap_or, codes, refl, inl, inr, arith}
+use Rattle.std.proofs.Common.{◌≡◌, ℕ, ◌+◌, ◌-◌, ◌<◌, ◌≤◌, ◌&&◌, false, cond, not, nat_le, nat_lt, ℤ, pos, negsuc, List, [], ◌∷◌, length, Option, Some, None, IfSome, option_and_then, option_map, unwrap_or, codes, refl, inl, inr, arith}
+use Rattle.std.specs.List.{All}
 use Rattle.std.proofs.lemmas.Bool.{cases_Bool}
 use Rattle.std.proofs.lemmas.Bool.Decides.{nat_tests}
 use Rattle.sg_base.specs.declared.ids.Child.TheVariants.{Point as PointChild, Zone as ZoneChild}
 use Rattle.sg_rows.proofs.EndsBelow.{way_back_kept}
+use Rattle.sg_rows.proofs.Networks.{plain_kept}
 use Rattle.sg_platform.proofs.LinkLists.{required_links, value_link_list}
-use Rattle.sg_platform.specs.Build.{actor_row, capacity_or_zero, child_of, core_or_one, gateway, host_row, latency_or_zero, link_row, links_at, links_or_back, mutex_row, point_id, route_row, router_row, semaphore_row, spoke_row, zone_id, zone_route_row, zone_row}
+use Rattle.sg_platform.specs.Build.{actor_row, capacity_or_zero, child_of, core_or_one, gateway, host_row, link_row, links_at, links_or_back, mutex_row, network_of, network_row, point_id, route_row, router_row, semaphore_row, spoke_row, value_at, zone_id, zone_route_row, zone_row}
 use Rattle.sg_rows.specs.Deployment.{IsActorRow, IsSemaphoreRow}
 use Rattle.sg_rows.specs.Ends.{link_ends}
+use Rattle.sg_rows.specs.Network.{IsNetwork}
 use Rattle.sg_rows.specs.Platform.{Counts, IsChild, IsHostRow, IsLinkList, IsLinkRow, IsRouteRow, IsRouterRow, IsSpokeRow, IsZoneRouteRow, IsZoneRow}
 use Rattle.sg_rows.specs.declared.rows.ActorRow.{ActorRow}
 use Rattle.sg_rows.specs.declared.rows.LinkRow.{LinkRow}
-use Rattle.sg_rules.proofs.Greatest.{bandwidth_within, latency_within, speed_within}
-use Rattle.sg_rules.proofs.Kept.{KeysKept, child_end, end_there, host_there, latency_there, link_name_short, name_short, optional_text, point_there, rate_there, required_text, route_end_point, unbroken, zone_route_end_end, zone_there}
+use Rattle.sg_rules.proofs.Greatest.{amount_within, bandwidth_within, factor_within, latency_within, speed_within}
+use Rattle.sg_rules.proofs.Kept.{KeysKept, child_end, end_there, host_there, taken_there, link_name_short, name_short, optional_text, point_there, positive_there, required_text, route_end_point, unbroken, zone_route_end_end, zone_there}
 use Rattle.sg_rules.specs.LinkNames.{is_split}
 use Rattle.sg_rules.specs.Names.{Known}
-use Rattle.sg_rules.specs.Rules.{end_kinds, key_kinds, kinds_at, latency_kinds, names_zone, point_kinds, value_kinds, whole_kinds, zone_kinds}
+use Rattle.sg_rules.specs.Rules.{end_kinds, key_kinds, kinds_at, refused_kinds, names_zone, point_kinds, positive_kinds, value_kinds, whole_kinds, zone_kinds}
 use Rattle.sg_rules.specs.Tables.{key, keys_of, word_text}
-use Rattle.sg_rules.specs.Units.{bandwidth_value, latency_value, speed_value}
+use Rattle.sg_rules.specs.Units.{amount_value, bandwidth_value, factor_value, latency_value, speed_value}
 use Rattle.sg_rules.specs.declared.tables.Need.TheVariants.{Required, Optional, IfZone}
 use Rattle.sg_rules.specs.declared.tables.Rule.TheVariants as rule
-use Rattle.sg_rules.specs.declared.tables.Table.TheVariants.{Zone, Host, Router, Link, Route, ZoneRoute, Spoke, Actor, Mutex, Semaphore}
+use Rattle.sg_rules.specs.declared.tables.Table.TheVariants.{Zone, Host, Router, Link, Route, ZoneRoute, Spoke, Network, Actor, Mutex, Semaphore}
 use Rattle.sg_rules.specs.declared.tables.Word.{Word}
 use Rattle.sg_rules.specs.declared.tables.Word.TheVariants as word
 use Rattle.sg_tree.specs.Faults.{of_type}
@@ -122,7 +125,7 @@ host_kept names counts counted number row kept =
     let id = required_text names number row word.Id rule.NewPoint refl kept.0 in
     let zone = required_text names number row word.Zone rule.ZoneName refl kept.1.0 in
     let speed = required_text names number row word.Speed rule.SpeedText refl kept.1.1.0 in
-    let rate = rate_there (speed_value speed.0) speed.2 in
+    let rate = positive_there (speed_value speed.0) speed.2 in
     let cores = core_bounds (option_and_then as_integer (get (codes "core") row)) in
     record {
       id = rw id.1 (name_short names.points number id.0 id.2);
@@ -143,24 +146,58 @@ router_kept names counts counted number row kept =
       zone = rw zone.1 (zone_below names counts counted zone.0 zone.2);
     }
 
-latency_bound : (o : Option (List ℕ)) → ((text : List ℕ) → o ≡ Some text → latency_kinds (latency_value text) ≡ []) → latency_or_zero o ≤ 1000000000000000
-latency_bound None kept = omega arith
-latency_bound (Some text) kept =
-    let there = latency_there (latency_value text) (kept text refl) in
-    rw there.1 (latency_within text there.0 there.1)
+-- what holds of the default and of each text that a reader takes
+text_holds : (P : ℕ → Type 0) (reader : List ℕ → Option ℕ) (default : ℕ) → P default → (o : Option (List ℕ)) → ((text : List ℕ) → o ≡ Some text → (n : ℕ) × (reader text ≡ Some n) × P n)
+    → P (unwrap_or (option_and_then reader o) default)
+text_holds P reader default p None kept = p
+text_holds P reader default p (Some text) kept = let there = kept text refl in rw there.1 there.2
+
+taken_within : (reader : List ℕ → Option ℕ) (greatest : ℕ) → ((text : List ℕ) (n : ℕ) → reader text ≡ Some n → n ≤ greatest) → (text : List ℕ) → refused_kinds (reader text) ≡ []
+    → (n : ℕ) × (reader text ≡ Some n) × (n ≤ greatest)
+taken_within reader greatest within text kept =
+    let there = taken_there (reader text) kept in
+    (there.0, there.1, within text there.0 there.1)
 
 pub link_kept : (names : Known) (number : ℕ) (row : Data) → KeysKept names number row (keys_of Link) → IsLinkRow (link_row row)
 unfolding link_row
 link_kept names number row kept =
     let id = required_text names number row word.Id rule.NewLink refl kept.0 in
     let bandwidth = required_text names number row word.Bandwidth rule.BandwidthText refl kept.1.0 in
-    let rate = rate_there (bandwidth_value bandwidth.0) bandwidth.2 in
+    let rate = positive_there (bandwidth_value bandwidth.0) bandwidth.2 in
     record {
       id = rw id.1 (link_name_short names.taken number (is_split row) id.0 id.2);
       some_bandwidth = rw (bandwidth.1, rate.1) rate.2;
       bandwidth = rw (bandwidth.1, rate.1) (bandwidth_within bandwidth.0 rate.0 rate.1);
-      latency = latency_bound (text_at (codes "latency") row) (optional_text names number row word.Latency rule.LatencyText refl kept.1.1.0);
+      latency = text_holds (λ n. n ≤ 1000000000000000) latency_value 0 (omega arith) (text_at (codes "latency") row)
+          (λ text there. taken_within latency_value 1000000000000000 latency_within text (optional_text names number row word.Latency rule.LatencyText refl kept.1.1.0 text there));
     }
+
+abbrev IsPositiveFactor : ℕ → Type 0
+IsPositiveFactor n = (1 ≤ n) × (n ≤ 1000000000)
+
+positive_factor : (text : List ℕ) → positive_kinds (factor_value text) ≡ [] → (n : ℕ) × (factor_value text ≡ Some n) × IsPositiveFactor n
+positive_factor text kept =
+    let there = positive_there (factor_value text) kept in
+    (there.0, there.1, (there.2, factor_within text there.0 there.1))
+
+pub network_row_kept : (names : Known) (number : ℕ) (row : Data) → KeysKept names number row (keys_of Network) → IsNetwork (network_row row)
+unfolding network_row
+network_row_kept names number row kept =
+    let bandwidth : IsPositiveFactor (value_at factor_value 1000000 (codes "bandwidth_factor") row)
+    = text_holds IsPositiveFactor factor_value 1000000 (omega arith, omega arith) (text_at (codes "bandwidth_factor") row)
+    (λ text there. positive_factor text (optional_text names number row word.BandwidthFactor rule.PositiveFactorText refl kept.1.0 text there)) in
+    record {
+      latency_factor = text_holds (λ n. n ≤ 1000000000) factor_value 1000000 (omega arith) (text_at (codes "latency_factor") row)
+          (λ text there. taken_within factor_value 1000000000 factor_within text (optional_text names number row word.LatencyFactor rule.FactorText refl kept.0 text there));
+      some_bandwidth = bandwidth.0;
+      bandwidth_factor = bandwidth.1;
+      window = text_holds (λ n. n ≤ 1000000000000000) amount_value 0 (omega arith) (text_at (codes "window") row)
+          (λ text there. taken_within amount_value 1000000000000000 amount_within text (optional_text names number row word.Window rule.AmountText refl kept.1.1.0 text there));
+    }
+
+pub network_kept : (rows : List Data) → All (λ row. IsNetwork (network_row row)) rows → IsNetwork (network_of rows)
+network_kept [] kept = plain_kept
+network_kept (row ∷ rows) kept = kept 0 row (omega arith)
 
 pub route_kept : (names : Known) (counts : Counts) → IsCounted names counts → (number : ℕ) (row : Data) → KeysKept names number row (keys_of Route) → IsRouteRow counts (route_row names row)
 unfolding route_row

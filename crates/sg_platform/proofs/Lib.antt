@@ -3,4 +3,5 @@ pub mod Deployed
 pub mod KeptFunctions
 pub mod KeptRows
 pub mod LinkLists
+pub mod RowsRead
 pub mod Whole

@@ -4,20 +4,20 @@ use Rattle.std.proofs.lemmas.List.{length-map}
 use Rattle.std.proofs.lemmas.List.Elements.{All-map}
 use Rattle.std.specs.List.{All, flat_map}
 use Rattle.sg_rows.proofs.EndsBelow.{link_ends_count}
-use Rattle.sg_platform.proofs.KeptRows.{IsCounted, host_kept, link_kept, route_kept, router_kept, spoke_kept, zone_kept, zone_route_kept}
-use Rattle.sg_platform.specs.Build.{host_row, link_row, route_row, router_row, spoke_row, zone_route_row, zone_row}
+use Rattle.sg_platform.proofs.KeptRows.{IsCounted, host_kept, link_kept, network_kept, network_row_kept, route_kept, router_kept, spoke_kept, zone_kept, zone_route_kept}
+use Rattle.sg_platform.specs.Build.{host_row, link_row, network_row, route_row, router_row, spoke_row, zone_route_row, zone_row}
 use Rattle.sg_rows.specs.Ends.{ends_from, ends_of, link_ends}
+use Rattle.sg_rows.specs.Network.{IsNetwork}
 use Rattle.sg_rows.specs.Platform.{Counts, IsHostRow, IsLinkRow, IsPlatform, IsRouteRow, IsRouterRow, IsSpokeRow, IsZoneRouteRow, IsZoneRow, counts_of}
 use Rattle.sg_platform.specs.PlatformOf.{links_of, rows_of}
 use Rattle.sg_rows.specs.declared.rows.Policy.TheVariants.{Shared, Fatpipe, SplitDuplex}
 use Rattle.sg_rules.proofs.Kept.{rows_few, rows_kept}
-use Rattle.sg_rules.proofs.Small.{known_links, known_points, links_below, platform_small, points_below}
+use Rattle.sg_rules.proofs.NumbersBelow.{known_links, known_points, links_below, points_below}
 use Rattle.sg_rules.specs.Faults.{faults_of, table_faults}
 use Rattle.sg_rules.specs.LinkNames.{is_split, link_names, names_by}
 use Rattle.sg_rules.specs.Names.{Known, platform_known}
-use Rattle.sg_rules.specs.kept.NamesView.{AreSmall}
 use Rattle.sg_rules.specs.Tables.{platform_tables}
-use Rattle.sg_rules.specs.declared.tables.Table.TheVariants.{Zone, Host, Router, Link, Route, ZoneRoute, Spoke}
+use Rattle.sg_rules.specs.declared.tables.Table.TheVariants.{Zone, Host, Router, Link, Route, ZoneRoute, Spoke, Network}
 use Rattle.sg_tree.proofs.Bounds.{below_all}
 use Rattle.sg_tree.proofs.Kept.{empty_left, empty_right, none_empty}
 use Rattle.sg_tree.specs.Along.{first}
@@ -37,6 +37,7 @@ pub record NoFaults (names : Known) (tree : Members) : Type 0 where
   pub routes : table_faults names tree Route ≡ []
   pub zone_routes : table_faults names tree ZoneRoute ≡ []
   pub spokes : table_faults names tree Spoke ≡ []
+  pub network : table_faults names tree Network ≡ []
 
 pub no_faults : (names : Known) (tree : Members) → first (faults_of names platform_tables tree) ≡ None → NoFaults names tree
 unfolding faults_of
@@ -48,6 +49,7 @@ no_faults names tree none =
     let routes = empty_right _ _ links in
     let zone_routes = empty_right _ _ routes in
     let spokes = empty_right _ _ zone_routes in
+    let network = empty_right _ _ spokes in
     record {
       zones = empty_left _ _ zones;
       hosts = empty_left _ _ hosts;
@@ -56,17 +58,8 @@ no_faults names tree none =
       routes = empty_left _ _ routes;
       zone_routes = empty_left _ _ zone_routes;
       spokes = empty_left _ _ spokes;
+      network = empty_left _ _ network;
     }
-
-pub small_without_faults : (names : Known) (tree : Members) → names ≡ platform_known tree → first (faults_of names platform_tables tree) ≡ None → AreSmall names
-small_without_faults names tree known none =
-    let kept = no_faults names tree none in
-    subst AreSmall (sym known) (platform_small tree (record {
-      zones = rows_few names tree Zone kept.zones;
-      hosts = rows_few names tree Host kept.hosts;
-      routers = rows_few names tree Router kept.routers;
-      links = rows_few names tree Link kept.links;
-    }))
 
 -- a row gives at least as many links as names of links
 names_fit : (split other : Bool) (id : Option (List ℕ)) (first latency : ℕ) → length (names_by split id) ≤ length (ends_of first latency (cond split SplitDuplex (cond other Fatpipe Shared)))
@@ -148,6 +141,7 @@ rows_platform names tree counts same kept ends none =
           (All-map (IsZoneRouteRow counts) (zone_route_row names) zone_routes (rows_kept names tree ZoneRoute (λ row. IsZoneRouteRow counts (zone_route_row names row)) (λ number row fine. zone_route_kept names counts kept number row fine) none.zone_routes));
       spokes = subst (λ c. All (IsSpokeRow c) (map spoke spokes)) same
           (All-map (IsSpokeRow counts) spoke spokes (rows_kept names tree Spoke (λ row. IsSpokeRow counts (spoke row)) (λ number row fine. spoke_kept names counts kept (links_of tree) ends number row fine) none.spokes));
+      network = network_kept (rows_at (codes "network") tree) (rows_kept names tree Network (λ row. IsNetwork (network_row row)) (λ number row fine. network_row_kept names number row fine) none.network);
     }
 
 links_count : (tree : Members) → (counts_in tree).links ≡ length (link_ends (links_of tree))

@@ -1,5 +1,5 @@
 -- The rows that a tree gives, where it has no fault. A value that is missing or unfit stands for its default here.
-use Rattle.std.specs.Prelude.{ℕ, ◌-◌, ◌&&◌, true, ℤ, pos, negsuc, nat_le, nat_lt, List, [], map, if◌then◌else◌, Option, Some, None, option_map, option_and_then, unwrap_or, codes}
+use Rattle.std.specs.Prelude.{ℕ, ◌-◌, ◌&&◌, true, ℤ, pos, negsuc, nat_le, nat_lt, List, [], ◌∷◌, map, if◌then◌else◌, Option, Some, None, option_map, option_and_then, unwrap_or, codes}
 use Rattle.std.specs.Str.{bytes_eq}
 use Rattle.sg_base.specs.declared.ids.Child.{Child}
 use Rattle.sg_base.specs.declared.ids.Child.TheVariants.{Point as PointChild, Zone as ZoneChild}
@@ -7,8 +7,10 @@ use Rattle.sg_base.specs.declared.ids.LinkId.{LinkId}
 use Rattle.sg_base.specs.declared.ids.PointId.{PointId}
 use Rattle.sg_base.specs.declared.ids.ZoneId.{ZoneId}
 use Rattle.sg_rows.specs.Ends.{way_back}
+use Rattle.sg_rows.specs.Network.{plain_network}
 use Rattle.sg_platform.specs.Functions.{function_of}
 use Rattle.sg_rows.specs.declared.ends.LinkEnd.{LinkEnd}
+use Rattle.sg_rows.specs.declared.network.Network.{Network}
 use Rattle.sg_rows.specs.declared.rows.ActorRow.{ActorRow}
 use Rattle.sg_rows.specs.declared.rows.HostRow.{HostRow}
 use Rattle.sg_rows.specs.declared.rows.LinkRow.{LinkRow}
@@ -25,7 +27,7 @@ use Rattle.sg_rows.specs.declared.rows.ZoneRouteRow.{ZoneRouteRow}
 use Rattle.sg_rows.specs.declared.rows.ZoneRow.{ZoneRow}
 use Rattle.sg_rules.specs.Pairs.{truth_or}
 use Rattle.sg_rules.specs.Names.{Known}
-use Rattle.sg_rules.specs.Units.{bandwidth_value, latency_value, speed_value}
+use Rattle.sg_rules.specs.Units.{amount_value, bandwidth_value, factor_value, latency_value, speed_value}
 use Rattle.sg_tree.specs.Names.{Finds}
 use Rattle.sg_tree.specs.Tree.{items_or_none, text_at, text_or_empty}
 use Rattle.toml.specs.Data.{Data, get, as_array, as_integer, as_str}
@@ -69,12 +71,12 @@ gateway names row key end = point_id names (unwrap_or (text_at key row) (text_or
 abbrev pub bandwidth_of : List ℕ → ℕ
 bandwidth_of text = unwrap_or (bandwidth_value text) 0
 
-abbrev pub latency_or_zero : Option (List ℕ) → ℕ
-latency_or_zero None = 0
-latency_or_zero (Some text) = unwrap_or (latency_value text) 0
+-- the text at a key, by its reader, or this default
+abbrev pub value_at : (List ℕ → Option ℕ) → ℕ → List ℕ → Data → ℕ
+value_at reader default key row = unwrap_or (option_and_then reader (text_at key row)) default
 
 abbrev pub latency_of : Data → ℕ
-latency_of row = latency_or_zero (text_at (codes "latency") row)
+latency_of row = value_at latency_value 0 (codes "latency") row
 
 abbrev pub policy_of : List ℕ → Policy
 policy_of text = if bytes_eq text (codes "SPLITDUPLEX") then SplitDuplex else if bytes_eq text (codes "FATPIPE") then Fatpipe else Shared
@@ -167,3 +169,15 @@ actor_row names row = record {
   host = point_id names (text_or_empty (codes "host") row);
   function = function_of names row;
 }
+
+unfoldable pub network_row : Data → Network
+network_row row = record {
+  latency_factor = value_at factor_value plain_network.latency_factor (codes "latency_factor") row;
+  bandwidth_factor = value_at factor_value plain_network.bandwidth_factor (codes "bandwidth_factor") row;
+  window = value_at amount_value plain_network.window (codes "window") row;
+}
+
+-- that of the one row that there may be
+abbrev pub network_of : List Data → Network
+network_of [] = plain_network
+network_of (row ∷ rows) = network_row row

@@ -1,5 +1,5 @@
 -- What the actors of a tree do, where it has no fault.
-use Rattle.std.specs.Prelude.{ℕ, ◌+◌, List, [], ◌∷◌, map, if◌then◌else◌, option_and_then, unwrap_or, codes}
+use Rattle.std.specs.Prelude.{ℕ, List, [], ◌∷◌, map, if◌then◌else◌, option_and_then, unwrap_or, codes}
 use Rattle.sg_base.specs.declared.ids.ActorId.{ActorId}
 use Rattle.sg_rows.specs.declared.rows.Function.{Function}
 use Rattle.sg_rows.specs.declared.rows.Function.TheVariants.{Replay, Worker, Master}
@@ -16,9 +16,9 @@ arguments_at row = items_or_none (option_and_then as_array (get (codes "argument
 abbrev pub amount_of : Data → ℕ
 amount_of d = unwrap_or (amount_value (text_of d)) 0
 
--- the worker that an argument names; the first actor has the identifier 1
+-- the worker that an argument names
 abbrev pub worker_id : Known → Data → ActorId
-worker_id names d = record { 0 = unwrap_or (names.workers (text_of d)) 0 + 1 }
+worker_id names d = record { 0 = unwrap_or (names.workers (text_of d)) 1 }
 
 -- the count of tasks, the flops and the bytes of each, and the workers in their order
 abbrev pub master_of : Known → List Data → Function

@@ -1,45 +1,48 @@
 //! Makes rows of a tree that has no fault.
-ghost use Rattle.std.specs.Prelude.{◌≡◌, IfOk, map};
+ghost use Rattle.std.specs.Prelude.{◌≡◌, ℕ, List, IfOk, map};
 ghost use Rattle.std.specs.HashMap.{get_by_text};
-ghost use Rattle.sg_platform.specs.Build.{actor_row, bandwidth_of, capacity_of, child_of, core_count, down_links, gateway, host_row, latency_of, link_id, link_of, link_row, links_at, mutex_row, number_of, point_id, policy_of, route_row, router_row, routing_of, semaphore_row, speed_of, spoke_row, zone_id, zone_route_row, zone_row};
-ghost use Rattle.sg_rules.specs.kept.NamesView.{AreSmall, FitsIn32, names_view};
+ghost use Rattle.sg_platform.specs.Build.{actor_row, bandwidth_of, capacity_of, child_of, core_count, down_links, gateway, host_row, latency_of, link_id, link_of, link_row, links_at, mutex_row, network_of, network_row, number_of, point_id, policy_of, route_row, router_row, routing_of, semaphore_row, speed_of, spoke_row, value_at, zone_id, zone_route_row, zone_row};
+ghost use Rattle.sg_rows.specs.declared.ends.LinkEnd.{LinkEnd};
+ghost use Rattle.sg_rules.specs.Names.{Known};
+ghost use Rattle.sg_rules.specs.Units.{amount_value, factor_value};
+ghost use Rattle.sg_rules.specs.kept.NamesView.{names_view};
+ghost use Rattle.toml.specs.Data.{Data};
 ghost use Rattle.toml.specs.View.{view};
 
 use crate::functions::function_of;
 use indexmap::IndexMap;
 use sg_base::{Child, LinkId, Links, Memory, PointId, Text, ZoneId};
 use sg_rows::{
-    ActorRow, HostRow, LinkEnd, LinkRow, MutexRow, Policy, RouteRow, RouterRow, Routing,
+    ActorRow, HostRow, LinkEnd, LinkRow, MutexRow, Network, Policy, RouteRow, RouterRow, Routing,
     SemaphoreRow, SpokeRow, ZoneRouteRow, ZoneRow, way_back,
 };
-use sg_rules::{Names, bandwidth_value, is_symmetrical, latency_value, speed_value};
+use sg_rules::{
+    Names, amount_value, bandwidth_value, factor_value, is_symmetrical, latency_value, speed_value,
+};
 use sg_tree::{text_at, text_or_empty};
 use std::alloc::Global;
 use toml::Value;
 
-fn number_of(space: &IndexMap<String, usize>, name: &str) -> u32
-    requires { FitsIn32 (λ q. get_by_text space.now q) }
+fn number_of(space: &IndexMap<String, u32>, name: &str) -> u32
     ensures { result ≡ number_of (λ q. get_by_text space.now q) name.now }
 {
     match space.get(name) {
-        Some(number) => *number as u32,
+        Some(number) => *number,
         None => 0,
     }
 }
 
 fn zone_id(names: &Names, name: &str) -> ZoneId
-    requires { AreSmall (names_view names.now) }
     ensures { result ≡ zone_id (names_view names.now) name.now }
 {
     ZoneId(number_of(&names.points, name))
 }
 
 fn point_id(names: &Names, name: &str) -> PointId
-    requires { AreSmall (names_view names.now) }
     ensures { result ≡ point_id (names_view names.now) name.now }
 {
     let number = number_of(&names.points, name);
-    PointId((number as usize).saturating_sub(names.zones) as u32)
+    PointId(number.saturating_sub(names.zones))
 }
 
 fn routing_of(text: &str) -> Routing
@@ -77,27 +80,24 @@ fn core_count(row: &Value) -> u32
 }
 
 fn link_id(names: &Names, name: &str) -> LinkId
-    requires { AreSmall (names_view names.now) }
     ensures { result ≡ link_id (names_view names.now) name.now }
 {
     LinkId(number_of(&names.links, name))
 }
 
 fn child_of(names: &Names, name: &str) -> Child
-    requires { AreSmall (names_view names.now) }
     ensures { result ≡ child_of (names_view names.now) name.now }
 {
     let number = number_of(&names.points, name);
-    if (number as usize) < names.zones {
+    if number < names.zones {
         Child::Zone(ZoneId(number))
     } else {
-        Child::Point(PointId((number as usize).saturating_sub(names.zones) as u32))
+        Child::Point(PointId(number.saturating_sub(names.zones)))
     }
 }
 
 /// The point that a key names; where it is absent, the end is its own gateway.
 fn gateway(names: &Names, row: &Value, key: &str, end: &str) -> PointId
-    requires { AreSmall (names_view names.now) }
     ensures { result ≡ gateway (names_view names.now) (view row.now) key.now end.now }
 {
     match text_at(row, key) {
@@ -146,8 +146,8 @@ fn capacity_of(row: &Value) -> u64
 }
 
 fn links_in(alloc: Global, names: &Names, items: &[Value]) -> Result<Links, Memory>
-    requires { AreSmall (names_view names.now) }
-    ensures { IfOk result (λ links. links ≡ map (λ d. link_of (names_view names.now) d) (map view items.now)) }
+    ensures { IfOk result
+        (λ links. links ≡ map (λ d. link_of (names_view names.now) d) (map view items.now)) }
 {
     let mut made = Vec::new(alloc);
     for item in items {
@@ -163,8 +163,8 @@ fn links_in(alloc: Global, names: &Names, items: &[Value]) -> Result<Links, Memo
 /// The links that a list at a key names.
 #[tactic(auto, using(sg_tree::proofs::TreeLemmas::list_of_items))]
 fn links_at(alloc: Global, names: &Names, row: &Value, key: &str) -> Result<Links, Memory>
-    requires { AreSmall (names_view names.now) }
-    ensures { IfOk result (λ links. links ≡ links_at (names_view names.now) key.now (view row.now)) }
+    ensures { IfOk result
+        (λ links. links ≡ links_at (names_view names.now) key.now (view row.now)) }
 {
     match row.get(key) {
         Some(value) => match value.as_array() {
@@ -175,103 +175,6 @@ fn links_at(alloc: Global, names: &Names, row: &Value, key: &str) -> Result<Link
     }
 }
 
-#[tactic(auto, unfolding(crate::specs::Build::zone_row))]
-fn zone_row(alloc: Global, names: &Names, row: &Value) -> Result<ZoneRow, Memory>
-    requires { AreSmall (names_view names.now) }
-    ensures { IfOk result (λ r. r ≡ zone_row (names_view names.now) (view row.now)) }
-{
-    let id = Text::new(alloc, text_or_empty(row, "id"))?;
-    let parent = match text_at(row, "parent") {
-        Some(name) => Some(zone_id(names, name)),
-        None => None,
-    };
-    let routing = routing_of(text_or_empty(row, "routing"));
-    Ok(ZoneRow {
-        id,
-        parent,
-        routing,
-    })
-}
-
-#[tactic(auto, unfolding(crate::specs::Build::host_row))]
-fn host_row(alloc: Global, names: &Names, row: &Value) -> Result<HostRow, Memory>
-    requires { AreSmall (names_view names.now) }
-    ensures { IfOk result (λ r. r ≡ host_row (names_view names.now) (view row.now)) }
-{
-    let id = Text::new(alloc, text_or_empty(row, "id"))?;
-    let zone = zone_id(names, text_or_empty(row, "zone"));
-    let speed = speed_of(text_or_empty(row, "speed"));
-    let cores = core_count(row);
-    Ok(HostRow {
-        id,
-        zone,
-        speed,
-        cores,
-    })
-}
-
-#[tactic(auto, unfolding(crate::specs::Build::router_row))]
-fn router_row(alloc: Global, names: &Names, row: &Value) -> Result<RouterRow, Memory>
-    requires { AreSmall (names_view names.now) }
-    ensures { IfOk result (λ r. r ≡ router_row (names_view names.now) (view row.now)) }
-{
-    let id = Text::new(alloc, text_or_empty(row, "id"))?;
-    let zone = zone_id(names, text_or_empty(row, "zone"));
-    Ok(RouterRow { id, zone })
-}
-
-#[tactic(auto, unfolding(crate::specs::Build::link_row))]
-fn link_row(alloc: Global, row: &Value) -> Result<LinkRow, Memory>
-    ensures { IfOk result (λ r. r ≡ link_row (view row.now)) }
-{
-    let id = Text::new(alloc, text_or_empty(row, "id"))?;
-    let bandwidth = bandwidth_of(text_or_empty(row, "bandwidth"));
-    let latency = latency_of(row);
-    let policy = policy_of(text_or_empty(row, "sharing_policy"));
-    Ok(LinkRow {
-        id,
-        bandwidth,
-        latency,
-        policy,
-    })
-}
-
-#[tactic(auto, unfolding(crate::specs::Build::route_row))]
-fn route_row(alloc: Global, names: &Names, row: &Value) -> Result<RouteRow, Memory>
-    requires { AreSmall (names_view names.now) }
-    ensures { IfOk result (λ r. r ≡ route_row (names_view names.now) (view row.now)) }
-{
-    let src = point_id(names, text_or_empty(row, "src"));
-    let dst = point_id(names, text_or_empty(row, "dst"));
-    let links = links_at(alloc, names, row, "links")?;
-    Ok(RouteRow {
-        src,
-        dst,
-        links,
-        symmetrical: is_symmetrical(row),
-    })
-}
-
-#[tactic(auto, unfolding(crate::specs::Build::zone_route_row))]
-fn zone_route_row(alloc: Global, names: &Names, row: &Value) -> Result<ZoneRouteRow, Memory>
-    requires { AreSmall (names_view names.now) }
-    ensures { IfOk result (λ r. r ≡ zone_route_row (names_view names.now) (view row.now)) }
-{
-    let src = child_of(names, text_or_empty(row, "src"));
-    let dst = child_of(names, text_or_empty(row, "dst"));
-    let gw_src = gateway(names, row, "gw_src", "src");
-    let gw_dst = gateway(names, row, "gw_dst", "dst");
-    let links = links_at(alloc, names, row, "links")?;
-    Ok(ZoneRouteRow {
-        src,
-        dst,
-        gw_src,
-        gw_dst,
-        links,
-        symmetrical: is_symmetrical(row),
-    })
-}
-
 /// The links down to a child: by default the way back of those up.
 fn down_links(
     alloc: Global,
@@ -280,8 +183,9 @@ fn down_links(
     row: &Value,
     up: &[LinkId],
 ) -> Result<Links, Memory>
-    requires { AreSmall (names_view names.now) }
-    ensures { IfOk result (λ links. links ≡ down_links (names_view names.now) ends.now (view row.now) up.now) }
+    ensures { IfOk result
+        (λ links. links
+        ≡ down_links (names_view names.now) ends.now (view row.now) up.now) }
 {
     match row.get("down") {
         Some(_) => links_at(alloc, names, row, "down"),
@@ -289,186 +193,283 @@ fn down_links(
     }
 }
 
-#[tactic(auto, unfolding(crate::specs::Build::spoke_row))]
-fn spoke_row(
-    alloc: Global,
-    names: &Names,
-    ends: &[LinkEnd],
-    row: &Value,
-) -> Result<SpokeRow, Memory>
-    requires { AreSmall (names_view names.now) }
-    ensures { IfOk result (λ r. r ≡ spoke_row (names_view names.now) ends.now (view row.now)) }
+/// The factor that a key gives in millionths; 1 where it is absent.
+fn factor_at(row: &Value, key: &str) -> u64
+    ensures { result ≡ value_at factor_value 1000000 key.now (view row.now) }
 {
-    let zone = zone_id(names, text_or_empty(row, "zone"));
-    let child = child_of(names, text_or_empty(row, "child"));
-    let gateway = gateway(names, row, "gateway", "child");
-    let up = links_at(alloc, names, row, "up")?;
-    let down = down_links(alloc, names, ends, row, up.as_slice())?;
-    Ok(SpokeRow {
-        zone,
-        child,
-        gateway,
-        up,
-        down,
-    })
-}
-
-#[tactic(auto, unfolding(crate::specs::Build::mutex_row))]
-fn mutex_row(alloc: Global, row: &Value) -> Result<MutexRow, Memory>
-    ensures { IfOk result (λ r. r ≡ mutex_row (view row.now)) }
-{
-    let id = Text::new(alloc, text_or_empty(row, "id"))?;
-    Ok(MutexRow { id })
-}
-
-#[tactic(auto, unfolding(crate::specs::Build::semaphore_row))]
-fn semaphore_row(alloc: Global, row: &Value) -> Result<SemaphoreRow, Memory>
-    ensures { IfOk result (λ r. r ≡ semaphore_row (view row.now)) }
-{
-    let id = Text::new(alloc, text_or_empty(row, "id"))?;
-    Ok(SemaphoreRow {
-        id,
-        capacity: capacity_of(row),
-    })
-}
-
-#[tactic(auto, unfolding(crate::specs::Build::actor_row))]
-fn actor_row(alloc: Global, names: &Names, row: &Value) -> Result<ActorRow, Memory>
-    requires { AreSmall (names_view names.now) }
-    ensures { IfOk result (λ r. r ≡ actor_row (names_view names.now) (view row.now)) }
-{
-    let name = Text::new(alloc, text_or_empty(row, "name"))?;
-    let host = point_id(names, text_or_empty(row, "host"));
-    let function = function_of(alloc, names, row)?;
-    Ok(ActorRow {
-        name,
-        host,
-        function,
-    })
-}
-
-/// The zones.
-pub fn zone_rows(alloc: Global, names: &Names, rows: &[Value]) -> Result<Vec<ZoneRow>, Memory>
-    requires { AreSmall (names_view names.now) }
-    ensures { IfOk result (λ made. made.items ≡ map (zone_row (names_view names.now)) (map view rows.now)) }
-{
-    let mut made = Vec::new(alloc);
-    for row in rows {
-        made.push(zone_row(alloc, names, row)?)?;
+    match text_at(row, key) {
+        Some(text) => factor_value(text.as_bytes()).unwrap_or(1_000_000),
+        None => 1_000_000,
     }
-    Ok(made)
 }
 
-/// The hosts.
-pub fn host_rows(alloc: Global, names: &Names, rows: &[Value]) -> Result<Vec<HostRow>, Memory>
-    requires { AreSmall (names_view names.now) }
-    ensures { IfOk result (λ made. made.items ≡ map (host_row (names_view names.now)) (map view rows.now)) }
+/// The amount that a key gives; 0 where it is absent.
+fn amount_at(row: &Value, key: &str) -> u64
+    ensures { result ≡ value_at amount_value 0 key.now (view row.now) }
 {
-    let mut made = Vec::new(alloc);
-    for row in rows {
-        made.push(host_row(alloc, names, row)?)?;
+    match text_at(row, key) {
+        Some(text) => amount_value(text.as_bytes()).unwrap_or(0),
+        None => 0,
     }
-    Ok(made)
 }
 
-/// The actors.
-pub fn actor_rows(alloc: Global, names: &Names, rows: &[Value]) -> Result<Vec<ActorRow>, Memory>
-    requires { AreSmall (names_view names.now) }
-    ensures { IfOk result (λ made. made.items ≡ map (actor_row (names_view names.now)) (map view rows.now)) }
+#[tactic(auto, unfolding(crate::specs::Build::network_row))]
+fn network_row(row: &Value) -> Network
+    ensures { result ≡ network_row (view row.now) }
 {
-    let mut made = Vec::new(alloc);
-    for row in rows {
-        made.push(actor_row(alloc, names, row)?)?;
+    Network {
+        latency_factor: factor_at(row, "latency_factor"),
+        bandwidth_factor: factor_at(row, "bandwidth_factor"),
+        window: amount_at(row, "window"),
     }
-    Ok(made)
 }
 
-/// The routers.
-pub fn router_rows(alloc: Global, names: &Names, rows: &[Value]) -> Result<Vec<RouterRow>, Memory>
-    requires { AreSmall (names_view names.now) }
-    ensures { IfOk result (λ made. made.items ≡ map (router_row (names_view names.now)) (map view rows.now)) }
+/// The network of the one row that there may be.
+pub fn network_of(rows: &[Value]) -> Network
+    ensures { result ≡ network_of (map view rows.now) }
 {
-    let mut made = Vec::new(alloc);
-    for row in rows {
-        made.push(router_row(alloc, names, row)?)?;
+    match rows {
+        [row, ..] => network_row(row),
+        [] => Network::plain(),
     }
-    Ok(made)
 }
 
-/// The links.
-pub fn link_rows(alloc: Global, rows: &[Value]) -> Result<Vec<LinkRow>, Memory>
-    ensures { IfOk result (λ made. made.items ≡ map link_row (map view rows.now)) }
-{
-    let mut made = Vec::new(alloc);
-    for row in rows {
-        made.push(link_row(alloc, row)?)?;
-    }
-    Ok(made)
+/// A row that a row of a tree gives, by the names of the whole tree and the ends of its links.
+pub trait Row: Sized {
+    ghost row_of: { Known → List LinkEnd → Data → Self };
+
+    fn read(alloc: Global, names: &Names, ends: &[LinkEnd], row: &Value) -> Result<Self, Memory>
+        ensures { IfOk result
+            (λ made. made ≡ row_of (names_view names.now) ends.now (view row.now)) };
 }
 
-/// The routes.
-pub fn route_rows(alloc: Global, names: &Names, rows: &[Value]) -> Result<Vec<RouteRow>, Memory>
-    requires { AreSmall (names_view names.now) }
-    ensures { IfOk result (λ made. made.items ≡ map (route_row (names_view names.now)) (map view rows.now)) }
-{
-    let mut made = Vec::new(alloc);
-    for row in rows {
-        made.push(route_row(alloc, names, row)?)?;
-    }
-    Ok(made)
-}
-
-/// The zone routes.
-pub fn zone_route_rows(
-    alloc: Global,
-    names: &Names,
-    rows: &[Value],
-) -> Result<Vec<ZoneRouteRow>, Memory>
-    requires { AreSmall (names_view names.now) }
-    ensures { IfOk result (λ made. made.items ≡ map (zone_route_row (names_view names.now)) (map view rows.now)) }
-{
-    let mut made = Vec::new(alloc);
-    for row in rows {
-        made.push(zone_route_row(alloc, names, row)?)?;
-    }
-    Ok(made)
-}
-
-/// The mutexes.
-pub fn mutex_rows(alloc: Global, rows: &[Value]) -> Result<Vec<MutexRow>, Memory>
-    ensures { IfOk result (λ made. made.items ≡ map mutex_row (map view rows.now)) }
-{
-    let mut made = Vec::new(alloc);
-    for row in rows {
-        made.push(mutex_row(alloc, row)?)?;
-    }
-    Ok(made)
-}
-
-/// The semaphores.
-pub fn semaphore_rows(alloc: Global, rows: &[Value]) -> Result<Vec<SemaphoreRow>, Memory>
-    ensures { IfOk result (λ made. made.items ≡ map semaphore_row (map view rows.now)) }
-{
-    let mut made = Vec::new(alloc);
-    for row in rows {
-        made.push(semaphore_row(alloc, row)?)?;
-    }
-    Ok(made)
-}
-
-/// The spokes, over links with these ends.
-pub fn spoke_rows(
+/// The rows of a table.
+pub fn read_rows<R: Row + Drop>(
     alloc: Global,
     names: &Names,
     ends: &[LinkEnd],
     rows: &[Value],
-) -> Result<Vec<SpokeRow>, Memory>
-    requires { AreSmall (names_view names.now) }
-    ensures { IfOk result (λ made. made.items ≡ map (spoke_row (names_view names.now) ends.now) (map view rows.now)) }
+) -> Result<Vec<R>, Memory>
+    ensures { IfOk result
+        (λ made. made.items
+        ≡ map (R.row_of (names_view names.now) ends.now) (map view rows.now)) }
 {
     let mut made = Vec::new(alloc);
     for row in rows {
-        made.push(spoke_row(alloc, names, ends, row)?)?;
+        made.push(R::read(alloc, names, ends, row)?)?;
     }
     Ok(made)
+}
+
+impl Row for ZoneRow {
+    ghost row_of = { λ names _ row. zone_row names row };
+
+    #[tactic(auto, unfolding(crate::specs::Build::zone_row))]
+    fn read(
+        alloc: Global,
+        names: &Names,
+        _ends: &[LinkEnd],
+        row: &Value,
+    ) -> Result<ZoneRow, Memory> {
+        let id = Text::new(alloc, text_or_empty(row, "id"))?;
+        let parent = match text_at(row, "parent") {
+            Some(name) => Some(zone_id(names, name)),
+            None => None,
+        };
+        let routing = routing_of(text_or_empty(row, "routing"));
+        Ok(ZoneRow {
+            id,
+            parent,
+            routing,
+        })
+    }
+}
+
+impl Row for HostRow {
+    ghost row_of = { λ names _ row. host_row names row };
+
+    #[tactic(auto, unfolding(crate::specs::Build::host_row))]
+    fn read(
+        alloc: Global,
+        names: &Names,
+        _ends: &[LinkEnd],
+        row: &Value,
+    ) -> Result<HostRow, Memory> {
+        let id = Text::new(alloc, text_or_empty(row, "id"))?;
+        let zone = zone_id(names, text_or_empty(row, "zone"));
+        let speed = speed_of(text_or_empty(row, "speed"));
+        let cores = core_count(row);
+        Ok(HostRow {
+            id,
+            zone,
+            speed,
+            cores,
+        })
+    }
+}
+
+impl Row for RouterRow {
+    ghost row_of = { λ names _ row. router_row names row };
+
+    #[tactic(auto, unfolding(crate::specs::Build::router_row))]
+    fn read(
+        alloc: Global,
+        names: &Names,
+        _ends: &[LinkEnd],
+        row: &Value,
+    ) -> Result<RouterRow, Memory> {
+        let id = Text::new(alloc, text_or_empty(row, "id"))?;
+        let zone = zone_id(names, text_or_empty(row, "zone"));
+        Ok(RouterRow { id, zone })
+    }
+}
+
+impl Row for LinkRow {
+    ghost row_of = { λ _ _ row. link_row row };
+
+    #[tactic(auto, unfolding(crate::specs::Build::link_row))]
+    fn read(
+        alloc: Global,
+        _names: &Names,
+        _ends: &[LinkEnd],
+        row: &Value,
+    ) -> Result<LinkRow, Memory> {
+        let id = Text::new(alloc, text_or_empty(row, "id"))?;
+        let bandwidth = bandwidth_of(text_or_empty(row, "bandwidth"));
+        let latency = latency_of(row);
+        let policy = policy_of(text_or_empty(row, "sharing_policy"));
+        Ok(LinkRow {
+            id,
+            bandwidth,
+            latency,
+            policy,
+        })
+    }
+}
+
+impl Row for RouteRow {
+    ghost row_of = { λ names _ row. route_row names row };
+
+    #[tactic(auto, unfolding(crate::specs::Build::route_row))]
+    fn read(
+        alloc: Global,
+        names: &Names,
+        _ends: &[LinkEnd],
+        row: &Value,
+    ) -> Result<RouteRow, Memory> {
+        let src = point_id(names, text_or_empty(row, "src"));
+        let dst = point_id(names, text_or_empty(row, "dst"));
+        let links = links_at(alloc, names, row, "links")?;
+        Ok(RouteRow {
+            src,
+            dst,
+            links,
+            symmetrical: is_symmetrical(row),
+        })
+    }
+}
+
+impl Row for ZoneRouteRow {
+    ghost row_of = { λ names _ row. zone_route_row names row };
+
+    #[tactic(auto, unfolding(crate::specs::Build::zone_route_row))]
+    fn read(
+        alloc: Global,
+        names: &Names,
+        _ends: &[LinkEnd],
+        row: &Value,
+    ) -> Result<ZoneRouteRow, Memory> {
+        let src = child_of(names, text_or_empty(row, "src"));
+        let dst = child_of(names, text_or_empty(row, "dst"));
+        let gw_src = gateway(names, row, "gw_src", "src");
+        let gw_dst = gateway(names, row, "gw_dst", "dst");
+        let links = links_at(alloc, names, row, "links")?;
+        Ok(ZoneRouteRow {
+            src,
+            dst,
+            gw_src,
+            gw_dst,
+            links,
+            symmetrical: is_symmetrical(row),
+        })
+    }
+}
+
+impl Row for SpokeRow {
+    ghost row_of = { λ names ends row. spoke_row names ends row };
+
+    #[tactic(auto, unfolding(crate::specs::Build::spoke_row))]
+    fn read(
+        alloc: Global,
+        names: &Names,
+        ends: &[LinkEnd],
+        row: &Value,
+    ) -> Result<SpokeRow, Memory> {
+        let zone = zone_id(names, text_or_empty(row, "zone"));
+        let child = child_of(names, text_or_empty(row, "child"));
+        let gateway = gateway(names, row, "gateway", "child");
+        let up = links_at(alloc, names, row, "up")?;
+        let down = down_links(alloc, names, ends, row, up.as_slice())?;
+        Ok(SpokeRow {
+            zone,
+            child,
+            gateway,
+            up,
+            down,
+        })
+    }
+}
+
+impl Row for ActorRow {
+    ghost row_of = { λ names _ row. actor_row names row };
+
+    #[tactic(auto, unfolding(crate::specs::Build::actor_row))]
+    fn read(
+        alloc: Global,
+        names: &Names,
+        _ends: &[LinkEnd],
+        row: &Value,
+    ) -> Result<ActorRow, Memory> {
+        let name = Text::new(alloc, text_or_empty(row, "name"))?;
+        let host = point_id(names, text_or_empty(row, "host"));
+        let function = function_of(alloc, names, row)?;
+        Ok(ActorRow {
+            name,
+            host,
+            function,
+        })
+    }
+}
+
+impl Row for MutexRow {
+    ghost row_of = { λ _ _ row. mutex_row row };
+
+    #[tactic(auto, unfolding(crate::specs::Build::mutex_row))]
+    fn read(
+        alloc: Global,
+        _names: &Names,
+        _ends: &[LinkEnd],
+        row: &Value,
+    ) -> Result<MutexRow, Memory> {
+        let id = Text::new(alloc, text_or_empty(row, "id"))?;
+        Ok(MutexRow { id })
+    }
+}
+
+impl Row for SemaphoreRow {
+    ghost row_of = { λ _ _ row. semaphore_row row };
+
+    #[tactic(auto, unfolding(crate::specs::Build::semaphore_row))]
+    fn read(
+        alloc: Global,
+        _names: &Names,
+        _ends: &[LinkEnd],
+        row: &Value,
+    ) -> Result<SemaphoreRow, Memory> {
+        let id = Text::new(alloc, text_or_empty(row, "id"))?;
+        Ok(SemaphoreRow {
+            id,
+            capacity: capacity_of(row),
+        })
+    }
 }

@@ -1,15 +1,15 @@
 //! Reads deployments.
-ghost use Rattle.std.specs.Prelude.{◌≡◌, ◌≢◌, ◌+◌, ◌≤◌, Err, IfOk};
+ghost use Rattle.std.specs.Prelude.{◌≡◌, ◌≢◌, Err, IfOk};
 ghost use Rattle.sg_rows.specs.Deployment.{IsDeployedOn, IsDeployment};
 ghost use Rattle.sg_platform.specs.FaultWords.{deployment_place, deployment_rule, deployment_words};
 ghost use Rattle.sg_platform.specs.DeploymentOf.{deployment_of, fault_of, names_on, rows_of, tree_deployment};
 ghost use Rattle.sg_platform.specs.declared.deployment.DeploymentFault.TheVariants.{Memory};
-ghost use Rattle.sg_rules.specs.kept.NamesView.{AreSmall, names_view};
+ghost use Rattle.sg_rules.specs.kept.NamesView.{names_view};
 ghost use Rattle.toml.specs.View.{table_view};
 
-use crate::build::{actor_rows, mutex_rows, semaphore_rows};
+use crate::build::read_rows;
 use crate::platform::GREATEST_TEXT;
-use sg_rows::{Deployment, PlatformText, hosts_by_name};
+use sg_rows::{ActorRow, Deployment, MutexRow, PlatformText, SemaphoreRow, hosts_by_name};
 use sg_rules::{DEPLOYMENT, Names, deployment_names, first_fault};
 use sg_tree::{Fault, Kind, NoTree, Place, read_tree, rows_at};
 use std::alloc::Global;
@@ -113,13 +113,12 @@ fn fault_of(fault: Fault) -> DeploymentFault
 
 #[tactic(auto, unfolding(crate::specs::DeploymentOf::rows_of))]
 fn rows_of(alloc: Global, names: &Names, tree: &toml::Table) -> Result<Deployment, sg_base::Memory>
-    requires small { AreSmall (names_view names.now) }
-    requires kept { IsDeployment (rows_of (names_view names.now) (table_view tree.now)) }
+    requires { IsDeployment (rows_of (names_view names.now) (table_view tree.now)) }
     ensures { IfOk result (λ d. d ≡ rows_of (names_view names.now) (table_view tree.now)) }
 {
-    let actors = actor_rows(alloc, names, rows_at(tree, "actor"))?;
-    let mutexes = mutex_rows(alloc, rows_at(tree, "mutex"))?;
-    let semaphores = semaphore_rows(alloc, rows_at(tree, "semaphore"))?;
+    let actors = read_rows::<ActorRow>(alloc, names, &[], rows_at(tree, "actor"))?;
+    let mutexes = read_rows::<MutexRow>(alloc, names, &[], rows_at(tree, "mutex"))?;
+    let semaphores = read_rows::<SemaphoreRow>(alloc, names, &[], rows_at(tree, "semaphore"))?;
     Deployment::with_rows(alloc, actors, mutexes, semaphores)
 }
 
@@ -129,8 +128,8 @@ fn names_on(
     tree: &toml::Table,
     platform: &PlatformText,
 ) -> Result<Names, sg_base::Memory>
-    ensures known { IfOk result (λ names. names_view names ≡ names_on platform.now (table_view tree.now)) }
-    ensures few { IfOk result (λ names. names.zones + names.hosts ≤ 16384) }
+    ensures { IfOk result
+        (λ names. names_view names ≡ names_on platform.now (table_view tree.now)) }
 {
     let points = hosts_by_name(alloc, platform.hosts())?;
     let names = deployment_names(alloc, tree, platform.hosts().len(), points)?;
@@ -145,9 +144,9 @@ fn deployment_in(
     tree: &toml::Table,
     platform: &PlatformText,
 ) -> Result<Deployment, DeploymentFault>
-    requires known { names_view names.now ≡ names_on platform.now (table_view tree.now) }
-    requires few { names.now.zones + names.now.hosts ≤ 16384 }
-    ensures value { result ≢ Err Memory → result ≡ tree_deployment platform.now (table_view tree.now) }
+    requires { names_view names.now ≡ names_on platform.now (table_view tree.now) }
+    ensures value { result ≢ Err Memory
+        → result ≡ tree_deployment platform.now (table_view tree.now) }
     ensures deployed { IfOk result (IsDeployedOn platform.now) }
 {
     match first_fault(alloc, names, &DEPLOYMENT, tree)? {
@@ -161,7 +160,8 @@ fn tree_deployment(
     tree: &toml::Table,
     platform: &PlatformText,
 ) -> Result<Deployment, DeploymentFault>
-    ensures value { result ≢ Err Memory → result ≡ tree_deployment platform.now (table_view tree.now) }
+    ensures value { result ≢ Err Memory
+        → result ≡ tree_deployment platform.now (table_view tree.now) }
     ensures deployed { IfOk result (IsDeployedOn platform.now) }
 {
     let names = names_on(alloc, tree, platform)?;

@@ -1,7 +1,7 @@
 //! What the actors of a tree do, where it has no fault.
-ghost use Rattle.std.specs.Prelude.{◌≡◌, ◌+◌, IfOk, map};
+ghost use Rattle.std.specs.Prelude.{◌≡◌, IfOk, map};
 ghost use Rattle.sg_platform.specs.Functions.{amount_of, arguments_at, function_of, master_of, worker_id};
-ghost use Rattle.sg_rules.specs.kept.NamesView.{AreSmall, names_view};
+ghost use Rattle.sg_rules.specs.kept.NamesView.{names_view};
 ghost use Rattle.toml.specs.View.{view};
 
 use sg_base::{ActorId, Ids, Memory};
@@ -18,18 +18,17 @@ fn amount_of(item: &Value) -> u64
 
 /// The worker that an argument names.
 fn worker_id(names: &Names, item: &Value) -> ActorId
-    requires { AreSmall (names_view names.now) }
     ensures { result ≡ worker_id (names_view names.now) (view item.now) }
 {
     match names.workers.get(text_of(item)) {
-        Some(row) => ActorId(*row as u32 + 1),
+        Some(id) => ActorId(*id),
         None => ActorId(1),
     }
 }
 
 fn worker_ids(alloc: Global, names: &Names, items: &[Value]) -> Result<Ids, Memory>
-    requires { AreSmall (names_view names.now) }
-    ensures { IfOk result (λ ids. ids ≡ map (λ d. worker_id (names_view names.now) d) (map view items.now)) }
+    ensures { IfOk result
+        (λ ids. ids ≡ map (λ d. worker_id (names_view names.now) d) (map view items.now)) }
 {
     let mut made = Vec::new(alloc);
     for item in items {
@@ -40,8 +39,8 @@ fn worker_ids(alloc: Global, names: &Names, items: &[Value]) -> Result<Ids, Memo
 
 /// The function of a master that is given these arguments.
 fn master_of(alloc: Global, names: &Names, items: &[Value]) -> Result<Function, Memory>
-    requires { AreSmall (names_view names.now) }
-    ensures { IfOk result (λ function. function ≡ master_of (names_view names.now) (map view items.now)) }
+    ensures { IfOk result
+        (λ function. function ≡ master_of (names_view names.now) (map view items.now)) }
 {
     match items {
         [tasks, flops, bytes, workers @ ..] => Ok(Function::Master {
@@ -62,8 +61,8 @@ fn master_of(alloc: Global, names: &Names, items: &[Value]) -> Result<Function, 
 /// The function of a master's row.
 #[tactic(auto, using(sg_tree::proofs::TreeLemmas::list_of_items))]
 fn master_at(alloc: Global, names: &Names, row: &Value) -> Result<Function, Memory>
-    requires { AreSmall (names_view names.now) }
-    ensures { IfOk result (λ function. function ≡ master_of (names_view names.now) (arguments_at (view row.now))) }
+    ensures { IfOk result
+        (λ function. function ≡ master_of (names_view names.now) (arguments_at (view row.now))) }
 {
     match row.get("argument") {
         Some(value) => match value.as_array() {
@@ -77,8 +76,8 @@ fn master_at(alloc: Global, names: &Names, row: &Value) -> Result<Function, Memo
 /// What the actor of a row does.
 #[tactic(auto, unfolding(crate::specs::Functions::function_of))]
 pub fn function_of(alloc: Global, names: &Names, row: &Value) -> Result<Function, Memory>
-    requires { AreSmall (names_view names.now) }
-    ensures { IfOk result (λ function. function ≡ function_of (names_view names.now) (view row.now)) }
+    ensures { IfOk result
+        (λ function. function ≡ function_of (names_view names.now) (view row.now)) }
 {
     if has_function(row, "master") {
         master_at(alloc, names, row)

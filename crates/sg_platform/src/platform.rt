@@ -1,17 +1,18 @@
 //! Reads platforms.
-ghost use Rattle.std.specs.Prelude.{◌≡◌, ◌≢◌, ◌+◌, ◌<◌, ◌^◌, Err, IfOk};
+ghost use Rattle.std.specs.Prelude.{◌≡◌, ◌≢◌, Err, IfOk};
 ghost use Rattle.sg_rows.specs.Platform.{IsPlatform};
 ghost use Rattle.sg_platform.specs.FaultWords.{platform_place, platform_rule, platform_words};
 ghost use Rattle.sg_platform.specs.PlatformOf.{fault_of, platform_of, rows_of, tree_platform};
 ghost use Rattle.sg_platform.specs.declared.platform.PlatformFault.TheVariants.{Memory};
 ghost use Rattle.sg_rules.specs.Names.{platform_known};
-ghost use Rattle.sg_rules.specs.kept.NamesView.{AreSmall, names_view};
+ghost use Rattle.sg_rules.specs.kept.NamesView.{names_view};
 ghost use Rattle.toml.specs.View.{table_view};
 
-use crate::build::{
-    host_rows, link_rows, route_rows, router_rows, spoke_rows, zone_route_rows, zone_rows,
+use crate::build::{network_of, read_rows};
+use sg_rows::{
+    HostRow, LinkRow, PlatformRows, PlatformText, RouteRow, RouterRow, SpokeRow, ZoneRouteRow,
+    ZoneRow, link_ends,
 };
-use sg_rows::{PlatformRows, PlatformText, link_ends};
 use sg_rules::{Names, PLATFORM, first_fault, platform_names};
 use sg_tree::{Fault, Kind, NoTree, Place, read_tree, rows_at};
 use std::alloc::Global;
@@ -112,18 +113,17 @@ fn rows_of(
     names: &Names,
     tree: &toml::Table,
 ) -> Result<PlatformText, sg_base::Memory>
-    requires small { AreSmall (names_view names.now) }
-    requires kept { IsPlatform (rows_of (names_view names.now) (table_view tree.now)) }
+    requires { IsPlatform (rows_of (names_view names.now) (table_view tree.now)) }
     ensures { IfOk result (λ p. p ≡ rows_of (names_view names.now) (table_view tree.now)) }
 {
-    let zones = zone_rows(alloc, names, rows_at(tree, "zone"))?;
-    let hosts = host_rows(alloc, names, rows_at(tree, "host"))?;
-    let routers = router_rows(alloc, names, rows_at(tree, "router"))?;
-    let links = link_rows(alloc, rows_at(tree, "link"))?;
+    let zones = read_rows::<ZoneRow>(alloc, names, &[], rows_at(tree, "zone"))?;
+    let hosts = read_rows::<HostRow>(alloc, names, &[], rows_at(tree, "host"))?;
+    let routers = read_rows::<RouterRow>(alloc, names, &[], rows_at(tree, "router"))?;
+    let links = read_rows::<LinkRow>(alloc, names, &[], rows_at(tree, "link"))?;
     let ends = link_ends(alloc, links.as_slice())?;
-    let routes = route_rows(alloc, names, rows_at(tree, "route"))?;
-    let zone_routes = zone_route_rows(alloc, names, rows_at(tree, "zone_route"))?;
-    let spokes = spoke_rows(alloc, names, ends.as_slice(), rows_at(tree, "spoke"))?;
+    let routes = read_rows::<RouteRow>(alloc, names, &[], rows_at(tree, "route"))?;
+    let zone_routes = read_rows::<ZoneRouteRow>(alloc, names, &[], rows_at(tree, "zone_route"))?;
+    let spokes = read_rows::<SpokeRow>(alloc, names, ends.as_slice(), rows_at(tree, "spoke"))?;
     Ok(PlatformText::with_rows(PlatformRows {
         zones,
         hosts,
@@ -132,6 +132,7 @@ fn rows_of(
         routes,
         zone_routes,
         spokes,
+        network: network_of(rows_at(tree, "network")),
     }))
 }
 
@@ -142,8 +143,7 @@ fn platform_in(
     names: &Names,
     tree: &toml::Table,
 ) -> Result<PlatformText, PlatformFault>
-    requires known { names_view names.now ≡ platform_known (table_view tree.now) }
-    requires few { names.now.zones + names.now.hosts < 2 ^ 63 }
+    requires { names_view names.now ≡ platform_known (table_view tree.now) }
     ensures { result ≢ Err Memory → result ≡ tree_platform (table_view tree.now) }
 {
     match first_fault(alloc, names, &PLATFORM, tree)? {

@@ -1,5 +1,7 @@
+pub mod Lists
 pub mod Exchanges
 pub mod Paths
+pub mod Rows
 pub mod Moves
 pub mod Entries
 pub mod Values

@@ -1,17 +1,17 @@
 -- What an exchange does to the rings.
-use Rattle.std.proofs.Common.{◌≡◌, ◌≢◌, ◌<◌, ◌≤◌, ◌∙◌, ◌⊎◌, inl, inr, sym, ap, refl, ℕ, zero, suc, Bool, true, false, not, ◌&&◌, cond, eqb, List, [], ◌∷◌, ◌++◌, length, arith}
+use Rattle.std.proofs.Common.{◌≡◌, ◌≢◌, ◌≤◌, ◌∙◌, inl, inr, sym, ap, refl, ℕ, zero, suc, false, not, ◌&&◌, cond, eqb, List, [], ◌∷◌, ◌++◌, length, arith}
 use Rattle.std.proofs.lemmas.Bool.{cases_eq, eq-eqb, ne_eqb, eqb-true, or_parts, and_right, false≢true}
 use Rattle.std.proofs.lemmas.Map.Views.{any-filter_same}
-use Rattle.sg_queues.specs.Rings.{is_in, without, moved}
-use Rattle.sg_queues.specs.kept.Links.{at, Path, walk, AreInverse, IsExchanged, IsShifted}
+use Rattle.sg_queues.specs.Rings.{is_in, without}
+use Rattle.sg_queues.specs.kept.Links.{at, Path, walk, AreLinked, IsExchanged, IsShifted}
 
 pub in_without : (node slot : ℕ) (queue : List ℕ) → is_in node (without slot queue) ≡ (not (eqb node slot) && is_in node queue)
 in_without node slot queue = any-filter_same (eqb node) (λ other. not (eqb other slot)) (not (eqb node slot)) (λ other same. ap (λ k. not (eqb k slot)) (sym (eqb-true node other same))) queue
 
-pub without_none : (slot : ℕ) (queue : List ℕ) → is_in slot (without slot queue) ≡ false
-without_none slot queue = in_without slot slot queue ∙ ap (λ b. not b && is_in slot queue) (eq-eqb slot slot refl)
+pub without_it : (slot : ℕ) (queue : List ℕ) → is_in slot (without slot queue) ≡ false
+without_it slot queue = in_without slot slot queue ∙ ap (λ b. not b && is_in slot queue) (eq-eqb slot slot refl)
 
-pub differs : (a b : ℕ) → eqb a b ≡ false → b ≢ a
+differs : (a b : ℕ) → eqb a b ≡ false → b ≢ a
 differs a b isnt is = false≢true (sym isnt ∙ eq-eqb a b (sym is))
 
 -- the one that leads to a slot leads to what is behind it, and the slot is in no ring
@@ -50,14 +50,14 @@ put_in old new last slot head ex leads only alone from (node ∷ nodes) to from_
     )
 
 -- out of the one ring, and into the other
-pub shifted : (old prev mid prev' new : List ℕ) (slot head : ℕ) → AreInverse old prev → AreInverse mid prev' → IsExchanged old mid (at prev slot) slot → IsExchanged mid new (at prev' head) slot → IsShifted old new slot head
-shifted old prev mid prev' new slot head inverse inverse' out into = record {
+pub shifted : {old prev mid prev' new : List ℕ} {slot head : ℕ} → AreLinked old prev → AreLinked mid prev' → IsExchanged old mid (at prev slot) slot → IsExchanged mid new (at prev' head) slot → IsShifted old new slot head
+shifted {old = old} {prev = prev} {mid = mid} {prev' = prev'} {new = new} {slot = slot} {head = head} linked linked' out into = record {
   len = into.len ∙ out.len;
   paths = λ from nodes from_not head_not path.
-      put_in mid new (at prev' head) slot head into (inverse'.forth head) (λ node is. sym (inverse'.back node) ∙ ap (at prev') is) (out.at_b ∙ inverse.forth slot)
-      from (without slot nodes) from from_not (without_none slot nodes)
+      put_in mid new (at prev' head) slot head into (linked'.inverse.forth head) (λ node is. sym (linked'.inverse.back node) ∙ ap (at prev') is) (out.at_b ∙ linked.inverse.forth slot)
+      from (without slot nodes) from from_not (without_it slot nodes)
       (in_without head slot nodes ∙ and_right (not (eqb head slot)) (is_in head nodes) head_not)
-      (taken_out old mid (at prev slot) slot out (inverse.forth slot) (λ node is. sym (inverse.back node) ∙ ap (at prev) is) from nodes from from_not from_not path);
+      (taken_out old mid (at prev slot) slot out (linked.inverse.forth slot) (λ node is. sym (linked.inverse.back node) ∙ ap (at prev) is) from nodes from from_not from_not path);
 }
 
 -- a walk follows a path to its end

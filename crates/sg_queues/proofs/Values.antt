@@ -4,7 +4,7 @@ use Rattle.std.specs.Prelude.{map, replicate, slice_set}
 use Rattle.std.proofs.lemmas.List.{map-set, map-append}
 use Rattle.sg_queues.specs.Rings.{queue_at, behind}
 use Rattle.sg_queues.specs.Queues.{value, values_of, queued, shortened}
-use Rattle.sg_queues.proofs.Entries.{map_at}
+use Rattle.sg_queues.proofs.Lists.{map_at}
 
 module _ {T : Type 0} where
   pub values_at : (queues : List (List (ℕ × T))) (queue : ℕ) → queue_at (values_of queues) queue ≡ map value (queue_at queues queue)

@@ -1,11 +1,12 @@
--- Slots, each of which is in one queue at any time, and moves from queue to queue.
-use Rattle.std.specs.Prelude.{◌≡◌, ℕ, ◌<◌, ◌≤◌, ◌==◌, nat_eq, Bool, true, false, not, Option, None, Some, if◌then◌else◌, List, [], ◌∷◌, ◌++◌, length, filter, slice_index_or, AllPairs, ◌≢◌}
+-- Slots, each of which is in one queue or idle at any time, and moves from place to place.
+use Rattle.std.specs.Prelude.{◌≡◌, ◌≢◌, ℕ, ◌<◌, ◌==◌, nat_eq, Bool, true, false, not, Option, None, Some, List, [], ◌∷◌, ◌++◌, length, map, filter, slice_index_or, slice_set, AllPairs}
 use Rattle.std.specs.List.{list_any}
 
--- how many nodes there are: the head of each queue, which never moves, and the slots; and which slots are in each queue, in order
+-- how many nodes there are: slots, and heads, which never move; the head of the idle slots, and behind it that of each queue; and which slots are idle and in each queue, in order
 pub record Rings : Type 0 where
   pub nodes : ℕ
   pub heads : List ℕ
+  pub idle : List ℕ
   pub queues : List (List ℕ)
 
 abbrev pub is_in : ℕ → List ℕ → Bool
@@ -31,19 +32,22 @@ pub record IsSlot (nodes : ℕ) (heads : List ℕ) (node : ℕ) : Type 0 where
 abbrev pub without : ℕ → List ℕ → List ℕ
 without slot queue = filter (λ other. not (other == slot)) queue
 
--- a queue without the slot, or with the slot at its end
-abbrev pub moved : ℕ → Bool → List ℕ → List ℕ
-moved slot joins queue = without slot queue ++ (if joins then slot ∷ [] else [])
+-- the slot leaves the place where it is for the end of this queue
+abbrev pub shifted : ℕ → ℕ → List (List ℕ) → List (List ℕ)
+shifted slot queue queues = slice_set (map (without slot) queues) queue (without slot (queue_at queues queue) ++ slot ∷ [])
 
--- the slot leaves its queue for the end of this one
-pub record IsMoved (slot queue : ℕ) (old new : List (List ℕ)) : Type 0 where
-  pub count : length new ≡ length old
-  pub each : (q : ℕ) → q < length old → queue_at new q ≡ moved slot (q == queue) (queue_at old q)
+-- a slot is in one of these rows at most, and once there; and each row has a head of its own
+pub record AreApart (nodes : ℕ) (heads : List ℕ) (rows : List (List ℕ)) : Type 0 where
+  pub count : length rows ≡ length heads
+  pub below : (head : ℕ) → is_in head heads ≡ true → head < nodes
+  pub distinct : AllPairs (λ a b. a ≢ b) heads
+  pub slots : (row slot : ℕ) → is_in slot (queue_at rows row) ≡ true → IsSlot nodes heads slot
+  pub once : (row : ℕ) → AllPairs (λ a b. a ≢ b) (queue_at rows row)
+  pub apart : (p q slot : ℕ) → is_in slot (queue_at rows p) ≡ true → is_in slot (queue_at rows q) ≡ true → p ≡ q
 
--- a slot is in one queue at most, and once there
-pub record AreApart (rings : Rings) : Type 0 where
-  pub slots : (q slot : ℕ) → is_in slot (queue_at rings.queues q) ≡ true → IsSlot rings.nodes rings.heads slot
-  pub once : (q : ℕ) → AllPairs (λ a b. a ≢ b) (queue_at rings.queues q)
-  pub apart : (p q slot : ℕ) → is_in slot (queue_at rings.queues p) ≡ true → is_in slot (queue_at rings.queues q) ≡ true → p ≡ q
-  pub short : (q : ℕ) → length (queue_at rings.queues q) ≤ rings.nodes
-  pub few : length rings.queues ≤ rings.nodes
+-- the idle slots, and those of each queue
+abbrev pub rows_of : Rings → List (List ℕ)
+rows_of rings = rings.idle ∷ rings.queues
+
+abbrev pub IsApart : Rings → Type 0
+IsApart rings = AreApart rings.nodes rings.heads (rows_of rings)

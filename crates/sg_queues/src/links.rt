@@ -1,6 +1,6 @@
 //! Rings of nodes, linked both ways.
 ghost use Rattle.std.specs.Prelude.{◌≡◌, ◌≢◌, ◌<◌, ◌≤◌, ◌+◌, ◌++◌, ◌∷◌, [], ℕ, length, IfOk, OnOk, OnErr, slice_set, vec_len, vec_capacity};
-ghost use Rattle.sg_queues.specs.kept.Links.{AreInverse, IsExchanged, IsShifted};
+ghost use Rattle.sg_queues.specs.kept.Links.{at, AreLinked, IsExchanged, IsShifted};
 
 use sg_base::Memory;
 
@@ -34,31 +34,50 @@ impl Links {
         self.prev[to] = from;
     }
 
+    /// What a node leads to.
+    pub(crate) fn next_of(&self, node: usize) -> usize
+        requires linked { AreLinked self.now.next.items self.now.prev.items }
+        requires node { node < length self.now.next.items }
+        ensures is { result ≡ at self.now.next.items node }
+        ensures within { result < length self.now.next.items }
+    {
+        self.next[node]
+    }
+
+    fn prev_of(&self, node: usize) -> usize
+        requires linked { AreLinked self.now.next.items self.now.prev.items }
+        requires node { node < length self.now.next.items }
+        ensures is { result ≡ at self.now.prev.items node }
+        ensures within { result < length self.now.next.items }
+    {
+        self.prev[node]
+    }
+
     // Two nodes exchange what they lead to: this takes a slot out of its ring, or puts one that is alone into a ring.
     fn exchange(&mut self, a: usize, b: usize)
-        requires inverse { AreInverse self.old.next.items self.old.prev.items }
+        requires linked { AreLinked self.old.next.items self.old.prev.items }
         requires a { a < length self.old.next.items }
         requires b { b < length self.old.next.items }
-        ensures inverse { AreInverse self.new.next.items self.new.prev.items }
+        ensures linked { AreLinked self.new.next.items self.new.prev.items }
         ensures exchanged { IsExchanged self.old.next.items self.new.next.items a b }
     {
-        let after_a = self.next[a];
-        let after_b = self.next[b];
+        let after_a = self.next_of(a);
+        let after_b = self.next_of(b);
         self.link(a, after_b);
         self.link(b, after_a);
     }
 
     /// The slot leaves its ring for the end of the ring of this head.
     pub(crate) fn shift(&mut self, slot: usize, head: usize)
-        requires inverse { AreInverse self.old.next.items self.old.prev.items }
+        requires linked { AreLinked self.old.next.items self.old.prev.items }
         requires slot { slot < length self.old.next.items }
         requires head { head < length self.old.next.items }
-        ensures inverse { AreInverse self.new.next.items self.new.prev.items }
+        ensures linked { AreLinked self.new.next.items self.new.prev.items }
         ensures shifted { IsShifted self.old.next.items self.new.next.items slot head }
     {
-        let before = self.prev[slot];
+        let before = self.prev_of(slot);
         self.exchange(before, slot);
-        let last = self.prev[head];
+        let last = self.prev_of(head);
         self.exchange(last, slot);
     }
 

@@ -39,16 +39,12 @@ impl<T> Model for Queues<T> {
     ghost invariant = { λ s. AreKept s.rings s.values.items s.room };
 }
 
-// The queue of free slots.
-const FREE: usize = 0;
-
 impl<T: Copy + Drop> Queues<T> {
     /// No queues, and no room. The blank is any value.
     pub fn new(alloc: Global, blank: T) -> Result<Queues<T>, Memory>
         ensures { IfOk result (λ q. q ≡ record { queues = []; room = 0 }) }
     {
-        let mut rings = Rings::new(alloc);
-        rings.add_queue()?;
+        let rings = Rings::new(alloc)?;
         let mut values = Vec::new(alloc);
         values.push(blank)?;
         Ok(Queues {
@@ -71,8 +67,7 @@ impl<T: Copy + Drop> Queues<T> {
         self.values.reserve(1)?;
         let number = self.rings.add_queue()?;
         push(&mut self.values, self.blank);
-        // the first queue has the free slots
-        Ok(number - 1)
+        Ok(number)
     }
 
     // A slot more, which is free.
@@ -81,7 +76,7 @@ impl<T: Copy + Drop> Queues<T> {
         ensures kept { OnErr result (self.new ≡ self.old) }
     {
         self.values.reserve(1)?;
-        self.rings.add_slot(FREE)?;
+        self.rings.add_slot()?;
         push(&mut self.values, self.blank);
         self.room += 1;
         Ok(())
@@ -108,12 +103,12 @@ impl<T: Copy + Drop> Queues<T> {
         ensures fresh { (q : ℕ) → holds result (queue_at self.old.queues q) ≡ false }
         ensures slots { AreSlots self.new.queues }
     {
-        let slot = match self.rings.front(FREE) {
+        let slot = match self.rings.idle() {
             Some(slot) => slot,
             None => unreachable!(),
         };
         self.values[slot] = value;
-        self.rings.shift(slot, queue + 1);
+        self.rings.shift(slot, queue);
         self.room -= 1;
         slot
     }
@@ -124,7 +119,7 @@ impl<T: Copy + Drop> Queues<T> {
         ensures first { result ≡ front (queue_at self.now.queues queue) }
         ensures slots { AreSlots self.now.queues }
     {
-        match self.rings.front(queue + 1) {
+        match self.rings.front(queue) {
             Some(slot) => Some((slot, self.values[slot])),
             None => None,
         }
@@ -137,7 +132,7 @@ impl<T: Copy + Drop> Queues<T> {
         ensures room { self.new.room ≡ self.old.room + 1 }
         ensures slots { AreSlots self.new.queues }
     {
-        self.rings.shift(slot, FREE);
+        self.rings.retire(slot);
         self.room += 1;
     }
 

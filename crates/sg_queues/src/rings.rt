@@ -1,25 +1,31 @@
 //! Slots that move from queue to queue.
-ghost use Rattle.std.specs.Prelude.{◌≡◌, ◌<◌, ◌+◌, ◌++◌, ◌∷◌, [], length, IfOk, OnOk, OnErr};
-ghost use Rattle.sg_queues.specs.Rings.{front, queue_at, AreApart, IsMoved, IsSlot};
+ghost use Rattle.std.specs.Prelude.{◌≡◌, ◌<◌, ◌+◌, ◌++◌, ◌∷◌, [], suc, length, map, IfOk, OnOk, OnErr};
+ghost use Rattle.sg_queues.specs.Rings.{front, queue_at, shifted, without, IsApart, IsSlot};
+ghost use Rattle.sg_queues.specs.kept.Links.{head_at};
 
 use crate::links::{Links, push};
 use sg_base::Memory;
 use std::alloc::Global;
 use std::marker::Model;
 
-/// Slots, each in one queue at any time. A slot moves from the place where it is to the end of a queue.
+/// Slots, each of which is in one queue or idle at any time. A slot moves from the place where it is to the end of
+/// another.
 ///
-/// Slots and the heads of the queues are nodes, numbered from 0 on as they are added. Each move costs the same
-/// however long the queues are; only adding takes memory.
+/// Slots and heads are nodes, numbered from 0 on as they are added: node 0 is the head of the idle slots, and each
+/// queue has a head of its own. Each move costs the same however long the queues are; only adding takes memory.
 #[derive(Drop)]
 pub struct Rings {
-    // each queue is a ring, linked both ways, that begins and ends at its head
+    // the idle slots, and those of each queue, are a ring, linked both ways, that begins and ends at its head
     links: Links,
+    // the head of each queue
     heads: Vec<usize>,
 }
 
+// The head of the idle slots.
+const IDLE: usize = 0;
+
 impl Model for Rings {
-    ghost use Rattle.std.specs.Prelude.{length};
+    ghost use Rattle.std.specs.Prelude.{◌∷◌, length};
     ghost use Rattle.sg_queues.specs.Rings as spec;
     ghost use Rattle.sg_queues.specs.kept.Links.{queues_of, ring, AreRings};
 
@@ -27,37 +33,41 @@ impl Model for Rings {
 
     ghost view = { λ s. record {
       nodes = length s.links.next.items;
-      heads = s.heads.items;
+      heads = 0 ∷ s.heads.items;
+      idle = ring s.links.next.items 0;
       queues = queues_of s.links.next.items s.heads.items;
     } };
 
-    ghost invariant = { λ s. AreRings s.links.next.items s.links.prev.items s.heads.items
-        (ring s.links.next.items) };
+    ghost invariant = { λ s. AreRings s.links.next.items s.links.prev.items (0 ∷ s.heads.items)
+        (queues_of s.links.next.items (0 ∷ s.heads.items)) };
 }
 
 impl Rings {
     /// No queues and no slots.
-    pub fn new(alloc: Global) -> Rings
-        ensures { result ≡ record { nodes = 0; heads = []; queues = [] } }
+    pub fn new(alloc: Global) -> Result<Rings, Memory>
+        ensures { IfOk result (λ rings. rings
+            ≡ record { nodes = 1; heads = 0 ∷ []; idle = []; queues = [] }) }
     {
-        Rings {
-            links: Links {
-                next: Vec::new(alloc),
-                prev: Vec::new(alloc),
-            },
+        let mut links = Links {
+            next: Vec::new(alloc),
+            prev: Vec::new(alloc),
+        };
+        links.add()?;
+        Ok(Rings {
+            links,
             heads: Vec::new(alloc),
-        }
+        })
     }
 
     /// A queue more, which is empty. It answers its number, which is how many queues there were.
     pub fn add_queue(&mut self) -> Result<usize, Memory>
         ensures number { IfOk result (λ number. number ≡ length self.old.queues) }
-        ensures queue { OnOk result (self.new ≡ record {
+        ensures queue { OnOk result (self.new ≡ record self.old {
           nodes = self.old.nodes + 1;
           heads = self.old.heads ++ self.old.nodes ∷ [];
           queues = self.old.queues ++ [] ∷ [];
         }) }
-        ensures apart { OnOk result (AreApart self.new) }
+        ensures apart { OnOk result (IsApart self.new) }
         ensures kept { OnErr result (self.new ≡ self.old) }
     {
         self.heads.reserve(1)?;
@@ -67,20 +77,26 @@ impl Rings {
         Ok(number)
     }
 
-    /// A slot more, at the end of a queue. Its number is how many nodes there were.
-    pub fn add_slot(&mut self, queue: usize) -> Result<(), Memory>
-        requires { queue < length self.old.queues }
-        ensures slot { OnOk result (IsMoved self.old.nodes queue self.old.queues self.new.queues) }
-        ensures rest { OnOk result (self.new ≡ record self.old {
+    /// A slot more, which is idle. Its number is how many nodes there were.
+    pub fn add_slot(&mut self) -> Result<(), Memory>
+        ensures slot { OnOk result (self.new ≡ record self.old {
           nodes = self.old.nodes + 1;
-          queues = self.new.queues;
+          idle = self.old.idle ++ self.old.nodes ∷ [];
         }) }
-        ensures apart { OnOk result (AreApart self.new) }
+        ensures apart { OnOk result (IsApart self.new) }
         ensures kept { OnErr result (self.new ≡ self.old) }
     {
         let slot = self.links.add()?;
-        self.links.shift(slot, self.heads[queue]);
+        self.links.shift(slot, IDLE);
         Ok(())
+    }
+
+    fn head_of(&self, queue: usize) -> usize
+        requires { queue < length self.now.queues }
+        ensures is { result ≡ head_at self.now.heads (suc queue) }
+        ensures within { result < self.now.nodes }
+    {
+        self.heads[queue]
     }
 
     /// The first slot of a queue.
@@ -88,19 +104,42 @@ impl Rings {
         requires { queue < length self.now.queues }
         ensures { result ≡ front (queue_at self.now.queues queue) }
     {
-        let head = self.heads[queue];
+        let head = self.head_of(queue);
         let first = self.links.next[head];
         if first == head { None } else { Some(first) }
     }
 
-    /// A slot leaves the queue in which it is, from wherever it stands there, for the end of a queue.
+    /// The idle slot that was so for longest.
+    pub fn idle(&self) -> Option<usize>
+        ensures { result ≡ front self.now.idle }
+    {
+        let first = self.links.next_of(IDLE);
+        if first == IDLE { None } else { Some(first) }
+    }
+
+    /// A slot leaves the place where it is for the end of a queue.
     pub fn shift(&mut self, slot: usize, queue: usize)
         requires slot { IsSlot self.old.nodes self.old.heads slot }
         requires queue { queue < length self.old.queues }
-        ensures moved { IsMoved slot queue self.old.queues self.new.queues }
-        ensures rest { self.new ≡ record self.old { queues = self.new.queues } }
-        ensures apart { AreApart self.new }
+        ensures moved { self.new ≡ record self.old {
+          idle = without slot self.old.idle;
+          queues = shifted slot queue self.old.queues;
+        } }
+        ensures apart { IsApart self.new }
     {
-        self.links.shift(slot, self.heads[queue]);
+        let head = self.head_of(queue);
+        self.links.shift(slot, head);
+    }
+
+    /// A slot leaves the place where it is and is idle, behind all others that are.
+    pub fn retire(&mut self, slot: usize)
+        requires { IsSlot self.old.nodes self.old.heads slot }
+        ensures moved { self.new ≡ record self.old {
+          idle = without slot self.old.idle ++ slot ∷ [];
+          queues = map (without slot) self.old.queues;
+        } }
+        ensures apart { IsApart self.new }
+    {
+        self.links.shift(slot, IDLE);
     }
 }

@@ -1,5 +1,5 @@
 //! Slots that move at random, beside a plain list.
-ghost use Rattle.std.specs.Prelude.{◌<◌, ◌≤◌, IfOk};
+ghost use Rattle.std.specs.Prelude.{◌<◌, ◌≤◌, length, IfOk};
 ghost use Rattle.sg_queues.specs.Tested.{IsMade};
 
 use crate::Rings;
@@ -12,25 +12,49 @@ const SLOTS: usize = 12;
 
 const MOVES: usize = 10_000;
 
-// Four queues, and twelve slots in the first of them.
+// Three queues, and twelve idle slots.
 fn made(alloc: Global) -> Result<Rings, Memory>
     ensures { IfOk result (λ rings. IsMade 16 rings) }
 {
-    let mut rings = Rings::new(alloc);
-    rings.add_queue()?;
+    let mut rings = Rings::new(alloc)?;
     rings.add_queue()?;
     rings.add_queue()?;
     rings.add_queue()?;
     for _slot in 0..SLOTS {
-        rings.add_slot(0)?;
+        rings.add_slot()?;
     }
     Ok(rings)
 }
 
-// The first slot of a queue in a list of slots, each with its queue, in the order of their moves.
-fn first_of(list: &[(usize, usize)], queue: usize) -> Option<usize> {
+// Row 0 has the idle slots, and each other row is a queue.
+fn first_in(rings: &Rings, row: usize) -> Option<usize>
+    requires { row ≤ length rings.now.queues }
+{
+    if row == 0 {
+        rings.idle()
+    } else {
+        rings.front(row - 1)
+    }
+}
+
+fn shift(rings: &mut Rings, slot: usize, row: usize)
+    requires made { IsMade 16 rings.old }
+    requires above { 4 ≤ slot }
+    requires below { slot < 16 }
+    requires row { row < 4 }
+    ensures { IsMade 16 rings.new }
+{
+    if row == 0 {
+        rings.retire(slot);
+    } else {
+        rings.shift(slot, row - 1);
+    }
+}
+
+// The first slot of a row in a list of slots, each with its row, in the order of their moves.
+fn first_of(list: &[(usize, usize)], row: usize) -> Option<usize> {
     for (slot, its) in list {
-        if *its == queue {
+        if *its == row {
             return Some(*slot);
         }
     }
@@ -38,9 +62,9 @@ fn first_of(list: &[(usize, usize)], queue: usize) -> Option<usize> {
 }
 
 // A slot of a list moves to its end.
-fn move_in(list: &mut Vec<(usize, usize)>, slot: usize, queue: usize) -> Result<(), Memory> {
+fn move_in(list: &mut Vec<(usize, usize)>, slot: usize, row: usize) -> Result<(), Memory> {
     list.retain(|entry| entry.0 != slot);
-    list.push((slot, queue))?;
+    list.push((slot, row))?;
     Ok(())
 }
 
@@ -51,7 +75,7 @@ fn slot_of(drawn: usize) -> usize
     4 + drawn % 12
 }
 
-// Slots that are drawn move to queues that are drawn. After each move the first of each queue is that of the list.
+// Slots that are drawn move to rows that are drawn. After each move the first of each row is that of the list.
 fn agrees_with_a_list(rt: &impl Abort, alloc: Global) -> Result<(), Memory> {
     let mut rings = made(alloc)?;
     let mut list = Vec::new(alloc);
@@ -65,11 +89,11 @@ fn agrees_with_a_list(rt: &impl Abort, alloc: Global) -> Result<(), Memory> {
             .wrapping_add(1_442_695_040_888_963_407);
         let drawn = (state >> 33) as usize;
         let slot = slot_of(drawn);
-        let queue = drawn / 12 % 4;
-        rings.shift(slot, queue);
-        move_in(&mut list, slot, queue)?;
-        for queue in 0..4usize {
-            assert_eq!(rt; rings.front(queue), first_of(&list, queue));
+        let row = drawn / 12 % 4;
+        shift(&mut rings, slot, row);
+        move_in(&mut list, slot, row)?;
+        for row in 0..4usize {
+            assert_eq!(rt; first_in(&rings, row), first_of(&list, row));
         }
     }
     Ok(())

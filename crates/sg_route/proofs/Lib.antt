@@ -3,6 +3,7 @@ pub mod KeptLemmas
 pub mod LegLemmas
 pub mod WalkLemmas
 pub mod RouteLemmas
+pub mod MadeLemmas
 pub mod FirstsLemmas
 pub mod EndsLemmas
 pub mod Each

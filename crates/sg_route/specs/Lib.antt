@@ -5,5 +5,6 @@ pub mod Local
 pub mod Roads
 pub mod Steps
 pub mod Route
+pub mod Made
 pub mod Good
 pub mod kept

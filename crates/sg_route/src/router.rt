@@ -1,5 +1,6 @@
 //! Routes between points.
-ghost use Rattle.std.specs.Prelude.{◌≡◌, ◌≢◌, AllPairs};
+ghost use Rattle.std.specs.Prelude.{◌≡◌, ◌≢◌, AllPairs, IfErr};
+ghost use Rattle.sg_route.specs.Made.{IsLeastThere, IsReached, IsWithoutPath, LeavesMade};
 ghost use Rattle.sg_route.specs.Route.{route_of, LeavesRoute};
 ghost use Rattle.sg_route.specs.Steps.{net_of};
 
@@ -79,6 +80,9 @@ impl Router {
     /// Leaves in `links` the links of the route from a point to another, or from a host to itself, and answers its
     /// latency in nanoseconds. It takes no memory, and the answer is the same whatever was asked before.
     ///
+    /// A route is made of local routes. In each Dijkstra zone that it crosses this is the path with the fewest links, and
+    /// of these the one with the least list; none is told there exactly where there is no path.
+    ///
     /// # Errors
     ///
     /// A local route that is missing, or more than 64 links; `links` is then empty.
@@ -89,6 +93,11 @@ impl Router {
         links: &mut ArrayVec<LinkId, 64>,
     ) -> Result<u128, RouteFault>
         ensures route { LeavesRoute (route_of self.old a b) result links.new.items }
+        // In Dijkstra zones its links are those of a path, no path has fewer, or as many with a smaller list, ..
+        ensures reached { a.0 ≢ b.0 → LeavesMade (IsReached self.old) self.old a b result links.new.items }
+        ensures least { a.0 ≢ b.0 → LeavesMade (IsLeastThere self.old) self.old a b result links.new.items }
+        // .. and where the local route of one is missing, there is no path.
+        ensures none { IfErr result (IsWithoutPath self.old) }
         ensures apart { AllPairs (λ x y. x ≢ y) links.new.items }
         ensures kept { self.new ≡ self.old }
     {

@@ -1,3 +1,5 @@
 pub mod EndsBelow
+pub mod MemberIds
+pub mod Networks
 pub mod Numbers
 pub mod WayBack

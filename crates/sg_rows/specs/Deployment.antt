@@ -1,5 +1,5 @@
 -- A deployment, and what holds of each one.
-use Rattle.std.specs.Prelude.{ℕ, ◌+◌, ◌<◌, ◌≤◌, ◌^◌, List, Option, length, option_map, ⊤}
+use Rattle.std.specs.Prelude.{ℕ, ◌+◌, ◌<◌, ◌≤◌, ◌^◌, List, [], ◌∷◌, Option, length, option_map, ⊤}
 use Rattle.std.specs.List.{All}
 use Rattle.sg_base.specs.declared.ids.ActorId.{ActorId}
 use Rattle.sg_base.specs.Limits.{Extent, IsActorIn, IsAmount}
@@ -10,6 +10,7 @@ use Rattle.sg_rows.specs.declared.rows.Function.{Function}
 use Rattle.sg_rows.specs.declared.rows.Function.TheVariants.{Replay, Worker, Master, Churn}
 use Rattle.sg_rows.specs.declared.rows.MutexRow.{MutexRow}
 use Rattle.sg_rows.specs.declared.rows.SemaphoreRow.{SemaphoreRow}
+use Rattle.sg_tree.specs.Along.{along}
 
 pub record Deployed : Type 0 where
   pub actors : List ActorRow
@@ -62,3 +63,20 @@ mutex_named deployed name = mutex_number deployed.mutexes name
 
 abbrev pub semaphore_named : Deployed → List ℕ → Option ℕ
 semaphore_named deployed name = semaphore_number deployed.semaphores name
+
+-- the identifier of an actor that replays, at the place of its row
+abbrev pub id_if_replay : Function → ℕ → List ActorId
+id_if_replay Replay place = record { 0 = place + 1 } ∷ []
+id_if_replay Worker place = []
+id_if_replay (Master tasks flops bytes workers) place = []
+id_if_replay (Churn seed next prev steps) place = []
+
+abbrev pub member_ids : ℕ → ActorRow → List ActorId
+member_ids place actor = id_if_replay actor.function place
+
+-- who takes part in collectives: all actors that replay, by rising identifier
+unfoldable pub members_among : List ActorRow → List ActorId
+members_among actors = along member_ids 0 actors
+
+abbrev pub members_of : Deployed → List ActorId
+members_of deployed = members_among deployed.actors

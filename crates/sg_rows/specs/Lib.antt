@@ -1,4 +1,5 @@
 pub mod Ends
+pub mod Network
 pub mod Platform
 pub mod Index
 pub mod Deployment

@@ -5,6 +5,7 @@ use Rattle.sg_base.specs.declared.ids.ActorId.{ActorId}
 use Rattle.sg_base.specs.declared.ids.LinkId.{LinkId}
 use Rattle.sg_rows.specs.Deployment.{Deployed, IsDeployedOn, IsDeployment}
 use Rattle.sg_rows.specs.Ends.{link_ends}
+use Rattle.sg_rows.specs.Network.{plain_network}
 use Rattle.sg_rows.specs.Platform.{IsPlatform, Platform}
 use Rattle.sg_rows.specs.declared.rows.ActorRow.{ActorRow}
 use Rattle.sg_rows.specs.declared.rows.Function.{Function}
@@ -37,6 +38,7 @@ platform_with zones hosts links spokes = record {
   routes = [];
   zone_routes = [];
   spokes = spokes;
+  network = plain_network;
 }
 
 -- zones and hosts share a space of names

@@ -5,6 +5,8 @@ use Rattle.sg_base.specs.declared.ids.Child.{Child}
 use Rattle.sg_base.specs.declared.ids.Child.TheVariants.{Point, Zone}
 use Rattle.sg_base.specs.declared.ids.LinkId.{LinkId}
 use Rattle.sg_rows.specs.Ends.{link_ends}
+use Rattle.sg_rows.specs.Network.{IsNetwork}
+use Rattle.sg_rows.specs.declared.network.Network.{Network}
 use Rattle.sg_rows.specs.declared.rows.HostRow.{HostRow}
 use Rattle.sg_rows.specs.declared.rows.LinkRow.{LinkRow}
 use Rattle.sg_rows.specs.declared.rows.PlatformRows.{PlatformRows}
@@ -22,8 +24,9 @@ pub record Platform : Type 0 where
   pub routes : List RouteRow
   pub zone_routes : List ZoneRouteRow
   pub spokes : List SpokeRow
+  pub network : Network
 
--- what the code keeps of each table
+-- what the code keeps of its tables
 abbrev pub rows_view : PlatformRows → Platform
 rows_view rows = record {
   zones = rows.zones.items;
@@ -33,6 +36,7 @@ rows_view rows = record {
   routes = rows.routes.items;
   zone_routes = rows.zone_routes.items;
   spokes = rows.spokes.items;
+  network = rows.network;
 }
 
 -- how much a platform has: zones, points, and links with the loopback
@@ -110,3 +114,4 @@ pub record IsPlatform (platform : Platform) : Type 0 where
   pub routes : All (IsRouteRow (counts_of platform)) platform.routes
   pub zone_routes : All (IsZoneRouteRow (counts_of platform)) platform.zone_routes
   pub spokes : All (IsSpokeRow (counts_of platform)) platform.spokes
+  pub network : IsNetwork platform.network

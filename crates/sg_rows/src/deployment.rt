@@ -1,11 +1,13 @@
 //! Deployments.
-ghost use Rattle.std.specs.Prelude.{◌≡◌, IfOk};
-ghost use Rattle.sg_rows.specs.Deployment.{IsDeployment, deployment_of_rows, mutex_named, replay_actor_named, semaphore_named};
+ghost use Rattle.std.specs.Prelude.{◌≡◌, ◌≤◌, All, IfOk, length};
+ghost use Rattle.sg_base.specs.Limits.{IsActorIn};
+ghost use Rattle.sg_rows.specs.Deployment.{IsDeployment, deployment_of_rows, extent_of, members_among, members_of, mutex_named, replay_actor_named, semaphore_named};
 
-use crate::index::{mutexes_by_name, replay_by_name, semaphores_by_name};
-use crate::rows::{ActorRow, MutexRow, SemaphoreRow};
+use crate::index::rows_by_name;
+use crate::rows::{ActorRow, Function, MutexRow, SemaphoreRow};
 use indexmap::IndexMap;
 use sg_base::{ActorId, Memory};
+use sg_collectives::Members;
 use std::alloc::Global;
 use std::marker::Model;
 
@@ -15,9 +17,10 @@ pub struct Deployment {
     actors: Vec<ActorRow>,
     mutexes: Vec<MutexRow>,
     semaphores: Vec<SemaphoreRow>,
-    replay: IndexMap<Vec<u8>, usize>,
-    named_mutexes: IndexMap<Vec<u8>, usize>,
-    named_semaphores: IndexMap<Vec<u8>, usize>,
+    replay: IndexMap<Vec<u8>, u32>,
+    named_mutexes: IndexMap<Vec<u8>, u32>,
+    named_semaphores: IndexMap<Vec<u8>, u32>,
+    members: Members,
 }
 
 impl Model for Deployment {
@@ -28,8 +31,23 @@ impl Model for Deployment {
 
     ghost view = { λ d. deployment_of_rows d.actors.items d.mutexes.items d.semaphores.items };
 
-    ghost invariant = { λ d. IsIndexed d.replay d.named_mutexes d.named_semaphores
+    ghost invariant = { λ d. IsIndexed d.replay d.named_mutexes d.named_semaphores d.members
         (deployment_of_rows d.actors.items d.mutexes.items d.semaphores.items) };
+}
+
+// The actors that replay, by rising identifier.
+#[tactic(auto, unfolding(crate::specs::Deployment::members_among), using(crate::proofs::MemberIds::row_more, crate::proofs::MemberIds::no_row))]
+fn members_among(alloc: Global, actors: &[ActorRow]) -> Result<Members, Memory>
+    requires { length actors.now ≤ 65536 }
+    ensures { IfOk result (λ members. members ≡ members_among actors.now) }
+{
+    let mut members = Members::new(alloc);
+    for (place, actor) in actors.iter().enumerate() {
+        if let Function::Replay = actor.function {
+            members.push(ActorId(place as u32 + 1))?;
+        }
+    }
+    Ok(members)
 }
 
 impl Deployment {
@@ -49,9 +67,10 @@ impl Deployment {
         ensures { IfOk result
             (λ d. d ≡ deployment_of_rows actors.items mutexes.items semaphores.items) }
     {
-        let replay = replay_by_name(alloc, actors.as_slice())?;
-        let named_mutexes = mutexes_by_name(alloc, mutexes.as_slice())?;
-        let named_semaphores = semaphores_by_name(alloc, semaphores.as_slice())?;
+        let replay = rows_by_name(alloc, actors.as_slice())?;
+        let named_mutexes = rows_by_name(alloc, mutexes.as_slice())?;
+        let named_semaphores = rows_by_name(alloc, semaphores.as_slice())?;
+        let members = members_among(alloc, actors.as_slice())?;
         Ok(Deployment {
             actors,
             mutexes,
@@ -59,6 +78,7 @@ impl Deployment {
             replay,
             named_mutexes,
             named_semaphores,
+            members,
         })
     }
 
@@ -90,20 +110,14 @@ impl Deployment {
     pub fn mutex_named(&self, name: &[u8]) -> Option<u32>
         ensures { result ≡ mutex_named self.now name.now }
     {
-        match self.named_mutexes.get(name) {
-            Some(row) => Some(*row as u32),
-            None => None,
-        }
+        self.named_mutexes.get(name).copied()
     }
 
     /// The number of the semaphore of this name, from 0 on.
     pub fn semaphore_named(&self, name: &[u8]) -> Option<u32>
         ensures { result ≡ semaphore_named self.now name.now }
     {
-        match self.named_semaphores.get(name) {
-            Some(row) => Some(*row as u32),
-            None => None,
-        }
+        self.named_semaphores.get(name).copied()
     }
 
     /// The actor of this name, if it replays.
@@ -111,8 +125,16 @@ impl Deployment {
         ensures { result ≡ replay_actor_named self.now name.now }
     {
         match self.replay.get(name) {
-            Some(row) => Some(ActorId(*row as u32 + 1)),
+            Some(row) => Some(ActorId(*row + 1)),
             None => None,
         }
+    }
+
+    /// Who takes part in collectives: all actors that replay, by rising identifier.
+    pub fn members(&self) -> &Members
+        ensures members { result.now ≡ members_of self.now }
+        ensures exist { All (IsActorIn (extent_of self.now)) result.now }
+    {
+        &self.members
     }
 }

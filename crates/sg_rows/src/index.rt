@@ -1,24 +1,24 @@
 //! Finds rows by their names.
-ghost use Rattle.std.specs.Prelude.{◌≡◌, ◌<◌, ◌^◌, ℕ, List, Some, None, if◌then◌else◌, IfOk, OnOk, length};
-ghost use Rattle.std.specs.HashMap.{get_by, get_by_text};
+ghost use Rattle.std.specs.Prelude.{◌≡◌, ℕ, List, ◌∷◌, [], IfOk, OnOk};
+ghost use Rattle.std.specs.HashMap.{get_by_text};
 ghost use Rattle.std.specs.Map.{lookup};
 ghost use Rattle.std.specs.Str.{bytes_eq};
-ghost use Rattle.sg_rows.specs.Index.{host_names, host_number, mutex_names, mutex_number, replay_names, replay_number, semaphore_names, semaphore_number};
-ghost use Rattle.sg_rows.specs.kept.Finds.{by_bytes};
+ghost use Rattle.sg_rows.specs.Index.{host_names, host_number, mutex_names, replay_names, semaphore_names};
+ghost use Rattle.sg_rows.specs.kept.Finds.{FindsAs, finds};
 ghost use Rattle.sg_tree.specs.Along.{along};
-ghost use Rattle.sg_tree.specs.Names.{or_else};
+ghost use Rattle.sg_tree.specs.Names.{Adds, or_else};
 
 use crate::rows::{ActorRow, Function, HostRow, MutexRow, SemaphoreRow};
 use indexmap::IndexMap;
 use sg_base::Memory;
-use sg_tree::add_name;
+use sg_tree::{add_name, small_number};
 use std::alloc::Global;
 
 /// Gives the names of hosts the numbers of their rows.
 #[tactic(auto, using(sg_tree::proofs::NameLemmas::along_turn))]
 fn add_hosts(
     alloc: Global,
-    space: &mut IndexMap<String, usize>,
+    space: &mut IndexMap<String, u32>,
     hosts: &[HostRow],
 ) -> Result<(), Memory>
     ensures { OnOk result
@@ -33,7 +33,7 @@ fn add_hosts(
 }
 
 /// The hosts by their names.
-pub fn hosts_by_name(alloc: Global, hosts: &[HostRow]) -> Result<IndexMap<String, usize>, Memory>
+pub fn hosts_by_name(alloc: Global, hosts: &[HostRow]) -> Result<IndexMap<String, u32>, Memory>
     ensures { IfOk result (λ made. (q : List ℕ) → get_by_text made q ≡ host_number hosts.now q) }
 {
     let mut made = IndexMap::new(alloc);
@@ -44,134 +44,98 @@ pub fn hosts_by_name(alloc: Global, hosts: &[HostRow]) -> Result<IndexMap<String
 /// Gives some bytes a number, unless they have one.
 fn add_bytes(
     alloc: Global,
-    space: &mut IndexMap<Vec<u8>, usize>,
+    space: &mut IndexMap<Vec<u8>, u32>,
     name: &[u8],
     number: usize,
 ) -> Result<(), Memory>
-    ensures { OnOk result
-        ((q : List ℕ)
-        → get_by (by_bytes q) space.new
-        ≡ or_else (get_by (by_bytes q) space.old)
-        (if bytes_eq q name.now then Some number else None)) }
+    ensures { OnOk result (Adds ((name.now, number) ∷ []) (finds space.old) (finds space.new)) }
 {
     if !space.contains_key(name) {
+        let number = small_number(number)?;
         let key = Vec::from_slice(alloc, name)?;
         space.insert(key, number)?;
     }
     Ok(())
 }
 
-/// Gives the name of an actor that replays its number.
-fn add_actor(
-    alloc: Global,
-    space: &mut IndexMap<Vec<u8>, usize>,
-    actor: &ActorRow,
-    number: usize,
-) -> Result<(), Memory>
-    ensures { OnOk result
-        ((q : List ℕ)
-        → get_by (by_bytes q) space.new
-        ≡ or_else (get_by (by_bytes q) space.old)
-        (lookup (bytes_eq q) (replay_names number actor.now))) }
-{
-    match actor.function {
-        Function::Replay => add_bytes(alloc, space, actor.name.as_str().as_bytes(), number),
-        _ => Ok(()),
+/// A row that is found by its name, or isn't.
+pub trait Named {
+    /// The name, under the number that it is given.
+    ghost names: { ℕ → Self → List (List ℕ × ℕ) };
+
+    /// Gives the name of the row a number, where it is found by it and has none yet.
+    fn add(
+        &self,
+        alloc: Global,
+        space: &mut IndexMap<Vec<u8>, u32>,
+        number: usize,
+    ) -> Result<(), Memory>
+        ensures { OnOk result (Adds (names number self.now) (finds space.old) (finds space.new)) };
+}
+
+/// An actor is found by its name where it replays.
+impl Named for ActorRow {
+    ghost names = { replay_names };
+
+    fn add(
+        &self,
+        alloc: Global,
+        space: &mut IndexMap<Vec<u8>, u32>,
+        number: usize,
+    ) -> Result<(), Memory> {
+        match self.function {
+            Function::Replay => add_bytes(alloc, space, self.name.as_str().as_bytes(), number),
+            _ => Ok(()),
+        }
     }
 }
 
-/// Gives the names of the actors that replay the numbers of their rows.
-#[tactic(auto, using(sg_tree::proofs::NameLemmas::along_turn))]
-fn add_actors(
-    alloc: Global,
-    space: &mut IndexMap<Vec<u8>, usize>,
-    actors: &[ActorRow],
-) -> Result<(), Memory>
-    ensures { OnOk result
-        ((q : List ℕ)
-        → get_by (by_bytes q) space.new
-        ≡ or_else (get_by (by_bytes q) space.old)
-        (lookup (bytes_eq q) (along replay_names 0 actors.now))) }
-{
-    for (i, actor) in actors.iter().enumerate() {
-        add_actor(alloc, space, actor, i)?;
+impl Named for MutexRow {
+    ghost names = { mutex_names };
+
+    fn add(
+        &self,
+        alloc: Global,
+        space: &mut IndexMap<Vec<u8>, u32>,
+        number: usize,
+    ) -> Result<(), Memory> {
+        add_bytes(alloc, space, self.id.as_str().as_bytes(), number)
     }
-    Ok(())
 }
 
-/// The actors that replay, by their names.
-pub fn replay_by_name(
-    alloc: Global,
-    actors: &[ActorRow],
-) -> Result<IndexMap<Vec<u8>, usize>, Memory>
-    ensures { IfOk result
-        (λ made. (q : List ℕ) → get_by (by_bytes q) made ≡ replay_number actors.now q) }
-{
-    let mut made = IndexMap::new(alloc);
-    add_actors(alloc, &mut made, actors)?;
-    Ok(made)
-}
+impl Named for SemaphoreRow {
+    ghost names = { semaphore_names };
 
-/// Gives the names of mutexes the numbers of their rows.
-#[tactic(auto, using(sg_tree::proofs::NameLemmas::along_turn))]
-fn add_mutexes(
-    alloc: Global,
-    space: &mut IndexMap<Vec<u8>, usize>,
-    mutexes: &[MutexRow],
-) -> Result<(), Memory>
-    ensures { OnOk result
-        ((q : List ℕ)
-        → get_by (by_bytes q) space.new
-        ≡ or_else (get_by (by_bytes q) space.old)
-        (lookup (bytes_eq q) (along mutex_names 0 mutexes.now))) }
-{
-    for (i, mutex) in mutexes.iter().enumerate() {
-        add_bytes(alloc, space, mutex.id.as_str().as_bytes(), i)?;
+    fn add(
+        &self,
+        alloc: Global,
+        space: &mut IndexMap<Vec<u8>, u32>,
+        number: usize,
+    ) -> Result<(), Memory> {
+        add_bytes(alloc, space, self.id.as_str().as_bytes(), number)
     }
-    Ok(())
 }
 
-/// The mutexes, by their names.
-pub fn mutexes_by_name(
+/// Gives the names of rows the numbers of the rows.
+fn add_rows<R: Named>(
     alloc: Global,
-    mutexes: &[MutexRow],
-) -> Result<IndexMap<Vec<u8>, usize>, Memory>
-    ensures { IfOk result
-        (λ made. (q : List ℕ) → get_by (by_bytes q) made ≡ mutex_number mutexes.now q) }
-{
-    let mut made = IndexMap::new(alloc);
-    add_mutexes(alloc, &mut made, mutexes)?;
-    Ok(made)
-}
-
-/// Gives the names of semaphores the numbers of their rows.
-#[tactic(auto, using(sg_tree::proofs::NameLemmas::along_turn))]
-fn add_semaphores(
-    alloc: Global,
-    space: &mut IndexMap<Vec<u8>, usize>,
-    semaphores: &[SemaphoreRow],
+    space: &mut IndexMap<Vec<u8>, u32>,
+    rows: &[R],
 ) -> Result<(), Memory>
-    ensures { OnOk result
-        ((q : List ℕ)
-        → get_by (by_bytes q) space.new
-        ≡ or_else (get_by (by_bytes q) space.old)
-        (lookup (bytes_eq q) (along semaphore_names 0 semaphores.now))) }
+    ensures { OnOk result (Adds (along R.names 0 rows.now) (finds space.old) (finds space.new)) }
 {
-    for (i, semaphore) in semaphores.iter().enumerate() {
-        add_bytes(alloc, space, semaphore.id.as_str().as_bytes(), i)?;
+    for (i, row) in rows.iter().enumerate() {
+        row.add(alloc, space, i)?;
     }
     Ok(())
 }
 
-/// The semaphores, by their names.
-pub fn semaphores_by_name(
-    alloc: Global,
-    semaphores: &[SemaphoreRow],
-) -> Result<IndexMap<Vec<u8>, usize>, Memory>
+/// The rows that are found by their names, with their numbers from 0 on.
+pub fn rows_by_name<R: Named>(alloc: Global, rows: &[R]) -> Result<IndexMap<Vec<u8>, u32>, Memory>
     ensures { IfOk result
-        (λ made. (q : List ℕ) → get_by (by_bytes q) made ≡ semaphore_number semaphores.now q) }
+        (λ made. FindsAs made (λ q. lookup (bytes_eq q) (along R.names 0 rows.now))) }
 {
     let mut made = IndexMap::new(alloc);
-    add_semaphores(alloc, &mut made, semaphores)?;
+    add_rows(alloc, &mut made, rows)?;
     Ok(made)
 }

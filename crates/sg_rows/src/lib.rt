@@ -4,6 +4,7 @@
 mod deployment;
 mod ends;
 mod index;
+mod network;
 mod of_rows;
 mod platform;
 mod rows;
@@ -11,6 +12,7 @@ mod rows;
 pub use deployment::Deployment;
 pub use ends::{LinkEnd, link_ends, way_back};
 pub use index::hosts_by_name;
+pub use network::Network;
 pub use platform::PlatformText;
 pub use rows::{
     ActorRow, Function, HostRow, LinkRow, MutexRow, PlatformRows, Policy, RouteRow, RouterRow,

@@ -4,6 +4,7 @@ ghost use Rattle.sg_rows.specs.Deployment.{IsDeployedOn};
 ghost use Rattle.sg_rows.specs.OfRows.{AreActors, AreRows, deployed_with, platform_with};
 
 use crate::deployment::Deployment;
+use crate::network::Network;
 use crate::platform::PlatformText;
 use crate::rows::{ActorRow, HostRow, LinkRow, PlatformRows, SpokeRow, ZoneRow};
 use sg_base::Memory;
@@ -35,6 +36,7 @@ impl PlatformText {
             routes: Vec::new(alloc),
             zone_routes: Vec::new(alloc),
             spokes,
+            network: Network::plain(),
         }))
     }
 }

@@ -2,6 +2,7 @@
 ghost use Rattle.std.specs.Prelude.{◌≡◌};
 ghost use Rattle.sg_rows.specs.Platform.{IsPlatform, rows_view};
 
+use crate::network::Network;
 use crate::rows::{
     HostRow, LinkRow, PlatformRows, RouteRow, RouterRow, SpokeRow, ZoneRouteRow, ZoneRow,
 };
@@ -86,5 +87,13 @@ impl PlatformText {
         ensures kept { IsPlatform self.now }
     {
         self.rows.spokes.as_slice()
+    }
+
+    /// What it makes of latencies and bandwidths.
+    pub fn network(&self) -> Network
+        ensures value { result ≡ self.now.network }
+        ensures kept { IsPlatform self.now }
+    {
+        self.rows.network
     }
 }

@@ -1,4 +1,5 @@
 //! The rows of platforms and deployments, with resolved names.
+use crate::network::Network;
 use sg_base::{ActorId, Child, Ids, Links, PointId, Text, ZoneId};
 
 /// How a zone finds the routes between its children.
@@ -106,6 +107,8 @@ pub struct PlatformRows {
     pub routes: Vec<RouteRow>,
     pub zone_routes: Vec<ZoneRouteRow>,
     pub spokes: Vec<SpokeRow>,
+    /// That of the one row, or the plain one.
+    pub network: Network,
 }
 
 /// What an actor does.

@@ -5,7 +5,7 @@ use Rattle.std.specs.List.{All, AllByRecursion, list_all}
 use Rattle.sg_rules.proofs.TableLemmas.{few_rows}
 use Rattle.sg_rules.specs.Faults.{key_faults, row_faults, row_faults_at, rows_before, table_faults, table_kinds}
 use Rattle.sg_rules.specs.Names.{Known}
-use Rattle.sg_rules.specs.Rules.{child_kinds, end_kinds, host_kinds, id_kinds, is_between, is_from, is_positive, key_kinds, kinds_at, latency_kinds, link_id_kinds, point_kinds, rate_kinds, route_end_kinds, text_kinds, value_kinds, zone_kinds, zone_route_end_kinds}
+use Rattle.sg_rules.specs.Rules.{child_kinds, end_kinds, host_kinds, id_kinds, is_between, is_from, is_positive, key_kinds, kinds_at, refused_kinds, link_id_kinds, point_kinds, positive_kinds, route_end_kinds, text_kinds, value_kinds, zone_kinds, zone_route_end_kinds}
 use Rattle.sg_rules.specs.Tables.{key, keys_of, row_limit, shape_of, table_number, table_text, word_text}
 use Rattle.sg_rules.specs.declared.tables.Key.{Key}
 use Rattle.sg_rules.specs.declared.tables.Need.TheVariants.{Required, Optional}
@@ -117,10 +117,10 @@ pub host_there : (names : Known) (name : List ℕ) → host_kinds names name ≡
 unfolding host_kinds
 host_there names name empty = between names.zones (names.zones + names.hosts) (names.points name) (not_false _ (unbroken _ _ empty))
 
--- a speed or a bandwidth is above zero
-pub rate_there : (value : Option ℕ) → rate_kinds value ≡ [] → (n : ℕ) × (value ≡ Some n) × (1 ≤ n)
-unfolding rate_kinds
-rate_there value empty = above value (not_false _ (unbroken _ _ empty))
+-- a value that must be above zero is there, and is
+pub positive_there : (value : Option ℕ) → positive_kinds value ≡ [] → (n : ℕ) × (value ≡ Some n) × (1 ≤ n)
+unfolding positive_kinds
+positive_there value empty = above value (not_false _ (unbroken _ _ empty))
   where
     above : (o : Option ℕ) → is_positive o ≡ true → (n : ℕ) × (o ≡ Some n) × (1 ≤ n)
     above None positive = cc
@@ -162,6 +162,6 @@ pub child_end : (names : Known) (number : ℕ) (name : List ℕ) → child_kinds
 unfolding child_kinds
 child_end names number name empty = empty_right _ _ empty
 
-pub latency_there : (value : Option ℕ) → latency_kinds value ≡ [] → (n : ℕ) × (value ≡ Some n)
-unfolding latency_kinds
-latency_there value empty = some_there value (unbroken _ _ empty)
+pub taken_there : (value : Option ℕ) → refused_kinds value ≡ [] → (n : ℕ) × (value ≡ Some n)
+unfolding refused_kinds
+taken_there value empty = some_there value (unbroken _ _ empty)

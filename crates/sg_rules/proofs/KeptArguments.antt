@@ -18,10 +18,10 @@ use Rattle.sg_rules.specs.Tables.{key}
 use Rattle.sg_rules.specs.declared.tables.Need.TheVariants.{Optional}
 use Rattle.sg_rules.specs.declared.tables.Rule.TheVariants.{ArgumentList}
 use Rattle.sg_rules.specs.declared.tables.Word.TheVariants.{Argument}
-use Rattle.sg_tree.proofs.Bounds.{along_below, below_all, numbered_below}
+use Rattle.sg_tree.proofs.NameLemmas.{lookup_append}
 use Rattle.sg_tree.specs.Along.{along}
 use Rattle.sg_tree.specs.Faults.{of_type}
-use Rattle.sg_tree.specs.Names.{Finds, with_number}
+use Rattle.sg_tree.specs.Names.{Finds, or_else, with_number}
 use Rattle.sg_tree.specs.Tree.{items_or_none, list_of, rows_at, text_at}
 use Rattle.toml.specs.Data.{Data, Items, Members, as_array, get}
 
@@ -86,11 +86,11 @@ names_one row = one (has_function (codes "worker") row) (text_at (codes "name") 
     one false o = omega arith
 
 -- no more workers than rows
-numbers_few : (i : ℕ) (rows : List Data) → length (along (λ i row. with_number i (worker_names row)) i rows) ≤ length rows
+numbers_few : (i : ℕ) (rows : List Data) → length (along (λ i row. with_number (i + 1) (worker_names row)) i rows) ≤ length rows
 numbers_few i [] = omega arith
 numbers_few i (row ∷ rows) =
-    let under : List ℕ → List ℕ × ℕ = λ name. (name, i) in
-    omega (arith, length-append (with_number i (worker_names row)) (along (λ i row. with_number i (worker_names row)) (i + 1) rows), length-map (worker_names row) under, names_one row, numbers_few (i + 1) rows)
+    let under : List ℕ → List ℕ × ℕ = λ name. (name, i + 1) in
+    omega (arith, length-append (with_number (i + 1) (worker_names row)) (along (λ i row. with_number (i + 1) (worker_names row)) (i + 1) rows), length-map (worker_names row) under, names_one row, numbers_few (i + 1) rows)
 
 -- what workers a master has: some, no more than there are rows, and each is known
 pub record HasWorkers (workers : Finds) (rows : List Data) (names : List (List ℕ)) : Type 0 where
@@ -118,11 +118,38 @@ workers_fit rows names fits =
     unbroken_not true n = cc
     unbroken_not false n = refl
 
--- the row of a worker is below the count of the rows
-pub workers_below : (rows : List Data) (q : List ℕ) → IfSome (lookup (bytes_eq q) (worker_numbers rows)) (λ row. row < length rows)
-workers_below rows q =
-    below_all _ (0 + 0 + length rows) (length rows) (omega arith)
-    (along_below (bytes_eq q) (λ i row. with_number i (worker_names row)) 0 (λ j row. below_all _ (j + 1) (0 + j + 1) (omega arith) (numbered_below (bytes_eq q) j (worker_names row))) 0 rows)
+-- an identifier of an actor of so many rows
+abbrev pub IsNumbered : ℕ → Option ℕ → Type 0
+IsNumbered rows found = IfSome found (λ id. (0 < id) × (id ≤ rows))
+
+numbered_or : (n : ℕ) (a b : Option ℕ) → IsNumbered n a → IsNumbered n b → IsNumbered n (or_else a b)
+numbered_or n None b p q = q
+numbered_or n (Some id) b p q = p
+
+numbered_more : (m n : ℕ) (o : Option ℕ) → m ≤ n → IsNumbered m o → IsNumbered n o
+numbered_more m n None more p = tt
+numbered_more m n (Some id) more p = (p.0, let most = p.1 in omega (arith, more, most))
+
+one_numbered : (q : List ℕ) (n i : ℕ) (names : List (List ℕ)) → i < n → IsNumbered n (lookup (bytes_eq q) (with_number (i + 1) names))
+one_numbered q n i [] below = tt
+one_numbered q n i (name ∷ names) below =
+    elim (cases_Bool (bytes_eq q name)) [
+      | inl here ↦ rw here (omega arith, omega (arith, below))
+      | inr other ↦ rw other (one_numbered q n i names below)
+    ]
+
+all_numbered : (q : List ℕ) (i : ℕ) (rows : List Data) → IsNumbered (i + length rows) (lookup (bytes_eq q) (along (λ i row. with_number (i + 1) (worker_names row)) i rows))
+all_numbered q i [] = tt
+all_numbered q i (row ∷ rows) =
+    let here = with_number (i + 1) (worker_names row) in
+    let rest = along (λ i row. with_number (i + 1) (worker_names row)) (i + 1) rows in
+    let n = i + length (row ∷ rows) in
+    rw (lookup_append (bytes_eq q) here rest)
+    (numbered_or n _ _ (one_numbered q n i (worker_names row) (omega arith)) (numbered_more (i + 1 + length rows) n _ (omega arith) (all_numbered q (i + 1) rows)))
+
+-- workers are actors
+pub workers_numbered : (rows : List Data) (q : List ℕ) → IsNumbered (length rows) (lookup (bytes_eq q) (worker_numbers rows))
+workers_numbered rows q = numbered_more (0 + length rows) (length rows) _ (omega arith) (all_numbered q 0 rows)
 
 pub known_workers : (hosts : ℕ) (points : Finds) (tree : Members) → (deployment_known hosts points tree).workers ≡ (λ q. lookup (bytes_eq q) (worker_numbers (rows_at (codes "actor") tree)))
 unfolding deployment_known

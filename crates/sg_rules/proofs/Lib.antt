@@ -3,7 +3,7 @@ pub mod Kept
 pub mod KeptArguments
 pub mod NameLemmas
 pub mod Repeats
-pub mod Small
+pub mod NumbersBelow
 pub mod TableLemmas
 pub mod Rising
 pub mod PlatformKinds

@@ -5,7 +5,7 @@ use Rattle.sg_rules.proofs.Rising.{Each, each_append}
 use Rattle.sg_rules.specs.Faults.{faults_of, key_faults, row_faults, row_faults_at, row_kinds, rows_before, table_faults, table_kinds, top_kinds}
 use Rattle.sg_rules.specs.Names.{Known}
 use Rattle.sg_rules.specs.PlatformKinds.{IsPlatformFault, PlatformKinds}
-use Rattle.sg_rules.specs.Rules.{child_kinds, default_kinds, end_kinds, host_kinds, id_kinds, is_text, key_kinds, kinds_at, latency_kinds, link_id_kinds, link_list_kinds, list_kinds, point_kinds, rate_kinds, route_end_kinds, shape_kinds, text_kinds, texts_kinds, value_kinds, whole_kinds, word_kinds, zone_kinds, zone_route_end_kinds}
+use Rattle.sg_rules.specs.Rules.{child_kinds, default_kinds, end_kinds, host_kinds, id_kinds, is_text, key_kinds, kinds_at, refused_kinds, link_id_kinds, link_list_kinds, list_kinds, point_kinds, positive_kinds, route_end_kinds, shape_kinds, text_kinds, texts_kinds, value_kinds, whole_kinds, word_kinds, zone_kinds, zone_route_end_kinds}
 use Rattle.sg_rules.specs.Tables.{keys_of, platform_tables, table_number, table_text}
 use Rattle.sg_rules.specs.declared.tables.Key.{Key}
 use Rattle.sg_rules.specs.declared.tables.Rule.{Rule}
@@ -48,7 +48,7 @@ IsPlatformRule rule.ArgumentList = ⊥
 IsPlatformRule _ = Unit {0}
 
 text_small : (names : Known) (number : ℕ) (row : Data) (r : Rule) (text : List ℕ) → IsPlatformRule r → AreSmall (text_kinds names number row r text)
-unfolding child_kinds end_kinds host_kinds id_kinds latency_kinds link_id_kinds point_kinds rate_kinds route_end_kinds word_kinds zone_kinds zone_route_end_kinds
+unfolding child_kinds end_kinds host_kinds id_kinds refused_kinds link_id_kinds point_kinds positive_kinds route_end_kinds word_kinds zone_kinds zone_route_end_kinds
 text_small names number row rule.NewPoint text h = two _ _ BadName Duplicate (omega arith) (omega arith)
 text_small names number row rule.NewLink text h = two _ _ BadName Duplicate (omega arith) (omega arith)
 text_small names number row rule.NewActor text h = two _ _ BadName Duplicate (omega arith) (omega arith)
@@ -67,6 +67,9 @@ text_small names number row rule.FunctionWord text h = absurd h
 text_small names number row rule.SpeedText text h = one _ BadValue (omega arith)
 text_small names number row rule.BandwidthText text h = one _ BadValue (omega arith)
 text_small names number row rule.LatencyText text h = one _ BadValue (omega arith)
+text_small names number row rule.FactorText text h = one _ BadValue (omega arith)
+text_small names number row rule.PositiveFactorText text h = one _ BadValue (omega arith)
+text_small names number row rule.AmountText text h = one _ BadValue (omega arith)
 text_small names number row rule.CoreCount text h = tt
 text_small names number row rule.CapacityCount text h = tt
 text_small names number row rule.TruthValue text h = tt
@@ -156,7 +159,7 @@ table_small names tree table h =
 
 keys_small : Each IsPlatformTable platform_tables
 keys_small =
-    ((tt, (tt, (tt, tt))), ((tt, (tt, (tt, (tt, tt)))), ((tt, (tt, tt)), ((tt, (tt, (tt, (tt, tt)))), ((tt, (tt, (tt, (tt, tt)))), ((tt, (tt, (tt, (tt, (tt, (tt, tt)))))), ((tt, (tt, (tt, (tt, (tt, tt))))), tt)))))))
+    ((tt, (tt, (tt, tt))), ((tt, (tt, (tt, (tt, tt)))), ((tt, (tt, tt)), ((tt, (tt, (tt, (tt, tt)))), ((tt, (tt, (tt, (tt, tt)))), ((tt, (tt, (tt, (tt, (tt, (tt, tt)))))), ((tt, (tt, (tt, (tt, (tt, tt))))), ((tt, (tt, (tt, tt))), tt))))))))
 
 pub platform_kinds : PlatformKinds
 unfolding faults_of

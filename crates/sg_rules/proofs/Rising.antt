@@ -5,7 +5,7 @@ use Rattle.sg_rules.specs.Arguments.{argument_kinds}
 use Rattle.sg_rules.specs.Faults.{faults_of, key_faults, row_faults, row_faults_at, row_kinds, rows_before, table_faults, table_kinds, top_kinds}
 use Rattle.sg_rules.specs.Names.{Known}
 use Rattle.sg_rules.specs.Rising.{FaultsRise, IsBefore, IsRising}
-use Rattle.sg_rules.specs.Rules.{child_kinds, default_kinds, end_kinds, host_kinds, id_kinds, is_text, key_kinds, kinds_at, latency_kinds, link_id_kinds, link_list_kinds, list_kinds, point_kinds, rate_kinds, route_end_kinds, shape_kinds, text_kinds, texts_kinds, value_kinds, whole_kinds, word_kinds, zone_kinds, zone_route_end_kinds}
+use Rattle.sg_rules.specs.Rules.{child_kinds, default_kinds, end_kinds, host_kinds, id_kinds, is_text, key_kinds, kinds_at, refused_kinds, link_id_kinds, link_list_kinds, list_kinds, point_kinds, positive_kinds, route_end_kinds, shape_kinds, text_kinds, texts_kinds, value_kinds, whole_kinds, word_kinds, zone_kinds, zone_route_end_kinds}
 use Rattle.sg_rules.specs.Tables.{deployment_tables, keys_of, platform_tables, shape_of, table_number, table_text}
 use Rattle.sg_rules.specs.declared.tables.Key.{Key}
 use Rattle.sg_rules.specs.declared.tables.Rule.{Rule}
@@ -66,7 +66,7 @@ typed kinds None h = (tt, tt)
 typed kinds (Some x) h = h x
 
 text_rise : (names : Known) (number : ℕ) (row : Data) (r : Rule) (text : List ℕ) → KindsRise (text_kinds names number row r text)
-unfolding child_kinds end_kinds host_kinds id_kinds latency_kinds link_id_kinds point_kinds rate_kinds route_end_kinds word_kinds zone_kinds zone_route_end_kinds
+unfolding child_kinds end_kinds host_kinds id_kinds refused_kinds link_id_kinds point_kinds positive_kinds route_end_kinds word_kinds zone_kinds zone_route_end_kinds
 text_rise names number row rule.NewPoint text = two _ _ BadName Duplicate (omega arith)
 text_rise names number row rule.NewLink text = two _ _ BadName Duplicate (omega arith)
 text_rise names number row rule.NewActor text = two _ _ BadName Duplicate (omega arith)
@@ -85,6 +85,9 @@ text_rise names number row rule.FunctionWord text = one _ Function
 text_rise names number row rule.SpeedText text = one _ BadValue
 text_rise names number row rule.BandwidthText text = one _ BadValue
 text_rise names number row rule.LatencyText text = one _ BadValue
+text_rise names number row rule.FactorText text = one _ BadValue
+text_rise names number row rule.PositiveFactorText text = one _ BadValue
+text_rise names number row rule.AmountText text = one _ BadValue
 text_rise names number row rule.CoreCount text = tt
 text_rise names number row rule.CapacityCount text = tt
 text_rise names number row rule.TruthValue text = tt
@@ -236,6 +239,6 @@ text_faults_rise names tree tables h =
 
 pub faults_rise : FaultsRise
 faults_rise = record {
-  platform = λ names tree. text_faults_rise names tree platform_tables (omega arith, (omega arith, (omega arith, (omega arith, (omega arith, (omega arith, (omega arith, tt)))))));
+  platform = λ names tree. text_faults_rise names tree platform_tables (omega arith, (omega arith, (omega arith, (omega arith, (omega arith, (omega arith, (omega arith, (omega arith, tt))))))));
   deployment = λ names tree. text_faults_rise names tree deployment_tables (omega arith, (omega arith, (omega arith, tt)));
 }

@@ -1,5 +1,5 @@
 -- What actors do, and the arguments that go with it.
-use Rattle.std.specs.Prelude.{is_some, ℕ, ◌==◌, Bool, false, not, ◌&&◌, ◌||◌, nat_le, List, [], ◌∷◌, if◌then◌else◌, Option, Some, None, length, map, codes, unwrap_or}
+use Rattle.std.specs.Prelude.{is_some, ℕ, ◌+◌, ◌==◌, Bool, false, not, ◌&&◌, ◌||◌, nat_le, List, [], ◌∷◌, if◌then◌else◌, Option, Some, None, length, map, codes, unwrap_or}
 use Rattle.std.specs.List.{list_all, list_any}
 use Rattle.std.specs.Str.{bytes_eq}
 use Rattle.sg_rules.specs.Units.{amount_value}
@@ -19,9 +19,9 @@ has_function word row = bytes_eq (text_or_empty (codes "function") row) word
 abbrev pub worker_names : Data → List (List ℕ)
 worker_names row = if has_function (codes "worker") row then texts_at (codes "name") row else []
 
--- the names of workers, under the numbers of their rows
+-- the names of workers, under the identifiers of the actors, which are numbered from 1 on
 abbrev pub worker_numbers : List Data → List (List ℕ × ℕ)
-worker_numbers rows = along (λ i row. with_number i (worker_names row)) 0 rows
+worker_numbers rows = along (λ i row. with_number (i + 1) (worker_names row)) 0 rows
 
 -- the text of an item
 abbrev pub text_of : Data → List ℕ

@@ -7,12 +7,12 @@ use Rattle.sg_rules.specs.LinkNames.{is_split}
 use Rattle.sg_rules.specs.Names.{Known}
 use Rattle.sg_rules.specs.Pairs.{pairs_of}
 use Rattle.sg_rules.specs.Tables.{shape_of, word_text}
-use Rattle.sg_rules.specs.Units.{bandwidth_value, latency_value, speed_value}
+use Rattle.sg_rules.specs.Units.{amount_value, bandwidth_value, factor_value, latency_value, speed_value}
 use Rattle.sg_rules.specs.declared.tables.Key.{Key}
 use Rattle.sg_rules.specs.declared.tables.Need.{Need}
 use Rattle.sg_rules.specs.declared.tables.Need.TheVariants.{Required, Optional, IfZone}
 use Rattle.sg_rules.specs.declared.tables.Rule.{Rule}
-use Rattle.sg_rules.specs.declared.tables.Rule.TheVariants.{NewPoint, NewLink, NewActor, NewMutex, NewSemaphore, ZoneName, PointName, EndName, HostName, RouteEnd, ZoneRouteEnd, SpokeChild, RoutingWord, PolicyWord, FunctionWord, SpeedText, BandwidthText, LatencyText, CoreCount, CapacityCount, TruthValue, LinkList, ArgumentList}
+use Rattle.sg_rules.specs.declared.tables.Rule.TheVariants.{NewPoint, NewLink, NewActor, NewMutex, NewSemaphore, ZoneName, PointName, EndName, HostName, RouteEnd, ZoneRouteEnd, SpokeChild, RoutingWord, PolicyWord, FunctionWord, SpeedText, BandwidthText, LatencyText, FactorText, PositiveFactorText, AmountText, CoreCount, CapacityCount, TruthValue, LinkList, ArgumentList}
 use Rattle.sg_rules.specs.declared.tables.Shape.{Shape}
 use Rattle.sg_rules.specs.declared.tables.Shape.TheVariants.{Text, Whole, Truth, Texts}
 use Rattle.sg_tree.specs.Faults.{kind_if, of_type}
@@ -88,17 +88,17 @@ policies = codes "SHARED" ∷ codes "FATPIPE" ∷ codes "SPLITDUPLEX" ∷ []
 abbrev pub functions : List (List ℕ)
 functions = codes "replay" ∷ codes "master" ∷ codes "worker" ∷ []
 
--- a speed or a bandwidth: above zero, where its reader takes the text
+-- a speed, a bandwidth, or a factor of bandwidths: above zero, where its reader takes the text
 abbrev pub is_positive : Option ℕ → Bool
 is_positive None = false
 is_positive (Some n) = nat_lt 0 n
 
-unfoldable pub rate_kinds : Option ℕ → List Kind
-rate_kinds value = kind_if (not (is_positive value)) BadValue
+unfoldable pub positive_kinds : Option ℕ → List Kind
+positive_kinds value = kind_if (not (is_positive value)) BadValue
 
--- a latency, where its reader takes the text
-unfoldable pub latency_kinds : Option ℕ → List Kind
-latency_kinds value = kind_if (is_none value) BadValue
+-- a latency, a factor or an amount, where its reader takes the text
+unfoldable pub refused_kinds : Option ℕ → List Kind
+refused_kinds value = kind_if (is_none value) BadValue
 
 -- what is wrong with a text
 abbrev pub text_kinds : Known → ℕ → Data → Rule → List ℕ → List Kind
@@ -117,9 +117,12 @@ text_kinds names number row SpokeChild text = child_kinds names number text
 text_kinds names number row RoutingWord text = word_kinds routings BadValue text
 text_kinds names number row PolicyWord text = word_kinds policies BadValue text
 text_kinds names number row FunctionWord text = word_kinds functions Function text
-text_kinds names number row SpeedText text = rate_kinds (speed_value text)
-text_kinds names number row BandwidthText text = rate_kinds (bandwidth_value text)
-text_kinds names number row LatencyText text = latency_kinds (latency_value text)
+text_kinds names number row SpeedText text = positive_kinds (speed_value text)
+text_kinds names number row BandwidthText text = positive_kinds (bandwidth_value text)
+text_kinds names number row LatencyText text = refused_kinds (latency_value text)
+text_kinds names number row FactorText text = refused_kinds (factor_value text)
+text_kinds names number row PositiveFactorText text = positive_kinds (factor_value text)
+text_kinds names number row AmountText text = refused_kinds (amount_value text)
 text_kinds names number row CoreCount text = []
 text_kinds names number row CapacityCount text = []
 text_kinds names number row TruthValue text = []

@@ -5,11 +5,11 @@ use Rattle.sg_rules.specs.declared.tables.Key.{Key}
 use Rattle.sg_rules.specs.declared.tables.Need.{Need}
 use Rattle.sg_rules.specs.declared.tables.Need.TheVariants.{Required, Optional, IfZone}
 use Rattle.sg_rules.specs.declared.tables.Rule.{Rule}
-use Rattle.sg_rules.specs.declared.tables.Rule.TheVariants.{NewPoint, NewLink, NewActor, NewMutex, NewSemaphore, ZoneName, PointName, EndName, HostName, RouteEnd, ZoneRouteEnd, SpokeChild, RoutingWord, PolicyWord, FunctionWord, SpeedText, BandwidthText, LatencyText, CoreCount, CapacityCount, TruthValue, LinkList, ArgumentList}
+use Rattle.sg_rules.specs.declared.tables.Rule.TheVariants.{NewPoint, NewLink, NewActor, NewMutex, NewSemaphore, ZoneName, PointName, EndName, HostName, RouteEnd, ZoneRouteEnd, SpokeChild, RoutingWord, PolicyWord, FunctionWord, SpeedText, BandwidthText, LatencyText, FactorText, PositiveFactorText, AmountText, CoreCount, CapacityCount, TruthValue, LinkList, ArgumentList}
 use Rattle.sg_rules.specs.declared.tables.Shape.{Shape}
 use Rattle.sg_rules.specs.declared.tables.Shape.TheVariants as shape
 use Rattle.sg_rules.specs.declared.tables.Table.{Table}
-use Rattle.sg_rules.specs.declared.tables.Table.TheVariants.{Zone, Host, Router, Link, Route, ZoneRoute, Spoke, Actor, Mutex, Semaphore}
+use Rattle.sg_rules.specs.declared.tables.Table.TheVariants.{Zone, Host, Router, Link, Route, ZoneRoute, Spoke, Network, Actor, Mutex, Semaphore}
 use Rattle.sg_rules.specs.declared.tables.Word.{Word}
 use Rattle.sg_rules.specs.declared.tables.Word.TheVariants as word
 
@@ -60,6 +60,11 @@ keys_of Spoke =
     ∷ key word.Up Required LinkList
     ∷ key word.Down Optional LinkList
     ∷ []
+keys_of Network =
+    key word.LatencyFactor Optional FactorText
+    ∷ key word.BandwidthFactor Optional PositiveFactorText
+    ∷ key word.Window Optional AmountText
+    ∷ []
 keys_of Actor =
     key word.Name Required NewActor
     ∷ key word.Host Required HostName
@@ -82,6 +87,7 @@ table_text Link = codes "link"
 table_text Route = codes "route"
 table_text ZoneRoute = codes "zone_route"
 table_text Spoke = codes "spoke"
+table_text Network = codes "network"
 table_text Actor = codes "actor"
 table_text Mutex = codes "mutex"
 table_text Semaphore = codes "semaphore"
@@ -95,6 +101,7 @@ table_number Link = 4
 table_number Route = 5
 table_number ZoneRoute = 6
 table_number Spoke = 7
+table_number Network = 8
 table_number Actor = 1
 table_number Mutex = 2
 table_number Semaphore = 3
@@ -108,13 +115,14 @@ row_limit Link = 65536
 row_limit Route = 262144
 row_limit ZoneRoute = 262144
 row_limit Spoke = 32768
+row_limit Network = 1
 row_limit Actor = 65536
 row_limit Mutex = 65536
 row_limit Semaphore = 65536
 
 -- the tables of a platform, and those of a deployment, in order
 abbrev pub platform_tables : List Table
-platform_tables = Zone ∷ Host ∷ Router ∷ Link ∷ Route ∷ ZoneRoute ∷ Spoke ∷ []
+platform_tables = Zone ∷ Host ∷ Router ∷ Link ∷ Route ∷ ZoneRoute ∷ Spoke ∷ Network ∷ []
 
 abbrev pub deployment_tables : List Table
 deployment_tables = Actor ∷ Mutex ∷ Semaphore ∷ []
@@ -145,6 +153,9 @@ word_text word.Host = codes "host"
 word_text word.Function = codes "function"
 word_text word.Argument = codes "argument"
 word_text word.Capacity = codes "capacity"
+word_text word.LatencyFactor = codes "latency_factor"
+word_text word.BandwidthFactor = codes "bandwidth_factor"
+word_text word.Window = codes "window"
 
 -- the type of the values that a rule is for
 abbrev pub shape_of : Rule → Shape

@@ -1,6 +1,6 @@
 -- Values with units, where their reader takes the text.
 use Rattle.std.specs.Prelude.{ℕ, nat_le, List, if◌then◌else◌, Option, Some, None, Result, Ok, Err}
-use Rattle.sg_units.specs.Amount.{amount_of, bandwidth_of, speed_of, time_of}
+use Rattle.sg_units.specs.Amount.{amount_of, bandwidth_of, factor_of, speed_of, time_of}
 use Rattle.sg_units.specs.declared.fault.AmountFault.{AmountFault}
 
 abbrev pub value_of : Result ℕ AmountFault → Option ℕ
@@ -18,6 +18,10 @@ speed_value text = value_of (speed_of text)
 -- the bandwidth that a text gives, in bytes per second
 unfoldable pub bandwidth_value : List ℕ → Option ℕ
 bandwidth_value text = value_of (bandwidth_of text)
+
+-- the factor that a text gives, in millionths
+unfoldable pub factor_value : List ℕ → Option ℕ
+factor_value text = value_of (factor_of text)
 
 -- the greatest latency, in nanoseconds
 abbrev pub greatest_latency : ℕ

@@ -1,5 +1,5 @@
 //! What actors do, and the arguments that go with it.
-ghost use Rattle.std.specs.Prelude.{◌≡◌, is_some, ℕ, List, IfOk, OnOk, codes, map};
+ghost use Rattle.std.specs.Prelude.{◌≡◌, ◌+◌, is_some, ℕ, List, IfOk, OnOk, codes, map};
 ghost use Rattle.std.specs.HashMap.{get_by_text};
 ghost use Rattle.std.specs.List.{list_all};
 ghost use Rattle.std.specs.Map.{lookup};
@@ -24,10 +24,10 @@ pub fn has_function(row: &Value, word: &str) -> bool
     text_or_empty(row, "function") == word
 }
 
-/// Gives the name of a worker the number of its row.
+/// Gives the name of a worker its number.
 fn add_worker(
     alloc: Global,
-    space: &mut IndexMap<String, usize>,
+    space: &mut IndexMap<String, u32>,
     number: usize,
     row: &Value,
 ) -> Result<(), Memory>
@@ -46,11 +46,11 @@ fn add_worker(
     }
 }
 
-/// Gives the names of workers the numbers of their rows.
+/// Gives the names of workers their identifiers: actors are numbered from 1 on.
 #[tactic(auto, using(sg_tree::proofs::NameLemmas::along_turn))]
 fn add_workers(
     alloc: Global,
-    space: &mut IndexMap<String, usize>,
+    space: &mut IndexMap<String, u32>,
     rows: &[Value],
 ) -> Result<(), Memory>
     ensures { OnOk result
@@ -58,16 +58,16 @@ fn add_workers(
         → get_by_text space.new q
         ≡ or_else (get_by_text space.old q)
         (lookup (bytes_eq q)
-        (along (λ i row. with_number i (worker_names (view row))) 0 rows.now))) }
+        (along (λ i row. with_number (i + 1) (worker_names (view row))) 0 rows.now))) }
 {
     for (i, row) in rows.iter().enumerate() {
-        add_worker(alloc, space, i, row)?;
+        add_worker(alloc, space, i + 1, row)?;
     }
     Ok(())
 }
 
-/// The names of workers, under the numbers of their rows.
-pub fn workers_in(alloc: Global, rows: &[Value]) -> Result<IndexMap<String, usize>, Memory>
+/// The names of workers, under their identifiers.
+pub fn workers_in(alloc: Global, rows: &[Value]) -> Result<IndexMap<String, u32>, Memory>
     ensures { IfOk result
         (λ made. (q : List ℕ)
         → get_by_text made q ≡ lookup (bytes_eq q) (worker_numbers (map view rows.now))) }
@@ -102,7 +102,7 @@ fn has_repeat(alloc: Global, items: &[Value]) -> Result<bool, Memory>
     Ok(false)
 }
 
-fn are_known(workers: &IndexMap<String, usize>, items: &[Value]) -> bool
+fn are_known(workers: &IndexMap<String, u32>, items: &[Value]) -> bool
     ensures { result
         ≡ list_all (λ name. is_some (get_by_text workers.now name))
         (map text_of (map view items.now)) }
@@ -119,7 +119,7 @@ fn are_known(workers: &IndexMap<String, usize>, items: &[Value]) -> bool
 #[tactic(auto, unfolding(crate::specs::Arguments::are_workers))]
 fn are_workers(
     alloc: Global,
-    workers: &IndexMap<String, usize>,
+    workers: &IndexMap<String, u32>,
     items: &[Value],
 ) -> Result<bool, Memory>
     ensures { IfOk result
@@ -154,7 +154,7 @@ fn is_amount(item: &Value) -> bool
 /// Whether the items are what a master is given.
 fn are_for_master(
     alloc: Global,
-    workers: &IndexMap<String, usize>,
+    workers: &IndexMap<String, u32>,
     items: &[Value],
 ) -> Result<bool, Memory>
     ensures { IfOk result
@@ -185,7 +185,7 @@ fn takes_none(row: &Value) -> bool
 #[tactic(auto, unfolding(crate::specs::Arguments::argument_kinds))]
 pub fn argument_fault(
     alloc: Global,
-    workers: &IndexMap<String, usize>,
+    workers: &IndexMap<String, u32>,
     row: &Value,
     items: &[Value],
 ) -> Result<Option<Kind>, Memory>

@@ -10,7 +10,7 @@ ghost use Rattle.sg_tree.specs.Names.{Pair, pair_eq};
 ghost use Rattle.sg_tree.specs.Spelling.{is_name, is_name_byte, split_names};
 ghost use Rattle.sg_tree.specs.Tree.{text_at};
 ghost use Rattle.toml.specs.Data.{as_str};
-ghost use Rattle.sg_rules.specs.Rules.{child_kinds, default_kinds, end_kinds, functions, host_kinds, id_kinds, is_capacity, is_core_count, is_pair_taken, is_required, is_taken, is_text, is_unknown, key_kinds, latency_kinds, link_id_kinds, link_list_kinds, list_kinds, names_zone, point_kinds, policies, rate_kinds, route_end_kinds, routings, text_kinds, texts_kinds, value_kinds, whole_kinds, word_kinds, zone_kinds, zone_route_end_kinds};
+ghost use Rattle.sg_rules.specs.Rules.{child_kinds, default_kinds, end_kinds, functions, host_kinds, id_kinds, is_capacity, is_core_count, is_pair_taken, is_required, is_taken, is_text, is_unknown, key_kinds, refused_kinds, link_id_kinds, link_list_kinds, list_kinds, names_zone, point_kinds, policies, positive_kinds, route_end_kinds, routings, text_kinds, texts_kinds, value_kinds, whole_kinds, word_kinds, zone_kinds, zone_route_end_kinds};
 ghost use Rattle.toml.specs.View.{view};
 
 use crate::arguments::argument_fault;
@@ -18,7 +18,7 @@ use crate::links::is_split;
 use crate::names::Names;
 use crate::pairs::{is_symmetrical, point_at};
 use crate::tables::{Key, Need, Rule, Shape};
-use crate::units::{bandwidth_value, latency_value, speed_value};
+use crate::units::{amount_value, bandwidth_value, factor_value, latency_value, speed_value};
 use arrayvec::ArrayString;
 use indexmap::IndexMap;
 use sg_base::Memory;
@@ -48,17 +48,17 @@ fn is_name(text: &[u8]) -> bool
 }
 
 /// Whether an earlier row than this has the name.
-fn is_given(space: &IndexMap<String, usize>, number: usize, name: &str) -> bool
+fn is_given(space: &IndexMap<String, u32>, number: usize, name: &str) -> bool
     ensures { result ≡ is_taken (get_by_text space.now name.now) number }
 {
     match space.get(name) {
-        Some(first) => *first < number,
+        Some(first) => (*first as usize) < number,
         None => false,
     }
 }
 
 #[tactic(auto, unfolding(crate::specs::Rules::id_kinds))]
-fn id_fault(space: &IndexMap<String, usize>, number: usize, name: &str) -> Option<Kind>
+fn id_fault(space: &IndexMap<String, u32>, number: usize, name: &str) -> Option<Kind>
     ensures { result ≡ first (id_kinds (λ name. get_by_text space.now name) number name.now) }
 {
     if !is_name(name.as_bytes()) {
@@ -71,7 +71,7 @@ fn id_fault(space: &IndexMap<String, usize>, number: usize, name: &str) -> Optio
 }
 
 /// Whether an earlier row than this has the name with an end.
-fn is_end_given(space: &IndexMap<String, usize>, number: usize, name: &str, end: &str) -> bool
+fn is_end_given(space: &IndexMap<String, u32>, number: usize, name: &str, end: &str) -> bool
     requires { length name.now + length end.now ≤ 64 }
     ensures { result ≡ is_taken (get_by_text space.now (name.now ++ end.now)) number }
 {
@@ -82,7 +82,7 @@ fn is_end_given(space: &IndexMap<String, usize>, number: usize, name: &str, end:
 }
 
 /// Whether an earlier row than this has a name of a direction of the link.
-fn is_split_given(space: &IndexMap<String, usize>, number: usize, id: &str) -> bool
+fn is_split_given(space: &IndexMap<String, u32>, number: usize, id: &str) -> bool
     requires { length id.now ≤ 59 }
     ensures { result
         ≡ list_any (λ name. is_taken (get_by_text space.now name) number) (split_names id.now) }
@@ -94,7 +94,7 @@ fn is_split_given(space: &IndexMap<String, usize>, number: usize, id: &str) -> b
 
 #[tactic(auto, unfolding(crate::specs::Rules::link_id_kinds))]
 fn link_id_fault(
-    taken: &IndexMap<String, usize>,
+    taken: &IndexMap<String, u32>,
     number: usize,
     split: bool,
     id: &str,
@@ -150,15 +150,11 @@ fn end_fault(names: &Names, name: &str) -> Option<Kind>
     }
 }
 
-fn is_given_pair(
-    pairs: &IndexMap<(usize, usize), usize>,
-    number: usize,
-    pair: (usize, usize),
-) -> bool
+fn is_given_pair(pairs: &IndexMap<(u32, u32), u32>, number: usize, pair: (u32, u32)) -> bool
     ensures { result ≡ is_taken (get_by (pair_eq pair) pairs.now) number }
 {
     match pairs.get(&pair) {
-        Some(earlier) => *earlier < number,
+        Some(earlier) => (*earlier as usize) < number,
         None => false,
     }
 }
@@ -166,8 +162,8 @@ fn is_given_pair(
 /// Whether an earlier row than this gave a pair that the row gives.
 #[tactic(auto, unfolding(crate::specs::Pairs::pairs_of, crate::specs::Rules::is_pair_taken))]
 fn is_pair_taken(
-    pairs: &IndexMap<(usize, usize), usize>,
-    points: &IndexMap<String, usize>,
+    pairs: &IndexMap<(u32, u32), u32>,
+    points: &IndexMap<String, u32>,
     number: usize,
     row: &Value,
 ) -> bool
@@ -233,12 +229,12 @@ fn host_fault(names: &Names, name: &str) -> Option<Kind>
     }
 }
 
-#[tactic(auto, unfolding(crate::specs::Rules::rate_kinds))]
-fn rate_fault(value: Option<u64>) -> Option<Kind>
-    ensures { result ≡ first (rate_kinds value) }
+#[tactic(auto, unfolding(crate::specs::Rules::positive_kinds))]
+fn positive_fault(value: Option<u64>) -> Option<Kind>
+    ensures { result ≡ first (positive_kinds value) }
 {
     match value {
-        Some(rate) if rate > 0 => None,
+        Some(value) if value > 0 => None,
         _ => Some(Kind::BadValue),
     }
 }
@@ -253,9 +249,9 @@ fn routing_fault(text: &str) -> Option<Kind>
     }
 }
 
-#[tactic(auto, unfolding(crate::specs::Rules::latency_kinds))]
-fn latency_fault(value: Option<u64>) -> Option<Kind>
-    ensures { result ≡ first (latency_kinds value) }
+#[tactic(auto, unfolding(crate::specs::Rules::refused_kinds))]
+fn refused_fault(value: Option<u64>) -> Option<Kind>
+    ensures { result ≡ first (refused_kinds value) }
 {
     match value {
         Some(_) => None,
@@ -304,9 +300,12 @@ fn text_fault(names: &Names, number: usize, row: &Value, rule: Rule, text: &str)
         Rule::RoutingWord => routing_fault(text),
         Rule::PolicyWord => policy_fault(text),
         Rule::FunctionWord => function_fault(text),
-        Rule::SpeedText => rate_fault(speed_value(text.as_bytes())),
-        Rule::BandwidthText => rate_fault(bandwidth_value(text.as_bytes())),
-        Rule::LatencyText => latency_fault(latency_value(text.as_bytes())),
+        Rule::SpeedText => positive_fault(speed_value(text.as_bytes())),
+        Rule::BandwidthText => positive_fault(bandwidth_value(text.as_bytes())),
+        Rule::LatencyText => refused_fault(latency_value(text.as_bytes())),
+        Rule::FactorText => refused_fault(factor_value(text.as_bytes())),
+        Rule::PositiveFactorText => positive_fault(factor_value(text.as_bytes())),
+        Rule::AmountText => refused_fault(amount_value(text.as_bytes())),
         Rule::CoreCount
         | Rule::CapacityCount
         | Rule::TruthValue
@@ -348,7 +347,7 @@ fn are_texts(items: &[Value]) -> bool
     true
 }
 
-fn is_unknown(links: &IndexMap<String, usize>, item: &Value) -> bool
+fn is_unknown(links: &IndexMap<String, u32>, item: &Value) -> bool
     ensures { result ≡ is_unknown (λ name. get_by_text links.now name) (as_str (view item.now)) }
 {
     match item.as_str() {
@@ -357,7 +356,7 @@ fn is_unknown(links: &IndexMap<String, usize>, item: &Value) -> bool
     }
 }
 
-fn has_unknown(links: &IndexMap<String, usize>, items: &[Value]) -> bool
+fn has_unknown(links: &IndexMap<String, u32>, items: &[Value]) -> bool
     ensures { result
         ≡ list_any (λ d. is_unknown (λ name. get_by_text links.now name) (as_str d))
         (map view items.now) }
@@ -371,7 +370,7 @@ fn has_unknown(links: &IndexMap<String, usize>, items: &[Value]) -> bool
 }
 
 #[tactic(auto, unfolding(crate::specs::Rules::link_list_kinds))]
-fn link_list_fault(links: &IndexMap<String, usize>, items: &[Value]) -> Option<Kind>
+fn link_list_fault(links: &IndexMap<String, u32>, items: &[Value]) -> Option<Kind>
     ensures { result
         ≡ first (link_list_kinds (λ name. get_by_text links.now name) (map view items.now)) }
 {

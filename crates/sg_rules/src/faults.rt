@@ -20,13 +20,12 @@ use sg_tree::{Fault, Kind, Place, rows_at, value_at};
 use std::alloc::Global;
 use toml::Value;
 
-/// The first fault of the keys of a row.
+/// The first fault of the keys of the row at a place.
 fn keys_fault(
     alloc: Global,
     names: &Names,
     number: usize,
-    table: u32,
-    row_number: u32,
+    place: Place,
     keys: &[Key],
     row: &Value,
 ) -> Result<Option<Fault>, Memory>
@@ -34,14 +33,14 @@ fn keys_fault(
     ensures { IfOk result
         (λ fault. fault
         ≡ first (along
-        (key_faults (names_view names.now) number table row_number (view row.now)) 0 keys.now)) }
+        (key_faults (names_view names.now) number place.table place.row (view row.now)) 0
+        keys.now)) }
 {
     for (i, key) in keys.iter().enumerate() {
         if let Some(kind) = key_fault(alloc, names, number, row, *key)? {
             let place = Place {
-                table,
-                row: row_number,
                 key: i as u32 + 1,
+                ..place
             };
             return Ok(Some(Fault { place, kind }));
         }
@@ -90,32 +89,29 @@ fn whole_fault(keys: &[Key], row: &Value) -> Option<Kind>
     }
 }
 
-/// The first fault of a row, which has this number in its space.
+/// The first fault of the row at a place, which has this number in its space.
 #[tactic(auto, unfolding(crate::specs::Faults::row_faults))]
 fn row_fault(
     alloc: Global,
     names: &Names,
-    keys: &[Key],
     number: usize,
-    table: u32,
-    row_number: u32,
+    place: Place,
+    keys: &[Key],
     row: &Value,
 ) -> Result<Option<Fault>, Memory>
     requires { length keys.now < 100 }
     ensures { IfOk result
         (λ fault. fault
-        ≡ first (row_faults (names_view names.now) keys.now number table row_number
+        ≡ first (row_faults (names_view names.now) keys.now number place.table place.row
         (view row.now))) }
 {
-    if let Some(kind) = whole_fault(keys, row) {
-        let place = Place {
-            table,
-            row: row_number,
-            key: 0,
-        };
-        return Ok(Some(Fault { place, kind }));
+    match whole_fault(keys, row) {
+        Some(kind) => {
+            let place = Place { key: 0, ..place };
+            Ok(Some(Fault { place, kind }))
+        }
+        None => keys_fault(alloc, names, number, place, keys, row),
     }
-    keys_fault(alloc, names, number, table, row_number, keys, row)
 }
 
 /// The first fault of the rows of a table, before which stand this many rows of its space.
@@ -137,7 +133,12 @@ fn rows_fault(
         (view row)) 0 rows.now)) }
 {
     for (i, row) in rows.iter().enumerate() {
-        let found = row_fault(alloc, names, keys, before + i, table, i as u32 + 1, row)?;
+        let place = Place {
+            table,
+            row: i as u32 + 1,
+            key: 0,
+        };
+        let found = row_fault(alloc, names, before + i, place, keys, row)?;
         if found.is_some() {
             return Ok(found);
         }
@@ -167,12 +168,12 @@ fn head_fault(tree: &toml::Table, table: Table) -> Option<Kind>
 }
 
 fn before(names: &Names, table: Table) -> usize
-    requires { names.now.zones + names.now.hosts < 2 ^ 63 }
-    ensures { result ≡ rows_before (names_view names.now) table }
+    ensures value { result ≡ rows_before (names_view names.now) table }
+    ensures few { result < 2 ^ 63 }
 {
     match table {
-        Table::Host => names.zones,
-        Table::Router => names.zones + names.hosts,
+        Table::Host => names.zones as usize,
+        Table::Router => names.zones as usize + names.hosts as usize,
         _ => 0,
     }
 }
@@ -185,7 +186,6 @@ fn table_fault(
     tree: &toml::Table,
     table: Table,
 ) -> Result<Option<Fault>, Memory>
-    requires { names.now.zones + names.now.hosts < 2 ^ 63 }
     ensures { IfOk result
         (λ fault. fault ≡ first (table_faults (names_view names.now) (table_view tree.now) table)) }
 {
@@ -244,7 +244,6 @@ fn tables_fault(
     tree: &toml::Table,
     tables: &[Table],
 ) -> Result<Option<Fault>, Memory>
-    requires { names.now.zones + names.now.hosts < 2 ^ 63 }
     ensures { IfOk result
         (λ fault. fault
         ≡ first (along
@@ -268,7 +267,6 @@ pub fn first_fault(
     tables: &[Table],
     tree: &toml::Table,
 ) -> Result<Option<Fault>, Memory>
-    requires { names.now.zones + names.now.hosts < 2 ^ 63 }
     ensures { IfOk result
         (λ fault. fault
         ≡ first (faults_of (names_view names.now) tables.now (table_view tree.now))) }

@@ -19,4 +19,4 @@ pub use links::is_split;
 pub use names::{Names, deployment_names, platform_names};
 pub use pairs::is_symmetrical;
 pub use tables::{DEPLOYMENT, Key, Need, PLATFORM, Rule, Table, Word};
-pub use units::{amount_value, bandwidth_value, latency_value, speed_value};
+pub use units::{amount_value, bandwidth_value, factor_value, latency_value, speed_value};

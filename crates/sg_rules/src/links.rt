@@ -29,7 +29,7 @@ pub fn is_split(row: &Value) -> bool
 #[tactic(auto, using(sg_tree::proofs::NameLemmas::given_here))]
 fn add_split(
     alloc: Global,
-    space: &mut IndexMap<String, usize>,
+    space: &mut IndexMap<String, u32>,
     id: &str,
     up: usize,
     down: usize,
@@ -52,7 +52,7 @@ fn add_split(
 /// Gives the names that a link takes its number.
 fn add_taken(
     alloc: Global,
-    space: &mut IndexMap<String, usize>,
+    space: &mut IndexMap<String, u32>,
     number: usize,
     row: &Value,
 ) -> Result<(), Memory>
@@ -78,7 +78,7 @@ fn add_taken(
 #[tactic(auto, using(sg_tree::proofs::NameLemmas::along_turn))]
 fn add_all_taken(
     alloc: Global,
-    space: &mut IndexMap<String, usize>,
+    space: &mut IndexMap<String, u32>,
     rows: &[Value],
 ) -> Result<(), Memory>
     ensures { OnOk result
@@ -97,7 +97,7 @@ fn add_all_taken(
 /// Gives the names of a link their numbers, from the next on, and counts them.
 fn add_link(
     alloc: Global,
-    space: &mut IndexMap<String, usize>,
+    space: &mut IndexMap<String, u32>,
     next: usize,
     row: &Value,
 ) -> Result<usize, Memory>
@@ -124,11 +124,7 @@ fn add_link(
 }
 
 /// Gives the names of links their numbers.
-fn add_links(
-    alloc: Global,
-    space: &mut IndexMap<String, usize>,
-    rows: &[Value],
-) -> Result<(), Memory>
+fn add_links(alloc: Global, space: &mut IndexMap<String, u32>, rows: &[Value]) -> Result<(), Memory>
     requires { length rows.now < 2 ^ 62 }
     ensures { OnOk result
         ((q : List ℕ)
@@ -145,7 +141,7 @@ fn add_links(
 }
 
 /// The names that link rows take, under the numbers of the rows.
-pub fn taken_links(alloc: Global, rows: &[Value]) -> Result<IndexMap<String, usize>, Memory>
+pub fn taken_links(alloc: Global, rows: &[Value]) -> Result<IndexMap<String, u32>, Memory>
     ensures { IfOk result
         (λ made. (q : List ℕ)
         → get_by_text made q ≡ lookup (bytes_eq q) (taken_numbers (map view rows.now))) }
@@ -156,7 +152,7 @@ pub fn taken_links(alloc: Global, rows: &[Value]) -> Result<IndexMap<String, usi
 }
 
 /// The names by which lists name links, under the numbers of the links.
-pub fn declared_links(alloc: Global, rows: &[Value]) -> Result<IndexMap<String, usize>, Memory>
+pub fn declared_links(alloc: Global, rows: &[Value]) -> Result<IndexMap<String, u32>, Memory>
     ensures { IfOk result
         (λ made. (q : List ℕ)
         → get_by_text made q ≡ lookup (bytes_eq q) (declared_numbers (map view rows.now))) }

@@ -1,5 +1,5 @@
 //! The names that the rows of a tree give.
-ghost use Rattle.std.specs.Prelude.{◌≡◌, ◌+◌, ◌<◌, ◌^◌, ℕ, List, IfOk, map};
+ghost use Rattle.std.specs.Prelude.{◌≡◌, ℕ, List, IfOk, map};
 ghost use Rattle.std.specs.HashMap.{get_by, get_by_text};
 ghost use Rattle.std.specs.Map.{lookup};
 ghost use Rattle.std.specs.Str.{bytes_eq};
@@ -15,7 +15,7 @@ use crate::links::{declared_links, taken_links};
 use crate::pairs::pairs_in;
 use indexmap::IndexMap;
 use sg_base::Memory;
-use sg_tree::{add_names, names_at, rows_at};
+use sg_tree::{add_names, names_at, rows_at, small_number};
 use std::alloc::Global;
 use toml::{Table, Value};
 
@@ -24,25 +24,25 @@ use toml::{Table, Value};
 #[derive(Drop)]
 pub struct Names {
     /// How many rows zones have.
-    pub zones: usize,
+    pub zones: u32,
     /// How many rows hosts have.
-    pub hosts: usize,
-    pub points: IndexMap<String, usize>,
+    pub hosts: u32,
+    pub points: IndexMap<String, u32>,
     /// All names that link rows take, by rows.
-    pub taken: IndexMap<String, usize>,
+    pub taken: IndexMap<String, u32>,
     /// The names by which lists name links, by links.
-    pub links: IndexMap<String, usize>,
+    pub links: IndexMap<String, u32>,
     /// The ordered pairs of points that route rows give.
-    pub pairs: IndexMap<(usize, usize), usize>,
+    pub pairs: IndexMap<(u32, u32), u32>,
     /// The ordered pairs that zone route rows give.
-    pub zone_pairs: IndexMap<(usize, usize), usize>,
+    pub zone_pairs: IndexMap<(u32, u32), u32>,
     /// The children of spoke rows.
-    pub children: IndexMap<String, usize>,
-    pub actors: IndexMap<String, usize>,
-    /// The actors of function `worker`, by rows.
-    pub workers: IndexMap<String, usize>,
-    pub mutexes: IndexMap<String, usize>,
-    pub semaphores: IndexMap<String, usize>,
+    pub children: IndexMap<String, u32>,
+    pub actors: IndexMap<String, u32>,
+    /// The actors of function `worker`, by their identifiers.
+    pub workers: IndexMap<String, u32>,
+    pub mutexes: IndexMap<String, u32>,
+    pub semaphores: IndexMap<String, u32>,
 }
 
 fn points_of(
@@ -50,7 +50,7 @@ fn points_of(
     zones: &[Value],
     hosts: &[Value],
     routers: &[Value],
-) -> Result<IndexMap<String, usize>, Memory>
+) -> Result<IndexMap<String, u32>, Memory>
     ensures { IfOk result
         (λ made. (q : List ℕ)
         → get_by_text made q
@@ -67,7 +67,7 @@ fn points_of(
 fn link_names(
     alloc: Global,
     rows: &[Value],
-) -> Result<(IndexMap<String, usize>, IndexMap<String, usize>), Memory>
+) -> Result<(IndexMap<String, u32>, IndexMap<String, u32>), Memory>
     ensures taken { IfOk result
         (λ made. (q : List ℕ)
         → get_by_text made.0 q ≡ lookup (bytes_eq q) (taken_numbers (map view rows.now))) }
@@ -83,16 +83,10 @@ fn link_names(
 /// The pairs that route rows and zone route rows give.
 fn route_pairs(
     alloc: Global,
-    points: &IndexMap<String, usize>,
+    points: &IndexMap<String, u32>,
     routes: &[Value],
     zone_routes: &[Value],
-) -> Result<
-    (
-        IndexMap<(usize, usize), usize>,
-        IndexMap<(usize, usize), usize>,
-    ),
-    Memory,
->
+) -> Result<(IndexMap<(u32, u32), u32>, IndexMap<(u32, u32), u32>), Memory>
     ensures pairs { IfOk result
         (λ made. (q : Pair)
         → get_by (pair_eq q) made.0
@@ -110,11 +104,12 @@ fn route_pairs(
 
 /// The names of a platform text.
 pub fn platform_names(alloc: Global, tree: &Table) -> Result<Names, Memory>
-    ensures known { IfOk result (λ names. names_view names ≡ platform_known (table_view tree.now)) }
-    ensures few { IfOk result (λ names. names.zones + names.hosts < 2 ^ 63) }
+    ensures { IfOk result (λ names. names_view names ≡ platform_known (table_view tree.now)) }
 {
     let zones = rows_at(tree, "zone");
     let hosts = rows_at(tree, "host");
+    let zone_count = small_number(zones.len())?;
+    let host_count = small_number(hosts.len())?;
     let routes = rows_at(tree, "route");
     let zone_routes = rows_at(tree, "zone_route");
     let points = points_of(alloc, zones, hosts, rows_at(tree, "router"))?;
@@ -122,8 +117,8 @@ pub fn platform_names(alloc: Global, tree: &Table) -> Result<Names, Memory>
     let pairs = route_pairs(alloc, &points, routes, zone_routes)?;
     let children = names_at(alloc, "child", rows_at(tree, "spoke"))?;
     Ok(Names {
-        zones: zones.len(),
-        hosts: hosts.len(),
+        zones: zone_count,
+        hosts: host_count,
         points,
         taken: links.0,
         links: links.1,
@@ -142,13 +137,13 @@ pub fn deployment_names(
     alloc: Global,
     tree: &Table,
     hosts: usize,
-    points: IndexMap<String, usize>,
+    points: IndexMap<String, u32>,
 ) -> Result<Names, Memory>
-    ensures known { IfOk result
+    ensures { IfOk result
         (λ names. names_view names
         ≡ deployment_known hosts (λ q. get_by_text points q) (table_view tree.now)) }
-    ensures few { IfOk result (λ names. names.zones + names.hosts ≡ hosts) }
 {
+    let hosts = small_number(hosts)?;
     let rows = rows_at(tree, "actor");
     let actors = names_at(alloc, "name", rows)?;
     let workers = workers_in(alloc, rows)?;

@@ -16,7 +16,7 @@ use std::alloc::Global;
 use toml::Value;
 
 /// The number of the point, or zone, that a key names.
-pub fn point_at(points: &IndexMap<String, usize>, row: &Value, key: &str) -> Option<usize>
+pub fn point_at(points: &IndexMap<String, u32>, row: &Value, key: &str) -> Option<u32>
     ensures { result
         ≡ option_and_then (λ q. get_by_text points.now q) (text_at key.now (view row.now)) }
 {
@@ -42,8 +42,8 @@ pub fn is_symmetrical(row: &Value) -> bool
 /// Gives the pairs of a route its number.
 #[tactic(auto, unfolding(crate::specs::Pairs::pairs_of))]
 fn add_route(
-    points: &IndexMap<String, usize>,
-    pairs: &mut IndexMap<(usize, usize), usize>,
+    points: &IndexMap<String, u32>,
+    pairs: &mut IndexMap<(u32, u32), u32>,
     number: usize,
     row: &Value,
 ) -> Result<(), Memory>
@@ -68,8 +68,8 @@ fn add_route(
 /// Gives the pairs of routes the numbers of their rows.
 #[tactic(auto, using(sg_tree::proofs::NameLemmas::along_turn))]
 fn add_routes(
-    points: &IndexMap<String, usize>,
-    pairs: &mut IndexMap<(usize, usize), usize>,
+    points: &IndexMap<String, u32>,
+    pairs: &mut IndexMap<(u32, u32), u32>,
     rows: &[Value],
 ) -> Result<(), Memory>
     ensures { OnOk result
@@ -88,9 +88,9 @@ fn add_routes(
 /// The pairs that route rows give, under the numbers of the rows.
 pub fn pairs_in(
     alloc: Global,
-    points: &IndexMap<String, usize>,
+    points: &IndexMap<String, u32>,
     rows: &[Value],
-) -> Result<IndexMap<(usize, usize), usize>, Memory>
+) -> Result<IndexMap<(u32, u32), u32>, Memory>
     ensures { IfOk result
         (λ made. (q : Pair)
         → get_by (pair_eq q) made

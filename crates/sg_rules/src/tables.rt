@@ -29,6 +29,9 @@ pub enum Word {
     Function,
     Argument,
     Capacity,
+    LatencyFactor,
+    BandwidthFactor,
+    Window,
 }
 
 /// Whether a row must have a key.
@@ -79,6 +82,12 @@ pub enum Rule {
     BandwidthText,
     /// A latency up to 10^15 nanoseconds.
     LatencyText,
+    /// A factor up to 1,000.
+    FactorText,
+    /// A factor up to 1,000 that isn't zero.
+    PositiveFactorText,
+    /// Flops or bytes.
+    AmountText,
     /// A whole number from 1 to 1,024.
     CoreCount,
     /// A whole number from 0 to 10^9.
@@ -118,13 +127,14 @@ pub enum Table {
     Route,
     ZoneRoute,
     Spoke,
+    Network,
     Actor,
     Mutex,
     Semaphore,
 }
 
 /// The tables of a platform text, in order.
-pub const PLATFORM: [Table; 7] = [
+pub const PLATFORM: [Table; 8] = [
     Table::Zone,
     Table::Host,
     Table::Router,
@@ -132,6 +142,7 @@ pub const PLATFORM: [Table; 7] = [
     Table::Route,
     Table::ZoneRoute,
     Table::Spoke,
+    Table::Network,
 ];
 
 /// The tables of a deployment text, in order.
@@ -167,6 +178,9 @@ impl Word {
             Word::Function => "function",
             Word::Argument => "argument",
             Word::Capacity => "capacity",
+            Word::LatencyFactor => "latency_factor",
+            Word::BandwidthFactor => "bandwidth_factor",
+            Word::Window => "window",
         }
     }
 }
@@ -207,6 +221,7 @@ impl Table {
             Table::Route => "route",
             Table::ZoneRoute => "zone_route",
             Table::Spoke => "spoke",
+            Table::Network => "network",
             Table::Actor => "actor",
             Table::Mutex => "mutex",
             Table::Semaphore => "semaphore",
@@ -225,6 +240,7 @@ impl Table {
             Table::Route => 5,
             Table::ZoneRoute => 6,
             Table::Spoke => 7,
+            Table::Network => 8,
         }
     }
 
@@ -233,6 +249,7 @@ impl Table {
         ensures { result ≡ row_limit self }
     {
         match self {
+            Table::Network => 1,
             Table::Zone => 1024,
             Table::Host | Table::Router => 16384,
             Table::Spoke => 32768,
@@ -284,6 +301,11 @@ impl Table {
                 key!(Gateway, IfZone(Child), PointName),
                 key!(Up, Required, LinkList),
                 key!(Down, Optional, LinkList),
+            ],
+            Table::Network => &[
+                key!(LatencyFactor, Optional, FactorText),
+                key!(BandwidthFactor, Optional, PositiveFactorText),
+                key!(Window, Optional, AmountText),
             ],
             Table::Actor => &[
                 key!(Name, Required, NewActor),

@@ -1,8 +1,8 @@
 //! Values with units, where their reader takes the text.
 ghost use Rattle.std.specs.Prelude.{◌≡◌};
-ghost use Rattle.sg_rules.specs.Units.{amount_value, bandwidth_value, latency_value, speed_value};
+ghost use Rattle.sg_rules.specs.Units.{amount_value, bandwidth_value, factor_value, latency_value, speed_value};
 
-use sg_units::{read_amount, read_bandwidth, read_speed, read_time};
+use sg_units::{read_amount, read_bandwidth, read_factor, read_speed, read_time};
 
 /// The greatest latency, in nanoseconds.
 const GREATEST_LATENCY: u64 = 1_000_000_000_000_000;
@@ -36,6 +36,17 @@ pub fn bandwidth_value(text: &[u8]) -> Option<u64>
 {
     match read_bandwidth(text) {
         Ok(bandwidth) => Some(bandwidth),
+        Err(_) => None,
+    }
+}
+
+/// The factor that a text gives, in millionths.
+#[tactic(auto, unfolding(crate::specs::Units::factor_value))]
+pub fn factor_value(text: &[u8]) -> Option<u64>
+    ensures { result ≡ factor_value text.now }
+{
+    match read_factor(text) {
+        Ok(factor) => Some(factor),
         Err(_) => None,
     }
 }

@@ -14,11 +14,11 @@ use Rattle.sg_script.specs.Answer.{answer_of}
 use Rattle.sg_script.specs.Needed.{need_from, need_of}
 use Rattle.sg_script.specs.Rest.{May}
 use Rattle.sg_script.specs.Stands.{one_more, IsAsked, IsCut, IsNearNeed, AskIs, BreaksOnFailure, Kept, nothing_read, answer_from, Stands, Reads}
-use Rattle.sg_script.specs.kept.Queues.{queue_at}
+use Rattle.sg_script.specs.kept.Queues.{waits}
 use Rattle.sg_script.specs.kept.Spending.{IsThrifty, Spends}
 use Rattle.sg_script.specs.kept.Steps.{Goes, Answers, Ends, no_ask, one_ask}
 use Rattle.sg_script.proofs.Chains.{may_back}
-use Rattle.sg_script.proofs.QueueLemmas.{no_queue}
+use Rattle.sg_script.proofs.QueueLemmas.{none_wait}
 
 -- the answer to an Ask of a source that has a piece more
 joined : (known : Known) (taken piece rest : List ℕ) (broken : Bool) (actor k : ℕ) → answer_of known (record { bytes = (taken ++ piece) ++ rest; broken = broken }) actor k ≡ answer_of known (record { bytes = taken ++ (piece ++ rest); broken = broken }) actor k
@@ -43,10 +43,10 @@ none_more : (asks : ℕ → ℕ) (x : ℕ) → asks x ≡ asks x + no_ask x
 none_more asks x = omega arith
 
 -- what the next Ask of an actor needs, where no action waits for it
-need_next : (known : Known) (taken piece rest : List ℕ) (broken : Bool) (source : Source) (asks : ℕ → ℕ) (actor : ℕ) (stage : Stage) (old : Kept) → Stands known taken stage asks old → May stage (piece ++ rest) broken → source.bytes ≡ (taken ++ piece) ++ rest → source.broken ≡ broken → queue_at old.queues actor ≡ []
+need_next : (known : Known) (taken piece rest : List ℕ) (broken : Bool) (source : Source) (asks : ℕ → ℕ) (actor : ℕ) (stage : Stage) (old : Kept) → Stands known taken stage asks old → May stage (piece ++ rest) broken → source.bytes ≡ (taken ++ piece) ++ rest → source.broken ≡ broken → waits known.members old.queues actor ≡ []
     → need_of known source actor (asks actor) + length old.pending ≡ length taken + need_from known broken actor old.lines (old.pending ++ (piece ++ rest)) 0
 need_next known taken piece rest broken source asks actor stage old stands may bytes same empty =
-    let number : asks actor ≡ asks actor + length (queue_at old.queues actor) + 0 = omega (arith, ap length empty) in
+    let number : asks actor ≡ asks actor + length (waits known.members old.queues actor) + 0 = omega (arith, ap length empty) in
     ap (λ (s : Source). need_of known s actor (asks actor) + length old.pending) (source_is source ((taken ++ piece) ++ rest) broken bytes same)
     ∙ ap₂ (λ (b : List ℕ) (k : ℕ). need_of known (record { bytes = b; broken = broken }) actor k + length old.pending) (append_assoc taken piece rest) number
     ∙ stands.needs (piece ++ rest) broken may actor 0
@@ -55,7 +55,7 @@ need_next known taken piece rest broken source asks actor stage old stands may b
     source_is source bytes broken is same = ap₂ (λ (b : List ℕ) (m : Bool). record { bytes = b; broken = m }) is same
 
 near_need : (known : Known) (taken piece : List ℕ) (asks : ℕ → ℕ) (actor : ℕ) (v w : PartView) (old : Kept) → Stands known taken v.stage asks old → Reads piece v w → IsThrifty known actor w.stage piece old → IsNearNeed known taken piece w.stage actor (asks actor)
-near_need known taken piece asks actor v w old stands reads thrifty source goes = elim (some_wait (queue_at old.queues actor)) [
+near_need known taken piece asks actor v w old stands reads thrifty source goes = elim (some_wait (waits known.members old.queues actor)) [
   | inr waits ↦ inl (thrifty.idle waits)
   | inl empty ↦ elim (thrifty.near goes.rest source.broken goes.may) [
     | inl none ↦ inl (no_length piece none)
@@ -70,11 +70,11 @@ near_need known taken piece asks actor v w old stands reads thrifty source goes 
 
 -- what later Asks need, behind what was read and answered
 needs_on : (known : Known) (taken piece : List ℕ) (asks asks' asked : ℕ → ℕ) (v w : PartView) (old new : Kept) → Stands known taken v.stage asks old → Reads piece v w → Spends known w.stage piece asked old new → ((x : ℕ) → asks' x ≡ asks x + asked x)
-    → (rest : List ℕ) (broken : Bool) → May w.stage rest broken → (x later : ℕ) → need_of known (record { bytes = (taken ++ piece) ++ rest; broken = broken }) x (asks' x + length (queue_at new.queues x) + later) + length new.pending ≡ length (taken ++ piece) + need_from known broken x new.lines (new.pending ++ rest) later
+    → (rest : List ℕ) (broken : Bool) → May w.stage rest broken → (x later : ℕ) → need_of known (record { bytes = (taken ++ piece) ++ rest; broken = broken }) x (asks' x + length (waits known.members new.queues x) + later) + length new.pending ≡ length (taken ++ piece) + need_from known broken x new.lines (new.pending ++ rest) later
 needs_on known taken piece asks asks' asked v w old new stands reads spends more rest broken may x later =
     let may' : May v.stage (piece ++ rest) broken = may_back v.stage w.stage piece rest broken reads.stayed may in
-    let number : asks' x + length (queue_at new.queues x) + later ≡ asks x + length (queue_at old.queues x) + (spends.own x + later) = omega (arith, more x, spends.queued x) in
-    let same : need_of known (record { bytes = (taken ++ piece) ++ rest; broken = broken }) x (asks' x + length (queue_at new.queues x) + later) ≡ need_of known (record { bytes = taken ++ (piece ++ rest); broken = broken }) x (asks x + length (queue_at old.queues x) + (spends.own x + later)) =
+    let number : asks' x + length (waits known.members new.queues x) + later ≡ asks x + length (waits known.members old.queues x) + (spends.own x + later) = omega (arith, more x, spends.queued x) in
+    let same : need_of known (record { bytes = (taken ++ piece) ++ rest; broken = broken }) x (asks' x + length (waits known.members new.queues x) + later) ≡ need_of known (record { bytes = taken ++ (piece ++ rest); broken = broken }) x (asks x + length (waits known.members old.queues x) + (spends.own x + later)) =
     ap₂ (λ (b : List ℕ) (k : ℕ). need_of known (record { bytes = b; broken = broken }) x k) (append_assoc taken piece rest) number in
     omega (arith, same, stands.needs (piece ++ rest) broken may' x (spends.own x + later), spends.cost rest broken may x later, length-append taken piece)
 
@@ -143,10 +143,10 @@ pub new_stands : (known : Known) (stage : Stage) (kept : Kept) (n : ℕ) → kep
 new_stands known stage kept n queues lines pending = record {
   answers = λ rest broken may actor later.
       let one : 0 + later ≡ later = omega arith in
-      ap (λ (k : ℕ). answer_from known nothing_read rest broken actor k) one ∙ rw (queues, lines, pending, no_queue n actor) refl;
+      ap (λ (k : ℕ). answer_from known nothing_read rest broken actor k) one ∙ rw (queues, lines, pending, none_wait known.members n actor) refl;
   needs = λ rest broken may actor later.
-      let wait : length (queue_at kept.queues actor) ≡ 0 = rw queues (ap length (no_queue n actor)) in
-      let number : 0 + length (queue_at kept.queues actor) + later ≡ later = omega (arith, wait) in
-      let same : need_of known (record { bytes = rest; broken = broken }) actor (0 + length (queue_at kept.queues actor) + later) ≡ need_from known broken actor kept.lines (kept.pending ++ rest) later = rw (lines, pending) (ap (λ (k : ℕ). need_from known broken actor 0 rest k) number) in
+      let wait : length (waits known.members kept.queues actor) ≡ 0 = rw queues (ap length (none_wait known.members n actor)) in
+      let number : 0 + length (waits known.members kept.queues actor) + later ≡ later = omega (arith, wait) in
+      let same : need_of known (record { bytes = rest; broken = broken }) actor (0 + length (waits known.members kept.queues actor) + later) ≡ need_from known broken actor kept.lines (kept.pending ++ rest) later = rw (lines, pending) (ap (λ (k : ℕ). need_from known broken actor 0 rest k) number) in
       omega (arith, same, ap length pending);
 }

@@ -42,40 +42,40 @@ needed_more before line whole behind (Some at) cut size =
     ∙ told_more late k (through behind at.0) (through behind (suc at.0)) at.1
 
 -- behind the actions of a line the lines behind it decide
-passed_over : (actor later own : ℕ) (said : Option Entry) (more : List Judgement)
-    → cond (ltb (own + later) own) (Some (0, Ok said)) (option_map behind_one (deciding_line actor (own + later - own) more)) ≡ option_map behind_one (deciding_line actor later more)
-passed_over actor later own said more =
+passed_over : (known : Known) (actor later own : ℕ) (said : Option Entry) (more : List Judgement)
+    → cond (ltb (own + later) own) (Some (0, Ok said)) (option_map behind_one (deciding_line known actor (own + later - own) more)) ≡ option_map behind_one (deciding_line known actor later more)
+passed_over known actor later own said more =
     let no : ltb (own + later) own ≡ false = grind (arith, nat_tests) in
     let same : own + later - own ≡ later = omega arith in
     rw (no, same) refl
 
-pub deciding_more : (actor later : ℕ) (said : Option Entry) (more : List Judgement) → deciding_line actor (own_actions actor said + later) (Ok said ∷ more) ≡ option_map behind_one (deciding_line actor later more)
-deciding_more actor later said more = passed_over actor later (own_actions actor said) said more
+pub deciding_more : (known : Known) (actor later : ℕ) (said : Option Entry) (more : List Judgement) → deciding_line known actor (own_actions known actor said + later) (Ok said ∷ more) ≡ option_map behind_one (deciding_line known actor later more)
+deciding_more known actor later said more = passed_over known actor later (own_actions known actor said) said more
 
 -- a line with its newline, behind its actions
 pub needs_more : (known : Known) (broken : Bool) (actor before later : ℕ) (line whole behind : List ℕ) (said : Option Entry)
     → slice_split is_newline whole ≡ line ∷ slice_split is_newline behind → length whole ≡ length line + 1 + length behind
     → judgements known before whole broken ≡ Ok said ∷ judgements known (before + 1) behind broken
-    → need_from known broken actor before whole (own_actions actor said + later) ≡ length line + 1 + need_from known broken actor (before + 1) behind later
+    → need_from known broken actor before whole (own_actions known actor said + later) ≡ length line + 1 + need_from known broken actor (before + 1) behind later
 needs_more known broken actor before later line whole behind said cut size all =
     let more : List Judgement = judgements known (before + 1) behind broken in
-    ap (λ (js : List Judgement). need_by before whole (deciding_line actor (own_actions actor said + later) js)) all
-    ∙ ap (need_by before whole) (deciding_more actor later said more)
-    ∙ needed_more before line whole behind (deciding_line actor later more) cut size
+    ap (λ (js : List Judgement). need_by before whole (deciding_line known actor (own_actions known actor said + later) js)) all
+    ∙ ap (need_by before whole) (deciding_more known actor later said more)
+    ∙ needed_more before line whole behind (deciding_line known actor later more) cut size
 
 -- the last line, behind its actions
-pub needs_last : (known : Known) (broken : Bool) (actor before later : ℕ) (whole : List ℕ) (said : Option Entry) → judgements known before whole broken ≡ Ok said ∷ [] → need_from known broken actor before whole (own_actions actor said + later) ≡ length whole
+pub needs_last : (known : Known) (broken : Bool) (actor before later : ℕ) (whole : List ℕ) (said : Option Entry) → judgements known before whole broken ≡ Ok said ∷ [] → need_from known broken actor before whole (own_actions known actor said + later) ≡ length whole
 needs_last known broken actor before later whole said all =
-    ap (λ (js : List Judgement). need_by before whole (deciding_line actor (own_actions actor said + later) js)) all
-    ∙ ap (need_by before whole) (deciding_more actor later said [])
+    ap (λ (js : List Judgement). need_by before whole (deciding_line known actor (own_actions known actor said + later) js)) all
+    ∙ ap (need_by before whole) (deciding_more known actor later said [])
 
 -- a bad line in front decides each Ask, and where there is no line the end does
 pub needs_bad : (known : Known) (broken : Bool) (actor before : ℕ) (whole : List ℕ) (kind : LineFault) (others : List Judgement) → judgements known before whole broken ≡ Err kind ∷ others → (i j : ℕ) → need_from known broken actor before whole i ≡ need_from known broken actor before whole j
 needs_bad known broken actor before whole kind others all i j =
-    ap (λ (js : List Judgement). need_by before whole (deciding_line actor i js)) all
-    ∙ sym (ap (λ (js : List Judgement). need_by before whole (deciding_line actor j js)) all)
+    ap (λ (js : List Judgement). need_by before whole (deciding_line known actor i js)) all
+    ∙ sym (ap (λ (js : List Judgement). need_by before whole (deciding_line known actor j js)) all)
 
 pub needs_none : (known : Known) (broken : Bool) (actor before : ℕ) (whole : List ℕ) → judgements known before whole broken ≡ [] → (i j : ℕ) → need_from known broken actor before whole i ≡ need_from known broken actor before whole j
 needs_none known broken actor before whole all i j =
-    ap (λ (js : List Judgement). need_by before whole (deciding_line actor i js)) all
-    ∙ sym (ap (λ (js : List Judgement). need_by before whole (deciding_line actor j js)) all)
+    ap (λ (js : List Judgement). need_by before whole (deciding_line known actor i js)) all
+    ∙ sym (ap (λ (js : List Judgement). need_by before whole (deciding_line known actor j js)) all)

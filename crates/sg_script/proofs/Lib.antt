@@ -6,6 +6,7 @@ pub mod FrontLemmas
 pub mod Going
 pub mod KnownLemmas
 pub mod LimitLemmas
+pub mod Meeting
 pub mod Needs
 pub mod QueueLemmas
 pub mod Repeating

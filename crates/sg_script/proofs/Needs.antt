@@ -59,4 +59,4 @@ pub open_needs : (known : Known) (broken : Bool) (actor before earlier : ℕ) (b
 open_needs known broken actor before earlier bytes rest is few some =
     let (part, parts, e) = some_part is_newline rest in
     let cut : slice_split is_newline (bytes ++ rest) ≡ (bytes ++ part) ∷ parts = uncut is_newline bytes rest part parts e (none_cases (position_or_len is_newline bytes) (length bytes) is.unended) in
-    by_least before bytes part rest parts (deciding_line actor earlier (judgements known before (bytes ++ rest) broken)) cut is few some
+    by_least before bytes part rest parts (deciding_line known actor earlier (judgements known before (bytes ++ rest) broken)) cut is few some

@@ -20,4 +20,4 @@ as_before broken bad None then fault none told = rw (none refl) told
 pub repeats : FaultsRepeat
 repeats known source actor earlier later fault far told =
     let all = judgements known 0 source.bytes source.broken in
-    as_before source.broken (first_bad 0 all) _ _ fault (none_later (actions_of actor all) earlier later far) told
+    as_before source.broken (first_bad 0 all) _ _ fault (none_later (actions_of known actor all) earlier later far) told

@@ -8,6 +8,7 @@ use Rattle.sg_edge.specs.declared.files.Stage.{Stage}
 use Rattle.sg_edge.specs.declared.files.Stage.TheVariants.{Begun}
 use Rattle.sg_base.specs.declared.call.Action.{Action}
 use Rattle.sg_script.specs.declared.line.Entry.{Entry}
+use Rattle.sg_script.specs.declared.waiting.Waiting.{Waiting}
 use Rattle.sg_script.specs.Known.{Known}
 use Rattle.sg_script.specs.declared.fault.ScriptFault.{ScriptFault}
 use Rattle.sg_script.specs.declared.fault.ScriptFault.TheVariants.{Line, Read, Memory}
@@ -15,13 +16,15 @@ use Rattle.sg_script.specs.Answer.{judgement_of}
 use Rattle.sg_script.specs.Rest.{May}
 use Rattle.sg_script.specs.kept.Front.{Leads, IsOpen}
 use Rattle.sg_script.specs.Needed.{need_from, own_actions}
-use Rattle.sg_script.specs.kept.Queues.{queue_at}
+use Rattle.sg_script.specs.Operation.{line_actions}
+use Rattle.sg_script.specs.kept.Queues.{waits}
 use Rattle.sg_script.specs.Stands.{Kept}
-use Rattle.sg_script.specs.kept.Steps.{Ends, IsOther, ReadIs, its_entry, no_ask, one_ask, queues_with}
+use Rattle.sg_script.specs.kept.Steps.{Ends, HasQueue, ReadIs, no_ask, one_ask, queues_with}
 use Rattle.sg_script.specs.Frugal.{cost_from, IsNear, Frugal}
 use Rattle.sg_script.specs.kept.Spending.{IsThrifty, Spends}
 use Rattle.sg_script.proofs.Chains.{may_back}
 use Rattle.sg_script.proofs.Needs.{open_needs}
+use Rattle.sg_script.proofs.QueueLemmas.{said_waits}
 
 -- ---- one step
 -- nothing was read
@@ -54,13 +57,13 @@ spends_stuck known stage actor kept same = record {
 pub spends_piece : (known : Known) (v w : PartView) (old new : Kept) → (read : ReadIs v w old new) → Spends known w.stage read.piece no_ask old new
 spends_piece known v w old new read = record {
   own = no_ask;
-  queued = λ x. omega (arith, ap (λ (qs : List (List Action)). length (queue_at qs x)) read.queues);
+  queued = λ x. omega (arith, ap (λ (qs : List (List Waiting)). length (waits known.members qs x)) read.queues);
   cost = λ rest broken may x later.
       let after : need_from known broken x old.lines (old.pending ++ (read.piece ++ rest)) later ≡ need_from known broken x new.lines (new.pending ++ rest) later = rw (read.lines, read.pending) (ap (λ (bytes : List ℕ). need_from known broken x old.lines bytes later) (sym (append_assoc old.pending read.piece rest))) in
       omega (arith, after, later_same known broken x old.lines (old.pending ++ (read.piece ++ rest)) 0 later refl, ap length read.pending, length-append old.pending read.piece);
 }
 
-pub thrifty_piece : (known : Known) (actor : ℕ) (v w : PartView) (old new : Kept) → IsOpen old.lines old.pending → old.lines ≤ 100000000 → queue_at old.queues actor ≡ [] → (read : ReadIs v w old new) → IsThrifty known actor w.stage read.piece old
+pub thrifty_piece : (known : Known) (actor : ℕ) (v w : PartView) (old new : Kept) → IsOpen old.lines old.pending → old.lines ≤ 100000000 → waits known.members old.queues actor ≡ [] → (read : ReadIs v w old new) → IsThrifty known actor w.stage read.piece old
 thrifty_piece known actor v w old new is few empty read = record {
   near = λ rest broken may. elim (cases_lt 0 (length read.piece)) [
     | inl some ↦ inr (omega (arith, open_needs known broken actor old.lines 0 old.pending (read.piece ++ rest) is few (omega (arith, some, length-append read.piece rest)), read.short))
@@ -72,46 +75,20 @@ thrifty_piece known actor v w old new is few empty read = record {
 -- a line was taken off the front
 pub spends_line : (known : Known) (stage : Stage) (asked : ℕ → ℕ) (old new : Kept) (len end : ℕ) (said : Option Entry) → end ≤ length old.pending
     → ((rest : List ℕ) (broken : Bool) → May stage rest broken → Leads known old.lines old.pending len end rest broken)
-    → judgement_of known (old.lines + 1) (take len old.pending) ≡ Ok said → ((x : ℕ) → asked x + length (queue_at new.queues x) ≡ length (queue_at old.queues x) + own_actions x said)
+    → judgement_of known (old.lines + 1) (take len old.pending) ≡ Ok said → ((x : ℕ) → asked x + length (waits known.members new.queues x) ≡ length (waits known.members old.queues x) + own_actions known x said)
     → new.lines ≡ old.lines + 1 → new.pending ≡ drop end old.pending → Spends known stage [] asked old new
 spends_line known stage asked old new len end said fits leads is queued lines pending = record {
-  own = λ x. own_actions x said;
+  own = λ x. own_actions known x said;
   queued = queued;
   cost = λ rest broken may x later.
       let l : Leads known old.lines old.pending len end rest broken = leads rest broken may in
-      let need : need_from known broken x old.lines (old.pending ++ rest) (own_actions x said + later) ≡ end + need_from known broken x new.lines (new.pending ++ rest) later = rw (lines, pending) (l.needs x later said is) in
+      let need : need_from known broken x old.lines (old.pending ++ rest) (own_actions known x said + later) ≡ end + need_from known broken x new.lines (new.pending ++ rest) later = rw (lines, pending) (l.needs x later said is) in
       omega (arith, need, ap length pending, length-drop end old.pending, fits);
 }
 
-entry_queued : (queues : List (List Action)) (entry : Entry) (x : ℕ) → entry.actor.0 < length queues → length (queue_at (queues_with (Some entry) queues) x) ≡ length (queue_at queues x) + own_actions x (Some entry)
-entry_queued queues entry x below = elim (cases_Bool (eqb entry.actor.0 x)) [
-  | inl is ↦
-      let same : x ≡ entry.actor.0 = grind (arith, nat_tests) in
-      rw is (rw same (ap length (get_or-set_same queues entry.actor.0 (queue_at queues entry.actor.0 ++ entry.action ∷ []) [] below) ∙ length-append (queue_at queues entry.actor.0) (entry.action ∷ [])))
-  | inr isnt ↦
-      let other : x ≢ entry.actor.0 = grind (arith, nat_tests) in
-      let kept : length (queue_at (queues_with (Some entry) queues) x) ≡ length (queue_at queues x) = ap length (get_or-set_other queues entry.actor.0 x (queue_at queues entry.actor.0 ++ entry.action ∷ []) [] other) in
-      rw isnt (omega (arith, kept))
-]
-
--- the line of another actor, or one that is passed over
-pub other_queued : (queues : List (List Action)) (said : Option Entry) (me x : ℕ) → IsOther (length queues) me said → no_ask x + length (queue_at (queues_with said queues) x) ≡ length (queue_at queues x) + own_actions x said
-other_queued queues None me x other = omega arith
-other_queued queues (Some entry) me x other = omega (arith, entry_queued queues entry x other.1)
-
-ask_of : (actor x : ℕ) (action : Action) → one_ask actor x ≡ own_actions x (Some (its_entry actor action))
-ask_of actor x action = elim (cases_Bool (eqb actor x)) [
-  | inl is ↦
-      let same : eqb x actor ≡ true = grind (arith, nat_tests) in
-      rw (is, same) refl
-  | inr isnt ↦
-      let other : eqb x actor ≡ false = grind (arith, nat_tests) in
-      rw (isnt, other) refl
-]
-
--- the line of the actor that asks
-pub own_queued : (queues new : List (List Action)) (actor x : ℕ) (action : Action) → new ≡ queues → one_ask actor x + length (queue_at new x) ≡ length (queue_at queues x) + own_actions x (Some (its_entry actor action))
-own_queued queues new actor x action same = omega (arith, ask_of actor x action, ap (λ (qs : List (List Action)). length (queue_at qs x)) same)
+-- what it gives each actor waits
+pub said_queued : (known : Known) (queues : List (List Waiting)) (said : Option Entry) (x : ℕ) → HasQueue (length queues) said → no_ask x + length (waits known.members (queues_with said queues) x) ≡ length (waits known.members queues x) + own_actions known x said
+said_queued known queues said x within = omega (arith, ap length (said_waits known queues said x within), length-append (waits known.members queues x) (line_actions known x said))
 
 -- ---- several
 pub spends_then : (known : Known) (s t : Stage) (p q : List ℕ) (asked : ℕ → ℕ) (a b c : Kept) → (s ≢ Begun → (q ≡ []) × (t ≡ s)) → Spends known s p no_ask a b → Spends known t q asked b c → Spends known t (p ++ q) asked a c
@@ -133,7 +110,7 @@ near_then known actor a b p q rest broken one first second = elim second [
   | inr near ↦ inr (rw (append_assoc p q rest) (omega (arith, near, one, length-append p q)))
 ]
 
-pub thrifty_then : (known : Known) (actor : ℕ) (s t : Stage) (p q : List ℕ) (a b : Kept) → queue_at a.queues actor ≡ [] → queue_at b.queues actor ≡ [] → (s ≢ Begun → (q ≡ []) × (t ≡ s))
+pub thrifty_then : (known : Known) (actor : ℕ) (s t : Stage) (p q : List ℕ) (a b : Kept) → waits known.members a.queues actor ≡ [] → waits known.members b.queues actor ≡ [] → (s ≢ Begun → (q ≡ []) × (t ≡ s))
     → Spends known s p no_ask a b → IsThrifty known actor s p a → IsThrifty known actor t q b → IsThrifty known actor t (p ++ q) a
 thrifty_then known actor s t p q a b empty empty' stayed spends first second = record {
   near = λ rest broken may.

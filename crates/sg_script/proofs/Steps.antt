@@ -1,29 +1,30 @@
 -- One step of reading on.
-use Rattle.std.proofs.Common.{◌≡◌, ◌≢◌, ◌<◌, ◌≤◌, ◌+◌, ◌∙◌, suc, sym, ap, refl, ℕ, Bool, true, false, eqb, List, [], ◌∷◌, ◌++◌, length, take, Option, None, Some, Result, Ok, Err, inl, inr, arith}
-use Rattle.std.proofs.lemmas.Bool.{cases_Bool, cases_lt}
+use Rattle.std.proofs.Common.{◌≡◌, ◌≢◌, ◌<◌, ◌≤◌, ◌+◌, ◌∙◌, sym, ap, refl, ℕ, Bool, true, false, List, [], ◌∷◌, ◌++◌, length, take, Option, None, Some, Result, Ok, Err, inl, inr, arith}
+use Rattle.std.proofs.lemmas.Bool.{cases_lt}
 use Rattle.std.proofs.lemmas.Bool.Decides.{nat_tests}
-use Rattle.std.proofs.lemmas.List.{length-set, get_or-set_other}
+use Rattle.std.proofs.lemmas.List.{length-set}
 use Rattle.sg_edge.specs.Files.{PartView}
 use Rattle.sg_edge.specs.declared.files.Stage.{Stage}
-use Rattle.sg_edge.specs.declared.files.Stage.TheVariants.{Fresh, Over, Broken}
+use Rattle.sg_edge.specs.declared.files.Stage.TheVariants.{Fresh, Begun, Over, Broken}
 use Rattle.sg_base.specs.declared.call.Action.{Action}
 use Rattle.sg_script.specs.declared.line.Entry.{Entry}
+use Rattle.sg_script.specs.declared.waiting.Waiting.{Waiting}
 use Rattle.sg_script.specs.Known.{Known}
 use Rattle.sg_script.specs.declared.fault.ScriptFault.{ScriptFault}
 use Rattle.sg_script.specs.declared.fault.ScriptFault.TheVariants.{Line, Read, Memory}
-use Rattle.std.specs.Prelude.{slice_get, slice_set}
-use Rattle.sg_script.specs.Answer.{judgement_of, judgements, actions_of, first_bad, answer_by}
+use Rattle.sg_script.specs.Answer.{judgement_of}
 use Rattle.sg_script.specs.Line.{Judgement}
+use Rattle.sg_script.specs.Needed.{own_actions}
 use Rattle.sg_script.specs.Rest.{May}
 use Rattle.sg_script.specs.kept.Front.{Leads, IsOpen}
-use Rattle.sg_script.specs.kept.Queues.{queue_at}
-use Rattle.sg_script.specs.Stands.{Kept, answer_from}
-use Rattle.sg_script.specs.kept.Steps.{Passes, LineIs, ReadIs, StepIs, its_entry, no_ask, one_ask, queues_with, IsOther, to_do, Answers}
+use Rattle.sg_script.specs.kept.Queues.{queue_at, waits}
+use Rattle.sg_script.specs.Stands.{Kept}
+use Rattle.sg_script.specs.kept.Steps.{Answers, Ends, Goes, HasQueue, LineTells, no_ask, one_ask, Passes, Pops, queues_with, ReadIs, StepIs, to_do}
 use Rattle.sg_script.proofs.Chains.{reads_none}
 use Rattle.sg_script.proofs.Deciding.{needs_bad, needs_none}
-use Rattle.sg_script.proofs.Going.{goes_not}
-use Rattle.sg_script.proofs.Spending.{other_queued, own_queued, spends_line, spends_piece, later_same, spends_stuck, thrifty_none, thrifty_piece}
-use Rattle.sg_script.proofs.StandLemmas.{moves_line, moves_piece, none_left, tells_line, tells_bad, tells_broken, tells_end}
+use Rattle.sg_script.proofs.Going.{ends_then, goes_not, moves_then, tells_then}
+use Rattle.sg_script.proofs.Spending.{said_queued, spends_line, spends_piece, spends_stuck, spends_then, thrifty_none, thrifty_piece}
+use Rattle.sg_script.proofs.StandLemmas.{moves_line, moves_piece, moves_pop, none_left, spends_none_waits, spends_pop, tells_bad, tells_broken, tells_end, tells_pop}
 
 -- a line that isn't bad is one of those allowed
 ok_few : (known : Known) (lines : ℕ) (line : List ℕ) (said : Option Entry) → judgement_of known (lines + 1) line ≡ Ok said → lines < 100000000
@@ -32,49 +33,72 @@ ok_few known lines line said is = elim (cases_lt 100000000 (lines + 1)) [
   | inr few ↦ omega arith
 ]
 
-less : (stage : Stage) (end : ℕ) (queues : List (List Action)) (old new : Kept) → old.lines < 100000000 → Passes queues end old new → to_do stage new < to_do stage old
-less stage end queues old new few passes =
-    let lines : new.lines ≡ old.lines + 1 = passes.lines in
+less : (stage : Stage) (end : ℕ) (queues : List (List Waiting)) (old mid new : Kept) → old.lines < 100000000 → Passes queues end old mid → new.lines ≡ mid.lines → to_do stage new < to_do stage old
+less stage end queues old mid new few passes same =
+    let lines : new.lines ≡ old.lines + 1 = same ∙ passes.lines in
     omega arith
 
-queued_length : (said : Option Entry) (queues : List (List Action)) → length (queues_with said queues) ≡ length queues
+queued_length : (said : Option Entry) (queues : List (List Waiting)) → length (queues_with said queues) ≡ length queues
 queued_length None queues = refl
-queued_length (Some entry) queues = length-set queues entry.actor.0 (queue_at queues entry.actor.0 ++ entry.action ∷ [])
+queued_length (Some entry) queues = length-set queues entry.actor.0 (queue_at queues entry.actor.0 ++ record { operation = entry.operation; place = 0 } ∷ [])
 
-still_empty : (actors actor : ℕ) (said : Option Entry) (queues : List (List Action)) → IsOther actors actor said → queue_at queues actor ≡ [] → queue_at (queues_with said queues) actor ≡ []
-still_empty actors actor None queues other empty = empty
-still_empty actors actor (Some entry) queues other empty = get_or-set_other queues entry.actor.0 actor (queue_at queues entry.actor.0 ++ entry.action ∷ []) [] (λ e. other.0 (sym e)) ∙ empty
+pub popped_length : (known : Known) (actor : ℕ) (first : Option Action) (old new : Kept) → Pops known actor first old new → length new.queues ≡ length old.queues
+popped_length known actor first old new pops = ap length pops.others ∙ length-set old.queues actor (queue_at new.queues actor)
 
-pub line_steps : (known : Known) (v : PartView) (old new : Kept) (len end actor : ℕ) (r : Option (Result (Option Action) ScriptFault)) → v.stage ≢ Fresh → end ≤ length old.pending
+line_queued : (known : Known) (old new : Kept) (end : ℕ) (said : Option Entry) (x : ℕ) → HasQueue (length old.queues) said → Passes (queues_with said old.queues) end old new
+    → no_ask x + length (waits known.members new.queues x) ≡ length (waits known.members old.queues x) + own_actions known x said
+line_queued known old new end said x within passes =
+    ap (λ (qs : List (List Waiting)). no_ask x + length (waits known.members qs x)) passes.queued ∙ said_queued known old.queues said x within
+
+none_read : (s : Stage) (piece : List ℕ) → piece ≡ [] → s ≢ Begun → (piece ≡ []) × (s ≡ s)
+none_read s piece none isnt = (none, refl)
+
+-- a line that isn't bad, behind which no action waits for the actor
+line_goes : (known : Known) (v : PartView) (old new : Kept) (len end actor : ℕ) → v.stage ≢ Fresh → end ≤ length old.pending
     → ((rest : List ℕ) (broken : Bool) → May v.stage rest broken → Leads known old.lines old.pending len end rest broken)
-    → queue_at old.queues actor ≡ []
-    → LineIs (judgement_of known (old.lines + 1) (take len old.pending)) actor end r old new → StepIs known actor r v v old new
-line_steps known v old new len end actor None begun fits leads empty is =
-    let (said, judged_is, other, passes) = is in (
+    → LineTells known (judgement_of known (old.lines + 1) (take len old.pending)) end actor None old new → StepIs known actor None v v old new
+line_goes known v old new len end actor begun fits leads is =
+    let (mid, taken, pops) = is in
+    let (said, judged_is, within, passes) = taken in (
       record {
         piece = [];
         reads = reads_none v begun;
         thrifty = thrifty_none known actor v.stage old;
-        spends = spends_line known v.stage no_ask old new len end said fits leads judged_is
-            (λ x. omega (arith, ap (λ (qs : List (List Action)). length (queue_at qs x)) passes.queued, other_queued old.queues said actor x other)) passes.lines passes.pending;
-        moves = moves_line known v.stage old new len end actor said leads judged_is other passes;
-        queues = ap length passes.queued ∙ queued_length said old.queues;
+        spends = spends_then known v.stage v.stage [] [] no_ask old mid new (none_read v.stage [] refl)
+            (spends_line known v.stage no_ask old mid len end said fits leads judged_is (λ x. line_queued known old mid end said x within passes) passes.lines passes.pending)
+            (spends_none_waits known v.stage actor mid new pops);
+        moves = moves_then known v.stage v.stage [] [] old mid new (none_read v.stage [] refl) (moves_line known v.stage old mid len end said leads judged_is within passes) (moves_pop known v.stage actor mid new pops);
+        queues = popped_length known actor None mid new pops ∙ ap length passes.queued ∙ queued_length said old.queues;
       },
-      ap (λ (qs : List (List Action)). queue_at qs actor) passes.queued ∙ still_empty (length old.queues) actor said old.queues other empty,
-      less v.stage end (queues_with said old.queues) old new (ok_few known old.lines (take len old.pending) said judged_is) passes,
+      sym pops.first_is ∙ pops.empty,
+      less v.stage end (queues_with said old.queues) old mid new (ok_few known old.lines (take len old.pending) said judged_is) passes pops.lines,
     )
+
+-- a line behind which an action waits for the actor
+line_answers : (known : Known) (v : PartView) (old new : Kept) (len end actor : ℕ) (action : Action) → v.stage ≢ Fresh → end ≤ length old.pending
+    → ((rest : List ℕ) (broken : Bool) → May v.stage rest broken → Leads known old.lines old.pending len end rest broken)
+    → LineTells known (judgement_of known (old.lines + 1) (take len old.pending)) end actor (Some (Ok (Some action))) old new → Answers known actor (Ok (Some action)) v v old new
+line_answers known v old new len end actor action begun fits leads is =
+    let (mid, taken, pops) = is in
+    let (said, judged_is, within, passes) = taken in
+    record {
+      piece = [];
+      reads = reads_none v begun;
+      thrifty = thrifty_none known actor v.stage old;
+      spends = spends_then known v.stage v.stage [] [] (one_ask actor) old mid new (none_read v.stage [] refl)
+          (spends_line known v.stage no_ask old mid len end said fits leads judged_is (λ x. line_queued known old mid end said x within passes) passes.lines passes.pending)
+          (spends_pop known v.stage actor action mid new pops);
+      tells = tells_then known actor (Ok (Some action)) v.stage v.stage [] [] old mid new (none_read v.stage [] refl) (moves_line known v.stage old mid len end said leads judged_is within passes) (tells_pop known v.stage actor action mid new pops);
+      queues = popped_length known actor (Some action) mid new pops ∙ ap length passes.queued ∙ queued_length said old.queues;
+    }
+
+pub line_steps : (known : Known) (v : PartView) (old new : Kept) (len end actor : ℕ) (r : Option (Result (Option Action) ScriptFault)) → v.stage ≢ Fresh → end ≤ length old.pending
+    → ((rest : List ℕ) (broken : Bool) → May v.stage rest broken → Leads known old.lines old.pending len end rest broken)
+    → waits known.members old.queues actor ≡ []
+    → LineTells known (judgement_of known (old.lines + 1) (take len old.pending)) end actor r old new → StepIs known actor r v v old new
+line_steps known v old new len end actor None begun fits leads empty is = line_goes known v old new len end actor begun fits leads is
 line_steps known v old new len end actor (Some (Ok None)) begun fits leads empty is = absurd is
-line_steps known v old new len end actor (Some (Ok (Some action))) begun fits leads empty is = (
-  record {
-    piece = [];
-    reads = reads_none v begun;
-    thrifty = thrifty_none known actor v.stage old;
-    spends = spends_line known v.stage (one_ask actor) old new len end (Some (its_entry actor action)) fits leads is.0 (λ x. own_queued old.queues new.queues actor x action is.1.queued) is.1.lines is.1.pending;
-    tells = tells_line known v.stage old new len end actor action leads empty is.0 is.1;
-    queues = ap length is.1.queued;
-  },
-  tt,
-)
+line_steps known v old new len end actor (Some (Ok (Some action))) begun fits leads empty is = (line_answers known v old new len end actor action begun fits leads is, tt)
 line_steps known v old new len end actor (Some (Err (Line n kind))) begun fits leads empty is = rw (is.1, is.2) (
   record {
     piece = [];
@@ -91,7 +115,7 @@ line_steps known v old new len end actor (Some (Err (Line n kind))) begun fits l
 line_steps known v old new len end actor (Some (Err Read)) begun fits leads empty is = absurd is
 line_steps known v old new len end actor (Some (Err Memory)) begun fits leads empty is = rw is (goes_not known actor v old begun, tt)
 
-pub broken_steps : (known : Known) (v : PartView) (kept : Kept) (actor : ℕ) → v.stage ≡ Broken → IsOpen kept.lines kept.pending → queue_at kept.queues actor ≡ [] → v.stage ≢ Fresh → StepIs known actor (Some (Err Read)) v v kept kept
+pub broken_steps : (known : Known) (v : PartView) (kept : Kept) (actor : ℕ) → v.stage ≡ Broken → IsOpen kept.lines kept.pending → waits known.members kept.queues actor ≡ [] → v.stage ≢ Fresh → StepIs known actor (Some (Err Read)) v v kept kept
 broken_steps known v kept actor broken_is unended empty begun = (
   record {
     piece = [];
@@ -106,7 +130,7 @@ broken_steps known v kept actor broken_is unended empty begun = (
   broken_is,
 )
 
-pub end_steps : (known : Known) (v : PartView) (kept : Kept) (actor : ℕ) → v.stage ≡ Over → kept.pending ≡ [] → queue_at kept.queues actor ≡ [] → v.stage ≢ Fresh → StepIs known actor (Some (Ok None)) v v kept kept
+pub end_steps : (known : Known) (v : PartView) (kept : Kept) (actor : ℕ) → v.stage ≡ Over → kept.pending ≡ [] → waits known.members kept.queues actor ≡ [] → v.stage ≢ Fresh → StepIs known actor (Some (Ok None)) v v kept kept
 end_steps known v kept actor over none empty begun = (
   record {
     piece = [];
@@ -121,7 +145,7 @@ end_steps known v kept actor over none empty begun = (
   tt,
 )
 
-pub piece_steps : (known : Known) (v w : PartView) (old new : Kept) (actor : ℕ) → IsOpen old.lines old.pending → old.lines ≤ 100000000 → queue_at old.queues actor ≡ [] → ReadIs v w old new → StepIs known actor None v w old new
+pub piece_steps : (known : Known) (v w : PartView) (old new : Kept) (actor : ℕ) → IsOpen old.lines old.pending → old.lines ≤ 100000000 → waits known.members old.queues actor ≡ [] → ReadIs v w old new → StepIs known actor None v w old new
 piece_steps known v w old new actor unended few empty read = (
   record {
     piece = read.piece;
@@ -131,45 +155,34 @@ piece_steps known v w old new actor unended few empty read = (
     moves = moves_piece known w.stage read.piece old new read.queues read.lines read.pending;
     queues = ap length read.queues;
   },
-  ap (λ (qs : List (List Action)). queue_at qs actor) read.queues ∙ empty,
+  ap (λ (qs : List (List Waiting)). waits known.members qs actor) read.queues ∙ empty,
   read.less,
 )
 
--- a queue is one shorter
-popped : (queues new : List (List Action)) (actor x : ℕ) (action : Action) → queue_at queues actor ≡ action ∷ queue_at new actor → new ≡ slice_set queues actor (queue_at new actor) → one_ask actor x + length (queue_at new x) ≡ length (queue_at queues x) + no_ask x
-popped queues new actor x action first others = elim (cases_Bool (eqb x actor)) [
-  | inl is ↦
-      let same : x ≡ actor = grind (arith, nat_tests) in
-      rw is (rw same (omega (arith, ap length first)))
-  | inr isnt ↦
-      let other : x ≢ actor = grind (arith, nat_tests) in
-      let kept : length (queue_at new x) ≡ length (queue_at queues x) = ap (λ (qs : List (List Action)). length (queue_at qs x)) others ∙ ap length (get_or-set_other queues actor x (queue_at new actor) [] other) in
-      rw isnt (omega (arith, kept))
-]
+-- ---- without a step
+-- no action waits for the actor
+pub pop_goes : (known : Known) (v : PartView) (old new : Kept) (actor : ℕ) → v.stage ≢ Fresh → Pops known actor None old new → Goes known actor v v old new
+pop_goes known v old new actor begun pops = record {
+  piece = [];
+  reads = reads_none v begun;
+  thrifty = thrifty_none known actor v.stage old;
+  spends = spends_none_waits known v.stage actor old new pops;
+  moves = moves_pop known v.stage actor old new pops;
+  queues = popped_length known actor None old new pops;
+}
 
--- the first action of the actor's queue
-pub pop_tells : (known : Known) (v : PartView) (old new : Kept) (actor : ℕ) (action : Action) → v.stage ≢ Fresh
-    → queue_at old.queues actor ≡ action ∷ queue_at new.queues actor → new.queues ≡ slice_set old.queues actor (queue_at new.queues actor) → new.lines ≡ old.lines → new.pending ≡ old.pending
-    → Answers known actor (Ok (Some action)) v v old new
-pop_tells known v old new actor action begun first others lines pending =
-    let more : List ℕ → Bool → List Judgement = λ rest broken. judgements known old.lines (old.pending ++ rest) broken in
-    let whole : (rest : List ℕ) (broken : Bool) (k : ℕ) → answer_from known old rest broken actor k ≡ answer_by broken (first_bad old.lines (more rest broken)) (slice_get (action ∷ (queue_at new.queues actor ++ actions_of actor (more rest broken))) k) = λ rest broken k.
-    ap (λ (q : List Action). answer_by broken (first_bad old.lines (more rest broken)) (slice_get (q ++ actions_of actor (more rest broken)) k)) first in
-    record {
-      piece = [];
-      reads = reads_none v begun;
-      thrifty = thrifty_none known actor v.stage old;
-      spends = record {
-        own = no_ask;
-        queued = λ x. popped old.queues new.queues actor x action first others;
-        cost = λ rest broken may x later. rw (lines, pending) (omega (arith, later_same known broken x old.lines (old.pending ++ rest) 0 later refl));
-      };
-      tells = record {
-        now = λ rest broken may. whole rest broken 0;
-        later = λ rest broken may later. whole rest broken (suc later) ∙ rw (lines, pending) refl;
-        others = λ rest broken may other later isnt.
-            let same : queue_at old.queues other ≡ queue_at new.queues other = sym (ap (λ (qs : List (List Action)). queue_at qs other) others ∙ get_or-set_other old.queues actor other (queue_at new.queues actor) [] isnt) in
-            rw (same, lines, pending) refl;
-      };
-      queues = ap length others ∙ length-set old.queues actor (queue_at new.queues actor);
-    }
+-- then what follows has its answer
+pub ends_behind : (known : Known) (v w : PartView) (old mid new : Kept) (actor : ℕ) (answer : Result (Option Action) ScriptFault) → v.stage ≢ Fresh → Pops known actor None old mid → Ends known actor answer v w mid new → Ends known actor answer v w old new
+ends_behind known v w old mid new actor answer begun pops ends =
+    ends_then known actor answer v v w old mid new pops.empty (sym pops.first_is ∙ pops.empty) (pop_goes known v old mid actor begun pops) ends
+
+-- the first action that waits is the answer
+pub pop_answers : (known : Known) (v : PartView) (old new : Kept) (actor : ℕ) (action : Action) → v.stage ≢ Fresh → Pops known actor (Some action) old new → Answers known actor (Ok (Some action)) v v old new
+pop_answers known v old new actor action begun pops = record {
+  piece = [];
+  reads = reads_none v begun;
+  thrifty = thrifty_none known actor v.stage old;
+  spends = spends_pop known v.stage actor action old new pops;
+  tells = tells_pop known v.stage actor action old new pops;
+  queues = popped_length known actor (Some action) old new pops;
+}

@@ -1,12 +1,12 @@
 -- The answer to an actor's j-th Ask, by the whole script.
-use Rattle.std.specs.Prelude.{ℕ, Bool, true, false, ◌+◌, ◌==◌, ◌||◌, ◌&&◌, List, [], ◌∷◌, length, slice_get, Option, None, Some, Result, Ok, Err, if◌then◌else◌, nat_lt}
+use Rattle.std.specs.Prelude.{ℕ, Bool, true, false, ◌+◌, ◌==◌, ◌||◌, ◌&&◌, List, [], ◌∷◌, ◌++◌, length, slice_get, Option, None, Some, Result, Ok, Err, if◌then◌else◌, nat_lt}
 use Rattle.std.specs.List.{slice_split}
 use Rattle.sg_edge.specs.Sources.{Source}
 use Rattle.sg_base.specs.declared.call.Action.{Action}
-use Rattle.sg_script.specs.declared.line.Entry.{Entry}
 use Rattle.sg_script.specs.declared.fault.LineFault.TheVariants.{TooManyLines}
 use Rattle.sg_script.specs.Known.{Known}
 use Rattle.sg_script.specs.Line.{Judgement, line_of}
+use Rattle.sg_script.specs.Operation.{line_actions}
 use Rattle.sg_script.specs.declared.fault.ScriptFault.{ScriptFault}
 use Rattle.sg_script.specs.declared.fault.ScriptFault.TheVariants.{Line, Read}
 
@@ -43,15 +43,12 @@ abbrev pub judgements : Known → ℕ → List ℕ → Bool → List Judgement
 judgements known before bytes broken =
     line_judgements known before (lines_among broken before (slice_split is_newline bytes))
 
-abbrev pub its_action : ℕ → Entry → List Action → List Action
-its_action actor entry more = if entry.actor.0 == actor then entry.action ∷ more else more
-
--- the actions of an actor's good lines before the first bad line
-abbrev pub actions_of : ℕ → List Judgement → List Action
-actions_of actor [] = []
-actions_of actor (Ok None ∷ more) = actions_of actor more
-actions_of actor (Ok (Some entry) ∷ more) = its_action actor entry (actions_of actor more)
-actions_of actor (Err kind ∷ more) = []
+-- the actions of an actor: the expansions of its good lines before the first bad line, in order
+abbrev pub actions_of : Known → ℕ → List Judgement → List Action
+actions_of known actor [] = []
+actions_of known actor (Ok said ∷ more) =
+    line_actions known actor said ++ actions_of known actor more
+actions_of known actor (Err kind ∷ more) = []
 
 -- the fault of the first bad line
 abbrev pub first_bad : ℕ → List Judgement → Option ScriptFault
@@ -77,4 +74,4 @@ answer_by broken bad None = without_line broken bad
 abbrev pub answer_of : Known → Source → ℕ → ℕ → Result (Option Action) ScriptFault
 answer_of known source actor earlier =
     let all = judgements known 0 source.bytes source.broken in
-    answer_by source.broken (first_bad 0 all) (slice_get (actions_of actor all) earlier)
+    answer_by source.broken (first_bad 0 all) (slice_get (actions_of known actor all) earlier)

@@ -4,7 +4,7 @@ use Rattle.sg_edge.specs.Files.{PartView}
 use Rattle.sg_script.specs.Known.{Known}
 use Rattle.sg_script.specs.Rest.{May}
 use Rattle.sg_script.specs.Needed.{need_from}
-use Rattle.sg_script.specs.kept.Queues.{queue_at}
+use Rattle.sg_script.specs.kept.Queues.{waits}
 use Rattle.sg_script.specs.Stands.{Kept, Reads}
 
 -- the bytes that the next Ask of an actor without a queue needs, from those that are kept on
@@ -25,4 +25,4 @@ pub record Frugal (known : Known) (actor : ℕ) (old_part new_part : PartView)
   pub reads : Reads piece old_part new_part
   pub near : (rest : List ℕ) (broken : Bool) → May new_part.stage rest broken →
       IsNear known actor piece old rest broken
-  pub idle : queue_at old.queues actor ≢ [] → piece ≡ []
+  pub idle : waits known.members old.queues actor ≢ [] → piece ≡ []

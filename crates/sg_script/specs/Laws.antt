@@ -1,10 +1,16 @@
--- What Asks of a script, and their answers, keep to.
-use Rattle.std.specs.Prelude.{◌≡◌, ◌<◌, ◌≤◌, ◌+◌, ◌++◌, ℕ, List, Err}
+-- What Asks of a script, their answers, and its collectives keep to.
+use Rattle.std.specs.Prelude.{◌≡◌, ◌==◌, ◌<◌, ◌≤◌, ◌+◌, ◌++◌, ℕ, Bool, false, List, count_by, Err}
+use Rattle.sg_base.specs.declared.call.Action.{Action}
+use Rattle.sg_base.specs.declared.call.Action.TheVariants.{ISend, IRecv, Recv, Send}
+use Rattle.sg_collectives.specs.declared.collective.Collective.{Collective}
 use Rattle.sg_edge.specs.Files.{PartView}
 use Rattle.sg_edge.specs.Sources.{Source}
+use Rattle.sg_rows.specs.Deployment.{Deployed, members_of}
 use Rattle.sg_script.specs.Answer.{answer_of}
 use Rattle.sg_script.specs.Known.{Known}
 use Rattle.sg_script.specs.Needed.{needed_by}
+use Rattle.sg_script.specs.declared.operation.Operation.TheVariants.{Together}
+use Rattle.sg_script.specs.Operation.{actions_for}
 use Rattle.sg_script.specs.Stands.{AreNeeded, IsNearNeed, IsWithinNeed, Reads, one_more}
 use Rattle.sg_script.specs.declared.fault.ScriptFault.{ScriptFault}
 
@@ -28,3 +34,22 @@ abbrev pub NeedIsMost : Type 0
 NeedIsMost = (known : Known) (source : Source) (actors : ℕ) (asks : ℕ → ℕ) (count : ℕ) →
     ((actor : ℕ) → actors < actor → asks actor ≡ 0) → IsWithinNeed known source asks count →
     count ≤ needed_by known source actors asks + 4095
+
+-- ---- collectives
+-- whether an action sends to an actor, with or without waiting, and whether it receives from one
+abbrev pub sends_to : ℕ → Action → Bool
+sends_to to (Send peer bytes rate) = peer.0 == to
+sends_to to (ISend peer bytes rate) = peer.0 == to
+sends_to to other = false
+
+abbrev pub receives_from : ℕ → Action → Bool
+receives_from from (Recv peer) = peer.0 == from
+receives_from from (IRecv peer) = peer.0 == from
+receives_from from other = false
+
+-- for every collective of a deployment and every two actors, the one sends to the other as often as
+-- that one receives from it
+abbrev pub CollectivesMeet : Type 0
+CollectivesMeet = (deployed : Deployed) (collective : Collective) (a b : ℕ) →
+    count_by (sends_to b) (actions_for (members_of deployed) a (Together collective))
+    ≡ count_by (receives_from a) (actions_for (members_of deployed) b (Together collective))

@@ -4,6 +4,7 @@ pub mod Known
 pub mod Laws
 pub mod Line
 pub mod Needed
+pub mod Operation
 pub mod Rest
 pub mod Stands
 pub mod Verbs

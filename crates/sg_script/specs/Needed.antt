@@ -8,25 +8,27 @@ use Rattle.sg_script.specs.declared.line.Entry.{Entry}
 use Rattle.sg_script.specs.Known.{Known}
 use Rattle.sg_script.specs.Answer.{is_newline, judgements}
 use Rattle.sg_script.specs.Line.{Judgement}
+use Rattle.sg_script.specs.Operation.{line_actions}
 
 -- ---- the line that decides
 -- how many actions of the actor a line gives
-abbrev pub own_actions : ℕ → Option Entry → ℕ
-own_actions actor None = 0
-own_actions actor (Some entry) = if entry.actor.0 == actor then 1 else 0
+abbrev pub own_actions : Known → ℕ → Option Entry → ℕ
+own_actions known actor said = length (line_actions known actor said)
 
 -- a line behind one more
 abbrev pub behind_one : ℕ × Judgement → ℕ × Judgement
 behind_one at = (suc at.0, at.1)
 
--- The line that decides the Ask of an actor that so many of its Asks come before: the one that
--- gives its action, or a bad one before that. How many lines stand before it, and its judgement.
-abbrev pub deciding_line : ℕ → ℕ → List Judgement → Option (ℕ × Judgement)
-deciding_line actor earlier [] = None
-deciding_line actor earlier (Err kind ∷ more) = Some (0, Err kind)
-deciding_line actor earlier (Ok said ∷ more) =
-    if nat_lt earlier (own_actions actor said) then Some (0, Ok said)
-    else option_map behind_one (deciding_line actor (earlier - own_actions actor said) more)
+-- The line that decides the Ask of an actor that so many of its Asks come before: the one from
+-- which its action comes, or a bad one before that. How many lines stand before it, and its
+-- judgement.
+abbrev pub deciding_line : Known → ℕ → ℕ → List Judgement → Option (ℕ × Judgement)
+deciding_line known actor earlier [] = None
+deciding_line known actor earlier (Err kind ∷ more) = Some (0, Err kind)
+deciding_line known actor earlier (Ok said ∷ more) =
+    if nat_lt earlier (own_actions known actor said) then Some (0, Ok said)
+    else option_map behind_one
+    (deciding_line known actor (earlier - own_actions known actor said) more)
 
 -- ---- the bytes through it
 -- the length of so many first parts, each with the newline behind it
@@ -56,7 +58,7 @@ need_by before bytes (Some at) =
 -- of bytes before which so many lines were
 abbrev pub need_from : Known → Bool → ℕ → ℕ → List ℕ → ℕ → ℕ
 need_from known broken actor before bytes earlier =
-    need_by before bytes (deciding_line actor earlier (judgements known before bytes broken))
+    need_by before bytes (deciding_line known actor earlier (judgements known before bytes broken))
 
 abbrev pub need_of : Known → Source → ℕ → ℕ → ℕ
 need_of known source actor earlier = need_from known source.broken actor 0 source.bytes earlier

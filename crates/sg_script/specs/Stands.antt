@@ -7,20 +7,21 @@ use Rattle.sg_edge.specs.Files.{before, PartView}
 use Rattle.sg_edge.specs.declared.files.Stage.{Stage}
 use Rattle.sg_base.specs.declared.call.Action.{Action}
 use Rattle.sg_script.specs.Known.{Known}
+use Rattle.sg_script.specs.declared.waiting.Waiting.{Waiting}
 use Rattle.sg_script.specs.declared.script.Script.{Script}
 use Rattle.sg_script.specs.declared.fault.ScriptFault.{ScriptFault}
 use Rattle.sg_script.specs.Answer.{judgements, actions_of, first_bad, answer_by, answer_of}
 use Rattle.sg_edge.specs.Sources.{Source}
 use Rattle.sg_script.specs.Needed.{need_from, need_of}
 use Rattle.sg_script.specs.Rest.{GoesOn, May}
-use Rattle.sg_script.specs.kept.Queues.{queue_at}
+use Rattle.sg_script.specs.kept.Queues.{AreOperations, waits}
 use Rattle.sg_edge.specs.declared.files.Stage.TheVariants.{Fresh, Broken, Begun}
 use Rattle.sg_script.specs.declared.fault.ScriptFault.TheVariants.{Line, Read, Memory}
 
--- what a script keeps: the actions that wait for each actor, how many lines were read, and the
--- bytes behind them
+-- what a script keeps: the lines that wait for each actor, how many lines were read, and the bytes
+-- behind them
 pub record Kept : Type 0 where
-  pub queues : List (List Action)
+  pub queues : List (List Waiting)
   pub lines : ℕ
   pub pending : List ℕ
 
@@ -40,7 +41,7 @@ abbrev pub answer_from : Known → Kept → List ℕ → Bool → ℕ → ℕ �
 answer_from known kept rest broken actor earlier =
     let more = judgements known kept.lines (kept.pending ++ rest) broken in
     answer_by broken (first_bad kept.lines more)
-    (slice_get (queue_at kept.queues actor ++ actions_of actor more) earlier)
+    (slice_get (waits known.members kept.queues actor ++ actions_of known actor more) earlier)
 
 -- The script stands for these bytes and Asks: whatever may still come, each later Ask has its
 -- answer by what is kept; and where no action waits for it, what it needs lies behind what was
@@ -52,7 +53,7 @@ pub record Stands (known : Known) (taken : List ℕ) (stage : Stage) (asks : ℕ
       ≡ answer_from known kept rest broken actor later
   pub needs : (rest : List ℕ) (broken : Bool) → May stage rest broken → (actor later : ℕ) →
       need_of known (record { bytes = taken ++ rest; broken = broken }) actor
-      (asks actor + length (queue_at kept.queues actor) + later) + length kept.pending
+      (asks actor + length (waits known.members kept.queues actor) + later) + length kept.pending
       ≡ length taken + need_from known broken actor kept.lines (kept.pending ++ rest) later
 
 -- this piece was taken, and the name stays; the part broke only by a call that failed
@@ -147,6 +148,6 @@ pub record BreaksOnFailure (old new : PartView) : Type 0 where
 abbrev pub IsLimited : Extent → Result (Option Action) ScriptFault → Type 0
 IsLimited extent answer = IfOk answer (λ found. IfSome found (IsAction extent))
 
--- so do all actions that wait
+-- so do all lines that wait
 pub record AreLimited (extent : Extent) (kept : Kept) : Type 0 where
-  pub queues : All (λ queue. All (IsAction extent) queue) kept.queues
+  pub queues : All (AreOperations extent) kept.queues

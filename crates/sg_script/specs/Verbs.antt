@@ -3,7 +3,7 @@ use Rattle.std.specs.Prelude.{ℕ, List, [], ◌∷◌, map, codes, bytes_eq, Op
 use Rattle.std.specs.Borrow.{Bor}
 use Rattle.std.specs.List.{find}
 use Rattle.sg_script.specs.declared.verbs.Verb.{Verb}
-use Rattle.sg_script.specs.declared.verbs.Verb.TheVariants.{Compute, Sleep, Send, ISend, Recv, IRecv, Wait, Barrier, Yield, Lock, Unlock, Acquire, Release}
+use Rattle.sg_script.specs.declared.verbs.Verb.TheVariants.{Compute, Sleep, Send, ISend, Recv, IRecv, Wait, Barrier, Yield, Lock, Unlock, Acquire, Release, Bcast, Reduce, Allreduce, Alltoall}
 
 -- actions, each with its word
 abbrev pub VerbTable : Type 0
@@ -22,7 +22,9 @@ all_verbs = (codes "compute", Compute) ∷ (codes "sleep", Sleep)
     ∷ (codes "send", Send) ∷ (codes "isend", ISend) ∷ (codes "recv", Recv) ∷ (codes "irecv", IRecv)
     ∷ (codes "wait", Wait) ∷ (codes "barrier", Barrier) ∷ (codes "yield", Yield)
     ∷ (codes "lock", Lock) ∷ (codes "unlock", Unlock)
-    ∷ (codes "acquire", Acquire) ∷ (codes "release", Release) ∷ []
+    ∷ (codes "acquire", Acquire) ∷ (codes "release", Release)
+    ∷ (codes "bcast", Bcast) ∷ (codes "reduce", Reduce)
+    ∷ (codes "allreduce", Allreduce) ∷ (codes "alltoall", Alltoall) ∷ []
 
 abbrev pub verb_of : List ℕ → Option Verb
 verb_of word = verb_in all_verbs word

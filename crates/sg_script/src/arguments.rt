@@ -1,16 +1,17 @@
 //! The arguments of an action.
 ghost use Rattle.std.specs.Prelude.{◌≡◌, IfOk, Ok};
-ghost use Rattle.sg_base.specs.Limits.{IsActorIn, IsAmount, IsMutexIn, IsSemaphoreIn, IsTime};
+ghost use Rattle.sg_base.specs.Limits.{IsActorIn, IsAmount, IsMutexIn, IsPriority, IsRate, IsSemaphoreIn, IsTime};
 ghost use Rattle.sg_rows.specs.Deployment.{extent_of};
 ghost use Rattle.sg_script.specs.Known.{known_in};
-ghost use Rattle.sg_script.specs.Line.{then_go, no_words, amount_in, time_in, actor_in, mutex_in, semaphore_in, sending_of, receiving_of};
+ghost use Rattle.sg_script.specs.Line.{actor_in, alone, amount_in, amounts_of, computing_of, message_of, mutex_in, no_words, priority_in, rate_in, receiving_of, semaphore_in, sending_of, then_go, time_in};
 ghost use Rattle.sg_script.specs.Words.{words};
 
 use crate::fault::LineFault;
-use crate::words::{none, one, two};
+use crate::operation::Operation;
+use crate::words::{none, one, three, two};
 use sg_base::{Action, ActorId};
 use sg_rows::Deployment;
-use sg_units::{read_amount, read_time};
+use sg_units::{read_amount, read_bandwidth, read_time};
 
 pub fn amount(text: &[u8]) -> Result<u64, LineFault>
     ensures value { result ≡ amount_in text.now }
@@ -29,6 +30,29 @@ pub fn time(text: &[u8]) -> Result<u64, LineFault>
     match read_time(text) {
         Ok(n) => Ok(n),
         Err(_) => Err(LineFault::BadAmount),
+    }
+}
+
+/// A priority of an execution: an amount from 1 to 1,000.
+pub fn priority(text: &[u8]) -> Result<u32, LineFault>
+    ensures value { result ≡ priority_in text.now }
+    ensures limit { IfOk result IsPriority }
+{
+    match amount(text)? {
+        0 => Err(LineFault::BadAmount),
+        n if n > 1000 => Err(LineFault::BadAmount),
+        n => Ok(n as u32),
+    }
+}
+
+/// The most bytes a second that a message is to have: a bandwidth of at least 1.
+pub fn rate(text: &[u8]) -> Result<u64, LineFault>
+    ensures value { result ≡ rate_in text.now }
+    ensures limit { IfOk result IsRate }
+{
+    match read_bandwidth(text) {
+        Ok(0) | Err(_) => Err(LineFault::BadAmount),
+        Ok(n) => Ok(n),
     }
 }
 
@@ -68,9 +92,20 @@ pub fn semaphore(name: &[u8], deployment: &Deployment) -> Result<u32, LineFault>
     }
 }
 
+/// An amount, and a priority, which is 1 where there is none.
+pub fn computing(text: &[u8]) -> Result<(u64, u32), LineFault>
+    ensures said { result ≡ computing_of (words text.now) }
+    ensures limits { IfOk result (λ both. IsAmount both.0 × IsPriority both.1) }
+{
+    let Ok((flops, second)) = two(text) else {
+        return Ok((amount(one(text)?)?, 1));
+    };
+    Ok((amount(flops)?, priority(second)?))
+}
+
 /// A peer and an amount.
-pub fn sending(text: &[u8], deployment: &Deployment) -> Result<(ActorId, u64), LineFault>
-    ensures said { result ≡ sending_of (known_in deployment.now) (words text.now) }
+fn message(text: &[u8], deployment: &Deployment) -> Result<(ActorId, u64), LineFault>
+    ensures said { result ≡ message_of (known_in deployment.now) (words text.now) }
     ensures limits { IfOk result
         (λ both. IsActorIn (extent_of deployment.now) both.0 × IsAmount both.1) }
 {
@@ -79,22 +114,45 @@ pub fn sending(text: &[u8], deployment: &Deployment) -> Result<(ActorId, u64), L
     Ok((peer, amount(bytes)?))
 }
 
+/// A peer, an amount, and a rate, which is 0 where there is none.
+pub fn sending(text: &[u8], deployment: &Deployment) -> Result<(ActorId, u64, u64), LineFault>
+    ensures said { result ≡ sending_of (known_in deployment.now) (words text.now) }
+    ensures limits { IfOk result
+        (λ all. IsActorIn (extent_of deployment.now) all.0 × IsAmount all.1 × IsRate all.2) }
+{
+    let Ok((name, bytes, most)) = three(text) else {
+        let (peer, bytes) = message(text, deployment)?;
+        return Ok((peer, bytes, 0));
+    };
+    let to = actor(name, deployment)?;
+    Ok((to, amount(bytes)?, rate(most)?))
+}
+
 /// A peer, and an amount that is read where there is one, and has no effect.
 pub fn receiving(text: &[u8], deployment: &Deployment) -> Result<ActorId, LineFault>
     ensures said { result ≡ receiving_of (known_in deployment.now) (words text.now) }
     ensures exists { IfOk result (IsActorIn (extent_of deployment.now)) }
 {
     let Ok(name) = one(text) else {
-        let (peer, _) = sending(text, deployment)?;
+        let (peer, _) = message(text, deployment)?;
         return Ok(peer);
     };
     actor(name, deployment)
 }
 
+/// Two amounts.
+pub fn amounts(text: &[u8]) -> Result<(u64, u64), LineFault>
+    ensures said { result ≡ amounts_of (words text.now) }
+    ensures limits { IfOk result (λ both. IsAmount both.0 × IsAmount both.1) }
+{
+    let (first, second) = two(text)?;
+    Ok((amount(first)?, amount(second)?))
+}
+
 /// An action without arguments.
-pub fn alone(action: Action, text: &[u8]) -> Result<Action, LineFault>
-    ensures { result ≡ then_go (no_words (words text.now)) (λ _. Ok action) }
+pub fn bare(action: Action, text: &[u8]) -> Result<Operation, LineFault>
+    ensures { result ≡ then_go (no_words (words text.now)) (λ _. alone action) }
 {
     none(text)?;
-    Ok(action)
+    Ok(Operation::Alone(action))
 }

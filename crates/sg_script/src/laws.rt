@@ -1,5 +1,5 @@
-//! Laws of Asks, each the contract of a function that does nothing.
-ghost use Rattle.sg_script.specs.Laws.{FaultsRepeat, NeedIsMost, NeedsAddUp};
+//! Laws of Asks and of collectives, each the contract of a function that does nothing.
+ghost use Rattle.sg_script.specs.Laws.{CollectivesMeet, FaultsRepeat, NeedIsMost, NeedsAddUp};
 
 /// The fault that an Ask of an actor is told is told again to each later Ask of it.
 pub fn faults_repeat()
@@ -14,4 +14,9 @@ pub fn needs_add_up()
 /// What is within a piece of what an Ask needs is within a piece of what all Asks need.
 pub fn need_is_most()
     ensures { NeedIsMost }
+{}
+
+/// For every collective and every two actors, the one sends to the other as often as that one receives from it.
+pub fn collectives_meet()
+    ensures { CollectivesMeet }
 {}

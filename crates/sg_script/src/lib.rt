@@ -7,15 +7,18 @@ mod front;
 mod judging;
 mod laws;
 mod line;
+mod operation;
 mod pending;
 mod queues;
 mod script;
 #[cfg(test)]
 mod tests;
 mod verbs;
+mod waiting;
 mod words;
 
 pub use fault::{LineFault, ScriptFault};
-pub use laws::{faults_repeat, need_is_most, needs_add_up};
+pub use laws::{collectives_meet, faults_repeat, need_is_most, needs_add_up};
 pub use line::{Entry, read_line};
+pub use operation::Operation;
 pub use script::Script;

@@ -1,17 +1,21 @@
 //! What one line of a script says.
 ghost use Rattle.std.specs.Prelude.{◌≡◌, IfOk};
 ghost use Rattle.std.specs.List.{list_all};
-ghost use Rattle.sg_base.specs.Limits.{IsAction};
 ghost use Rattle.sg_rows.specs.Deployment.{extent_of};
 ghost use Rattle.sg_script.specs.Known.{known_in};
-ghost use Rattle.sg_script.specs.Line.{line_of, text_of, entry_of, action_of, without_return, is_plain, KeepsLimits};
+ghost use Rattle.sg_script.specs.Line.{alone, entry_of, is_plain, KeepsLimits, line_of, operation_of, text_of, together, without_return};
+ghost use Rattle.sg_script.specs.Operation.{IsOperation};
 ghost use Rattle.sg_script.specs.Words.{words};
 
-use crate::arguments::{actor, alone, amount, mutex, receiving, semaphore, sending, time};
+use crate::arguments::{
+    actor, amount, amounts, bare, computing, mutex, receiving, semaphore, sending, time,
+};
 use crate::fault::LineFault;
+use crate::operation::Operation;
 use crate::verbs::{Verb, read_verb};
 use crate::words::{next_word, one};
 use sg_base::{Action, ActorId};
+use sg_collectives::Collective;
 use sg_rows::Deployment;
 
 /// The most bytes of a line, its newline not counted.
@@ -21,34 +25,65 @@ pub const LONGEST_LINE: usize = 4096;
 #[derive(Clone, Copy, Debug, PartialEq, Eq)]
 pub struct Entry {
     pub actor: ActorId,
-    pub action: Action,
+    pub operation: Operation,
 }
 
-// The action with the arguments that stand in this text.
-fn read_action(verb: Verb, text: &[u8], deployment: &Deployment) -> Result<Action, LineFault>
-    ensures said { result ≡ action_of (known_in deployment.now) verb (words text.now) }
-    ensures limits { IfOk result (IsAction (extent_of deployment.now)) }
+fn alone(action: Action) -> Result<Operation, LineFault>
+    ensures { result ≡ alone action }
+{
+    Ok(Operation::Alone(action))
+}
+
+fn together(collective: Collective) -> Result<Operation, LineFault>
+    ensures { result ≡ together collective }
+{
+    Ok(Operation::Together(collective))
+}
+
+// What a verb asks for with the arguments that stand in this text.
+fn read_operation(verb: Verb, text: &[u8], deployment: &Deployment) -> Result<Operation, LineFault>
+    ensures said { result ≡ operation_of (known_in deployment.now) verb (words text.now) }
+    ensures limits { IfOk result (IsOperation (extent_of deployment.now)) }
 {
     match verb {
-        Verb::Compute => Ok(Action::Compute(amount(one(text)?)?)),
-        Verb::Sleep => Ok(Action::Sleep(time(one(text)?)?)),
+        Verb::Compute => {
+            let (flops, priority) = computing(text)?;
+            alone(Action::Compute(flops, priority))
+        }
+        Verb::Sleep => alone(Action::Sleep(time(one(text)?)?)),
         Verb::Send => {
-            let (to, bytes) = sending(text, deployment)?;
-            Ok(Action::Send(to, bytes))
+            let (to, bytes, rate) = sending(text, deployment)?;
+            alone(Action::Send(to, bytes, rate))
         }
         Verb::ISend => {
-            let (to, bytes) = sending(text, deployment)?;
-            Ok(Action::ISend(to, bytes))
+            let (to, bytes, rate) = sending(text, deployment)?;
+            alone(Action::ISend(to, bytes, rate))
         }
-        Verb::Recv => Ok(Action::Recv(receiving(text, deployment)?)),
-        Verb::IRecv => Ok(Action::IRecv(receiving(text, deployment)?)),
-        Verb::Wait => alone(Action::Wait, text),
-        Verb::Barrier => alone(Action::Barrier, text),
-        Verb::Yield => alone(Action::Yield, text),
-        Verb::Lock => Ok(Action::Lock(mutex(one(text)?, deployment)?)),
-        Verb::Unlock => Ok(Action::Unlock(mutex(one(text)?, deployment)?)),
-        Verb::Acquire => Ok(Action::Acquire(semaphore(one(text)?, deployment)?)),
-        Verb::Release => Ok(Action::Release(semaphore(one(text)?, deployment)?)),
+        Verb::Recv => alone(Action::Recv(receiving(text, deployment)?)),
+        Verb::IRecv => alone(Action::IRecv(receiving(text, deployment)?)),
+        Verb::Wait => bare(Action::Wait, text),
+        Verb::Barrier => bare(Action::Barrier, text),
+        Verb::Yield => bare(Action::Yield, text),
+        Verb::Lock => alone(Action::Lock(mutex(one(text)?, deployment)?)),
+        Verb::Unlock => alone(Action::Unlock(mutex(one(text)?, deployment)?)),
+        Verb::Acquire => alone(Action::Acquire(semaphore(one(text)?, deployment)?)),
+        Verb::Release => alone(Action::Release(semaphore(one(text)?, deployment)?)),
+        Verb::Bcast => {
+            let bytes = amount(one(text)?)?;
+            together(Collective::Bcast { bytes })
+        }
+        Verb::Reduce => {
+            let (bytes, flops) = amounts(text)?;
+            together(Collective::Reduce { bytes, flops })
+        }
+        Verb::Allreduce => {
+            let (bytes, flops) = amounts(text)?;
+            together(Collective::Allreduce { bytes, flops })
+        }
+        Verb::Alltoall => {
+            let bytes = amount(one(text)?)?;
+            together(Collective::Alltoall { bytes })
+        }
     }
 }
 
@@ -64,8 +99,8 @@ fn read_entry(name: &[u8], text: &[u8], deployment: &Deployment) -> Result<Optio
     let Some(verb) = read_verb(word) else {
         return Err(LineFault::UnknownAction);
     };
-    let action = read_action(verb, rest, deployment)?;
-    Ok(Some(Entry { actor, action }))
+    let operation = read_operation(verb, rest, deployment)?;
+    Ok(Some(Entry { actor, operation }))
 }
 
 fn is_ascii(text: &[u8]) -> bool

@@ -1,8 +1,13 @@
-//! The actions that wait for each actor, first in, first out.
-ghost use Rattle.std.specs.Prelude.{◌≡◌, ◌<◌, ◌++◌, ◌∷◌, [], length, replicate, slice_set, IfOk, IfNone, OnOk, OnErr};
-ghost use Rattle.sg_script.specs.kept.Queues.{queue_at, with_first};
+//! The lines that wait for each actor, first in, first out.
+ghost use Rattle.std.specs.Prelude.{◌≡◌, ◌<◌, [], length, replicate, slice_set, All, IfOk, IfNone, IfSome, OnOk, OnErr};
+ghost use Rattle.std.specs.List.{flat_map};
+ghost use Rattle.sg_base.specs.Limits.{Extent, IsAction, IsActorIn};
+ghost use Rattle.sg_script.specs.kept.Queues.{AreOperations, left_of, queue_at, waits, with_first, with_line};
 
+use crate::operation::Operation;
+use crate::waiting::Waiting;
 use sg_base::{Action, ActorId, Memory};
+use sg_collectives::Members;
 use std::alloc::Global;
 use std::collections::VecDeque;
 use std::marker::Model;
@@ -10,16 +15,34 @@ use std::marker::Model;
 /// A queue for each actor, at the place of its identifier. No actor has the identifier 0, so that queue is empty.
 #[derive(Drop)]
 pub struct Queues {
-    lists: Vec<VecDeque<Action>>,
+    lists: Vec<VecDeque<Waiting>>,
 }
 
 impl Model for Queues {
     ghost use Rattle.std.specs.Prelude.{List, map};
-    ghost use Rattle.sg_base.specs.declared.call.Action.{Action};
+    ghost use Rattle.sg_script.specs.declared.waiting.Waiting.{Waiting};
 
-    ghost Value = { List (List Action) };
+    ghost Value = { List (List Waiting) };
 
     ghost view = { λ q. map (λ list. list.items) q.lists.items };
+}
+
+// Takes the next action of the lines of an actor, and lets the lines before it go, of which nothing is left.
+fn take_first(lines: &mut VecDeque<Waiting>, actor: ActorId, members: &Members) -> Option<Action>
+    ensures first { flat_map (left_of members.now actor.0) lines.old.items
+        ≡ with_first result (flat_map (left_of members.now actor.0) lines.new.items) }
+    ensures empty { IfNone result (flat_map (left_of members.now actor.0) lines.old.items ≡ []) }
+    ensures limited { (extent : Extent) → All (IsActorIn extent) members.now
+        → AreOperations extent lines.old.items
+        → IfSome result (IsAction extent) × AreOperations extent lines.new.items }
+{
+    while let Some(line) = lines.front_mut() {
+        if let Some(action) = line.take(actor, members) {
+            return Some(action);
+        }
+        lines.pop_front();
+    }
+    None
 }
 
 impl Queues {
@@ -34,26 +57,32 @@ impl Queues {
         Ok(Queues { lists })
     }
 
-    /// Puts an action behind those that wait for the actor.
-    pub fn push(&mut self, actor: ActorId, action: Action) -> Result<(), Memory>
+    /// Puts a line behind those that wait for the actor.
+    pub fn push(&mut self, actor: ActorId, operation: Operation) -> Result<(), Memory>
         requires { actor.0 < length self.old }
-        ensures ok { OnOk result
-            (self.new ≡ slice_set self.old actor.0 (queue_at self.old actor.0 ++ action ∷ [])) }
+        ensures ok { OnOk result (self.new ≡ with_line actor.0 operation self.old) }
         ensures err { OnErr result (self.new ≡ self.old) }
     {
-        match self.lists[actor.0 as usize].push_back(action) {
+        match self.lists[actor.0 as usize].push_back(Waiting {
+            operation,
+            place: 0,
+        }) {
             Ok(()) => Ok(()),
             Err(_) => Err(Memory),
         }
     }
 
     /// Takes the action that has waited longest for the actor.
-    pub fn pop(&mut self, actor: ActorId) -> Option<Action>
+    pub fn pop(&mut self, actor: ActorId, members: &Members) -> Option<Action>
         requires { actor.0 < length self.old }
-        ensures first { queue_at self.old actor.0 ≡ with_first result (queue_at self.new actor.0) }
-        ensures empty { IfNone result (queue_at self.old actor.0 ≡ []) }
+        ensures first { waits members.now self.old actor.0
+            ≡ with_first result (waits members.now self.new actor.0) }
+        ensures empty { IfNone result (waits members.now self.old actor.0 ≡ []) }
         ensures others { self.new ≡ slice_set self.old actor.0 (queue_at self.new actor.0) }
+        ensures limited { (extent : Extent) → All (IsActorIn extent) members.now
+            → All (AreOperations extent) self.old
+            → IfSome result (IsAction extent) × All (AreOperations extent) self.new }
     {
-        self.lists[actor.0 as usize].pop_front()
+        take_first(&mut self.lists[actor.0 as usize], actor, members)
     }
 }

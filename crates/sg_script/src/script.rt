@@ -3,9 +3,10 @@ ghost use Rattle.std.specs.Prelude.{◌≡◌, ◌≢◌, ◌<◌, ◌≤◌, �
 ghost use Rattle.sg_base.specs.Limits.{Extent, IsAction};
 ghost use Rattle.sg_edge.specs.declared.files.Stage.TheVariants.{Fresh, Begun};
 ghost use Rattle.sg_edge.specs.Files.{Only};
-ghost use Rattle.sg_rows.specs.Deployment.{extent_of};
+ghost use Rattle.sg_rows.specs.Deployment.{extent_of, members_of};
 ghost use Rattle.sg_script.specs.Answer.{judgement_of};
 ghost use Rattle.sg_script.specs.Known.{known_in, actors_in};
+ghost use Rattle.sg_script.specs.Operation.{IsOperation};
 
 use crate::fault::ScriptFault;
 use crate::front::{Front, front_of};
@@ -23,7 +24,7 @@ type Answer = Result<Option<Action>, ScriptFault>;
 
 /// A script that is read as far as the answers to Asks need it.
 ///
-/// It keeps the lines that were read and not yet asked for, how many lines there were, and the bytes behind them.
+/// It keeps the lines that were read and of which something may be left, how many lines there were, and the bytes behind them.
 /// What stands there is judged when it is reached, so a bad line and a read that failed are told again to each Ask
 /// that needs more.
 #[derive(Drop)]
@@ -39,9 +40,9 @@ impl Script {
     ghost use Rattle.sg_edge.specs.declared.files.Stage.{Stage};
     ghost use Rattle.sg_script.specs.Frugal.{Frugal};
     ghost use Rattle.sg_script.specs.Known.{Known};
-    ghost use Rattle.sg_script.specs.kept.Queues.{queue_at};
+    ghost use Rattle.sg_script.specs.kept.Queues.{waits};
     ghost use Rattle.sg_script.specs.Stands.{AreLimited, IsLimited, IsRead, LeadsAsk, BreaksOnFailure, actors_of, kept_of, Stands};
-    ghost use Rattle.sg_script.specs.kept.Steps.{LineIs, StepIs, Ends, ReadIs};
+    ghost use Rattle.sg_script.specs.kept.Steps.{Ends, LineIs, LineTells, Pops, ReadIs, StepIs};
 
     /// A script of which nothing was read, for so many actors.
     #[tactic(auto, using(crate::proofs::LimitLemmas::limited_none))]
@@ -70,35 +71,61 @@ impl Script {
         self.before += 1;
     }
 
-    // An action of that actor is the answer, and one of another actor waits for it, which is none. Without memory the
-    // line stays.
+    // Lets the line go into its actor's queue. Without memory it stays.
     #[tactic(auto, using(crate::proofs::LimitLemmas::limited_same, crate::proofs::LimitLemmas::limited_more))]
-    fn take_entry(&mut self, entry: Entry, end: usize, actor: ActorId) -> Option<Answer>
+    fn take_entry(&mut self, entry: Entry, end: usize) -> Option<ScriptFault>
         requires end { end ≤ length self.old.pending }
         requires few { self.old.before < 100000000 }
         requires within { entry.actor.0 < length self.old.queues }
-        ensures line { LineIs (Ok (Some entry)) actor.0 end result (kept_of self.old)
+        ensures line { LineIs (Ok (Some entry)) end result (kept_of self.old)
             (kept_of self.new) }
-        ensures waiting { (extent : Extent) → IsAction extent entry.action → AreLimited extent
-            (kept_of self.old) → IfSome result (IsLimited extent) × AreLimited extent
-            (kept_of self.new) }
+        ensures waiting { (extent : Extent) → IsOperation extent entry.operation → AreLimited extent
+            (kept_of self.old) → AreLimited extent (kept_of self.new) }
     {
-        if entry.actor.0 == actor.0 {
-            self.pass(end);
-            return Some(Ok(Some(entry.action)));
-        }
-        match self.queues.push(entry.actor, entry.action) {
+        match self.queues.push(entry.actor, entry.operation) {
             Ok(()) => {
                 self.pass(end);
                 None
             }
-            Err(Memory) => Some(Err(ScriptFault::Memory)),
+            Err(Memory) => Some(ScriptFault::Memory),
         }
     }
 
-    // Takes the line at the front, which has `len` bytes and takes `end`: the answer, where it is one.
+    // Takes the line at the front, which has `len` bytes and takes `end`: the fault, where there is one.
     #[tactic(auto, using(crate::proofs::LimitLemmas::limited_same))]
-    fn take_line(
+    fn take_line(&mut self, len: usize, end: usize, deployment: &Deployment) -> Option<ScriptFault>
+        requires len { len ≤ end }
+        requires end { end ≤ length self.old.pending }
+        requires actors { actors_in deployment.now < length self.old.queues }
+        requires waiting { AreLimited (extent_of deployment.now) (kept_of self.old) }
+        ensures line { LineIs (judgement_of (known_in deployment.now) (self.old.before + 1)
+            (take len self.old.pending)) end result (kept_of self.old) (kept_of self.new) }
+        ensures waiting { AreLimited (extent_of deployment.now) (kept_of self.new) }
+    {
+        match judge(&self.pending.bytes()[..len], self.before, deployment) {
+            Err(kind) => Some(ScriptFault::Line(self.before + 1, kind)),
+            Ok(None) => {
+                self.pass(end);
+                None
+            }
+            Ok(Some(entry)) => self.take_entry(entry, end),
+        }
+    }
+
+    // Takes the first action that waits for the actor.
+    fn take_waiting(&mut self, actor: ActorId, deployment: &Deployment) -> Option<Action>
+        requires actor { actor.0 < length self.old.queues }
+        requires waiting { AreLimited (extent_of deployment.now) (kept_of self.old) }
+        ensures pops { Pops (known_in deployment.now) actor.0 result (kept_of self.old)
+            (kept_of self.new) }
+        ensures limited { IfSome result (IsAction (extent_of deployment.now)) }
+        ensures waiting { AreLimited (extent_of deployment.now) (kept_of self.new) }
+    {
+        self.queues.pop(actor, deployment.members())
+    }
+
+    // Takes the line at the front: the answer is the first action that then waits for the actor, where one does.
+    fn answer_by_line(
         &mut self,
         len: usize,
         end: usize,
@@ -108,19 +135,20 @@ impl Script {
         requires len { len ≤ end }
         requires end { end ≤ length self.old.pending }
         requires actors { actors_in deployment.now < length self.old.queues }
+        requires actor { actor.0 < length self.old.queues }
         requires waiting { AreLimited (extent_of deployment.now) (kept_of self.old) }
-        ensures line { LineIs (judgement_of (known_in deployment.now) (self.old.before + 1)
-            (take len self.old.pending)) actor.0 end result (kept_of self.old) (kept_of self.new) }
+        ensures line { LineTells (known_in deployment.now)
+            (judgement_of (known_in deployment.now) (self.old.before + 1)
+            (take len self.old.pending)) end actor.0 result (kept_of self.old) (kept_of self.new) }
         ensures limited { IfSome result (IsLimited (extent_of deployment.now)) }
         ensures waiting { AreLimited (extent_of deployment.now) (kept_of self.new) }
     {
-        match judge(&self.pending.bytes()[..len], self.before, deployment) {
-            Err(kind) => Some(Err(ScriptFault::Line(self.before + 1, kind))),
-            Ok(None) => {
-                self.pass(end);
-                None
-            }
-            Ok(Some(entry)) => self.take_entry(entry, end, actor),
+        if let Some(fault) = self.take_line(len, end, deployment) {
+            return Some(Err(fault));
+        }
+        match self.take_waiting(actor, deployment) {
+            Some(action) => Some(Ok(Some(action))),
+            None => None,
         }
     }
 
@@ -149,7 +177,8 @@ impl Script {
     ) -> Option<Answer>
         requires begun { (F.shows files.old Part.Script).stage ≢ Fresh }
         requires actors { actors_in deployment.now < length self.old.queues }
-        requires empty { queue_at self.old.queues actor.0 ≡ [] }
+        requires actor { actor.0 < length self.old.queues }
+        requires empty { waits (members_of deployment.now) self.old.queues actor.0 ≡ [] }
         requires waiting { AreLimited (extent_of deployment.now) (kept_of self.old) }
         ensures step { StepIs (known_in deployment.now) actor.0 result
             (F.shows files.old Part.Script) (F.shows files.new Part.Script) (kept_of self.old)
@@ -160,7 +189,7 @@ impl Script {
     {
         let front = front_of(self.pending.bytes(), self.before, files.stage(Part::Script));
         match front {
-            Front::Line { len, end } => self.take_line(len, end, actor, deployment),
+            Front::Line { len, end } => self.answer_by_line(len, end, actor, deployment),
             Front::Unread => {
                 self.read_piece(files);
                 None
@@ -179,7 +208,8 @@ impl Script {
     ) -> Result<Option<Action>, ScriptFault>
         requires begun { (F.shows files.old Part.Script).stage ≢ Fresh }
         requires actors { actors_in deployment.now < length self.old.queues }
-        requires empty { queue_at self.old.queues actor.0 ≡ [] }
+        requires actor { actor.0 < length self.old.queues }
+        requires empty { waits (members_of deployment.now) self.old.queues actor.0 ≡ [] }
         requires waiting { AreLimited (extent_of deployment.now) (kept_of self.old) }
         ensures ends { Ends (known_in deployment.now) actor.0 result
             (F.shows files.old Part.Script) (F.shows files.new Part.Script) (kept_of self.old)
@@ -198,6 +228,7 @@ impl Script {
     }
 
     // The first action that waits for the actor, or what reading on gives.
+    #[tactic(auto, using(crate::proofs::Steps::popped_length))]
     fn answer<F: Files>(
         &mut self,
         actor: ActorId,
@@ -216,13 +247,14 @@ impl Script {
         ensures read { IsRead result (F.shows files.new Part.Script) }
         ensures others { Only Part.Script (F.shows files.old) (F.shows files.new) }
     {
-        match self.queues.pop(actor) {
+        match self.take_waiting(actor, deployment) {
             Some(action) => Ok(Some(action)),
             None => self.read_on(actor, deployment, files),
         }
     }
 
-    /// The answer to an Ask of that actor: its next line, or `None` where it has no further one.
+    /// The answer to an Ask of that actor: the next action of its lines, or `None` where there is no further one. The
+    /// line of a collective gives all that the actor does for it, one action after the other.
     ///
     /// The answer is that of the whole script. It reads on in pieces of at most 4,096 bytes, each only where the
     /// answer isn't there yet. After `Memory` no byte that was taken is lost, and the Ask can be made again. `Line`

@@ -18,12 +18,16 @@ pub enum Verb {
     Unlock,
     Acquire,
     Release,
+    Bcast,
+    Reduce,
+    Allreduce,
+    Alltoall,
 }
 
 /// An action and its word.
 type VerbRow = (&'static [u8], Verb);
 
-const VERBS: [VerbRow; 13] = [
+const VERBS: [VerbRow; 17] = [
     (b"compute", Verb::Compute),
     (b"sleep", Verb::Sleep),
     (b"send", Verb::Send),
@@ -37,6 +41,10 @@ const VERBS: [VerbRow; 13] = [
     (b"unlock", Verb::Unlock),
     (b"acquire", Verb::Acquire),
     (b"release", Verb::Release),
+    (b"bcast", Verb::Bcast),
+    (b"reduce", Verb::Reduce),
+    (b"allreduce", Verb::Allreduce),
+    (b"alltoall", Verb::Alltoall),
 ];
 
 // The action of that word in a table.

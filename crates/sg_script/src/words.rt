@@ -2,7 +2,7 @@
 ghost use Rattle.std.specs.Prelude.{◌≡◌, ◌∷◌, ◌<◌, [], length, IfSome, MatchOption, MatchResult, Ok, Err};
 ghost use Rattle.std.specs.List.{position, slice_split};
 ghost use Rattle.sg_script.specs.Words.{is_blank, words};
-ghost use Rattle.sg_script.specs.Line.{no_words, one_word, two_words};
+ghost use Rattle.sg_script.specs.Line.{no_words, one_word, three_words, two_words};
 
 use crate::fault::LineFault;
 
@@ -80,4 +80,17 @@ pub fn two(text: &[u8]) -> Result<(&[u8], &[u8]), LineFault>
         return Err(LineFault::ArgumentCount);
     };
     Ok((first, one(rest)?))
+}
+
+/// The only three words.
+pub fn three(text: &[u8]) -> Result<(&[u8], &[u8], &[u8]), LineFault>
+    ensures { MatchResult result
+        (λ all. three_words (words text.entry.now) ≡ Ok (all.0.now, all.1.now, all.2.now))
+        (λ e. three_words (words text.entry.now) ≡ Err e) }
+{
+    let Some((first, rest)) = next_word(text) else {
+        return Err(LineFault::ArgumentCount);
+    };
+    let (second, third) = two(rest)?;
+    Ok((first, second, third))
 }

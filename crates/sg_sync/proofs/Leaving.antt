@@ -6,7 +6,7 @@ use Rattle.std.proofs.lemmas.List.Filters.{length-filter_both}
 use Rattle.std.proofs.lemmas.List.Sums.{length-filter, sum_by-cons}
 use Rattle.std.specs.Int.{from_bool}
 use Rattle.sg_base.specs.declared.ids.ActorId.{ActorId}
-use Rattle.sg_queues.proofs.Entries.{map_at}
+use Rattle.sg_queues.proofs.Lists.{map_at}
 use Rattle.sg_sync.specs.Queues.{Waiting, IsActor, queue_at, left, times, waits, without}
 use Rattle.sg_sync.specs.Objects.{Objects, waiting, withdrawn}
 use Rattle.sg_sync.specs.kept.Arrivals.{IsCounted}

@@ -12,13 +12,10 @@ use std::marker::Model;
 /// Joining and leaving take no memory, and cost the same however long the queues are.
 #[derive(Drop)]
 pub(crate) struct Queues {
-    /// Each actor is a slot, of its own number. The first queue has those that wait nowhere.
+    /// Each actor is a slot, of its own number, which is idle where the actor waits nowhere.
     rings: Rings,
     actors: u32,
 }
-
-// The queue of those that wait nowhere.
-const NOWHERE: usize = 0;
 
 impl Model for Queues {
     ghost use Rattle.sg_sync.specs.Queues.{Waiting};
@@ -36,10 +33,9 @@ impl Queues {
     pub(crate) fn new(alloc: Global, actors: u32, queues: usize) -> Result<Queues, Memory>
         ensures { IfOk result (λ s. s ≡ record { actors = actors; queues = replicate queues [] }) }
     {
-        let mut rings = Rings::new(alloc);
-        rings.add_queue()?;
+        let mut rings = Rings::new(alloc)?;
         for _actor in 0..actors {
-            rings.add_slot(NOWHERE)?;
+            rings.add_slot()?;
         }
         for _queue in 0..queues {
             rings.add_queue()?;
@@ -56,7 +52,7 @@ impl Queues {
         ensures few { length (queue_at self.new.queues queue)
             ≤ self.old.actors + length self.old.queues + 1 }
     {
-        self.rings.shift(actor.0 as usize, queue as usize + 1);
+        self.rings.shift(actor.0 as usize, queue as usize);
     }
 
     /// The first of a queue leaves it.
@@ -67,9 +63,9 @@ impl Queues {
             ≡ record self.old { queues = shortened self.old.queues queue } }
         ensures actor { IfSome result (λ actor. actor.0 ≤ self.old.actors) }
     {
-        match self.rings.front(queue as usize + 1) {
+        match self.rings.front(queue as usize) {
             Some(slot) => {
-                self.rings.shift(slot, NOWHERE);
+                self.rings.retire(slot);
                 Some(ActorId(slot as u32))
             }
             None => None,
@@ -81,6 +77,6 @@ impl Queues {
         requires { IsActor self.old.actors actor }
         ensures { self.new ≡ record self.old { queues = left actor self.old.queues } }
     {
-        self.rings.shift(actor.0 as usize, NOWHERE);
+        self.rings.retire(actor.0 as usize);
     }
 }

@@ -25,11 +25,11 @@ brought_text None = []
 -- the text of a call; a receive that is over tells what it brought, one that is still blocked doesn't
 abbrev pub call_text : Deployed → Option ℕ → Call → List ℕ
 call_text deployed brought call.Ask = []
-call_text deployed brought (call.Compute flops) = codes "compute " ++ decimal flops
+call_text deployed brought (call.Compute flops priority) = codes "compute " ++ decimal flops
 call_text deployed brought (call.Sleep ns) = codes "sleep"
-call_text deployed brought (call.Send mailbox bytes message) = codes "send " ++ receiver_name deployed mailbox ++ codes " " ++ decimal bytes
+call_text deployed brought (call.Send mailbox bytes message rate) = codes "send " ++ receiver_name deployed mailbox ++ codes " " ++ decimal bytes
 call_text deployed brought (call.Recv mailbox) = codes "recv " ++ sender_name deployed mailbox ++ brought_text brought
-call_text deployed brought (call.ISend mailbox bytes message) = codes "isend " ++ receiver_name deployed mailbox ++ codes " " ++ decimal bytes
+call_text deployed brought (call.ISend mailbox bytes message rate) = codes "isend " ++ receiver_name deployed mailbox ++ codes " " ++ decimal bytes
 call_text deployed brought (call.IRecv mailbox) = codes "irecv " ++ sender_name deployed mailbox
 call_text deployed brought call.Wait = codes "wait"
 call_text deployed brought (call.Lock mutex) = codes "lock " ++ mutex_id deployed mutex

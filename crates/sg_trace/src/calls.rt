@@ -104,14 +104,14 @@ pub fn push_call(line: &mut Line, deployment: &Deployment, call: Call, brought: 
     ensures len { GrowsBy line.old line.new 93 }
 {
     match call {
-        Call::Compute(flops) => push_counted(line, "compute ", flops),
+        Call::Compute(flops, _) => push_counted(line, "compute ", flops),
         Call::Sleep(_) => line.push_str("sleep"),
-        Call::Send(mailbox, bytes, _) => push_sent(line, "send ", deployment, mailbox, bytes),
+        Call::Send(mailbox, bytes, ..) => push_sent(line, "send ", deployment, mailbox, bytes),
         Call::Recv(mailbox) => {
             push_received(line, "recv ", deployment, mailbox);
             push_brought(line, brought);
         }
-        Call::ISend(mailbox, bytes, _) => push_sent(line, "isend ", deployment, mailbox, bytes),
+        Call::ISend(mailbox, bytes, ..) => push_sent(line, "isend ", deployment, mailbox, bytes),
         Call::IRecv(mailbox) => push_received(line, "irecv ", deployment, mailbox),
         Call::Wait => line.push_str("wait"),
         Call::Lock(mutex) => push_locked(line, "lock ", deployment, mutex),

@@ -8,5 +8,5 @@ mod tests;
 mod tree;
 
 pub use fault::{Fault, Kind, Place};
-pub use names::{add_name, add_names, add_pair, names_at};
+pub use names::{add_name, add_names, add_pair, names_at, small_number};
 pub use tree::{NoTree, read_tree, rows_at, text_at, text_or_empty, value_at};

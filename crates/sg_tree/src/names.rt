@@ -13,10 +13,20 @@ use sg_base::Memory;
 use std::alloc::Global;
 use toml::Value;
 
+/// The number in the 32 bits that a space of names has for it; one that is greater is want of memory.
+pub fn small_number(number: usize) -> Result<u32, Memory>
+    ensures { IfOk result (λ small. small ≡ number) }
+{
+    match u32::try_from(number) {
+        Ok(small) => Ok(small),
+        Err(_) => Err(Memory),
+    }
+}
+
 /// Gives a name its number, unless it has one. After `Memory` the space is as before.
 pub fn add_name(
     alloc: Global,
-    space: &mut IndexMap<String, usize>,
+    space: &mut IndexMap<String, u32>,
     name: &str,
     number: usize,
 ) -> Result<(), Memory>
@@ -25,6 +35,7 @@ pub fn add_name(
     ensures memory { OnErr result (IsUnchanged space.old space.new) }
 {
     if !space.contains_key(name) {
+        let number = small_number(number)?;
         let key = String::from_str(alloc, name)?;
         space.insert(key, number)?;
     }
@@ -33,8 +44,8 @@ pub fn add_name(
 
 /// Gives a pair its number, unless it has one. After `Memory` the space is as before.
 pub fn add_pair(
-    space: &mut IndexMap<(usize, usize), usize>,
-    pair: (usize, usize),
+    space: &mut IndexMap<(u32, u32), u32>,
+    pair: (u32, u32),
     number: usize,
 ) -> Result<(), Memory>
     ensures added { OnOk result ((q : Pair) → get_by (pair_eq q) space.new
@@ -42,7 +53,7 @@ pub fn add_pair(
     ensures memory { OnErr result (IsUnchanged space.old space.new) }
 {
     if !space.contains_key(&pair) {
-        space.insert(pair, number)?;
+        space.insert(pair, small_number(number)?)?;
     }
     Ok(())
 }
@@ -50,7 +61,7 @@ pub fn add_pair(
 // Gives the text at a key of a row its number. After `Memory` the space is as before.
 fn add_text(
     alloc: Global,
-    space: &mut IndexMap<String, usize>,
+    space: &mut IndexMap<String, u32>,
     key: &str,
     number: usize,
     row: &Value,
@@ -69,7 +80,7 @@ fn add_text(
 // Gives the texts at a key of rows the numbers from this one on. After `Memory` some first rows have theirs.
 fn add_texts(
     alloc: Global,
-    space: &mut IndexMap<String, usize>,
+    space: &mut IndexMap<String, u32>,
     key: &str,
     before: usize,
     rows: &[Value],
@@ -93,7 +104,7 @@ fn add_texts(
 /// number keeps it. After `Memory` this is done for some first rows.
 pub fn add_names(
     alloc: Global,
-    space: &mut IndexMap<String, usize>,
+    space: &mut IndexMap<String, u32>,
     key: &str,
     before: usize,
     rows: &[Value],
@@ -111,7 +122,7 @@ pub fn add_names(
 }
 
 /// The names at a key of rows, with the numbers of the rows from 0 on.
-pub fn names_at(alloc: Global, key: &str, rows: &[Value]) -> Result<IndexMap<String, usize>, Memory>
+pub fn names_at(alloc: Global, key: &str, rows: &[Value]) -> Result<IndexMap<String, u32>, Memory>
     ensures { IfOk result
         (λ made. (q : List ℕ)
         → get_by_text made q ≡ lookup (bytes_eq q) (names_from key.now 0 (map view rows.now))) }

@@ -64,7 +64,7 @@ const HOSTS: &str =
     "host = [{id = 'a'}, {id = 'b'}, {id = 'a'}, {speed = 'c'}, {id = 5}, {id = 'c'}, 7]";
 
 /// Names, and the row that has each first.
-const NAMES: [(&str, Option<usize>); 5] = [
+const NAMES: [(&str, Option<u32>); 5] = [
     ("a", Some(0)),
     ("b", Some(1)),
     ("c", Some(5)),

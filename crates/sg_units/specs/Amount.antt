@@ -5,7 +5,7 @@ use Rattle.sg_units.specs.declared.fault.AmountFault.{AmountFault}
 use Rattle.sg_units.specs.declared.fault.AmountFault.TheVariants.{NotANumber, UnknownUnit, TooLarge}
 use Rattle.sg_units.specs.declared.units.Ratio.{Ratio}
 use Rattle.sg_units.specs.Number.{Number, number_of}
-use Rattle.sg_units.specs.Units.{Units, size_of, amount_units, speed_units, bandwidth_units, time_units}
+use Rattle.sg_units.specs.Units.{Units, size_of, amount_units, factor_units, speed_units, bandwidth_units, time_units}
 
 -- a number is its digits, times 10 to the power, over 10 to its places behind the point
 abbrev pub exponent_of : Number → ℕ
@@ -60,3 +60,7 @@ bandwidth_of = amount_by bandwidth_units (10 ^ 15)
 -- nanoseconds
 abbrev pub time_of : List ℕ → Result ℕ AmountFault
 time_of = amount_by time_units (10 ^ 18)
+
+-- millionths
+abbrev pub factor_of : List ℕ → Result ℕ AmountFault
+factor_of = amount_by factor_units (10 ^ 9)

@@ -37,6 +37,10 @@ are_sizes units = list_all (λ u. is_size u.1) units
 abbrev pub amount_units : Units
 amount_units = (codes "", whole 1) ∷ []
 
+-- a factor has no unit, and is counted in millionths
+abbrev pub factor_units : Units
+factor_units = (codes "", whole (10 ^ 6)) ∷ []
+
 -- in flops per second
 abbrev pub speed_units : Units
 speed_units = (codes "", whole 1) ∷ (codes "f", whole 1) ∷ (codes "kf", whole (10 ^ 3)) ∷ (codes "Mf", whole (10 ^ 6))

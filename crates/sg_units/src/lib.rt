@@ -1,4 +1,4 @@
-//! Amounts, speeds, bandwidths, times and dates as texts. Nothing here takes memory.
+//! Amounts, speeds, bandwidths, times, factors and dates as texts. Nothing here takes memory.
 #![tactic(auto)]
 
 mod date;
@@ -12,7 +12,7 @@ mod units;
 pub use date::date_text;
 pub use fault::AmountFault;
 pub use laws::number_is_longest;
-pub use readers::{read_amount, read_bandwidth, read_speed, read_time};
+pub use readers::{read_amount, read_bandwidth, read_factor, read_speed, read_time};
 
 #[cfg(test)]
 mod tests;

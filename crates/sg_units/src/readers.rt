@@ -1,8 +1,8 @@
-//! The readers of amounts, speeds, bandwidths and times.
+//! The readers of amounts, speeds, bandwidths, times and factors.
 ghost use Rattle.std.specs.Prelude.{◌≡◌, ◌≤◌, ◌<◌, ◌^◌, IsTrue, IfOk};
 ghost use Rattle.std.specs.Str.Parse.{digits_value};
 ghost use Rattle.sg_base.specs.Limits.{IsAmount, IsTime};
-ghost use Rattle.sg_units.specs.Amount.{short_value, amount_by, power_of, places_of, digits_of, is_short, amount_of, speed_of, bandwidth_of, time_of};
+ghost use Rattle.sg_units.specs.Amount.{short_value, amount_by, power_of, places_of, digits_of, is_short, amount_of, speed_of, bandwidth_of, time_of, factor_of};
 ghost use Rattle.sg_units.specs.kept.Shown.{parts_of, HasDigits};
 ghost use Rattle.sg_units.specs.Units.{rows, are_sizes, IsSize};
 
@@ -10,7 +10,7 @@ use crate::fault::AmountFault;
 use crate::number::Number;
 use crate::scale::{read_after, scaled};
 use crate::units::{
-    AMOUNT_UNITS, BANDWIDTH_UNITS, Ratio, SPEED_UNITS, TIME_UNITS, UnitRow, size_of,
+    AMOUNT_UNITS, BANDWIDTH_UNITS, FACTOR_UNITS, Ratio, SPEED_UNITS, TIME_UNITS, UnitRow, size_of,
 };
 
 /// The greatest number of flops or bytes, and the greatest speed and bandwidth.
@@ -18,6 +18,9 @@ const GREATEST_AMOUNT: u64 = 1_000_000_000_000_000;
 
 /// The greatest time in nanoseconds.
 const GREATEST_TIME: u64 = 1_000_000_000_000_000_000;
+
+/// The greatest factor in millionths.
+const GREATEST_FACTOR: u64 = 1_000_000_000;
 
 fn is_short(number: &Number) -> bool
     ensures { result ≡ is_short (parts_of number.now) }
@@ -136,4 +139,12 @@ pub fn read_time(text: &[u8]) -> Result<u64, AmountFault>
     ensures limit { IfOk result IsTime }
 {
     amount_by(&TIME_UNITS, GREATEST_TIME, text)
+}
+
+/// Reads a factor up to 1,000, in millionths. It has no unit.
+pub fn read_factor(text: &[u8]) -> Result<u64, AmountFault>
+    ensures value { result ≡ factor_of text.now }
+    ensures limit { IfOk result (λ n. n ≤ 10 ^ 9) }
+{
+    amount_by(&FACTOR_UNITS, GREATEST_FACTOR, text)
 }

@@ -1,5 +1,5 @@
 use crate::fault::AmountFault::{self, NotANumber, TooLarge, UnknownUnit};
-use crate::{date_text, read_amount, read_bandwidth, read_speed, read_time};
+use crate::{date_text, read_amount, read_bandwidth, read_factor, read_speed, read_time};
 
 #[test]
 fn amounts_have_no_unit(rt: HostRuntime) {
@@ -175,6 +175,30 @@ fn each_reader_has_its_faults(rt: HostRuntime) {
             read_time(bytes),
         ];
         assert_eq!(rt; told, want, "for {text}");
+    }
+}
+
+/// What a factor is in millionths.
+const FACTORS: [(&str, Result<u64, AmountFault>); 13] = [
+    ("1", Ok(1_000_000)),
+    ("13.01", Ok(13_010_000)),
+    ("0.97", Ok(970_000)),
+    ("1.0000019", Ok(1_000_001)),
+    ("1e-6", Ok(1)),
+    ("0.0000009", Ok(0)),
+    ("1e3", Ok(1_000_000_000)),
+    ("1000.0000009", Ok(1_000_000_000)),
+    ("1000.000001", Err(TooLarge)),
+    ("1000.000001x", Err(UnknownUnit)),
+    ("1f", Err(UnknownUnit)),
+    ("", Err(NotANumber)),
+    ("-1", Err(NotANumber)),
+];
+
+#[test]
+fn factors_are_in_millionths(rt: HostRuntime) {
+    for (text, want) in FACTORS {
+        assert_eq!(rt; read_factor(text.as_bytes()), want, "for {text}");
     }
 }
 

@@ -15,6 +15,9 @@ pub type UnitRow = (&'static [u8], u64, u64);
 /// Flops and bytes.
 pub const AMOUNT_UNITS: [UnitRow; 1] = [(b"", 1, 1)];
 
+/// Millionths.
+pub const FACTOR_UNITS: [UnitRow; 1] = [(b"", 1_000_000, 1)];
+
 /// Flops per second.
 pub const SPEED_UNITS: [UnitRow; 7] = [
     (b"", 1, 1),

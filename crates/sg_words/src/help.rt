@@ -23,12 +23,14 @@ pub const ACTORS: &str = "Actors, 2 to 4096: a ring, each on a host of its own";
 pub const STEPS: &str =
     "Steps of each actor, 0 to 1000000: it computes, sends to the next, receives from the one before, and waits";
 
-pub const PLATFORM: &str = "The platform, a TOML file: zones, hosts, routers, links and routes";
+pub const PLATFORM: &str =
+    "The platform, a TOML file: zones, hosts, routers, links, routes, and factors of the network";
 
 pub const DEPLOYMENT: &str =
     "The deployment, a TOML file: which actor is on which host, mutexes and semaphores";
 
-pub const SCRIPT: &str = "The script, a text file: one action on each line; - is standard input";
+pub const SCRIPT: &str =
+    "The script, a text file: one action on each line, like 'p0 compute 1e9 3', at priority 3, or 'p0 send p1 1e6 2MBps', at that rate at most; - is standard input";
 
 pub const THREADS: &str = "Worker threads, 1 to 64; the output is the same for every number";
 

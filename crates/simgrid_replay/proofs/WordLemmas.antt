@@ -11,11 +11,11 @@ use Rattle.sg_words.specs.Views.{Answers, job_view}
 use Rattle.sg_words.specs.declared.fault.WordsFault.{WordsFault}
 use Rattle.sg_words.specs.declared.job.Job.{Job}
 use Rattle.simgrid_replay.specs.Outcome.{Prints, one_text}
-use Rattle.simgrid_replay.specs.Outcome.{TellsWords}
+use Rattle.simgrid_replay.specs.Outcome.{ReportsWords}
 use Rattle.simgrid_replay.proofs.TopLemmas.{prints_nothing}
 
 -- memory was wanting for the text
-pub tells_nothing : (kinds : Kinds) (how : Status) (old new : Stream → Option (List ℕ)) → kinds ≢ [] → Prints (one_text Err [] S.Memory) how old new → TellsWords kinds how old new
+pub tells_nothing : (kinds : Kinds) (how : Status) (old new : Stream → Option (List ℕ)) → kinds ≢ [] → Prints (one_text Err [] S.Memory) how old new → ReportsWords kinds how old new
 tells_nothing [] how old new some prints = absurd (some refl)
 tells_nothing (kind ∷ more) how old new some prints = record {
   kind = kind;

@@ -16,7 +16,7 @@ use Rattle.sg_words.specs.Views.{IsHelp}
 use Rattle.sg_platform.specs.FaultWords.{platform_words, platform_place, deployment_words, deployment_place}
 use Rattle.sg_tree.specs.declared.fault.Place.{Place}
 use Rattle.sg_zones.specs.FaultWords.{zone_words, zone_place}
-use Rattle.simgrid_replay.specs.FaultLines.{fault_line, replay_line, contexts_line}
+use Rattle.simgrid_replay.specs.RefusalLines.{refusal_line, replay_line, contexts_line}
 use Rattle.simgrid_replay.specs.Settings.{Setting, setting, contexts_in}
 use Rattle.simgrid_replay.specs.Requests.{has_script, show_of}
 use Rattle.simgrid_replay.specs.declared.refusal.Refusal.{Refusal}
@@ -50,7 +50,7 @@ one_text stream.Err text how = record { out = []; err = text; status = how; work
 
 -- one line on Err, that a part is refused: why, and where
 abbrev pub fault_outcome : List ℕ → List ℕ → Option Place → Status → Outcome
-fault_outcome part words place how = one_text stream.Err (fault_line part words place) how
+fault_outcome part words place how = one_text stream.Err (refusal_line part words place) how
 
 abbrev pub refusal_outcome : Refusal → Outcome
 refusal_outcome (refusal.Platform fault) = fault_outcome (codes "platform") (platform_words fault) (platform_place fault) status.Platform
@@ -110,7 +110,7 @@ pub record HasOutcome (want : Outcome) (how : Status) (old new : Stream → Opti
   pub counts : count ≤ start + want.work
 
 -- A text was told for one of these kinds: help and the version on Out, with the status of success; any other on Err.
-pub record TellsWords (kinds : Kinds) (how : Status) (old new : Stream → Option (List ℕ)) : Type 0 where
+pub record ReportsWords (kinds : Kinds) (how : Status) (old new : Stream → Option (List ℕ)) : Type 0 where
   pub kind : ErrorKind
   pub among : IsAmong kind kinds
   pub text : List ℕ

@@ -4,13 +4,11 @@ ghost use Rattle.sg_edge.specs.declared.files.Stage.TheVariants.{Fresh, Broken};
 ghost use Rattle.sg_edge.specs.Files.{Only};
 ghost use Rattle.sg_edge.specs.Sources.{Source};
 ghost use Rattle.sg_engine.specs.Output.{contexts_of};
-ghost use Rattle.sg_engine.specs.RunContract.{IsReadOnDemand};
 ghost use Rattle.sg_words.specs.Views.{job_view};
-ghost use Rattle.sg_edge.specs.Cause.{HasCause};
 ghost use Rattle.simgrid_replay.specs.PartSources.{request_of, IsNamedBy, ScriptGives};
-ghost use Rattle.simgrid_replay.specs.kept.Reading.{BeginsScript, Broke};
-ghost use Rattle.simgrid_replay.specs.Outcome.{is_refusal, run_on, HasOutcome};
-ghost use Rattle.simgrid_replay.specs.kept.Setups.{setting_in, IsSetupFor};
+ghost use Rattle.simgrid_replay.specs.kept.Reading.{BeginsScript, Broke, ComesTo, IsCallCause};
+ghost use Rattle.simgrid_replay.specs.Outcome.{is_refusal, run_on};
+ghost use Rattle.simgrid_replay.specs.kept.Setups.{setting_in, IsSetupOfJob};
 ghost use Rattle.simgrid_replay.specs.Requests.{has_script, show_if as show_if_spec, show_of};
 
 use crate::reports::status;
@@ -85,24 +83,19 @@ pub fn run_job<R: Threads + Sync, F: Files, O: Sinks, L: Ledger>(
     crew: &mut Vec<Box<dyn Actor + Send>>,
     steps: &mut Steps<L>,
 ) -> Status
-    requires setup { IsSetupFor (has_script (request_of job.now)) (length crew.old.items)
-        setup.old }
+    requires setup { IsSetupOfJob job.now (length crew.old.items) setup.old }
     requires fresh { (F.shows files.old Part.Script).stage ≡ Fresh }
     requires sound { O.faults out.old ≡ 0 }
     requires blank { All (λ b. mind b ≡ None) crew.old.items }
-    ensures output { (s : Source)
-        → ScriptGives (request_of job.now) (F.shows files.old) (F.shows files.new) s
-        → HasOutcome (run_on (job_view job.now) s (setting_in setup.old)) result
-        (O.contents out.old) (O.contents out.new) steps.old steps.new }
-    ensures needed { (s : Source)
-        → ScriptGives (request_of job.now) (F.shows files.old) (F.shows files.new) s
-        → IsReadOnDemand (run_on (job_view job.now) s (setting_in setup.old)).need
+    ensures output { (s : Source) → ScriptGives (request_of job.now) (F.shows files.old)
+        (F.shows files.new) s → ComesTo (run_on (job_view job.now) s (setting_in setup.old)) result
+        (O.contents out.old) (O.contents out.new) steps.old steps.new
         (F.shows files.old) (F.shows files.new) }
     ensures crew { result ≢ Status.Memory
         → crew.new.items ≡ drop (contexts_of setup.old.deployment) crew.old.items }
     ensures unrefused { is_refusal result ≡ false }
-    ensures cause { HasCause (result ≡ Status.WriteFault) (result ≡ Status.ReadFault)
-        (O.faults out.new) (Broke Part.Script (F.shows files.old) (F.shows files.new)) }
+    ensures cause { IsCallCause result (O.faults out.new)
+        (Broke Part.Script (F.shows files.old) (F.shows files.new)) }
     ensures script { BeginsScript F.shows (request_of job.now) files.old files.new }
 {
     begin_script(job, files);

@@ -12,21 +12,7 @@ mod reports;
 mod routed_platform;
 mod setups;
 #[cfg(test)]
-mod testing;
-#[cfg(test)]
-mod tests_failing;
-#[cfg(test)]
-mod tests_faults;
-#[cfg(test)]
-mod tests_jobs;
-#[cfg(test)]
-mod tests_limits;
-#[cfg(test)]
-mod tests_malicious;
-#[cfg(test)]
-mod tests_runs;
-#[cfg(test)]
-mod tests_threads;
+mod tests;
 mod whole_call;
 
 ghost use Rattle.std.specs.Prelude.{◌≡◌, ◌<◌, [], length, All, None, IfOk, IfErr};

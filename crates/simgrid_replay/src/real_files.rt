@@ -11,7 +11,7 @@ use std::io::Read;
 
 /// Where a part is read from.
 #[derive(Drop)]
-enum Source {
+enum Origin {
     /// From nowhere: it isn't open.
     Closed,
     Opened(File),
@@ -29,18 +29,18 @@ fn is_input(part: Part, name: &str) -> bool
     }
 }
 
-impl Source {
+impl Origin {
     ghost use Rattle.simgrid_replay.specs.kept.RealFiles.{comes_from_input, is_input};
 
     // What a part of this name is read from.
-    fn open(rt: &HostRuntime, part: Part, name: &str) -> Result<Source, Failed>
-        ensures { IfOk result (λ source. comes_from_input source ≡ is_input part name.now) }
+    fn open(rt: &HostRuntime, part: Part, name: &str) -> Result<Origin, Failed>
+        ensures { IfOk result (λ origin. comes_from_input origin ≡ is_input part name.now) }
     {
         if is_input(part, name) {
-            return Ok(Source::Input);
+            return Ok(Origin::Input);
         }
         match fs::open(rt, name) {
-            Ok(file) => Ok(Source::Opened(file)),
+            Ok(file) => Ok(Origin::Opened(file)),
             Err(_) => Err(Failed),
         }
     }
@@ -72,7 +72,7 @@ fn stage_after(got: Result<usize, Failed>) -> Stage
 /// One real part.
 #[derive(Drop)]
 pub struct RealPart {
-    source: Source,
+    origin: Origin,
     pub stage: Stage,
 }
 
@@ -83,7 +83,7 @@ impl RealPart {
         ensures { result.stage ≡ Fresh }
     {
         RealPart {
-            source: Source::Closed,
+            origin: Origin::Closed,
             stage: Stage::Fresh,
         }
     }
@@ -93,9 +93,9 @@ impl RealPart {
         ensures begun { OnOk result (Begins name.now (real_view self.old) (real_view self.new)) }
         ensures failed { OnErr result (Breaks (real_view self.old) (real_view self.new)) }
     {
-        match Source::open(rt, part, name) {
-            Ok(source) => {
-                self.source = source;
+        match Origin::open(rt, part, name) {
+            Ok(origin) => {
+                self.origin = origin;
                 self.stage = Stage::Begun;
                 Ok(())
             }
@@ -114,10 +114,10 @@ impl RealPart {
             Takes (take n buf.new) (real_view self.old) (real_view self.new)) }
         ensures failed { OnErr result (Breaks (real_view self.old) (real_view self.new)) }
     {
-        let got = match &mut self.source {
-            Source::Closed => Err(Failed),
-            Source::Opened(file) => read_from(file, buf),
-            Source::Input => read_from(&mut rt.stdin(), buf),
+        let got = match &mut self.origin {
+            Origin::Closed => Err(Failed),
+            Origin::Opened(file) => read_from(file, buf),
+            Origin::Input => read_from(&mut rt.stdin(), buf),
         };
         self.stage = stage_after(got);
         got

@@ -2,7 +2,7 @@
 ghost use Rattle.std.specs.Prelude.{◌≡◌, IfOk, codes, string_bytes};
 ghost use Rattle.sg_platform.specs.FaultWords.{platform_words, platform_place, deployment_words, deployment_place};
 ghost use Rattle.sg_zones.specs.FaultWords.{zone_words, zone_place};
-ghost use Rattle.simgrid_replay.specs.FaultLines.{fault_line as fault_line_spec, replay_line as replay_line_spec, contexts_line as contexts_line_spec};
+ghost use Rattle.simgrid_replay.specs.RefusalLines.{refusal_line as refusal_line_spec, replay_line as replay_line_spec, contexts_line as contexts_line_spec};
 
 use sg_base::Memory;
 use sg_platform::{DeploymentFault, PlatformFault};
@@ -31,13 +31,13 @@ pub enum Refusal {
     Memory,
 }
 
-fn fault_line(
+fn refusal_line(
     alloc: Global,
     part: &str,
     words: &str,
     place: Option<Place>,
 ) -> Result<String, Memory>
-    ensures { IfOk result (λ line. string_bytes line ≡ fault_line_spec part.now words.now place) }
+    ensures { IfOk result (λ line. string_bytes line ≡ refusal_line_spec part.now words.now place) }
 {
     let line = match place {
         Some(Place { table, row, key }) => {
@@ -53,26 +53,26 @@ fn fault_line(
 
 /// The line that tells a platform's fault, with its newline.
 pub fn platform_line(alloc: Global, fault: &PlatformFault) -> Result<String, Memory>
-    ensures { IfOk result (λ line. string_bytes line ≡ fault_line_spec (codes "platform")
+    ensures { IfOk result (λ line. string_bytes line ≡ refusal_line_spec (codes "platform")
         (platform_words fault.now) (platform_place fault.now)) }
 {
-    fault_line(alloc, "platform", fault.words(), fault.place())
+    refusal_line(alloc, "platform", fault.words(), fault.place())
 }
 
 /// The line that tells a fault of a platform's zones, with its newline.
 pub fn zone_line(alloc: Global, fault: &ZoneFault) -> Result<String, Memory>
-    ensures { IfOk result (λ line. string_bytes line ≡ fault_line_spec (codes "platform")
+    ensures { IfOk result (λ line. string_bytes line ≡ refusal_line_spec (codes "platform")
         (zone_words fault.now) (zone_place fault.now)) }
 {
-    fault_line(alloc, "platform", fault.words(), fault.place())
+    refusal_line(alloc, "platform", fault.words(), fault.place())
 }
 
 /// The line that tells a deployment's fault, with its newline.
 pub fn deployment_line(alloc: Global, fault: &DeploymentFault) -> Result<String, Memory>
-    ensures { IfOk result (λ line. string_bytes line ≡ fault_line_spec (codes "deployment")
+    ensures { IfOk result (λ line. string_bytes line ≡ refusal_line_spec (codes "deployment")
         (deployment_words fault.now) (deployment_place fault.now)) }
 {
-    fault_line(alloc, "deployment", fault.words(), fault.place())
+    refusal_line(alloc, "deployment", fault.words(), fault.place())
 }
 
 /// The line that tells of an actor that replays where there is no script, with its newline.

@@ -3,10 +3,9 @@ ghost use Rattle.std.specs.Prelude.{◌≡◌, ◌≢◌, ◌⊎◌, ℕ, List, 
 ghost use Rattle.clap.specs.Words.{Kinds};
 ghost use Rattle.sg_words.specs.CommandLine.{Asked};
 ghost use Rattle.sg_words.specs.Views.{Answers};
-ghost use Rattle.sg_edge.specs.Cause.{HasCause};
-ghost use Rattle.simgrid_replay.specs.kept.Reading.{IsOfPlatform, IsReadFault};
+ghost use Rattle.simgrid_replay.specs.kept.Reading.{IsCallCause, IsOfPlatform, IsReadFault};
 ghost use Rattle.simgrid_replay.specs.Outcome.{one_text, refusal_outcome, status_of, is_cut, is_refusal, Prints};
-ghost use Rattle.simgrid_replay.specs.Outcome.{TellsWords};
+ghost use Rattle.simgrid_replay.specs.Outcome.{ReportsWords};
 
 use crate::refusal::{
     Refusal, contexts_line, deployment_line, platform_line, replay_line, zone_line,
@@ -23,8 +22,7 @@ fn say<O: Sinks>(to: Stream, text: &str, status: Status, out: &mut O) -> Status
     requires sound { O.faults out.old ≡ 0 }
     ensures prints { Prints (one_text to text.now status) result
         (O.contents out.old) (O.contents out.new) }
-    ensures cause { HasCause (result ≡ Status.WriteFault) (result ≡ Status.ReadFault)
-        (O.faults out.new) (status ≡ Status.ReadFault) }
+    ensures cause { IsCallCause result (O.faults out.new) (status ≡ Status.ReadFault) }
     ensures status { (result ≡ status) ⊎ IsTrue (is_cut result) }
 {
     match write_all(out, to, text.as_bytes()) {
@@ -40,8 +38,7 @@ fn say_made<O: Sinks>(line: Result<String, Memory>, status: Status, out: &mut O)
     ensures prints { (want : List ℕ) → IfOk line (λ text. string_bytes text ≡ want)
         → Prints (one_text Stream.Err want status) result
         (O.contents out.old) (O.contents out.new) }
-    ensures cause { HasCause (result ≡ Status.WriteFault) (result ≡ Status.ReadFault)
-        (O.faults out.new) (status ≡ Status.ReadFault) }
+    ensures cause { IsCallCause result (O.faults out.new) (status ≡ Status.ReadFault) }
     ensures status { (result ≡ status) ⊎ IsTrue (is_cut result) }
 {
     match line {
@@ -51,16 +48,15 @@ fn say_made<O: Sinks>(line: Result<String, Memory>, status: Status, out: &mut O)
 }
 
 /// Tells words that ask for no run: help and the version on Out, any other text on Err.
-pub fn tell_words<O: Sinks>(fault: WordsFault, out: &mut O) -> Status
+pub fn report_words<O: Sinks>(fault: WordsFault, out: &mut O) -> Status
     requires { O.faults out.old ≡ 0 }
     ensures tells { (kinds : Kinds) (asked : Option Asked) → Answers kinds asked (Err fault)
-        → kinds ≢ [] → TellsWords kinds result (O.contents out.old) (O.contents out.new) }
+        → kinds ≢ [] → ReportsWords kinds result (O.contents out.old) (O.contents out.new) }
     ensures silent { (asked : Option Asked) → Answers [] asked (Err fault)
         → (result ≡ Status.Memory)
         × Prints (one_text Stream.Err [] Status.Memory) result
         (O.contents out.old) (O.contents out.new) }
-    ensures cause { HasCause (result ≡ Status.WriteFault) (result ≡ Status.ReadFault)
-        (O.faults out.new) ⊥ }
+    ensures cause { IsCallCause result (O.faults out.new) ⊥ }
     ensures platform { result ≢ Status.Platform }
     ensures deployment { result ≢ Status.Deployment }
 {
@@ -79,8 +75,7 @@ pub fn refuse<O: Sinks>(alloc: Global, refusal: Refusal, out: &mut O) -> Status
     ensures memory { refusal ≡ Refusal.Memory → result ≡ Status.Memory }
     ensures words { result ≢ Status.Words }
     ensures platform { result ≡ Status.Platform → IsOfPlatform refusal }
-    ensures cause { HasCause (result ≡ Status.WriteFault) (result ≡ Status.ReadFault)
-        (O.faults out.new) (IsReadFault refusal) }
+    ensures cause { IsCallCause result (O.faults out.new) (IsReadFault refusal) }
 {
     match refusal {
         Refusal::Platform(fault) => say_made(platform_line(alloc, &fault), Status::Platform, out),

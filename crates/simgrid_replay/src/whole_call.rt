@@ -10,13 +10,13 @@ ghost use Rattle.sg_words.specs.Views.{job_view};
 ghost use Rattle.sg_edge.specs.Cause.{HasCause};
 ghost use Rattle.simgrid_replay.specs.PartSources.{request_of, AskFor, IsNamedBy, PartsGive, TextsGive};
 ghost use Rattle.simgrid_replay.specs.PartOrder.{AreBounded, IsTextBroken, SparesRest};
-ghost use Rattle.simgrid_replay.specs.kept.Reading.{TakesContexts, TakesParts};
-ghost use Rattle.simgrid_replay.specs.Outcome.{is_refusal, outcome, contexts_for, HasOutcome, IsWhole, TellsWords};
+ghost use Rattle.simgrid_replay.specs.kept.Reading.{ComesTo, IsCallCause, IsStart, TakesContexts, TakesParts};
+ghost use Rattle.simgrid_replay.specs.Outcome.{is_refusal, outcome, contexts_for, HasOutcome, IsWhole, ReportsWords};
 ghost use Rattle.simgrid_replay.specs.Settings.{platform_given, setting};
 ghost use Rattle.simgrid_replay.specs.Requests.{has_parts, has_script};
 
 use crate::job_run::run_job;
-use crate::reports::{refuse, tell_words};
+use crate::reports::{refuse, report_words};
 use crate::setups::prepare;
 use sg_actor::Actor;
 use sg_base::{Status, Steps};
@@ -36,16 +36,12 @@ fn do_job<R: Threads + Sync, F: Files, O: Sinks, L: Ledger>(
     crew: &mut Vec<Box<dyn Actor + Send>>,
     steps: &mut Steps<L>,
 ) -> Status
-    requires fresh { (part : Part) → (F.shows files.old part).stage ≡ Fresh }
+    requires start { IsStart (F.shows files.old) (λ b. mind b) crew.old.items }
     requires sound { O.faults out.old ≡ 0 }
-    requires blank { All (λ b. mind b ≡ None) crew.old.items }
     ensures output { (p d s : Source)
         → PartsGive (request_of job.now) (F.shows files.old) (F.shows files.new) p d s
-        → HasOutcome (outcome (job_view job.now) (length crew.old.items) p d s) result
-        (O.contents out.old) (O.contents out.new) steps.old steps.new }
-    ensures needed { (p d s : Source)
-        → PartsGive (request_of job.now) (F.shows files.old) (F.shows files.new) p d s
-        → IsReadOnDemand (outcome (job_view job.now) (length crew.old.items) p d s).need
+        → ComesTo (outcome (job_view job.now) (length crew.old.items) p d s) result
+        (O.contents out.old) (O.contents out.new) steps.old steps.new
         (F.shows files.old) (F.shows files.new) }
     ensures crew { TakesContexts (job_view job.now) result (F.shows files.old) (F.shows files.new)
         crew.old.items crew.new.items }
@@ -53,8 +49,8 @@ fn do_job<R: Threads + Sync, F: Files, O: Sinks, L: Ledger>(
         files.old files.new }
     ensures rest { SparesRest result (F.shows files.old) (F.shows files.new) }
     ensures words { result ≢ Status.Words }
-    ensures cause { HasCause (result ≡ Status.WriteFault) (result ≡ Status.ReadFault)
-        (O.faults out.new) (SomeBroke (F.shows files.old) (F.shows files.new)) }
+    ensures cause { IsCallCause result (O.faults out.new)
+        (SomeBroke (F.shows files.old) (F.shows files.new)) }
 {
     match prepare(alloc, files, job, crew.len()) {
         Ok(mut setup) => run_job(rt, alloc, job, &mut setup, files, out, crew, steps),
@@ -131,7 +127,7 @@ pub fn simgrid<R: Threads + Sync, F: Files, O: Sinks, L: Ledger>(
     // Help, the version, and what is wrong with the words: no part is begun, and nobody takes a
     // context.
     ensures refused { refusals (map string_bytes words.now) ≢ []
-        → TellsWords (refusals (map string_bytes words.now))
+        → ReportsWords (refusals (map string_bytes words.now))
         result (O.contents out.old) (O.contents out.new) }
     ensures untouched { refusals (map string_bytes words.now) ≢ [] → files.new ≡ files.old }
     ensures spared { refusals (map string_bytes words.now) ≢ [] → crew.new.items ≡ crew.old.items }
@@ -169,6 +165,6 @@ pub fn simgrid<R: Threads + Sync, F: Files, O: Sinks, L: Ledger>(
     accepted_words_have_a_job();
     match read_words(alloc, words) {
         Ok(job) => do_job(rt, alloc, &job, files, out, crew, steps),
-        Err(fault) => tell_words(fault, out),
+        Err(fault) => report_words(fault, out),
     }
 }

@@ -1,6 +1,7 @@
 -- What `Activities` keeps is of one mind.
 use Rattle.std.specs.Prelude.{◌≡◌, ◌≢◌, ℕ, ◌+◌, ◌*◌, ◌^◌, ◌<◌, ◌≤◌, Bool, true, false, Option, None, Some, IfSome, List, [], length, slice_index, sum_by, All, AllPairs, IsTrue, IsSome}
 use Rattle.sg_base.specs.declared.ids.LinkId.{LinkId}
+use Rattle.sg_base.specs.Limits.{IsPriority}
 use Rattle.sg_base.specs.MarkSet.{is_in}
 use Rattle.sg_heap.specs.Agenda.{key_at}
 use Rattle.sg_maxmin.specs.Fill.{share_of}
@@ -42,6 +43,7 @@ pub record IsHeld (s : State) (key : ℕ) (live : Live) : Type 0 where
   pub in_time : IfSome (due_of live.stamp live.kept live.rate) (λ due. s.date ≤ due)
   pub small : live.kept ≤ 10 ^ 24
   pub few_bytes : live.bytes ≤ 10 ^ 15
+  pub weighs : IsPriority live.weight
   pub paced : takes_share live.kind ≡ false → live.rate ≡ pace live.kind
   pub over : live.kind ≡ phase.Latency → IsWay s.capacities (links_at s.ways key)
   pub flow : IsTrue (takes_share live.kind) → HasFlow s key live

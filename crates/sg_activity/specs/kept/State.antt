@@ -66,7 +66,8 @@ task_from date links live = record {
   kind = live.kind;
   left = left_at live.kept live.rate live.stamp date;
   place = place_of live.kind live.host links;
-  bound = None;
+  weight = live.weight;
+  bound = live.bound;
   bytes = live.bytes;
 }
 

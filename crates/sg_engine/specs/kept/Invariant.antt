@@ -1,5 +1,5 @@
 -- What holds of a simulation between the parts of a run.
-use Rattle.std.specs.Prelude.{◌≡◌, ◌≤◌, ℕ, ⊤, List, [], length, All, Option, Some, MatchBool, vec_capacity}
+use Rattle.std.specs.Prelude.{◌≡◌, ◌≤◌, ℕ, ⊤, List, [], length, All, Option, Some, MatchBool, false, vec_capacity}
 use Rattle.sg_base.specs.Mind.{Mind}
 use Rattle.sg_actor.specs.Seats.{SeatView}
 use Rattle.sg_edge.specs.Cause.{HasCause}
@@ -9,6 +9,7 @@ use Rattle.sg_edge.specs.declared.files.Stage.TheVariants.{Broken}
 use Rattle.sg_edge.specs.declared.sinks.Stream.{Stream}
 use Rattle.sg_edge.specs.declared.sinks.Stream.TheVariants.{Out, Err}
 use Rattle.sg_rows.specs.Deployment.{Deployed, extent_of}
+use Rattle.sg_rows.specs.Ends.{link_ends}
 use Rattle.sg_rows.specs.Platform.{Platform}
 use Rattle.sg_script.specs.Known.{Known as Names, known_in}
 use Rattle.sg_script.specs.Stands.{kept_of}
@@ -17,13 +18,13 @@ use Rattle.sg_engine.specs.declared.ended.Ended.TheVariants as ended
 use Rattle.sg_engine.specs.declared.plan.Plan.{Plan}
 use Rattle.sg_engine.specs.declared.simulation.Simulation.{Simulation}
 use Rattle.sg_kernel.specs.Known.{Known}
-use Rattle.sg_kernel.specs.Start.{link_caps, setup_of}
+use Rattle.sg_kernel.specs.Start.{setup_of}
 use Rattle.sg_kernel.specs.World.{extent}
 use Rattle.sg_engine.specs.World.{World}
 use Rattle.sg_engine.specs.Output.{first_of}
 use Rattle.sg_engine.specs.kept.Moments.{Moment, moment, moment_in, names_of, part_at, script_in, cuts, Fits, StandsFor}
 use Rattle.sg_engine.specs.kept.SeatRules.{IsSeated, minds_of}
-use Rattle.sg_engine.specs.Run.{Answering, Progress, work_behind}
+use Rattle.sg_engine.specs.Run.{Answering, Progress, are_completed, work_behind}
 use Rattle.sg_engine.specs.kept.Stretches.{Trace, trace_in, Advances, CutsOff}
 use Rattle.sg_engine.specs.kept.Writing.{Pending, pending}
 use Rattle.sg_route.specs.Roads.{Roads, roads_of}
@@ -69,7 +70,7 @@ pub record IsKept (deployed : Deployed) (part : PartView) (sim : Simulation) (pl
 -- the router has the routes of the platform, over its links
 pub record AreRoadsOf (platform : Platform) (roads : Roads) : Type 0 where
   pub are : roads ≡ roads_of platform
-  pub over : AreOver (length (link_caps platform.links)) roads
+  pub over : AreOver (length (link_ends platform.links)) roads
 
 -- the simulation of a setup at its beginning, with nothing of the script taken and no line that waits
 pub record IsFirst (platform : Platform) (deployed : Deployed) (budget : ℕ) (part : PartView) (sim : Simulation) (places : List SeatView) : Type 0 where
@@ -77,6 +78,11 @@ pub record IsFirst (platform : Platform) (deployed : Deployed) (budget : ℕ) (p
   pub setup : sim.kernel.setup ≡ setup_of platform deployed budget
   pub stands : StandsFor (known_in deployed) [] (minds_of places) (at_moment part sim) (first_of platform deployed budget)
   pub empty : sim.buffer ≡ []
+
+-- the beginning of the run of a plan: the simulation of its setup, over the roads of its platform
+pub record IsBeginning (plan : Plan) (shows : Part → PartView) (router : Roads) (sim : Simulation) (places : List SeatView) : Type 0 where
+  pub first : IsFirst plan.platform.now plan.deployment.now plan.terms.budget (script_in plan shows) sim places
+  pub roads : AreRoadsOf plan.platform.now router
 
 -- what a part of a run has done
 abbrev pub PartIs : ℕ → Names → Trace → (Answering → Progress) → Option Ended → List ℕ → List (Option Mind) → Moment → Moment → Pending → Pending → Type 0
@@ -89,6 +95,12 @@ Holds plan shows sim places = IsKept plan.deployment.now (script_in plan shows) 
 
 abbrev pub FitsNow : Plan → (Part → PartView) → Simulation → Type 0
 FitsNow plan shows sim = Fits plan.deployment.now (now_at plan shows sim)
+
+-- a part more can be made: somebody hasn't ended
+pub record CanAdvance (plan : Plan) (shows : Part → PartView) (router : Roads) (sim : Simulation) (places : List SeatView) : Type 0 where
+  pub kept : Holds plan shows sim places
+  pub roads : AreOver sim.kernel.setup.links router
+  pub going : are_completed sim.kernel.core ≡ false
 
 -- behind a part that didn't cut the run off all of that holds again, of the same setup
 pub record StaysKept (plan : Plan) (how : Option Ended) (shows : Part → PartView) (old new : Simulation) (places : List SeatView) : Type 0 where

@@ -4,10 +4,11 @@ use Rattle.sg_base.specs.declared.awaits.Await.{Await}
 use Rattle.sg_base.specs.declared.ids.ActorId.{ActorId}
 use Rattle.sg_base.specs.declared.ids.BoxId.{BoxId}
 use Rattle.sg_base.specs.declared.ids.PointId.{PointId}
-use Rattle.sg_base.specs.Limits.{Extent, IsActorIn, IsActorNumber, IsAmount, IsMsg}
+use Rattle.sg_base.specs.Limits.{Extent, IsActorIn, IsActorNumber, IsAmount, IsMsg, IsRate}
 use Rattle.sg_mailbox.specs.declared.sides.Side.{Side}
 use Rattle.sg_mailbox.specs.Posts.{waiting}
 use Rattle.sg_route.specs.Roads.{Roads}
+use Rattle.sg_rows.specs.Network.{IsNetwork}
 use Rattle.sg_states.specs.Actors.{is_held}
 use Rattle.sg_states.specs.Records.{IsTellable}
 use Rattle.sg_sync.specs.Objects as sync
@@ -28,6 +29,7 @@ abbrev pub setup_in : Fields → Setup
 setup_in fields = record {
   hosts = fields.hosts;
   links = fields.links;
+  network = fields.network;
   homes = map point_number fields.homes.items;
   mutexes = fields.mutexes;
   semaphores = fields.semaphores.items;
@@ -77,6 +79,7 @@ pub record IsSound (fields : Fields) : Type 0 where
   pub requests_known : length fields.requests.queues ≡ length fields.states.actors
   pub requests_few : fields.requests.asked ≤ fields.events
   pub extent_is : fields.states.extent ≡ extent (setup_in fields)
+  pub network_kept : IsNetwork fields.network
 
 -- there is room for what so many calls begin
 pub record HasRoom (room : ℕ) (fields : Fields) : Type 0 where
@@ -94,6 +97,7 @@ pub record IsSide (extent : Extent) (side : Side) : Type 0 where
   pub actor : IsActorIn extent side.actor
   pub bytes : IsAmount side.bytes
   pub message : IsMsg side.msg
+  pub rate : IsRate side.rate
 
 -- one that comes: a record may tell its call, and its side keeps to the limits
 pub record IsComer (extent : Extent) (comer : Comer) : Type 0 where

@@ -1,10 +1,18 @@
--- How queues are kept: each is a ring of nodes, its head and its slots, linked both ways.
-use Rattle.std.specs.Prelude.{◌≡◌, ◌≢◌, ℕ, zero, suc, ◌<◌, ◌==◌, Bool, true, false, if◌then◌else◌, List, [], ◌∷◌, length, map, slice_index_or, AllPairs}
-use Rattle.sg_queues.specs.Rings.{is_in, IsSlot, moved}
+-- How slots are kept: each row is a ring of nodes, its head and its slots, linked both ways.
+use Rattle.std.specs.Prelude.{◌≡◌, ◌≢◌, ℕ, zero, suc, ◌<◌, ◌==◌, Bool, false, if◌then◌else◌, List, [], ◌∷◌, ◌++◌, length, map, slice_index_or}
+use Rattle.sg_queues.specs.Rings.{is_in, queue_at, without, AreApart}
 
 -- what a node is linked to; what is no node, to itself
 abbrev pub at : List ℕ → ℕ → ℕ
 at links node = slice_index_or links node node
+
+-- the head of this row
+abbrev pub head_at : List ℕ → ℕ → ℕ
+head_at heads row = slice_index_or heads row 0
+
+-- a row without the slot, or with the slot at its end
+abbrev pub moved : ℕ → Bool → List ℕ → List ℕ
+moved slot joins row = without slot row ++ (if joins then slot ∷ [] else [])
 
 -- the links lead from a node over these ones to a last one
 abbrev pub Path : (ℕ → ℕ) → ℕ → List ℕ → ℕ → Type 0
@@ -24,10 +32,13 @@ abbrev pub queues_of : List ℕ → List ℕ → List (List ℕ)
 queues_of next heads = map (ring next) heads
 
 -- each link has its link back
-pub record AreInverse (next prev : List ℕ) : Type 0 where
+pub record AreInverse (next prev : ℕ → ℕ) : Type 0 where
+  pub forth : (node : ℕ) → next (prev node) ≡ node
+  pub back : (node : ℕ) → prev (next node) ≡ node
+
+pub record AreLinked (next prev : List ℕ) : Type 0 where
   pub len : length prev ≡ length next
-  pub forth : (node : ℕ) → at next (at prev node) ≡ node
-  pub back : (node : ℕ) → at prev (at next node) ≡ node
+  pub inverse : AreInverse (at next) (at prev)
 
 -- two nodes have exchanged what they lead to
 pub record IsExchanged (old new : List ℕ) (a b : ℕ) : Type 0 where
@@ -42,12 +53,8 @@ pub record IsShifted (old new : List ℕ) (slot head : ℕ) : Type 0 where
   pub paths : (from : ℕ) (nodes : List ℕ) → from ≢ slot → is_in head nodes ≡ false → Path (at old) from nodes from
       → Path (at new) from (moved slot (from == head) nodes) from
 
--- The rings of the heads: each leads back to its head, and a slot is in one of them at most, and once there.
-pub record AreRings (next prev heads : List ℕ) (ring : ℕ → List ℕ) : Type 0 where
-  pub inverse : AreInverse next prev
-  pub below : (head : ℕ) → is_in head heads ≡ true → head < length next
-  pub distinct : AllPairs (λ a b. a ≢ b) heads
-  pub paths : (head : ℕ) → is_in head heads ≡ true → Path (at next) head (ring head) head
-  pub slots : (head slot : ℕ) → is_in head heads ≡ true → is_in slot (ring head) ≡ true → IsSlot (length next) heads slot
-  pub once : (head : ℕ) → is_in head heads ≡ true → AllPairs (λ a b. a ≢ b) (ring head)
-  pub apart : (p q slot : ℕ) → is_in p heads ≡ true → is_in q heads ≡ true → is_in slot (ring p) ≡ true → is_in slot (ring q) ≡ true → p ≡ q
+-- The links lead from the head of each row over its slots back to the head.
+pub record AreRings (next prev heads : List ℕ) (rows : List (List ℕ)) : Type 0 where
+  pub links : AreLinked next prev
+  pub paths : (row : ℕ) → row < length heads → Path (at next) (head_at heads row) (queue_at rows row) (head_at heads row)
+  pub apart : AreApart (length next) heads rows

@@ -1,10 +1,8 @@
 -- What the code has collected of the names of a tree.
-use Rattle.std.specs.Prelude.{ℕ, ◌+◌, ◌<◌, ◌^◌, List}
 use Rattle.std.specs.HashMap.{get_by, get_by_text}
-use Rattle.std.specs.Option.{ForSome}
 use Rattle.sg_rules.specs.Names.{Known}
 use Rattle.sg_rules.specs.declared.names.Names.{Names}
-use Rattle.sg_tree.specs.Names.{Finds, pair_eq}
+use Rattle.sg_tree.specs.Names.{pair_eq}
 
 -- what the code has collected
 abbrev pub names_view : Names → Known
@@ -22,13 +20,3 @@ names_view names = record {
   mutexes = λ q. get_by_text names.mutexes q;
   semaphores = λ q. get_by_text names.semaphores q;
 }
-
--- each number fits 32 bits
-abbrev pub FitsIn32 : Finds → Type 0
-FitsIn32 found = (name : List ℕ) → ForSome (found name) (λ i. i < 2 ^ 32)
-
--- so does each that a row keeps; actors are numbered from 1 on
-pub record AreSmall (names : Known) : Type 0 where
-  pub points : FitsIn32 names.points
-  pub links : FitsIn32 names.links
-  pub workers : (name : List ℕ) → ForSome (names.workers name) (λ row. row + 1 < 2 ^ 32)

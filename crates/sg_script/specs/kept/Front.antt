@@ -23,7 +23,7 @@ pub record Leads (known : Known) (before : ℕ) (bytes : List ℕ) (len end : �
       others ≡ judgements known (before + 1) (drop end bytes ++ rest) broken
   pub needs : (actor later : ℕ) (said : Option Entry) →
       judgement_of known (before + 1) (take len bytes) ≡ Ok said →
-      need_from known broken actor before (bytes ++ rest) (own_actions actor said + later)
+      need_from known broken actor before (bytes ++ rest) (own_actions known actor said + later)
       ≡ end + need_from known broken actor (before + 1) (drop end bytes ++ rest) later
 
 -- no line is whole, and none is bad however it goes on

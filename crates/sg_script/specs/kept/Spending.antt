@@ -6,15 +6,15 @@ use Rattle.sg_script.specs.Known.{Known}
 use Rattle.sg_script.specs.Needed.{need_from}
 use Rattle.sg_script.specs.Rest.{May}
 use Rattle.sg_script.specs.Stands.{Kept}
-use Rattle.sg_script.specs.kept.Queues.{queue_at}
+use Rattle.sg_script.specs.kept.Queues.{waits}
 
 -- A piece was read, lines with so many actions of each actor were taken off the front, and so many
 -- Asks of each were answered: what is needed behind these actions is less by what was taken off.
 pub record Spends (known : Known) (stage : Stage) (piece : List ℕ) (asked : ℕ → ℕ)
     (old new : Kept) : Type 0 where
   pub own : ℕ → ℕ
-  pub queued : (actor : ℕ) → asked actor + length (queue_at new.queues actor)
-      ≡ length (queue_at old.queues actor) + own actor
+  pub queued : (actor : ℕ) → asked actor + length (waits known.members new.queues actor)
+      ≡ length (waits known.members old.queues actor) + own actor
   pub cost : (rest : List ℕ) (broken : Bool) → May stage rest broken → (actor later : ℕ) →
       need_from known broken actor old.lines (old.pending ++ (piece ++ rest)) (own actor + later)
       + length new.pending
@@ -27,4 +27,4 @@ pub record IsThrifty (known : Known) (actor : ℕ) (stage : Stage) (piece : List
     (old : Kept) : Type 0 where
   pub near : (rest : List ℕ) (broken : Bool) → May stage rest broken →
       IsNear known actor piece old rest broken
-  pub idle : queue_at old.queues actor ≢ [] → piece ≡ []
+  pub idle : waits known.members old.queues actor ≢ [] → piece ≡ []

@@ -1,15 +1,16 @@
 -- The steps by which an Ask is answered: taking a line, and reading a piece.
-use Rattle.std.specs.Prelude.{◌≡◌, ℕ, Bool, ◌+◌, ◌-◌, ◌++◌, List, [], length, Option, Result, ◌≢◌, ◌<◌, suc, Ok, Err, ◌≤◌, ◌*◌, ◌∷◌, slice_set, None, Some, drop, ⊤}
+use Rattle.std.specs.Prelude.{◌≡◌, ℕ, Bool, ◌+◌, ◌-◌, ◌++◌, List, [], length, Option, Result, ◌≢◌, ◌<◌, suc, Ok, Err, ◌≤◌, ◌*◌, slice_set, None, Some, drop, IfNone, ⊤}
 use Rattle.sg_edge.specs.Files.{PartView}
 use Rattle.sg_edge.specs.declared.files.Stage.{Stage}
 use Rattle.sg_base.specs.declared.call.Action.{Action}
 use Rattle.sg_script.specs.Known.{Known}
 use Rattle.sg_script.specs.declared.fault.ScriptFault.{ScriptFault}
 use Rattle.sg_script.specs.Rest.{May}
-use Rattle.sg_script.specs.kept.Queues.{queue_at}
+use Rattle.sg_script.specs.kept.Queues.{queue_at, waits, with_first, with_line}
 use Rattle.sg_edge.specs.declared.files.Stage.TheVariants.{Fresh, Broken, Begun, Over}
 use Rattle.sg_script.specs.declared.fault.ScriptFault.TheVariants.{Line, Read, Memory}
 use Rattle.sg_script.specs.declared.line.Entry.{Entry}
+use Rattle.sg_script.specs.declared.waiting.Waiting.{Waiting}
 use Rattle.sg_script.specs.Line.{Judgement}
 use Rattle.sg_script.specs.Stands.{Kept, answer_from, one_more, Reads, IsRead}
 use Rattle.sg_script.specs.kept.Spending.{IsThrifty, Spends}
@@ -85,44 +86,55 @@ to_do stage kept = (100000000 - kept.lines) * 20000 + (8192 - length kept.pendin
 abbrev pub StepIs : Known → ℕ → Option (Result (Option Action) ScriptFault) → PartView → PartView →
     Kept → Kept → Type 0
 StepIs known actor None old_part new_part old new = Goes known actor old_part new_part old new
-    × (queue_at new.queues actor ≡ []) × (to_do new_part.stage new < to_do old_part.stage old)
+    × (waits known.members new.queues actor ≡ [])
+    × (to_do new_part.stage new < to_do old_part.stage old)
 StepIs known actor (Some answer) old_part new_part old new =
     Ends known actor answer old_part new_part old new × IsRead answer new_part
 
 -- the queues with what a line said
-abbrev pub queues_with : Option Entry → List (List Action) → List (List Action)
+abbrev pub queues_with : Option Entry → List (List Waiting) → List (List Waiting)
 queues_with None queues = queues
-queues_with (Some entry) queues =
-    slice_set queues entry.actor.0 (queue_at queues entry.actor.0 ++ entry.action ∷ [])
+queues_with (Some entry) queues = with_line entry.actor.0 entry.operation queues
 
--- an entry is another actor's, which has a queue
-abbrev pub IsOther : ℕ → ℕ → Option Entry → Type 0
-IsOther actors actor None = ⊤
-IsOther actors actor (Some entry) = (entry.actor.0 ≢ actor) × (entry.actor.0 < actors)
+-- the actor of an entry has a queue
+abbrev pub HasQueue : ℕ → Option Entry → Type 0
+HasQueue actors None = ⊤
+HasQueue actors (Some entry) = entry.actor.0 < actors
 
 -- the line's bytes are gone
-pub record Passes (queues : List (List Action)) (end : ℕ) (old new : Kept) : Type 0 where
+pub record Passes (queues : List (List Waiting)) (end : ℕ) (old new : Kept) : Type 0 where
   pub queued : new.queues ≡ queues
   pub lines : new.lines ≡ old.lines + 1
   pub pending : new.pending ≡ drop end old.pending
 
--- an action of the actor with that identifier
-abbrev pub its_entry : ℕ → Action → Entry
-its_entry actor action = record { actor = record { 0 = actor }; action = action }
+-- what taking a line of that judgement did: without a fault it went to its actor's queue, or was
+-- passed over
+abbrev pub LineIs : Judgement → ℕ → Option ScriptFault → Kept → Kept → Type 0
+LineIs said end None old new = (entry : Option Entry) × (said ≡ Ok entry)
+    × HasQueue (length old.queues) entry × Passes (queues_with entry old.queues) end old new
+LineIs said end (Some (Line n kind)) old new =
+    (said ≡ Err kind) × (n ≡ old.lines + 1) × (new ≡ old)
+LineIs said end (Some Read) old new = ⊥
+LineIs said end (Some Memory) old new = new ≡ old
 
--- what taking a line of that judgement did: without an answer it went to another actor's queue,
--- or was passed over
-abbrev pub LineIs : Judgement → ℕ → ℕ → Option (Result (Option Action) ScriptFault) → Kept → Kept →
-    Type 0
-LineIs said actor end (Some (Ok (Some action))) old new =
-    (said ≡ Ok (Some (its_entry actor action))) × Passes old.queues end old new
-LineIs said actor end (Some (Ok None)) old new = ⊥
-LineIs said actor end None old new = (other : Option Entry) × (said ≡ Ok other)
-    × IsOther (length old.queues) actor other × Passes (queues_with other old.queues) end old new
-LineIs said actor end (Some (Err (Line n kind))) old new = (said ≡ Err kind) × (n ≡ old.lines + 1)
-    × (new ≡ old)
-LineIs said actor end (Some (Err Read)) old new = ⊥
-LineIs said actor end (Some (Err Memory)) old new = new ≡ old
+-- the first action that waits for an actor was taken, if one does
+pub record Pops (known : Known) (actor : ℕ) (first : Option Action) (old new : Kept) : Type 0 where
+  pub first_is : waits known.members old.queues actor
+      ≡ with_first first (waits known.members new.queues actor)
+  pub empty : IfNone first (waits known.members old.queues actor ≡ [])
+  pub others : new.queues ≡ slice_set old.queues actor (queue_at new.queues actor)
+  pub lines : new.lines ≡ old.lines
+  pub pending : new.pending ≡ old.pending
+
+-- what a line did for an Ask: it was taken, and then the first action that waits for the actor
+abbrev pub LineTells : Known → Judgement → ℕ → ℕ → Option (Result (Option Action) ScriptFault) →
+    Kept → Kept → Type 0
+LineTells known said end actor None old new = (mid : Kept) × LineIs said end None old mid
+    × Pops known actor None mid new
+LineTells known said end actor (Some (Ok None)) old new = ⊥
+LineTells known said end actor (Some (Ok (Some action))) old new =
+    (mid : Kept) × LineIs said end None old mid × Pops known actor (Some action) mid new
+LineTells known said end actor (Some (Err fault)) old new = LineIs said end (Some fault) old new
 
 -- what reading one piece did
 pub record ReadIs (old_part new_part : PartView) (old new : Kept) : Type 0 where

@@ -1,7 +1,7 @@
--- How queues of actors are kept: each actor is a slot, of its own number. The first queue has those that wait nowhere.
-use Rattle.std.specs.Prelude.{◌≡◌, ℕ, ◌+◌, ◌<◌, ◌≤◌, List, length, map, drop}
+-- How queues of actors are kept: each actor is a slot, of its own number. Those that wait nowhere are idle.
+use Rattle.std.specs.Prelude.{◌≡◌, ℕ, ◌+◌, ◌<◌, ◌≤◌, List, length, map}
 use Rattle.sg_base.specs.declared.ids.ActorId.{ActorId}
-use Rattle.sg_queues.specs.Rings.{Rings, AreApart, IsSlot}
+use Rattle.sg_queues.specs.Rings.{Rings, IsApart, IsSlot}
 
 abbrev pub actor_of : ℕ → ActorId
 actor_of slot = record { 0 = slot }
@@ -10,7 +10,7 @@ abbrev pub actors_in : List ℕ → List ActorId
 actors_in slots = map actor_of slots
 
 abbrev pub waiting_in : List (List ℕ) → List (List ActorId)
-waiting_in queues = map actors_in (drop 1 queues)
+waiting_in queues = map (map actor_of) queues
 
 -- the slots are the actors
 pub record AreActors (actors nodes : ℕ) (heads : List ℕ) : Type 0 where
@@ -18,7 +18,6 @@ pub record AreActors (actors nodes : ℕ) (heads : List ℕ) : Type 0 where
   pub all : (slot : ℕ) → IsSlot nodes heads slot → slot ≤ actors
 
 pub record AreKept (actors : ℕ) (rings : Rings) : Type 0 where
-  pub apart : AreApart rings
-  pub some : 0 < length rings.queues
-  pub nodes : rings.nodes ≡ actors + length rings.queues
+  pub apart : IsApart rings
+  pub nodes : rings.nodes ≡ actors + length rings.queues + 1
   pub slots : AreActors actors rings.nodes rings.heads

@@ -1,21 +1,39 @@
 -- What the steps of a call do to the parts and the contexts, in the order in which they are judged.
-use Rattle.std.specs.Prelude.{◌≡◌, ◌≢◌, ◌<◌, ℕ, Bool, false, List, length, drop, ⊤, Result, IsErr, IsOk, IfErr, IsTrue}
+use Rattle.std.specs.Prelude.{◌≡◌, ◌≢◌, ◌<◌, ℕ, Bool, false, List, All, length, drop, ⊤, Option, None, Result, IsErr, IsOk, IfErr, IsTrue}
+use Rattle.sg_base.specs.Mind.{Mind}
 use Rattle.sg_base.specs.declared.status.Status.{Status}
 use Rattle.sg_base.specs.declared.status.Status.TheVariants as status
+use Rattle.sg_edge.specs.Cause.{HasCause}
 use Rattle.sg_edge.specs.Files.{PartView, KeepsTelling, Only, SameFrom, SomeBroke}
 use Rattle.sg_edge.specs.Sources.{Source, Gives}
 use Rattle.sg_edge.specs.declared.files.Part.{Part}
 use Rattle.sg_edge.specs.declared.files.Part.TheVariants as part
-use Rattle.sg_edge.specs.declared.files.Stage.TheVariants.{Broken}
+use Rattle.sg_edge.specs.declared.files.Stage.TheVariants.{Fresh, Broken}
+use Rattle.sg_edge.specs.declared.sinks.Stream.{Stream}
+use Rattle.sg_engine.specs.RunContract.{IsReadOnDemand}
 use Rattle.sg_words.specs.CommandLine.{Asked, Request}
 use Rattle.simgrid_replay.specs.PartOrder.{AreBounded, IsTextBroken}
 use Rattle.simgrid_replay.specs.PartSources.{IsNamedBy, TextsGive}
-use Rattle.simgrid_replay.specs.Outcome.{is_refusal, contexts_for}
+use Rattle.simgrid_replay.specs.Outcome.{Outcome, HasOutcome, is_refusal, contexts_for}
 use Rattle.simgrid_replay.specs.Settings.{platform_given, setting}
 use Rattle.simgrid_replay.specs.Requests.{has_parts, has_script}
 use Rattle.simgrid_replay.specs.declared.refusal.Refusal.{Refusal}
 use Rattle.simgrid_replay.specs.declared.refusal.Refusal.TheVariants as refusal
 use Rattle.sg_engine.specs.declared.setup.Setup.{Setup}
+
+-- Nothing was done yet: no part is begun, and all contexts are blank.
+pub record IsStart {A : Type 0} (shows : Part → PartView) (mind : A → Option Mind) (crew : List A) : Type 0 where
+  pub fresh : (which : Part) → (shows which).stage ≡ Fresh
+  pub blank : All (λ context. mind context ≡ None) crew
+
+-- why a call ended by a failed write, or by a failed read of what broke
+abbrev pub IsCallCause : Status → ℕ → Type 0 → Type 0
+IsCallCause how faults broke = HasCause (how ≡ status.WriteFault) (how ≡ status.ReadFault) faults broke
+
+-- What a call has come to: its outcome, with less than a piece more of the script taken than its Asks need.
+pub record ComesTo (want : Outcome) (how : Status) (old new : Stream → Option (List ℕ)) (start count : ℕ) (before after : Part → PartView) : Type 0 where
+  pub outcome : HasOutcome want how old new start count
+  pub needed : IsReadOnDemand want.need before after
 
 -- this part is broken, and its count rose
 abbrev pub Broke : Part → (Part → PartView) → (Part → PartView) → Type 0

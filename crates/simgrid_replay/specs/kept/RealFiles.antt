@@ -8,8 +8,8 @@ use Rattle.sg_edge.specs.Files.{PartView, NoneLeft}
 use Rattle.sg_edge.specs.Files.{fault_count}
 use Rattle.simgrid_replay.specs.declared.real_files.RealPart.{RealPart}
 use Rattle.simgrid_replay.specs.declared.real_files.RealFiles.{RealFiles}
-use Rattle.simgrid_replay.specs.declared.real_files.Source.{Source}
-use Rattle.simgrid_replay.specs.declared.real_files.Source.TheVariants.{Closed, Opened, Input}
+use Rattle.simgrid_replay.specs.declared.real_files.Origin.{Origin}
+use Rattle.simgrid_replay.specs.declared.real_files.Origin.TheVariants.{Closed, Opened, Input}
 
 -- a part of this name is standard input: the script alone, under the name `-`
 abbrev pub is_input : Part → List ℕ → Bool
@@ -17,7 +17,7 @@ is_input Platform name = false
 is_input Deployment name = false
 is_input Script name = bytes_eq name (codes "-")
 
-abbrev pub comes_from_input : Source → Bool
+abbrev pub comes_from_input : Origin → Bool
 comes_from_input Closed = false
 comes_from_input (Opened file) = false
 comes_from_input Input = true

@@ -1,6 +1,9 @@
 -- The setup of a setting.
 use Rattle.std.specs.Prelude.{◌≡◌, ◌≢◌, ◌≤◌, ℕ, Bool, length, Result, Ok, Err}
 use Rattle.sg_engine.specs.declared.setup.Setup.{Setup}
+use Rattle.sg_words.specs.declared.job.Job.{Job}
+use Rattle.simgrid_replay.specs.PartSources.{request_of}
+use Rattle.simgrid_replay.specs.Requests.{has_script}
 use Rattle.simgrid_replay.specs.Settings.{Setting}
 use Rattle.simgrid_replay.specs.declared.refusal.Refusal.{Refusal}
 use Rattle.simgrid_replay.specs.declared.refusal.Refusal.TheVariants as refusal
@@ -17,3 +20,7 @@ IsSetupOf given (Err why) = why ≢ refusal.Memory → given ≡ Err why
 pub record IsSetupFor (scripted : Bool) (contexts : ℕ) (setup : Setup) : Type 0 where
   pub script : setup.script ≡ scripted
   pub seated : length setup.deployment.actors ≤ contexts
+
+-- the same of a job
+abbrev pub IsSetupOfJob : Job → ℕ → Setup → Type 0
+IsSetupOfJob job contexts setup = IsSetupFor (has_script (request_of job)) contexts setup

@@ -17,7 +17,6 @@ use Rattle.sg_activity.specs.kept.Turns.{Turns}
 use Rattle.sg_activity.proofs.Pairing.{there_within}
 use Rattle.sg_activity.proofs.Roomy.{ahead_set, ahead_counted}
 use Rattle.sg_activity.proofs.Routed.{way_is_flow}
-use Rattle.sg_activity.proofs.Times.{sooner_never}
 use Rattle.sg_activity.proofs.Told.{new_mark}
 use Rattle.sg_activity.proofs.Turned.{turned}
 use Rattle.sg_activity.proofs.Turning.{begun_state, state_same, flow_turns, flow_begins, flow_under}
@@ -46,8 +45,8 @@ uses_of-uses-requires-clause-few c =
     let way = way_of kept c.args.key c.args.live c.requires.sound c.requires.at c.requires.kind in
     omega (arith, way.few, ap length route)
 
-pub bound_of-bound-requires : goal.bound_of-bound-requires
-bound_of-bound-requires c =
+pub bound_of-requires : goal.bound_of-requires
+bound_of-requires c =
     let kept = c.args.kept.now in
     let route = c.route-route.ensures ∙ read kept c.args.key c.args.live c.index.result.now c.requires.sound c.requires.at c.index.ensures in
     let way = way_of kept c.args.key c.args.live c.requires.sound c.requires.at c.requires.kind in
@@ -64,9 +63,15 @@ start-flow-requires-clause-flow c =
     let hosts : c.len.result ≡ length kept.hosts.items = c.len.ensures ∙ kept.hosts.ok.0 in
     let uses : c.as_slice.result.now ≡ shared_of (length kept.hosts.items) kept.links.items links = c.as_slice.ensures.value ∙ c.uses_of-uses.ensures ∙ ap (λ n. shared_of n c.deref.result.now c.route-route.result.now) hosts
     ∙ ap₂ (shared_of (length kept.hosts.items)) c.deref.ensures.value route in
-    let bound : c.bound_of-bound.result ≡ sooner (route_bound kept.links.items links) None = c.bound_of-bound.ensures ∙ ap₂ route_bound c.deref-2.ensures.value route ∙ sym (sooner_never (route_bound kept.links.items links)) in
-    subst (λ l. IsFlow l (flow c.as_slice.result.now 1 c.bound_of-bound.result)) (sym c.requires.sound.room.capacities)
-    (subst (IsFlow (capacities_of s.capacities)) (sym (ap₂ (λ u b. flow u 1 b) uses bound)) (way_is_flow s.capacities links way))
+    let bound : c.tighter-bound.result ≡ sooner (route_bound kept.links.items links) c.args.live.bound = c.tighter-bound.ensures ∙ ap (λ b. sooner b c.args.live.bound) (c.bound_of.ensures ∙ ap₂ route_bound c.deref-2.ensures.value route) in
+    let weighs = (c.requires.sound.are.each c.args.key c.args.live c.requires.at).weighs in
+    subst (λ l. IsFlow l (flow c.as_slice.result.now c.args.live.weight c.tighter-bound.result)) (sym c.requires.sound.room.capacities)
+    (subst (IsFlow (capacities_of s.capacities)) (sym (ap₂ (λ u b. flow u c.args.live.weight b) uses bound)) (way_is_flow s.capacities links c.args.live.weight c.args.live.bound way weighs))
+
+pub overflow_mul-from : goal.overflow_mul-from
+overflow_mul-from c =
+    let small = (c.requires.sound.are.each c.args.key c.args.live c.requires.at).few_bytes in
+    omega (arith, c.from.ensures, small)
 
 pub returns : goal.returns
 returns c =
@@ -82,19 +87,20 @@ returns c =
     let hosts : c.len.result ≡ length kept.hosts.items = c.len.ensures ∙ kept.hosts.ok.0 in
     let uses : c.as_slice.result.now ≡ shared_of (length kept.hosts.items) kept.links.items links = c.as_slice.ensures.value ∙ c.uses_of-uses.ensures ∙ ap (λ n. shared_of n c.deref.result.now c.route-route.result.now) hosts
     ∙ ap₂ (shared_of (length kept.hosts.items)) c.deref.ensures.value route in
-    let bound : c.bound_of-bound.result ≡ sooner (route_bound kept.links.items links) None = c.bound_of-bound.ensures ∙ ap₂ route_bound c.deref-2.ensures.value route ∙ sym (sooner_never (route_bound kept.links.items links)) in
-    let asked : Flow = flow (shared_of (length kept.hosts.items) kept.links.items links) 1 (sooner (route_bound kept.links.items links) None) in
+    let bound : c.tighter-bound.result ≡ sooner (route_bound kept.links.items links) c.args.live.bound = c.tighter-bound.ensures ∙ ap (λ b. sooner b c.args.live.bound) (c.bound_of.ensures ∙ ap₂ route_bound c.deref-2.ensures.value route) in
+    let weighs = (sound.are.each key old c.requires.at).weighs in
+    let asked : Flow = flow (shared_of (length kept.hosts.items) kept.links.items links) old.weight (sooner (route_bound kept.links.items links) old.bound) in
     let run : RunningFlow = record { flow = asked; rate = 0; began = true } in
     let live : Live = record old { kind = phase.Flow; kept = old.bytes * 1000000000; stamp = kept.date; rate = 0; flow = id } in
     let within = there_within s.slots key old c.requires.at in
     let keys_in : key < length s.keys = omega (arith, within, sound.room.agenda_long) in
     let by_in : id < length s.by_flow = omega (arith, c.start-flow.ensures.in_range, sound.room.by_flow_long) in
     let starts = c.start-flow.ensures.starts in
-    let runs : c.start-flow.new.self.slots ≡ set s.runs id (Some run) = ap (λ (l : Lazily). l.slots) starts ∙ ap₂ (λ u b. set s.runs id (Some (record { flow = flow u 1 b; rate = 0; began = true }))) uses bound in
+    let runs : c.start-flow.new.self.slots ≡ set s.runs id (Some run) = ap (λ (l : Lazily). l.slots) starts ∙ ap₂ (λ u b. set s.runs id (Some (record { flow = flow u old.weight b; rate = 0; began = true }))) uses bound in
     let lives : c.set.new.self.slots ≡ set s.slots key (Some live) = c.set.ensures.slots ∙ ap (λ n. set s.slots key (Some (record old { kind = phase.Flow; kept = n * 1000000000; stamp = kept.date; rate = 0; flow = id }))) c.from.ensures in
     let new : State = begun_state s s.drawn key live s.ways (set s.keys key None) (set s.runs id (Some run)) (set s.by_flow id key) in
     let turns : Turns s new key live.serial (Some live) =
-    flow_turns s s.drawn key live (set s.keys key None) sound.are (flow_begins s key old live sound.are c.requires.at c.requires.kind within keys_in refl refl refl refl) refl refl c.start-flow.ensures.free c.start-flow.ensures.in_range by_in (way_is_flow s.capacities links way).limit in
+    flow_turns s s.drawn key live (set s.keys key None) sound.are (flow_begins s key old live sound.are c.requires.at c.requires.kind within keys_in refl refl refl refl refl) refl refl c.start-flow.ensures.free c.start-flow.ensures.in_range by_in (way_is_flow s.capacities links old.weight old.bound way weighs).limit in
     let state_is = state_same s s.drawn false c.set.new.self.slots (set s.slots key (Some live)) s.ways s.ways c.clear.new.self (set s.keys key None) c.start-flow.new.self.slots (set s.runs id (Some run)) (set s.by_flow id key) (set s.by_flow id key) c.insert.new.self.members (s.fresh ++ key ∷ []) c.start-flow.new.self.ended s.ended
     lives refl c.clear.ensures runs refl (ap (λ (m : MarkSet). m.members) c.insert.ensures ∙ new_mark key s.fresh c.requires.stale) (ap (λ (l : Lazily). l.ended) starts) in
     let counted = ahead_counted s.slots key old within c.requires.at in

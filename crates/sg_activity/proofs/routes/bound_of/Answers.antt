@@ -11,7 +11,7 @@ loop-link-preserved c =
     let route = c.args.route.now in
     let i = c.loop-link.link-index in
     ap (λ b. sooner b (route_bound links (drop (i + 1) route)))
-    (c.tighter-bound.ensures ∙ ap (λ l. sooner c.loop-link.bound (bound_of_link l)) (get_or_default links _ _ _ (c.requires i _ c.loop-link-test.true)))
+    (c.tighter-bound.ensures ∙ ap (sooner c.loop-link.bound) (c.own_bound.ensures ∙ ap bound_of_link (get_or_default links _ _ _ (c.requires i _ c.loop-link-test.true))))
     ∙ sym (bound_more links c.loop-link.bound route i _ c.loop-link-test.true)
     ∙ c.loop-link.invariant
 

@@ -14,11 +14,11 @@ use Rattle.std.specs.Prelude.{slice_index}
 use Rattle.sg_base.proofs.laws.turns_keep_limits.Goals as goal
 
 action_call : (extent : Extent) (me : ActorId) (what : Action) → IsActorIn extent me → IsAction extent what → IsCall extent (call_of me what)
-action_call extent me (action.Compute flops) is h = h
+action_call extent me (action.Compute flops priority) is h = h
 action_call extent me (action.Sleep ns) is h = h
-action_call extent me (action.Send to bytes) is (there, h) = ((is, there), h, tt)
+action_call extent me (action.Send to bytes rate) is (there, h, slow) = ((is, there), h, tt, slow)
 action_call extent me (action.Recv from) is h = (h, is)
-action_call extent me (action.ISend to bytes) is (there, h) = ((is, there), h, tt)
+action_call extent me (action.ISend to bytes rate) is (there, h, slow) = ((is, there), h, tt, slow)
 action_call extent me (action.IRecv from) is h = (h, is)
 action_call extent me action.Wait is h = tt
 action_call extent me (action.Lock id) is h = h
@@ -34,7 +34,7 @@ only extent numbers one actors = actors 0 (omega arith) (omega arith)
 
 got_call : (extent : Extent) (n : List ℕ) (m : Msg) → IsShaped extent worker n → IsMsg m → IsCall extent (worker_got n m).call
 got_call extent n msg.Empty (one, actors) h = only extent n one actors
-got_call extent n (msg.Task flops) shaped h = h
+got_call extent n (msg.Task flops) shaped h = (h, (omega arith, omega arith))
 got_call extent n msg.Stop shaped h = tt
 
 replay_call : (extent : Extent) (n : List ℕ) (a : Answer) → IsShaped extent replay n → IsAnswer extent a → IsCall extent (replay_turn n a).call

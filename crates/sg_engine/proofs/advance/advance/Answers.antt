@@ -29,14 +29,14 @@ next_as old new start count same worked =
 pub round_or_pass-requires-clause-roads : goal.round_or_pass-requires-clause-roads
 round_or_pass-requires-clause-roads g c κs within =
     let setup = ap (λ (k : Known). k.setup) c.in-Ok.ensures.kept in
-    subst (λ (s : Setup). AreOver s.links c.args.router.now) (sym setup) c.requires.roads
+    subst (λ (s : Setup). AreOver s.links c.args.router.now) (sym setup) c.requires.going.roads
 
 pub returns-in-Err-clause-part : goal.returns-in-Err-clause-part
 returns-in-Err-clause-part g c = (
   memory_err _ _ _ _ _ c.end_for_memory.ensures,
   λ taken world stands.
       part_short _ _ _ _ c.end_for_memory.result taken _ _ _ c.args.sim.now.buffer c.args.sim.now.buffer c.end_for_memory.new.buffer (g.O.Sinks.contents c.args.out.now) (g.O.Sinks.contents c.end_for_memory.new.out) _
-      (lacks_room _ (scene c.args.router.now c.args.sim.now.kernel.setup c.args.plan.now.script) taken _ _ world c.requires.kept.fits.begun stands) refl c.end_for_memory.ensures,
+      (lacks_room _ (scene c.args.router.now c.args.sim.now.kernel.setup c.args.plan.now.script) taken _ _ world c.requires.going.kept.fits.begun stands) refl c.end_for_memory.ensures,
 )
 
 pub returns-in-Err-round_or_pass-clause-part : goal.returns-in-Err-round_or_pass-clause-part
@@ -72,7 +72,7 @@ returns-in-Err-put_trace-clause-part g c = (
       (subst (λ (l : List Record). AddsFront (trace l) (pending before.held c.round_or_pass.new.sim.buffer) after) c.records.ensures.are c.in-Err-put_trace.ensures.front) in
       cuts_off_at names trace (λ answers. round_or_pass (scene c.args.router.now old.setup c.args.plan.now.script) answers world) c.in-Ok-round_or_pass.how taken _ part part' kept kept' mid new before after
       (scene_as names c.args.router.now c.args.plan.now.script old.setup mid.setup c.in-Ok-round_or_pass.how taken _ world (moment part kept mid) (moment part' kept' new) (ap (λ (k : Known). k.setup) same) reached)
-      (ap (λ (k : Known). k.records) same ∙ c.requires.kept.cleared) front,
+      (ap (λ (k : Known). k.records) same ∙ c.requires.going.kept.cleared) front,
 )
 
 pub returns-clause-part : goal.returns-clause-part
@@ -100,8 +100,8 @@ returns-clause-part g c = (
       part_is names trace _ how taken _ _ _ before after c.in-Ok-round_or_pass.ensures.script.uncut
       (advances names trace (λ answers. round_or_pass (scene c.args.router.now old.setup c.args.plan.now.script) answers world) how taken _ part part' kept kept' old mid new before after
       (scene_as names c.args.router.now c.args.plan.now.script old.setup mid.setup how taken _ world (moment part kept mid) (moment part' kept' new) (ap (λ (k : Known). k.setup) same) reached)
-      (ap (λ (k : Known). k.records) same ∙ c.requires.kept.cleared)
-      c.requires.kept.cleared
+      (ap (λ (k : Known). k.records) same ∙ c.requires.going.kept.cleared)
+      c.requires.going.kept.cleared
       (ap (λ (k : Known). k.setup) same)
       printed
       new'
@@ -110,7 +110,7 @@ returns-clause-part g c = (
 )
 
 pub round_or_pass-requires-clause-room : goal.round_or_pass-requires-clause-room
-round_or_pass-requires-clause-room g c κs within = room_for c.reserve_round.new.self c.requires.kept c.in-Ok.ensures.kept (seats_few _ c.args.seats.now _ c.in-Ok.ensures.room)
+round_or_pass-requires-clause-room g c κs within = room_for c.reserve_round.new.self c.requires.going.kept c.in-Ok.ensures.kept (seats_few _ c.args.seats.now _ c.in-Ok.ensures.room)
 
 pub returns-in-Err-clause-cause : goal.returns-in-Err-clause-cause
 returns-in-Err-clause-cause g c = memory_cause _ _ _ _ _ _ c.end_for_memory.ensures
@@ -144,7 +144,7 @@ returns-clause-cause g c = record {
 
 pub returns-clause-kept : goal.returns-clause-kept
 returns-clause-kept g c =
-    let kept = c.requires.kept in
+    let kept = c.requires.going.kept in
     let seats = c.round_or_pass.ensures.seats in
     let setup = seats.setup ∙ ap (λ (k : Known). k.setup) c.in-Ok.ensures.kept in
     part_kept _ _ _ _ _ _ c.in-Ok-round_or_pass.ensures.script.uncut (ap (λ (k : Known). k.setup) c.clear_records.ensures ∙ setup)

@@ -1,7 +1,7 @@
 use Rattle.std.proofs.Common.{◌∙◌, sym, subst, refl, arith, length}
 use Rattle.sg_edge.specs.declared.files.Part.TheVariants.{Script}
 use Rattle.sg_kernel.specs.Roads.{AreOver}
-use Rattle.sg_kernel.specs.Start.{link_caps}
+use Rattle.sg_rows.specs.Ends.{link_ends}
 use Rattle.sg_route.specs.Roads.{Roads}
 use Rattle.sg_engine.specs.kept.Moments.{script_part}
 use Rattle.sg_engine.proofs.Endings.{is_begun, takes_none}
@@ -10,15 +10,17 @@ use Rattle.sg_engine.proofs.Starting.{first_as}
 use Rattle.sg_engine.proofs.whole_run.run.Goals as goal
 
 pub returns-in-Err-clause-output : goal.returns-in-Err-clause-output
-returns-in-Err-clause-output g c = λ source gives. record { ends = fronts_none _ _ _ _ refl refl; work = omega arith }
+returns-in-Err-clause-output g c = λ source gives. record { ends = fronts_none _ _ _ _ refl refl; work = omega arith; needed = takes_none _ _ _ refl }
 
 pub returns-clause-output : goal.returns-clause-output
-returns-clause-output g c = λ source gives. record { ends = fronts_none _ _ _ _ refl refl; work = omega arith }
+returns-clause-output g c = λ source gives. record { ends = fronts_none _ _ _ _ refl refl; work = omega arith; needed = takes_none _ _ _ refl }
 
-pub run_from-requires-clause-first : goal.run_from-requires-clause-first
-run_from-requires-clause-first g c κs within =
-    first_as _ c.in-Ok.seats.items c.as_mut_slice-seats.result.now c.args.setup.now.platform c.args.setup.now.deployment c.args.budget (script_part c.args.setup.now.script (g.F.Files.shows c.args.files.now Script)) c.in-Ok-start.sim c.as_mut_slice-seats.ensures.value
-    c.in-Ok-start.ensures (is_begun c.args.setup.now.script _ c.requires.begun) c.in-Ok.ensures.minds c.in-Ok.ensures.seated
+pub run_from-requires-clause-beginning : goal.run_from-requires-clause-beginning
+run_from-requires-clause-beginning g c κs within = record {
+  first = first_as _ c.in-Ok.seats.items c.as_mut_slice-seats.result.now c.args.setup.now.platform c.args.setup.now.deployment c.args.budget (script_part c.args.setup.now.script (g.F.Files.shows c.args.files.now Script)) c.in-Ok-start.sim c.as_mut_slice-seats.ensures.value
+      c.in-Ok-start.ensures (is_begun c.args.setup.now.script _ c.requires.begun) c.in-Ok.ensures.minds c.in-Ok.ensures.seated;
+  roads = record { are = c.args.setup.now.roads; over = c.args.setup.now.over };
+}
 
 pub returns-in-Err-clause-cause : goal.returns-in-Err-clause-cause
 returns-in-Err-clause-cause g c = record { write = λ is. cc is; sound = λ isnt. c.requires.sound; read = λ is. cc is }
@@ -32,17 +34,11 @@ returns-clause-cause g c = record { write = λ is. cc is; sound = λ isnt. c.req
 pub returns-clause-script : goal.returns-clause-script
 returns-clause-script g c = record { others = λ q away. refl; unscripted = λ isnt. refl; name = refl; telling = λ some. some }
 
-pub returns-in-Err-clause-needed : goal.returns-in-Err-clause-needed
-returns-in-Err-clause-needed g c = λ source gives. takes_none _ _ _ refl
-
-pub returns-clause-needed : goal.returns-clause-needed
-returns-clause-needed g c = λ source gives. takes_none _ _ _ refl
-
 pub invariant_of-setup-in-Ok-start : goal.invariant_of-setup-in-Ok-start
 invariant_of-setup-in-Ok-start g c = record {
   deployed = c.args.setup.now.deployed;
   roads = c.run_from.ensures.router ∙ c.args.setup.now.roads;
-  over = subst (λ (roads : Roads). AreOver (length (link_caps c.args.setup.now.platform.links)) roads) (sym c.run_from.ensures.router) c.args.setup.now.over;
+  over = subst (λ (roads : Roads). AreOver (length (link_ends c.args.setup.now.platform.links)) roads) (sym c.run_from.ensures.router) c.args.setup.now.over;
 }
 
 pub returns-in-Ok-start-clause-setup : goal.returns-in-Ok-start-clause-setup

@@ -21,14 +21,9 @@ returns-then-is_cut-clause-output g c = λ source gives.
           cut.cut
           c.simulate-how.ensures.err;
       work = cut.worked source (going cut.cut.piece cut.cut.reads);
+      needed = run_needed c.args.plan.now.platform.now c.args.plan.now.deployment.now c.args.plan.now.script c.args.plan.now.terms.budget c.args.plan.now.terms.show cut.cut.piece _ _ source going cut.cut.reads
+          (λ isnt. ap (λ (f : _). g.F.Files.shows f Script) (c.simulate-how.ensures.script.unscripted isnt)) cut.cut.needed;
     }
-
-pub returns-then-is_cut-clause-needed : goal.returns-then-is_cut-clause-needed
-returns-then-is_cut-clause-needed g c = λ source gives.
-    let going = is_going c.args.plan.now.script _ _ source (λ over. g.met.F.Files.nothing_left c.simulate-how.new.files Script over) gives in
-    let cut = (in_cut _ _ (sym c.is_cut.ensures ∙ c.if-is_cut.true) c.simulate-how.ensures.run).cut in
-    run_needed c.args.plan.now.platform.now c.args.plan.now.deployment.now c.args.plan.now.script c.args.plan.now.terms.budget c.args.plan.now.terms.show cut.piece _ _ source going cut.reads
-    (λ isnt. ap (λ (f : _). g.F.Files.shows f Script) (c.simulate-how.ensures.script.unscripted isnt)) cut.needed
 
 pub returns-then-is_cut-clause-cause : goal.returns-then-is_cut-clause-cause
 returns-then-is_cut-clause-cause g c =
@@ -55,14 +50,9 @@ returns-else-is_cut-clause-output g c = λ source gives.
       ends = run_ends c.args.steps.now c.simulate-how.new.steps c.args.plan.now.platform.now c.args.plan.now.deployment.now c.args.plan.now.script c.args.plan.now.terms.budget c.args.plan.now.terms.show c.simulate-how.result c.finish.result c.simulate-how.new.sim.kernel.core _ _ c.simulate-how.new.sim.buffer _ _ _ source
           going over c.simulate-how.ensures.err c.finish.ensures.ends;
       work = run_work c.args.steps.now c.simulate-how.new.steps c.args.plan.now.platform.now c.args.plan.now.deployment.now c.args.plan.now.script c.args.plan.now.terms.budget c.args.plan.now.terms.show c.simulate-how.result c.simulate-how.new.sim.kernel.core _ _ _ _ source going over;
+      needed = run_needed c.args.plan.now.platform.now c.args.plan.now.deployment.now c.args.plan.now.script c.args.plan.now.terms.budget c.args.plan.now.terms.show over.piece _ _ source going over.reads
+          (λ isnt. ap (λ (f : _). g.F.Files.shows f Script) (c.simulate-how.ensures.script.unscripted isnt)) over.needed;
     }
-
-pub returns-else-is_cut-clause-needed : goal.returns-else-is_cut-clause-needed
-returns-else-is_cut-clause-needed g c = λ source gives.
-    let going = is_going c.args.plan.now.script _ _ source (λ over. g.met.F.Files.nothing_left c.simulate-how.new.files Script over) gives in
-    let over = in_over _ _ (sym c.is_cut.ensures ∙ c.if-is_cut.false) c.simulate-how.ensures.run in
-    run_needed c.args.plan.now.platform.now c.args.plan.now.deployment.now c.args.plan.now.script c.args.plan.now.terms.budget c.args.plan.now.terms.show over.piece _ _ source going over.reads
-    (λ isnt. ap (λ (f : _). g.F.Files.shows f Script) (c.simulate-how.ensures.script.unscripted isnt)) over.needed
 
 pub returns-else-is_cut-clause-cause : goal.returns-else-is_cut-clause-cause
 returns-else-is_cut-clause-cause g c =

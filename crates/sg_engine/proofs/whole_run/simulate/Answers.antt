@@ -25,7 +25,7 @@ loop-turn-init g c =
     let deployed = c.args.plan.now.deployment.now in
     let origin = first_of platform deployed c.args.plan.now.terms.budget in
     let at = scene_of platform deployed c.args.plan.now.script c.args.plan.now.terms.budget in
-    let first = c.requires.first in
+    let first = c.requires.beginning.first in
     let none : c.args.plan.now.terms.budget + 1 - 0 ≡ c.args.plan.now.terms.budget + 1 = omega arith in
     record {
       far = far_first c.args.steps.now (known_in deployed) (trace_of c.args.plan.now.terms.show platform deployed) (run_of at origin) (rest_of (c.args.plan.now.terms.budget + 1 - 0) at) _ (script_part c.args.plan.now.script (g.F.Files.shows c.args.files.now Script)) (kept_of c.args.sim.now.script) c.args.sim.now.kernel (g.O.Sinks.contents c.args.out.now Out) c.args.sim.now.buffer
@@ -40,10 +40,13 @@ loop-turn-init g c =
       script = script_unread g.F.Files.shows c.args.plan.now.script c.args.files.now;
     }
 
-pub advance-requires-clause-roads : goal.advance-requires-clause-roads
-advance-requires-clause-roads g c κs within =
-    subst (λ (roads : Roads). AreOver c.loop-turn.sim.kernel.setup.links roads) (sym c.loop-turn.invariant.router)
-    (subst (λ (s : Setup). AreOver s.links c.args.router.now) (sym c.loop-turn.invariant.same) c.requires.roads.over)
+pub advance-requires-clause-going : goal.advance-requires-clause-going
+advance-requires-clause-going g c κs within = record {
+  kept = c.loop-turn.invariant.kept;
+  roads = subst (λ (roads : Roads). AreOver c.loop-turn.sim.kernel.setup.links roads) (sym c.loop-turn.invariant.router)
+      (subst (λ (s : Setup). AreOver s.links c.args.router.now) (sym c.loop-turn.invariant.same) c.requires.beginning.roads.over);
+  going = sym c.ending.ensures.is ∙ c.if-ending.false;
+}
 
 pub returns-then-ending-clause-run : goal.returns-then-ending-clause-run
 returns-then-ending-clause-run g c =
@@ -76,13 +79,13 @@ returns-in-Some-clause-run g c =
     let leads = rw inv.router at c.in-Some.ensures.part in
     let part = leads.1 far.reached.piece far.reached.world (record { script = far.reached.stands.script; core = far.reached.stands.core; minds = far.reached.stands.minds }) in
     let next = far.reached.world.work + next_work far.reached.world.core in
-    let same : scene c.args.router.now c.loop-turn.sim.kernel.setup c.args.plan.now.script ≡ at = ap₂ (λ (r : Roads) (t : Setup). scene r t c.args.plan.now.script) c.requires.roads.are inv.same in
+    let same : scene c.args.router.now c.loop-turn.sim.kernel.setup c.args.plan.now.script ≡ at = ap₂ (λ (r : Roads) (t : Setup). scene r t c.args.plan.now.script) c.requires.beginning.roads.are inv.same in
     let part' = part_as next names trace _ at (Some how) far.reached.piece _ far.reached.world old new before after same part in
     let worked : c.advance.new.steps ≤ c.args.steps.now + next =
     work_more c.args.steps.now c.loop-turn.steps c.advance.new.steps far.spent far.reached.world.work (next_work c.loop-turn.sim.kernel.core) (next_work far.reached.world.core) far.worked far.reached.work
     (ap next_work far.reached.stands.core) c.in-Some.ensures.steps in
     far_ends c.args.steps.now c.loop-turn.steps c.advance.new.steps names trace (trace_appends c.args.plan.now.terms.show platform deployed) (run_of at origin) how (is_cut how) n m at _ _
-    _ _ _ _ _ _ c.args.sim.now.kernel c.loop-turn.sim.kernel c.advance.new.sim.kernel (pending (g.O.Sinks.contents c.args.out.now Out) []) before after far more (sym c.ending.ensures.is ∙ c.if-ending.false) c.requires.first.kept.cleared inv.kept.cleared part' worked
+    _ _ _ _ _ _ c.args.sim.now.kernel c.loop-turn.sim.kernel c.advance.new.sim.kernel (pending (g.O.Sinks.contents c.args.out.now Out) []) before after far more (sym c.ending.ensures.is ∙ c.if-ending.false) c.requires.beginning.first.kept.cleared inv.kept.cleared part' worked
 
 pub loop-turn-preserved : goal.loop-turn-preserved
 loop-turn-preserved g c =
@@ -104,14 +107,14 @@ loop-turn-preserved g c =
     let leads = rw inv.router at c.in-None.ensures.part in
     let part = leads.1 far.reached.piece far.reached.world (record { script = far.reached.stands.script; core = far.reached.stands.core; minds = far.reached.stands.minds }) in
     let next = far.reached.world.work + next_work far.reached.world.core in
-    let same : scene c.args.router.now c.loop-turn.sim.kernel.setup c.args.plan.now.script ≡ at = ap₂ (λ (r : Roads) (t : Setup). scene r t c.args.plan.now.script) c.requires.roads.are inv.same in
+    let same : scene c.args.router.now c.loop-turn.sim.kernel.setup c.args.plan.now.script ≡ at = ap₂ (λ (r : Roads) (t : Setup). scene r t c.args.plan.now.script) c.requires.beginning.roads.are inv.same in
     let part' = part_as next names trace _ at None far.reached.piece _ far.reached.world old new before after same part in
     let worked : c.advance.new.steps ≤ c.args.steps.now + next =
     work_more c.args.steps.now c.loop-turn.steps c.advance.new.steps far.spent far.reached.world.work (next_work c.loop-turn.sim.kernel.core) (next_work far.reached.world.core) far.worked far.reached.work
     (ap next_work far.reached.stands.core) c.in-None.ensures.steps in
     record {
       far = far_on c.args.steps.now c.loop-turn.steps c.advance.new.steps names trace (trace_appends c.args.plan.now.terms.show platform deployed) (run_of at origin) n m at _ _
-          _ _ _ _ _ _ c.args.sim.now.kernel c.loop-turn.sim.kernel c.advance.new.sim.kernel (pending (g.O.Sinks.contents c.args.out.now Out) []) before after far more (sym c.ending.ensures.is ∙ c.if-ending.false) c.requires.first.kept.cleared inv.kept.cleared part' worked;
+          _ _ _ _ _ _ c.args.sim.now.kernel c.loop-turn.sim.kernel c.advance.new.sim.kernel (pending (g.O.Sinks.contents c.args.out.now Out) []) before after far more (sym c.ending.ensures.is ∙ c.if-ending.false) c.requires.beginning.first.kept.cleared inv.kept.cleared part' worked;
       kept = c.in-None.ensures.kept.kept;
       router = c.in-None.ensures.router ∙ inv.router;
       same = c.in-None.ensures.kept.setup ∙ inv.same;

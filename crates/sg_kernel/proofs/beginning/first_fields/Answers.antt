@@ -21,8 +21,9 @@ make_idle-requires-clause-hosts c =
 
 pub make_idle-requires-clause-links : goal.make_idle-requires-clause-links
 make_idle-requires-clause-links c =
-    let are : c.deref-3.result.now ≡ link_caps c.args.platform.now.links = c.deref-3.ensures.value ∙ c.in_ok-links.ensures ∙ ap link_caps c.links.ensures.rows in
-    subst (All IsLink) (sym are) (links_fit _ c.links.ensures.kept.links)
+    let platform = c.args.platform.now in
+    let are : c.deref-3.result.now ≡ link_caps platform.network platform.links = c.deref-3.ensures.value ∙ c.in_ok-links.ensures ∙ ap₂ link_caps c.network-network.ensures.value c.links.ensures.rows in
+    subst (All IsLink) (sym are) (links_fit platform.network platform.links c.network-network.ensures.kept.network c.links.ensures.kept.links)
 
 -- what is made
 abbrev made : After-drop-hosts-2 → Fields
@@ -35,6 +36,7 @@ made c = record {
   objects = c.in_ok-objects.objects;
   hosts = c.len-2.result;
   links = c.len-3.result;
+  network = c.network-network.result;
   homes = c.in_ok-homes.homes;
   mutexes = length c.mutexes-mutexes.result.now;
   semaphores = c.in_ok-semaphores.semaphores;
@@ -46,8 +48,8 @@ made c = record {
 hosts_are : (c : After-drop-hosts-2) → c.deref-2.result.now ≡ map host_cap c.args.platform.now.hosts
 hosts_are c = c.deref-2.ensures.value ∙ c.in_ok-hosts.ensures ∙ ap (map host_cap) c.hosts.ensures.rows
 
-links_are : (c : After-drop-hosts-2) → c.deref-3.result.now ≡ link_caps c.args.platform.now.links
-links_are c = c.deref-3.ensures.value ∙ c.in_ok-links.ensures ∙ ap link_caps c.links.ensures.rows
+links_are : (c : After-drop-hosts-2) → c.deref-3.result.now ≡ link_caps c.args.platform.now.network c.args.platform.now.links
+links_are c = c.deref-3.ensures.value ∙ c.in_ok-links.ensures ∙ ap₂ link_caps c.network-network.ensures.value c.links.ensures.rows
 
 capacities_are : (c : After-drop-hosts-2) → c.in_ok-semaphores.semaphores.items ≡ map capacity_of c.args.deployment.now.semaphores
 capacities_are c = c.in_ok-semaphores.ensures ∙ ap (map capacity_of) c.semaphores.ensures.rows
@@ -69,7 +71,8 @@ first c =
       requests = c.in_ok-requests.ensures ∙ ap (λ n. record { queues = replicate n []; asked = 0; room = 0 }) actors;
       objects = c.in_ok-objects.ensures ∙ objects_first c.args.platform.now deployed c.args.budget _ _ _ _ actors mutexes (c.deref.ensures.value ∙ capacities_are c) (c.members-members.ensures ∙ ap (count_by replays) c.actors.ensures.rows);
       hosts = c.len-2.ensures ∙ c.in_ok-hosts.hosts.ok.0 ∙ ap length (c.in_ok-hosts.ensures ∙ ap (map host_cap) c.hosts.ensures.rows);
-      links = c.len-3.ensures ∙ c.in_ok-links.links.ok.0 ∙ ap length (c.in_ok-links.ensures ∙ ap link_caps c.links.ensures.rows);
+      links = c.len-3.ensures ∙ c.in_ok-links.links.ok.0 ∙ ap length (c.in_ok-links.ensures ∙ ap₂ link_caps c.network-network.ensures.value c.links.ensures.rows);
+      network = c.network-network.ensures.value;
       homes = c.in_ok-homes.ensures ∙ ap (map (λ (actor : ActorRow). actor.host)) c.actors-2.ensures.rows;
       mutexes = mutexes;
       semaphores = capacities_are c;
@@ -87,7 +90,7 @@ returns-clause-whole c =
     let fields = made c in
     let is = first c in
     record {
-      sound = first_sound platform deployed fields is c.requires.deployed c.requires.budget;
+      sound = first_sound platform deployed fields is c.requires.deployed c.network-network.ensures.kept.network c.requires.budget;
       roomy = first_roomy platform deployed fields is;
       dated = omega (arith, ap (λ (d : Doing). d.under.date) is.doing);
       limited = first_limited platform deployed fields is;

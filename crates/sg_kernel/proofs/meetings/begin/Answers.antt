@@ -67,7 +67,7 @@ take_part-requires-clause-whole c =
     let sides = sides_limited e comer c.args.met.1 c.requires.comer.side m.limited in
     let whose : c.put.new.self.whose ≡ set old.whose.whose (serial.0 - 1) w = ap (λ (o : Owned). o.whose) c.put.ensures in
     let both : IsOwner e w = (subst (IsSide e) (sym c.sender_of-sender.ensures) sides.0, subst (IsSide e) (sym c.receiver_of.ensures) sides.1) in
-    let task = comm_of (record { links = c.args.links.now }) c.args.latency c.sender_of-sender.result.bytes in
+    let task = comm_of (record { links = c.args.links.now }) c.latency_over-lasts.result c.sender_of-sender.result.bytes c.own_bound-bound.result in
     let place : serial.0 - 1 < length old.whose.whose = omega (arith, m.from, m.to) in
     let tasks : doing.under.tasks ≡ set old.doing.under.tasks (serial.0 - 1) (Some task) = ap (λ (d : Doing). d.under.tasks) begun in
     let long = ap length tasks ∙ length-set old.doing.under.tasks (serial.0 - 1) (Some task) in

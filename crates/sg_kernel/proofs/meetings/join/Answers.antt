@@ -48,7 +48,7 @@ returns-in-Ok-clause-result c =
     let routed = subst (λ (r : Result ℕ RouteFault). LeavesRoute between r c.route.new.links.items) c.in-Ok.is c.route.ensures.route in
     let way : between ≡ Ok route = routed_ok between c.in-Ok.latency c.route.new.links.items routed in
     let told = comes_met old c.args.router.now c.args.comer c.args.met.0 c.args.met.1 c.sender_of.result c.receiver_of.result c.point_of-from.result c.point_of-to.result (Ok route) m c.requires.able.whole.meeting c.sender_of.ensures c.receiver_of.ensures c.point_of-from.ensures c.point_of-to.ensures way in
-    let goes = takes_part_on c.args.comer.waits c.args.comer c.args.met.0.0 (joined c.args.met.0.0 route (sender_of c.args.comer c.args.met.1) (receiver_of c.args.comer c.args.met.1) (counted (core_of old))) in
+    let goes = takes_part_on c.args.comer.waits c.args.comer c.args.met.0.0 (joined (setup_in old) c.args.met.0.0 route (sender_of c.args.comer c.args.met.1) (receiver_of c.args.comer c.args.met.1) (counted (core_of old))) in
     sym (ap (λ (s : Step). result_of s.stop) told.1 ∙ ap result_of goes)
 
 pub returns-in-Err-clause-known : goal.returns-in-Err-clause-known

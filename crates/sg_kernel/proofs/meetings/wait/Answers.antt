@@ -27,6 +27,7 @@ asking_less fields actor requests is able =
           requests_known = ap length queues ∙ length-set fields.requests.queues (actor - 1) _ ∙ sound.requests_known;
           requests_few = omega (arith, sound.requests_few, ap (λ (r : Requested). r.asked) is);
           extent_is = sound.extent_is;
+          network_kept = sound.network_kept;
         };
         roomy = record { starts = was.roomy.starts; owners = was.roomy.owners; mailboxes = was.roomy.mailboxes; requests = omega (arith, was.roomy.requests, ap (λ (r : Requested). r.room) is) };
         dated = was.dated;

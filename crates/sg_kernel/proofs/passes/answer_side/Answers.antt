@@ -13,11 +13,11 @@ use Rattle.sg_kernel.proofs.passes.answer_side.Goals as goal
 
 answer_limited : (ex : Extent) (what : Call) (m : Msg) → IsMsg m → IsAnswer ex (answer_of_done what m)
 answer_limited ex call.Ask m h = tt
-answer_limited ex (call.Compute n) m h = tt
+answer_limited ex (call.Compute n p) m h = tt
 answer_limited ex (call.Sleep n) m h = tt
-answer_limited ex (call.Send b n x) m h = tt
+answer_limited ex (call.Send b n x r) m h = tt
 answer_limited ex (call.Recv b) m h = h
-answer_limited ex (call.ISend b n x) m h = tt
+answer_limited ex (call.ISend b n x r) m h = tt
 answer_limited ex (call.IRecv b) m h = tt
 answer_limited ex call.Wait m h = tt
 answer_limited ex (call.Lock n) m h = tt

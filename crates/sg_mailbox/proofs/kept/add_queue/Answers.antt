@@ -1,10 +1,7 @@
-use Rattle.std.proofs.Common.{◌≡◌, ℕ, ◌+◌, ◌∷◌, ◌++◌, [], List, length, refl, ap, sym, subst, ◌∙◌, arith}
-use Rattle.std.specs.Prelude.{vec_capacity}
+use Rattle.std.proofs.Common.{◌≡◌, ℕ, ◌+◌, ◌∷◌, ◌++◌, [], length, refl, ap, sym, subst, ◌∙◌, arith}
 use Rattle.std.proofs.lemmas.List.{length_push}
-use Rattle.sg_queues.specs.Queues.{Queues}
 use Rattle.sg_queues.specs.Rings.{queue_at}
-use Rattle.sg_queues.proofs.Moves.{read_grown}
-use Rattle.sg_mailbox.specs.declared.sides.Post.{Post}
+use Rattle.sg_queues.proofs.Lists.{read_grown}
 use Rattle.sg_mailbox.specs.kept.Queues.{number, place, AreNumbered}
 use Rattle.sg_mailbox.proofs.Numbers.{numbered_added}
 use Rattle.sg_mailbox.proofs.Places.{placed_like}

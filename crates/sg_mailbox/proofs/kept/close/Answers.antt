@@ -1,10 +1,9 @@
-use Rattle.std.proofs.Common.{◌≡◌, ℕ, ◌+◌, ◌∷◌, ◌++◌, [], List, cond, Option, None, Some, length, refl, ap, sym, subst, not, ◌∙◌, arith}
+use Rattle.std.proofs.Common.{◌≡◌, ℕ, ◌+◌, [], cond, Option, None, length, refl, ap, sym, subst, not, ◌∙◌, arith}
 use Rattle.std.specs.Prelude.{is_some}
 use Rattle.std.specs.HashMap.{get, hash_map_len}
 use Rattle.std.proofs.lemmas.List.{length_push}
 use Rattle.sg_base.specs.declared.ids.BoxId.{BoxId}
-use Rattle.sg_queues.specs.Rings.{front, queue_at}
-use Rattle.sg_mailbox.specs.declared.sides.Post.{Post}
+use Rattle.sg_queues.specs.Rings.{queue_at}
 use Rattle.sg_mailbox.specs.Posts.{box_eq}
 use Rattle.sg_mailbox.specs.kept.Queues.{number, place, AreNumbered}
 use Rattle.sg_mailbox.proofs.Lists.{nobody_first}

@@ -1,9 +1,10 @@
 use Rattle.std.proofs.Common.{◌≡◌, ◌∙◌, ap, sym, subst}
 use Rattle.std.specs.Prelude.{All}
+use Rattle.sg_queues.proofs.Lists.{without_none}
 use Rattle.sg_mailbox.specs.declared.sides.Post.{Post}
 use Rattle.sg_mailbox.specs.Posts.{waiting, meets, withdrawn, arrives_by}
 use Rattle.sg_mailbox.specs.kept.Queues.{posts_of}
-use Rattle.sg_mailbox.proofs.Lists.{met_first, none_met, withdrawn_none}
+use Rattle.sg_mailbox.proofs.Lists.{met_first, none_met}
 use Rattle.sg_mailbox.proofs.Steps.{nobody_met, somebody_met, ordered_in, only_there}
 use Rattle.sg_mailbox.proofs.kept.enter.Goals as goal
 
@@ -27,4 +28,4 @@ returns-in-Some-clause-elsewhere c = λ other apart.
     let posts = waiting (posts_of old) c.args.mailbox in
     let met = somebody_met c.in-Some.met c.in-Some.other (meets c.args.sends posts) (sym c.in-Some.is ∙ c.requires.found.met) in
     let first = (met_first c.args.sends posts met.0 (ordered_in old c.requires.kept.ordered c.args.mailbox) met.1).0 in
-    c.withdraw.ensures.left other ∙ ap (λ s. withdrawn s (waiting (posts_of old) other)) (sym met.2) ∙ withdrawn_none met.0.serial (waiting (posts_of old) other) (only_there old c.requires.kept c.args.mailbox other apart met.0 first)
+    c.withdraw.ensures.left other ∙ ap (λ s. withdrawn s (waiting (posts_of old) other)) (sym met.2) ∙ without_none (λ (p : Post). p.serial.0) met.0.serial.0 (waiting (posts_of old) other) (only_there old c.requires.kept c.args.mailbox other apart met.0 first)

@@ -1,9 +1,4 @@
-use Rattle.std.proofs.Common.{◌≡◌, ◌≤◌, ◌+◌, ℕ, refl, ap, length, arith}
-use Rattle.std.specs.HashMap.{spare, hash_map_len}
-use Rattle.sg_base.specs.declared.ids.BoxId.{BoxId}
-use Rattle.sg_queues.specs.Queues.{Queues}
-use Rattle.sg_mailbox.specs.declared.kept.Kept.{Kept}
-use Rattle.sg_mailbox.specs.kept.Queues.{number, place, IsKept}
+use Rattle.std.proofs.Common.{refl, ap, arith}
 use Rattle.sg_mailbox.proofs.Steps.{grown}
 use Rattle.sg_mailbox.proofs.kept.grow.Goals as goal
 

@@ -1,18 +1,17 @@
-use Rattle.std.proofs.Common.{◌≡◌, ◌≢◌, ℕ, ◌+◌, ◌-◌, ◌<◌, ◌∷◌, ◌++◌, [], List, cond, nat_eq, inl, inr, Option, None, Some, length, set, get_or, ap, sym, subst, true, false, ◌∙◌, arith}
+use Rattle.std.proofs.Common.{◌≡◌, ◌≢◌, ℕ, ◌-◌, ◌<◌, ◌∷◌, ◌++◌, [], List, nat_eq, inl, inr, Some, length, set, ap, sym, subst, ◌∙◌, arith}
 use Rattle.std.specs.Prelude.{map, All}
 use Rattle.std.specs.HashMap.{get}
 use Rattle.std.proofs.lemmas.Bool.{cases_eq}
 use Rattle.std.proofs.lemmas.List.{length-set, get_or-set_same, get_or-set_other, length-append, map-append}
 use Rattle.std.proofs.lemmas.List.Quantifiers.{all_pairs_push}
-use Rattle.sg_base.specs.declared.ids.BoxId.{BoxId}
 use Rattle.sg_queues.specs.Rings.{queue_at}
-use Rattle.sg_queues.specs.Queues.{value, values_of, queued}
+use Rattle.sg_queues.specs.Queues.{value, values_of}
 use Rattle.sg_queues.proofs.Values.{values_at}
 use Rattle.sg_mailbox.specs.declared.sides.Post.{Post}
 use Rattle.sg_mailbox.specs.declared.sides.Place.{Place}
 use Rattle.sg_mailbox.specs.Posts.{posts_in, waiting}
-use Rattle.sg_mailbox.specs.kept.Queues.{number, place, posts_of, AreOrdered}
-use Rattle.sg_mailbox.proofs.Numbers.{numbered_moved}
+use Rattle.sg_mailbox.specs.kept.Queues.{number, place, posts_of}
+use Rattle.sg_mailbox.proofs.Numbers.{numbered_as}
 use Rattle.sg_mailbox.proofs.Places.{placed_put}
 use Rattle.sg_mailbox.proofs.Steps.{put_there, put_elsewhere, unknown}
 use Rattle.sg_mailbox.proofs.kept.put.Goals as goal
@@ -52,7 +51,7 @@ returns-clause-kept c =
         stack = was.roomy.stack;
       };
       numbered = rw c.push_back-slot.ensures.queues
-          (numbered_moved (number old) old.empty.items queues (set queues queue longer) (omega (arith, length-set queues queue longer)) (λ q free. apart q (λ e. free.nobodys c.args.mailbox (c.requires.queue ∙ ap (λ n. Some n) (sym e))) ∙ free.none) was.numbered);
+          (numbered_as (number old) (number old) old.empty.items queues (set queues queue longer) (λ m q is. is) (omega (arith, length-set queues queue longer)) (λ q free. apart q (λ e. free.nobodys c.args.mailbox (c.requires.queue ∙ ap (λ n. Some n) (sym e))) ∙ free.none) was.numbered);
       placed = rw c.push_back-slot.ensures.queues
           (placed_put (number old) (place old) (get nat_eq c.insert.new.self) queues at c.args.post c.requires.queue below (unknown (old.room - 1) (λ other. other ≡ c.args.mailbox) old c.args.post.serial was c.requires.above) c.push_back-slot.ensures.fresh c.in-Ok.ensures.updates.0 was.placed);
       slots = c.push_back-slot.ensures.slots;

@@ -1,9 +1,6 @@
--- One route more enters.
-use Rattle.std.proofs.Common.{◌≡◌, ◌≤◌, ◌<◌, ◌-◌, ℕ, List, length, get_or, sym, subst, ap, ◌∙◌, arith}
-use Rattle.sg_base.specs.declared.ids.LinkId.{LinkId}
-use Rattle.sg_paths.specs.Ahead.{GoesBack}
+-- One route more enters, or is passed.
+use Rattle.std.proofs.Common.{◌≡◌, ◌≤◌, ◌<◌, ◌-◌, ℕ, length, get_or, sym, subst, ◌∙◌, arith}
 use Rattle.sg_paths.specs.Arrivals.{IsLast, to_at}
-use Rattle.sg_paths.specs.Trail.{links_at}
 use Rattle.sg_paths.proofs.AheadLemmas.{got, one_entered}
 use Rattle.sg_paths.proofs.ahead.enter.Goals as goal
 
@@ -18,11 +15,9 @@ loop-next-preserved c =
     let P : ℕ → Type 0 = λ k. IsLast c.args.routes.now (to_at c.args.routes.now (n - 1)) (n - 1) k in
     let last = subst P (sym next) (c.requires.arrivals.before (n - 1) below) in
     let here = inv.here c.loop-next-test.true in
-    let count : c.links_at-left.result.now ≡ links_at c.args.routes.now (n - 1) = c.links_at-left.ensures in
-    let Q : List LinkId → Type 0 = λ l. GoesBack c.args.routes.now (n - 1) (length l) c.args.mark c.loop-next.ahead c.go_back.new.ahead in
     record {
       within = let w = last.within in omega (arith, w, below);
       here = λ some. last.here some ∙ here;
-      entered = one_entered c.args.routes.now c.args.point n c.index-next-in-loop-next.result.now c.args.mark c.args.ahead.now c.loop-next.ahead c.go_back.new.ahead
-          c.loop-next-test.true inv.within here inv.entered last (subst Q count c.go_back.ensures);
+      entered = one_entered c.args.routes.now c.args.known.settled.now.items c.args.point n c.index-next-in-loop-next.result.now c.args.mark c.args.ahead.now c.loop-next.ahead c.enter_one.new.ahead
+          c.loop-next-test.true inv.within here inv.entered last c.enter_one.ensures;
     }

@@ -6,11 +6,12 @@ use Rattle.sg_heap.specs.Agenda.{Key, key}
 use Rattle.sg_paths.specs.declared.trail.Settled.{Settled}
 use Rattle.sg_paths.specs.declared.ahead.Ahead.{Ahead}
 use Rattle.sg_paths.specs.declared.route.PathRoute.{PathRoute}
-use Rattle.sg_paths.specs.Ahead.{GoesBack}
+use Rattle.sg_paths.specs.Ahead.{EntersFrom, GoesBack}
 use Rattle.sg_paths.specs.Path.{IsLeastPath}
 use Rattle.sg_paths.specs.Trail.{first_settled, AreLinksOf, IsNew, IsSettledAt, LeadsBack}
 use Rattle.sg_paths.proofs.AheadLemmas.{back_places, got}
-use Rattle.sg_paths.proofs.StateLemmas.{IsFirst, IsUnderWay, Leaves, begins, below, few_left, first_of, goes_back, hop_is_least, inside_left, is_left, is_nearest, key_small, next_place, ranks_left, same_route, settles}
+use Rattle.sg_paths.proofs.AtHand.{IsAtHand, at_hand, left_read, next_read}
+use Rattle.sg_paths.proofs.StateLemmas.{IsFirst, IsUnderWay, Leaves, begins, below, few_left, first_mark, first_of, goes_back, hop_is_least, inside_left, is_left, is_nearest, key_small, next_place, ranks_left, same_route, settles}
 use Rattle.sg_paths.proofs.PathLemmas.{no_path}
 use Rattle.sg_paths.proofs.SearchLemmas.{none_crosses}
 use Rattle.sg_paths.proofs.WorkLemmas.{work}
@@ -21,7 +22,8 @@ pub settling-init : goal.settling-init
 settling-init c =
     let start : Settled = first_settled c.args.to in
     let settled : c.begin.new.settled.items ≡ start ∷ [] = c.begin.ensures.settled in
-    let state : IsUnderWay c.args.routes.now c.args.to (start ∷ []) c.enter.new.ahead 1 = begins c.args.routes.now start c.clear.new.ahead c.enter.new.ahead c.clear.ensures.keys c.enter.ensures in
+    let E : List Settled → Type 0 = λ l. EntersFrom c.args.routes.now l c.args.to 0 first_mark c.clear.new.ahead c.enter.new.ahead in
+    let state : IsUnderWay c.args.routes.now c.args.to (start ∷ []) c.enter.new.ahead 1 = begins c.args.routes.now start c.clear.new.ahead c.enter.new.ahead c.clear.ensures.keys (subst E settled c.enter.ensures) in
     record {
       state = subst (λ (l : List Settled). IsUnderWay c.args.routes.now c.args.to l c.enter.new.ahead 1) (sym settled) state;
       root = subst (λ (l : List Settled). IsSettledAt l 0 c.args.to) (sym settled) (start, refl, refl);
@@ -35,6 +37,7 @@ settling-init c =
         ahead = c.enter.ensures.places;
         short = c.requires.roomy.short;
         best = c.requires.roomy.best;
+        held = c.requires.roomy.held;
       };
     }
 
@@ -93,7 +96,7 @@ settling-preserved-then-left-gt0 c =
       places = inv.places;
       fits = inv.fits;
       new = inv.new;
-      roomy = record { places = inv.roomy.places; settled = inv.roomy.settled; ahead = places; short = inv.roomy.short; best = inv.roomy.best };
+      roomy = record { places = inv.roomy.places; settled = inv.roomy.settled; ahead = places; short = inv.roomy.short; best = inv.roomy.best; held = inv.roomy.held };
     }
 
 pub place_of-requires-clause-point : goal.place_of-requires-clause-point
@@ -107,15 +110,11 @@ place_of-requires-clause-point c =
     let i = c.in-Some.i in
     let ranks = c.settling.rank + 1 in
     let inv = c.settling.invariant in
-    let first : IsFirst old i k = first_of old i k c.in-Some.ensures.first in
-    let few : i < length routes = below routes old i k (inv.state).places first.there in
-    let route : PathRoute = get_or routes i c.index-routes-i.result in
-    let there : slice_get routes i ≡ Some route = slice_get-get_or routes i c.index-routes-i.result few in
-    let within = c.requires.search.within i route there in
-    let count = inv.roomy.places in
+    let d : PathRoute = c.index-routes-i.result in
+    let at = at_hand routes (length c.args.reach.now.places.items) to settled places old ranks i k d c.requires.search.within inv.roomy.places inv.state c.in-Some.ensures.first in
     let same : length c.as_slice-in-Some.result.now ≡ length places = ap (length {A = ℕ}) c.as_slice-in-Some.ensures.value in
-    let w = within.0 in
-    omega (arith, w, count, same)
+    let w = at.from in
+    omega (arith, w, same)
 
 pub settling-smaller-in-Some-place_of : goal.settling-smaller-in-Some-place_of
 settling-smaller-in-Some-place_of c =
@@ -128,17 +127,14 @@ settling-smaller-in-Some-place_of c =
     let i = c.in-Some.i in
     let ranks = c.settling.rank + 1 in
     let inv = c.settling.invariant in
-    let first : IsFirst old i k = first_of old i k c.in-Some.ensures.first in
-    let few : i < length routes = below routes old i k (inv.state).places first.there in
-    let route : PathRoute = get_or routes i c.index-routes-i.result in
-    let there : slice_get routes i ≡ Some route = slice_get-get_or routes i c.index-routes-i.result few in
-    let within = c.requires.search.within i route there in
-    let count = inv.roomy.places in
+    let d : PathRoute = c.index-routes-i.result in
+    let route : PathRoute = get_or routes i d in
+    let at = at_hand routes (length c.args.reach.now.places.items) to settled places old ranks i k d c.requires.search.within inv.roomy.places inv.state c.in-Some.ensures.first in
     let mid : Ahead = record { agenda = c.clear-in-Some.new.self; left = c.settling.reach.ahead.left } in
     let leaves : Leaves i old mid = record { keys = c.clear-in-Some.ensures; lefts = refl } in
     let P : List Settled → Type 0 = λ l. IsSettledAt l c.in-Some-place_of._known route.from in
     let from : IsSettledAt settled c.in-Some-place_of._known route.from = subst P c.as_slice.ensures.value c.in-Some-place_of.ensures.some in
-    (is_left routes to settled ranks i c.in-Some-place_of._known k route old mid inv.state first there from leaves).less
+    (is_left routes to settled ranks i c.in-Some-place_of._known k route old mid inv.state at.first at.there from leaves).less
 
 pub settling-preserved-in-Some-place_of : goal.settling-preserved-in-Some-place_of
 settling-preserved-in-Some-place_of c =
@@ -151,17 +147,14 @@ settling-preserved-in-Some-place_of c =
     let i = c.in-Some.i in
     let ranks = c.settling.rank + 1 in
     let inv = c.settling.invariant in
-    let first : IsFirst old i k = first_of old i k c.in-Some.ensures.first in
-    let few : i < length routes = below routes old i k (inv.state).places first.there in
-    let route : PathRoute = get_or routes i c.index-routes-i.result in
-    let there : slice_get routes i ≡ Some route = slice_get-get_or routes i c.index-routes-i.result few in
-    let within = c.requires.search.within i route there in
-    let count = inv.roomy.places in
+    let d : PathRoute = c.index-routes-i.result in
+    let route : PathRoute = get_or routes i d in
+    let at = at_hand routes (length c.args.reach.now.places.items) to settled places old ranks i k d c.requires.search.within inv.roomy.places inv.state c.in-Some.ensures.first in
     let mid : Ahead = record { agenda = c.clear-in-Some.new.self; left = c.settling.reach.ahead.left } in
     let leaves : Leaves i old mid = record { keys = c.clear-in-Some.ensures; lefts = refl } in
     let P : List Settled → Type 0 = λ l. IsSettledAt l c.in-Some-place_of._known route.from in
     let from : IsSettledAt settled c.in-Some-place_of._known route.from = subst P c.as_slice.ensures.value c.in-Some-place_of.ensures.some in
-    let on = is_left routes to settled ranks i c.in-Some-place_of._known k route old mid inv.state first there from leaves in
+    let on = is_left routes to settled ranks i c.in-Some-place_of._known k route old mid inv.state at.first at.there from leaves in
     record {
       state = on.state;
       root = inv.root;
@@ -169,7 +162,7 @@ settling-preserved-in-Some-place_of c =
       places = inv.places;
       fits = inv.fits;
       new = inv.new;
-      roomy = record { places = inv.roomy.places; settled = inv.roomy.settled; ahead = (on.state).places; short = inv.roomy.short; best = inv.roomy.best };
+      roomy = record { places = inv.roomy.places; settled = inv.roomy.settled; ahead = (on.state).places; short = inv.roomy.short; best = inv.roomy.best; held = inv.roomy.held };
     }
 
 pub index-requires : goal.index-requires
@@ -183,17 +176,13 @@ index-requires c =
     let i = c.in-Some.i in
     let ranks = c.settling.rank + 1 in
     let inv = c.settling.invariant in
-    let first : IsFirst old i k = first_of old i k c.in-Some.ensures.first in
-    let few : i < length routes = below routes old i k (inv.state).places first.there in
-    let route : PathRoute = get_or routes i c.index-routes-i.result in
-    let there : slice_get routes i ≡ Some route = slice_get-get_or routes i c.index-routes-i.result few in
-    let within = c.requires.search.within i route there in
-    let count = inv.roomy.places in
-    let other : get_or routes i c.index-routes-i-in-Some.result ≡ route = same_route routes i c.index-routes-i-in-Some.result c.index-routes-i.result few in
-    let other_to : (get_or routes i c.index-routes-i-in-Some.result).to ≡ route.to = ap (λ (r : PathRoute). r.to) other in
-    let w = within.1 in
+    let d : PathRoute = c.index-routes-i.result in
+    let route : PathRoute = get_or routes i d in
+    let at = at_hand routes (length c.args.reach.now.places.items) to settled places old ranks i k d c.requires.search.within inv.roomy.places inv.state c.in-Some.ensures.first in
+    let other_to : (get_or routes i c.index-routes-i-in-Some.result).to ≡ route.to = ap (λ (r : PathRoute). r.to) (same_route routes i c.index-routes-i-in-Some.result d at.few) in
+    let w = at.end in
     let n : vec_len c.settling.reach.places ≡ length places = c.settling.reach.places.ok.0 in
-    omega (arith, w, count, other_to, n)
+    omega (arith, w, other_to, n)
 
 pub settle-requires-clause-point : goal.settle-requires-clause-point
 settle-requires-clause-point c =
@@ -206,14 +195,9 @@ settle-requires-clause-point c =
     let i = c.in-Some.i in
     let ranks = c.settling.rank + 1 in
     let inv = c.settling.invariant in
-    let first : IsFirst old i k = first_of old i k c.in-Some.ensures.first in
-    let few : i < length routes = below routes old i k (inv.state).places first.there in
-    let route : PathRoute = get_or routes i c.index-routes-i.result in
-    let there : slice_get routes i ≡ Some route = slice_get-get_or routes i c.index-routes-i.result few in
-    let within = c.requires.search.within i route there in
-    let count = inv.roomy.places in
-    let w = within.0 in
-    omega (arith, w, count)
+    let d : PathRoute = c.index-routes-i.result in
+    let at = at_hand routes (length c.args.reach.now.places.items) to settled places old ranks i k d c.requires.search.within inv.roomy.places inv.state c.in-Some.ensures.first in
+    at.from
 
 pub write_links-requires-clause-back : goal.write_links-requires-clause-back
 write_links-requires-clause-back c =
@@ -226,22 +210,11 @@ write_links-requires-clause-back c =
     let i = c.in-Some.i in
     let ranks = c.settling.rank + 1 in
     let inv = c.settling.invariant in
-    let first : IsFirst old i k = first_of old i k c.in-Some.ensures.first in
-    let few : i < length routes = below routes old i k (inv.state).places first.there in
-    let route : PathRoute = get_or routes i c.index-routes-i.result in
-    let there : slice_get routes i ≡ Some route = slice_get-get_or routes i c.index-routes-i.result few in
-    let within = c.requires.search.within i route there in
-    let count = inv.roomy.places in
-    let other : get_or routes i c.index-routes-i-in-Some.result ≡ route = same_route routes i c.index-routes-i-in-Some.result c.index-routes-i.result few in
-    let inside : route.to < length places = let w = within.1 in omega (arith, w, count) in
-    let other_to : (get_or routes i c.index-routes-i-in-Some.result).to ≡ route.to = ap (λ (r : PathRoute). r.to) other in
-    let inside_other : (get_or routes i c.index-routes-i-in-Some.result).to < length places = omega (arith, inside, other_to) in
-    let at : c.index.result.now ≡ get_or places route.to 0 = c.index.ensures ∙ got places (get_or routes i c.index-routes-i-in-Some.result).to _ 0 inside_other ∙ ap (λ n. get_or places n 0) other_to in
-    let P : ℕ → Type 0 = λ n. IsSettledAt settled n route.to in
-    let next : IsSettledAt settled c.index.result.now route.to = subst P (sym at) (next_place routes to settled places old ranks i k route inv.state first inv.places there inside) in
+    let d : PathRoute = c.index-routes-i.result in
+    let route : PathRoute = get_or routes i d in
+    let at = at_hand routes (length c.args.reach.now.places.items) to settled places old ranks i k d c.requires.search.within inv.roomy.places inv.state c.in-Some.ensures.first in
+    let next : IsSettledAt settled c.index.result.now route.to = next_read routes to settled places old ranks i k d c.index-routes-i-in-Some.result c.index.result.now _ inv.state inv.places at c.index.ensures in
     let hop : Settled = record { point = route.from; route = i; next = c.index.result.now } in
-    let Q : List Settled → Type 0 = λ l. IsNew l route.from in
-    let new_point : IsNew settled route.from = subst Q c.as_slice.ensures.value (c.in_default-place_of.ensures.none refl) in
     let below_next : c.index.result.now < length settled = slice_get_within settled c.index.result.now next.0 next.1 in
     let R : List Settled → Type 0 = λ l. LeadsBack l in
     let same : settled ++ hop ∷ [] ≡ c.as_slice-then-point-from.result.now = sym (c.as_slice-then-point-from.ensures.value ∙ c.settle.ensures.settled) in
@@ -258,22 +231,11 @@ write_links-requires-clause-next c =
     let i = c.in-Some.i in
     let ranks = c.settling.rank + 1 in
     let inv = c.settling.invariant in
-    let first : IsFirst old i k = first_of old i k c.in-Some.ensures.first in
-    let few : i < length routes = below routes old i k (inv.state).places first.there in
-    let route : PathRoute = get_or routes i c.index-routes-i.result in
-    let there : slice_get routes i ≡ Some route = slice_get-get_or routes i c.index-routes-i.result few in
-    let within = c.requires.search.within i route there in
-    let count = inv.roomy.places in
-    let other : get_or routes i c.index-routes-i-in-Some.result ≡ route = same_route routes i c.index-routes-i-in-Some.result c.index-routes-i.result few in
-    let inside : route.to < length places = let w = within.1 in omega (arith, w, count) in
-    let other_to : (get_or routes i c.index-routes-i-in-Some.result).to ≡ route.to = ap (λ (r : PathRoute). r.to) other in
-    let inside_other : (get_or routes i c.index-routes-i-in-Some.result).to < length places = omega (arith, inside, other_to) in
-    let at : c.index.result.now ≡ get_or places route.to 0 = c.index.ensures ∙ got places (get_or routes i c.index-routes-i-in-Some.result).to _ 0 inside_other ∙ ap (λ n. get_or places n 0) other_to in
-    let P : ℕ → Type 0 = λ n. IsSettledAt settled n route.to in
-    let next : IsSettledAt settled c.index.result.now route.to = subst P (sym at) (next_place routes to settled places old ranks i k route inv.state first inv.places there inside) in
+    let d : PathRoute = c.index-routes-i.result in
+    let route : PathRoute = get_or routes i d in
+    let at = at_hand routes (length c.args.reach.now.places.items) to settled places old ranks i k d c.requires.search.within inv.roomy.places inv.state c.in-Some.ensures.first in
+    let next : IsSettledAt settled c.index.result.now route.to = next_read routes to settled places old ranks i k d c.index-routes-i-in-Some.result c.index.result.now _ inv.state inv.places at c.index.ensures in
     let hop : Settled = record { point = route.from; route = i; next = c.index.result.now } in
-    let Q : List Settled → Type 0 = λ l. IsNew l route.from in
-    let new_point : IsNew settled route.from = subst Q c.as_slice.ensures.value (c.in_default-place_of.ensures.none refl) in
     let below_next : c.index.result.now < length settled = slice_get_within settled c.index.result.now next.0 next.1 in
     let same : length c.as_slice-then-point-from.result.now ≡ length (settled ++ hop ∷ []) = ap (length {A = Settled}) (c.as_slice-then-point-from.ensures.value ∙ c.settle.ensures.settled) in
     omega (arith, below_next, same, length-append settled (hop ∷ []))
@@ -289,26 +251,16 @@ returns-then-point-from-clause-yes c =
     let i = c.in-Some.i in
     let ranks = c.settling.rank + 1 in
     let inv = c.settling.invariant in
-    let first : IsFirst old i k = first_of old i k c.in-Some.ensures.first in
-    let few : i < length routes = below routes old i k (inv.state).places first.there in
-    let route : PathRoute = get_or routes i c.index-routes-i.result in
-    let there : slice_get routes i ≡ Some route = slice_get-get_or routes i c.index-routes-i.result few in
-    let within = c.requires.search.within i route there in
-    let count = inv.roomy.places in
-    let read : c.index-left.result.now ≡ get_or old.left.items i 0 = c.index-left.ensures ∙ got old.left.items i _ 0 (inside_left routes to settled old ranks i k inv.state first) in
+    let d : PathRoute = c.index-routes-i.result in
+    let route : PathRoute = get_or routes i d in
+    let at = at_hand routes (length c.args.reach.now.places.items) to settled places old ranks i k d c.requires.search.within inv.roomy.places inv.state c.in-Some.ensures.first in
+    let read : c.index-left.result.now ≡ get_or old.left.items i 0 = left_read routes to settled old ranks i k c.index-left.result.now _ inv.state at.first c.index-left.ensures in
     let back : get_or old.left.items i 0 ≡ 0 = let z = c.if-left-gt0.false in omega (arith, read, z) in
-    let other : get_or routes i c.index-routes-i-in-Some.result ≡ route = same_route routes i c.index-routes-i-in-Some.result c.index-routes-i.result few in
-    let inside : route.to < length places = let w = within.1 in omega (arith, w, count) in
-    let other_to : (get_or routes i c.index-routes-i-in-Some.result).to ≡ route.to = ap (λ (r : PathRoute). r.to) other in
-    let inside_other : (get_or routes i c.index-routes-i-in-Some.result).to < length places = omega (arith, inside, other_to) in
-    let at : c.index.result.now ≡ get_or places route.to 0 = c.index.ensures ∙ got places (get_or routes i c.index-routes-i-in-Some.result).to _ 0 inside_other ∙ ap (λ n. get_or places n 0) other_to in
-    let P : ℕ → Type 0 = λ n. IsSettledAt settled n route.to in
-    let next : IsSettledAt settled c.index.result.now route.to = subst P (sym at) (next_place routes to settled places old ranks i k route inv.state first inv.places there inside) in
+    let next : IsSettledAt settled c.index.result.now route.to = next_read routes to settled places old ranks i k d c.index-routes-i-in-Some.result c.index.result.now _ inv.state inv.places at c.index.ensures in
     let hop : Settled = record { point = route.from; route = i; next = c.index.result.now } in
     let Q : List Settled → Type 0 = λ l. IsNew l route.from in
     let new_point : IsNew settled route.from = subst Q c.as_slice.ensures.value (c.in_default-place_of.ensures.none refl) in
-    let below_next : c.index.result.now < length settled = slice_get_within settled c.index.result.now next.0 next.1 in
-    let nearest = is_nearest routes to settled places ranks i k hop route old inv.state first inv.places back there refl refl next new_point in
+    let nearest = is_nearest routes to settled places ranks i k hop route old inv.state at.first inv.places back at.there refl refl next new_point in
     let same : c.as_slice-then-point-from.result.now ≡ settled ++ hop ∷ [] = c.as_slice-then-point-from.ensures.value ∙ c.settle.ensures.settled in
     let R : List Settled → Type 0 = λ l. AreLinksOf routes l hop c.write_links.new.out.items in
     let S : ℕ → Type 0 = λ p. IsLeastPath routes p to c.write_links.new.out.items in
@@ -325,15 +277,12 @@ enter-requires-in-Some-clause-point c =
     let i = c.in-Some.i in
     let ranks = c.settling.rank + 1 in
     let inv = c.settling.invariant in
-    let first : IsFirst old i k = first_of old i k c.in-Some.ensures.first in
-    let few : i < length routes = below routes old i k (inv.state).places first.there in
-    let route : PathRoute = get_or routes i c.index-routes-i.result in
-    let there : slice_get routes i ≡ Some route = slice_get-get_or routes i c.index-routes-i.result few in
-    let within = c.requires.search.within i route there in
+    let d : PathRoute = c.index-routes-i.result in
+    let at = at_hand routes (length c.args.reach.now.places.items) to settled places old ranks i k d c.requires.search.within inv.roomy.places inv.state c.in-Some.ensures.first in
+    let w = at.from in
     let count = inv.roomy.places in
-    let w = within.0 in
     let n = c.requires.search.arrive.lasts in
-    omega (arith, w, n)
+    omega (arith, w, count, n)
 
 pub enter-requires-in-Some-clause-small : goal.enter-requires-in-Some-clause-small
 enter-requires-in-Some-clause-small c =
@@ -346,14 +295,10 @@ enter-requires-in-Some-clause-small c =
     let i = c.in-Some.i in
     let ranks = c.settling.rank + 1 in
     let inv = c.settling.invariant in
-    let first : IsFirst old i k = first_of old i k c.in-Some.ensures.first in
-    let few : i < length routes = below routes old i k (inv.state).places first.there in
-    let route : PathRoute = get_or routes i c.index-routes-i.result in
-    let there : slice_get routes i ≡ Some route = slice_get-get_or routes i c.index-routes-i.result few in
-    let within = c.requires.search.within i route there in
-    let count = inv.roomy.places in
-    let fit : ranks ≤ 18446744073709551616 = let r = ranks_left routes to settled old ranks i k inv.state first in let s = c.requires.search.steps in omega (arith, r, s) in
-    key_small routes to settled old ranks i k inv.state first fit
+    let d : PathRoute = c.index-routes-i.result in
+    let at = at_hand routes (length c.args.reach.now.places.items) to settled places old ranks i k d c.requires.search.within inv.roomy.places inv.state c.in-Some.ensures.first in
+    let fit : ranks ≤ 18446744073709551616 = let r = ranks_left routes to settled old ranks i k inv.state at.first in let s = c.requires.search.steps in omega (arith, r, s) in
+    key_small routes to settled old ranks i k inv.state at.first fit
 
 pub settling-smaller : goal.settling-smaller
 settling-smaller c =
@@ -366,28 +311,19 @@ settling-smaller c =
     let i = c.in-Some.i in
     let ranks = c.settling.rank + 1 in
     let inv = c.settling.invariant in
-    let first : IsFirst old i k = first_of old i k c.in-Some.ensures.first in
-    let few : i < length routes = below routes old i k (inv.state).places first.there in
-    let route : PathRoute = get_or routes i c.index-routes-i.result in
-    let there : slice_get routes i ≡ Some route = slice_get-get_or routes i c.index-routes-i.result few in
-    let within = c.requires.search.within i route there in
-    let count = inv.roomy.places in
-    let read : c.index-left.result.now ≡ get_or old.left.items i 0 = c.index-left.ensures ∙ got old.left.items i _ 0 (inside_left routes to settled old ranks i k inv.state first) in
+    let d : PathRoute = c.index-routes-i.result in
+    let route : PathRoute = get_or routes i d in
+    let at = at_hand routes (length c.args.reach.now.places.items) to settled places old ranks i k d c.requires.search.within inv.roomy.places inv.state c.in-Some.ensures.first in
+    let read : c.index-left.result.now ≡ get_or old.left.items i 0 = left_read routes to settled old ranks i k c.index-left.result.now _ inv.state at.first c.index-left.ensures in
     let back : get_or old.left.items i 0 ≡ 0 = let z = c.if-left-gt0.false in omega (arith, read, z) in
-    let other : get_or routes i c.index-routes-i-in-Some.result ≡ route = same_route routes i c.index-routes-i-in-Some.result c.index-routes-i.result few in
-    let inside : route.to < length places = let w = within.1 in omega (arith, w, count) in
-    let other_to : (get_or routes i c.index-routes-i-in-Some.result).to ≡ route.to = ap (λ (r : PathRoute). r.to) other in
-    let inside_other : (get_or routes i c.index-routes-i-in-Some.result).to < length places = omega (arith, inside, other_to) in
-    let at : c.index.result.now ≡ get_or places route.to 0 = c.index.ensures ∙ got places (get_or routes i c.index-routes-i-in-Some.result).to _ 0 inside_other ∙ ap (λ n. get_or places n 0) other_to in
-    let P : ℕ → Type 0 = λ n. IsSettledAt settled n route.to in
-    let next : IsSettledAt settled c.index.result.now route.to = subst P (sym at) (next_place routes to settled places old ranks i k route inv.state first inv.places there inside) in
+    let next : IsSettledAt settled c.index.result.now route.to = next_read routes to settled places old ranks i k d c.index-routes-i-in-Some.result c.index.result.now _ inv.state inv.places at c.index.ensures in
     let hop : Settled = record { point = route.from; route = i; next = c.index.result.now } in
     let Q : List Settled → Type 0 = λ l. IsNew l route.from in
     let new_point : IsNew settled route.from = subst Q c.as_slice.ensures.value (c.in_default-place_of.ensures.none refl) in
-    let below_next : c.index.result.now < length settled = slice_get_within settled c.index.result.now next.0 next.1 in
     let mid : Ahead = record { agenda = c.clear-in-Some.new.self; left = c.settling.reach.ahead.left } in
     let leaves : Leaves i old mid = record { keys = c.clear-in-Some.ensures; lefts = refl } in
-    let on = settles routes to settled places ranks i k hop route old mid c.enter-in-Some.new.ahead inv.state first inv.root inv.back inv.places back there refl refl next new_point leaves c.enter-in-Some.ensures in
+    let E : List Settled → Type 0 = λ l. EntersFrom routes l hop.point 0 (record { date = k.date; serial = k.serial; rank = ranks }) mid c.enter-in-Some.new.ahead in
+    let on = settles routes to settled places ranks i k hop route old mid c.enter-in-Some.new.ahead inv.state at.first inv.root inv.back inv.places back at.there refl refl next new_point leaves (subst E c.settle.ensures.settled c.enter-in-Some.ensures) in
     let R : List Settled → Type 0 = λ l. work routes l c.enter-in-Some.new.ahead < work routes settled old in
     subst R (sym c.settle.ensures.settled) on.less
 
@@ -402,28 +338,20 @@ settling-preserved c =
     let i = c.in-Some.i in
     let ranks = c.settling.rank + 1 in
     let inv = c.settling.invariant in
-    let first : IsFirst old i k = first_of old i k c.in-Some.ensures.first in
-    let few : i < length routes = below routes old i k (inv.state).places first.there in
-    let route : PathRoute = get_or routes i c.index-routes-i.result in
-    let there : slice_get routes i ≡ Some route = slice_get-get_or routes i c.index-routes-i.result few in
-    let within = c.requires.search.within i route there in
-    let count = inv.roomy.places in
-    let read : c.index-left.result.now ≡ get_or old.left.items i 0 = c.index-left.ensures ∙ got old.left.items i _ 0 (inside_left routes to settled old ranks i k inv.state first) in
+    let d : PathRoute = c.index-routes-i.result in
+    let route : PathRoute = get_or routes i d in
+    let at = at_hand routes (length c.args.reach.now.places.items) to settled places old ranks i k d c.requires.search.within inv.roomy.places inv.state c.in-Some.ensures.first in
+    let read : c.index-left.result.now ≡ get_or old.left.items i 0 = left_read routes to settled old ranks i k c.index-left.result.now _ inv.state at.first c.index-left.ensures in
     let back : get_or old.left.items i 0 ≡ 0 = let z = c.if-left-gt0.false in omega (arith, read, z) in
-    let other : get_or routes i c.index-routes-i-in-Some.result ≡ route = same_route routes i c.index-routes-i-in-Some.result c.index-routes-i.result few in
-    let inside : route.to < length places = let w = within.1 in omega (arith, w, count) in
-    let other_to : (get_or routes i c.index-routes-i-in-Some.result).to ≡ route.to = ap (λ (r : PathRoute). r.to) other in
-    let inside_other : (get_or routes i c.index-routes-i-in-Some.result).to < length places = omega (arith, inside, other_to) in
-    let at : c.index.result.now ≡ get_or places route.to 0 = c.index.ensures ∙ got places (get_or routes i c.index-routes-i-in-Some.result).to _ 0 inside_other ∙ ap (λ n. get_or places n 0) other_to in
-    let P : ℕ → Type 0 = λ n. IsSettledAt settled n route.to in
-    let next : IsSettledAt settled c.index.result.now route.to = subst P (sym at) (next_place routes to settled places old ranks i k route inv.state first inv.places there inside) in
+    let next : IsSettledAt settled c.index.result.now route.to = next_read routes to settled places old ranks i k d c.index-routes-i-in-Some.result c.index.result.now _ inv.state inv.places at c.index.ensures in
     let hop : Settled = record { point = route.from; route = i; next = c.index.result.now } in
     let Q : List Settled → Type 0 = λ l. IsNew l route.from in
     let new_point : IsNew settled route.from = subst Q c.as_slice.ensures.value (c.in_default-place_of.ensures.none refl) in
     let below_next : c.index.result.now < length settled = slice_get_within settled c.index.result.now next.0 next.1 in
     let mid : Ahead = record { agenda = c.clear-in-Some.new.self; left = c.settling.reach.ahead.left } in
     let leaves : Leaves i old mid = record { keys = c.clear-in-Some.ensures; lefts = refl } in
-    let on = settles routes to settled places ranks i k hop route old mid c.enter-in-Some.new.ahead inv.state first inv.root inv.back inv.places back there refl refl next new_point leaves c.enter-in-Some.ensures in
+    let E : List Settled → Type 0 = λ l. EntersFrom routes l hop.point 0 (record { date = k.date; serial = k.serial; rank = ranks }) mid c.enter-in-Some.new.ahead in
+    let on = settles routes to settled places ranks i k hop route old mid c.enter-in-Some.new.ahead inv.state at.first inv.root inv.back inv.places back at.there refl refl next new_point leaves (subst E c.settle.ensures.settled c.enter-in-Some.ensures) in
     let same : settled ++ hop ∷ [] ≡ c.settle.new.settled.items = sym c.settle.ensures.settled in
     record {
       state = subst (λ (l : List Settled). IsUnderWay routes to l c.enter-in-Some.new.ahead (ranks + 1)) same on.state;
@@ -438,6 +366,7 @@ settling-preserved c =
         ahead = (on.state).places;
         short = inv.roomy.short;
         best = inv.roomy.best;
+        held = inv.roomy.held;
       };
     }
 

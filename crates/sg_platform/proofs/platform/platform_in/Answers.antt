@@ -1,13 +1,9 @@
 use Rattle.std.proofs.Common.{◌∙◌, sym}
-use Rattle.sg_platform.proofs.Whole.{platform_without_faults, small_without_faults}
+use Rattle.sg_platform.proofs.Whole.{platform_without_faults}
 use Rattle.sg_rules.specs.kept.NamesView.{names_view}
 use Rattle.toml.specs.View.{table_view}
 use Rattle.sg_platform.proofs.platform.platform_in.Goals as goal
 
-pub rows_of-requires-clause-small : goal.rows_of-requires-clause-small
-rows_of-requires-clause-small c =
-    small_without_faults (names_view c.args.names.now) (table_view c.args.tree.now) c.requires.known (sym c.in_ok-fault.ensures ∙ c.in-None.is)
-
-pub rows_of-requires-clause-kept : goal.rows_of-requires-clause-kept
-rows_of-requires-clause-kept c =
-    platform_without_faults (names_view c.args.names.now) (table_view c.args.tree.now) c.requires.known (sym c.in_ok-fault.ensures ∙ c.in-None.is)
+pub rows_of-requires : goal.rows_of-requires
+rows_of-requires c =
+    platform_without_faults (names_view c.args.names.now) (table_view c.args.tree.now) c.requires (sym c.in_ok-fault.ensures ∙ c.in-None.is)

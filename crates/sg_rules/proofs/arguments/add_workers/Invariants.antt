@@ -1,4 +1,4 @@
-use Rattle.std.proofs.Common.{◌≡◌, ℕ, List, drop}
+use Rattle.std.proofs.Common.{◌≡◌, ◌+◌, ℕ, List, drop}
 use Rattle.std.specs.HashMap.{get_by_text}
 use Rattle.std.specs.Map.{lookup}
 use Rattle.std.specs.Str.{bytes_eq}
@@ -10,5 +10,5 @@ use Rattle.sg_rules.proofs.arguments.add_workers.Given as goal
 
 abbrev pub invariant-loop-i : goal.invariant-loop-i
 invariant-loop-i l =
-    (q : List ℕ) → or_else (get_by_text l.space q) (lookup (bytes_eq q) (along (λ i row. with_number i (worker_names (view row))) l.i (drop l.i l.rows)))
-    ≡ or_else (get_by_text l.initial.space q) (lookup (bytes_eq q) (along (λ i row. with_number i (worker_names (view row))) 0 l.rows))
+    (q : List ℕ) → or_else (get_by_text l.space q) (lookup (bytes_eq q) (along (λ i row. with_number (i + 1) (worker_names (view row))) l.i (drop l.i l.rows)))
+    ≡ or_else (get_by_text l.initial.space q) (lookup (bytes_eq q) (along (λ i row. with_number (i + 1) (worker_names (view row))) 0 l.rows))

@@ -1,3 +1,4 @@
+use Rattle.std.proofs.Common.{◌+◌}
 use Rattle.std.specs.HashMap.{get_by_text}
 use Rattle.std.specs.Str.{bytes_eq}
 use Rattle.sg_rules.specs.Arguments.{worker_names}
@@ -8,4 +9,4 @@ use Rattle.sg_rules.proofs.arguments.workers_in.Goals as goal
 
 pub returns : goal.returns
 returns c = λ q.
-    made_along view (λ i row. with_number i (worker_names row)) (bytes_eq q) c.args.rows.now (get_by_text c.new-made.result q) _ (rw c.new-made.ensures.empty) (c.in_ok-add_workers.ensures q)
+    made_along view (λ i row. with_number (i + 1) (worker_names row)) (bytes_eq q) c.args.rows.now (get_by_text c.new-made.result q) _ (rw c.new-made.ensures.empty) (c.in_ok-add_workers.ensures q)

@@ -7,5 +7,5 @@ use Rattle.sg_rules.proofs.faults.keys_fault.Given as goal
 
 abbrev pub invariant-loop-i : goal.invariant-loop-i
 invariant-loop-i l =
-    let f = key_faults (names_view l.names) l.number l.table l.row_number (view l.row) in
+    let f = key_faults (names_view l.names) l.number l.place.table l.place.row (view l.row) in
     first (along f l.i (drop l.i l.keys)) ≡ first (along f 0 l.keys)

@@ -5,12 +5,12 @@ use Rattle.sg_rules.specs.Names.{deployment_known}
 use Rattle.sg_tree.specs.Names.{pair_eq}
 use Rattle.sg_rules.proofs.names.deployment_names.Goals as goal
 
-pub returns-clause-known : goal.returns-clause-known
+pub returns : goal.returns
 unfolding deployment_known
-returns-clause-known c = rw (← c.rows_at-rows.ensures, ← c.rows_at.ensures, ← c.rows_at-2.ensures)
+returns c = rw (← c.rows_at-rows.ensures, ← c.rows_at.ensures, ← c.rows_at-2.ensures)
     (known_same _ _ (record {
       zones = refl;
-      hosts = refl;
+      hosts = c.in_ok-hosts.ensures;
       points = λ q. refl;
       taken = λ q. let empty : get_by_text c.new.result q ≡ None = rw c.new.ensures.empty in empty;
       links = λ q. let empty : get_by_text c.new-2.result q ≡ None = rw c.new-2.ensures.empty in empty;

@@ -12,9 +12,9 @@ use Rattle.sg_tree.specs.Tree.{rows_at}
 use Rattle.toml.specs.View.{table_view, view}
 use Rattle.sg_rules.proofs.names.platform_names.Goals as goal
 
-pub returns-clause-known : goal.returns-clause-known
+pub returns : goal.returns
 unfolding platform_known
-returns-clause-known c =
+returns c =
     let tree = table_view c.args.tree.now in
     let zones = c.rows_at-zones.result.now in
     let hosts = c.rows_at-hosts.result.now in
@@ -31,8 +31,8 @@ returns-clause-known c =
     let zone_pairs : (q : Pair) → lookup (pair_eq q) (pair_numbers found (map view zone_routes)) ≡ lookup (pair_eq q) (pair_numbers (points_in tree) (rows_at (codes "zone_route") tree))
     = λ q i. lookup (pair_eq q) (pair_numbers (same i) (c.rows_at-zone_routes.ensures i)) in
     known_same _ _ (record {
-      zones = sym (length-map zones view) ∙ ap length c.rows_at-zones.ensures;
-      hosts = sym (length-map hosts view) ∙ ap length c.rows_at-hosts.ensures;
+      zones = c.in_ok-zone_count.ensures ∙ sym (length-map zones view) ∙ ap length c.rows_at-zones.ensures;
+      hosts = c.in_ok-host_count.ensures ∙ sym (length-map hosts view) ∙ ap length c.rows_at-hosts.ensures;
       points = points;
       taken = λ q. c.in_ok-links.ensures.taken q ∙ ap (λ rows. lookup (bytes_eq q) (taken_numbers rows)) c.rows_at-2.ensures;
       links = λ q. c.in_ok-links.ensures.declared q ∙ ap (λ rows. lookup (bytes_eq q) (declared_numbers rows)) c.rows_at-2.ensures;

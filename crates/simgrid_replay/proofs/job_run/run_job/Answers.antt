@@ -9,21 +9,23 @@ use Rattle.simgrid_replay.proofs.PartLemmas.{named_on}
 use Rattle.simgrid_replay.proofs.TopLemmas.{begun_gives, run_cause, run_counts_on, run_needs_on, run_prints_on}
 use Rattle.simgrid_replay.proofs.job_run.run_job.Goals as goal
 
+pub run-ended-requires-clause-crew : goal.run-ended-requires-clause-crew
+run-ended-requires-clause-crew g c κs within = record { blank = c.requires.blank; enough = c.requires.setup.seated }
+
 pub returns-clause-output : goal.returns-clause-output
 returns-clause-output g c = λ s gives.
+    let job = job_view c.args.job.now in
+    let on = setting_in c.args.setup.now in
+    let terms = c.terms_for-terms.result in
+    let asked = c.terms_for-terms.ensures in
     let run = c.run-ended.ensures.output s (λ scripted. begun_gives _ _ _ s c.begin_script.ensures.left (gives (subst (λ (b : Bool). IsTrue b) c.requires.setup.script scripted))) in
     record {
-      prints = run_prints_on (job_view c.args.job.now) (setting_in c.args.setup.now) c.args.setup.now.script c.terms_for-terms.result.budget c.terms_for-terms.result.show s
-          c.run-ended.result c.status.result _ _ c.requires.setup.script c.terms_for-terms.ensures.budget c.terms_for-terms.ensures.show c.status.ensures.is run.ends;
-      counts = run_counts_on (job_view c.args.job.now) (setting_in c.args.setup.now) c.args.setup.now.script c.terms_for-terms.result.budget c.terms_for-terms.result.show s
-          _ _ c.requires.setup.script c.terms_for-terms.ensures.budget c.terms_for-terms.ensures.show run.work;
+      outcome = record {
+        prints = run_prints_on job on c.args.setup.now.script terms.budget terms.show s c.run-ended.result c.status.result _ _ c.requires.setup.script asked.budget asked.show c.status.ensures.is run.ends;
+        counts = run_counts_on job on c.args.setup.now.script terms.budget terms.show s _ _ c.requires.setup.script asked.budget asked.show run.work;
+      };
+      needed = run_needs_on job on c.args.setup.now.script terms.budget terms.show s _ _ _ c.requires.setup.script asked.budget asked.show c.begin_script.ensures.left run.needed;
     }
-
-pub returns-clause-needed : goal.returns-clause-needed
-returns-clause-needed g c = λ s gives.
-    let needed = c.run-ended.ensures.needed s (λ scripted. begun_gives _ _ _ s c.begin_script.ensures.left (gives (subst (λ (b : Bool). IsTrue b) c.requires.setup.script scripted))) in
-    run_needs_on (job_view c.args.job.now) (setting_in c.args.setup.now) c.args.setup.now.script c.terms_for-terms.result.budget c.terms_for-terms.result.show s
-    _ _ _ c.requires.setup.script c.terms_for-terms.ensures.budget c.terms_for-terms.ensures.show c.begin_script.ensures.left needed
 
 pub returns-clause-crew : goal.returns-clause-crew
 returns-clause-crew g c = λ ends. c.run-ended.ensures.crew (λ is. ends (c.status.ensures.is ∙ ap status_of is))

@@ -30,34 +30,25 @@ returns-in-Ok-clause-output g c = λ p d s gives.
     let is = ap (λ (n : ℕ). setting (request_of c.args.job.now) n p d) (sym contexts) ∙ c.in-Ok.ensures.given p d before in
     let run = c.run_job.ensures.output s (script_after (request_of c.args.job.now) old mid new s c.prepare.ensures.read.unbegun gives.script) in
     record {
-      prints = setting_prints (job_view c.args.job.now) s _ (setting_in c.in-Ok.setup) c.run_job.result (g.O.Sinks.contents c.args.out.now) (g.O.Sinks.contents c.run_job.new.out) is run.prints;
-      counts = setting_counts (job_view c.args.job.now) s _ (setting_in c.in-Ok.setup) _ _ is run.counts;
+      outcome = record {
+        prints = setting_prints (job_view c.args.job.now) s _ (setting_in c.in-Ok.setup) c.run_job.result (g.O.Sinks.contents c.args.out.now) (g.O.Sinks.contents c.run_job.new.out) is run.outcome.prints;
+        counts = setting_counts (job_view c.args.job.now) s _ (setting_in c.in-Ok.setup) _ _ is run.outcome.counts;
+      };
+      needed = setting_needs (job_view c.args.job.now) s _ (setting_in c.in-Ok.setup) (old Script) (mid Script) (new Script) is c.prepare.ensures.read.unbegun run.needed;
     }
 
 pub returns-in-Err-clause-output : goal.returns-in-Err-clause-output
 returns-in-Err-clause-output g c = λ p d s gives.
     let contexts : c.len.result ≡ length c.args.crew.now.items = search rules in
     record {
-      prints = refusal_prints (λ r. or_refused (job_view c.args.job.now) s r) (setting (request_of c.args.job.now) (length c.args.crew.now.items) p d)
-          c.in-Err.why c.refuse.result _ _ (λ r. refl)
-          (λ told. sym (ap (λ (n : ℕ). setting (request_of c.args.job.now) n p d) (sym contexts) ∙ c.in-Err.ensures.given p d gives.texts (λ e. told (cc)))) c.refuse.ensures.prints;
-      counts = omega (arith);
+      outcome = record {
+        prints = refusal_prints (λ r. or_refused (job_view c.args.job.now) s r) (setting (request_of c.args.job.now) (length c.args.crew.now.items) p d)
+            c.in-Err.why c.refuse.result _ _ (λ r. refl)
+            (λ told. sym (ap (λ (n : ℕ). setting (request_of c.args.job.now) n p d) (sym contexts) ∙ c.in-Err.ensures.given p d gives.texts (λ e. told (cc)))) c.refuse.ensures.prints;
+        counts = omega (arith);
+      };
+      needed = takes_none _ _ _ c.in-Err.ensures.read.unbegun;
     }
-
-pub returns-in-Ok-clause-needed : goal.returns-in-Ok-clause-needed
-returns-in-Ok-clause-needed g c = λ p d s gives.
-    let old = g.F.Files.shows c.args.files.now in
-    let mid = g.F.Files.shows c.prepare.new.files in
-    let new = g.F.Files.shows c.run_job.new.files in
-    let contexts : c.len.result ≡ length c.args.crew.now.items = search rules in
-    let others = c.run_job.ensures.script.others in
-    let before = texts_before (request_of c.args.job.now) old mid new p d (others Platform (λ e. cc)) (others Deployment (λ e. cc)) gives.texts in
-    let is = ap (λ (n : ℕ). setting (request_of c.args.job.now) n p d) (sym contexts) ∙ c.in-Ok.ensures.given p d before in
-    setting_needs (job_view c.args.job.now) s _ (setting_in c.in-Ok.setup) (old Script) (mid Script) (new Script) is c.prepare.ensures.read.unbegun
-    (c.run_job.ensures.needed s (script_after (request_of c.args.job.now) old mid new s c.prepare.ensures.read.unbegun gives.script))
-
-pub returns-in-Err-clause-needed : goal.returns-in-Err-clause-needed
-returns-in-Err-clause-needed g c = λ p d s gives. takes_none _ _ _ c.in-Err.ensures.read.unbegun
 
 pub returns-in-Ok-clause-crew : goal.returns-in-Ok-clause-crew
 returns-in-Ok-clause-crew g c = record {
@@ -121,7 +112,7 @@ pub returns-in-Err-clause-parts : goal.returns-in-Err-clause-parts
 returns-in-Err-clause-parts g c =
     let request = request_of c.args.job.now in
     let read = c.in-Err.ensures.read in
-    let fresh = g.met.F.Files.unnamed c.args.files.now Script (c.requires.fresh Script) in
+    let fresh = g.met.F.Files.unnamed c.args.files.now Script (c.requires.start.fresh Script) in
     record {
       named = named_parts request (g.F.Files.shows c.prepare.new.files) c.in-Err.ensures.platform c.in-Err.ensures.deployment
           (nameless_by request Script (g.F.Files.shows c.prepare.new.files Script) (ap (λ (v : PartView). v.name) read.unbegun ∙ fresh));

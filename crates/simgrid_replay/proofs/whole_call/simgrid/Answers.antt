@@ -17,14 +17,14 @@ returns-in-Ok-clause-output g c = λ job asks p d s gives.
     let same : job_view c.in-Ok.job ≡ job = job_is _ _ c.read_words.result c.in-Ok.job job c.read_words.ensures c.in-Ok.is asks.job in
     subst (λ (j : Asked). PartsGive j.request (g.F.Files.shows c.args.files.now) (g.F.Files.shows c.do_job.new.files) p d s →
     HasOutcome (outcome j (length c.args.crew.now.items) p d s) c.do_job.result (g.O.Sinks.contents c.args.out.now) (g.O.Sinks.contents c.do_job.new.out) c.args.steps.now c.do_job.new.steps) same
-    (c.do_job.ensures.output p d s) gives
+    (λ given. (c.do_job.ensures.output p d s given).outcome) gives
 
 pub returns-in-Ok-clause-needed : goal.returns-in-Ok-clause-needed
 returns-in-Ok-clause-needed g c = λ job asks p d s gives.
     let same : job_view c.in-Ok.job ≡ job = job_is _ _ c.read_words.result c.in-Ok.job job c.read_words.ensures c.in-Ok.is asks.job in
     subst (λ (j : Asked). PartsGive j.request (g.F.Files.shows c.args.files.now) (g.F.Files.shows c.do_job.new.files) p d s →
     IsReadOnDemand (outcome j (length c.args.crew.now.items) p d s).need (g.F.Files.shows c.args.files.now) (g.F.Files.shows c.do_job.new.files)) same
-    (c.do_job.ensures.needed p d s) gives
+    (λ given. (c.do_job.ensures.output p d s given).needed) gives
 
 pub returns-in-Err-clause-needed : goal.returns-in-Err-clause-needed
 returns-in-Err-clause-needed g c = λ job asks p d s gives. takes_none _ _ _ refl
@@ -44,9 +44,9 @@ returns-in-Ok-clause-refused_first g c = λ job asks p d texts refused.
 
 pub returns-in-Err-clause-output : goal.returns-in-Err-clause-output
 returns-in-Err-clause-output g c = λ job asks p d s gives.
-    let silent = c.tell_words.ensures.silent (asked_of (map string_bytes c.args.words.now)) (fault_is _ _ (asked_of (map string_bytes c.args.words.now)) c.read_words.result c.in-Err.fault c.read_words.ensures c.in-Err.is asks.accepted) in
+    let silent = c.report_words.ensures.silent (asked_of (map string_bytes c.args.words.now)) (fault_is _ _ (asked_of (map string_bytes c.args.words.now)) c.read_words.result c.in-Err.fault c.read_words.ensures c.in-Err.is asks.accepted) in
     record {
-      prints = prints_nothing (outcome job (length c.args.crew.now.items) p d s) c.tell_words.result _ _ silent.1;
+      prints = prints_nothing (outcome job (length c.args.crew.now.items) p d s) c.report_words.result _ _ silent.1;
       counts = omega (arith);
     }
 
@@ -62,23 +62,23 @@ returns-in-Ok-clause-completed g c = λ job asks p d s gives sound done.
 
 pub returns-in-Err-clause-complete : goal.returns-in-Err-clause-complete
 returns-in-Err-clause-complete g c = λ job asks p d s gives sound some.
-    absurd (some (c.tell_words.ensures.silent (asked_of (map string_bytes c.args.words.now)) (fault_is _ _ (asked_of (map string_bytes c.args.words.now)) c.read_words.result c.in-Err.fault c.read_words.ensures c.in-Err.is asks.accepted)).0)
+    absurd (some (c.report_words.ensures.silent (asked_of (map string_bytes c.args.words.now)) (fault_is _ _ (asked_of (map string_bytes c.args.words.now)) c.read_words.result c.in-Err.fault c.read_words.ensures c.in-Err.is asks.accepted)).0)
 
 pub returns-in-Err-clause-completed : goal.returns-in-Err-clause-completed
 returns-in-Err-clause-completed g c = λ job asks p d s gives sound done.
-    inr (c.tell_words.ensures.silent (asked_of (map string_bytes c.args.words.now)) (fault_is _ _ (asked_of (map string_bytes c.args.words.now)) c.read_words.result c.in-Err.fault c.read_words.ensures c.in-Err.is asks.accepted)).0
+    inr (c.report_words.ensures.silent (asked_of (map string_bytes c.args.words.now)) (fault_is _ _ (asked_of (map string_bytes c.args.words.now)) c.read_words.result c.in-Err.fault c.read_words.ensures c.in-Err.is asks.accepted)).0
 
 pub returns-in-Err-clause-crew : goal.returns-in-Err-clause-crew
 returns-in-Err-clause-crew g c = λ job asks p d texts ends.
-    absurd (ends (c.tell_words.ensures.silent (asked_of (map string_bytes c.args.words.now)) (fault_is _ _ (asked_of (map string_bytes c.args.words.now)) c.read_words.result c.in-Err.fault c.read_words.ensures c.in-Err.is asks.accepted)).0)
+    absurd (ends (c.report_words.ensures.silent (asked_of (map string_bytes c.args.words.now)) (fault_is _ _ (asked_of (map string_bytes c.args.words.now)) c.read_words.result c.in-Err.fault c.read_words.ensures c.in-Err.is asks.accepted)).0)
 
 pub returns-in-Err-clause-refused : goal.returns-in-Err-clause-refused
 returns-in-Err-clause-refused g c = λ some.
-    c.tell_words.ensures.tells (refusals (map string_bytes c.args.words.now)) (asked_of (map string_bytes c.args.words.now)) (fault_is _ _ (asked_of (map string_bytes c.args.words.now)) c.read_words.result c.in-Err.fault c.read_words.ensures c.in-Err.is refl) some
+    c.report_words.ensures.tells (refusals (map string_bytes c.args.words.now)) (asked_of (map string_bytes c.args.words.now)) (fault_is _ _ (asked_of (map string_bytes c.args.words.now)) c.read_words.result c.in-Err.fault c.read_words.ensures c.in-Err.is refl) some
 
 pub returns-in-Err-clause-words : goal.returns-in-Err-clause-words
 returns-in-Err-clause-words g c = λ told none.
-    let silent = c.tell_words.ensures.silent (asked_of (map string_bytes c.args.words.now)) (fault_is _ _ (asked_of (map string_bytes c.args.words.now)) c.read_words.result c.in-Err.fault c.read_words.ensures c.in-Err.is none) in
+    let silent = c.report_words.ensures.silent (asked_of (map string_bytes c.args.words.now)) (fault_is _ _ (asked_of (map string_bytes c.args.words.now)) c.read_words.result c.in-Err.fault c.read_words.ensures c.in-Err.is none) in
     cc (silent.0, told)
 
 pub returns-in-Ok-clause-unscripted : goal.returns-in-Ok-clause-unscripted
@@ -102,9 +102,9 @@ returns-in-Ok-clause-platform_refused g c = c.do_job.ensures.parts.order.platfor
 
 pub returns-in-Err-clause-cause : goal.returns-in-Err-clause-cause
 returns-in-Err-clause-cause g c = record {
-  write = c.tell_words.ensures.cause.write;
-  sound = c.tell_words.ensures.cause.sound;
-  read = λ told. absurd (c.tell_words.ensures.cause.read told);
+  write = c.report_words.ensures.cause.write;
+  sound = c.report_words.ensures.cause.sound;
+  read = λ told. absurd (c.report_words.ensures.cause.read told);
 }
 
 pub returns-in-Ok-clause-job : goal.returns-in-Ok-clause-job
@@ -141,4 +141,7 @@ pub returns-in-Ok-clause-broken_text : goal.returns-in-Ok-clause-broken_text
 returns-in-Ok-clause-broken_text g c = c.do_job.ensures.crew.broken
 
 pub returns-in-Err-clause-rest : goal.returns-in-Err-clause-rest
-returns-in-Err-clause-rest g c = record { platform = λ is. absurd (c.tell_words.ensures.platform is); deployment = λ is. absurd (c.tell_words.ensures.deployment is) }
+returns-in-Err-clause-rest g c = record { platform = λ is. absurd (c.report_words.ensures.platform is); deployment = λ is. absurd (c.report_words.ensures.deployment is) }
+
+pub do_job-requires-clause-start : goal.do_job-requires-clause-start
+do_job-requires-clause-start g c κs within = record { fresh = c.requires.fresh; blank = c.requires.blank }

@@ -24,7 +24,7 @@ invariant_of-self c =
     let s : State = state_of kept in
     let is = c.self.invariant in
     let key = c.put-key.result in
-    let live : Live = record { serial = c.args.serial.0; kind = phase.Latency; kept = c.args.latency; stamp = kept.date; rate = 1; bytes = c.args.bytes; host = 0; flow = 0 } in
+    let live : Live = record { serial = c.args.serial.0; kind = phase.Latency; kept = c.args.latency; stamp = kept.date; rate = 1; weight = 1; bound = c.args.bound; bytes = c.args.bytes; host = 0; flow = 0 } in
     let room = ap (λ (d : Doing). d.room) c.self.view_is in
     let drawn : length c.args.self.now.under.tasks ≡ s.drawn = sym (ap (λ (d : Doing). length d.under.tasks) c.self.view_is) ∙ length-listed s.drawn (λ i. told_at (task_of s) s.slots (i + 1)) in
     let free = c.put-key.ensures.free in
@@ -38,7 +38,7 @@ invariant_of-self c =
     let here : get_or ways key [] ≡ c.args.links.now = get_or-set_same s.ways key c.follow.new.self [] (omega (arith, within, is.room.ways_long)) ∙ c.follow.ensures in
     let way : IsWay s.capacities (get_or ways key []) = subst (IsWay s.capacities) (sym here) (record { some = c.requires.some; apart = c.requires.apart; exist = exist; few = c.requires.few }) in
     let new : State = begun_state s s.drawn key live ways s.keys s.runs s.by_flow in
-    let turns : Turns s new key live.serial (Some live) = time_turns s s.drawn key live ways is.are (idle_begins s key live is.are within free c.requires.from to idle refl small c.requires.bytes) free refl refl (λ k ne. get_or-set_other s.ways key k c.follow.new.self [] ne) (λ e. way) in
+    let turns : Turns s new key live.serial (Some live) = time_turns s s.drawn key live ways is.are (idle_begins s key live is.are within free c.requires.from to idle refl small c.requires.bytes (omega arith, omega arith)) free refl refl (λ k ne. get_or-set_other s.ways key k c.follow.new.self [] ne) (λ e. way) in
     let state_is = state_same s s.drawn false c.put-key.new.self.slots (set s.slots key (Some live)) ways ways s.keys s.keys s.runs s.runs s.by_flow s.by_flow c.insert.new.self.members (s.fresh ++ key ∷ []) s.ended s.ended
     c.put-key.ensures.slots refl refl refl refl (ap (λ (m : MarkSet). m.members) c.insert.ensures ∙ new_mark key s.fresh (unmarked s key is.are free)) refl in
     record {
@@ -64,7 +64,7 @@ returns c =
     let s : State = state_of kept in
     let is = c.self.invariant in
     let key = c.put-key.result in
-    let live : Live = record { serial = c.args.serial.0; kind = phase.Latency; kept = c.args.latency; stamp = kept.date; rate = 1; bytes = c.args.bytes; host = 0; flow = 0 } in
+    let live : Live = record { serial = c.args.serial.0; kind = phase.Latency; kept = c.args.latency; stamp = kept.date; rate = 1; weight = 1; bound = c.args.bound; bytes = c.args.bytes; host = 0; flow = 0 } in
     let drawn : length c.args.self.now.under.tasks ≡ s.drawn = sym (ap (λ (d : Doing). length d.under.tasks) c.self.view_is) ∙ length-listed s.drawn (λ i. told_at (task_of s) s.slots (i + 1)) in
     let free = c.put-key.ensures.free in
     let within = c.put-key.ensures.in_range in
@@ -77,10 +77,10 @@ returns c =
     let here : get_or ways key [] ≡ c.args.links.now = get_or-set_same s.ways key c.follow.new.self [] (omega (arith, within, is.room.ways_long)) ∙ c.follow.ensures in
     let way : IsWay s.capacities (get_or ways key []) = subst (IsWay s.capacities) (sym here) (record { some = c.requires.some; apart = c.requires.apart; exist = exist; few = c.requires.few }) in
     let new : State = begun_state s s.drawn key live ways s.keys s.runs s.by_flow in
-    let turns : Turns s new key live.serial (Some live) = time_turns s s.drawn key live ways is.are (idle_begins s key live is.are within free c.requires.from to idle refl small c.requires.bytes) free refl refl (λ k ne. get_or-set_other s.ways key k c.follow.new.self [] ne) (λ e. way) in
+    let turns : Turns s new key live.serial (Some live) = time_turns s s.drawn key live ways is.are (idle_begins s key live is.are within free c.requires.from to idle refl small c.requires.bytes (omega arith, omega arith)) free refl refl (λ k ne. get_or-set_other s.ways key k c.follow.new.self [] ne) (λ e. way) in
     let state_is = state_same s s.drawn false c.put-key.new.self.slots (set s.slots key (Some live)) ways ways s.keys s.keys s.runs s.runs s.by_flow s.by_flow c.insert.new.self.members (s.fresh ++ key ∷ []) s.ended s.ended
     c.put-key.ensures.slots refl refl refl refl (ap (λ (m : MarkSet). m.members) c.insert.ensures ∙ new_mark key s.fresh (unmarked s key is.are free)) refl in
     ap (λ st. doing_of st (kept.room - 1)) state_is
     ∙ begun_told s new key live.serial (Some live) is.are turns live kept.room refl refl c.requires.from to idle free refl refl
-    ∙ ap₂ (λ n l. begun_in c.args.serial.0 (record { kind = phase.Latency; left = n; place = over (record { links = l }); bound = None; bytes = c.args.bytes }) (doing_of s kept.room)) (left_fresh c.args.latency 1 kept.date) here
-    ∙ ap (begun_in c.args.serial.0 (comm_of (record { links = c.args.links.now }) c.args.latency c.args.bytes)) c.self.view_is
+    ∙ ap₂ (λ n l. begun_in c.args.serial.0 (record { kind = phase.Latency; left = n; place = over (record { links = l }); weight = 1; bound = c.args.bound; bytes = c.args.bytes }) (doing_of s kept.room)) (left_fresh c.args.latency 1 kept.date) here
+    ∙ ap (begun_in c.args.serial.0 (comm_of (record { links = c.args.links.now }) c.args.latency c.args.bytes c.args.bound)) c.self.view_is

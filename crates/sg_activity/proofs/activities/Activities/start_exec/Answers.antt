@@ -26,13 +26,13 @@ invariant_of-self c =
     let s : State = state_of kept in
     let is = c.self.invariant in
     let key = c.put-key.result in
-    let live : Live = record { serial = c.next_serial-serial.result.0; kind = phase.Exec; kept = c.from.result * 1000000000; stamp = kept.date; rate = 0; bytes = 0; host = c.args.host.0; flow = c.start-flow.result } in
+    let live : Live = record { serial = c.next_serial-serial.result.0; kind = phase.Exec; kept = c.from.result * 1000000000; stamp = kept.date; rate = 0; weight = c.args.priority; bound = None; bytes = 0; host = c.args.host.0; flow = c.start-flow.result } in
     let id = c.start-flow.result in
-    let asked : Flow = flow (c.args.host.0 ∷ []) 1 (Some (host_at kept.hosts.items c.args.host.0).speed) in
+    let asked : Flow = flow (c.args.host.0 ∷ []) c.args.priority (Some (host_at kept.hosts.items c.args.host.0).speed) in
     let run : RunningFlow = record { flow = asked; rate = 0; began = true } in
     let there : c.args.host.0 < length kept.hosts.items = subst (λ (d : Doing). c.args.host.0 < length d.under.capacities.hosts) (sym c.self.view_is) c.requires.host in
     let speed = ap (λ (h : HostCap). h.speed) (c.index.ensures ∙ get_or_default kept.hosts.items _ _ _ there) in
-    let runs : c.start-flow.new.self.slots ≡ set s.runs id (Some run) = ap (λ (l : Lazily). l.slots) c.start-flow.ensures.starts ∙ ap (λ v. set s.runs id (Some (record { flow = flow (c.args.host.0 ∷ []) 1 (Some v); rate = 0; began = true }))) speed in
+    let runs : c.start-flow.new.self.slots ≡ set s.runs id (Some run) = ap (λ (l : Lazily). l.slots) c.start-flow.ensures.starts ∙ ap (λ v. set s.runs id (Some (record { flow = flow (c.args.host.0 ∷ []) c.args.priority (Some v); rate = 0; began = true }))) speed in
     let by_in : id < length s.by_flow = omega (arith, c.start-flow.ensures.in_range, is.room.by_flow_long) in
     let room = ap (λ (d : Doing). d.room) c.self.view_is in
     let drawn : length c.args.self.now.under.tasks ≡ s.drawn = sym (ap (λ (d : Doing). length d.under.tasks) c.self.view_is) ∙ length-listed s.drawn (λ i. told_at (task_of s) s.slots (i + 1)) in
@@ -41,7 +41,7 @@ invariant_of-self c =
     let serial : live.serial ≡ s.drawn + 1 = omega (arith, c.next_serial-serial.ensures, drawn) in
     let small : live.kept ≤ 10 ^ 24 = omega (arith, c.from.ensures, c.requires.flops) in
     let new : State = begun_state s (s.drawn + 1) key live s.ways s.keys (set s.runs id (Some run)) (set s.by_flow id key) in
-    let turns : Turns s new key live.serial (Some live) = flow_turns s (s.drawn + 1) key live s.keys is.are (new_begins s key live is.are within free serial refl small (omega arith)) refl refl c.start-flow.ensures.free c.start-flow.ensures.in_range by_in (record { weighs = omega arith; bounds = λ _. refl }) in
+    let turns : Turns s new key live.serial (Some live) = flow_turns s (s.drawn + 1) key live s.keys is.are (new_begins s key live is.are within free serial refl small (omega arith) c.requires.priority) refl refl c.start-flow.ensures.free c.start-flow.ensures.in_range by_in (record { weighs = c.requires.priority.0; bounds = λ _. refl }) in
     let state_is = state_same s (s.drawn + 1) false c.put-key.new.self.slots (set s.slots key (Some live)) s.ways s.ways s.keys s.keys c.start-flow.new.self.slots (set s.runs id (Some run)) (set s.by_flow id key) (set s.by_flow id key) c.insert.new.self.members (s.fresh ++ key ∷ []) c.start-flow.new.self.ended s.ended
     c.put-key.ensures.slots refl refl runs refl (ap (λ (m : MarkSet). m.members) c.insert.ensures ∙ new_mark key s.fresh (unmarked s key is.are free)) (ap (λ (l : Lazily). l.ended) c.start-flow.ensures.starts) in
     record {
@@ -67,13 +67,13 @@ returns-clause-starts c =
     let s : State = state_of kept in
     let is = c.self.invariant in
     let key = c.put-key.result in
-    let live : Live = record { serial = c.next_serial-serial.result.0; kind = phase.Exec; kept = c.from.result * 1000000000; stamp = kept.date; rate = 0; bytes = 0; host = c.args.host.0; flow = c.start-flow.result } in
+    let live : Live = record { serial = c.next_serial-serial.result.0; kind = phase.Exec; kept = c.from.result * 1000000000; stamp = kept.date; rate = 0; weight = c.args.priority; bound = None; bytes = 0; host = c.args.host.0; flow = c.start-flow.result } in
     let id = c.start-flow.result in
-    let asked : Flow = flow (c.args.host.0 ∷ []) 1 (Some (host_at kept.hosts.items c.args.host.0).speed) in
+    let asked : Flow = flow (c.args.host.0 ∷ []) c.args.priority (Some (host_at kept.hosts.items c.args.host.0).speed) in
     let run : RunningFlow = record { flow = asked; rate = 0; began = true } in
     let there : c.args.host.0 < length kept.hosts.items = subst (λ (d : Doing). c.args.host.0 < length d.under.capacities.hosts) (sym c.self.view_is) c.requires.host in
     let speed = ap (λ (h : HostCap). h.speed) (c.index.ensures ∙ get_or_default kept.hosts.items _ _ _ there) in
-    let runs : c.start-flow.new.self.slots ≡ set s.runs id (Some run) = ap (λ (l : Lazily). l.slots) c.start-flow.ensures.starts ∙ ap (λ v. set s.runs id (Some (record { flow = flow (c.args.host.0 ∷ []) 1 (Some v); rate = 0; began = true }))) speed in
+    let runs : c.start-flow.new.self.slots ≡ set s.runs id (Some run) = ap (λ (l : Lazily). l.slots) c.start-flow.ensures.starts ∙ ap (λ v. set s.runs id (Some (record { flow = flow (c.args.host.0 ∷ []) c.args.priority (Some v); rate = 0; began = true }))) speed in
     let by_in : id < length s.by_flow = omega (arith, c.start-flow.ensures.in_range, is.room.by_flow_long) in
     let drawn : length c.args.self.now.under.tasks ≡ s.drawn = sym (ap (λ (d : Doing). length d.under.tasks) c.self.view_is) ∙ length-listed s.drawn (λ i. told_at (task_of s) s.slots (i + 1)) in
     let free = c.put-key.ensures.free in
@@ -81,10 +81,10 @@ returns-clause-starts c =
     let serial : live.serial ≡ s.drawn + 1 = omega (arith, c.next_serial-serial.ensures, drawn) in
     let small : live.kept ≤ 10 ^ 24 = omega (arith, c.from.ensures, c.requires.flops) in
     let new : State = begun_state s (s.drawn + 1) key live s.ways s.keys (set s.runs id (Some run)) (set s.by_flow id key) in
-    let turns : Turns s new key live.serial (Some live) = flow_turns s (s.drawn + 1) key live s.keys is.are (new_begins s key live is.are within free serial refl small (omega arith)) refl refl c.start-flow.ensures.free c.start-flow.ensures.in_range by_in (record { weighs = omega arith; bounds = λ _. refl }) in
+    let turns : Turns s new key live.serial (Some live) = flow_turns s (s.drawn + 1) key live s.keys is.are (new_begins s key live is.are within free serial refl small (omega arith) c.requires.priority) refl refl c.start-flow.ensures.free c.start-flow.ensures.in_range by_in (record { weighs = c.requires.priority.0; bounds = λ _. refl }) in
     let state_is = state_same s (s.drawn + 1) false c.put-key.new.self.slots (set s.slots key (Some live)) s.ways s.ways s.keys s.keys c.start-flow.new.self.slots (set s.runs id (Some run)) (set s.by_flow id key) (set s.by_flow id key) c.insert.new.self.members (s.fresh ++ key ∷ []) c.start-flow.new.self.ended s.ended
     c.put-key.ensures.slots refl refl runs refl (ap (λ (m : MarkSet). m.members) c.insert.ensures ∙ new_mark key s.fresh (unmarked s key is.are free)) (ap (λ (l : Lazily). l.ended) c.start-flow.ensures.starts) in
     ap (λ st. doing_of st (kept.room - 1)) state_is
     ∙ started_told s new key live.serial (Some live) is.are turns live kept.room refl refl serial free refl refl
-    ∙ ap (λ n. started_in (record { kind = phase.Exec; left = n; place = on_host c.args.host.0; bound = None; bytes = 0 }) (doing_of s kept.room)) (left_fresh (c.from.result * 1000000000) 0 kept.date ∙ ap (λ n. n * 1000000000) c.from.ensures)
-    ∙ ap (started_in (exec_of c.args.host.0 c.args.flops)) c.self.view_is
+    ∙ ap (λ n. started_in (record { kind = phase.Exec; left = n; place = on_host c.args.host.0; weight = c.args.priority; bound = None; bytes = 0 }) (doing_of s kept.room)) (left_fresh (c.from.result * 1000000000) 0 kept.date ∙ ap (λ n. n * 1000000000) c.from.ensures)
+    ∙ ap (started_in (exec_of c.args.host.0 c.args.flops c.args.priority)) c.self.view_is

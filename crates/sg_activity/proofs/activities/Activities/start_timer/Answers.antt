@@ -20,7 +20,7 @@ invariant_of-self c =
     let s : State = state_of kept in
     let is = c.self.invariant in
     let key = c.put-key.result in
-    let live : Live = record { serial = c.next_serial-serial.result.0; kind = phase.Timer; kept = c.from.result; stamp = kept.date; rate = 1; bytes = 0; host = 0; flow = 0 } in
+    let live : Live = record { serial = c.next_serial-serial.result.0; kind = phase.Timer; kept = c.from.result; stamp = kept.date; rate = 1; weight = 1; bound = None; bytes = 0; host = 0; flow = 0 } in
     let room = ap (λ (d : Doing). d.room) c.self.view_is in
     let drawn : length c.args.self.now.under.tasks ≡ s.drawn = sym (ap (λ (d : Doing). length d.under.tasks) c.self.view_is) ∙ length-listed s.drawn (λ i. told_at (task_of s) s.slots (i + 1)) in
     let free = c.put-key.ensures.free in
@@ -28,7 +28,7 @@ invariant_of-self c =
     let serial : live.serial ≡ s.drawn + 1 = omega (arith, c.next_serial-serial.ensures, drawn) in
     let small : live.kept ≤ 10 ^ 24 = omega (arith, c.from.ensures, c.requires.ns) in
     let new : State = begun_state s (s.drawn + 1) key live s.ways s.keys s.runs s.by_flow in
-    let turns : Turns s new key live.serial (Some live) = time_turns s (s.drawn + 1) key live s.ways is.are (new_begins s key live is.are within free serial refl small (omega arith)) free refl refl (λ k ne. refl) (λ e. absurd (cc e)) in
+    let turns : Turns s new key live.serial (Some live) = time_turns s (s.drawn + 1) key live s.ways is.are (new_begins s key live is.are within free serial refl small (omega arith) (omega arith, omega arith)) free refl refl (λ k ne. refl) (λ e. absurd (cc e)) in
     let state_is = state_same s (s.drawn + 1) false c.put-key.new.self.slots (set s.slots key (Some live)) s.ways s.ways s.keys s.keys s.runs s.runs s.by_flow s.by_flow c.insert.new.self.members (s.fresh ++ key ∷ []) s.ended s.ended
     c.put-key.ensures.slots refl refl refl refl (ap (λ (m : MarkSet). m.members) c.insert.ensures ∙ new_mark key s.fresh (unmarked s key is.are free)) refl in
     record {
@@ -54,17 +54,17 @@ returns-clause-starts c =
     let s : State = state_of kept in
     let is = c.self.invariant in
     let key = c.put-key.result in
-    let live : Live = record { serial = c.next_serial-serial.result.0; kind = phase.Timer; kept = c.from.result; stamp = kept.date; rate = 1; bytes = 0; host = 0; flow = 0 } in
+    let live : Live = record { serial = c.next_serial-serial.result.0; kind = phase.Timer; kept = c.from.result; stamp = kept.date; rate = 1; weight = 1; bound = None; bytes = 0; host = 0; flow = 0 } in
     let drawn : length c.args.self.now.under.tasks ≡ s.drawn = sym (ap (λ (d : Doing). length d.under.tasks) c.self.view_is) ∙ length-listed s.drawn (λ i. told_at (task_of s) s.slots (i + 1)) in
     let free = c.put-key.ensures.free in
     let within = c.put-key.ensures.in_range in
     let serial : live.serial ≡ s.drawn + 1 = omega (arith, c.next_serial-serial.ensures, drawn) in
     let small : live.kept ≤ 10 ^ 24 = omega (arith, c.from.ensures, c.requires.ns) in
     let new : State = begun_state s (s.drawn + 1) key live s.ways s.keys s.runs s.by_flow in
-    let turns : Turns s new key live.serial (Some live) = time_turns s (s.drawn + 1) key live s.ways is.are (new_begins s key live is.are within free serial refl small (omega arith)) free refl refl (λ k ne. refl) (λ e. absurd (cc e)) in
+    let turns : Turns s new key live.serial (Some live) = time_turns s (s.drawn + 1) key live s.ways is.are (new_begins s key live is.are within free serial refl small (omega arith) (omega arith, omega arith)) free refl refl (λ k ne. refl) (λ e. absurd (cc e)) in
     let state_is = state_same s (s.drawn + 1) false c.put-key.new.self.slots (set s.slots key (Some live)) s.ways s.ways s.keys s.keys s.runs s.runs s.by_flow s.by_flow c.insert.new.self.members (s.fresh ++ key ∷ []) s.ended s.ended
     c.put-key.ensures.slots refl refl refl refl (ap (λ (m : MarkSet). m.members) c.insert.ensures ∙ new_mark key s.fresh (unmarked s key is.are free)) refl in
     ap (λ st. doing_of st (kept.room - 1)) state_is
     ∙ started_told s new key live.serial (Some live) is.are turns live kept.room refl refl serial free refl refl
-    ∙ ap (λ n. started_in (record { kind = phase.Timer; left = n; place = nowhere; bound = None; bytes = 0 }) (doing_of s kept.room)) (left_fresh c.from.result 1 kept.date ∙ c.from.ensures)
+    ∙ ap (λ n. started_in (record { kind = phase.Timer; left = n; place = nowhere; weight = 1; bound = None; bytes = 0 }) (doing_of s kept.room)) (left_fresh c.from.result 1 kept.date ∙ c.from.ensures)
     ∙ ap (started_in (timer_of c.args.ns)) c.self.view_is

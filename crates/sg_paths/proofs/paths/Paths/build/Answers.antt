@@ -16,6 +16,8 @@ invariant_of-result c =
       ahead = record { slots = made.slots; lefts = made.lefts };
       short = subst (λ (n : ℕ). AreShort n c.args.routes.now) (sym made.most) c.most_links-most.ensures;
       best = subst (λ (n : ℕ). c.args.points * n ≤ vec_capacity c.in_ok-reach.reach.best) (sym made.most) made.best;
+      held = made.held;
     } in
-    ready_of c.args.points c.args.routes.now c.in_ok-copied.copied.items c.in_ok-arrivals.arrivals c.in_ok-reach.reach c.in_ok-copied.ensures
-    (within_of c.args.points c.args.routes.now c.requires) c.in_ok-arrivals.ensures few roomy
+    let ready = ready_of c.args.points c.args.routes.now c.in_ok-copied.copied.items c.in_ok-arrivals.arrivals c.in_ok-reach.reach c.in_ok-copied.ensures
+    (within_of c.args.points c.args.routes.now c.requires) c.in_ok-arrivals.ensures few roomy in
+    record { ready = ready; right = λ k one there. absurd (c.in_ok-asked.ensures k one there) }

@@ -6,12 +6,12 @@ use Rattle.sg_paths.proofs.PathLemmas.{no_path_outside}
 use Rattle.sg_paths.proofs.paths.Paths.search.Goals as goal
 use Rattle.sg_paths.proofs.paths.Paths.search.Goals.{then-from-self-via-then-from-self, then-from-self-via-else-from-self+then-to-self}
 
-pub returns-then-find : goal.returns-then-find
-returns-then-find c =
+pub returns-then-find_or_recall : goal.returns-then-find_or_recall
+returns-then-find_or_recall c =
     let same : c.as_slice.result.now ≡ c.args.self.now.routes = cc (c.as_slice.ensures.value, ap (λ (n : Net). n.routes) c.self.view_is) in
-    let path : IsLeastPath c.args.self.now.routes c.args.from c.args.to c.as_slice-then-find.result.now =
-    subst (λ (routes : List PathRoute). IsLeastPath routes c.args.from c.args.to c.as_slice-then-find.result.now) same
-    (subst (λ (links : List LinkId). IsLeastPath c.as_slice.result.now c.args.from c.args.to links) (sym c.as_slice-then-find.ensures.value) c.if-find.ensures.yes) in (
+    let path : IsLeastPath c.args.self.now.routes c.args.from c.args.to c.as_slice-then-find_or_recall.result.now =
+    subst (λ (routes : List PathRoute). IsLeastPath routes c.args.from c.args.to c.as_slice-then-find_or_recall.result.now) same
+    (subst (λ (links : List LinkId). IsLeastPath c.as_slice.result.now c.args.from c.args.to links) (sym c.as_slice-then-find_or_recall.ensures.value) c.if-find_or_recall.ensures.yes) in (
       (refl, λ _. tt, c.self.view_is),
       record {
         reached = path.reached;
@@ -21,15 +21,15 @@ returns-then-find c =
       },
     )
 
-pub returns-else-find : goal.returns-else-find
-returns-else-find c =
+pub returns-else-find_or_recall : goal.returns-else-find_or_recall
+returns-else-find_or_recall c =
     let same : c.as_slice.result.now ≡ c.args.self.now.routes = cc (c.as_slice.ensures.value, ap (λ (n : Net). n.routes) c.self.view_is) in (
       (refl, λ _. tt, c.self.view_is),
       record {
         reached = tt;
         least = tt;
         kept = tt;
-        none = λ e links has. c.if-find.ensures.no links (subst (λ (routes : List PathRoute). HasPath routes c.args.from c.args.to links) (sym same) has);
+        none = λ e links has. c.if-find_or_recall.ensures.no links (subst (λ (routes : List PathRoute). HasPath routes c.args.from c.args.to links) (sym same) has);
       },
     )
 
@@ -45,7 +45,7 @@ returns-then-from-self c =
         reached = tt;
         least = tt;
         kept = tt;
-        none = λ e links has. no_path_outside c.self.inside.points c.self.inside.routes.items c.self.invariant.search.within c.args.from c.args.to c.requires far links
+        none = λ e links has. no_path_outside c.self.inside.points c.self.inside.routes.items c.self.invariant.ready.search.within c.args.from c.args.to c.requires far links
             (subst (λ (rs : List PathRoute). HasPath rs c.args.from c.args.to links) (sym routes) has);
       },
     )

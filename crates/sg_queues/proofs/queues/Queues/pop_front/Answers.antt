@@ -1,6 +1,6 @@
 use Rattle.std.proofs.Common.{◌∙◌, sym}
 use Rattle.sg_queues.specs.Rings.{queue_at}
-use Rattle.sg_queues.proofs.Entries.{holds_front, popped}
+use Rattle.sg_queues.proofs.Entries.{first_leaves, holds_front}
 use Rattle.sg_queues.proofs.queues.Queues.pop_front.Goals as goal
 
 pub remove-requires : goal.remove-requires
@@ -11,4 +11,4 @@ remove-requires g c = record {
 
 pub returns-in-Some-clause-rest : goal.returns-in-Some-clause-rest
 returns-in-Some-clause-rest g c =
-    c.remove.ensures.queues ∙ popped c.args.self.now.queues c.args.queue (c.in-Some.slot, c.in-Some.value) c.front.ensures.slots c.requires (sym c.front.ensures.first ∙ c.in-Some.is)
+    c.remove.ensures.queues ∙ first_leaves c.args.self.now.queues c.args.queue (c.in-Some.slot, c.in-Some.value) c.front.ensures.slots c.requires (sym c.front.ensures.first ∙ c.in-Some.is)

@@ -1,26 +1,19 @@
-use Rattle.std.proofs.Common.{◌≡◌, ◌<◌, List, ℕ, length}
-use Rattle.sg_queues.specs.Rings.{IsMoved}
-use Rattle.sg_queues.specs.kept.Links.{at, ring, queues_of, AreRings}
-use Rattle.sg_queues.proofs.Exchanges.{read}
-use Rattle.sg_queues.proofs.Moves.{all_apart, slot_shifted, queue_below}
+use Rattle.std.proofs.Common.{◌<◌, suc, length, arith}
+use Rattle.sg_queues.proofs.Moves.{as_walked, head_below, seen_is, with_move}
 use Rattle.sg_queues.proofs.rings.Rings.shift.Goals as goal
 
 pub invariant_of-self : goal.invariant_of-self
 invariant_of-self c =
-    let next = c.self.inside.links.next.items in
-    let heads = c.self.inside.heads.items in
-    let below : c.args.queue < length heads = queue_below next heads c.args.self.now c.args.queue c.self.view_is c.requires.queue in
-    (slot_shifted next c.self.inside.links.prev.items c.shift.new.self.next.items c.shift.new.self.prev.items heads c.args.slot c.args.queue _ c.self.invariant
-    (read heads c.args.queue _ below c.index.ensures) below (rw (← c.self.view_is) at c.requires.slot) c.shift.ensures.inverse c.shift.ensures.shifted).0
+    let below : c.args.queue < length c.self.inside.heads.items = head_below c.self.inside.links.next.items c.self.inside.heads.items c.args.self.now c.args.queue c.self.view_is c.requires.queue in
+    as_walked (with_move c.self.invariant c.args.slot (suc c.args.queue) c.head_of-head.result (rw (← c.self.view_is) at c.requires.slot) (omega (arith, below)) (rw (← c.self.view_is) at c.head_of-head.ensures.is) c.shift.ensures.linked c.shift.ensures.shifted)
 
 pub returns-clause-moved : goal.returns-clause-moved
 returns-clause-moved c =
-    let next = c.self.inside.links.next.items in
-    let heads = c.self.inside.heads.items in
-    let below : c.args.queue < length heads = queue_below next heads c.args.self.now c.args.queue c.self.view_is c.requires.queue in
+    let below : c.args.queue < length c.self.inside.heads.items = head_below c.self.inside.links.next.items c.self.inside.heads.items c.args.self.now c.args.queue c.self.view_is c.requires.queue in
     rw (← c.self.view_is)
-    ((slot_shifted next c.self.inside.links.prev.items c.shift.new.self.next.items c.shift.new.self.prev.items heads c.args.slot c.args.queue _ c.self.invariant
-    (read heads c.args.queue _ below c.index.ensures) below (rw (← c.self.view_is) at c.requires.slot) c.shift.ensures.inverse c.shift.ensures.shifted).1)
+    (seen_is
+    (with_move c.self.invariant c.args.slot (suc c.args.queue) c.head_of-head.result (rw (← c.self.view_is) at c.requires.slot) (omega (arith, below)) (rw (← c.self.view_is) at c.head_of-head.ensures.is) c.shift.ensures.linked c.shift.ensures.shifted)
+    c.shift.ensures.shifted.len)
 
 pub returns-clause-apart : goal.returns-clause-apart
-returns-clause-apart c = all_apart c.shift.new.self.next.items c.shift.new.self.prev.items c.self.inside.heads.items (invariant_of-self c)
+returns-clause-apart c = (invariant_of-self c).apart

@@ -7,7 +7,7 @@ use Rattle.sg_script.proofs.script.Script.step.Goals as goal
 pub returns-in-Line-clause-step : goal.returns-in-Line-clause-step
 returns-in-Line-clause-step g c =
     let front = rw (c.stage.ensures, c.bytes.ensures.value) at c.in-Line.ensures in
-    line_steps (known_in c.args.deployment.now) (g.F.Files.shows c.args.files.now ScriptPart) (kept_of c.args.self.now) (kept_of c.take_line.new.self) c.in-Line.len c.in-Line.end c.args.actor.0 c.take_line.result c.requires.begun front.1 (front.3 (known_in c.args.deployment.now)) c.requires.empty c.take_line.ensures.line
+    line_steps (known_in c.args.deployment.now) (g.F.Files.shows c.args.files.now ScriptPart) (kept_of c.args.self.now) (kept_of c.answer_by_line.new.self) c.in-Line.len c.in-Line.end c.args.actor.0 c.answer_by_line.result c.requires.begun front.1 (front.3 (known_in c.args.deployment.now)) c.requires.empty c.answer_by_line.ensures.line
 
 pub returns-in-Unread-clause-step : goal.returns-in-Unread-clause-step
 returns-in-Unread-clause-step g c =

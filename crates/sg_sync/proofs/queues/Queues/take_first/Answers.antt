@@ -1,17 +1,19 @@
-use Rattle.std.proofs.Common.{◌<◌, ◌+◌, ◌∙◌, ap, sym, length, arith}
+use Rattle.std.proofs.Common.{◌<◌, ◌∙◌, ap, sym, suc, length, arith}
+use Rattle.std.specs.Prelude.{map}
+use Rattle.std.proofs.lemmas.List.{length-map}
 use Rattle.sg_queues.specs.Rings as rings
-use Rattle.sg_queues.specs.Rings.{IsSlot}
+use Rattle.sg_queues.specs.Rings.{Rings, IsSlot}
 use Rattle.sg_queues.proofs.Entries.{front_in}
 use Rattle.sg_sync.specs.kept.Slots.{actor_of, waiting_in}
-use Rattle.sg_sync.proofs.Slots.{left_is, shortened_is}
+use Rattle.sg_sync.proofs.Slots.{shortened_is}
 use Rattle.sg_sync.proofs.queues.Queues.take_first.Goals as goal
 use Rattle.sg_sync.proofs.queues.Queues.take_first.Goals.{In-Some}
 
 first : (c : In-Some) → IsSlot c.self.inside.rings.nodes c.self.inside.rings.heads c.in-Some.slot
-first c = c.self.invariant.apart.slots (c.args.queue + 1) c.in-Some.slot (front_in (rings.queue_at c.self.inside.rings.queues (c.args.queue + 1)) c.in-Some.slot (sym c.front.ensures ∙ c.in-Some.is))
+first c = c.self.invariant.apart.slots (suc c.args.queue) c.in-Some.slot (front_in (rings.queue_at c.self.inside.rings.queues c.args.queue) c.in-Some.slot (sym c.front.ensures ∙ c.in-Some.is))
 
-pub shift-requires-clause-slot : goal.shift-requires-clause-slot
-shift-requires-clause-slot c = first (goal.at.shift-requires-clause-slot c).In-Some
+pub retire-requires : goal.retire-requires
+retire-requires c = first (goal.at.retire-requires c).In-Some
 
 pub overflow_cast-result : goal.overflow_cast-result
 overflow_cast-result c = record { fits = omega (arith, c.self.invariant.slots.all c.in-Some.slot (first (goal.at.overflow_cast-result c).In-Some), c.self.ranges) }
@@ -25,5 +27,4 @@ returns-in-Some-clause-shortened c =
     let within : c.args.queue < length (waiting_in inside.rings.queues) = rw (← c.self.view_is) at c.requires in
     rw (← c.self.view_is)
     (ap (λ queues. record { actors = inside.actors; queues = queues })
-    (left_is inside.rings.queues c.shift.new.self.queues (actor_of c.in-Some.slot) c.self.invariant.some c.shift.ensures.moved
-    ∙ shortened_is inside.rings c.args.queue c.in-Some.slot c.self.invariant.apart within (sym c.front.ensures ∙ c.in-Some.is)))
+    (ap (λ (r : Rings). waiting_in r.queues) c.retire.ensures.moved ∙ shortened_is inside.rings c.args.queue c.in-Some.slot c.self.invariant.apart (omega (arith, within, length-map inside.rings.queues (map actor_of))) (sym c.front.ensures ∙ c.in-Some.is)))

@@ -1,0 +1,173 @@
+-- What holds of each good line: its actor has a name, and a collective's amounts keep to their limits.
+use Rattle.std.proofs.Common.{◌≡◌, ◌≤◌, ◌^◌, ◌==◌, refl, subst, ℕ, Bool, true, false, cond, not, List, [], ◌∷◌, length, Option, None, Some, Result, Ok, Err, nat_le, nat_lt, leb-true}
+use Rattle.std.specs.List.{list_all}
+use Rattle.std.specs.Prelude.{⊤}
+use Rattle.sg_base.specs.declared.call.Action.{Action}
+use Rattle.sg_base.specs.declared.call.Action.TheVariants as action
+use Rattle.sg_base.specs.declared.ids.ActorId.{ActorId}
+use Rattle.sg_collectives.specs.Members.{HasAmounts}
+use Rattle.sg_collectives.specs.declared.collective.Collective.TheVariants as collective
+use Rattle.sg_script.specs.Known.{Known}
+use Rattle.sg_script.specs.Line.{Judgement, actor_in, amount_in, amounts_of, begins_comment, computing_of, entry_by, entry_of, is_plain, line_of, mutex_in, no_words, of_words, one_word, operation_of, or_bad_amount, or_unknown_actor, receiving_of, semaphore_in, sending_of, text_of, then_go, time_in, together, two_words, with_action, without_return}
+use Rattle.sg_script.specs.Verbs.{verb_of}
+use Rattle.sg_script.specs.Words.{words}
+use Rattle.sg_script.specs.declared.fault.LineFault.{LineFault}
+use Rattle.sg_script.specs.declared.line.Entry.{Entry}
+use Rattle.sg_script.specs.declared.operation.Operation.{Operation}
+use Rattle.sg_script.specs.declared.operation.Operation.TheVariants.{Alone, Together}
+use Rattle.sg_script.specs.declared.verbs.Verb.{Verb}
+use Rattle.sg_script.specs.declared.verbs.Verb.TheVariants.{Compute, Sleep, Send, ISend, Recv, IRecv, Wait, Barrier, Yield, Lock, Unlock, Acquire, Release, Bcast, Reduce, Allreduce, Alltoall}
+use Rattle.sg_script.specs.declared.fault.LineFault.TheVariants as fault
+use Rattle.sg_units.specs.Amount.{amount_of, is_short, up_to, value_in_unit, value_of}
+use Rattle.sg_units.specs.Number.{Number, number_of}
+use Rattle.sg_units.specs.Units.{amount_units, size_of}
+use Rattle.sg_units.specs.declared.fault.AmountFault.{AmountFault}
+use Rattle.sg_units.specs.declared.fault.AmountFault.TheVariants as amount
+use Rattle.sg_units.specs.declared.units.Ratio.{Ratio}
+
+-- some name stands for the actor
+abbrev pub IsKnown : Known → ActorId → Type 0
+IsKnown known actor = (name : List ℕ) × (known.actor name ≡ Some actor)
+
+abbrev pub KeepsAmounts : Operation → Type 0
+KeepsAmounts (Alone action) = ⊤
+KeepsAmounts (Together collective) = HasAmounts collective
+
+-- ---- one step, and what follows it
+-- a fact of what was accepted
+abbrev Accepted : {X E : Type 0} → (X → Type 0) → Result X E → Type 0
+Accepted P (Ok x) = P x
+Accepted P (Err why) = ⊤
+
+either_accepted : {X E : Type 0} (P : X → Type 0) (b : Bool) (r s : Result X E) → Accepted P r → Accepted P s → Accepted P (cond b r s)
+either_accepted P true r s one two = one
+either_accepted P false r s one two = two
+
+went : {X Y : Type 0} (P : X → Type 0) (Q : Y → Type 0) (r : Result X LineFault) (next : X → Result Y LineFault) → Accepted P r →
+    ((x : X) → P x → Accepted Q (next x)) → Accepted Q (then_go r next)
+went P Q (Ok x) next held each = each x held
+went P Q (Err kind) next held each = tt
+
+anything : {X E : Type 0} (r : Result X E) → Accepted (λ (x : X). ⊤) r
+anything (Ok x) = tt
+anything (Err why) = tt
+
+-- ---- amounts
+abbrev IsSmall : ℕ → Type 0
+IsSmall n = n ≤ 1000000000000000
+
+up_to_small : (value : ℕ) → Accepted IsSmall (up_to (10 ^ 15) value)
+up_to_small value = by (nat_le value (10 ^ 15)) (leb-true value (10 ^ 15))
+  where
+    by : (b : Bool) → (b ≡ true → value ≤ 10 ^ 15) → Accepted IsSmall (cond b (Ok value) (Err amount.TooLarge))
+    by true within = within refl
+    by false within = tt
+
+in_unit_small : (n : Number) (unit : Option Ratio) → Accepted IsSmall (value_in_unit (10 ^ 15) n unit)
+in_unit_small n None = tt
+in_unit_small n (Some size) =
+    either_accepted IsSmall (is_short n) (up_to (10 ^ 15) (value_of n size)) (Err amount.TooLarge) (up_to_small (value_of n size)) tt
+
+amount_small : (text : List ℕ) → Accepted IsSmall (amount_of text)
+amount_small text =
+    let n : Number = number_of text in
+    either_accepted IsSmall (length n.whole == 0) (Err amount.NotANumber) (value_in_unit (10 ^ 15) n (size_of amount_units n.unit)) tt
+    (in_unit_small n (size_of amount_units n.unit))
+
+argument_small : (text : List ℕ) → Accepted IsSmall (amount_in text)
+argument_small text = by (amount_of text) (amount_small text)
+  where
+    by : (r : Result ℕ AmountFault) → Accepted IsSmall r → Accepted IsSmall (or_bad_amount r)
+    by (Ok n) held = held
+    by (Err kind) held = tt
+
+abbrev AreSmall : ℕ × ℕ → Type 0
+AreSmall both = IsSmall both.0 × IsSmall both.1
+
+arguments_small : (args : List (List ℕ)) → Accepted AreSmall (amounts_of args)
+arguments_small args =
+    went (λ _. ⊤) AreSmall (two_words args) (λ both. then_go (amount_in both.0) (λ a. then_go (amount_in both.1) (λ b. Ok (a, b)))) (anything (two_words args))
+    (λ both _. went IsSmall AreSmall (amount_in both.0) (λ a. then_go (amount_in both.1) (λ b. Ok (a, b))) (argument_small both.0)
+    (λ a small. went IsSmall AreSmall (amount_in both.1) (λ b. Ok (a, b)) (argument_small both.1) (λ b small'. (small, small'))))
+
+-- ---- operations
+alone_keeps : {X : Type 0} (r : Result X LineFault) (f : X → Action) → Accepted KeepsAmounts (then_go r (λ x. Ok (Alone (f x))))
+alone_keeps (Ok x) f = tt
+alone_keeps (Err kind) f = tt
+
+named_keeps : (args : List (List ℕ)) (read : List ℕ → Result ℕ LineFault) (f : ℕ → Action) →
+    Accepted KeepsAmounts (then_go (one_word args) (λ word. then_go (read word) (λ n. Ok (Alone (f n)))))
+named_keeps args read f =
+    went (λ _. ⊤) KeepsAmounts (one_word args) (λ word. then_go (read word) (λ n. Ok (Alone (f n)))) (anything (one_word args))
+    (λ word _. alone_keeps (read word) f)
+
+one_amount_keeps : (args : List (List ℕ)) (f : ℕ → Operation) → ((n : ℕ) → IsSmall n → KeepsAmounts (f n)) →
+    Accepted KeepsAmounts (then_go (one_word args) (λ word. then_go (amount_in word) (λ n. Ok (f n))))
+one_amount_keeps args f each =
+    went (λ _. ⊤) KeepsAmounts (one_word args) (λ word. then_go (amount_in word) (λ n. Ok (f n))) (anything (one_word args))
+    (λ word _. went IsSmall KeepsAmounts (amount_in word) (λ n. Ok (f n)) (argument_small word) each)
+
+operation_keeps : (known : Known) (verb : Verb) (args : List (List ℕ)) → Accepted KeepsAmounts (operation_of known verb args)
+operation_keeps known Compute args = alone_keeps (computing_of args) (λ both. action.Compute both.0 both.1)
+operation_keeps known Sleep args = named_keeps args time_in action.Sleep
+operation_keeps known Send args = alone_keeps (sending_of known args) (λ all. action.Send all.0 all.1 all.2)
+operation_keeps known ISend args = alone_keeps (sending_of known args) (λ all. action.ISend all.0 all.1 all.2)
+operation_keeps known Recv args = alone_keeps (receiving_of known args) action.Recv
+operation_keeps known IRecv args = alone_keeps (receiving_of known args) action.IRecv
+operation_keeps known Wait args = alone_keeps (no_words args) (λ _. action.Wait)
+operation_keeps known Barrier args = alone_keeps (no_words args) (λ _. action.Barrier)
+operation_keeps known Yield args = alone_keeps (no_words args) (λ _. action.Yield)
+operation_keeps known Lock args = named_keeps args (mutex_in known) action.Lock
+operation_keeps known Unlock args = named_keeps args (mutex_in known) action.Unlock
+operation_keeps known Acquire args = named_keeps args (semaphore_in known) action.Acquire
+operation_keeps known Release args = named_keeps args (semaphore_in known) action.Release
+operation_keeps known Bcast args = one_amount_keeps args (λ n. Together (collective.Bcast n)) (λ n small. small)
+operation_keeps known Reduce args =
+    went AreSmall KeepsAmounts (amounts_of args) (λ both. together (collective.Reduce both.0 both.1)) (arguments_small args) (λ both small. small)
+operation_keeps known Allreduce args =
+    went AreSmall KeepsAmounts (amounts_of args) (λ both. together (collective.Allreduce both.0 both.1)) (arguments_small args) (λ both small. small)
+operation_keeps known Alltoall args = one_amount_keeps args (λ n. Together (collective.Alltoall n)) (λ n small. small)
+
+-- ---- entries
+abbrev IsFrom : Known → Entry → Type 0
+IsFrom known entry = IsKnown known entry.actor × KeepsAmounts entry.operation
+
+abbrev IsGood : Known → Option Entry → Type 0
+IsGood known None = ⊤
+IsGood known (Some entry) = IsFrom known entry
+
+by_verb : (known : Known) (a : ActorId) (verb : Option Verb) (args : List (List ℕ)) → IsKnown known a → Accepted (IsGood known) (entry_by known a verb args)
+by_verb known a None args is = tt
+by_verb known a (Some verb) args is =
+    went KeepsAmounts (IsGood known) (operation_of known verb args) (λ operation. Ok (Some (record { actor = a; operation = operation })))
+    (operation_keeps known verb args) (λ operation held. (is, held))
+
+action_good : (known : Known) (a : ActorId) (args : List (List ℕ)) → IsKnown known a → Accepted (IsGood known) (with_action known a args)
+action_good known a [] is = tt
+action_good known a (word ∷ args) is = by_verb known a (verb_of word) args is
+
+known_actor : (known : Known) (name : List ℕ) → Accepted (IsKnown known) (actor_in known name)
+known_actor known name = by (known.actor name) (λ a e. (name, e))
+  where
+    by : (found : Option ActorId) → ((a : ActorId) → found ≡ Some a → IsKnown known a) → Accepted (IsKnown known) (or_unknown_actor found)
+    by None told = tt
+    by (Some a) told = told a refl
+
+entry_good : (known : Known) (name : List ℕ) (args : List (List ℕ)) → Accepted (IsGood known) (entry_of known name args)
+entry_good known name args =
+    went (IsKnown known) (IsGood known) (actor_in known name) (λ a. with_action known a args) (known_actor known name) (λ a is. action_good known a args is)
+
+words_good : (known : Known) (plain : Bool) (all : List (List ℕ)) → Accepted (IsGood known) (of_words known plain all)
+words_good known plain [] = tt
+words_good known plain (word ∷ more) =
+    either_accepted (IsGood known) (begins_comment word) (Ok None) (cond (not plain) (Err fault.NotAscii) (entry_of known word more)) tt
+    (either_accepted (IsGood known) (not plain) (Err fault.NotAscii) (entry_of known word more) tt (entry_good known word more))
+
+line_good : (known : Known) (line : List ℕ) → Accepted (IsGood known) (line_of known line)
+line_good known line =
+    let text : List ℕ = without_return line in
+    either_accepted (IsGood known) (nat_lt 4096 (length line)) (Err fault.TooLong) (text_of known text) tt
+    (words_good known (list_all is_plain text) (words text))
+
+pub entry_kept : (known : Known) (line : List ℕ) (entry : Entry) → line_of known line ≡ Ok (Some entry) → IsKnown known entry.actor × KeepsAmounts entry.operation
+entry_kept known line entry e = subst (λ (j : Judgement). Accepted (IsGood known) j) e (line_good known line)

@@ -1,0 +1,12 @@
+pub mod Amounts
+pub mod Deciding
+pub mod Kept
+pub mod Names
+pub mod Outputs
+pub mod Parts
+pub mod ReadNames
+pub mod Reading
+pub mod Replaced
+pub mod Runs
+pub mod Texts
+pub mod Whole

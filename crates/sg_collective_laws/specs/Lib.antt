@@ -1,0 +1,4 @@
+pub mod Alike
+pub mod Expanded
+pub mod Laws
+pub mod Written

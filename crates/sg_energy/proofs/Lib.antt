@@ -1,0 +1,3 @@
+pub mod Metering
+pub mod Amounts
+pub mod Readings

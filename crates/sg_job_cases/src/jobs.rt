@@ -1,0 +1,241 @@
+//! What jobs come to: command lines, options, masters and workers, crews, and turns side by side.
+
+/// Command lines, crews, and help.
+pub const JOBS: &str = "\
+-- Command lines with their options.
+job p replay p d s
+over FAST ONE
+script p0 compute 1e9
+out [h1:p0:(1) 1.000000000] compute 1000000000 1.000000000
+out Simulation time 1.000000000
+ends 0
+job p replay p d s --quiet
+script p0 compute 1e9
+out Simulation time 1.000000000
+ends 0
+job p replay --budget 5 p d s
+script p0 compute 1e9
+out [h1:p0:(1) 1.000000000] compute 1000000000 1.000000000
+out Simulation time 1.000000000
+ends 0
+job p replay p d s --budget 4
+script p0 compute 1e9
+out [h1:p0:(1) 1.000000000] compute 1000000000 1.000000000
+out budget of 4 events used at 1.000000000
+ends 8
+job p replay p d s --budget=3
+script p0 compute 1e9
+out [h1:p0:(1) 1.000000000] compute 1000000000 1.000000000
+out budget of 3 events used at 1.000000000
+ends 8
+job p replay p d s --budget 2 --quiet
+script p0 compute 1e9
+out budget of 2 events used at 0.000000000
+ends 8
+job p replay p d s --nthreads 64
+over LINE TWO
+script p0 send p1 1e6 | p1 recv p0
+out [h1:p0:(1) 1.010000000] send p1 1000000 1.010000000
+out [h2:p1:(2) 1.010000000] recv p0 1000000 1.010000000
+out Simulation time 1.010000000
+ends 0
+job p run p d
+over LINE MASTER
+out [h1:m:(1) 1.010000000] send w1 1000000 1.010000000
+out [h2:w1:(2) 1.010000000] recv w1 1000000 1.010000000
+out [h2:w1:(2) 2.010000000] compute 1000000000 1.000000000
+out [h1:m:(1) 2.020000000] send w1 0 1.010000000
+out [h2:w1:(2) 2.020000000] recv w1 0 0.010000000
+out Simulation time 2.020000000
+ends 0
+job p run p d --nthreads 2 --quiet
+unended p0 jump
+out Simulation time 2.020000000
+ends 0
+job p run p d
+over FAST ONE
+err deployment: replay actor under run (row 1)
+ends 4
+over FAST WORKER_AND_REPLAY
+err deployment: replay actor under run (row 2)
+ends 4
+job p churn 7 3 0
+over FAST ONE
+script p0 compute 1e9
+out 3 actors, 3 events
+out Simulation time 0.000000000
+ends 0
+job p churn 7 3 2
+script p0 compute 1e9
+out 3 actors, 45 events
+out Simulation time 3.827152185
+ends 0
+job p churn 7 3 2 --nthreads 64
+script p0 compute 1e9
+out 3 actors, 45 events
+out Simulation time 3.827152185
+ends 0
+job p churn 7 3 2 --budget 45
+script p0 compute 1e9
+out 3 actors, 45 events
+out Simulation time 3.827152185
+ends 0
+job p churn 7 3 2 --budget 44
+script p0 compute 1e9
+out budget of 44 events used at 3.827152185
+ends 8
+job p churn 0 3 2
+script p0 compute 1e9
+out 3 actors, 45 events
+out Simulation time 9.127278760
+ends 0
+job p churn 1 3 2
+script p0 compute 1e9
+out 3 actors, 45 events
+out Simulation time 6.175579008
+ends 0
+job p churn 2 3 2
+script p0 compute 1e9
+out 3 actors, 45 events
+out Simulation time 16.893233497
+ends 0
+job p churn 3 3 2
+script p0 compute 1e9
+out 3 actors, 45 events
+out Simulation time 5.372317252
+ends 0
+job p replay --budget 0 p d s
+script p0 compute 1e9
+err error: invalid value '0' for '--budget <N>': 0 is not in 1..=1000000000
+err
+err For more information, try '--help'.
+ends 2
+job p replay --nthreads 0 p d s
+script p0 compute 1e9
+err error: invalid value '0' for '--nthreads <N>': 0 is not in 1..=64
+err
+err For more information, try '--help'.
+ends 2
+job simgrid_replay replay p d
+script p0 compute 1e9
+err error: the following required arguments were not provided:
+err   <SCRIPT>
+err
+err Usage: simgrid_replay replay <PLATFORM> <DEPLOYMENT> <SCRIPT>
+err
+err For more information, try '--help'.
+ends 2
+job p --version
+script p0 compute 1e9
+out simgrid_replay 0.1.0
+ends 0
+job p replay d p s
+script p0 compute 1e9
+err cannot read the platform
+ends 10
+job p run p s
+over FAST MASTER
+script p0 compute 1e9
+err cannot read the deployment
+ends 10
+job p replay p d -
+over FAST ONE
+script p0 compute 1e9
+err cannot read the script
+ends 10
+-- An actor needs a context.
+job p replay p d s
+over FAST TWO
+crew both 1
+script p0 compute 1e9
+err deployment: 2 actors, 1 contexts
+ends 4
+job p run p d
+over FAST MASTER
+crew both 1
+script p0 compute 1e9
+err deployment: 2 actors, 1 contexts
+ends 4
+job p churn 7 3 2
+over FAST ONE
+crew both 2
+script p0 compute 1e9
+err deployment: 3 actors, 2 contexts
+ends 4
+-- Each kind of context serves.
+job p run p d
+over LINE MASTER
+crew plain 2
+out [h1:m:(1) 1.010000000] send w1 1000000 1.010000000
+out [h2:w1:(2) 1.010000000] recv w1 1000000 1.010000000
+out [h2:w1:(2) 2.010000000] compute 1000000000 1.000000000
+out [h1:m:(1) 2.020000000] send w1 0 1.010000000
+out [h2:w1:(2) 2.020000000] recv w1 0 0.010000000
+out Simulation time 2.020000000
+ends 0
+crew tape 2
+out [h1:m:(1) 1.010000000] send w1 1000000 1.010000000
+out [h2:w1:(2) 1.010000000] recv w1 1000000 1.010000000
+out [h2:w1:(2) 2.010000000] compute 1000000000 1.000000000
+out [h1:m:(1) 2.020000000] send w1 0 1.010000000
+out [h2:w1:(2) 2.020000000] recv w1 0 0.010000000
+out Simulation time 2.020000000
+ends 0
+crew both 2
+out [h1:m:(1) 1.010000000] send w1 1000000 1.010000000
+out [h2:w1:(2) 1.010000000] recv w1 1000000 1.010000000
+out [h2:w1:(2) 2.010000000] compute 1000000000 1.000000000
+out [h1:m:(1) 2.020000000] send w1 0 1.010000000
+out [h2:w1:(2) 2.020000000] recv w1 0 0.010000000
+out Simulation time 2.020000000
+ends 0
+-- Help is told on Out.
+crew both 1
+job p --help
+over FAST ONE
+front Simulates how long a program takes
+back   11  the output could not be written
+back   12  there was no memory left
+ends 0
+job p replay --help
+front Replays a script
+back   11  the output could not be written
+back   12  there was no memory left
+ends 0
+job p run -h
+front Runs masters and workers
+back   11  the output could not be written
+back   12  there was no memory left
+ends 0
+";
+
+/// As many turns run side by side as there are threads: so many contexts wait for one another, in one of their turns.
+/// What is written isn't looked at.
+pub const MEETINGS: &str = "\
+job p replay p d s --nthreads 2
+over LINE TWO
+meeting 2 2 1
+ends 0
+job p replay p d s --nthreads 3
+over LINE BESIDE
+meeting 3 3 1
+ends 0
+job p replay p d s --nthreads 8
+over LINE EIGHT
+meeting 8 8 1
+ends 0
+script p0 sleep 1 | p2 sleep 1 | p5 sleep 1 | p7 sleep 1
+meeting 8 4 3
+ends 0
+job p run p d --nthreads 3
+over LINE TWO_WORKERS
+meeting 3 3 1
+ends 0
+job p churn 7 3 0 --nthreads 3
+over LINE TWO
+meeting 3 3 1
+ends 0
+job p churn 7 8 0 --nthreads 8
+meeting 8 8 1
+ends 0
+";

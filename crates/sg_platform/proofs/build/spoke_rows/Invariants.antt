@@ -1,8 +1,0 @@
-use Rattle.std.proofs.Common.{◌≡◌, map, take}
-use Rattle.sg_platform.specs.Build.{spoke_row}
-use Rattle.sg_rules.specs.kept.NamesView.{names_view}
-use Rattle.toml.specs.View.{view}
-use Rattle.sg_platform.proofs.build.spoke_rows.Given as goal
-
-abbrev pub invariant-loop-row : goal.invariant-loop-row
-invariant-loop-row l = l.made.items ≡ map (spoke_row (names_view l.names) l.ends) (map view (take l.row-index l.rows))

@@ -1,8 +1,0 @@
-use Rattle.std.proofs.Common.{arith, ◌∙◌, sym}
-use Rattle.sg_rows.proofs.Numbers.{mutex_below}
-use Rattle.sg_rows.proofs.deployment.Deployment.mutex_named.Goals as goal
-
-pub overflow_cast-result : goal.overflow_cast-result
-overflow_cast-result c =
-    let below = mutex_below c.self.inside.mutexes.items c.args.name.now c.in-Some.row.now (sym (c.in-Some.ensures.value ∙ c.self.invariant.mutexes c.args.name.now)) in
-    omega (arith, below, c.self.invariant.kept.few_mutexes)

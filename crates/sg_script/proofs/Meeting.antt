@@ -1,0 +1,224 @@
+-- The members of a deployment, named by their actors, meet in each collective.
+use Rattle.std.proofs.Common.{◌≡◌, ◌≢◌, ◌<◌, ◌≤◌, ◌+◌, ◌∙◌, sym, ap, ap₂, refl, ℕ, Bool, true, false, eqb, cond, List, [], ◌∷◌, ◌++◌, map, length, get_or, zero, suc, Option, None, Some, inl, inr, arith, length-append}
+use Rattle.std.specs.List.{All, AllPairs, count_by, position_or_len}
+use Rattle.std.proofs.lemmas.Bool.{cases_Bool, cases_lt}
+use Rattle.std.proofs.lemmas.Bool.Decides.{nat_tests}
+use Rattle.std.proofs.lemmas.List.Elements.{All-cons, All-nil, All-tail}
+use Rattle.std.proofs.lemmas.List.Kept.{AllPairs-cons}
+use Rattle.std.proofs.lemmas.List.Quantifiers.{position-Some}
+use Rattle.std.proofs.lemmas.List.Sums.{fails_before_first, sum_by-cons}
+use Rattle.sg_base.specs.declared.call.Action.{Action}
+use Rattle.sg_base.specs.declared.ids.ActorId.{ActorId}
+use Rattle.sg_collectives.proofs.Matching.{sends_are_received}
+use Rattle.sg_collectives.proofs.MemberLemmas.{rank_below}
+use Rattle.sg_collectives.proofs.Others.{peers_are_others}
+use Rattle.sg_collectives.specs.Actions.{action_of, member}
+use Rattle.sg_collectives.specs.declared.collective.Collective.{Collective}
+use Rattle.sg_collectives.specs.declared.step.Step.{Step}
+use Rattle.sg_collectives.specs.declared.step.Step.TheVariants.{Recv, Send, Compute, IRecv, ISend, Wait}
+use Rattle.sg_collectives.specs.Expansion.{expansion}
+use Rattle.sg_collectives.specs.Laws.{is_irecv, is_isend, is_recv, is_send, NamesOther, receives_from as receives_at, sends_to as sends_at}
+use Rattle.sg_collectives.specs.Members.{actions_at, actions_of, rank_of}
+use Rattle.sg_collectives.proofs.Ranges.{count_by-map}
+use Rattle.sg_rows.specs.declared.rows.ActorRow.{ActorRow}
+use Rattle.sg_rows.specs.declared.rows.Function.{Function}
+use Rattle.sg_rows.specs.declared.rows.Function.TheVariants.{Replay, Worker, Master, Churn}
+use Rattle.sg_rows.specs.Deployment.{Deployed, id_if_replay, member_ids, members_among, members_of}
+use Rattle.sg_tree.specs.Along.{along}
+use Rattle.sg_script.proofs.Splits.{none_cases}
+use Rattle.sg_script.specs.Laws.{CollectivesMeet, receives_from, sends_to}
+
+-- ---- actors and ranks
+-- whether a rank is this one, if there is one
+abbrev is_at : Option ℕ → ℕ → Bool
+is_at None peer = false
+is_at (Some rank) peer = eqb peer rank
+
+-- members differ by their numbers
+abbrev Differ : List ActorId → Type 0
+Differ members = (i j : ℕ) → i < length members → j < length members → (member members i).0 ≡ (member members j).0 → i ≡ j
+
+unequal : (a b : ℕ) → a ≢ b → eqb a b ≡ false
+unequal a b differs = grind (arith, nat_tests)
+
+equal : (a b : ℕ) → eqb a b ≡ true → a ≡ b
+equal a b is = grind (arith, nat_tests)
+
+same : (n : ℕ) → eqb n n ≡ true
+same n = grind (arith, nat_tests)
+
+-- the member of a rank has this number where the rank is the number's
+named : (members : List ActorId) (actor : ℕ) (rank : Option ℕ) → Differ members → rank_of members actor ≡ rank → (peer : ℕ) → peer < length members → eqb (member members peer).0 actor ≡ is_at rank peer
+named members actor None differ is peer below =
+    let test : ActorId → Bool = λ m. eqb m.0 actor in
+    let past : length members ≤ position_or_len test members = none_cases (position_or_len test members) (length members) is in
+    fails_before_first test members peer (record { 0 = 0 }) (omega (arith, below, past))
+named members actor (Some rank) differ is peer below =
+    let at = position-Some (λ (m : ActorId). eqb m.0 actor) members rank (record { 0 = 0 }) is in
+    let there : (member members rank).0 ≡ actor = equal (member members rank).0 actor at.1 in
+    elim (cases_Bool (eqb peer rank)) [
+      | inl here ↦
+          let one : peer ≡ rank = equal peer rank here in
+          rw here (rw one at.1)
+      | inr other ↦
+          rw other (unequal (member members peer).0 actor (λ e.
+          let one : peer ≡ rank = differ peer rank below at.0 (e ∙ sym there) in
+          let yes : eqb peer rank ≡ true = rw one (same rank) in
+          let clash : true ≡ false = sym yes ∙ other in
+          cc))
+    ]
+
+-- ---- members of a deployment differ
+abbrev IsBelow : ActorId → ActorId → Type 0
+IsBelow a b = a.0 < b.0
+
+abbrev IsAbove : ℕ → ActorId → Type 0
+IsAbove place m = place < m.0
+
+weaker : (place : ℕ) (ids : List ActorId) → All (IsAbove (place + 1)) ids → All (IsAbove place) ids
+weaker place ids all = λ k d below. let it : place + 1 < (get_or ids k d).0 = all k d below in omega (arith, it)
+
+with_row : (function : Function) (place : ℕ) (ids : List ActorId) → All (IsAbove (place + 1)) ids → All (IsAbove place) (id_if_replay function place ++ ids)
+with_row Replay place ids all = All-cons (IsAbove place) (record { 0 = place + 1 }) ids (omega arith) (weaker place ids all)
+with_row Worker place ids all = weaker place ids all
+with_row (Master tasks flops bytes workers) place ids all = weaker place ids all
+with_row (Churn seed next prev steps) place ids all = weaker place ids all
+
+above : (place : ℕ) (rows : List ActorRow) → All (IsAbove place) (along member_ids place rows)
+above place [] = All-nil (IsAbove place)
+above place (row ∷ rows) = with_row row.function place (along member_ids (place + 1) rows) (above (place + 1) rows)
+
+rising_with : (function : Function) (place : ℕ) (ids : List ActorId) → All (IsAbove (place + 1)) ids → AllPairs IsBelow ids → AllPairs IsBelow (id_if_replay function place ++ ids)
+rising_with Replay place ids all pairs = AllPairs-cons IsBelow (record { 0 = place + 1 }) ids all pairs
+rising_with Worker place ids all pairs = pairs
+rising_with (Master tasks flops bytes workers) place ids all pairs = pairs
+rising_with (Churn seed next prev steps) place ids all pairs = pairs
+
+rising : (place : ℕ) (rows : List ActorRow) → AllPairs IsBelow (along member_ids place rows)
+rising place [] = λ i j d before below. absurd (omega (arith, below))
+rising place (row ∷ rows) = rising_with row.function place (along member_ids (place + 1) rows) (above (place + 1) rows) (rising (place + 1) rows)
+
+differ_by : (members : List ActorId) → AllPairs IsBelow members → Differ members
+differ_by members pairs i j i_below j_below is = elim (cases_lt i j) [
+  | inl less ↦
+      let it : (member members i).0 < (member members j).0 = pairs i j (record { 0 = 0 }) less j_below in
+      absurd (omega (arith, it, is))
+  | inr more ↦ elim (cases_lt j i) [
+    | inl less ↦
+        let it : (member members j).0 < (member members i).0 = pairs j i (record { 0 = 0 }) less i_below in
+        absurd (omega (arith, it, is))
+    | inr most ↦ omega (arith, more, most)
+  ]
+]
+
+members_differ : (deployed : Deployed) → Differ (members_of deployed)
+unfolding members_among
+members_differ deployed = differ_by (along member_ids 0 deployed.actors) (rising 0 deployed.actors)
+
+-- ---- counts
+-- whether a step sends to a rank that passes, or receives from one
+abbrev sends_where : (ℕ → Bool) → Step → Bool
+sends_where test (Send peer bytes) = test peer
+sends_where test (ISend peer bytes) = test peer
+sends_where test other = false
+
+abbrev receives_where : (ℕ → Bool) → Step → Bool
+receives_where test (Recv peer) = test peer
+receives_where test (IRecv peer) = test peer
+receives_where test other = false
+
+count_more : (p : Step → Bool) (x : Step) (steps : List Step) → count_by p (x ∷ steps) ≡ cond (p x) 1 0 + count_by p steps
+count_more p x steps = sum_by-cons (λ y. cond (p y) 1 0) x steps
+
+counts_agree : (P : Step → Type 0) (p q : Step → Bool) → ((x : Step) → P x → p x ≡ q x) → (steps : List Step) → All P steps → count_by p steps ≡ count_by q steps
+counts_agree P p q agree [] all = refl
+counts_agree P p q agree (x ∷ steps) all =
+    count_more p x steps
+    ∙ ap₂ (λ (b : Bool) (n : ℕ). cond b 1 0 + n) (agree x (all 0 x (omega arith))) (counts_agree P p q agree steps (All-tail P x steps all))
+    ∙ sym (count_more q x steps)
+
+-- a step more, of one of two kinds or of none
+kinds_more : (p q r : Step → Bool) (x : Step) (steps : List Step) → ◌≡◌ {A = ℕ} (cond (p x) 1 0) (cond (q x) 1 0 + cond (r x) 1 0) → count_by p steps ≡ count_by q steps + count_by r steps → count_by p (x ∷ steps) ≡ count_by q (x ∷ steps) + count_by r (x ∷ steps)
+kinds_more p q r x steps here rest = omega (arith, here, rest, count_more p x steps, count_more q x steps, count_more r x steps)
+
+send_named : (members : List ActorId) (actor me : ℕ) (rank : Option ℕ) → Differ members → rank_of members actor ≡ rank → (step : Step) → NamesOther me (length members) step → sends_to actor (action_of members step) ≡ sends_where (is_at rank) step
+send_named members actor me rank differ is (Send peer bytes) other = named members actor rank differ is peer other.0
+send_named members actor me rank differ is (ISend peer bytes) other = named members actor rank differ is peer other.0
+send_named members actor me rank differ is (Recv peer) other = refl
+send_named members actor me rank differ is (IRecv peer) other = refl
+send_named members actor me rank differ is (Compute flops) other = refl
+send_named members actor me rank differ is Wait other = refl
+
+receive_named : (members : List ActorId) (actor me : ℕ) (rank : Option ℕ) → Differ members → rank_of members actor ≡ rank → (step : Step) → NamesOther me (length members) step → receives_from actor (action_of members step) ≡ receives_where (is_at rank) step
+receive_named members actor me rank differ is (Recv peer) other = named members actor rank differ is peer other.0
+receive_named members actor me rank differ is (IRecv peer) other = named members actor rank differ is peer other.0
+receive_named members actor me rank differ is (Send peer bytes) other = refl
+receive_named members actor me rank differ is (ISend peer bytes) other = refl
+receive_named members actor me rank differ is (Compute flops) other = refl
+receive_named members actor me rank differ is Wait other = refl
+
+sends_kinds : (rank : ℕ) (steps : List Step) → count_by (sends_where (is_at (Some rank))) steps ≡ sends_at rank steps
+sends_kinds rank [] = refl
+sends_kinds rank (Send peer bytes ∷ steps) = kinds_more (sends_where (is_at (Some rank))) (is_send rank) (is_isend rank) (Send peer bytes) steps (omega arith) (sends_kinds rank steps)
+sends_kinds rank (ISend peer bytes ∷ steps) = kinds_more (sends_where (is_at (Some rank))) (is_send rank) (is_isend rank) (ISend peer bytes) steps (omega arith) (sends_kinds rank steps)
+sends_kinds rank (Recv peer ∷ steps) = kinds_more (sends_where (is_at (Some rank))) (is_send rank) (is_isend rank) (Recv peer) steps (omega arith) (sends_kinds rank steps)
+sends_kinds rank (IRecv peer ∷ steps) = kinds_more (sends_where (is_at (Some rank))) (is_send rank) (is_isend rank) (IRecv peer) steps (omega arith) (sends_kinds rank steps)
+sends_kinds rank (Compute flops ∷ steps) = kinds_more (sends_where (is_at (Some rank))) (is_send rank) (is_isend rank) (Compute flops) steps (omega arith) (sends_kinds rank steps)
+sends_kinds rank (Wait ∷ steps) = kinds_more (sends_where (is_at (Some rank))) (is_send rank) (is_isend rank) Wait steps (omega arith) (sends_kinds rank steps)
+
+receives_kinds : (rank : ℕ) (steps : List Step) → count_by (receives_where (is_at (Some rank))) steps ≡ receives_at rank steps
+receives_kinds rank [] = refl
+receives_kinds rank (Send peer bytes ∷ steps) = kinds_more (receives_where (is_at (Some rank))) (is_recv rank) (is_irecv rank) (Send peer bytes) steps (omega arith) (receives_kinds rank steps)
+receives_kinds rank (ISend peer bytes ∷ steps) = kinds_more (receives_where (is_at (Some rank))) (is_recv rank) (is_irecv rank) (ISend peer bytes) steps (omega arith) (receives_kinds rank steps)
+receives_kinds rank (Recv peer ∷ steps) = kinds_more (receives_where (is_at (Some rank))) (is_recv rank) (is_irecv rank) (Recv peer) steps (omega arith) (receives_kinds rank steps)
+receives_kinds rank (IRecv peer ∷ steps) = kinds_more (receives_where (is_at (Some rank))) (is_recv rank) (is_irecv rank) (IRecv peer) steps (omega arith) (receives_kinds rank steps)
+receives_kinds rank (Compute flops ∷ steps) = kinds_more (receives_where (is_at (Some rank))) (is_recv rank) (is_irecv rank) (Compute flops) steps (omega arith) (receives_kinds rank steps)
+receives_kinds rank (Wait ∷ steps) = kinds_more (receives_where (is_at (Some rank))) (is_recv rank) (is_irecv rank) Wait steps (omega arith) (receives_kinds rank steps)
+
+sends_none : (steps : List Step) → count_by (sends_where (is_at None)) steps ≡ 0
+sends_none [] = refl
+sends_none (Send peer bytes ∷ steps) = sends_none steps
+sends_none (ISend peer bytes ∷ steps) = sends_none steps
+sends_none (Recv peer ∷ steps) = sends_none steps
+sends_none (IRecv peer ∷ steps) = sends_none steps
+sends_none (Compute flops ∷ steps) = sends_none steps
+sends_none (Wait ∷ steps) = sends_none steps
+
+receives_none : (steps : List Step) → count_by (receives_where (is_at None)) steps ≡ 0
+receives_none [] = refl
+receives_none (Send peer bytes ∷ steps) = receives_none steps
+receives_none (ISend peer bytes ∷ steps) = receives_none steps
+receives_none (Recv peer ∷ steps) = receives_none steps
+receives_none (IRecv peer ∷ steps) = receives_none steps
+receives_none (Compute flops ∷ steps) = receives_none steps
+receives_none (Wait ∷ steps) = receives_none steps
+
+-- ---- two actors
+sent : (members : List ActorId) (collective : Collective) (me actor : ℕ) (rank : Option ℕ) → Differ members → me < length members → rank_of members actor ≡ rank
+    → count_by (sends_to actor) (actions_at members collective (Some me)) ≡ count_by (sends_where (is_at rank)) (expansion collective me (length members))
+sent members collective me actor rank differ below is =
+    count_by-map (sends_to actor) (action_of members) (expansion collective me (length members))
+    ∙ counts_agree (NamesOther me (length members)) (λ step. sends_to actor (action_of members step)) (sends_where (is_at rank)) (send_named members actor me rank differ is) (expansion collective me (length members)) (peers_are_others collective me (length members) below)
+
+received : (members : List ActorId) (collective : Collective) (me actor : ℕ) (rank : Option ℕ) → Differ members → me < length members → rank_of members actor ≡ rank
+    → count_by (receives_from actor) (actions_at members collective (Some me)) ≡ count_by (receives_where (is_at rank)) (expansion collective me (length members))
+received members collective me actor rank differ below is =
+    count_by-map (receives_from actor) (action_of members) (expansion collective me (length members))
+    ∙ counts_agree (NamesOther me (length members)) (λ step. receives_from actor (action_of members step)) (receives_where (is_at rank)) (receive_named members actor me rank differ is) (expansion collective me (length members)) (peers_are_others collective me (length members) below)
+
+by_ranks : (members : List ActorId) (collective : Collective) (a b : ℕ) (ra rb : Option ℕ) → Differ members → rank_of members a ≡ ra → rank_of members b ≡ rb
+    → count_by (sends_to b) (actions_at members collective ra) ≡ count_by (receives_from a) (actions_at members collective rb)
+by_ranks members collective a b None None differ a_is b_is = refl
+by_ranks members collective a b (Some ra) None differ a_is b_is =
+    sent members collective ra b None differ (rank_below members a ra a_is) b_is ∙ sends_none (expansion collective ra (length members))
+by_ranks members collective a b None (Some rb) differ a_is b_is =
+    sym (received members collective rb a None differ (rank_below members b rb b_is) a_is ∙ receives_none (expansion collective rb (length members)))
+by_ranks members collective a b (Some ra) (Some rb) differ a_is b_is =
+    sent members collective ra b (Some rb) differ (rank_below members a ra a_is) b_is
+    ∙ sends_kinds rb (expansion collective ra (length members))
+    ∙ sends_are_received collective (length members) ra rb (rank_below members a ra a_is) (rank_below members b rb b_is)
+    ∙ sym (received members collective rb a (Some ra) differ (rank_below members b rb b_is) a_is ∙ receives_kinds ra (expansion collective rb (length members)))
+
+pub meet : CollectivesMeet
+unfolding actions_of
+meet deployed collective a b = by_ranks (members_of deployed) collective a b (rank_of (members_of deployed) a) (rank_of (members_of deployed) b) (members_differ deployed) refl refl

@@ -1,0 +1,157 @@
+//! Jobs over parts and streams in memory: the tables of `sg_job_cases`.
+ghost use Rattle.std.specs.Prelude.{◌≡◌, ◌<◌, All, None, IfOk};
+ghost use Rattle.sg_edge.specs.declared.files.Part.{Part};
+ghost use Rattle.sg_edge.specs.declared.files.Stage.TheVariants.{Fresh};
+
+use crate::whole_call::simgrid;
+use sg_actor::{Actor, PlainContext, TapeContext, all_blank};
+use sg_base::{Memory, Steps};
+use sg_edge::{Files, MemFiles, MemSinks, Sinks, SureFiles, SureSinks};
+use sg_job_cases::{
+    BY_HAND, COLLECTIVES, COMPUTATIONS, Case, Done, EACH_FAILURE, FAILURES, FAULTS, JOBS, Kind,
+    LIMITS, LONG, MEETINGS, RUNS, hold, hold_failing,
+};
+use std::alloc::Global;
+use std::marker::Brand;
+use std::sync::ledger::{Blank, Ledger};
+use std::test::Fail;
+use std::thread::Threads;
+
+// A blank context of the kind that a case has at this place.
+fn context(alloc: Global, case: &Case, place: u32) -> Result<Box<dyn Actor + Send>, Memory> {
+    match case.kinds.at(place) {
+        Kind::Plain => Ok(Box::new(alloc, PlainContext::new(alloc))?),
+        Kind::Tape => Ok(Box::new(alloc, TapeContext::new(alloc))?),
+        Kind::Meeter => Ok(Box::new(alloc, case.meeting.meeter(alloc)?)?),
+    }
+}
+
+// The crew, all of whom are found to be blank.
+fn blank_crew(crew: Vec<Box<dyn Actor + Send>>) -> Result<Vec<Box<dyn Actor + Send>>, Memory>
+    ensures { IfOk result (λ crew. All (λ b. mind b ≡ None) crew.items) }
+{
+    if all_blank(crew.as_slice()) {
+        Ok(crew)
+    } else {
+        Err(Memory)
+    }
+}
+
+// The crew of a case.
+fn crew_of(alloc: Global, case: &Case) -> Result<Vec<Box<dyn Actor + Send>>, Memory>
+    ensures { IfOk result (λ crew. All (λ b. mind b ≡ None) crew.items) }
+{
+    let mut crew: Vec<Box<dyn Actor + Send>> = Vec::new(alloc);
+    for place in 0..case.contexts {
+        crew.push(context(alloc, case, place)?)?;
+    }
+    blank_crew(crew)
+}
+
+// The exit status of a job, which counts its own looks.
+fn code_of<R: Threads + Sync, F: Files, O: Sinks, L: Ledger>(
+    rt: &R,
+    alloc: Global,
+    words: &[String],
+    files: &mut F,
+    out: &mut O,
+    crew: &mut Vec<Box<dyn Actor + Send>>,
+    blank: Blank,
+) -> u8
+    requires fresh { (part : Part) → (F.shows files.old part).stage ≡ Fresh }
+    requires sound { O.faults out.old ≡ 0 }
+    requires blank { All (λ b. mind b ≡ None) crew.old.items }
+    requires name { blank.name ≡ L.name }
+    requires parts { blank.parts ≡ L.parts }
+    requires some { 0 < blank.parts }
+{
+    let mut steps = Steps::<L>::new(blank);
+    simgrid(rt, alloc, words, files, out, crew, &mut steps).code()
+}
+
+// Does the job of a case.
+fn done<R: Threads + Sync>(rt: &R, alloc: Global, case: &Case) -> Result<Done, Fail> {
+    let words = case.command_line(alloc)?;
+    let mut files = case.files(alloc)?;
+    let mut out = case.sinks(alloc)?;
+    let mut crew = crew_of(alloc, case)?;
+    let code = code_of::<R, MemFiles, MemSinks, Brand>(
+        rt,
+        alloc,
+        &words,
+        &mut files,
+        &mut out,
+        &mut crew,
+        Blank::new(1),
+    );
+    Ok(Done::new(&files, out, code))
+}
+
+// The exit status of the job of a case over parts and streams that never fail.
+fn over_sure_parts<R: Threads + Sync>(rt: &R, alloc: Global, case: &Case) -> Result<u8, Memory> {
+    let words = case.command_line(alloc)?;
+    let mut files = SureFiles::new(alloc, &case.platform, &case.deployment, &case.script)?;
+    let mut out = SureSinks::new();
+    let mut crew = crew_of(alloc, case)?;
+    let code = code_of::<R, SureFiles, SureSinks, Brand>(
+        rt,
+        alloc,
+        &words,
+        &mut files,
+        &mut out,
+        &mut crew,
+        Blank::new(1),
+    );
+    Ok(code)
+}
+
+#[test]
+fn writes_the_lines_of_runs(rt: HostRuntime) -> Result<(), Fail> {
+    for table in [RUNS, COMPUTATIONS, BY_HAND, COLLECTIVES] {
+        hold(rt.alloc(), table, |alloc, case| done(&rt, alloc, case))?;
+    }
+    Ok(())
+}
+
+#[test]
+fn does_jobs_and_tells_faults(rt: HostRuntime) -> Result<(), Fail> {
+    for table in [JOBS, FAULTS, FAILURES] {
+        hold(rt.alloc(), table, |alloc, case| done(&rt, alloc, case))?;
+    }
+    Ok(())
+}
+
+#[test]
+fn keeps_to_limits(rt: HostRuntime) -> Result<(), Fail> {
+    hold(rt.alloc(), LIMITS, |alloc, case| done(&rt, alloc, case))
+}
+
+#[test]
+fn a_text_has_16_mib_at_most(rt: HostRuntime) -> Result<(), Fail> {
+    hold(rt.alloc(), LONG, |alloc, case| done(&rt, alloc, case))
+}
+
+#[test]
+fn turns_run_side_by_side(rt: HostRuntime) -> Result<(), Fail> {
+    hold(rt.alloc(), MEETINGS, |alloc, case| done(&rt, alloc, case))
+}
+
+#[test]
+fn each_call_and_each_write_fails(rt: HostRuntime) -> Result<(), Fail> {
+    hold_failing(
+        rt.alloc(),
+        EACH_FAILURE,
+        |alloc, case| done(&rt, alloc, case),
+    )
+}
+
+#[test]
+fn completes_over_parts_and_streams_that_never_fail(rt: HostRuntime) -> Result<(), Fail> {
+    let alloc = rt.alloc();
+    let mut case = Case::new(alloc)?;
+    case.take(alloc, "job", "simgrid_replay replay p d s")?;
+    case.take(alloc, "over", "FAST ONE")?;
+    case.take(alloc, "script", "p0 compute 1e9")?;
+    assert_eq!(rt; over_sure_parts(&rt, alloc, &case)?, 0);
+    Ok(())
+}
