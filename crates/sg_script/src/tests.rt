@@ -255,22 +255,32 @@ fn assert_says(
     Ok(())
 }
 
+// Lines of p1 ask for each action.
+fn assert_actions(rt: &impl Abort, alloc: Global, deployment: &Deployment) -> Result<(), Fail> {
+    for (text, action) in ACTIONS {
+        assert_says(rt, alloc, text, Operation::Alone(action), deployment)?;
+    }
+    Ok(())
+}
+
+// And for each collective.
+fn assert_collectives(rt: &impl Abort, alloc: Global, deployment: &Deployment) -> Result<(), Fail> {
+    for (text, collective) in COLLECTIVES {
+        assert_says(rt, alloc, text, Operation::Together(collective), deployment)?;
+    }
+    Ok(())
+}
+
 #[test]
 fn each_action_with_its_arguments(rt: HostRuntime) -> Result<(), Fail> {
     let deployment = two_actors(rt.alloc())?;
-    for (text, action) in ACTIONS {
-        assert_says(&rt, rt.alloc(), text, Operation::Alone(action), &deployment)?;
-    }
-    for (text, collective) in COLLECTIVES {
-        assert_says(
-            &rt,
-            rt.alloc(),
-            text,
-            Operation::Together(collective),
-            &deployment,
-        )?;
-    }
-    Ok(())
+    assert_actions(&rt, rt.alloc(), &deployment)
+}
+
+#[test]
+fn each_collective_with_its_arguments(rt: HostRuntime) -> Result<(), Fail> {
+    let deployment = two_actors(rt.alloc())?;
+    assert_collectives(&rt, rt.alloc(), &deployment)
 }
 
 #[test]
