@@ -9,10 +9,11 @@ NAMES = ["h1", "h2", "h3", "r1", "z", "in", "l1", "l2", "l2_UP", "l2_DOWN", "p0"
          "n" * 60, "\u00e9"]
 WORDS = ["Full", "Star", "full", "Dijkstra", "SHARED", "FATPIPE", "SPLITDUPLEX", "shared", "replay", "master", "worker", "Replay"]
 VALUES = [1, 0, -1, 1024, 1025, 10**9, 10**9 + 1, True, False, 1.5, [], {}, ["l1"], ["l2_UP", "l1"], ["l1"] * 65, ["nobody"], [1],
-          [["l1"]], ["1", "1", "1", "w"], ["1", "x", "1", "w"], ["1", "1", "1", "p0"], {"id": "x"}]
+          [["l1"]], ["1"], ["0", "1h"], ["1", "0.5"], ["1Mf", "2kf"], ["5MBps"], ["1"] * 1025, ["on"], ["off", "on"], ["off", "no"], ["on"] * 1025, ["1", "1", "1", "w"], ["1", "x", "1", "w"], ["1", "1", "1", "p0"], {"id": "x"}]
 KEYS = ["id", "zone", "speed", "core", "cores", "parent", "routing", "latency", "links", "symmetrical", "gateway", "gw_src", "down",
-        "name", "host", "function", "argument", "capacity", "Id", "latency_factor", "bandwidth_factor", "window"]
-TABLES = ["zone", "host", "router", "link", "route", "zone_route", "spoke", "network", "actor", "mutex", "semaphore", "hosts", "profile"]
+        "name", "host", "function", "argument", "capacity", "Id", "latency_factor", "bandwidth_factor", "window",
+        "link", "dates", "values", "loop", "states"]
+TABLES = ["zone", "host", "router", "link", "route", "zone_route", "spoke", "network", "actor", "mutex", "semaphore", "hosts", "profile", "profiles", "state_profile"]
 
 
 def platform(rng):
@@ -33,6 +34,12 @@ def platform(rng):
         tables["route"] = [{"src": a, "dst": b, "links": rng.choice(links)} for i, a in enumerate(inside) for b in inside[i + 1:]]
     if rng.random() < 0.3:
         tables["network"] = [{"latency_factor": "13.01", "bandwidth_factor": "0.97", "window": "4194304"}]
+    if rng.random() < 0.4:
+        tables["profile"] = [{"host": "h1", "dates": ["0", "10ms"], "values": ["5Mf", "2Gf"]},
+                             {"link": "l2_UP", "dates": ["1us", "2us", "1"], "values": ["0", "5kBps", "1MBps"]}]
+    if rng.random() < 0.3:
+        tables["state_profile"] = [{"host": "h2", "dates": ["0", "1"], "states": ["on", "off"]},
+                                   {"link": "l1", "dates": ["1us", "2us"], "states": ["off", "on"], "loop": "1ms"}]
     if tables["host"][2]["zone"] == "z":
         tables["route"] = tables.get("route", []) + [{"src": "h1", "dst": "h3", "links": ["l1"], "symmetrical": True}]
         tables["zone_route"].append({"src": "h3", "dst": "in", "gw_dst": "r1", "links": ["l1"]})

@@ -19,6 +19,8 @@ NEST = ZONE + '[[zone]]\nid = "in"\nparent = "z"\nrouting = "Full"\n'
 ZROUTE = '[[zone_route]]\nsrc = "in"\ndst = "h2"\ngw_src = "h1"\nlinks = ["l"]\n'
 SPOKE = '[[spoke]]\nzone = "z"\nchild = "h1"\nup = ["l"]\n'
 NETWORK = "[[network]]\n"
+PROFILE = '[[profile]]\nhost = "h1"\ndates = ["1", "2"]\nvalues = ["5Mf", "0"]\n'
+STATES = '[[state_profile]]\nhost = "h1"\ndates = ["1", "2"]\nstates = ["off", "on"]\n'
 MASTER = '[[actor]]\nname = "m"\nhost = "h1"\nfunction = "master"\nargument = ["1", "1", "1", "w"]\n'
 WORKER = '[[actor]]\nname = "w"\nhost = "h1"\nfunction = "worker"\n'
 MUTEX = '[[mutex]]\nid = "m"\n[[semaphore]]\nid = "s"\ncapacity = 1\n'
@@ -74,6 +76,26 @@ PLATFORMS = [
     (GOOD + NETWORK + 'window = "4MiB"\n', "bad value (table 8, row 1, key 3)", "9:10", '"4MiB"', "without a unit: `4`"),
     (GOOD + NETWORK + 'weight_s = "20537"\n', "unknown name (table 8, row 1, key 0)", "9:1", "weight_s", "`window`"),
     (GOOD + NETWORK * 2, "over a limit (table 8, row 0, key 0)", "9:1", "[[network]]", "at most 1 row"),
+    (GOOD + PROFILE.replace('host = "h1"\n', ""), "missing key (table 9, row 1, key 1)", "8:1", "[[profile]]", 'or `link = "l1"`'),
+    (GOOD + PROFILE.replace("h1", "z"), "unknown name (table 9, row 1, key 1)", "9:8", '"z"', "`z` is a zone"),
+    (GOOD + PROFILE * 2, "duplicate (table 9, row 2, key 1)", "13:8", '"h1"', "row 1, in line 8, gives a profile already"),
+    (GOOD + LINK + PROFILE + 'link = "l"\n', "bad value (table 9, row 1, key 2)", "15:8", '"l"', "the row has `host` too"),
+    (GOOD + SPLIT + PROFILE.replace('host = "h1"', 'link = "l"'), "unknown name (table 9, row 1, key 2)", "13:8", '"l"', "write `l_UP` or `l_DOWN`"),
+    (GOOD + PROFILE.replace('"2"', '"1s"'), "bad value (table 9, row 1, key 3)", "10:15", '"1s"', "isn't later than the date before"),
+    (GOOD + PROFILE.replace('"2"', '"2 s"'), "bad value (table 9, row 1, key 3)", "10:15", '"2 s"', "in front of the unit: `2s`"),
+    (GOOD + PROFILE.replace('["1", "2"]', "[]"), "bad value (table 9, row 1, key 3)", "10:9", "[]", "at least one date"),
+    (GOOD + PROFILE.replace('["1", "2"]', "[" + ",".join(f'"{i}"' for i in range(1025)) + "]"), "over a limit (table 9, row 1, key 3)",
+     "10:6068", '"1024"', "at most 1,024 dates"),
+    (GOOD + PROFILE.replace(', "0"', ""), "bad value (table 9, row 1, key 4)", "11:10", '["5Mf"]', "1 values for 2 dates"),
+    (GOOD + PROFILE.replace("5Mf", "5MBps"), "bad value (table 9, row 1, key 4)", "11:11", '"5MBps"', "is no unit of a speed"),
+    (GOOD + PROFILE + "loop = 5\n", "wrong type (table 9, row 1, key 5)", "12:8", "5", 'as `loop = "5"`'),
+    (GOOD + PROFILE + 'loop = "0"\n', "bad value (table 9, row 1, key 5)", "12:8", '"0"', "it is zero"),
+    (GOOD + PROFILE + STATES * 2, "duplicate (table 10, row 2, key 1)", "17:8", '"h1"', "row 1, in line 12, gives a profile already"),
+    (GOOD + STATES.replace('host = "h1"', ""), "missing key (table 10, row 1, key 1)", "8:1", "[[state_profile]]", 'or `link = "l1"`'),
+    (GOOD + STATES.replace('"2"', '"1"'), "bad value (table 10, row 1, key 3)", "10:15", '"1"', "isn't later than the date before"),
+    (GOOD + STATES.replace(', "on"', ""), "bad value (table 10, row 1, key 4)", "11:10", '["off"]', "1 states for 2 dates"),
+    (GOOD + STATES.replace('"on"', '"up"'), "bad value (table 10, row 1, key 4)", "11:18", '"up"', "write `on` or `off`"),
+    (GOOD + STATES.replace('"on"', "true"), "wrong type (table 10, row 1, key 4)", "11:18", "true", 'as `states = ["off", "on"]`'),
     (GOOD + "core = 2000\n", "bad value (table 2, row 1, key 4)", "8:8", "2000", "from 1 to 1024"),
     (ZONE.replace("Full", "full"), "bad value (table 1, row 1, key 3)", "3:11", '"full"', "did you mean `Full`?"),
     (ZONE.replace("Full", "Floyd"), "bad value (table 1, row 1, key 3)", "3:11", '"Floyd"', "the same paths"),
@@ -179,6 +201,8 @@ ENDINGS = [
     ("2 actors, 3 events", "So many actors had so many events"),
     ("[h1:p0:(1) 0.000000000] wait refused", "no request left"),
     ("[h1:p0:(1) 0.000000000] unlock m refused", "only the actor that holds"),
+    ("[h1:p0:(1) 0.500000000] compute 1000000000 failed", "the host"),
+    ("[h1:p0:(1) 0.500000000] send p1 1000000 failed", "a link of the route"),
     ("error: unrecognized subcommand 'x'", "--help"),
     ("error: 'simgrid_replay' requires a subcommand but one was not provided", "a file's name must be UTF-8"),
     ("script line 100000001: too many lines", "at most 100,000,000 lines"),
@@ -297,7 +321,7 @@ class Kinds(unittest.TestCase):
         self.assertIn("was it changed since?", done.stdout.decode())
 
     def test_other_lines_are_refused(self):
-        for line in ("", "hello", "platform: bad value (table 9, row 1, key 1)", "platform: nonsense (table 1, row 1, key 1)",
+        for line in ("", "hello", "platform: bad value (table 11, row 1, key 1)", "platform: nonsense (table 1, row 1, key 1)",
                      "script line 1: nonsense"):
             with self.subTest(line):
                 self.assertEqual(tool("explain", given=line.encode()).returncode, 2)

@@ -119,7 +119,7 @@ class FromSimgrid(unittest.TestCase):
     def test_what_is_refused(self):
         for inner, told in (('<zone id="z" routing="Vivaldi"/>', 'routing="Vivaldi"'),
                             ('<zone id="z" routing="Full"><cluster id="c"/></zone>', "tools/cluster"),
-                            ('<zone id="z" routing="Full"><host id="h" speed="1Gf" state_file="s"/></zone>', "state_file"),
+                            ('<zone id="z" routing="Full"><host id="h" speed="1Gf" pstate="1"/></zone>', "pstate"),
                             ('<zone id="z" routing="Full"><host id="h 1" speed="1Gf"/></zone>', "a name has letters"),
                             ('<zone id="z" routing="Full"><link id="l" bandwidth="1" sharing_policy="WIFI"/></zone>', "WIFI"),
                             ('<zone id="z" routing="Full"><bypassRoute/></zone>', "bypassRoute"),
@@ -142,6 +142,81 @@ class FromSimgrid(unittest.TestCase):
                 self.assertEqual(done.returncode, 0)
                 self.assertEqual(tomllib.loads(done.stdout.decode()).get("network"), [row] if row else None)
                 self.assertEqual(b"# <config>" in done.stdout, row is None)
+
+    def test_traces_become_profiles(self):
+        """A host's trace has parts of its speed, a link's has bandwidths; what begins anew does so as long after the last date."""
+        folder = Folder(**{"host.trace": "# comment\n\nPERIODICITY 2.5\n0 1.0\n 11.0\t0.5\n20 .1\n20 0.8\n",
+                           "up.trace": "% comment\n1e-3 1e6\n2.0000000009 0\nLOOPAFTER 0\n", "none.trace": "# nothing\nLOOPAFTER 1\n"})
+        folder.write("p.xml", HEAD + '<zone id="z" routing="Full"><host id="h" speed="98.095Mf" speed_file="host.trace"/>'
+                     '<host id="g" speed="2Gf" availability_file="none.trace"/><host id="k" speed="3"/>'
+                     '<link id="l" bandwidth="1MBps" latency="1ms" bandwidth_file="up.trace"/>'
+                     '<link id="s" bandwidth="1MBps" latency="1ms" sharing_policy="SPLITDUPLEX"/></zone>'
+                     '<trace id="t" periodicity="1.0">\n5 0.5\n6 1.4\n</trace><trace id="f" file="up.trace" periodicity="9"/>'
+                     '<trace_connect trace="t" element="k" kind="SPEED"/><trace_connect trace="f" element="s" kind="BANDWIDTH"/></platform>')
+        bandwidths = {"dates": ["0.001", "2"], "values": ["1000000", "0"]}
+        expected = [{"host": "h", "dates": ["0", "11", "20"], "values": ["98095000", "49047500", "78476000"], "loop": "2.5"},
+                    {"link": "l", **bandwidths}, {"host": "k", "dates": ["5", "6"], "values": ["1", "4"], "loop": "1"},
+                    {"link": "s_UP", **bandwidths}, {"link": "s_DOWN", **bandwidths}]
+        for words, place in ((("p.xml",), folder.path), ((folder.path / "p.xml",), None)):
+            done = tool("from_simgrid", *words, folder=place)
+            self.assertEqual((done.returncode, done.stderr), (0, b""))
+            self.assertEqual(tomllib.loads(done.stdout.decode())["profile"], expected)
+
+    def test_traces_become_profiles_of_states(self):
+        """A host or a link is on where the value is above zero; it may have a trace of its speed or bandwidth too."""
+        folder = Folder(state="PERIODICITY 1\n0 1\n2 0\n3 0.5\n", off="1 0\n", speed="1 0.5\n", none="# nothing\n")
+        folder.write("p.xml", HEAD + '<zone id="z" routing="Full"><host id="h" speed="2Gf" state_file="state" speed_file="speed"/>'
+                     '<host id="g" speed="1" state_file="none"/><host id="k" speed="1"/><link id="l" bandwidth="1" state_file="off"/>'
+                     '<link id="s" bandwidth="1" sharing_policy="SPLITDUPLEX"/></zone><trace id="t" file="off"/>'
+                     '<trace_connect trace="t" element="k"/><trace_connect trace="t" element="s" kind="LINK_AVAIL"/></platform>')
+        done = tool("from_simgrid", "p.xml", folder=folder.path)
+        self.assertEqual(done.returncode, 0)
+        platform = tomllib.loads(done.stdout.decode())
+        off = {"dates": ["1"], "states": ["off"]}
+        self.assertEqual(platform["profile"], [{"host": "h", "dates": ["1"], "values": ["1000000000"]}])
+        self.assertEqual(platform["state_profile"], [
+            {"host": "h", "dates": ["0", "2", "3"], "states": ["on", "off", "on"], "loop": "1"}, {"link": "l", **off},
+            {"host": "k", **off}, {"link": "s_UP", **off}, {"link": "s_DOWN", **off}])
+        self.assertIn("# the actors of a host that goes off go on", done.stdout.decode())
+
+    def test_what_of_a_trace_is_refused(self):
+        for text, told in (("1 0.5\n0 1\n", "line 2 is before"), ("STOCHASTIC\n", "drawn"), ("0 -1\n", "line 1 isn't a date"),
+                           ("0 1 2\n", "line 1 isn't a date"), ("1e9 1\n1000000001 1\n", "a time above"), ("0 2e9\n", "a value above"),
+                           ("PERIODICITY 1e-10\n0 1\n", "less than a nanosecond"), ("PERIODICITY day\n0 1\n", '"day"'),
+                           ("".join(f"{i} 1\n" for i in range(1025)), "1025 dates")):
+            with self.subTest(text[:20]):
+                folder = Folder(t=text, p=HEAD + '<zone id="z" routing="Full"><host id="h" speed="1Mf" speed_file="t"/></zone></platform>')
+                done = tool("from_simgrid", "p", folder=folder.path)
+                self.assertEqual((done.returncode, done.stdout, done.stderr.count(b"\n")), (1, b"", 1))
+                self.assertIn(told, done.stderr.decode())
+        for inner, told in (('<host id="h" speed="1Kif" speed_file="t"/>', "unit"),
+                            ('<link id="l" bandwidth="1" latency_file="t"/>', "latency_file"),
+                            ('<trace id="t"/><trace_connect trace="t" element="l" kind="LATENCY"/>', "LATENCY"),
+                            ('<trace id="t"/><trace_connect trace="t" element="h" kind="LINK_AVAIL"/>', "link h that isn't there"),
+                            ('<host id="h" speed="1" state_file="t"/><trace id="t" file="t"/><trace_connect trace="t" element="h"/>',
+                             "host h has two traces"),
+                            ('<trace id="t"/><trace_connect trace="t" element="h" kind="SPEED"/>', "host h that isn't there"),
+                            ('<host id="h" speed="1" speed_file="t"/><trace id="t" file="t"/><trace_connect trace="t" element="h" kind="SPEED"/>',
+                             "host h has two traces")):
+            with self.subTest(inner):
+                folder = Folder(t="0 1\n", p=HEAD + f'<zone id="z" routing="Full">{inner}</zone></platform>')
+                done = tool("from_simgrid", "p", folder=folder.path)
+                self.assertEqual((done.returncode, done.stdout), (1, b""))
+                self.assertIn(told, done.stderr.decode())
+
+    def test_no_trace(self):
+        done = converted(HEAD + '<zone id="z" routing="Full"><host id="h" speed="1" speed_file="nowhere.trace"/></zone></platform>')
+        self.assertEqual((done.returncode, done.stdout), (2, b""))
+        self.assertIn("nowhere.trace", done.stderr.decode())
+
+    def test_a_run_goes_by_its_traces(self):
+        """The first second is at full speed, the next two at half; then nothing goes on for a second, and all begins anew."""
+        folder = Folder(d='[[actor]]\nname = "p0"\nhost = "h"\nfunction = "replay"\n', s="p0 compute 5e9\n")
+        folder.write("p.xml", HEAD + '<zone id="z" routing="Full"><host id="h" speed="1Gf" speed_file="t"/></zone></platform>')
+        folder.write("t", "PERIODICITY 1\n0 1\n1 0.5\n3 0\n")
+        folder.write("p", tool("from_simgrid", "p.xml", folder=folder.path).stdout)
+        run = folder.replayed()
+        self.assertEqual((run.returncode, run.stdout.decode().splitlines()[-1]), (0, "Simulation time 9.000000000"))
 
     def test_no_xml(self):
         self.assertEqual(converted("platform").returncode, 2)

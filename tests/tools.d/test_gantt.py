@@ -91,6 +91,15 @@ class Charts(unittest.TestCase):
         self.assertIn("blocked [h1:a:(1)] recv b", tips(blocked))
         self.assertIn("refused", [text.text for text in svg.iter(SVG + "text")])
 
+    def test_failed(self):
+        """A call that failed has no duration: its bar begins where its actor was free, and one in its call is a mark."""
+        text = traces.GOOD + "[h1:a:(1) 2.500000000] compute 5 failed\n[h1:a:(1) 2.500000000] compute 5 failed\nSimulation time 2.500000000\n"
+        svg = chart(text)
+        bar, = [rect for rect in svg.iter(SVG + "rect") if rect.get("class") == "kind-failed"]
+        whole, = [rect for rect in svg.iter(SVG + "rect") if rect.get("class") == "kind-compute"]
+        self.assertAlmostEqual(float(bar.get("width")) / float(whole.get("width")), 1.5, 2)
+        self.assertEqual(len([rect for rect in svg.iter(SVG + "rect") if rect.get("class") == "mark"]), 1)
+
     def test_a_part_of_the_time(self):
         svg = chart(example("master_worker"), "--from", "1", "--to", "2.5", "--width", "800", "--title", "<part>")
         self.assertEqual(svg.get("width"), "800")

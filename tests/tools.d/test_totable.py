@@ -6,7 +6,7 @@ import json
 import unittest
 
 import traces
-from common import Folder, example, tool
+from common import ROOT, Folder, example, tool
 
 
 def again(row):
@@ -21,6 +21,7 @@ class Tables(unittest.TestCase):
     def lines(self):
         for name in ("first", "ring", "star_cluster", "master_worker"):
             yield example(name)
+        yield (ROOT / "examples/failures/dies.trace").read_text()
         for number in range(4):
             yield Folder(**traces.fatpipe(number)).replayed().stdout.decode()
 

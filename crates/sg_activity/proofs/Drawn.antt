@@ -1,11 +1,10 @@
 -- A serial is drawn.
-use Rattle.std.proofs.Common.{◌≡◌, ℕ, ◌+◌, ◌<◌, ◌≤◌, false, cond, Option, None, Some, List, [], ◌∷◌, ◌++◌, refl, sym, ap, ap₂, ◌∙◌, arith}
-use Rattle.sg_activity.specs.declared.lives.Live.{Live}
+use Rattle.std.proofs.Common.{◌≡◌, ℕ, ◌+◌, cond, None, [], ◌∷◌, ◌++◌, refl, ap, ◌∙◌, arith}
 use Rattle.sg_activity.specs.Slots.{passes, serials}
 use Rattle.sg_activity.specs.Underway.{drawn}
 use Rattle.sg_activity.specs.Doing.{drawn_in}
 use Rattle.sg_activity.specs.kept.State.{State, task_of, is_now, is_so, told_at, told_by, under_of, doing_of}
-use Rattle.sg_activity.specs.kept.Sound.{HasFlow, IsHeld, IsFlowOf, IsKept}
+use Rattle.sg_activity.specs.kept.Sound.{IsKept}
 use Rattle.sg_activity.proofs.Listing.{listed_more}
 use Rattle.sg_activity.proofs.Lookup.{told_missed}
 use Rattle.sg_activity.proofs.Serials.{serials_push}
@@ -25,7 +24,7 @@ drawn_kept s is = record {
         few_bytes = h.few_bytes;
         weighs = h.weighs;
         paced = h.paced;
-        over = h.over;
+        placed = h.placed;
         flow = λ full. let f = h.flow full in record { runs = f.runs; limit = f.limit; within = f.within; known = f.known };
         dated = h.dated;
       };

@@ -1,5 +1,5 @@
 -- An activity is done.
-use Rattle.std.proofs.Common.{◌≡◌, ◌≢◌, ℕ, ◌+◌, ◌-◌, ◌*◌, ◌<◌, ◌≤◌, false, Option, None, Some, option_to_list, List, ◌++◌, length, length-set, set, sum_by, refl, sym, ap, subst, ◌∙◌, arith}
+use Rattle.std.proofs.Common.{◌≡◌, ℕ, ◌+◌, ◌-◌, ◌<◌, false, Option, None, Some, option_to_list, List, ◌++◌, length, length-set, set, sum_by, refl, sym, ap, subst, ◌∙◌, arith}
 use Rattle.sg_base.specs.MarkSet.{is_in}
 use Rattle.sg_heap.specs.Agenda.{Key}
 use Rattle.sg_lazy.specs.Lazily.{Lazily}
@@ -8,11 +8,12 @@ use Rattle.sg_activity.specs.declared.lives.Live.{Live}
 use Rattle.sg_activity.specs.Task.{flow_in}
 use Rattle.sg_activity.specs.kept.Pool.{Pool, slot_at}
 use Rattle.sg_activity.specs.kept.State.{State, state_of, task_of, under_of}
-use Rattle.sg_activity.specs.kept.Sound.{IsKept, IsSound, flows_ahead, slot_ahead}
+use Rattle.sg_activity.specs.kept.Sound.{IsKept, IsSound, slot_ahead}
+use Rattle.sg_activity.specs.Task.{flows_ahead}
 use Rattle.sg_activity.specs.kept.Ends.{Ends}
 use Rattle.sg_activity.specs.kept.Turns.{Turns}
 use Rattle.sg_activity.proofs.Pairing.{there_within}
-use Rattle.sg_activity.proofs.Roomy.{ahead_set}
+use Rattle.sg_activity.proofs.Roomy.{ahead_counted, ahead_set}
 use Rattle.sg_activity.proofs.Turned.{turned}
 use Rattle.sg_activity.proofs.Turning.{ended_state, state_same, Went, end_turns, end_under}
 
@@ -21,26 +22,27 @@ pub record Goes (kept : Kept) (lazy : Lazily) (key : ℕ) (live : Live) : Type 0
   pub went : Went (state_of kept) live lazy.slots
   pub ended : lazy.ended ≡ kept.lazy.ended ++ option_to_list (flow_in (state_of kept).capacities (Some (task_of (state_of kept) key live)))
   pub capacities : lazy.capacities ≡ kept.lazy.capacities
+  pub resources : lazy.resources ≡ kept.lazy.resources
   pub flow_room : lazy.flow_room ≡ kept.lazy.flow_room
   pub use_room : lazy.use_room ≡ kept.lazy.use_room
   pub long : length lazy.slots ≡ length kept.lazy.slots
 
-module _ (kept : Kept) (lazy : Lazily) (lives : Pool) (agenda : List (Option Key)) (key : ℕ) (live : Live) (sound : IsSound kept) (at : slot_at kept.lives.slots key ≡ Some live) (stale : is_in key kept.fresh.members ≡ false) (last : flows_ahead live.kind ≡ 0) (goes : Goes kept lazy key live)
+module _ (kept : Kept) (lazy : Lazily) (lives : Pool) (agenda : List (Option Key)) (key : ℕ) (live : Live) (sound : IsSound kept) (at : slot_at kept.lives.slots key ≡ Some live) (stale : is_in key kept.fresh.members ≡ false) (goes : Goes kept lazy key live)
     (slots : lives.slots ≡ set kept.lives.slots key None) (room : lives.room ≡ kept.lives.room + 1) (keys : agenda ≡ set kept.agenda key None) where
   abbrev s : State
   s = state_of kept
 
-  pub ends : Ends kept (record kept { lazy = lazy; lives = lives; agenda = agenda; settled = false }) key live
+  pub ends : Ends kept (record kept { lazy = lazy; lives = lives; agenda = agenda; settled = false; flows = kept.flows - flows_ahead live.kind }) key live None
   ends =
       let within = there_within kept.lives.slots key live at in
       let keys_in : key < length kept.agenda = omega (arith, within, sound.room.agenda_long) in
       let new : State = ended_state s key lazy.slots lazy.ended in
       let turns : Turns s new key live.serial None = end_turns s key live lazy.slots lazy.ended sound.are at stale within keys_in goes.went in
-      let state_is = state_same s s.drawn false lives.slots (set s.slots key None) s.ways s.ways agenda (set s.keys key None) lazy.slots lazy.slots s.by_flow s.by_flow s.fresh s.fresh lazy.ended lazy.ended slots refl keys refl refl refl refl in
+      let state_is = state_same s s.drawn false lives.slots (set s.slots key None) s.ways s.ways agenda (set s.keys key None) lazy.slots lazy.slots s.by_flow s.by_flow s.fresh s.fresh lazy.ended lazy.ended lazy.resources kept.lazy.resources slots refl keys refl refl refl refl goes.resources in
       record {
         slot = None;
         turns = subst (λ st. Turns s st key live.serial None) (sym state_is) turns;
-        under = ap under_of state_is ∙ end_under s key live lazy.slots lazy.ended sound.are at last stale goes.ended turns;
+        under = ap under_of state_is ∙ end_under s key live lazy.slots lazy.ended sound.are at stale goes.ended turns;
         drawn = refl;
         sound = record {
           are = subst IsKept (sym state_is) (turned s new key live.serial None sound.are turns);
@@ -48,7 +50,7 @@ module _ (kept : Kept) (lazy : Lazily) (lives : Pool) (agenda : List (Option Key
             capacities = goes.capacities ∙ sound.room.capacities;
             few = sound.room.few;
             early = sound.room.early;
-            flows = omega (arith, sound.room.flows, last, ahead_set s.slots key None within, ap slot_ahead at, ap (sum_by slot_ahead) slots);
+            flows = omega (arith, sound.room.flows, ahead_counted s.slots key live within at, ahead_set s.slots key None within, ap slot_ahead at, ap (sum_by slot_ahead) slots);
             flow_room = omega (arith, sound.room.flow_room, goes.flow_room);
             use_room = omega (arith, sound.room.use_room, goes.use_room);
             keys_free = omega (arith, sound.room.keys_free, room);
@@ -62,8 +64,8 @@ module _ (kept : Kept) (lazy : Lazily) (lives : Pool) (agenda : List (Option Key
       }
 
 -- the same, of what the two branches left
-pub ends_from : (kept mid : Kept) (lazy : Lazily) (lives : Pool) (agenda : List (Option Key)) (key : ℕ) (live : Live) → IsSound kept → slot_at kept.lives.slots key ≡ Some live → is_in key kept.fresh.members ≡ false → flows_ahead live.kind ≡ 0 → Goes kept lazy key live → mid ≡ record kept { lazy = lazy } →
-    lives.slots ≡ set mid.lives.slots key None → lives.room ≡ mid.lives.room + 1 → agenda ≡ set mid.agenda key None → Ends kept (record mid { lives = lives; agenda = agenda; settled = false }) key live
-ends_from kept mid lazy lives agenda key live sound at stale last goes e slots room keys =
-    subst (λ (m : Kept). Ends kept (record m { lives = lives; agenda = agenda; settled = false }) key live) (sym e)
-    (ends kept lazy lives agenda key live sound at stale last goes (slots ∙ ap (λ (m : Kept). set m.lives.slots key None) e) (room ∙ ap (λ (m : Kept). m.lives.room + 1) e) (keys ∙ ap (λ (m : Kept). set m.agenda key None) e))
+pub ends_from : (kept mid : Kept) (lazy : Lazily) (lives : Pool) (agenda : List (Option Key)) (key : ℕ) (live : Live) → IsSound kept → slot_at kept.lives.slots key ≡ Some live → is_in key kept.fresh.members ≡ false → Goes kept lazy key live → mid ≡ record kept { lazy = lazy } →
+    lives.slots ≡ set mid.lives.slots key None → lives.room ≡ mid.lives.room + 1 → agenda ≡ set mid.agenda key None → Ends kept (record mid { lives = lives; agenda = agenda; settled = false; flows = mid.flows - flows_ahead live.kind }) key live None
+ends_from kept mid lazy lives agenda key live sound at stale goes e slots room keys =
+    subst (λ (m : Kept). Ends kept (record m { lives = lives; agenda = agenda; settled = false; flows = m.flows - flows_ahead live.kind }) key live None) (sym e)
+    (ends kept lazy lives agenda key live sound at stale goes (slots ∙ ap (λ (m : Kept). set m.lives.slots key None) e) (room ∙ ap (λ (m : Kept). m.lives.room + 1) e) (keys ∙ ap (λ (m : Kept). set m.agenda key None) e))

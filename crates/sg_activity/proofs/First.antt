@@ -1,5 +1,5 @@
 -- At first nothing is under way.
-use Rattle.std.proofs.Common.{◌≡◌, ℕ, Bool, true, false, true≢false, Option, None, Some, List, [], map, refl, sym, ap, ap₂, ◌∙◌}
+use Rattle.std.proofs.Common.{◌≡◌, ℕ, suc, Bool, true, false, true≢false, Option, None, Some, All, List, [], ◌∷◌, length, map, arith, refl, sym, ap, ap₂, ◌∙◌}
 use Rattle.sg_base.specs.declared.ids.LinkId.{LinkId}
 use Rattle.sg_base.specs.MarkSet.{is_in}
 use Rattle.sg_heap.specs.Agenda.{Key, key_at}
@@ -9,7 +9,7 @@ use Rattle.sg_activity.specs.declared.kinds.HostCap.{HostCap}
 use Rattle.sg_activity.specs.declared.kinds.LinkCap.{LinkCap}
 use Rattle.sg_activity.specs.declared.lives.Live.{Live}
 use Rattle.sg_activity.specs.Doing.{idle_on}
-use Rattle.sg_activity.specs.Links.{Capacities, machines}
+use Rattle.sg_activity.specs.Links.{Switches, all_on, machines}
 use Rattle.sg_activity.specs.Slots.{listed}
 use Rattle.sg_activity.specs.kept.Pool.{slot_at}
 use Rattle.sg_activity.specs.kept.State.{State, serial_at, doing_of}
@@ -29,8 +29,17 @@ first_kept s slots keys runs fresh = record {
   rates = λ set id running e. absurd (none_is (ap (λ l. running_at l id) runs) e);
 }
 
-pub first_told : (hosts : List HostCap) (links : List LinkCap) (slots : List (Option Live)) (ways : List (List LinkId)) (keys : List (Option Key)) (runs : List (Option RunningFlow)) (by_flow fresh : List ℕ) (ended : List Flow) → fresh ≡ [] → ended ≡ [] →
-    doing_of (record { capacities = machines hosts links; date = 0; drawn = 0; slots = slots; ways = ways; keys = keys; runs = runs; by_flow = by_flow; fresh = fresh; ended = ended; settled = false; arrived = false }) 0 ≡ idle_on hosts links
+pub first_told : (hosts : List HostCap) (links : List LinkCap) (slots : List (Option Live)) (ways : List (List LinkId)) (keys : List (Option Key)) (runs : List (Option RunningFlow)) (by_flow fresh : List ℕ) (ended : List Flow) (resources : List ℕ) (on : Switches) → fresh ≡ [] → ended ≡ [] → resources ≡ [] → on ≡ all_on (machines hosts links) →
+    doing_of (record { capacities = machines hosts links; on = on; date = 0; drawn = 0; slots = slots; ways = ways; keys = keys; runs = runs; by_flow = by_flow; fresh = fresh; ended = ended; resources = resources; settled = false; arrived = false }) 0 ≡ idle_on hosts links
 unfolding listed
-first_told hosts links slots ways keys runs by_flow fresh ended none gone =
-    ap₂ (λ b e. record { under = record { date = 0; capacities = machines hosts links; tasks = []; marks = record { began = b; ended = e } }; due = []; settled = false; room = 0 }) (ap (map (serial_at slots)) none) gone
+first_told hosts links slots ways keys runs by_flow fresh ended resources on none gone same all =
+    ap₂ (λ b e. record { under = record { date = 0; capacities = machines hosts links; on = on; tasks = []; marks = record { began = b; ended = e; resources = resources } }; due = []; settled = false; room = 0 }) (ap (map (serial_at slots)) none) gone
+    ∙ ap (λ r. record { under = record { date = 0; capacities = machines hosts links; on = on; tasks = []; marks = record { began = []; ended = []; resources = r } }; due = []; settled = false; room = 0 }) same
+    ∙ ap (λ o. record { under = record { date = 0; capacities = machines hosts links; on = o; tasks = []; marks = record { began = []; ended = []; resources = [] } }; due = []; settled = false; room = 0 }) all
+
+-- all that are on
+pub all_true : {X : Type 0} (on : List Bool) (xs : List X) → length on ≡ length xs → All (λ b. b ≡ true) on → on ≡ map (λ _. true) xs
+all_true [] [] long is = refl
+all_true [] (x ∷ xs) long is = absurd (omega (arith, long))
+all_true (b ∷ on) [] long is = absurd (omega (arith, long))
+all_true (b ∷ on) (x ∷ xs) long is = ap₂ (λ c l. c ∷ l) (is 0 b (omega arith)) (all_true on xs (omega (arith, long)) (λ k d within. is (suc k) d (omega (arith, within))))

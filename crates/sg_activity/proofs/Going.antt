@@ -1,28 +1,23 @@
 -- Dates: the next one, going there, and what is due then.
-use Rattle.std.proofs.Common.{◌≡◌, ◌≢◌, ℕ, zero, suc, ◌+◌, ◌-◌, ◌*◌, ◌^◌, ◌==◌, ◌<◌, ◌≤◌, ◌⊎◌, inl, inr, Bool, true, false, cond, true≢false, Option, None, Some, option_map, List, [], ◌∷◌, length, map, set, get_or, IsTrue, IsSome, refl, sym, ap, ap₂, subst, ◌∙◌, arith}
+use Rattle.std.proofs.Common.{◌≡◌, ◌≢◌, ℕ, zero, suc, ◌+◌, ◌-◌, ◌*◌, ◌==◌, ◌<◌, ◌≤◌, ◌⊎◌, inl, inr, true, false, Option, None, Some, option_map, ◌∷◌, map, get_or, IsTrue, refl, sym, ap, ap₂, subst, ◌∙◌, arith}
 use Rattle.std.specs.Option.{IfSome}
 use Rattle.std.proofs.Math.Nat.{mul-le-mul_left}
-use Rattle.std.proofs.lemmas.List.{length-map}
-use Rattle.sg_base.specs.MarkSet.{is_in}
 use Rattle.sg_heap.specs.Agenda.{Key, IsLeast, IsNoLater, key_at}
-use Rattle.sg_activity.specs.declared.kinds.Phase.{Phase}
 use Rattle.sg_activity.specs.declared.lives.Live.{Live}
-use Rattle.sg_activity.specs.Slots.{listed, passes, serials, soonest, is_at}
+use Rattle.sg_activity.specs.Slots.{listed, passes, serials, is_at}
 use Rattle.sg_activity.specs.Task.{Task}
-use Rattle.sg_activity.specs.Underway.{Underway, rate, wait, wait_in, next_in, due_in, passed, later}
-use Rattle.sg_activity.specs.Doing.{Doing, later_in, IsDue, IsNext, IsUpTo}
+use Rattle.sg_activity.specs.Underway.{rate, wait, wait_in, next_in, due_in, passed, later}
+use Rattle.sg_activity.specs.Doing.{later_in, IsNext, IsUpTo}
 use Rattle.sg_activity.specs.kept.Stamps.{left_at, due_of}
 use Rattle.sg_activity.specs.kept.Pool.{slot_at}
 use Rattle.sg_activity.specs.kept.State.{State, task_of, date_of, dated, is_dated, is_now, is_so, told_at, told_by, under_of, doing_of}
-use Rattle.sg_activity.specs.kept.Sound.{IsHeld, HasFlow, IsKept}
-use Rattle.sg_activity.specs.kept.Ends.{IsFirst, IsIdle}
-use Rattle.sg_activity.proofs.Listing.{eq_cases, bool_cases, some_same, length-listed, at_listed, past_listed, same_listed, serials_alike, serials_none, serials_first, soonest_none, soonest_is, up_to_each}
+use Rattle.sg_activity.specs.kept.Sound.{IsKept}
+use Rattle.sg_activity.proofs.Listing.{eq_cases, some_same, length-listed, at_listed, past_listed, same_listed, serials_alike, soonest_none, soonest_is, up_to_each}
 use Rattle.sg_activity.proofs.Lookup.{Sought, IsMissing, sought, told_found, told_missed, told_from}
 use Rattle.sg_activity.proofs.Pairing.{there_within}
 use Rattle.sg_activity.proofs.Rates.{rate_told, wait_told, task_there}
 use Rattle.sg_activity.proofs.Stamps.{IsWait, is_wait, left_steps_lem, due_stays_lem}
 use Rattle.sg_activity.proofs.Told.{doing_same}
-use Rattle.sg_activity.proofs.Turned.{not_there}
 
 less_or : (i n : ℕ) → (i < n) ⊎ (n ≤ i)
 less_or i n = grind arith
@@ -146,7 +141,7 @@ module _ (s : State) (is : IsKept s) (set : IsTrue s.settled) where
             few_bytes = h.few_bytes;
             weighs = h.weighs;
             paced = h.paced;
-            over = h.over;
+            placed = h.placed;
             flow = λ full. let f = h.flow full in record { runs = f.runs; limit = f.limit; within = f.within; known = f.known };
             dated = h.dated;
           };

@@ -1,8 +1,7 @@
 -- There is more room, and all else is as it was.
-use Rattle.std.proofs.Common.{◌≡◌, ℕ, zero, suc, ◌+◌, ◌*◌, ◌≤◌, Bool, cond, Option, None, Some, option_map, List, [], ◌∷◌, map, length, get_or, filter_map, sum_by, slice_index, IsTrue, IsSome, refl, sym, ap, ap₂, subst, ◌∙◌, arith}
+use Rattle.std.proofs.Common.{◌≡◌, ℕ, suc, ◌+◌, ◌*◌, ◌≤◌, cond, Option, None, Some, option_map, List, [], ◌∷◌, map, length, sum_by, slice_index, IsSome, refl, sym, ap, ap₂, subst, ◌∙◌, arith}
 use Rattle.std.specs.List.{cons_option}
 use Rattle.sg_base.specs.declared.ids.LinkId.{LinkId}
-use Rattle.sg_base.specs.MarkSet.{is_in}
 use Rattle.sg_heap.specs.Agenda.{Key, key_at}
 use Rattle.sg_maxmin.specs.Fill.{share_of}
 use Rattle.sg_lazy.specs.RunningFlow.{RunningFlow, running_at, flows_in}
@@ -14,7 +13,7 @@ use Rattle.sg_activity.specs.kept.Grows.{Grows}
 use Rattle.sg_activity.specs.Slots.{serials}
 use Rattle.sg_activity.specs.kept.Pool.{slot_at}
 use Rattle.sg_activity.specs.kept.State.{State, state_of, links_at, task_from, task_of, is_now, is_dated, is_so, serial_in, serial_at, told_at, told_by, under_of, doing_of}
-use Rattle.sg_activity.specs.kept.Sound.{AreApart, IsFlowOf, IsKept, IsSound, slot_ahead}
+use Rattle.sg_activity.specs.kept.Sound.{AreApart, IsKept, IsSound, slot_ahead}
 use Rattle.sg_activity.proofs.Listing.{same_listed}
 use Rattle.sg_activity.proofs.Lookup.{told_alike}
 use Rattle.sg_activity.proofs.Told.{doing_same, made_same}
@@ -42,7 +41,7 @@ module _ (s : State) (slots : List (Option Live)) (ways : List (List LinkId)) (k
 
   pub grown_kept : IsKept grown
   grown_kept = record {
-    each = λ k live at. held_still s grown k live refl refl (omega arith) (same_links k) (same_keys k) refl longer (λ full. (same_runs live.flow, same_flows live.flow)) (is.each k live (sym (same_slots k) ∙ at));
+    each = λ k live at. held_still s grown k live refl refl refl (omega arith) (same_links k) (same_keys k) refl longer (λ full. (same_runs live.flow, same_flows live.flow)) (is.each k live (sym (same_slots k) ∙ at));
     idle = λ k none. same_keys k ∙ is.idle k (sym (same_slots k) ∙ none);
     apart = apart;
     back = λ id r e.
@@ -60,9 +59,9 @@ module _ (s : State) (slots : List (Option Live)) (ways : List (List LinkId)) (k
   pub grown_told : (room : ℕ) → doing_of grown room ≡ doing_of s room
   grown_told room =
       doing_same (under_of grown) (under_of s) (cond s.arrived (serials is_so 1 (told_by (is_now grown) grown)) []) (cond s.arrived (serials is_so 1 (told_by (is_now s) s)) []) s.settled s.settled room room
-      (made_same s.date s.date s.capacities s.capacities (told_by (task_of grown) grown) (told_by (task_of s) s) (map (serial_at slots) s.fresh) (map (serial_at s.slots) s.fresh) s.ended s.ended refl refl
+      (made_same s.date s.date s.capacities s.capacities s.on s.on (told_by (task_of grown) grown) (told_by (task_of s) s) (map (serial_at slots) s.fresh) (map (serial_at s.slots) s.fresh) s.ended s.ended s.resources s.resources refl refl refl
       (tell_same (task_of s) (task_of grown) (λ k live. ap (λ l. task_from s.date l live) (same_links k)))
-      (map_in (serial_at slots) (serial_at s.slots) s.fresh (λ k _. ap serial_in (same_slots k))) refl)
+      (map_in (serial_at slots) (serial_at s.slots) s.fresh (λ k _. ap serial_in (same_slots k))) refl refl)
       (ap (λ l. cond s.arrived (serials is_so 1 l) []) (tell_same (is_now s) (is_now grown) (λ k live. ap (is_dated s.date) (same_keys k)))) refl refl
 
 no_ahead : (slots : List (Option Live)) → ((k : ℕ) → slot_at slots k ≡ None) → sum_by slot_ahead slots ≡ 0
@@ -81,8 +80,9 @@ module _ (kept new : Kept) (room flows : ℕ) (sound : IsSound kept) (g : Grows 
 
   state_is : state_of (record new { room = room; flows = flows }) ≡ grown s new.lives.slots new.ways.items new.agenda new.lazy.slots new.by_flow.items sound.are g.slots g.links g.keys g.runs g.by_flow g.longer
   state_is =
-      ap (λ (k : Kept). record (state_of k) { slots = new.lives.slots; ways = new.ways.items; keys = new.agenda; runs = new.lazy.slots; by_flow = new.by_flow.items; fresh = new.fresh.members; ended = new.lazy.ended }) g.rest
-      ∙ ap₂ (λ f e. record s { slots = new.lives.slots; ways = new.ways.items; keys = new.agenda; runs = new.lazy.slots; by_flow = new.by_flow.items; fresh = f; ended = e }) g.fresh g.ended
+      ap (λ (k : Kept). record (state_of k) { slots = new.lives.slots; ways = new.ways.items; keys = new.agenda; runs = new.lazy.slots; by_flow = new.by_flow.items; fresh = new.fresh.members; ended = new.lazy.ended; resources = new.lazy.resources }) g.rest
+      ∙ ap₂ (λ f e. record s { slots = new.lives.slots; ways = new.ways.items; keys = new.agenda; runs = new.lazy.slots; by_flow = new.by_flow.items; fresh = f; ended = e; resources = new.lazy.resources }) g.fresh g.ended
+      ∙ ap (λ r. record s { slots = new.lives.slots; ways = new.ways.items; keys = new.agenda; runs = new.lazy.slots; by_flow = new.by_flow.items; resources = r }) g.resources
 
   pub sound_grown : flows ≡ room + sum_by slot_ahead kept.lives.slots → flows ≤ new.lazy.flow_room → 64 * flows ≤ new.lazy.use_room → room ≤ new.lives.room → IsSound (record new { room = room; flows = flows })
   sound_grown count flow_room use_room keys_free = record {

@@ -23,3 +23,12 @@ pub mod Roomy
 pub mod Ending
 pub mod Grown
 pub mod First
+pub mod Indexing
+pub mod Chained
+pub mod Moved
+pub mod Bounds
+pub mod Reset
+pub mod Hitting
+pub mod Struck
+pub mod Switched
+pub mod Tested

@@ -1,8 +1,7 @@
 -- Sums over two lists whose elements are paired.
-use Rattle.std.proofs.Common.{◌≡◌, ◌≢◌, ℕ, zero, suc, ◌+◌, ◌<◌, ◌⊎◌, inl, inr, Option, None, Some, List, [], ◌∷◌, length, get_or, set, get_or-set_same, get_or-set_other, sum_by, filter_map, refl, sym, ap, ◌∙◌, arith}
+use Rattle.std.proofs.Common.{◌≡◌, ◌≢◌, ℕ, zero, suc, ◌+◌, ◌<◌, ◌⊎◌, inl, inr, Option, None, Some, List, [], ◌∷◌, length, get_or, set, get_or-set_other, sum_by, filter_map, refl, sym, ap, ◌∙◌, arith}
 use Rattle.std.specs.List.{cons_option}
 use Rattle.std.proofs.lemmas.List.Sums.{sum_by-cons, sum_by-set}
-use Rattle.sg_activity.proofs.Listing.{eq_cases}
 
 -- what a slot adds to a sum
 abbrev pub part : {X : Type 0} → (X → ℕ) → Option X → ℕ

@@ -1,9 +1,8 @@
 -- The flows that are kept are those of the phases under way, and go at their rates.
-use Rattle.std.proofs.Common.{◌≡◌, ◌≢◌, ℕ, zero, suc, ◌+◌, ◌-◌, ◌*◌, ◌==◌, ◌<◌, ◌≤◌, ◌⊎◌, inl, inr, Bool, true, false, cond, ◌||◌, true≢false, Option, None, Some, option_map, List, [], ◌∷◌, length, map, get_or, sum_by, filter_map, slice_index, IsTrue, IsSome, refl, sym, ap, ap₂, subst, ◌∙◌, arith}
+use Rattle.std.proofs.Common.{◌≡◌, ◌≢◌, ℕ, zero, suc, ◌+◌, ◌-◌, ◌==◌, ◌<◌, ◌≤◌, ◌⊎◌, inl, inr, Bool, true, false, cond, ◌||◌, Option, None, Some, option_map, List, [], ◌∷◌, length, map, get_or, filter_map, slice_index, IsTrue, IsSome, refl, sym, ap, ap₂, subst, ◌∙◌, arith}
 use Rattle.std.specs.List.{cons_option}
 use Rattle.std.specs.Prelude.{Contains}
 use Rattle.std.proofs.lemmas.Option.{cond_some}
-use Rattle.std.proofs.lemmas.List.{length-map}
 use Rattle.sg_base.specs.MarkSet.{is_in}
 use Rattle.sg_maxmin.specs.Fill.{Flow, share_of}
 use Rattle.sg_maxmin.specs.Laws.{HaveLimits, HaveSameSums}
@@ -17,16 +16,16 @@ use Rattle.sg_activity.specs.declared.kinds.PhaseKind.{PhaseKind}
 use Rattle.sg_activity.specs.declared.kinds.PhaseKind.TheVariants as phase
 use Rattle.sg_activity.specs.declared.lives.Live.{Live}
 use Rattle.sg_activity.specs.Links.{Capacities, capacities_of}
-use Rattle.sg_activity.specs.Slots.{listed}
-use Rattle.sg_activity.specs.Task.{Task, takes_share, is_filled, pace, wait_by, flow_in, flow_of, flows, task_at}
-use Rattle.sg_activity.specs.Underway.{Underway, rate, wait, wait_in, running_under, runnings, work_of}
+use Rattle.sg_activity.specs.Slots.{passes}
+use Rattle.sg_activity.specs.Task.{Task, takes_share, pace, wait_by, flow_in, flow_of, flows, task_at}
+use Rattle.sg_activity.specs.Underway.{is_rebound, rate, wait, wait_in, running_under, runnings, work_of}
 use Rattle.sg_activity.specs.kept.Stamps.{left_at}
 use Rattle.sg_activity.specs.kept.Pool.{slot_at}
-use Rattle.sg_activity.specs.kept.State.{State, task_of, asked_by, serial_in, serial_at, told_at, told_by, under_of}
-use Rattle.sg_activity.specs.kept.Sound.{HasFlow, IsHeld, AreApart, IsFlowOf, IsKept, run_of}
+use Rattle.sg_activity.specs.kept.State.{State, task_of, asked_by, serial_in, serial_at, told_at, under_of}
+use Rattle.sg_activity.specs.kept.Sound.{AreApart, IsFlowOf, IsKept, run_of}
 use Rattle.sg_activity.proofs.Listing.{eq_cases, some_same, length-listed, at_listed, past_listed}
 use Rattle.sg_activity.proofs.Lookup.{Sought, told_found, told_from}
-use Rattle.sg_activity.proofs.Pairing.{part, ArePaired, paired_sums, there_within, sum_by-there, sum_alike}
+use Rattle.sg_activity.proofs.Pairing.{part, paired_sums, there_within, sum_by-there, sum_alike}
 use Rattle.sg_activity.proofs.Told.{task_told}
 use Rattle.sg_activity.proofs.Turned.{not_there}
 use Rattle.sg_activity.proofs.Works.{SameRunning, work_same}
@@ -72,10 +71,10 @@ module _ (s : State) (is : IsKept s) where
   drawn_told = length-listed s.drawn (λ i. told_at (task_of s) s.slots (i + 1))
 
   running_there : (key : ℕ) (live : Live) → slot_at s.slots key ≡ Some live → IsTrue (takes_share live.kind) →
-      running_under (under_of s) live.serial ≡ Some (record { flow = asked_by s key live; rate = 0; began = is_in live.serial (under_of s).marks.began })
+      running_under (under_of s) live.serial ≡ Some (record { flow = asked_by s key live; rate = 0; began = false; marked = is_in live.serial (under_of s).marks.began || is_rebound (under_of s) (task_of s key live) })
   running_there key live at full =
-      ap (λ o. option_map (λ flow. record { flow = flow; rate = 0; began = is_in live.serial (under_of s).marks.began }) (flow_in s.capacities o)) (task_there key live at)
-      ∙ ap (option_map (λ flow. record { flow = flow; rate = 0; began = is_in live.serial (under_of s).marks.began })) (filled_flow s.capacities (task_of s key live) full)
+      ap (λ o. option_map (λ flow. record { flow = flow; rate = 0; began = false; marked = is_in live.serial (under_of s).marks.began || passes (is_rebound (under_of s)) o }) (flow_in s.capacities o)) (task_there key live at)
+      ∙ ap (option_map (λ flow. record { flow = flow; rate = 0; began = false; marked = is_in live.serial (under_of s).marks.began || is_rebound (under_of s) (task_of s key live) })) (filled_flow s.capacities (task_of s key live) full)
 
   running_place : (i : ℕ) → i < s.drawn → get_or (runnings (under_of s)) i None ≡ running_under (under_of s) (i + 1)
   running_place i less = at_listed (length (under_of s).tasks) (λ j. running_under (under_of s) (j + 1)) i None (omega (arith, less, drawn_told))
@@ -90,15 +89,16 @@ module _ (s : State) (is : IsKept s) where
   run_is id of running e = some_same (sym e ∙ ap (running_at s.runs) (sym of.is) ∙ ((is.each (slice_index s.by_flow id) of.live of.there).flow of.full).runs)
 
   to : (amount : Flow → Bool → ℕ) (id : ℕ) (running : RunningFlow) → running_at s.runs id ≡ Some running →
-      (r : RunningFlow) × (get_or (runnings (under_of s)) (place id) None ≡ Some r) × (amount running.flow running.began ≡ amount r.flow r.began)
+      (r : RunningFlow) × (get_or (runnings (under_of s)) (place id) None ≡ Some r) × (amount running.flow running.marked ≡ amount r.flow r.marked)
   to amount id running e =
       let of = is.back id running e in
       let key = slice_index s.by_flow id in
       let h = is.each key of.live of.there in
       let back : place id + 1 ≡ of.live.serial = omega (arith, place_is id of, h.from) in (
-        record { flow = asked_by s key of.live; rate = 0; began = is_in of.live.serial (under_of s).marks.began },
+        record { flow = asked_by s key of.live; rate = 0; began = false; marked = is_in of.live.serial (under_of s).marks.began || is_rebound (under_of s) (task_of s key of.live) },
         running_place (place id) (omega (arith, back, h.to)) ∙ ap (running_under (under_of s)) back ∙ running_there key of.live of.there of.full,
-        ap (λ (r : RunningFlow). amount r.flow r.began) (run_is id of running e) ∙ ap (amount (asked_by s key of.live)) (sym (in_serials s.slots key of.live s.fresh is.apart of.there is.fresh)),
+        ap (λ (r : RunningFlow). amount r.flow r.marked) (run_is id of running e)
+            ∙ ap (λ b. amount (asked_by s key of.live) (b || is_rebound (under_of s) (task_of s key of.live))) (sym (in_serials s.slots key of.live s.fresh is.apart of.there is.fresh)),
       )
 
   own : (i j : ℕ) (one other : RunningFlow) → running_at s.runs i ≡ Some one → running_at s.runs j ≡ Some other → place i ≡ place j → i ≡ j
@@ -112,18 +112,18 @@ module _ (s : State) (is : IsKept s) where
       let lives : p.live ≡ q.live = some_same (sym p.there ∙ ap (slot_at s.slots) keys ∙ q.there) in
       sym p.is ∙ ap (λ (l : Live). l.flow) lives ∙ q.is
 
-  some_flow : (serial : ℕ) (o : Option Task) (r : RunningFlow) → option_map (λ flow. record { flow = flow; rate = 0; began = is_in serial (under_of s).marks.began }) (flow_in s.capacities o) ≡ Some r → (t : Task) × (o ≡ Some t) × IsTrue (takes_share t.kind)
-  some_flow serial None r e = absurd (cc e)
-  some_flow serial (Some t) r e = cases (takes_share t.kind) refl e
+  some_flow : (mark : Bool) (o : Option Task) (r : RunningFlow) → option_map (λ flow. record { flow = flow; rate = 0; began = false; marked = mark }) (flow_in s.capacities o) ≡ Some r → (t : Task) × (o ≡ Some t) × IsTrue (takes_share t.kind)
+  some_flow mark None r e = absurd (cc e)
+  some_flow mark (Some t) r e = cases (takes_share t.kind) refl e
     where
-      cases : (b : Bool) → takes_share t.kind ≡ b → option_map (λ flow. record { flow = flow; rate = 0; began = is_in serial (under_of s).marks.began }) (cond b (Some (flow_of s.capacities t)) None) ≡ Some r → (u : Task) × (Some t ≡ Some u) × IsTrue (takes_share u.kind)
+      cases : (b : Bool) → takes_share t.kind ≡ b → option_map (λ flow. record { flow = flow; rate = 0; began = false; marked = mark }) (cond b (Some (flow_of s.capacities t)) None) ≡ Some r → (u : Task) × (Some t ≡ Some u) × IsTrue (takes_share u.kind)
       cases true full z = (t, refl, full)
       cases false full z = absurd (cc z)
 
   -- the activity of a serial that runs
   runs_under : (serial : ℕ) (r : RunningFlow) → 0 < serial → serial ≤ s.drawn → running_under (under_of s) serial ≡ Some r → (f : Sought s.slots serial) × IsTrue (takes_share f.live.kind)
   runs_under serial r from to e =
-      let t = some_flow serial (task_at (under_of s).tasks serial) r e in
+      let t = some_flow (is_in serial (under_of s).marks.began || passes (is_rebound (under_of s)) (task_at (under_of s).tasks serial)) (task_at (under_of s).tasks serial) r e in
       let f = told_from (task_of s) s.slots serial t.0 is.apart (sym (task_told s serial from to) ∙ t.1) in
       (f.0, ap (λ (u : Task). takes_share u.kind) f.1 ∙ t.2)
 
@@ -140,21 +140,21 @@ module _ (s : State) (is : IsKept s) where
 
   pub same_running : SameRunning (running_flows s.runs) (filter_map (λ slot. slot) (runnings (under_of s)))
   same_running amount =
-      let f : RunningFlow → ℕ = λ (r : RunningFlow). amount r.flow r.began in
+      let f : RunningFlow → ℕ = λ (r : RunningFlow). amount r.flow r.marked in
       sum_by-there f (λ slot. slot) s.runs
       ∙ paired_sums f f s.runs (runnings (under_of s)) place (record { to = to amount; own = own; from = from })
       ∙ sym (sum_by-there f (λ slot. slot) (runnings (under_of s)))
 
-  pub work_told : work (running_flows s.runs) s.ended ≡ work_of (under_of s)
+  pub work_told : work (running_flows s.runs) s.ended s.resources ≡ work_of (under_of s)
   unfolding work_of
-  work_told = work_same (running_flows s.runs) (filter_map (λ slot. slot) (runnings (under_of s))) same_running s.ended
+  work_told = work_same (running_flows s.runs) (filter_map (λ slot. slot) (runnings (under_of s))) same_running s.ended s.resources
 
   -- ---- the flows
   flow_parts : (h : Flow → ℕ) (o : Option RunningFlow) → part h (option_map (λ (r : RunningFlow). r.flow) o) ≡ part (λ (r : RunningFlow). h r.flow) o
   flow_parts h None = refl
   flow_parts h (Some r) = refl
 
-  made_parts : (h : Flow → ℕ) (b : Bool) (o : Option Flow) → part (λ (r : RunningFlow). h r.flow) (option_map (λ flow. record { flow = flow; rate = 0; began = b }) o) ≡ part h o
+  made_parts : (h : Flow → ℕ) (b : Bool) (o : Option Flow) → part (λ (r : RunningFlow). h r.flow) (option_map (λ flow. record { flow = flow; rate = 0; began = false; marked = b }) o) ≡ part h o
   made_parts h b None = refl
   made_parts h b (Some f) = refl
 
@@ -180,7 +180,7 @@ module _ (s : State) (is : IsKept s) where
       alike : (i : ℕ) → (i < length (under_of s).tasks) ⊎ (length (under_of s).tasks ≤ i) → part (λ (r : RunningFlow). h r.flow) (get_or (runnings (under_of s)) i None) ≡ part h (flow_in s.capacities (get_or (under_of s).tasks i None))
       alike i (inl less) =
           ap (part (λ (r : RunningFlow). h r.flow)) (at_listed (length (under_of s).tasks) (λ j. running_under (under_of s) (j + 1)) i None less)
-          ∙ made_parts h (is_in (i + 1) (under_of s).marks.began) (flow_in s.capacities (task_at (under_of s).tasks (i + 1)))
+          ∙ made_parts h (is_in (i + 1) (under_of s).marks.began || passes (is_rebound (under_of s)) (task_at (under_of s).tasks (i + 1))) (flow_in s.capacities (task_at (under_of s).tasks (i + 1)))
           ∙ ap (λ n. part h (flow_in s.capacities (get_or (under_of s).tasks n None))) (back i)
       alike i (inr more) =
           ap (part (λ (r : RunningFlow). h r.flow)) (past_listed (length (under_of s).tasks) (λ j. running_under (under_of s) (j + 1)) i None more)

@@ -1,12 +1,11 @@
 -- The flow of a route may be in the system.
-use Rattle.std.proofs.Common.{◌≡◌, ◌≢◌, ℕ, zero, suc, ◌+◌, ◌*◌, ◌<◌, ◌≤◌, Bool, true, false, cond, not, Option, None, Some, IsSome, All, AllPairs, List, [], ◌∷◌, drop, filter, map, length, get_or, refl, sym, ap, subst, ◌∙◌, arith}
+use Rattle.std.proofs.Common.{◌≡◌, ◌≢◌, ℕ, zero, suc, ◌+◌, ◌<◌, ◌≤◌, Bool, true, false, cond, not, Option, None, Some, IsSome, All, AllPairs, List, [], ◌∷◌, drop, filter, map, length, get_or, refl, sym, ap, ◌∙◌, arith}
 use Rattle.std.proofs.lemmas.List.{at_drop_more, length-append, length-map}
 use Rattle.std.proofs.lemmas.List.Kept.{AllPairs-cons}
 use Rattle.sg_base.specs.declared.ids.LinkId.{LinkId}
 use Rattle.sg_base.specs.Limits.{IsPriority}
 use Rattle.sg_maxmin.specs.Fill.{flow}
 use Rattle.sg_maxmin.specs.Sharing.{IsFlow}
-use Rattle.sg_activity.specs.declared.kinds.HostCap.{HostCap}
 use Rattle.sg_activity.specs.declared.kinds.LinkCap.{LinkCap}
 use Rattle.sg_activity.specs.Slots.{sooner}
 use Rattle.sg_activity.specs.Hosts.{offer_of, offers_of}
@@ -30,7 +29,7 @@ bound_done links bound = sooner_never bound
 all_tail : {X : Type 0} (P : X → Type 0) (x : X) (xs : List X) → All P (x ∷ xs) → All P xs
 all_tail P x xs h k d within = h (suc k) d (omega (arith, within))
 
-all_cons : {X : Type 0} (P : X → Type 0) (x : X) (xs : List X) → P x → All P xs → All P (x ∷ xs)
+pub all_cons : {X : Type 0} (P : X → Type 0) (x : X) (xs : List X) → P x → All P xs → All P (x ∷ xs)
 all_cons P x xs p h zero d within = p
 all_cons P x xs p h (suc k) d within = h k d (omega (arith, within))
 
@@ -80,7 +79,7 @@ shared_once hosts links (link ∷ route) once = cases (link_at links link).fatpi
     cases true more = more
     cases false more = AllPairs-cons (λ a c. a ≢ c) (hosts + link.0) (shared_of hosts links route) (shared_other hosts links link route (pairs_head (λ a c. a ≢ c) link route once)) more
 
-sooner_some : (n : ℕ) (o : Option ℕ) → IsSome (sooner (Some n) o)
+pub sooner_some : (n : ℕ) (o : Option ℕ) → IsSome (sooner (Some n) o)
 sooner_some n None = refl
 sooner_some n (Some m) = refl
 
@@ -101,7 +100,7 @@ resources_are capacities =
     ∙ ap (λ n. length capacities.hosts + n) (length-map capacities.links bandwidth_of)
 
 -- a second bound changes nothing of that there is one
-sooner_more : (one other : Option ℕ) → IsSome one → IsSome (sooner one other)
+pub sooner_more : (one other : Option ℕ) → IsSome one → IsSome (sooner one other)
 sooner_more None other some = absurd (cc some)
 sooner_more (Some n) other some = sooner_some n other
 

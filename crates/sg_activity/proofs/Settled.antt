@@ -1,30 +1,44 @@
 -- The rates are brought up to date: all stays of one mind, and what is left of each activity is told as before.
-use Rattle.std.proofs.Common.{◌≡◌, ◌≢◌, ℕ, ◌+◌, ◌-◌, ◌*◌, ◌^◌, ◌<◌, ◌≤◌, ◌⊎◌, inl, inr, Bool, true, false, cond, ◌||◌, ◌&&◌, ◌↔◌, true≢false, Option, None, Some, option_map, List, [], ◌∷◌, length, map, get_or, slice_index, sum_by, All, IsTrue, IsSome, refl, sym, ap, ap₂, subst, ◌∙◌, arith}
+use Rattle.std.proofs.Common.{◌≡◌, ℕ, ◌+◌, ◌-◌, ◌*◌, ◌^◌, ◌<◌, ◌≤◌, ◌⊎◌, inl, inr, Bool, true, false, cond, ◌||◌, ◌&&◌, true≢false, Option, None, Some, option_map, List, [], ◌∷◌, length, get_or, slice_index, sum_by, All, IsTrue, IsSome, refl, sym, ap, ap₂, subst, ◌∙◌, arith}
+use Rattle.std.specs.List.{list_any}
 use Rattle.std.specs.Option.{IfSome}
 use Rattle.sg_base.specs.declared.ids.LinkId.{LinkId}
 use Rattle.sg_base.specs.MarkSet.{MarkSet, is_in}
 use Rattle.sg_heap.specs.Agenda.{Key, key_at}
-use Rattle.sg_maxmin.specs.Fill.{Flow, share_of}
+use Rattle.sg_maxmin.specs.Fill.{share_of}
 use Rattle.sg_lazy.specs.Lazily.{Lazily, IsSettled, DidChange}
 use Rattle.sg_lazy.specs.RunningFlow.{RunningFlow, running_at, flow_under, flows_in}
 use Rattle.sg_activity.specs.declared.lives.Live.{Live}
-use Rattle.sg_activity.specs.Links.{Capacities, capacities_of}
-use Rattle.sg_activity.specs.Slots.{listed}
-use Rattle.sg_activity.specs.Task.{Task, takes_share, flow_of}
-use Rattle.sg_activity.specs.Underway.{Underway, wait, no_marks, settled}
-use Rattle.sg_activity.specs.Doing.{Doing, settled_in}
+use Rattle.sg_activity.specs.Links.{Capacities, capacities_of, link_at}
+use Rattle.sg_activity.specs.Task.{Place, nowhere, on_host, over, takes_share, is_rebound_at}
+use Rattle.sg_activity.specs.Underway.{wait, settled}
+use Rattle.sg_activity.specs.Doing.{settled_in}
 use Rattle.sg_activity.specs.kept.Stamps.{left_at, due_of}
 use Rattle.sg_activity.specs.kept.Pool.{Pool, slot_at}
-use Rattle.sg_activity.specs.kept.State.{State, links_at, task_from, task_of, asked_by, date_of, dated, serial_at, told_at, told_by, under_of, doing_of}
-use Rattle.sg_activity.specs.kept.Sound.{IsWay, HasFlow, IsHeld, AreApart, IsFlowOf, IsKept, flows_ahead, slot_ahead, run_of}
+use Rattle.sg_activity.specs.kept.State.{State, links_at, task_from, task_of, asked_by, date_of, told_at, told_by, under_of, doing_of}
+use Rattle.sg_activity.specs.kept.Sound.{IsHeld, AreApart, IsKept, slot_ahead, place_at, run_of}
+use Rattle.sg_activity.specs.Task.{flows_ahead}
 use Rattle.sg_activity.specs.kept.Renewal.{IsKeyed, HaveKeys, rate_in, is_among, restamped, is_renewed, AreRestamped, AreSmall, date_in, AreRenewed}
-use Rattle.sg_activity.proofs.Listing.{eq_cases, bool_cases, some_same, same_listed}
-use Rattle.sg_activity.proofs.Lookup.{Sought, told_alike}
-use Rattle.sg_activity.proofs.Stamps.{IsWait}
+use Rattle.sg_activity.proofs.Listing.{eq_cases, some_same, same_listed}
+use Rattle.sg_activity.proofs.Lookup.{told_alike}
 use Rattle.std.proofs.lemmas.List.{get_or_default}
 use Rattle.sg_activity.proofs.Pairing.{sum_alike}
 use Rattle.sg_activity.proofs.Pooled.{within_there}
 use Rattle.sg_activity.proofs.Told.{member_at, doing_same, made_same}
+
+-- no capacity changed, and so no bound
+never_bound : (capacities : Capacities) (links : List LinkId) → list_any (λ (link : LinkId). (link_at capacities.links link).fatpipe && false) links ≡ false
+never_bound capacities [] = refl
+never_bound capacities (link ∷ links) = ap (λ b. b || list_any (λ (l : LinkId). (link_at capacities.links l).fatpipe && false) links) (none (link_at capacities.links link).fatpipe) ∙ never_bound capacities links
+  where
+    none : (b : Bool) → (b && false) ≡ false
+    none true = refl
+    none false = refl
+
+pub never_rebound : (capacities : Capacities) (place : Place) → is_rebound_at capacities [] place ≡ false
+never_rebound capacities nowhere = refl
+never_rebound capacities (on_host host) = refl
+never_rebound capacities (over way) = never_bound capacities way.links
 
 pub fresh_in_time : (date rate kept : ℕ) → IfSome (due_of date kept rate) (λ due. date ≤ due)
 fresh_in_time date rate kept = go (wait rate kept)
@@ -69,7 +83,7 @@ serial_stamped flows runs date live = go (is_among flows live)
     go true = refl
     go false = refl
 
-neither : (a b : Bool) → (a || b) ≡ false → (a ≡ false) × (b ≡ false)
+pub neither : (a b : Bool) → (a || b) ≡ false → (a ≡ false) × (b ≡ false)
 neither true b e = absurd (true≢false e)
 neither false b e = (refl, e)
 
@@ -83,21 +97,21 @@ kept_rate old new id was now by a b not = elim (eq_cases now.rate was.rate) [
 module _ (s : State) (lazy new : Lazily) (pool : Pool) (marks more : MarkSet) (keys : List (Option Key)) (is : IsKept s) (runs : lazy.slots ≡ s.runs) (caps : lazy.capacities ≡ capacities_of s.capacities) (by : IsSettled lazy new)
     (fresh : marks.members ≡ s.fresh) (old : Pool) (slots : old.slots ≡ s.slots) (stamped : AreRestamped old pool marks more new s.date) (renewed : AreRenewed s.keys keys pool.slots more.members) where
   abbrev pub settled_state : State
-  settled_state = record s { slots = pool.slots; keys = keys; runs = new.slots; fresh = []; ended = new.ended; settled = true; arrived = false }
+  settled_state = record s { slots = pool.slots; keys = keys; runs = new.slots; fresh = []; ended = new.ended; resources = new.resources; settled = true; arrived = false }
 
   was_at : (key : ℕ) (live : Live) → slot_at pool.slots key ≡ Some live → WasStamped new.changed new.slots s.date s.slots key live
   was_at key live at = was_stamped new.changed new.slots s.date s.slots key live (ap (λ l. option_map (restamped new.changed new.slots s.date) (slot_at l key)) (sym slots) ∙ sym (stamped.slots key) ∙ at)
 
   -- the flow under a number, before and after
-  runs_now : (id : ℕ) (r : RunningFlow) → running_at s.runs id ≡ Some r → (q : RunningFlow) × (running_at new.slots id ≡ Some q) × (q.flow ≡ r.flow) × (q.began ≡ false)
+  runs_now : (id : ℕ) (r : RunningFlow) → running_at s.runs id ≡ Some r → (q : RunningFlow) × (running_at new.slots id ≡ Some q) × (q.flow ≡ r.flow) × (q.began ≡ false) × (q.marked ≡ false)
   runs_now id r e = go (running_at new.slots id) refl
     where
       under : flow_under new.slots id ≡ Some r.flow
       under = by.flows id ∙ ap (λ l. flow_under l id) runs ∙ ap (option_map (λ (q : RunningFlow). q.flow)) e
 
-      go : (o : Option RunningFlow) → running_at new.slots id ≡ o → (q : RunningFlow) × (running_at new.slots id ≡ Some q) × (q.flow ≡ r.flow) × (q.began ≡ false)
+      go : (o : Option RunningFlow) → running_at new.slots id ≡ o → (q : RunningFlow) × (running_at new.slots id ≡ Some q) × (q.flow ≡ r.flow) × (q.began ≡ false) × (q.marked ≡ false)
       go None z = absurd (cc (sym under ∙ ap (option_map (λ (q : RunningFlow). q.flow)) z))
-      go (Some q) z = (q, z, some_same (sym (ap (option_map (λ (p : RunningFlow). p.flow)) z) ∙ under), by.settled id q z)
+      go (Some q) z = (q, z, some_same (sym (ap (option_map (λ (p : RunningFlow). p.flow)) z) ∙ under), by.settled id q z, by.unmarked id q z)
 
   ran_before : (id : ℕ) (q : RunningFlow) → running_at new.slots id ≡ Some q → (r : RunningFlow) × (running_at s.runs id ≡ Some r)
   ran_before id q e = go (running_at s.runs id) refl
@@ -106,8 +120,12 @@ module _ (s : State) (lazy new : Lazily) (pool : Pool) (marks more : MarkSet) (k
       go (Some r) z = (r, z)
       go None z = absurd (cc (sym (ap (option_map (λ (q : RunningFlow). q.flow)) e) ∙ by.flows id ∙ ap (λ l. flow_under l id) runs ∙ ap (option_map (λ (q : RunningFlow). q.flow)) z))
 
-  same_run : (f g : Flow) (q : RunningFlow) (n : ℕ) → q.flow ≡ f → q.rate ≡ n → q.began ≡ false → Some q ≡ Some (record { flow = f; rate = n; began = false })
-  same_run f g q n a b c = ap (λ x. Some (record { flow = x; rate = q.rate; began = q.began })) a ∙ ap (λ x. Some (record { flow = f; rate = x; began = q.began })) b ∙ ap (λ x. Some (record { flow = f; rate = n; began = x })) c
+  -- as a flow runs that isn't marked
+  same_run : (key : ℕ) (live : Live) (q : RunningFlow) (n : ℕ) → q.flow ≡ asked_by s key live → q.rate ≡ n → q.began ≡ false → q.marked ≡ false →
+      Some q ≡ Some (record { flow = asked_by s key live; rate = n; began = false; marked = is_rebound_at s.capacities new.resources (place_at s key live) })
+  same_run key live q n a b c d =
+      ap (λ x. Some (record { flow = x; rate = q.rate; began = q.began; marked = q.marked })) a ∙ ap (λ x. Some (record { flow = asked_by s key live; rate = x; began = q.began; marked = q.marked })) b
+      ∙ ap₂ (λ x m. Some (record { flow = asked_by s key live; rate = n; began = x; marked = m })) c (d ∙ sym (ap (λ r. is_rebound_at s.capacities r (place_at s key live)) by.no_resources ∙ never_rebound s.capacities (place_at s key live)))
 
   date_there : (key : ℕ) (live : Live) (w : WasStamped new.changed new.slots s.date s.slots key live) → slot_at pool.slots key ≡ Some live → key_at keys key ≡ date_of live
   date_there key live w at = renewed key ∙ go (is_in key more.members) refl
@@ -140,12 +158,12 @@ module _ (s : State) (lazy new : Lazily) (pool : Pool) (marks more : MarkSet) (k
               few_bytes = h.few_bytes;
               weighs = h.weighs;
               paced = λ empty. absurd (true≢false (sym full.0 ∙ empty));
-              over = h.over;
+              placed = h.placed;
               flow = λ _.
                   let has = h.flow full.0 in
                   let r = runs_now w.old.flow (run_of s key w.old) has.runs in
                   record {
-                    runs = r.1 ∙ same_run (asked_by s key w.old) (asked_by s key w.old) r.0 (rate_in (running_at new.slots w.old.flow)) r.2 (ap rate_in (sym r.1)) r.3;
+                    runs = r.1 ∙ same_run key w.old r.0 (rate_in (running_at new.slots w.old.flow)) r.2 (ap rate_in (sym r.1)) r.3 r.4;
                     limit = has.limit;
                     within = has.within;
                     known = has.known;
@@ -164,13 +182,13 @@ module _ (s : State) (lazy new : Lazily) (pool : Pool) (marks more : MarkSet) (k
               few_bytes = h.few_bytes;
               weighs = h.weighs;
               paced = h.paced;
-              over = h.over;
+              placed = h.placed;
               flow = λ full.
                   let has = h.flow full in
                   let r = runs_now w.old.flow (run_of s key w.old) has.runs in
                   let rate = kept_rate lazy new w.old.flow (run_of s key w.old) r.0 by (ap (λ l. running_at l w.old.flow) runs ∙ has.runs) r.1 (not_among new.changed w.old full c.0) in
                   record {
-                    runs = r.1 ∙ same_run (asked_by s key w.old) (asked_by s key w.old) r.0 w.old.rate r.2 rate r.3;
+                    runs = r.1 ∙ same_run key w.old r.0 w.old.rate r.2 rate r.3 r.4;
                     limit = has.limit;
                     within = has.within;
                     known = has.known;
@@ -249,12 +267,12 @@ module _ (s : State) (lazy new : Lazily) (pool : Pool) (marks more : MarkSet) (k
   pub settled_told : (room : ℕ) → doing_of settled_state room ≡ settled_in (doing_of s room)
   settled_told room =
       doing_same (under_of settled_state) (settled (under_of s)) [] [] true true room room
-      (made_same s.date s.date s.capacities s.capacities (told_by (task_of settled_state) settled_state) (told_by (task_of s) s) [] [] new.ended [] refl refl
+      (made_same s.date s.date s.capacities s.capacities s.on s.on (told_by (task_of settled_state) settled_state) (told_by (task_of s) s) [] [] new.ended [] new.resources [] refl refl refl
       (same_listed s.drawn (λ i. told_at (task_of settled_state) pool.slots (i + 1)) (λ i. told_at (task_of s) s.slots (i + 1)) (λ i less.
       told_alike (task_of s) (task_of settled_state) s.slots pool.slots (i + 1) is.apart apart
       (λ f. (restamped new.changed new.slots s.date f.live, there_now f.key f.live f.at, serial_stamped new.changed new.slots s.date f.live ∙ f.is, left_now (links_at s.ways f.key) f.live))
       (λ f. let w = was_at f.key f.live f.at in record { key = f.key; live = w.old; at = w.there; is = serial_was f.key f.live w ∙ f.is })))
-      refl by.none_ended) refl refl refl
+      refl by.none_ended by.no_resources) refl refl refl
 
 -- ---- before
 pub keyed_flows : (s : State) (lazy new : Lazily) → IsKept s → lazy.slots ≡ s.runs → IsSettled lazy new → HaveKeys s.slots s.by_flow new s.date

@@ -1,5 +1,5 @@
 -- An amount and its due date, told at a stamp.
-use Rattle.std.proofs.Common.{◌≡◌, ◌≢◌, ℕ, ◌+◌, ◌-◌, ◌*◌, ◌<◌, ◌≤◌, ◌⊎◌, inl, inr, true, false, cond, eqb, eq-eqb, ne_eqb, Option, None, Some, option_map, refl, sym, ap, subst, ◌∙◌, arith}
+use Rattle.std.proofs.Common.{◌≡◌, ℕ, ◌+◌, ◌-◌, ◌*◌, ◌<◌, ◌≤◌, ◌⊎◌, inl, inr, cond, eqb, eq-eqb, ne_eqb, Option, None, Some, option_map, refl, sym, ap, subst, ◌∙◌, arith}
 use Rattle.std.specs.Int.{div_ceil}
 use Rattle.std.specs.Option.{IfSome}
 use Rattle.std.proofs.Math.Nat.{mul-le-mul_left}

@@ -1,31 +1,22 @@
 -- A phase comes, follows another, or goes.
-use Rattle.std.proofs.Common.{◌≡◌, ◌≢◌, ℕ, ◌+◌, ◌-◌, ◌*◌, ◌^◌, ◌<◌, ◌≤◌, ◌⊎◌, inl, inr, Bool, true, false, cond, true≢false, is_some, Option, None, Some, option_map, option_to_list, List, [], ◌∷◌, ◌++◌, length, map, set, get_or, length-set, get_or-set_same, get_or-set_other, slice_index, IsTrue, IsSome, refl, sym, ap, ap₂, subst, ◌∙◌, arith}
+use Rattle.std.proofs.Common.{◌≡◌, ◌≢◌, ℕ, ◌^◌, ◌<◌, ◌≤◌, inl, inr, true, false, cond, ◌||◌, true≢false, Option, None, Some, List, length, set, get_or, get_or-set_same, get_or-set_other, slice_index, IsTrue, IsSome, refl, sym, ap, subst, ◌∙◌, arith}
 use Rattle.std.specs.Option.{IfSome}
-use Rattle.std.proofs.lemmas.List.{append-nil}
-use Rattle.sg_base.specs.declared.ids.LinkId.{LinkId}
 use Rattle.sg_base.specs.Limits.{IsPriority}
 use Rattle.sg_base.specs.MarkSet.{is_in}
-use Rattle.sg_heap.specs.Agenda.{Key, key_at}
-use Rattle.sg_maxmin.specs.Fill.{Flow}
+use Rattle.sg_heap.specs.Agenda.{key_at}
 use Rattle.sg_maxmin.specs.Sharing.{HasLimit}
 use Rattle.sg_lazy.specs.RunningFlow.{RunningFlow, running_at}
-use Rattle.sg_activity.specs.declared.kinds.PhaseKind.{PhaseKind}
-use Rattle.sg_activity.specs.declared.kinds.PhaseKind.TheVariants as phase
 use Rattle.sg_activity.specs.declared.lives.Live.{Live}
-use Rattle.sg_activity.specs.Links.{Capacities}
-use Rattle.sg_activity.specs.Task.{Task, takes_share, pace, flow_in, flow_of, next_phase}
-use Rattle.sg_activity.specs.Underway.{Underway, with_task}
+use Rattle.sg_activity.specs.Task.{takes_share, pace, is_rebound_at}
 use Rattle.sg_activity.specs.kept.Stamps.{due_of}
 use Rattle.sg_activity.specs.kept.Pool.{slot_at}
-use Rattle.sg_activity.specs.kept.State.{State, links_at, task_of, asked_by, date_of, dated, serial_at, told_at, under_of}
-use Rattle.sg_activity.specs.kept.Sound.{IsWay, HasFlow, IsHeld, AreApart, IsFlowOf, IsKept, flows_ahead, run_of}
-use Rattle.sg_activity.specs.kept.Turns.{Turns}
-use Rattle.sg_activity.proofs.Listing.{eq_cases, bool_cases, some_same}
-use Rattle.sg_activity.proofs.Lookup.{told_found, told_none}
-use Rattle.sg_activity.proofs.Pairing.{there_within, set_cases}
+use Rattle.sg_activity.specs.kept.State.{State, task_of, asked_by, date_of, dated, told_at}
+use Rattle.sg_activity.specs.kept.Sound.{IsPlace, IsHeld, IsFlowOf, IsKept, place_at}
+use Rattle.sg_activity.proofs.Listing.{some_same}
+use Rattle.sg_activity.proofs.Lookup.{told_none}
+use Rattle.sg_activity.proofs.Pairing.{set_cases}
 use Rattle.sg_activity.proofs.Settled.{fresh_in_time}
-use Rattle.sg_activity.proofs.Told.{in_more, in_last, unmarked, under_set, began_same, began_more}
-use Rattle.sg_activity.proofs.Turned.{not_there, told_here, told_gone}
+use Rattle.sg_activity.proofs.Turned.{not_there}
 
 -- a phase that begins now isn't dated yet
 pub undated : (fresh : List ℕ) (key : ℕ) (live : Live) → is_in key fresh ≡ true → dated fresh key live ≡ None
@@ -33,8 +24,8 @@ undated fresh key live e = ap (λ b. cond b None (date_of live)) e
 
 -- of an activity that takes no share
 pub held_unfilled : (new : State) (key : ℕ) (live : Live) → takes_share live.kind ≡ false → 0 < live.serial → live.serial ≤ new.drawn → live.stamp ≡ new.date → live.rate ≡ pace live.kind → live.kept ≤ 10 ^ 24 → live.bytes ≤ 10 ^ 15 → IsPriority live.weight →
-    (live.kind ≡ phase.Latency → IsWay new.capacities (links_at new.ways key)) → is_in key new.fresh ≡ true → key_at new.keys key ≡ None → IsHeld new key live
-held_unfilled new key live empty from to stamp rate small bytes weighs over fresh no_key = record {
+    IsPlace new.capacities (place_at new key live) → is_in key new.fresh ≡ true → key_at new.keys key ≡ None → IsHeld new key live
+held_unfilled new key live empty from to stamp rate small bytes weighs placed fresh no_key = record {
   from = from;
   to = to;
   stamped = omega (arith, stamp);
@@ -43,18 +34,15 @@ held_unfilled new key live empty from to stamp rate small bytes weighs over fres
   few_bytes = bytes;
   weighs = weighs;
   paced = λ _. rate;
-  over = over;
+  placed = placed;
   flow = λ full. absurd (true≢false (sym full ∙ empty));
   dated = no_key ∙ sym (undated new.fresh key live fresh);
 }
 
-not_latency : (kind : PhaseKind) → IsTrue (takes_share kind) → kind ≢ phase.Latency
-not_latency kind full e = true≢false (sym full ∙ ap takes_share e)
-
 -- of one whose flow begins
 pub held_filled : (new : State) (key : ℕ) (live : Live) → IsTrue (takes_share live.kind) → 0 < live.serial → live.serial ≤ new.drawn → live.stamp ≡ new.date → live.kept ≤ 10 ^ 24 → live.bytes ≤ 10 ^ 15 → IsPriority live.weight →
-    running_at new.runs live.flow ≡ Some (record { flow = asked_by new key live; rate = live.rate; began = true }) → HasLimit (asked_by new key live) → live.flow < length new.by_flow → slice_index new.by_flow live.flow ≡ key → is_in key new.fresh ≡ true → key_at new.keys key ≡ None → IsHeld new key live
-held_filled new key live full from to stamp small bytes weighs runs limit within known fresh no_key = record {
+    running_at new.runs live.flow ≡ Some (record { flow = asked_by new key live; rate = live.rate; began = true; marked = true }) → HasLimit (asked_by new key live) → IsPlace new.capacities (place_at new key live) → live.flow < length new.by_flow → slice_index new.by_flow live.flow ≡ key → is_in key new.fresh ≡ true → key_at new.keys key ≡ None → IsHeld new key live
+held_filled new key live full from to stamp small bytes weighs runs limit placed within known fresh no_key = record {
   from = from;
   to = to;
   stamped = omega (arith, stamp);
@@ -63,9 +51,9 @@ held_filled new key live full from to stamp small bytes weighs runs limit within
   few_bytes = bytes;
   weighs = weighs;
   paced = λ empty. absurd (true≢false (sym full ∙ empty));
-  over = λ latency. absurd (not_latency live.kind full latency);
+  placed = placed;
   flow = λ _. record {
-    runs = runs ∙ ap (λ b. Some (record { flow = asked_by new key live; rate = live.rate; began = b })) (sym fresh);
+    runs = runs ∙ ap (λ b. Some (record { flow = asked_by new key live; rate = live.rate; began = b; marked = b || is_rebound_at new.capacities new.resources (place_at new key live) })) (sym fresh);
     limit = limit;
     within = within;
     known = known;

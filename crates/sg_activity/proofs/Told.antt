@@ -1,12 +1,12 @@
 -- What is kept stands for what the definitions say, as a phase comes, as one follows another and as one goes.
-use Rattle.std.proofs.Common.{◌≡◌, ◌≢◌, ℕ, zero, suc, ◌+◌, ◌-◌, ◌==◌, ◌<◌, ◌≤◌, ◌⊎◌, inl, inr, Bool, true, false, cond, ◌||◌, true≢false, is_some, Option, None, Some, option_map, option_to_list, List, [], ◌∷◌, ◌++◌, length, map, set, get_or, IsTrue, IsSome, refl, sym, ap, ap₂, subst, ◌∙◌, arith}
+use Rattle.std.proofs.Common.{◌≡◌, ◌≢◌, ℕ, zero, suc, ◌+◌, ◌-◌, ◌==◌, ◌<◌, ◌≤◌, inl, inr, Bool, true, false, cond, ◌||◌, true≢false, is_some, Option, None, Some, option_to_list, List, [], ◌∷◌, ◌++◌, length, map, set, get_or, IsTrue, refl, sym, ap, ap₂, ◌∙◌, arith}
 use Rattle.std.proofs.lemmas.List.{map-append, append-nil}
 use Rattle.std.proofs.lemmas.List.Folds.{list_any-append}
 use Rattle.sg_base.specs.MarkSet.{is_in, with_mark}
 use Rattle.sg_maxmin.specs.Fill.{Flow}
 use Rattle.sg_activity.specs.declared.lives.Live.{Live}
-use Rattle.sg_activity.specs.Links.{Capacities}
-use Rattle.sg_activity.specs.Slots.{passes, serials}
+use Rattle.sg_activity.specs.Links.{Capacities, Switches}
+use Rattle.sg_activity.specs.Slots.{serials}
 use Rattle.sg_activity.specs.Task.{Task, flow_in, task_at}
 use Rattle.sg_activity.specs.Underway.{Underway, started, drawn, with_task}
 use Rattle.sg_activity.specs.Doing.{Doing, started_in, begun_in}
@@ -14,7 +14,7 @@ use Rattle.sg_activity.specs.kept.Pool.{slot_at}
 use Rattle.sg_activity.specs.kept.State.{State, task_of, is_now, is_so, serial_in, serial_at, told_at, told_by, under_of, doing_of}
 use Rattle.sg_activity.specs.kept.Sound.{IsKept}
 use Rattle.sg_activity.specs.kept.Turns.{Turns}
-use Rattle.sg_activity.proofs.Listing.{eq_cases, bool_cases, length-listed, at_listed}
+use Rattle.sg_activity.proofs.Listing.{bool_cases, length-listed, at_listed}
 use Rattle.sg_activity.proofs.Turned.{not_there, told_here, tasks_set, tasks_pushed, due_pushed, due_stays, map_in}
 
 -- ---- marks
@@ -60,12 +60,12 @@ unmarked s key is none = elim (bool_cases (is_in key s.fresh)) [
 ]
 
 -- ---- records
-abbrev pub made : ℕ → Capacities → List (Option Task) → List ℕ → List Flow → Underway
-made date capacities tasks began ended = record { date = date; capacities = capacities; tasks = tasks; marks = record { began = began; ended = ended } }
+abbrev pub made : ℕ → Capacities → Switches → List (Option Task) → List ℕ → List Flow → List ℕ → Underway
+made date capacities on tasks began ended resources = record { date = date; capacities = capacities; on = on; tasks = tasks; marks = record { began = began; ended = ended; resources = resources } }
 
-pub made_same : (d d' : ℕ) (c c' : Capacities) (t t' : List (Option Task)) (b b' : List ℕ) (e e' : List Flow) → d ≡ d' → c ≡ c' → t ≡ t' → b ≡ b' → e ≡ e' → made d c t b e ≡ made d' c' t' b' e'
-made_same d d' c c' t t' b b' e e' p q r u v =
-    ap (λ x. made x c t b e) p ∙ ap (λ x. made d' x t b e) q ∙ ap (λ x. made d' c' x b e) r ∙ ap (λ x. made d' c' t' x e) u ∙ ap (λ x. made d' c' t' b' x) v
+pub made_same : (d d' : ℕ) (c c' : Capacities) (o o' : Switches) (t t' : List (Option Task)) (b b' : List ℕ) (e e' : List Flow) (f f' : List ℕ) → d ≡ d' → c ≡ c' → o ≡ o' → t ≡ t' → b ≡ b' → e ≡ e' → f ≡ f' → made d c o t b e f ≡ made d' c' o' t' b' e' f'
+made_same d d' c c' o o' t t' b b' e e' f f' p q z r u v w =
+    ap (λ x. made x c o t b e f) p ∙ ap (λ x. made d' x o t b e f) q ∙ ap (λ x. made d' c' x t b e f) z ∙ ap (λ x. made d' c' o' x b e f) r ∙ ap (λ x. made d' c' o' t' x e f) u ∙ ap (λ x. made d' c' o' t' b' x f) v ∙ ap (λ x. made d' c' o' t' b' e' x) w
 
 abbrev pub doing_from : Underway → List ℕ → Bool → ℕ → Doing
 doing_from under due settled room = record { under = under; due = due; settled = settled; room = room }
@@ -100,9 +100,9 @@ module _ (s new : State) (key serial : ℕ) (slot : Option Live) (is : IsKept s)
   started_told live room e drawn is_next none fresh ended =
       let count : s.drawn + 1 ≡ length (told_by (task_of s) s) + 1 = ap (λ n. n + 1) (sym (length-listed s.drawn (λ i. told_at (task_of s) s.slots (i + 1)))) in
       let under : under_of new ≡ started (task_of new key live) (under_of s) =
-      made_same new.date s.date new.capacities s.capacities (told_by (task_of new) new) (told_by (task_of s) s ++ Some (task_of new key live) ∷ []) (map (serial_at new.slots) new.fresh) (map (serial_at s.slots) s.fresh ++ (length (told_by (task_of s) s) + 1) ∷ []) new.ended s.ended by.date by.capacities
+      made_same new.date s.date new.capacities s.capacities new.on s.on (told_by (task_of new) new) (told_by (task_of s) s ++ Some (task_of new key live) ∷ []) (map (serial_at new.slots) new.fresh) (map (serial_at s.slots) s.fresh ++ (length (told_by (task_of s) s) + 1) ∷ []) new.ended s.ended new.resources s.resources by.date by.capacities by.on
       (tasks_pushed s new key serial slot is by drawn is_next ∙ ap (λ o. told_by (task_of s) s ++ o ∷ []) (told_here s new key serial slot is by (task_of new) live e))
-      (began_more live e (unmarked s key is none) fresh ∙ ap (λ n. map (serial_at s.slots) s.fresh ++ n ∷ []) (is_next ∙ count)) ended in
+      (began_more live e (unmarked s key is none) fresh ∙ ap (λ n. map (serial_at s.slots) s.fresh ++ n ∷ []) (is_next ∙ count)) ended by.resources in
       doing_same (under_of new) (started (task_of new key live) (under_of s)) (cond new.arrived (serials is_so 1 (told_by (is_now new) new)) []) (cond s.arrived (serials is_so 1 (told_by (is_now s) s)) []) new.settled false (room - 1) (room - 1) under
       (ap₂ (λ b l. cond b l []) by.arrived (due_pushed s new key serial slot is by drawn is_next)) by.unsettled refl
 
@@ -111,10 +111,10 @@ module _ (s new : State) (key serial : ℕ) (slot : Option Live) (is : IsKept s)
       map (serial_at new.slots) new.fresh ≡ cond (is_some x) (map (serial_at s.slots) s.fresh ++ serial ∷ []) (map (serial_at s.slots) s.fresh) →
       new.ended ≡ s.ended ++ option_to_list (flow_in s.capacities (told_at (task_of s) s.slots serial)) → under_of new ≡ with_task serial x (under_of s)
   under_set x drawn from to told began ended =
-      made_same new.date s.date new.capacities s.capacities (told_by (task_of new) new) (set (told_by (task_of s) s) (serial - 1) x) (map (serial_at new.slots) new.fresh) (cond (is_some x) (map (serial_at s.slots) s.fresh ++ serial ∷ []) (map (serial_at s.slots) s.fresh))
-      new.ended (s.ended ++ option_to_list (flow_in s.capacities (task_at (told_by (task_of s) s) serial))) by.date by.capacities
+      made_same new.date s.date new.capacities s.capacities new.on s.on (told_by (task_of new) new) (set (told_by (task_of s) s) (serial - 1) x) (map (serial_at new.slots) new.fresh) (cond (is_some x) (map (serial_at s.slots) s.fresh ++ serial ∷ []) (map (serial_at s.slots) s.fresh))
+      new.ended (s.ended ++ option_to_list (flow_in s.capacities (task_at (told_by (task_of s) s) serial))) new.resources s.resources by.date by.capacities by.on
       (tasks_set s new key serial slot is by drawn from to ∙ ap (set (told_by (task_of s) s) (serial - 1)) told) began
-      (ended ∙ ap (λ o. s.ended ++ option_to_list (flow_in s.capacities o)) (sym (task_told s serial from to)))
+      (ended ∙ ap (λ o. s.ended ++ option_to_list (flow_in s.capacities o)) (sym (task_told s serial from to))) by.resources
 
   pub begun_told : (live : Live) (room : ℕ) → slot ≡ Some live → new.drawn ≡ s.drawn → 0 < serial → serial ≤ s.drawn → told_at (task_of s) s.slots serial ≡ None → slot_at s.slots key ≡ None → new.fresh ≡ s.fresh ++ key ∷ [] → new.ended ≡ s.ended →
       doing_of new (room - 1) ≡ begun_in serial (task_of new key live) (doing_of s room)

@@ -1,5 +1,5 @@
 -- How starts and ends of phases change what is kept.
-use Rattle.std.proofs.Common.{◌≡◌, ◌≢◌, ℕ, ◌+◌, ◌-◌, ◌*◌, ◌^◌, ◌<◌, ◌≤◌, ◌⊎◌, inl, inr, Bool, true, false, cond, true≢false, is_some, Option, None, Some, option_map, option_to_list, List, [], ◌∷◌, ◌++◌, length, map, set, get_or, length-set, get_or-set_same, slice_index, IsTrue, IsSome, refl, sym, ap, ap₂, subst, ◌∙◌, arith}
+use Rattle.std.proofs.Common.{◌≡◌, ◌≢◌, ℕ, ◌+◌, ◌-◌, ◌*◌, ◌^◌, ◌<◌, ◌≤◌, Bool, true, false, cond, true≢false, Option, None, Some, option_to_list, List, [], ◌∷◌, ◌++◌, length, set, length-set, get_or-set_same, slice_index, IsTrue, refl, sym, ap, ap₂, subst, ◌∙◌, arith}
 use Rattle.std.proofs.lemmas.List.{append-nil}
 use Rattle.sg_base.specs.declared.ids.LinkId.{LinkId}
 use Rattle.sg_base.specs.Limits.{IsPriority}
@@ -13,17 +13,18 @@ use Rattle.sg_activity.specs.declared.kinds.PhaseKind.TheVariants as phase
 use Rattle.sg_activity.specs.declared.lives.Live.{Live}
 use Rattle.sg_activity.specs.Links.{Capacities}
 use Rattle.sg_activity.specs.Task.{Task, takes_share, pace, flow_in, flow_of, next_phase}
-use Rattle.sg_activity.specs.Underway.{Underway, with_task}
+use Rattle.sg_activity.specs.Underway.{with_task}
 use Rattle.sg_activity.specs.kept.Stamps.{left_at}
 use Rattle.sg_activity.specs.kept.Pool.{slot_at}
-use Rattle.sg_activity.specs.kept.State.{State, links_at, place_of, task_from, task_of, asked_by, serial_at, told_at, under_of}
-use Rattle.sg_activity.specs.kept.Sound.{IsWay, IsHeld, IsFlowOf, IsKept, flows_ahead}
+use Rattle.sg_activity.specs.kept.State.{State, links_at, place_of, task_from, task_of, asked_by, told_at, under_of}
+use Rattle.sg_activity.specs.kept.Sound.{IsPlace, IsHeld, IsFlowOf, IsKept, place_at}
+use Rattle.sg_activity.specs.Task.{flows_ahead}
 use Rattle.sg_activity.specs.kept.Turns.{Turns}
 use Rattle.sg_activity.proofs.Listing.{some_same}
 use Rattle.sg_activity.proofs.Lookup.{told_found}
 use Rattle.sg_activity.proofs.Starts.{held_unfilled, held_filled, back_still, flows_came, back_came, flows_went, back_went, fresh_serial, idle_serial, own_serial, set_here, set_there}
 use Rattle.sg_activity.proofs.Told.{in_more, in_last, under_set, began_same, began_more}
-use Rattle.sg_activity.proofs.Turned.{not_there, told_here, told_gone}
+use Rattle.sg_activity.proofs.Turned.{told_here, told_gone}
 
 pub left_fresh : (kept rate date : ℕ) → left_at kept rate date date ≡ kept
 left_fresh kept rate date = let e : date - date ≡ 0 = omega arith in ap (λ n. kept - rate * n) e ∙ none rate
@@ -75,10 +76,12 @@ pub record Begins (s : State) (drawn key : ℕ) (live : Live) (keys : List (Opti
 
 -- a flow begins
 pub flow_turns : (s : State) (drawn key : ℕ) (live : Live) (keys : List (Option Key)) → IsKept s → Begins s drawn key live keys → IsTrue (takes_share live.kind) → live.rate ≡ 0 → running_at s.runs live.flow ≡ None → live.flow < length s.runs → live.flow < length s.by_flow →
-    HasLimit (flow_of s.capacities (task_from s.date (links_at s.ways key) live)) →
-    Turns s (begun_state s drawn key live s.ways keys (set s.runs live.flow (Some (record { flow = flow_of s.capacities (task_from s.date (links_at s.ways key) live); rate = 0; began = true }))) (set s.by_flow live.flow key)) key live.serial (Some live)
-flow_turns s drawn key live keys is b full rate idle id_in by_in limit = record {
+    HasLimit (flow_of s.capacities (task_from s.date (links_at s.ways key) live)) → IsPlace s.capacities (place_at s key live) →
+    Turns s (begun_state s drawn key live s.ways keys (set s.runs live.flow (Some (record { flow = flow_of s.capacities (task_from s.date (links_at s.ways key) live); rate = 0; began = true; marked = true }))) (set s.by_flow live.flow key)) key live.serial (Some live)
+flow_turns s drawn key live keys is b full rate idle id_in by_in limit placed = record {
   capacities = refl;
+  resources = refl;
+  on = refl;
   date = refl;
   drawn = b.more;
   unsettled = refl;
@@ -94,7 +97,7 @@ flow_turns s drawn key live keys is b full rate idle id_in by_in limit = record 
   flows = λ k other ne at filled. flows_came s key live.flow is run idle k other at filled;
   back = back_came s key live.flow is new run live idle b.unfilled by_in refl refl others here full refl;
   holds = λ l e. subst (IsHeld new key) (some_same e) (held_filled new key live full b.from b.to b.stamp b.small b.bytes b.weighs
-      (set_here s.runs live.flow (Some run) id_in ∙ ap (λ r. Some (record { flow = asked; rate = r; began = true })) (sym rate)) limit (omega (arith, by_in, length-set s.by_flow live.flow key))
+      (set_here s.runs live.flow (Some run) id_in ∙ ap (λ r. Some (record { flow = asked; rate = r; began = true; marked = true })) (sym rate)) limit placed (omega (arith, by_in, length-set s.by_flow live.flow key))
       (get_or-set_same s.by_flow live.flow key 0 by_in) (in_last key s.fresh) b.no_key);
   was = b.was;
   is = λ l e. ap (λ (x : Live). x.serial) (sym (some_same e));
@@ -105,7 +108,7 @@ flow_turns s drawn key live keys is b full rate idle id_in by_in limit = record 
     asked = flow_of s.capacities (task_from s.date (links_at s.ways key) live)
 
     run : RunningFlow
-    run = record { flow = asked; rate = 0; began = true }
+    run = record { flow = asked; rate = 0; began = true; marked = true }
 
     new : State
     new = begun_state s drawn key live s.ways keys (set s.runs live.flow (Some run)) (set s.by_flow live.flow key)
@@ -118,9 +121,11 @@ flow_turns s drawn key live keys is b full rate idle id_in by_in limit = record 
 
 -- a sleep or a latency begins
 pub time_turns : (s : State) (drawn key : ℕ) (live : Live) (ways : List (List LinkId)) → IsKept s → Begins s drawn key live s.keys → slot_at s.slots key ≡ None → takes_share live.kind ≡ false → live.rate ≡ pace live.kind → ((k : ℕ) → k ≢ key → links_at ways k ≡ links_at s.ways k) →
-    (live.kind ≡ phase.Latency → IsWay s.capacities (links_at ways key)) → Turns s (begun_state s drawn key live ways s.keys s.runs s.by_flow) key live.serial (Some live)
-time_turns s drawn key live ways is b free empty rate ways_same over = record {
+    IsPlace s.capacities (place_of live.kind live.host live.peer (links_at ways key)) → Turns s (begun_state s drawn key live ways s.keys s.runs s.by_flow) key live.serial (Some live)
+time_turns s drawn key live ways is b free empty rate ways_same placed = record {
   capacities = refl;
+  resources = refl;
+  on = refl;
   date = refl;
   drawn = b.more;
   unsettled = refl;
@@ -135,7 +140,7 @@ time_turns s drawn key live ways is b free empty rate ways_same over = record {
   by_flow_long = omega arith;
   flows = λ k other ne at filled. (refl, refl);
   back = λ id r e. back_still s new key id (λ old at. absurd (nothing_there (slot_at s.slots key) free old at)) others refl (is.back id r e);
-  holds = λ l e. subst (IsHeld new key) (some_same e) (held_unfilled new key live empty b.from b.to b.stamp rate b.small b.bytes b.weighs over (in_last key s.fresh) b.no_key);
+  holds = λ l e. subst (IsHeld new key) (some_same e) (held_unfilled new key live empty b.from b.to b.stamp rate b.small b.bytes b.weighs placed (in_last key s.fresh) b.no_key);
   was = b.was;
   is = λ l e. ap (λ (x : Live). x.serial) (sym (some_same e));
   alone = b.alone;
@@ -156,6 +161,8 @@ pub data Went (s : State) (live : Live) (runs : List (Option RunningFlow)) : Typ
 pub end_turns : (s : State) (key : ℕ) (live : Live) (runs : List (Option RunningFlow)) (ended : List Flow) → IsKept s → slot_at s.slots key ≡ Some live → is_in key s.fresh ≡ false → key < length s.slots → key < length s.keys → Went s live runs → Turns s (ended_state s key runs ended) key live.serial None
 end_turns s key live runs ended is at stale key_in keys_in went = record {
   capacities = refl;
+  resources = refl;
+  on = refl;
   date = refl;
   drawn = omega arith;
   unsettled = refl;
@@ -215,7 +222,7 @@ flow_under s key old live keys runs by_flow is at latency stale live_is by =
     let h = is.each key old at in
     let serial : live.serial ≡ old.serial = ap (λ (l : Live). l.serial) live_is in
     let place : task_from s.date (links_at s.ways key) (record old { kind = phase.Flow; kept = old.bytes * 1000000000; stamp = s.date; rate = 0; flow = live.flow }) ≡ record (task_of s key old) { kind = phase.Flow; left = old.bytes * 1000000000 } =
-    ap₂ (λ n p. record { kind = phase.Flow; left = n; place = p; weight = old.weight; bound = old.bound; bytes = old.bytes }) (left_fresh (old.bytes * 1000000000) 0 s.date) (ap (λ k. place_of k old.host (links_at s.ways key)) (sym latency)) in
+    ap₂ (λ n p. record { kind = phase.Flow; left = n; place = p; weight = old.weight; bound = old.bound; bytes = old.bytes }) (left_fresh (old.bytes * 1000000000) 0 s.date) (ap (λ k. place_of k old.host old.peer (links_at s.ways key)) (sym latency)) in
     let next : Some (task_of new key live) ≡ next_phase old.kind (task_of s key old) = ap Some (ap (task_from s.date (links_at s.ways key)) live_is ∙ place) ∙ sym (latency_next old.kind (task_of s key old) latency) in
     let before : told_at (task_of s) s.slots live.serial ≡ Some (task_of s key old) = told_found (task_of s) s.slots live.serial key old is.apart at (sym serial) in
     under_set s new key live.serial (Some live) is by (Some (task_of new key live)) refl (omega (arith, h.from, serial)) (omega (arith, h.to, serial)) (told_here s new key live.serial (Some live) is by (task_of new) live refl)
@@ -223,15 +230,14 @@ flow_under s key old live keys runs by_flow is at latency stale live_is by =
     (sym (append-nil s.ended) ∙ ap (λ o. s.ended ++ option_to_list o) (sym (ap (flow_in s.capacities) before ∙ unfilled_flow s.capacities (task_of s key old) (ap takes_share latency))))
     ∙ ap₂ (λ n o. with_task n o (under_of s)) serial next
 
--- after any other phase the activity is done
-pub end_under : (s : State) (key : ℕ) (live : Live) (runs : List (Option RunningFlow)) (ended : List Flow) → IsKept s → slot_at s.slots key ≡ Some live → flows_ahead live.kind ≡ 0 → is_in key s.fresh ≡ false →
-    ended ≡ s.ended ++ option_to_list (flow_in s.capacities (Some (task_of s key live))) → Turns s (ended_state s key runs ended) key live.serial None → under_of (ended_state s key runs ended) ≡ with_task live.serial (next_phase live.kind (task_of s key live)) (under_of s)
-end_under s key live runs ended is at last stale ended_is by =
+-- the activity is done, or given up
+pub end_under : (s : State) (key : ℕ) (live : Live) (runs : List (Option RunningFlow)) (ended : List Flow) → IsKept s → slot_at s.slots key ≡ Some live → is_in key s.fresh ≡ false →
+    ended ≡ s.ended ++ option_to_list (flow_in s.capacities (Some (task_of s key live))) → Turns s (ended_state s key runs ended) key live.serial None → under_of (ended_state s key runs ended) ≡ with_task live.serial None (under_of s)
+end_under s key live runs ended is at stale ended_is by =
     let new = ended_state s key runs ended in
     let h = is.each key live at in
     under_set s new key live.serial None is by None refl h.from h.to (told_gone s new key live.serial None is by (task_of new) refl) (began_same s new key live.serial None is by stale refl)
     (ended_is ∙ ap (λ o. s.ended ++ option_to_list (flow_in s.capacities o)) (sym (told_found (task_of s) s.slots live.serial key live is.apart at refl)))
-    ∙ ap (λ o. with_task live.serial o (under_of s)) (sym (last_next live.kind (task_of s key live) last))
 
 pub ended_filled : (s : State) (key : ℕ) (live : Live) → IsTrue (takes_share live.kind) → s.ended ++ asked_by s key live ∷ [] ≡ s.ended ++ option_to_list (flow_in s.capacities (Some (task_of s key live)))
 ended_filled s key live full = ap (λ o. s.ended ++ option_to_list o) (sym (filled_flow s.capacities (task_of s key live) full))
@@ -299,11 +305,11 @@ flow_begins s key old live is at latency within keys_in serial stamp kept bytes 
     }
 
 -- ---- states whose parts are the same
-abbrev pub state_with : State → ℕ → Bool → List (Option Live) → List (List LinkId) → List (Option Key) → List (Option RunningFlow) → List ℕ → List ℕ → List Flow → State
-state_with s drawn settled slots ways keys runs by_flow fresh ended = record s { drawn = drawn; settled = settled; slots = slots; ways = ways; keys = keys; runs = runs; by_flow = by_flow; fresh = fresh; ended = ended }
+abbrev pub state_with : State → ℕ → Bool → List (Option Live) → List (List LinkId) → List (Option Key) → List (Option RunningFlow) → List ℕ → List ℕ → List Flow → List ℕ → State
+state_with s drawn settled slots ways keys runs by_flow fresh ended resources = record s { drawn = drawn; settled = settled; slots = slots; ways = ways; keys = keys; runs = runs; by_flow = by_flow; fresh = fresh; ended = ended; resources = resources }
 
-pub state_same : (s : State) (drawn : ℕ) (settled : Bool) (a a' : List (Option Live)) (b b' : List (List LinkId)) (c c' : List (Option Key)) (d d' : List (Option RunningFlow)) (e e' f f' : List ℕ) (g g' : List Flow) → a ≡ a' → b ≡ b' → c ≡ c' → d ≡ d' → e ≡ e' → f ≡ f' → g ≡ g' →
-    state_with s drawn settled a b c d e f g ≡ state_with s drawn settled a' b' c' d' e' f' g'
-state_same s drawn settled a a' b b' c c' d d' e e' f f' g g' p q r t u v w =
-    ap (λ x. state_with s drawn settled x b c d e f g) p ∙ ap (λ x. state_with s drawn settled a' x c d e f g) q ∙ ap (λ x. state_with s drawn settled a' b' x d e f g) r ∙ ap (λ x. state_with s drawn settled a' b' c' x e f g) t
-    ∙ ap (λ x. state_with s drawn settled a' b' c' d' x f g) u ∙ ap (λ x. state_with s drawn settled a' b' c' d' e' x g) v ∙ ap (λ x. state_with s drawn settled a' b' c' d' e' f' x) w
+pub state_same : (s : State) (drawn : ℕ) (settled : Bool) (a a' : List (Option Live)) (b b' : List (List LinkId)) (c c' : List (Option Key)) (d d' : List (Option RunningFlow)) (e e' f f' : List ℕ) (g g' : List Flow) (h h' : List ℕ) →
+    a ≡ a' → b ≡ b' → c ≡ c' → d ≡ d' → e ≡ e' → f ≡ f' → g ≡ g' → h ≡ h' → state_with s drawn settled a b c d e f g h ≡ state_with s drawn settled a' b' c' d' e' f' g' h'
+state_same s drawn settled a a' b b' c c' d d' e e' f f' g g' h h' p q r t u v w x =
+    ap (λ y. state_with s drawn settled y b c d e f g h) p ∙ ap (λ y. state_with s drawn settled a' y c d e f g h) q ∙ ap (λ y. state_with s drawn settled a' b' y d e f g h) r ∙ ap (λ y. state_with s drawn settled a' b' c' y e f g h) t
+    ∙ ap (λ y. state_with s drawn settled a' b' c' d' y f g h) u ∙ ap (λ y. state_with s drawn settled a' b' c' d' e' y g h) v ∙ ap (λ y. state_with s drawn settled a' b' c' d' e' f' y h) w ∙ ap (λ y. state_with s drawn settled a' b' c' d' e' f' g' y) x

@@ -1,11 +1,14 @@
 -- What contracts see of `Activities`.
-use Rattle.std.specs.Prelude.{◌≡◌, ℕ, ◌+◌, ◌-◌, ◌^◌, ◌<◌, ◌≤◌, Bool, true, false, Option, None, Some, List, [], ◌∷◌, length}
+use Rattle.std.specs.Prelude.{◌≡◌, ◌≢◌, ℕ, ◌+◌, ◌-◌, ◌^◌, ◌==◌, ◌<◌, ◌≤◌, not, Bool, true, false, Option, None, Some, List, [], ◌∷◌, All, AllPairs, filter, length}
+use Rattle.sg_base.specs.declared.ids.LinkId.{LinkId}
+use Rattle.sg_base.specs.Limits.{IsAmount}
 use Rattle.sg_activity.specs.declared.kinds.HostCap.{HostCap}
 use Rattle.sg_activity.specs.declared.kinds.LinkCap.{LinkCap}
 use Rattle.sg_activity.specs.declared.kinds.Phase.{Phase}
+use Rattle.sg_activity.specs.declared.kinds.Transfer.{Transfer}
 use Rattle.sg_activity.specs.Links.{machines}
-use Rattle.sg_activity.specs.Task.{Task, task_at}
-use Rattle.sg_activity.specs.Underway.{Underway, next_in, due_in, later, drawn, started, begun, ended, settled, nothing_on}
+use Rattle.sg_activity.specs.Task.{Task, Way, is_cut, task_at}
+use Rattle.sg_activity.specs.Underway.{Underway, next_in, due_in, later, drawn, started, begun, ended, settled, given_up, hits, nothing_on}
 
 -- What is under way, the serials that are due and not ended yet, whether the rates are up to date, and room for so many starts.
 pub record Doing : Type 0 where
@@ -62,6 +65,63 @@ ended_first (serial ∷ more) doing = record doing {
 
 abbrev pub ended_in : Doing → Doing
 ended_in doing = ended_first doing.due doing
+
+-- What is under way changes so, and the rates are not up to date.
+abbrev pub set_in : (Underway → Underway) → Doing → Doing
+set_in change doing = record doing { under = change doing.under; settled = false }
+
+-- Something goes on or off, which changes no rate.
+abbrev pub switched_in : (Underway → Underway) → Doing → Doing
+switched_in change doing = record doing { under = change doing.under }
+
+-- the serials without this one
+abbrev pub without : ℕ → List ℕ → List ℕ
+without serial serials = filter (λ other. not (other == serial)) serials
+
+-- the activity of this serial is given up, and isn't due any more
+abbrev pub gave_up : ℕ → Doing → Doing
+gave_up serial doing = record doing {
+  under = given_up serial doing.under;
+  due = without serial doing.due;
+  settled = false;
+}
+
+abbrev pub gave_up_first : List ℕ → Doing → Doing
+gave_up_first [] doing = doing
+gave_up_first (serial ∷ rest) doing = gave_up serial doing
+
+-- the first of those that use something that is off is given up
+abbrev pub gave_up_in : Doing → Doing
+gave_up_in doing = gave_up_first (hits doing.under) doing
+
+-- this serial is the first of those that use something that is off
+pub record IsHit (doing : Doing) (serial : ℕ) : Type 0 where
+  pub rest : List ℕ
+  pub first : hits doing.under ≡ serial ∷ rest
+  pub task : Task
+  pub at : task_at doing.under.tasks serial ≡ Some task
+  pub from : 0 < serial
+  pub to : serial ≤ length doing.under.tasks
+
+-- the way of a transfer over these links
+abbrev pub way_of : List LinkId → Transfer → Way
+way_of links transfer = record {
+  links = links;
+  sender = transfer.sender.0;
+  receiver = transfer.receiver.0;
+}
+
+-- The links and hosts exist, are all different links, at least one and 64 at most, and on; the latency and the bytes keep to their limits.
+pub record IsTransfer (under : Underway) (links : List LinkId) (transfer : Transfer) : Type 0 where
+  pub some : links ≢ []
+  pub apart : AllPairs (λ a b. a ≢ b) links
+  pub exist : All (λ (link : LinkId). link.0 < length under.capacities.links) links
+  pub few : length links ≤ 64
+  pub sender : transfer.sender.0 < length under.capacities.hosts
+  pub receiver : transfer.receiver.0 < length under.capacities.hosts
+  pub on : is_cut under.on (way_of links transfer) ≡ false
+  pub latency : transfer.latency ≤ 10 ^ 20
+  pub bytes : IsAmount transfer.bytes
 
 -- this phase is the first of those due
 pub record IsDue (doing : Doing) (phase : Phase) : Type 0 where

@@ -1,9 +1,9 @@
 -- Links: what their flows share, and what bounds each flow.
-use Rattle.std.specs.Prelude.{ℕ, ◌+◌, ◌≤◌, ◌^◌, ◌++◌, not, Option, None, Some, false, if◌then◌else◌, List, [], ◌∷◌, map, filter, length, slice_index_or}
+use Rattle.std.specs.Prelude.{ℕ, ◌+◌, ◌≤◌, ◌^◌, ◌++◌, not, Bool, true, Option, None, Some, false, if◌then◌else◌, List, [], ◌∷◌, map, filter, slice_index_or, slice_set}
 use Rattle.sg_base.specs.declared.ids.LinkId.{LinkId}
 use Rattle.sg_activity.specs.declared.kinds.HostCap.{HostCap}
 use Rattle.sg_activity.specs.declared.kinds.LinkCap.{LinkCap}
-use Rattle.sg_activity.specs.Hosts.{offers_of}
+use Rattle.sg_activity.specs.Hosts.{offers_of, host_at}
 use Rattle.sg_activity.specs.Slots.{sooner}
 
 -- its bandwidth keeps to its limit
@@ -18,6 +18,21 @@ pub record Capacities : Type 0 where
 -- these hosts and links
 abbrev pub machines : List HostCap → List LinkCap → Capacities
 machines hosts links = record { hosts = hosts; links = links }
+
+-- whether each host and each link is on
+pub record Switches : Type 0 where
+  pub hosts : List Bool
+  pub links : List Bool
+
+-- all are on
+abbrev pub all_on : Capacities → Switches
+all_on capacities = record {
+  hosts = map (λ _. true) capacities.hosts;
+  links = map (λ _. true) capacities.links;
+}
+
+abbrev pub is_off : List Bool → ℕ → Bool
+is_off on number = not (slice_index_or on number true)
 
 abbrev pub bandwidth_of : LinkCap → ℕ
 bandwidth_of link = link.bandwidth
@@ -34,8 +49,11 @@ abbrev pub bound_of_link : LinkCap → Option ℕ
 bound_of_link link = if link.fatpipe then Some link.bandwidth else None
 
 -- the link of a number
+abbrev pub cap_at : List LinkCap → ℕ → LinkCap
+cap_at links number = slice_index_or links number (record { bandwidth = 0; fatpipe = false })
+
 abbrev pub link_at : List LinkCap → LinkId → LinkCap
-link_at links link = slice_index_or links link.0 (record { bandwidth = 0; fatpipe = false })
+link_at links link = cap_at links link.0
 
 -- the least bandwidth of the FATPIPE links of a route; none: it has none
 unfoldable pub route_bound : List LinkCap → List LinkId → Option ℕ
@@ -47,3 +65,17 @@ route_bound links (link ∷ route) =
 abbrev pub shared_of : ℕ → List LinkCap → List LinkId → List ℕ
 shared_of hosts links route =
     map (λ link. hosts + link.0) (filter (λ link. not (link_at links link).fatpipe) route)
+
+-- the same, but for the speed of a host
+abbrev pub at_speed : ℕ → ℕ → Capacities → Capacities
+at_speed host speed capacities = record capacities {
+  hosts = slice_set capacities.hosts host
+      (record { speed = speed; cores = (host_at capacities.hosts host).cores });
+}
+
+-- the same, but for the bandwidth of a link
+abbrev pub at_bandwidth : ℕ → ℕ → Capacities → Capacities
+at_bandwidth link bandwidth capacities = record capacities {
+  links = slice_set capacities.links link
+      (record { bandwidth = bandwidth; fatpipe = (cap_at capacities.links link).fatpipe });
+}

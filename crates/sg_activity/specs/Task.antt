@@ -1,16 +1,20 @@
 -- Phases: what goes on and where, what it asks for, and what follows it.
-use Rattle.std.specs.Prelude.{ℕ, ◌-◌, ◌*◌, Bool, true, false, Option, None, Some, if◌then◌else◌, List, [], ◌∷◌, filter_map, length, slice_index_or}
+use Rattle.std.specs.Prelude.{ℕ, ◌+◌, ◌-◌, ◌*◌, ◌&&◌, ◌||◌, Bool, true, false, Option, None, Some, if◌then◌else◌, List, [], ◌∷◌, filter_map, length, slice_index_or}
+use Rattle.std.specs.List.{list_any}
 use Rattle.sg_base.specs.declared.ids.LinkId.{LinkId}
+use Rattle.sg_base.specs.MarkSet.{is_in}
 use Rattle.sg_maxmin.specs.Fill.{Flow, flow}
 use Rattle.sg_activity.specs.declared.kinds.PhaseKind.{PhaseKind}
 use Rattle.sg_activity.specs.declared.kinds.PhaseKind.TheVariants as phase
 use Rattle.sg_activity.specs.Hosts.{host_at}
-use Rattle.sg_activity.specs.Links.{Capacities, route_bound, shared_of}
+use Rattle.sg_activity.specs.Links.{Capacities, Switches, is_off, link_at, route_bound, shared_of}
 use Rattle.sg_activity.specs.Slots.{sooner}
 
--- all links of a route, FATPIPE links too
+-- all links of a route, FATPIPE links too, and the hosts of the sender and of the receiver
 pub record Way : Type 0 where
   pub links : List LinkId
+  pub sender : ℕ
+  pub receiver : ℕ
 
 -- where a phase goes on: a sleep nowhere, an execution on its host, a latency and a flow over their way
 pub data Place : Type 0 where
@@ -73,6 +77,31 @@ flow_at capacities task (over way) =
 abbrev pub flow_of : Capacities → Task → Flow
 flow_of capacities task = flow_at capacities task task.place
 
+-- whether the bound that a place gives changes with the capacities of these resources
+abbrev pub is_rebound_at : Capacities → List ℕ → Place → Bool
+is_rebound_at capacities resources nowhere = false
+is_rebound_at capacities resources (on_host host) = is_in host resources
+is_rebound_at capacities resources (over way) =
+    list_any (λ link. (link_at capacities.links link).fatpipe
+    && is_in (length capacities.hosts + link.0) resources) way.links
+
+-- ---- what is off
+-- whether a link of a way is off, or a host at an end of it
+abbrev pub is_cut : Switches → Way → Bool
+is_cut on way =
+    list_any (λ link. is_off on.links link.0) way.links
+    || (is_off on.hosts way.sender || is_off on.hosts way.receiver)
+
+-- whether something is off that a phase uses there
+abbrev pub uses_off : Switches → Place → Bool
+uses_off on nowhere = false
+uses_off on (on_host host) = is_off on.hosts host
+uses_off on (over way) = is_cut on way
+
+abbrev pub is_hit : Switches → Task → Bool
+is_hit on task = uses_off on task.place
+
+-- ---- what takes shares
 -- whether phases of this kind take shares of resources
 abbrev pub takes_share : PhaseKind → Bool
 takes_share phase.Latency = false
@@ -123,6 +152,13 @@ next_phase phase.Latency task =
 next_phase phase.Flow task = None
 next_phase phase.Exec task = None
 next_phase phase.Timer task = None
+
+-- how many flows begin once a phase of this kind is over
+abbrev pub flows_ahead : PhaseKind → ℕ
+flows_ahead phase.Latency = 1
+flows_ahead phase.Flow = 0
+flows_ahead phase.Exec = 0
+flows_ahead phase.Timer = 0
 
 abbrev pub phase_after : Option Task → Option Task
 phase_after None = None

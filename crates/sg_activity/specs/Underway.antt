@@ -1,42 +1,64 @@
 -- The part of the world that `Activities` keeps: when its phases are due, and how it changes.
-use Rattle.std.specs.Prelude.{ℕ, ◌+◌, ◌-◌, ◌*◌, ◌==◌, ◌++◌, Bool, Option, None, Some, is_some, option_map, option_to_list, if◌then◌else◌, List, [], ◌∷◌, filter_map, length, map, slice_set}
+use Rattle.std.specs.Prelude.{ℕ, ◌+◌, ◌-◌, ◌*◌, ◌==◌, ◌++◌, ◌||◌, Bool, false, Option, None, Some, is_some, option_map, option_to_list, if◌then◌else◌, List, [], ◌∷◌, filter_map, length, map, slice_set}
 use Rattle.std.specs.Int.{div_ceil}
 use Rattle.std.specs.List.{list_any}
-use Rattle.sg_base.specs.MarkSet.{is_in}
+use Rattle.sg_base.specs.MarkSet.{is_in, with_mark}
 use Rattle.sg_maxmin.specs.Fill.{Flow, share_of}
 use Rattle.sg_lazy.specs.RunningFlow.{RunningFlow}
 use Rattle.sg_lazy.specs.Work.{work}
-use Rattle.sg_activity.specs.Links.{Capacities, capacities_of}
+use Rattle.sg_activity.specs.Links.{Capacities, Switches, all_on, capacities_of, at_speed, at_bandwidth}
 use Rattle.sg_activity.specs.Slots.{soonest, passes, serials, is_at, listed}
-use Rattle.sg_activity.specs.Task.{Task, is_filled, pace, wait_by, goes, flow_in, flow_of, flows, phase_after, task_at}
+use Rattle.sg_activity.specs.Task.{Task, is_filled, pace, wait_by, goes, flow_in, flow_of, flows, is_hit, is_rebound_at, phase_after, task_at}
 
--- What changed since the rates were brought up to date: the serials of the phases that began, and what those asked for that ended.
+-- What changed since the rates were brought up to date: the serials of the phases that began, what those asked for that ended, and the numbers of the resources whose capacity changed.
 pub record Marks : Type 0 where
   pub began : List ℕ
   pub ended : List Flow
+  pub resources : List ℕ
 
 abbrev pub no_marks : Marks
-no_marks = record { began = []; ended = [] }
+no_marks = record { began = []; ended = []; resources = [] }
 
--- The date, the hosts and links as they are now, by serial from 1 on the phase that is under way, or nothing, and what changed since the rates were brought up to date.
+-- the capacity of this resource changed too
+abbrev pub noted : ℕ → Marks → Marks
+noted resource marks = record marks { resources = with_mark resource marks.resources }
+
+-- The date, the hosts and links as they are now and which of them are on, by serial from 1 on the phase that is under way, or nothing, and what changed since the rates were brought up to date.
 pub record Underway : Type 0 where
   pub date : ℕ
   pub capacities : Capacities
+  pub on : Switches
   pub tasks : List (Option Task)
   pub marks : Marks
 
 -- at first
 abbrev pub nothing_on : Capacities → Underway
-nothing_on capacities = record { date = 0; capacities = capacities; tasks = []; marks = no_marks }
+nothing_on capacities = record {
+  date = 0;
+  capacities = capacities;
+  on = all_on capacities;
+  tasks = [];
+  marks = no_marks;
+}
 
 -- whether something is under way
 abbrev pub is_running : Underway → Bool
 is_running under = list_any (passes goes) under.tasks
 
 -- ---- how much a change touches
--- what runs under a serial and takes shares, and whether it began since the rates were brought up to date
+-- whether what bounds a phase, besides its own bound, changed since the rates were brought up to date
+abbrev pub is_rebound : Underway → Task → Bool
+is_rebound under task = is_rebound_at under.capacities under.marks.resources task.place
+
+-- What runs under a serial and takes shares, and whether it began, or its bound changed, since the rates were brought up to date.
 abbrev pub running_under : Underway → ℕ → Option RunningFlow
-running_under under serial = option_map (λ flow. record { flow = flow; rate = 0; began = is_in serial under.marks.began }) (flow_in under.capacities (task_at under.tasks serial))
+running_under under serial =
+    option_map (λ flow. record {
+      flow = flow;
+      rate = 0;
+      began = false;
+      marked = is_in serial under.marks.began || passes (is_rebound under) (task_at under.tasks serial);
+    }) (flow_in under.capacities (task_at under.tasks serial))
 
 -- all that runs and takes shares, by serial
 abbrev pub runnings : Underway → List (Option RunningFlow)
@@ -44,7 +66,8 @@ runnings under = listed (length under.tasks) (λ i. running_under under (i + 1))
 
 -- at how many uses of hosts and links may be looked to bring the rates up to date
 unfoldable pub work_of : Underway → ℕ
-work_of under = work (filter_map (λ slot. slot) (runnings under)) under.marks.ended
+work_of under =
+    work (filter_map (λ slot. slot) (runnings under)) under.marks.ended under.marks.resources
 
 -- ---- when phases are due
 -- units, or nanoseconds, in a nanosecond
@@ -88,6 +111,7 @@ abbrev pub marked : Capacities → ℕ → Option Task → Option Task → Marks
 marked capacities serial before after marks = record {
   began = if is_some after then marks.began ++ serial ∷ [] else marks.began;
   ended = marks.ended ++ option_to_list (flow_in capacities before);
+  resources = marks.resources;
 }
 
 -- the one place at which the phase of a serial changes
@@ -119,3 +143,38 @@ ended serial under = with_task serial (phase_after (task_at under.tasks serial))
 -- the rates are brought up to date
 abbrev pub settled : Underway → Underway
 settled under = record under { marks = no_marks }
+
+-- a host gets this speed
+abbrev pub with_speed : ℕ → ℕ → Underway → Underway
+with_speed host speed under = record under {
+  capacities = at_speed host speed under.capacities;
+  marks = noted host under.marks;
+}
+
+-- a link gets this bandwidth
+abbrev pub with_bandwidth : ℕ → ℕ → Underway → Underway
+with_bandwidth link bandwidth under = record under {
+  capacities = at_bandwidth link bandwidth under.capacities;
+  marks = noted (length under.capacities.hosts + link) under.marks;
+}
+
+-- ---- what fails
+-- the serials of the phases that use something that is off
+abbrev pub hits : Underway → List ℕ
+hits under = serials (is_hit under.on) 1 under.tasks
+
+-- a host goes on or off
+abbrev pub with_host_on : ℕ → Bool → Underway → Underway
+with_host_on host on under = record under {
+  on = record under.on { hosts = slice_set under.on.hosts host on };
+}
+
+-- a link goes on or off
+abbrev pub with_link_on : ℕ → Bool → Underway → Underway
+with_link_on link on under = record under {
+  on = record under.on { links = slice_set under.on.links link on };
+}
+
+-- the activity of this serial is given up
+abbrev pub given_up : ℕ → Underway → Underway
+given_up serial under = with_task serial None under

@@ -3,6 +3,10 @@ pub mod Stamps
 pub mod Pool
 pub mod State
 pub mod Sound
+pub mod Index
+pub mod Hits
+pub mod Whole
+pub mod Bounds
 pub mod Renewal
 pub mod Ends
 pub mod Turns

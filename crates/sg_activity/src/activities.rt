@@ -4,17 +4,21 @@ ghost use Rattle.std.specs.Prelude.{◌≡◌, ◌≢◌, ◌+◌, ◌-◌, ◌*
 ghost use Rattle.sg_base.specs.declared.ids.LinkId.{LinkId};
 ghost use Rattle.sg_base.specs.Limits.{IsAmount, IsPriority, IsTime};
 ghost use Rattle.sg_activity.specs.Hosts.{IsHost, offers_of};
-ghost use Rattle.sg_activity.specs.Links.{IsLink, bandwidths_of};
-ghost use Rattle.sg_activity.specs.Task.{exec_of, timer_of, comm_of, task_at};
-ghost use Rattle.sg_activity.specs.Underway.{is_running, next_in, work_of};
-ghost use Rattle.sg_activity.specs.Doing.{idle_on, started_in, drawn_in, begun_in, settled_in, later_in, ended_in, IsDue, IsNext, IsUpTo};
+ghost use Rattle.sg_activity.specs.Links.{IsLink, bandwidths_of, is_off};
+ghost use Rattle.sg_activity.specs.Task.{comm_of, exec_of, is_cut as is_cut_spec, task_at, timer_of};
+ghost use Rattle.sg_activity.specs.Underway.{hits, is_running, next_in, with_bandwidth, with_host_on, with_link_on, with_speed, work_of};
+ghost use Rattle.sg_activity.specs.Doing.{idle_on, started_in, drawn_in, begun_in, settled_in, later_in, ended_in, gave_up_in, set_in, switched_in, way_of, IsDue, IsHit, IsNext, IsTransfer, IsUpTo};
 
+use crate::capacities::{set_bandwidth, set_speed};
+use crate::index::Index;
 use crate::kept::Kept;
-use crate::kinds::{HostCap, LinkCap, Phase, PhaseKind};
+use crate::kinds::{HostCap, LinkCap, Phase, PhaseKind, Transfer};
 use crate::lives::{Live, Lives};
-use crate::phases::{end_phase, first_due};
+use crate::phases::{end_phase, first_due, leave};
 use crate::renewal::{renew, restamp};
 use crate::room::grow;
+use crate::routes::things_of;
+use crate::switches::{is_way_cut, set_host_on, set_link_on};
 use sg_base::{LinkId, Marks, Memory, PointId, Serial, Steps};
 use sg_heap::Agenda;
 use sg_lazy::Lazy;
@@ -39,18 +43,22 @@ use std::sync::ledger::Ledger;
 #[derive(Drop)]
 pub struct Activities {
     kept: Kept,
+    // by things, the hosts, then the links, then the hosts as ends, the activities under way that use them
+    index: Index,
+    // by key the serials of the activities that use something that is off
+    hits: Agenda,
 }
 
 impl Model for Activities {
     ghost use Rattle.sg_activity.specs.Doing.{Doing};
     ghost use Rattle.sg_activity.specs.kept.State.{doing_of, state_of};
-    ghost use Rattle.sg_activity.specs.kept.Sound.{IsSound};
+    ghost use Rattle.sg_activity.specs.kept.Whole.{IsWhole};
 
     ghost Value = { Doing };
 
     ghost view = { λ s. doing_of (state_of s.kept) s.kept.room };
 
-    ghost invariant = { λ s. IsSound s.kept };
+    ghost invariant = { λ s. IsWhole s.kept s.index s.hits };
 }
 
 // What each host offers in all.
@@ -81,6 +89,21 @@ fn add_bandwidths(capacities: &mut Vec<u64>, links: &[LinkCap]) -> Result<(), Me
     Ok(())
 }
 
+// So many that are on.
+fn all_on(alloc: Global, n: usize) -> Result<Vec<bool>, Memory>
+    ensures long { IfOk result (λ on. length on.items ≡ n) }
+    ensures on { IfOk result (λ on. All (λ b. b ≡ true) on.items) }
+{
+    let mut on = Vec::new(alloc);
+    for _number in 0..n {
+        match on.push(true) {
+            Ok(()) => {}
+            Err(_) => return Err(Memory),
+        }
+    }
+    Ok(on)
+}
+
 impl Activities {
     /// Nothing is under way on these hosts and links, and the date is 0.
     pub fn new(alloc: Global, hosts: &[HostCap], links: &[LinkCap]) -> Result<Activities, Memory>
@@ -94,6 +117,8 @@ impl Activities {
             kept: Kept {
                 hosts: Vec::from_slice(alloc, hosts)?,
                 links: Vec::from_slice(alloc, links)?,
+                hosts_on: all_on(alloc, hosts.len())?,
+                links_on: all_on(alloc, links.len())?,
                 lazy: Lazy::new(alloc, &capacities)?,
                 lives: Lives::new(alloc),
                 ways: Vec::new(alloc),
@@ -107,6 +132,8 @@ impl Activities {
                 room: 0,
                 flows: 0,
             },
+            index: Index::new(alloc, capacities.len() + hosts.len())?,
+            hits: Agenda::new(alloc)?,
         })
     }
 
@@ -122,9 +149,14 @@ impl Activities {
         let Some(flows) = n.checked_add(self.kept.flows - self.kept.room) else {
             return Err(Memory);
         };
-        let Some(uses) = flows.checked_mul(64) else {
+        let Some(uses) = flows.checked_mul(66) else {
             return Err(Memory);
         };
+        let Some(keys) = self.kept.lives.numbers().checked_add(n) else {
+            return Err(Memory);
+        };
+        self.index.reserve(keys, 66 * n)?;
+        self.hits.reserve(keys)?;
         grow(&mut self.kept, n, flows, uses)?;
         self.kept.room = n;
         self.kept.flows = flows;
@@ -135,6 +167,7 @@ impl Activities {
     /// times the flops of one of priority 1 as its priority says, and at most the host's speed.
     pub fn start_exec(&mut self, host: PointId, flops: u64, priority: u32) -> Serial
         requires host { host.0 < length self.old.under.capacities.hosts }
+        requires on { is_off self.old.under.on.hosts host.0 ≡ false }
         requires flops { IsAmount flops }
         requires priority { IsPriority priority }
         requires room { 0 < self.old.room }
@@ -156,8 +189,10 @@ impl Activities {
             bound: None,
             bytes: 0,
             host,
+            peer: 0,
             flow,
         });
+        self.index.enter(key, &[host]);
         self.kept.by_flow[flow] = key;
         self.kept.fresh.insert(key);
         self.kept.drawn += 1;
@@ -186,6 +221,7 @@ impl Activities {
             bound: None,
             bytes: 0,
             host: 0,
+            peer: 0,
             flow: 0,
         });
         self.kept.fresh.insert(key);
@@ -196,48 +232,137 @@ impl Activities {
         serial
     }
 
-    /// Starts the communication of a serial that was drawn and isn't under way: so many bytes over the links of a
-    /// route, which are all different. The latency, in nanoseconds, passes first; then the bytes flow, at most as many
-    /// a second as the bound says.
-    pub fn start_comm(
-        &mut self,
-        serial: Serial,
-        links: &[LinkId],
-        latency: u128,
-        bytes: u64,
-        bound: Option<u64>,
-    )
+    /// Starts the communication of a serial that was drawn and isn't under way: a transfer over the links of a route,
+    /// which are all different. The latency passes first; then the bytes flow.
+    pub fn start_comm(&mut self, serial: Serial, links: &[LinkId], transfer: Transfer)
         requires from { 0 < serial.0 }
         requires to { serial.0 ≤ length self.old.under.tasks }
         requires idle { task_at self.old.under.tasks serial.0 ≡ None }
-        requires some { links.now ≢ [] }
-        requires apart { AllPairs (λ a b. a ≢ b) links.now }
-        requires exist { All (λ (link : LinkId).
-            link.0 < length self.old.under.capacities.links) links.now }
-        requires few { length links.now ≤ 64 }
-        requires latency { latency ≤ 10 ^ 20 }
-        requires bytes { IsAmount bytes }
+        requires transfer { IsTransfer self.old.under links.now transfer }
         requires room { 0 < self.old.room }
-        ensures { self.new ≡
-            begun_in serial.0 (comm_of (record { links = links.now }) latency bytes bound)
+        ensures { self.new ≡ begun_in serial.0
+            (comm_of (way_of links.now transfer) transfer.latency transfer.bytes transfer.bound)
             self.old }
     {
+        let sender = transfer.sender.0 as usize;
+        let receiver = transfer.receiver.0 as usize;
         let key = self.kept.lives.put(Live {
             serial: serial.0,
             kind: PhaseKind::Latency,
-            kept: latency,
+            kept: transfer.latency,
             stamp: self.kept.date,
             rate: 1,
             weight: 1,
-            bound,
-            bytes,
-            host: 0,
+            bound: transfer.bound,
+            bytes: transfer.bytes,
+            host: sender,
+            peer: receiver,
             flow: 0,
         });
         self.kept.ways[key].follow(links);
+        let things = things_of(
+            self.kept.hosts.len(),
+            self.kept.links.len(),
+            links,
+            sender,
+            receiver,
+        );
+        self.index.enter(key, things.as_slice());
         self.kept.fresh.insert(key);
         self.kept.settled = false;
         self.kept.room -= 1;
+    }
+
+    /// Gives each core of a host this speed, from now on. How fast its executions go is brought up to date by
+    /// `settle`.
+    pub fn set_speed(&mut self, host: PointId, speed: u64)
+        requires host { host.0 < length self.old.under.capacities.hosts }
+        requires speed { speed ≤ 10 ^ 15 }
+        ensures { self.new ≡ set_in (with_speed host.0 speed) self.old }
+    {
+        set_speed(&mut self.kept, &self.index, host.0 as usize, speed);
+    }
+
+    /// Gives a link this bandwidth, from now on. How fast the flows over it go is brought up to date by `settle`.
+    pub fn set_bandwidth(&mut self, link: LinkId, bandwidth: u64)
+        requires link { link.0 < length self.old.under.capacities.links }
+        requires bandwidth { bandwidth ≤ 10 ^ 18 }
+        ensures { self.new ≡ set_in (with_bandwidth link.0 bandwidth) self.old }
+    {
+        set_bandwidth(&mut self.kept, &self.index, link.0 as usize, bandwidth);
+    }
+
+    /// Whether a host is off.
+    pub fn is_host_off(&self, host: PointId) -> bool
+        requires { host.0 < length self.now.under.capacities.hosts }
+        ensures { result ≡ is_off self.now.under.on.hosts host.0 }
+    {
+        !self.kept.hosts_on[host.0 as usize]
+    }
+
+    /// Whether something is off of these links and of the hosts at both ends.
+    pub fn is_cut(&self, links: &[LinkId], sender: PointId, receiver: PointId) -> bool
+        requires links { All (λ (link : LinkId).
+            link.0 < length self.now.under.capacities.links) links.now }
+        requires sender { sender.0 < length self.now.under.capacities.hosts }
+        requires receiver { receiver.0 < length self.now.under.capacities.hosts }
+        ensures { result ≡ is_cut_spec self.now.under.on
+            (record { links = links.now; sender = sender.0; receiver = receiver.0 }) }
+    {
+        is_way_cut(&self.kept, links, sender.0 as usize, receiver.0 as usize)
+    }
+
+    /// Puts a host on or off. What uses it goes on as it does, until it is given up.
+    pub fn set_host_on(&mut self, host: PointId, on: bool)
+        requires { host.0 < length self.old.under.capacities.hosts }
+        ensures { self.new ≡ switched_in (with_host_on host.0 on) self.old }
+    {
+        set_host_on(
+            &mut self.kept,
+            &self.index,
+            &mut self.hits,
+            host.0 as usize,
+            on,
+        );
+    }
+
+    /// Puts a link on or off. What uses it goes on as it does, until it is given up.
+    pub fn set_link_on(&mut self, link: LinkId, on: bool)
+        requires { link.0 < length self.old.under.capacities.links }
+        ensures { self.new ≡ switched_in (with_link_on link.0 on) self.old }
+    {
+        set_link_on(
+            &mut self.kept,
+            &self.index,
+            &mut self.hits,
+            link.0 as usize,
+            on,
+        );
+    }
+
+    /// The least serial of an activity that uses a host or a link that is off.
+    pub fn hit(&self) -> Option<Serial>
+        ensures { MatchOption result (hits self.now.under ≡ []) (λ serial. IsHit self.now serial.0) }
+    {
+        match self.hits.least() {
+            Some((_, _, serial)) => Some(serial),
+            None => None,
+        }
+    }
+
+    /// Gives up the activity that `hit` tells. None may have begun since the rates were brought up to date.
+    pub fn give_up(&mut self)
+        requires hit { hits self.old.under ≢ [] }
+        requires stale { self.old.under.marks.began ≡ [] }
+        ensures { self.new ≡ gave_up_in self.old }
+    {
+        let Some((key, _, _)) = self.hits.least() else {
+            unreachable!()
+        };
+        let Some(live) = self.kept.lives.get(key) else {
+            unreachable!()
+        };
+        leave(&mut self.kept, &mut self.index, &mut self.hits, key, live);
     }
 
     /// The serial that is drawn next.
@@ -343,6 +468,6 @@ impl Activities {
         let Some((key, live)) = first_due(&self.kept) else {
             unreachable!()
         };
-        end_phase(&mut self.kept, key, live);
+        end_phase(&mut self.kept, &mut self.index, &mut self.hits, key, live);
     }
 }

@@ -10,6 +10,9 @@ use sg_lazy::Lazy;
 pub(crate) struct Kept {
     pub(crate) hosts: Vec<HostCap>,
     pub(crate) links: Vec<LinkCap>,
+    /// Whether each host is on, and each link.
+    pub(crate) hosts_on: Vec<bool>,
+    pub(crate) links_on: Vec<bool>,
     /// It holds a flow for each execution and each flow under way.
     pub(crate) lazy: Lazy,
     /// The activities under way, by key.

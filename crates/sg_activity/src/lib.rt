@@ -2,6 +2,8 @@
 #![tactic(auto)]
 
 mod activities;
+mod capacities;
+mod index;
 mod kept;
 mod kinds;
 mod lives;
@@ -9,10 +11,13 @@ mod phases;
 mod renewal;
 mod room;
 mod routes;
+mod switches;
 #[cfg(test)]
 mod tests;
+#[cfg(test)]
+mod tests_changes;
 #[cfg(test)]
 mod tests_scale;
 
 pub use activities::Activities;
-pub use kinds::{HostCap, LinkCap, Phase, PhaseKind};
+pub use kinds::{HostCap, LinkCap, Phase, PhaseKind, Transfer};

@@ -3,6 +3,7 @@
 ghost use Rattle.std.specs.Prelude.{◌≡◌, ◌<◌, ◌≤◌, ◌+◌, ◌-◌, ◌==◌, None, Some, IsSome, OnOk, [], is_some, count_by, length, slice_set};
 ghost use Rattle.sg_activity.specs.Task.{takes_share as takes_share_spec};
 ghost use Rattle.sg_activity.specs.kept.Pool.{SameSlots, slot_at};
+ghost use Rattle.sg_activity.specs.Task.{flows_ahead as flows_ahead_spec};
 
 use crate::kinds::PhaseKind;
 use sg_base::Memory;
@@ -26,8 +27,10 @@ pub(crate) struct Live {
     pub(crate) bound: Option<u64>,
     /// The bytes of a communication.
     pub(crate) bytes: u64,
-    /// The host of an execution.
+    /// The host of an execution, or that of the sender of a communication.
     pub(crate) host: usize,
+    /// The host of the receiver of a communication.
+    pub(crate) peer: usize,
     /// The number of a flow or an execution among the flows.
     pub(crate) flow: usize,
 }
@@ -39,6 +42,16 @@ pub(crate) fn takes_share(kind: PhaseKind) -> bool
     match kind {
         PhaseKind::Flow | PhaseKind::Exec => true,
         PhaseKind::Latency | PhaseKind::Timer => false,
+    }
+}
+
+/// How many flows begin once a phase of this kind is over.
+pub(crate) fn flows_ahead(kind: PhaseKind) -> usize
+    ensures { result ≡ flows_ahead_spec kind }
+{
+    match kind {
+        PhaseKind::Latency => 1,
+        PhaseKind::Flow | PhaseKind::Exec | PhaseKind::Timer => 0,
     }
 }
 

@@ -1,17 +1,24 @@
 //! Phases that are due, and their ends.
 
-ghost use Rattle.std.specs.Prelude.{◌≡◌, ◌<◌, false, MatchOption, Some};
+ghost use Rattle.std.specs.Prelude.{◌≡◌, ◌<◌, false, List, MatchOption, None, Option, Some};
 ghost use Rattle.sg_activity.specs.declared.kinds.PhaseKind.TheVariants as phase;
 ghost use Rattle.sg_base.specs.MarkSet.{is_in};
 ghost use Rattle.sg_activity.specs.kept.Pool.{slot_at};
-ghost use Rattle.sg_activity.specs.kept.State.{state_of};
-ghost use Rattle.sg_activity.specs.kept.Sound.{IsSound, flows_ahead};
+ghost use Rattle.sg_activity.specs.kept.State.{state_of, task_of};
+ghost use Rattle.sg_activity.specs.Task.{next_phase};
+ghost use Rattle.sg_heap.specs.Agenda.{Key};
+ghost use Rattle.sg_activity.specs.kept.Hits.{AreHit};
+ghost use Rattle.sg_activity.specs.kept.Sound.{IsSound};
 ghost use Rattle.sg_activity.specs.kept.Ends.{Ends, IsFirst, IsIdle};
+ghost use Rattle.sg_activity.specs.kept.Index.{Indexed};
+ghost use Rattle.sg_activity.specs.kept.Whole.{IsUsed};
 
+use crate::index::Index;
 use crate::kept::Kept;
 use crate::kinds::PhaseKind;
-use crate::lives::{Live, takes_share};
+use crate::lives::{Live, flows_ahead, takes_share};
 use crate::routes::{bound_of, tighter, uses_of};
+use sg_heap::Agenda;
 
 /// The activity whose phase is due first, and its key.
 pub(crate) fn first_due(kept: &Kept) -> Option<(usize, Live)>
@@ -39,7 +46,10 @@ fn begin_flow(kept: &mut Kept, key: usize, live: Live)
     requires at { slot_at kept.old.lives.slots key ≡ Some live }
     requires stale { is_in key kept.old.fresh.members ≡ false }
     requires sound { IsSound kept.old }
-    ensures { Ends kept.old kept.new key live }
+    ensures ends { Ends kept.old kept.new key live
+        (next_phase live.kind (task_of (state_of kept.old) key live)) }
+    ensures used { (index : Indexed) → IsUsed kept.old index → IsUsed kept.new index }
+    ensures hit { (hits : List (Option Key)) → AreHit kept.old hits → AreHit kept.new hits }
 {
     let route = kept.ways[key].route();
     let uses = uses_of(kept.hosts.len(), &kept.links, route);
@@ -63,31 +73,50 @@ fn begin_flow(kept: &mut Kept, key: usize, live: Live)
     kept.settled = false;
 }
 
-// The activity is done: its flow ends, and its key is free.
-fn end_last(kept: &mut Kept, key: usize, live: Live)
-    requires kind { flows_ahead live.kind ≡ 0 }
+/// The activity is done, or given up: its flow ends, it uses nothing, and its key is free.
+pub(crate) fn leave(kept: &mut Kept, index: &mut Index, hits: &mut Agenda, key: usize, live: Live)
     requires at { slot_at kept.old.lives.slots key ≡ Some live }
     requires stale { is_in key kept.old.fresh.members ≡ false }
     requires sound { IsSound kept.old }
-    ensures { Ends kept.old kept.new key live }
+    requires used { IsUsed kept.old index.old }
+    requires hit { AreHit kept.old hits.old }
+    ensures ends { Ends kept.old kept.new key live None }
+    ensures used { IsUsed kept.new index.new }
+    ensures hit { AreHit kept.new hits.new }
 {
+    index.leave(key);
+    hits.clear(key);
     if takes_share(live.kind) {
         kept.lazy.end(live.flow);
     }
     kept.lives.remove(key);
     kept.agenda.clear(key);
+    kept.flows -= flows_ahead(live.kind);
     kept.settled = false;
 }
 
 /// Ends the phase of the activity under a key: a latency becomes a flow, and else the activity is done.
-pub(crate) fn end_phase(kept: &mut Kept, key: usize, live: Live)
+pub(crate) fn end_phase(
+    kept: &mut Kept,
+    index: &mut Index,
+    hits: &mut Agenda,
+    key: usize,
+    live: Live,
+)
     requires at { slot_at kept.old.lives.slots key ≡ Some live }
     requires stale { is_in key kept.old.fresh.members ≡ false }
     requires sound { IsSound kept.old }
-    ensures { Ends kept.old kept.new key live }
+    requires used { IsUsed kept.old index.old }
+    requires hit { AreHit kept.old hits.old }
+    ensures ends { Ends kept.old kept.new key live
+        (next_phase live.kind (task_of (state_of kept.old) key live)) }
+    ensures used { IsUsed kept.new index.new }
+    ensures hit { AreHit kept.new hits.new }
 {
     match live.kind {
         PhaseKind::Latency => begin_flow(kept, key, live),
-        PhaseKind::Flow | PhaseKind::Exec | PhaseKind::Timer => end_last(kept, key, live),
+        PhaseKind::Flow | PhaseKind::Exec | PhaseKind::Timer => {
+            leave(kept, index, hits, key, live);
+        }
     }
 }

@@ -1,5 +1,5 @@
 //! Room for more activities.
-ghost use Rattle.std.specs.Prelude.{◌≡◌, ◌≤◌, ℕ, [], OnOk, length, slice_index, slice_index_or};
+ghost use Rattle.std.specs.Prelude.{◌≡◌, ◌≤◌, ◌+◌, ℕ, [], OnOk, length, slice_index, slice_index_or};
 ghost use Rattle.sg_activity.specs.kept.Sound.{IsSound};
 ghost use Rattle.sg_activity.specs.kept.Grows.{Grows};
 
@@ -42,6 +42,7 @@ fn grow_keys(keys: &mut Vec<usize>, n: usize) -> Result<(), Memory>
 pub(crate) fn grow(kept: &mut Kept, n: usize, flows: usize, uses: usize) -> Result<(), Memory>
     requires { IsSound kept.old }
     ensures grows { Grows kept.old kept.new }
+    ensures few { length kept.new.lives.slots ≤ length kept.old.lives.slots + n }
     ensures keys { OnOk result (n ≤ kept.new.lives.room) }
     ensures flows { OnOk result (flows ≤ kept.new.lazy.flow_room) }
     ensures uses { OnOk result (uses ≤ kept.new.lazy.use_room) }

@@ -3,6 +3,8 @@
 ghost use Rattle.std.specs.Prelude.{◌≡◌, ◌+◌, ◌<◌, ◌≤◌, ◌^◌, [], All, length};
 ghost use Rattle.sg_base.specs.declared.ids.LinkId.{LinkId};
 ghost use Rattle.sg_activity.specs.Slots.{sooner};
+ghost use Rattle.sg_activity.specs.Task.{over};
+ghost use Rattle.sg_activity.specs.kept.Index.{used_at};
 ghost use Rattle.sg_activity.specs.Links.{bound_of_link, route_bound, shared_of};
 
 use crate::kinds::LinkCap;
@@ -102,4 +104,29 @@ pub(crate) fn uses_of(hosts: usize, links: &[LinkCap], route: &[LinkId]) -> Arra
         }
     }
     uses
+}
+
+/// The things of a way: all its links, and the hosts of the sender and the receiver as its ends. In front of the links
+/// stand so many hosts, and behind so many links the ends.
+pub(crate) fn things_of(
+    hosts: usize,
+    links: usize,
+    route: &[LinkId],
+    sender: usize,
+    receiver: usize,
+) -> ArrayVec<usize, 66>
+    requires few { length route.now ≤ 64 }
+    requires exist { All (λ (link : LinkId). link.0 < links) route.now }
+    requires ends { (sender < hosts) × (receiver < hosts) }
+    requires fits { hosts + links + hosts < 2 ^ 64 }
+    ensures { result.items ≡ used_at hosts links
+        (over (record { links = route.now; sender = sender; receiver = receiver })) }
+{
+    let mut things = ArrayVec::new();
+    things.push(hosts + links + sender);
+    things.push(hosts + links + receiver);
+    for link in route {
+        things.push(hosts + link.0 as usize);
+    }
+    things
 }

@@ -1,11 +1,11 @@
 //! Worked dates of executions and communications.
-ghost use Rattle.std.specs.Prelude.{◌≡◌, ◌≢◌, ◌+◌, ◌<◌, ◌≤◌, ◌^◌, All, AllPairs, OnOk, length, []};
+ghost use Rattle.std.specs.Prelude.{◌≡◌, ◌≢◌, ◌+◌, ◌<◌, ◌≤◌, ◌^◌, All, AllPairs, IfOk, OnOk, length, []};
 ghost use Rattle.sg_base.specs.declared.ids.LinkId.{LinkId};
 ghost use Rattle.sg_base.specs.Limits.{IsPriority};
 ghost use Rattle.sg_activity.specs.Hosts.{IsHost};
-ghost use Rattle.sg_activity.specs.Links.{IsLink};
+ghost use Rattle.sg_activity.specs.Links.{IsLink, all_on};
 
-use crate::{Activities, HostCap, LinkCap, PhaseKind};
+use crate::{Activities, HostCap, LinkCap, PhaseKind, Transfer};
 use sg_base::{LinkId, Memory, PointId, Steps};
 use std::alloc::Global;
 use std::marker::Brand;
@@ -17,6 +17,53 @@ type End = Option<(u128, u64, PhaseKind)>;
 
 const MEGA: u64 = 1_000_000;
 
+// A host of ten flops a second.
+const TEN: HostCap = HostCap {
+    speed: 10,
+    cores: 1,
+};
+
+// Nothing is under way on this link.
+fn on_link(alloc: Global, link: LinkCap) -> Result<Activities, Memory>
+    requires link { IsLink link }
+    ensures links { IfOk result (λ doing. 0 < length doing.under.capacities.links) }
+    ensures hosts { IfOk result (λ doing. 0 < length doing.under.capacities.hosts) }
+    ensures on { IfOk result (λ doing. doing.under.on ≡ all_on doing.under.capacities) }
+    ensures tasks { IfOk result (λ doing. length doing.under.tasks ≡ 0) }
+{
+    Activities::new(alloc, &[TEN], &[link])
+}
+
+// Nothing is under way on this host.
+fn on_host(alloc: Global, host: HostCap) -> Result<Activities, Memory>
+    requires host { IsHost host }
+    ensures hosts { IfOk result (λ doing. 0 < length doing.under.capacities.hosts) }
+    ensures on { IfOk result (λ doing. doing.under.on ≡ all_on doing.under.capacities) }
+    ensures tasks { IfOk result (λ doing. length doing.under.tasks ≡ 0) }
+{
+    Activities::new(alloc, &[host], &[])
+}
+
+// A communication of so many bytes begins over the first link.
+fn send_first(
+    doing: &mut Activities,
+    latency: u128,
+    bytes: u64,
+    bound: Option<u64>,
+) -> Result<(), Memory>
+    requires link { 0 < length doing.old.under.capacities.links }
+    requires host { 0 < length doing.old.under.capacities.hosts }
+    requires on { doing.old.under.on ≡ all_on doing.old.under.capacities }
+    requires few { length doing.old.under.tasks < 10 }
+    requires latency { latency ≤ 10 ^ 9 }
+    requires bytes { bytes ≤ 10 ^ 9 }
+    ensures capacities { doing.new.under.capacities ≡ doing.old.under.capacities }
+    ensures on { doing.new.under.on ≡ doing.old.under.on }
+    ensures drawn { OnOk result (length doing.new.under.tasks ≡ length doing.old.under.tasks + 1) }
+{
+    send(doing, &[LinkId(0)], latency, bytes, bound)
+}
+
 // A communication of so many bytes begins.
 fn send(
     doing: &mut Activities,
@@ -25,6 +72,8 @@ fn send(
     bytes: u64,
     bound: Option<u64>,
 ) -> Result<(), Memory>
+    requires host { 0 < length doing.old.under.capacities.hosts }
+    requires on { doing.old.under.on ≡ all_on doing.old.under.capacities }
     requires few { length doing.old.under.tasks < 10 }
     requires some { route.now ≢ [] }
     requires apart { AllPairs (λ a b. a ≢ b) route.now }
@@ -34,19 +83,27 @@ fn send(
     requires latency { latency ≤ 10 ^ 9 }
     requires bytes { bytes ≤ 10 ^ 9 }
     ensures capacities { doing.new.under.capacities ≡ doing.old.under.capacities }
+    ensures on { doing.new.under.on ≡ doing.old.under.on }
     ensures drawn { OnOk result (length doing.new.under.tasks ≡ length doing.old.under.tasks + 1) }
 {
     doing.reserve(1)?;
     let serial = doing.take_serial();
-    doing.start_comm(serial, route, latency, bytes, bound);
+    doing.start_comm(
+        serial,
+        route,
+        Transfer {
+            latency,
+            bytes,
+            bound,
+            sender: PointId(0),
+            receiver: PointId(0),
+        },
+    );
     Ok(())
 }
 
 // Goes to the next date and ends the first phase that is due.
-fn step<L: Ledger>(doing: &mut Activities, steps: &mut Steps<L>) -> End
-    requires { length doing.old.under.tasks ≤ 10 }
-    ensures { length doing.new.under.tasks ≡ length doing.old.under.tasks }
-{
+fn step<L: Ledger>(doing: &mut Activities, steps: &mut Steps<L>) -> End {
     doing.settle(steps);
     let Some(date) = doing.next_date() else {
         return None;
@@ -62,7 +119,28 @@ fn step<L: Ledger>(doing: &mut Activities, steps: &mut Steps<L>) -> End
     Some((date, phase.serial.0, phase.kind))
 }
 
-// One communication over one link: its two phases, and whether something is under way then.
+// One communication over the first link: its two phases, and whether something is under way then.
+fn one_after<L: Ledger>(
+    doing: &mut Activities,
+    latency: u128,
+    bytes: u64,
+    bound: Option<u64>,
+    steps: &mut Steps<L>,
+) -> Result<(End, End, bool), Memory>
+    requires link { 0 < length doing.old.under.capacities.links }
+    requires host { 0 < length doing.old.under.capacities.hosts }
+    requires on { doing.old.under.on ≡ all_on doing.old.under.capacities }
+    requires none { length doing.old.under.tasks ≡ 0 }
+    requires latency { latency ≤ 10 ^ 9 }
+    requires bytes { bytes ≤ 10 ^ 9 }
+{
+    send_first(doing, latency, bytes, bound)?;
+    let first = step(doing, steps);
+    let second = step(doing, steps);
+    Ok((first, second, doing.running()))
+}
+
+// The same over this link alone.
 fn one_send<L: Ledger>(
     alloc: Global,
     blank: Blank,
@@ -79,14 +157,34 @@ fn one_send<L: Ledger>(
     requires bytes { bytes ≤ 10 ^ 9 }
 {
     let mut steps = Steps::<L>::new(blank);
-    let mut doing = Activities::new(alloc, &[], &[link])?;
-    send(&mut doing, &[LinkId(0)], latency, bytes, bound)?;
-    let first = step(&mut doing, &mut steps);
-    let second = step(&mut doing, &mut steps);
+    let mut doing = on_link(alloc, link)?;
+    one_after(&mut doing, latency, bytes, bound, &mut steps)
+}
+
+// Two communications over the first link: what ends after both latencies, and whether something is under way then.
+fn two_after<L: Ledger>(
+    doing: &mut Activities,
+    latency: u128,
+    bytes: u64,
+    steps: &mut Steps<L>,
+) -> Result<(End, End, bool), Memory>
+    requires link { 0 < length doing.old.under.capacities.links }
+    requires host { 0 < length doing.old.under.capacities.hosts }
+    requires on { doing.old.under.on ≡ all_on doing.old.under.capacities }
+    requires none { length doing.old.under.tasks ≡ 0 }
+    requires latency { latency ≤ 10 ^ 9 }
+    requires bytes { bytes ≤ 10 ^ 9 }
+{
+    send_first(doing, latency, bytes, None)?;
+    send_first(doing, latency, bytes, None)?;
+    step(doing, steps);
+    step(doing, steps);
+    let first = step(doing, steps);
+    let second = step(doing, steps);
     Ok((first, second, doing.running()))
 }
 
-// Two communications over one link: what ends after both latencies, and whether something is under way then.
+// The same over this link alone.
 fn two_sends<L: Ledger>(
     alloc: Global,
     blank: Blank,
@@ -102,41 +200,45 @@ fn two_sends<L: Ledger>(
     requires bytes { bytes ≤ 10 ^ 9 }
 {
     let mut steps = Steps::<L>::new(blank);
-    let mut doing = Activities::new(alloc, &[], &[link])?;
-    send(&mut doing, &[LinkId(0)], latency, bytes, None)?;
-    send(&mut doing, &[LinkId(0)], latency, bytes, None)?;
-    step(&mut doing, &mut steps);
-    step(&mut doing, &mut steps);
-    let first = step(&mut doing, &mut steps);
-    let second = step(&mut doing, &mut steps);
+    let mut doing = on_link(alloc, link)?;
+    two_after(&mut doing, latency, bytes, &mut steps)
+}
+
+// Two executions of ten flops begin on the first host, of these priorities.
+fn begin_two(doing: &mut Activities, first: u32, second: u32) -> Result<(), Memory>
+    requires host { 0 < length doing.old.under.capacities.hosts }
+    requires on { doing.old.under.on ≡ all_on doing.old.under.capacities }
+    requires few { length doing.old.under.tasks < 8 }
+    requires first { IsPriority first }
+    requires second { IsPriority second }
+    ensures { OnOk result (length doing.new.under.tasks ≡ length doing.old.under.tasks + 2) }
+{
+    doing.reserve(2)?;
+    doing.start_exec(PointId(0), 10, first);
+    doing.start_exec(PointId(0), 10, second);
+    Ok(())
+}
+
+// They end, and whether something is under way then.
+fn both_after<L: Ledger>(
+    doing: &mut Activities,
+    first: u32,
+    second: u32,
+    steps: &mut Steps<L>,
+) -> Result<(End, End, bool), Memory>
+    requires host { 0 < length doing.old.under.capacities.hosts }
+    requires on { doing.old.under.on ≡ all_on doing.old.under.capacities }
+    requires none { length doing.old.under.tasks ≡ 0 }
+    requires first { IsPriority first }
+    requires second { IsPriority second }
+{
+    begin_two(doing, first, second)?;
+    let first = step(doing, steps);
+    let second = step(doing, steps);
     Ok((first, second, doing.running()))
 }
 
-// Ten bytes over the first link, over both, and over the second: what ends first after the latencies, and last.
-fn over_two_links<L: Ledger>(alloc: Global, blank: Blank) -> Result<(End, End, bool), Memory>
-    requires name { blank.name ≡ L.name }
-    requires parts { blank.parts ≡ L.parts }
-    requires some { 0 < blank.parts }
-{
-    let mut steps = Steps::<L>::new(blank);
-    let link = LinkCap {
-        bandwidth: 5,
-        fatpipe: false,
-    };
-    let mut doing = Activities::new(alloc, &[], &[link, link])?;
-    send(&mut doing, &[LinkId(0)], 0, 10, None)?;
-    send(&mut doing, &[LinkId(0), LinkId(1)], 0, 10, None)?;
-    send(&mut doing, &[LinkId(1)], 0, 10, None)?;
-    step(&mut doing, &mut steps);
-    step(&mut doing, &mut steps);
-    step(&mut doing, &mut steps);
-    let first = step(&mut doing, &mut steps);
-    step(&mut doing, &mut steps);
-    let last = step(&mut doing, &mut steps);
-    Ok((first, last, doing.running()))
-}
-
-// Two executions of ten flops on one host, of these priorities: what ends, and whether something is under way then.
+// The same on this host alone.
 fn two_executions<L: Ledger>(
     alloc: Global,
     blank: Blank,
@@ -152,20 +254,9 @@ fn two_executions<L: Ledger>(
     requires second { IsPriority second }
 {
     let mut steps = Steps::<L>::new(blank);
-    let mut doing = Activities::new(alloc, &[host], &[])?;
-    doing.reserve(2)?;
-    doing.start_exec(PointId(0), 10, first);
-    doing.start_exec(PointId(0), 10, second);
-    let first = step(&mut doing, &mut steps);
-    let second = step(&mut doing, &mut steps);
-    Ok((first, second, doing.running()))
+    let mut doing = on_host(alloc, host)?;
+    both_after(&mut doing, first, second, &mut steps)
 }
-
-// A host of ten flops a second.
-const TEN: HostCap = HostCap {
-    speed: 10,
-    cores: 1,
-};
 
 #[test]
 fn shares_by_priority(rt: HostRuntime) -> Result<(), Fail> {
@@ -351,19 +442,6 @@ fn starves_at_less_than_a_byte(rt: HostRuntime) -> Result<(), Fail> {
     assert_eq!(rt;
         two_sends::<Brand>(rt.alloc(), Blank::new(1), link, 0, 1)?,
         (None, None, true)
-    );
-    Ok(())
-}
-
-#[test]
-fn fills_two_links_in_one_step(rt: HostRuntime) -> Result<(), Fail> {
-    assert_eq!(rt;
-        over_two_links::<Brand>(rt.alloc(), Blank::new(1))?,
-        (
-            Some((5_000_000_000, 1, PhaseKind::Flow)),
-            Some((5_000_000_000, 3, PhaseKind::Flow)),
-            false
-        )
     );
     Ok(())
 }

@@ -1,6 +1,7 @@
 //! What an end costs doesn't grow with the hosts.
 ghost use Rattle.std.specs.Prelude.{◌≡◌, ◌+◌, ◌<◌, ◌^◌, All, IfOk, OnOk, length};
 ghost use Rattle.sg_activity.specs.Hosts.{IsHost};
+ghost use Rattle.sg_activity.specs.Links.{all_on};
 
 use crate::{Activities, HostCap};
 use sg_base::{Memory, PointId, Steps};
@@ -21,6 +22,7 @@ fn next_end<L: Ledger>(doing: &mut Activities, steps: &mut Steps<L>) -> Option<(
     requires { length doing.old.under.tasks < 10 ^ 9 }
     ensures tasks { length doing.new.under.tasks ≡ length doing.old.under.tasks }
     ensures capacities { doing.new.under.capacities ≡ doing.old.under.capacities }
+    ensures on { doing.new.under.on ≡ doing.old.under.on }
 {
     doing.settle(steps);
     let Some(date) = doing.next_date() else {
@@ -61,7 +63,9 @@ fn compute(
 ) -> Result<(), Memory>
     requires few { length doing.old.under.tasks < 10 ^ 9 }
     requires host { host < length doing.old.under.capacities.hosts }
+    requires on { doing.old.under.on ≡ all_on doing.old.under.capacities }
     ensures capacities { doing.new.under.capacities ≡ doing.old.under.capacities }
+    ensures on { doing.new.under.on ≡ doing.old.under.on }
     ensures drawn { OnOk result (length doing.new.under.tasks ≡ length doing.old.under.tasks + 1) }
 {
     doing.reserve(1)?;
@@ -78,8 +82,10 @@ fn over_at(host: u32, number: u64) -> u128 {
 // The first execution begins on each host.
 fn compute_everywhere(doing: &mut Activities, noted: &mut Vec<(u32, u64)>) -> Result<(), Memory>
     requires hosts { length doing.old.under.capacities.hosts ≡ 16384 }
+    requires on { doing.old.under.on ≡ all_on doing.old.under.capacities }
     requires tasks { length doing.old.under.tasks ≡ 0 }
     ensures capacities { doing.new.under.capacities ≡ doing.old.under.capacities }
+    ensures on { doing.new.under.on ≡ doing.old.under.on }
     ensures tasks { OnOk result (length doing.new.under.tasks ≡ 16384) }
 {
     for host in 0..HOSTS {
@@ -97,7 +103,9 @@ fn compute_anew<L: Ledger>(
 ) -> Result<(), Memory>
     requires few { length doing.old.under.tasks < 10 ^ 9 }
     requires hosts { length doing.old.under.capacities.hosts ≡ 16384 }
+    requires on { doing.old.under.on ≡ all_on doing.old.under.capacities }
     ensures capacities { doing.new.under.capacities ≡ doing.old.under.capacities }
+    ensures on { doing.new.under.on ≡ doing.old.under.on }
     ensures drawn { OnOk result (length doing.new.under.tasks ≡ length doing.old.under.tasks + 1) }
 {
     let Some((date, serial)) = next_end(doing, steps) else {
@@ -119,6 +127,7 @@ fn compute_long<L: Ledger>(
     steps: &mut Steps<L>,
 ) -> Result<(), Memory>
     requires hosts { length doing.old.under.capacities.hosts ≡ 16384 }
+    requires on { doing.old.under.on ≡ all_on doing.old.under.capacities }
     requires tasks { length doing.old.under.tasks ≡ 0 }
 {
     compute_everywhere(doing, noted)?;

@@ -11,7 +11,8 @@ use std::thread::{Threads, join_mut};
 /// Each actor whose seat is ready takes one turn on its inbox, and its call goes into its outbox. Every other seat
 /// stays as it is.
 ///
-/// The seats are cut into chunks, one for each thread where there are enough seats; which thread has which seats can't be told afterwards. It takes no memory.
+/// The seats are cut into chunks, one for each thread where there are enough seats; which thread has which seats can't
+/// be told afterwards. It takes no memory.
 pub fn run_round<R: Threads + Sync>(rt: &R, seats: &mut [Seat], threads: u32)
     requires some { 0 < threads }
     requires ready { All CanTurn (seat_views (λ b. mind b) seats.old) }

@@ -1,5 +1,5 @@
 -- The limits of amounts and times, and which numbers stand for something that exists.
-use Rattle.std.specs.Prelude.{ℕ, ◌<◌, ◌≤◌, ⊤}
+use Rattle.std.specs.Prelude.{ℕ, ◌<◌, ◌≤◌, ◌^◌, ⊤}
 use Rattle.sg_base.specs.declared.ids.ActorId.{ActorId}
 use Rattle.sg_base.specs.declared.ids.BoxId.{BoxId}
 use Rattle.sg_base.specs.declared.ids.BoxId.TheVariants as box
@@ -11,6 +11,8 @@ use Rattle.sg_base.specs.declared.call.Call.{Call}
 use Rattle.sg_base.specs.declared.call.Call.TheVariants as call
 use Rattle.sg_base.specs.declared.call.Msg.{Msg}
 use Rattle.sg_base.specs.declared.call.Msg.TheVariants as msg
+use Rattle.sg_base.specs.declared.trace_record.End.{End}
+use Rattle.sg_base.specs.declared.trace_record.End.TheVariants as end
 
 -- flops and bytes
 abbrev pub IsAmount : ℕ → Type 0
@@ -80,6 +82,7 @@ IsAnswer extent answer.NoMore = ⊤
 IsAnswer extent answer.Done = ⊤
 IsAnswer extent (answer.Got message) = IsMsg message
 IsAnswer extent answer.Refused = ⊤
+IsAnswer extent answer.Failed = ⊤
 
 abbrev pub IsCall : Extent → Call → Type 0
 IsCall extent call.Ask = ⊤
@@ -99,3 +102,9 @@ IsCall extent (call.Release semaphore) = IsSemaphoreIn extent semaphore
 IsCall extent call.Barrier = ⊤
 IsCall extent call.Yield = ⊤
 IsCall extent call.Exit = ⊤
+
+-- what was done took less than 10^33 nanoseconds
+abbrev pub IsEnd : End → Type 0
+IsEnd (end.Done ns) = ns < 10 ^ 33
+IsEnd end.Refused = ⊤
+IsEnd end.Failed = ⊤

@@ -51,6 +51,7 @@ replay_turn numbers answer.Start = turned replay numbers call.Ask
 replay_turn numbers answer.Done = turned replay numbers call.Ask
 replay_turn numbers (answer.Got message) = turned replay numbers call.Ask
 replay_turn numbers answer.Refused = turned replay numbers call.Ask
+replay_turn numbers answer.Failed = turned replay numbers call.Ask
 
 -- a worker receives from the mailbox under its name
 abbrev pub receives : List ℕ → Turn
@@ -69,6 +70,7 @@ worker_turn numbers answer.NoMore = receives numbers
 worker_turn numbers answer.Start = receives numbers
 worker_turn numbers answer.Done = receives numbers
 worker_turn numbers answer.Refused = receives numbers
+worker_turn numbers answer.Failed = receives numbers
 
 -- what a master sends to its worker of this place
 abbrev pub sends : List ℕ → ℕ → ℕ → Msg → Turn

@@ -84,4 +84,6 @@ pub enum Answer {
     Got(Msg),
     /// What it asked for isn't possible.
     Refused,
+    /// What it asked for failed: something that it uses is off, or went off.
+    Failed,
 }

@@ -26,4 +26,4 @@ pub use memory::Memory;
 pub use status::Status;
 pub use steps::Steps;
 pub use text::Text;
-pub use trace_record::Record;
+pub use trace_record::{End, Record};

@@ -2,6 +2,17 @@
 use crate::call::Call;
 use crate::ids::ActorId;
 
+/// How an action ended.
+#[derive(Clone, Copy, Debug, PartialEq, Eq)]
+pub enum End {
+    /// It is done, and took so many nanoseconds.
+    Done(u128),
+    /// It isn't possible.
+    Refused,
+    /// Something that it uses is off, or went off.
+    Failed,
+}
+
 /// An action that was answered: what a trace line tells.
 #[derive(Clone, Copy, Debug, PartialEq, Eq)]
 pub struct Record {
@@ -11,6 +22,5 @@ pub struct Record {
     pub what: Call,
     /// The bytes of the communication, and 0 for any other call.
     pub bytes: u64,
-    /// How long it took, in nanoseconds; `None` where it was refused.
-    pub took: Option<u128>,
+    pub end: End,
 }

@@ -1,7 +1,7 @@
 //! Platform texts, and what is read of each.
 use crate::cases::{fault_text, hold};
 use sg_platform::read_platform;
-use sg_rows::{HostRow, LinkRow, PlatformText, SpokeRow};
+use sg_rows::{HostRow, LinkRow, PlatformText, ProfileRow, SpokeRow, StateProfileRow};
 use std::alloc::{AllocError, Global};
 use std::test::Fail;
 
@@ -179,6 +179,107 @@ const TABLES: &str = "\
 8 1 3 wrong type | network = [{window = 4194304}]
 8 1 3 bad value | network = [{window = '4MiB'}]
 8 1 3 bad value | network = [{window = '1e16'}]
+9 0 0 wrong type | profile = 'h'
+9 0 0 wrong type | profile = {host = 'h', dates = ['1'], values = ['1']}
+9 1 0 wrong type | profile = ['h']
+9 2 0 wrong type | profile = [{host = 'h', dates = ['1'], values = ['1']}, []]
+9 1 0 unknown name | profile = [{host = 'h', dates = ['1'], values = ['1'], periodicity = '1'}]
+9 1 0 unknown name | profile = [{host = 'h', dates = ['1'], states = ['on']}]
+9 1 1 missing key | profile = [{}]
+9 1 1 missing key | profile = [{dates = ['1'], values = ['1']}]
+9 1 1 wrong type | profile = [{host = 1, dates = ['1'], values = ['1']}]
+9 1 1 wrong type | profile = [{host = ['h'], link = 'l', dates = ['1'], values = ['1']}]
+9 2 1 duplicate | profile = [{host = 'h', dates = ['1'], values = ['1']}, {host = 'h', dates = [], values = ['1']}]
+9 3 1 duplicate | profile = [{host = 'h', dates = ['1'], values = ['1']}, {link = 'l', dates = ['1'], values = ['1']}, {host = 'h', dates = ['2'], values = ['1']}]
+9 1 1 unknown name | profile = [{host = 'q', dates = ['1'], values = ['1']}]
+9 1 1 unknown name | profile = [{host = 'r', dates = ['1'], values = ['1']}]
+9 1 1 unknown name | profile = [{host = 'z', dates = ['1'], values = ['1']}]
+9 1 1 unknown name | profile = [{host = 'l', dates = ['1'], values = ['1']}]
+9 1 1 unknown name | profile = [{host = 'q', link = 'l', dates = ['x'], values = []}]
+9 1 2 wrong type | profile = [{link = 1, dates = ['1'], values = ['1']}]
+9 1 2 wrong type | profile = [{host = 'h', link = true, dates = ['1'], values = ['1']}]
+9 1 2 bad value | profile = [{host = 'h', link = 'l', dates = ['1'], values = ['1']}]
+9 1 2 bad value | profile = [{host = 'h', link = 'q', dates = ['1'], values = ['1']}]
+9 2 2 bad value | profile = [{link = 'l', dates = ['1'], values = ['1']}, {host = 'h', link = 'l', dates = ['1'], values = ['1']}]
+9 2 2 duplicate | profile = [{link = 'l', dates = ['1'], values = ['1']}, {link = 'l', dates = ['1'], values = ['x']}]
+9 3 2 duplicate | profile = [{link = 's_UP', dates = ['1'], values = ['1']}, {link = 's_DOWN', dates = ['1'], values = ['1']}, {link = 's_UP', dates = ['1'], values = ['1']}]
+9 1 2 unknown name | profile = [{link = 'q', dates = ['1'], values = ['1']}]
+9 1 2 unknown name | profile = [{link = 's', dates = ['1'], values = ['1']}]
+9 1 2 unknown name | profile = [{link = 'h', dates = ['1'], values = ['1']}]
+9 1 3 missing key | profile = [{host = 'h', values = []}]
+9 1 3 wrong type | profile = [{host = 'h', dates = '1', values = ['1']}]
+9 1 3 wrong type | profile = [{host = 'h', dates = [1], values = ['1']}]
+9 1 3 wrong type | profile = [{host = 'h', dates = ['x', 2], values = ['1', '1']}]
+9 1 3 bad value | profile = [{host = 'h', dates = [], values = []}]
+9 1 3 bad value | profile = [{host = 'h', dates = [''], values = ['1']}]
+9 1 3 bad value | profile = [{host = 'h', dates = ['-1'], values = ['1']}]
+9 1 3 bad value | profile = [{host = 'h', dates = ['1f'], values = ['1']}]
+9 1 3 bad value | profile = [{host = 'h', dates = ['1', 'x'], values = ['1', '1']}]
+9 1 3 bad value | profile = [{host = 'h', dates = ['1000000000.1s'], values = ['1']}]
+9 1 3 bad value | profile = [{host = 'h', dates = ['1', '1'], values = ['1', '1']}]
+9 1 3 bad value | profile = [{host = 'h', dates = ['1', '3', '2'], values = ['1', '1', '1']}]
+9 1 3 bad value | profile = [{host = 'h', dates = ['0.1ns', '0.2ns'], values = ['1', '1']}]
+9 1 3 bad value | profile = [{host = 'h', dates = ['1ms', '1000us'], values = ['1', '1']}]
+9 1 4 missing key | profile = [{host = 'h', dates = ['1']}]
+9 1 4 wrong type | profile = [{host = 'h', dates = ['1'], values = '1'}]
+9 1 4 wrong type | profile = [{host = 'h', dates = ['1'], values = [1]}]
+9 1 4 wrong type | profile = [{host = 'h', dates = ['1'], values = ['1', '1', 1.0]}]
+9 1 4 bad value | profile = [{host = 'h', dates = ['1'], values = []}]
+9 1 4 bad value | profile = [{host = 'h', dates = ['1'], values = ['1', '1']}]
+9 1 4 bad value | profile = [{host = 'h', dates = ['1', '2'], values = ['1']}]
+9 1 4 bad value | profile = [{host = 'h', dates = ['1'], values = ['']}]
+9 1 4 bad value | profile = [{host = 'h', dates = ['1', '2'], values = ['1', '-1']}]
+9 1 4 bad value | profile = [{host = 'h', dates = ['1'], values = ['1MBps']}]
+9 1 4 bad value | profile = [{host = 'h', dates = ['1'], values = ['1.1Pf']}]
+9 1 4 bad value | profile = [{link = 'l', dates = ['1'], values = ['1Mf']}]
+9 1 4 bad value | profile = [{link = 'l', dates = ['1'], values = ['1001TBps'], loop = 1}]
+9 1 5 wrong type | profile = [{host = 'h', dates = ['1'], values = ['1'], loop = 1}]
+9 1 5 wrong type | profile = [{host = 'h', dates = ['1'], values = ['1'], loop = true}]
+9 1 5 bad value | profile = [{host = 'h', dates = ['1'], values = ['1'], loop = '0'}]
+9 1 5 bad value | profile = [{host = 'h', dates = ['1'], values = ['1'], loop = '0.9ns'}]
+9 1 5 bad value | profile = [{host = 'h', dates = ['1'], values = ['1'], loop = 'day'}]
+9 1 5 bad value | profile = [{host = 'h', dates = ['1'], values = ['1'], loop = '1000000000.1s'}]
+fine | profile = []
+fine | profile = [{host = 'h', dates = ['0'], values = ['0']}, {host = 'g', dates = ['1ns'], values = ['1Pf'], loop = '1ns'}]
+fine | profile = [{link = 'l', dates = ['999ms', '1', '1000000000'], values = ['0', '0.1bps', '1000TBps'], loop = '1e9s'}, {host = 'h', dates = ['1'], values = ['0.5']}]
+fine | profile = [{link = 's_DOWN', dates = ['1'], values = ['1']}, {link = 's_UP', dates = ['1'], values = ['1']}]
+10 0 0 wrong type | state_profile = {host = 'h', dates = ['1'], states = ['on']}
+10 1 0 wrong type | state_profile = ['h']
+10 1 0 unknown name | state_profile = [{host = 'h', dates = ['1'], states = ['on'], values = ['1']}]
+10 1 0 unknown name | state_profile = [{host = 'h', dates = ['1'], values = ['1']}]
+10 1 1 missing key | state_profile = [{}]
+10 1 1 missing key | state_profile = [{dates = ['1'], states = ['on']}]
+10 1 1 wrong type | state_profile = [{host = ['h'], link = 'l', dates = ['1'], states = ['on']}]
+10 3 1 duplicate | state_profile = [{host = 'h', dates = ['1'], states = ['on']}, {link = 'l', dates = ['1'], states = ['on']}, {host = 'h', dates = [], states = ['x']}]
+10 1 1 unknown name | state_profile = [{host = 'q', link = 'l', dates = ['x'], states = []}]
+10 1 1 unknown name | state_profile = [{host = 'r', dates = ['1'], states = ['on']}]
+10 1 2 wrong type | state_profile = [{host = 'h', link = true, dates = ['1'], states = ['on']}]
+10 1 2 bad value | state_profile = [{host = 'h', link = 'q', dates = ['1'], states = ['on']}]
+10 3 2 duplicate | state_profile = [{link = 's_UP', dates = ['1'], states = ['on']}, {link = 's_DOWN', dates = ['1'], states = ['on']}, {link = 's_UP', dates = ['1'], states = ['on']}]
+10 1 2 unknown name | state_profile = [{link = 's', dates = ['1'], states = ['on']}]
+10 1 3 missing key | state_profile = [{link = 'l', states = []}]
+10 1 3 wrong type | state_profile = [{link = 'l', dates = [1], states = ['on']}]
+10 1 3 bad value | state_profile = [{link = 'l', dates = [], states = []}]
+10 1 3 bad value | state_profile = [{link = 'l', dates = ['1', 'x'], states = ['on', 'off']}]
+10 1 3 bad value | state_profile = [{link = 'l', dates = ['1', '1'], states = ['on', 'off']}]
+10 1 4 missing key | state_profile = [{link = 'l', dates = ['1']}]
+10 1 4 wrong type | state_profile = [{link = 'l', dates = ['1'], states = 'on'}]
+10 1 4 wrong type | state_profile = [{link = 'l', dates = ['1'], states = [true]}]
+10 1 4 wrong type | state_profile = [{link = 'l', dates = ['1'], states = ['x', false]}]
+10 1 4 bad value | state_profile = [{link = 'l', dates = ['1'], states = []}]
+10 1 4 bad value | state_profile = [{link = 'l', dates = ['1'], states = ['on', 'off']}]
+10 1 4 bad value | state_profile = [{link = 'l', dates = ['1', '2'], states = ['on']}]
+10 1 4 bad value | state_profile = [{link = 'l', dates = ['1'], states = ['']}]
+10 1 4 bad value | state_profile = [{link = 'l', dates = ['1'], states = ['On']}]
+10 1 4 bad value | state_profile = [{link = 'l', dates = ['1'], states = ['on ']}]
+10 1 4 bad value | state_profile = [{link = 'l', dates = ['1', '2'], states = ['off', 'of']}]
+10 1 4 bad value | state_profile = [{link = 'l', dates = ['1'], states = ['0']}]
+10 1 5 wrong type | state_profile = [{host = 'h', dates = ['1'], states = ['on'], loop = true}]
+10 1 5 bad value | state_profile = [{host = 'h', dates = ['1'], states = ['on'], loop = '0'}]
+10 1 5 bad value | state_profile = [{host = 'h', dates = ['1'], states = ['on'], loop = 'off'}]
+fine | state_profile = []
+fine | state_profile = [{host = 'h', dates = ['0'], states = ['on']}, {link = 's_UP', dates = ['1ns', '1000000000'], states = ['off', 'off'], loop = '1ns'}, {host = 'g', dates = ['1'], states = ['off']}]
+fine | profile = [{host = 'h', dates = ['1'], values = ['1']}, {link = 'l', dates = ['1'], values = ['1']}] | state_profile = [{link = 'l', dates = ['1'], states = ['on']}, {host = 'h', dates = ['1'], states = ['off']}]
 fine | network = []
 fine | network = [{}]
 fine | network = [{latency_factor = '0', bandwidth_factor = '0.000001', window = '0'}]
@@ -222,6 +323,13 @@ fine | spoke = [{zone = 'y', child = 'r', up = [%0%64%'l',%]}]
 fine | spoke = [{zone = 'y', child = 'r', up = ['l'], down = [%0%64%'l',%]}]
 7 1 5 over a limit | spoke = [{zone = 'y', child = 'r', up = ['l'], down = [%0%65%'l',%]}]
 7 1 5 unknown name | spoke = [{zone = 'y', child = 'r', up = ['l'], down = [%0%65%'q',%]}]
+fine | profile = [{host = 'h', dates = [%0%1024%'#',%], values = [%0%1024%'1',%]}]
+9 1 3 over a limit | profile = [{host = 'h', dates = [%0%1025%'#',%], values = [%0%1025%'1',%]}]
+9 1 3 bad value | profile = [{host = 'h', dates = [%0%1025%'1',%], values = [%0%1025%'1',%]}]
+9 1 4 bad value | profile = [{host = 'h', dates = [%0%1024%'#',%], values = [%0%1025%'1',%]}]
+fine | state_profile = [{host = 'h', dates = [%0%1024%'#',%], states = [%0%1024%'on',%]}]
+10 1 3 over a limit | state_profile = [{host = 'h', dates = [%0%1025%'#',%], states = [%0%1025%'on',%]}]
+10 1 4 bad value | state_profile = [{host = 'h', dates = [%0%1024%'#',%], states = [%0%1025%'on',%]}]
 ";
 
 /// Faults of whole texts, of which the least is told; and the limits of rows and of bytes.
@@ -263,6 +371,12 @@ not TOML | host = [{id = 'h', id = 'g'}]
 7 0 0 over a limit | spoke = [%0%32769%0,%]
 7 1 0 wrong type | network = [1, 2] | spoke = [0]
 8 0 0 over a limit | network = [%0%2%{},%] | zone = []
+8 1 0 wrong type | profile = 1 | network = [1]
+9 1 0 wrong type | profile = [%0%4096%0,%]
+9 0 0 over a limit | profile = [%0%4097%0,%]
+9 1 0 wrong type | state_profile = 1 | profile = [1]
+10 1 0 wrong type | state_profile = [%0%4096%0,%]
+10 0 0 over a limit | state_profile = [%0%4097%0,%]
 fine | host = [%0%262143%                                                                %                                                       ]
 0 0 0 over a limit | host = [%0%262143%                                                                %                                                        ]
 ";
@@ -285,6 +399,15 @@ const NETWORKS: &str = "\
 0 1 1 | network = [{window = '1.9', latency_factor = '0.0000009', bandwidth_factor = '0.0000019'}]
 ";
 
+/// What profiles are of, their dates, values or states, and gaps, that are read beside the tables above.
+const PROFILES: &str = "\
+Host(PointId(0)) [500000000] [500000000] None; | profile = [{host = 'h', dates = ['0.5'], values = ['500Mf']}]
+Host(PointId(1)) [0, 1500000000] [0, 1000000000] Some(3600000000000);Link(LinkId(2)) [1] [125000000] None; | profile = [{host = 'g', dates = ['0', '1.5'], values = ['0', '1Gf'], loop = '1h'}, {values = ['1Gbps'], dates = ['1ns'], link = 's_DOWN'}]
+Link(LinkId(1)) [60000000000] [0] Some(1);Link(LinkId(0)) [0, 1, 2] [1024, 15, 0] None; | profile = [{link = 's_UP', dates = ['1m'], values = ['0.9'], loop = '1.9ns'}, {link = 'l', dates = ['0.5ns', '1ns', '2.5ns'], values = ['1KiBps', '125.5bps', '0']}]
+Host(PointId(1)) [0, 2000000000] [true, false] Some(1000000000);Link(LinkId(2)) [1] [false] None; | state_profile = [{loop = '1', host = 'g', dates = ['0', '2'], states = ['on', 'off']}, {link = 's_DOWN', dates = ['1ns'], states = ['off']}]
+Link(LinkId(0)) [1] [2] None;Link(LinkId(0)) [3] [true] None; | state_profile = [{link = 'l', dates = ['3ns'], states = ['on']}] | profile = [{link = 'l', dates = ['1ns'], values = ['2']}]
+";
+
 /// What is told of a platform text.
 fn told(alloc: Global, text: &str) -> Result<String, Fail> {
     match read_platform(alloc, text.as_bytes()) {
@@ -293,8 +416,8 @@ fn told(alloc: Global, text: &str) -> Result<String, Fail> {
     }
 }
 
-/// What is told of a table beside the others of those above.
-fn told_beside(alloc: Global, table: &str) -> Result<String, Fail> {
+/// A table beside the others of those above.
+fn beside(alloc: Global, table: &str) -> Result<String, Fail> {
     let mut text = String::new(alloc);
     for (name, head) in HEADS {
         if !table.starts_with(name) {
@@ -302,7 +425,12 @@ fn told_beside(alloc: Global, table: &str) -> Result<String, Fail> {
         }
     }
     text.push_str(table)?;
-    told(alloc, text.as_str())
+    Ok(text)
+}
+
+/// What is told of a table beside the others of those above.
+fn told_beside(alloc: Global, table: &str) -> Result<String, Fail> {
+    told(alloc, beside(alloc, table)?.as_str())
 }
 
 /// Adds the name, the zone, the speed and the cores of a host.
@@ -355,6 +483,39 @@ fn network(alloc: Global, text: &str) -> Result<String, Fail> {
     Ok(format!(in alloc; "{latency} {bandwidth} {}", network.window)?)
 }
 
+/// Adds what a profile is of, its dates, its values and its gap.
+fn push_profile(alloc: Global, rows: &mut String, profile: &ProfileRow) -> Result<(), AllocError> {
+    let (of, gap) = (profile.of, profile.gap);
+    let (dates, values) = (profile.dates.as_slice(), profile.values.as_slice());
+    let row = format!(in alloc; "{of:?} {dates:?} {values:?} {gap:?};")?;
+    rows.push_str(row.as_str())
+}
+
+/// Adds what a profile of states is of, its dates, its states and its gap.
+fn push_states(
+    alloc: Global,
+    rows: &mut String,
+    profile: &StateProfileRow,
+) -> Result<(), AllocError> {
+    let (of, gap) = (profile.of, profile.gap);
+    let (dates, states) = (profile.dates.as_slice(), profile.states.as_slice());
+    let row = format!(in alloc; "{of:?} {dates:?} {states:?} {gap:?};")?;
+    rows.push_str(row.as_str())
+}
+
+/// The profiles of a table beside the others of those above.
+fn profiles(alloc: Global, table: &str) -> Result<String, Fail> {
+    let platform = read_platform(alloc, beside(alloc, table)?.as_bytes())?;
+    let mut rows = String::new(alloc);
+    for profile in platform.profiles() {
+        push_profile(alloc, &mut rows, profile)?;
+    }
+    for profile in platform.state_profiles() {
+        push_states(alloc, &mut rows, profile)?;
+    }
+    Ok(rows)
+}
+
 #[test]
 fn each_fault_of_a_table_is_told_at_its_place(rt: HostRuntime) -> Result<(), Fail> {
     hold(&rt, rt.alloc(), TABLES, told_beside)
@@ -373,4 +534,9 @@ fn rows_are_read(rt: HostRuntime) -> Result<(), Fail> {
 #[test]
 fn networks_are_read(rt: HostRuntime) -> Result<(), Fail> {
     hold(&rt, rt.alloc(), NETWORKS, network)
+}
+
+#[test]
+fn profiles_are_read(rt: HostRuntime) -> Result<(), Fail> {
+    hold(&rt, rt.alloc(), PROFILES, profiles)
 }

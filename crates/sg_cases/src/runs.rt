@@ -9,7 +9,7 @@ ghost use Rattle.sg_kernel.specs.World.{MayCall, extent};
 
 use crate::cases::hold;
 use crate::traces::has_line;
-use sg_base::{ActorId, BoxId, Call, Msg, Record, Steps};
+use sg_base::{ActorId, BoxId, Call, End, Msg, Record, Steps};
 use sg_kernel::{Kernel, Stop, roads_are_over};
 use sg_platform::{read_deployment, read_platform};
 use sg_route::Router;
@@ -41,6 +41,36 @@ around | zone = [{id = 'z', routing = 'Full'}] | host = [{id = 'h1', zone = 'z',
 1 2130100000 2130100000, 2 2130100000 2130100000, over 2130100000 | 1'}] | budget 99 | h1 send 2 100 | h2 recv 1
 1 10130100000 10130100000, 2 10130100000 10130100000, over 10130100000 | 1'}] | budget 99 | h1 send 2 100 10 | h2 recv 1
 1 0 0, 1 1000015000 1000015000, 1 1000015000 0, over 1000015000 | 1'}] | budget 99 | h1 isend 1 498000000, recv 1, wait
+around | zone = [{id = 'z', routing = 'Full'}] | host = [{id = 'h1', zone = 'z', speed = '1Gf'}, {id = 'h2', zone = 'z', speed = '1Gf'}, {id = 'h3', zone = 'z', speed = '1Gf'}] | link = [{id = 'l', bandwidth = '1MBps', latency = '10ms'}, {id = 'k', bandwidth = '1MBps', latency = '10ms', sharing_policy = 'FATPIPE'}] | route = [{src = 'h1', dst = 'h2', links = ['l']}, {src = 'h1', dst = 'h3', links = ['k']}] | profile = [$
+1 1500000000 1500000000, over 1500000000 | {host = 'h1', dates = ['0.5'], values = ['500Mf']}] | budget 4 | h1 compute 1000000000
+1 1500000000 1500000000, Budget 1500000000 | {host = 'h1', dates = ['0.5'], values = ['500Mf']}] | budget 3 | h1 compute 1000000000
+Budget 500000000 | {host = 'h1', dates = ['0.5'], values = ['500Mf']}] | budget 2 | h1 compute 1000000000
+Budget 0 | {host = 'h1', dates = ['0.5'], values = ['500Mf']}] | budget 1 | h1 compute 1000000000
+Starved 500000000 | {host = 'h1', dates = ['0.5'], values = ['0']}] | budget 99 | h1 compute 1000000000
+1 1500000000 1500000000, over 1500000000 | {host = 'h1', dates = ['0.5', '1'], values = ['0', '1Gf'], loop = '1h'}] | budget 99 | h1 compute 1000000000
+1 1000000000 1000000000, 1 1000000000 0, over 1000000000 | {host = 'h1', dates = ['0'], values = ['0']}] | budget 99 | h1 sleep 1000000000, compute 0
+1 1500000000 1500000000, 2 2500000000 2500000000, over 2500000000 | {host = 'h2', dates = ['0.5'], values = ['250Mf']}, {host = 'h1', dates = ['0.5'], values = ['500Mf']}] | budget 99 | h1 compute 1000000000 | h2 compute 1000000000
+Deadlock 3000000000 | {host = 'h1', dates = ['3'], values = ['2Gf']}] | budget 99 | h1 recv 2 | h2 recv 1
+Budget 23000000000 | {host = 'h1', dates = ['3'], values = ['2Gf'], loop = '1'}] | budget 7 | h1 recv 1
+1 2500000000 2500000000, 2 2500000000 2500000000, over 2500000000 | {link = 'l', dates = ['0.51', '2'], values = ['0', '1MBps']}] | budget 99 | h1 send 2 1000000 | h2 recv 1
+1 510000000 510000000, 2 510000000 510000000, over 510000000 | {link = 'k', dates = ['5ms'], values = ['2MBps']}] | budget 99 | h1 send 2 1000000 | h3 recv 1
+1 760000000 760000000, 2 760000000 760000000, over 760000000 | {link = 'k', dates = ['0.51'], values = ['2MBps']}] | budget 99 | h1 send 2 1000000 | h3 recv 1
+around | zone = [{id = 'z', routing = 'Full'}] | host = [{id = 'h1', zone = 'z', speed = '1Gf'}, {id = 'h2', zone = 'z', speed = '1Gf'}, {id = 'h3', zone = 'z', speed = '1Gf'}] | link = [{id = 'l', bandwidth = '1MBps', latency = '10ms'}, {id = 'k', bandwidth = '1MBps', latency = '10ms', sharing_policy = 'FATPIPE'}] | route = [{src = 'h1', dst = 'h2', links = ['l']}, {src = 'h1', dst = 'h3', links = ['k']}] | network = [{bandwidth_factor = '0.5'}] | profile = [$
+1 1010000000 1010000000, 2 1010000000 1010000000, over 1010000000 | {link = 'l', dates = ['0'], values = ['2MBps']}] | budget 99 | h1 send 2 1000000 | h2 recv 1
+1 1010000000 1010000000, 2 1010000000 1010000000, over 1010000000 | {link = 'k', dates = ['5ms'], values = ['2MBps']}] | budget 99 | h1 send 2 1000000 | h3 recv 1
+around | zone = [{id = 'z', routing = 'Full'}] | host = [{id = 'h1', zone = 'z', speed = '1Gf'}, {id = 'h2', zone = 'z', speed = '1Gf'}, {id = 'h3', zone = 'z', speed = '1Gf'}] | link = [{id = 'l', bandwidth = '1MBps', latency = '10ms'}, {id = 'k', bandwidth = '1MBps', latency = '10ms', sharing_policy = 'FATPIPE'}] | route = [{src = 'h1', dst = 'h2', links = ['l']}, {src = 'h1', dst = 'h3', links = ['k']}] | state_profile = [$
+1 500000000 failed, 2 500000000 failed, over 500000000 | {link = 'l', dates = ['0.5'], states = ['off']}] | budget 99 | h1 send 2 1000000 | h2 recv 1
+1 500000000 failed, 2 500000000 failed, over 500000000 | {link = 'k', dates = ['0.5'], states = ['off']}] | budget 99 | h1 send 2 1000000 | h3 recv 1
+1 5000000 failed, 2 5000000 failed, over 5000000 | {host = 'h2', dates = ['5ms'], states = ['off']}] | budget 99 | h1 send 2 1000000 | h2 recv 1
+1 500000000 failed, 1 500000000 failed, over 500000000 | {host = 'h1', dates = ['0.5'], states = ['off']}] | budget 5 | h1 compute 1000000000, compute 1000000000
+1 500000000 failed, 1 500000000 failed, Budget 500000000 | {host = 'h1', dates = ['0.5'], states = ['off']}] | budget 4 | h1 compute 1000000000, compute 1000000000
+1 500000000 failed, Budget 500000000 | {host = 'h1', dates = ['0.5'], states = ['off']}] | budget 3 | h1 compute 1000000000, compute 1000000000
+Budget 500000000 | {host = 'h1', dates = ['0.5'], states = ['off']}] | budget 2 | h1 compute 1000000000, compute 1000000000
+1 1000000000 failed, over 1000000000 | {host = 'h1', dates = ['1'], states = ['off']}] | budget 99 | h1 compute 1000000000
+1 500000000 failed, 1 2000000000 1500000000, 1 3000000000 1000000000, over 3000000000 | {host = 'h1', dates = ['0.5', '2'], states = ['off', 'on']}] | budget 99 | h1 compute 1000000000, sleep 1500000000, compute 1000000000
+1 0 0, 2 500000000 500000000, 1 500000000 failed, 2 500000000 failed, over 500000000 | {link = 'l', dates = ['0.1'], states = ['off']}] | budget 99 | h1 isend 2 1000000, wait | h2 sleep 500000000, recv 1
+1 0 0, 2 500000000 failed, 1 500000000 failed, 1 500000000 failed, over 500000000 | {host = 'h1', dates = ['0.5'], states = ['off']}] | budget 99 | h1 isend 2 1000000, compute 1000000000, wait | h2 recv 1
+Deadlock 3000000000 | {host = 'h1', dates = ['3'], states = ['off']}] | budget 99 | h1 recv 2 | h2 recv 1
 ";
 
 /// A number behind a verb, or 0 where there is none.
@@ -198,9 +228,12 @@ fn shown(
     let mut text = String::new(alloc);
     for record in records {
         let (actor, date) = (record.actor.0, record.date);
-        match record.took {
-            Some(took) => text.push_str(format!(in alloc; "{actor} {date} {took}, ")?.as_str())?,
-            None => text.push_str(format!(in alloc; "{actor} {date} refused, ")?.as_str())?,
+        match record.end {
+            End::Done(took) => {
+                text.push_str(format!(in alloc; "{actor} {date} {took}, ")?.as_str())?;
+            }
+            End::Refused => text.push_str(format!(in alloc; "{actor} {date} refused, ")?.as_str())?,
+            End::Failed => text.push_str(format!(in alloc; "{actor} {date} failed, ")?.as_str())?,
         }
     }
     match stop {

@@ -1,12 +1,11 @@
 //! Lines of the trace, over rows that were read from texts.
 ghost use Rattle.std.specs.Bool.{OnTrue};
-ghost use Rattle.std.specs.Option.{ForSome};
-ghost use Rattle.sg_base.specs.Limits.{IsActorIn, IsBoxIn, IsCall, IsMsg};
+ghost use Rattle.sg_base.specs.Limits.{IsActorIn, IsBoxIn, IsCall, IsEnd, IsMsg};
 ghost use Rattle.sg_base.specs.Lines.{HasLine};
 ghost use Rattle.sg_rows.specs.Deployment.{IsDeployedOn, extent_of};
 ghost use Rattle.sg_trace.specs.Line.{IsDate};
 
-use sg_base::{ActorId, BoxId, Call, Msg, Record};
+use sg_base::{ActorId, BoxId, Call, End, Msg, Record};
 use sg_platform::{read_deployment, read_platform};
 use sg_rows::{Deployment, PlatformText};
 use sg_trace::{Last, Line, ending_line, line};
@@ -70,10 +69,37 @@ const LINES: [(u32, Call, u64, &str); 15] = [
     (3, Call::Barrier, 0, "h1:p2:(3)|barrier"),
 ];
 
-/// The same of calls that were refused at 1.5.
-const REFUSED: [(u32, Call, &str); 2] = [
-    (2, Call::Wait, "h2:p1:(2)|wait"),
-    (1, Call::Unlock(0), "h1:p0:(1)|unlock m1"),
+/// An actor, its call, how it ended without being done, its bytes, and its line.
+const UNDONE: [(u32, Call, End, u64, &str); 5] = [
+    (2, Call::Wait, End::Refused, 0, "h2:p1:(2)|wait refused"),
+    (
+        1,
+        Call::Unlock(0),
+        End::Refused,
+        0,
+        "h1:p0:(1)|unlock m1 refused",
+    ),
+    (
+        1,
+        Call::Send(PAIR, 7, Msg::Empty, 0),
+        End::Failed,
+        7,
+        "h1:p0:(1)|send p1 7 failed",
+    ),
+    (
+        2,
+        Call::Recv(PAIR),
+        End::Failed,
+        7,
+        "h2:p1:(2)|recv p0 7 failed",
+    ),
+    (
+        1,
+        Call::Compute(9, 1),
+        End::Failed,
+        0,
+        "h1:p0:(1)|compute 9 failed",
+    ),
 ];
 
 /// Actors that are blocked, their calls, and their lines.
@@ -143,11 +169,11 @@ fn told(
     deployment: &Deployment,
     call: (u32, Call, u64),
     date: u128,
-    took: Option<u128>,
+    end: End,
 ) -> Result<Line, Fail>
     requires deployed { IsDeployedOn platform.now deployment.now }
     requires date { IsDate date }
-    requires took { ForSome took IsDate }
+    requires end { IsEnd end }
 {
     let (actor, what, bytes) = call;
     if !is_actor(deployment, ActorId(actor)) || !has_line(deployment, what) {
@@ -158,7 +184,7 @@ fn told(
         date,
         what,
         bytes,
-        took,
+        end,
     };
     Ok(line(&answered, platform, deployment))
 }
@@ -174,7 +200,13 @@ fn hold_answered(
 {
     for (actor, what, bytes, want) in LINES {
         let call = (actor, what, bytes);
-        let shown = told(platform, deployment, call, 12_345_678_901, Some(59_904))?;
+        let shown = told(
+            platform,
+            deployment,
+            call,
+            12_345_678_901,
+            End::Done(59_904),
+        )?;
         let (who, text) = want.split_once("|").unwrap_or(("no case", want));
         let want = format!(in alloc; "[{who} 12.345678901] {text} 0.000059904\n")?;
         assert_eq!(rt; shown.as_str(), want.as_str());
@@ -182,8 +214,8 @@ fn hold_answered(
     Ok(())
 }
 
-/// The lines of calls that were refused.
-fn hold_refused(
+/// The lines of calls that were refused or failed.
+fn hold_undone(
     rt: &impl Abort,
     alloc: Global,
     platform: &PlatformText,
@@ -191,10 +223,16 @@ fn hold_refused(
 ) -> Result<(), Fail>
     requires deployed { IsDeployedOn platform.now deployment.now }
 {
-    for (actor, what, want) in REFUSED {
-        let shown = told(platform, deployment, (actor, what, 0), 1_500_000_000, None)?;
+    for (actor, what, end, bytes, want) in UNDONE {
+        let shown = told(
+            platform,
+            deployment,
+            (actor, what, bytes),
+            1_500_000_000,
+            end,
+        )?;
         let (who, text) = want.split_once("|").unwrap_or(("no case", want));
-        let want = format!(in alloc; "[{who} 1.500000000] {text} refused\n")?;
+        let want = format!(in alloc; "[{who} 1.500000000] {text}\n")?;
         assert_eq!(rt; shown.as_str(), want.as_str());
     }
     Ok(())
@@ -242,7 +280,7 @@ fn each_line_tells_what_was_done_and_how_a_run_ended(rt: HostRuntime) -> Result<
     let platform = read_platform(rt.alloc(), PLATFORM.as_bytes())?;
     let deployment = read_deployment(rt.alloc(), DEPLOYMENT.as_bytes(), &platform)?;
     hold_answered(&rt, rt.alloc(), &platform, &deployment)?;
-    hold_refused(&rt, rt.alloc(), &platform, &deployment)?;
+    hold_undone(&rt, rt.alloc(), &platform, &deployment)?;
     hold_blocked(&rt, rt.alloc(), &platform, &deployment)?;
     hold_last(&rt, &platform, &deployment);
     Ok(())

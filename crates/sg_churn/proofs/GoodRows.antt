@@ -90,6 +90,8 @@ platform_kept seed actors counts same zones points links few = record {
   few_routes = omega arith;
   few_zone_routes = omega arith;
   few_spokes = omega (arith, length-rows spoke_of actors);
+  few_profiles = omega arith;
+  few_state_profiles = omega arith;
   zones = subst (λ c. All (IsZoneRow c) (star ∷ [])) same (All-cons (IsZoneRow counts) star [] (record { id = omega arith; parent = tt }) (All-nil (IsZoneRow counts)));
   hosts = subst (λ c. All (IsHostRow c) (rows (host_of seed) actors)) same
       (all_rows (IsHostRow counts) (host_of seed) actors (λ k below. host_good counts seed k (omega arith) (omega arith)));
@@ -101,6 +103,8 @@ platform_kept seed actors counts same zones points links few = record {
   spokes = subst (λ c. All (IsSpokeRow c) (rows spoke_of actors)) same
       (all_rows (IsSpokeRow counts) spoke_of actors (λ k below. spoke_good counts k (omega arith) (omega arith) (omega arith)));
   network = plain_kept;
+  profiles = All-nil _;
+  state_profiles = All-nil _;
 }
 
 star_named : IsTrue (is_name (codes "z"))

@@ -3,7 +3,12 @@ use Rattle.std.proofs.Common.{◌≡◌, ◌≢◌, ◌∙◌, sym, ap, subst, r
 use Rattle.std.proofs.lemmas.Bool.{cases_eq}
 use Rattle.std.proofs.lemmas.List.{length-set, get_or-set_other}
 use Rattle.std.proofs.lemmas.Grind.{get_or-set_at}
+use Rattle.sg_activity.specs.Links.{is_off}
+use Rattle.sg_activity.specs.Task.{is_cut}
+use Rattle.sg_base.specs.declared.awaits.Party.{Party}
+use Rattle.sg_base.specs.declared.awaits.Party.TheVariants.{Sender, Receiver}
 use Rattle.sg_base.specs.declared.call.Answer.{Answer}
+use Rattle.sg_base.specs.declared.call.Answer.TheVariants as answer
 use Rattle.sg_base.specs.declared.call.Call.{Call}
 use Rattle.sg_base.specs.declared.call.Call.TheVariants as call
 use Rattle.sg_base.specs.declared.ids.ActorId.{ActorId}
@@ -13,13 +18,17 @@ use Rattle.sg_states.specs.declared.state.State.{State}
 use Rattle.sg_states.specs.declared.state.State.TheVariants.{Ready, Ended}
 use Rattle.sg_kernel.specs.declared.stop.Stop.{Stop}
 use Rattle.sg_kernel.specs.Known.{Known, after}
-use Rattle.sg_kernel.specs.World.{Setup, Core, extent}
+use Rattle.sg_kernel.specs.declared.owners.How.{How}
+use Rattle.sg_kernel.specs.declared.owners.How.TheVariants as how
+use Rattle.sg_kernel.specs.Answers.{answers_by, answers_side, for_receiver, is_on, with_over}
+use Rattle.sg_kernel.specs.World.{Setup, Core, extent, host_of}
 use Rattle.sg_states.specs.Actors.{Blocking, is_ready}
-use Rattle.sg_kernel.specs.Steps.{Step, counted, each, follows, and_then}
-use Rattle.sg_kernel.specs.Calls.{answered, answered_call}
+use Rattle.sg_kernel.specs.Steps.{Step, at_once, counted, each, follows, goes_on, and_then}
+use Rattle.sg_kernel.specs.Calls.{answered, answered_call, executes}
 use Rattle.sg_kernel.specs.Locks.{caller_gets, wakes_from, wakes, all_wake, caller_first, caller_last}
-use Rattle.sg_kernel.specs.Meetings.{takes_part, joins_over, comes_by, waits_until, waits_by}
+use Rattle.sg_kernel.specs.Meetings.{takes_part, takes_part_failed, comer_fails, other_fails, both_fail, fails_with, joins_with, joins_over, way_with, comes_by, waits_until, waits_by}
 use Rattle.sg_mailbox.specs.declared.sides.Post.{Post}
+use Rattle.sg_mailbox.specs.declared.sides.Side.{Side}
 use Rattle.sg_rows.specs.Deployment.{Deployed}
 use Rattle.sg_base.specs.declared.awaits.Await.{Await}
 use Rattle.sg_route.specs.declared.router.RouteFault.{RouteFault}
@@ -72,6 +81,11 @@ followed actor old (Some why) first second before after = before
 next : (actor : ℕ) (old : List State) (first : Step) (rest : Core → Step) → Leaves actor old first.core.actors → ((core : Core) → Leaves actor core.actors (rest core).core.actors) → Leaves actor old (and_then first rest).core.actors
 next actor old first rest before after = followed actor old first.stop first (rest first.core) before (after first.core)
 
+-- either step
+unless : (b : Bool) (actor : ℕ) (old : List State) (used step : Step) → Leaves actor old used.core.actors → Leaves actor old step.core.actors → Leaves actor old (cond b used step).core.actors
+unless true actor old used step before after = before
+unless false actor old used step before after = after
+
 -- ---- mutexes, semaphores and the barrier
 gets : (outcome : Outcome) (actor : ℕ) (what : Call) (core : Core) → 0 < actor → Leaves actor core.actors (caller_gets outcome actor what core).core.actors
 gets GoesOn actor what core from = own actor core.actors _ from
@@ -98,8 +112,35 @@ taking : (waits : Bool) (comer : Comer) (serial : ℕ) (core : Core) → 0 < com
 taking true comer serial core from = own comer.side.actor.0 core.actors _ from
 taking false comer serial core from = own comer.side.actor.0 core.actors _ from
 
+failing : (waits : Bool) (comer : Comer) (serial bytes : ℕ) (core : Core) → 0 < comer.side.actor.0 → Leaves comer.side.actor.0 core.actors (takes_part_failed waits comer serial bytes core).core.actors
+failing true comer serial bytes core from = own comer.side.actor.0 core.actors _ from
+failing false comer serial bytes core from = taking false comer serial core from
+
+told : (over : How) (serial : ℕ) (party : Party) (given : Side) (actor : ℕ) (blocking : Option Blocking) (core : Core) → Leaves actor core.actors (answers_by over serial party given blocking core).core.actors
+told over serial party given actor None core = none actor core.actors
+told over serial party given actor (Some blocking) core =
+    unless (is_on serial party blocking.on) actor core.actors _ (goes_on core []) (readied actor given.actor.0 core.actors _) (none actor core.actors)
+
+other_failing : (comer : Comer) (serial : ℕ) (other : Side) (core : Core) → Leaves comer.side.actor.0 core.actors (other_fails comer serial other core).core.actors
+other_failing comer serial other core =
+    let actor = comer.side.actor.0 in
+    unless comer.sends actor core.actors (answers_side how.Failed serial Receiver (for_receiver comer.side other) core) (answers_side how.Failed serial Sender other core)
+    (told how.Failed serial Receiver (for_receiver comer.side other) actor _ core) (told how.Failed serial Sender other actor _ core)
+
+both_failing : (comer : Comer) (serial : ℕ) (other : Side) (core : Core) → 0 < comer.side.actor.0 → Leaves comer.side.actor.0 core.actors (both_fail comer serial other core).core.actors
+both_failing comer serial other core from =
+    let actor = comer.side.actor.0 in
+    let own_fails : (c : Core) → Leaves actor c.actors (comer_fails comer serial other c).core.actors = λ c. failing comer.waits comer serial _ c from in
+    let its_fails : (c : Core) → Leaves actor c.actors (other_fails comer serial other c).core.actors = λ c. other_failing comer serial other c in
+    unless comer.sends actor core.actors (and_then (comer_fails comer serial other core) (other_fails comer serial other)) (and_then (other_fails comer serial other core) (comer_fails comer serial other))
+    (next actor core.actors (comer_fails comer serial other core) (other_fails comer serial other) (own_fails core) its_fails)
+    (next actor core.actors (other_fails comer serial other core) (comer_fails comer serial other) (its_fails core) own_fails)
+
 joining : (route : Result Route RouteFault) (setup : Setup) (comer : Comer) (post : Post) (core : Core) → 0 < comer.side.actor.0 → Leaves comer.side.actor.0 core.actors (joins_over route setup comer post core).core.actors
-joining (Ok route) setup comer post core from = taking comer.waits comer post.serial.0 _ from
+joining (Ok route) setup comer post core from =
+    unless (is_cut core.under.on (way_with route setup comer post.side)) comer.side.actor.0 core.actors
+    (fails_with comer post.serial post.side (counted core)) (joins_with route setup comer post.serial post.side (counted core))
+    (both_failing comer post.serial.0 post.side (with_over how.Failed post.serial.0 (counted core)) from) (taking comer.waits comer post.serial.0 _ from)
 joining (Err why) setup comer post core from = none comer.side.actor.0 core.actors
 
 coming : (post : Option Post) (roads : Roads) (setup : Setup) (comer : Comer) (core : Core) → 0 < comer.side.actor.0 → Leaves comer.side.actor.0 core.actors (comes_by post roads setup comer core).core.actors
@@ -117,7 +158,10 @@ waiting (Some on) actor core from = until _ actor on _ from
 -- ---- any call
 called : (roads : Roads) (setup : Setup) (core : Core) (actor : ℕ) (what : Call) → 0 < actor → Leaves actor core.actors (answered_call roads setup core actor what).core.actors
 called roads setup core actor call.Ask from = own actor core.actors _ from
-called roads setup core actor (call.Compute flops priority) from = own actor core.actors _ from
+called roads setup core actor (call.Compute flops priority) from =
+    unless (is_off core.under.on.hosts (host_of setup actor)) actor core.actors
+    (at_once actor (call.Compute flops priority) 0 answer.Failed (counted core)) (executes setup actor flops priority (counted core))
+    (own actor core.actors _ from) (own actor core.actors _ from)
 called roads setup core actor (call.Sleep ns) from = own actor core.actors _ from
 called roads setup core actor (call.Send mailbox bytes message rate) from = coming _ roads setup _ core from
 called roads setup core actor (call.Recv mailbox) from = coming _ roads setup _ core from
@@ -131,10 +175,6 @@ called roads setup core actor (call.Release semaphore) from = first _ actor (cal
 called roads setup core actor call.Barrier from = last _ actor call.Barrier (counted core) from
 called roads setup core actor call.Yield from = own actor core.actors _ from
 called roads setup core actor call.Exit from = own actor core.actors _ from
-
-unless : (b : Bool) (actor : ℕ) (old : List State) (used step : Step) → Leaves actor old used.core.actors → Leaves actor old step.core.actors → Leaves actor old (cond b used step).core.actors
-unless true actor old used step before after = before
-unless false actor old used step before after = after
 
 answered_leaves : (roads : Roads) (setup : Setup) (core : Core) (actor : ℕ) (what : Call) → 0 < actor → Leaves actor core.actors (answered roads setup core actor what).core.actors
 answered_leaves roads setup core actor what from = unless (core.events == setup.budget) actor core.actors _ (answered_call roads setup core actor what) (none actor core.actors) (called roads setup core actor what from)

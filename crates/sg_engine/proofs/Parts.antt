@@ -9,7 +9,7 @@ use Rattle.sg_edge.specs.Files.{PartView}
 use Rattle.sg_kernel.specs.Known.{Known}
 use Rattle.sg_rows.specs.Deployment.{Deployed, extent_of}
 use Rattle.sg_engine.specs.declared.simulation.Simulation.{Simulation}
-use Rattle.sg_engine.specs.kept.Invariant.{HasRoom, IsKept}
+use Rattle.sg_engine.specs.kept.Invariant.{places_in, HasRoom, IsKept}
 use Rattle.sg_kernel.specs.World.{Setup, Core, MayCall, extent}
 use Rattle.sg_engine.specs.World.{World}
 use Rattle.sg_script.specs.Known.{Known as Names}
@@ -31,22 +31,19 @@ calls_may minds core extent calls are limited =
 pub calls_rise : (minds : List (Option Mind)) (core : Core) (calls : List ActorCall) → calls ≡ call_list 1 (zip_with call_after minds (inboxes core)) → AllPairs (λ (a b : ActorCall). a.actor.0 < b.actor.0) calls
 calls_rise minds core calls are = subst (AllPairs (λ (a b : ActorCall). a.actor.0 < b.actor.0)) (sym are) (listed_rises 1 (zip_with call_after minds (inboxes core)))
 
-pub calls_few : {S : Type 0} (see : S → SeatView) (seats : List S) (core : Core) (calls : List ActorCall) (n : ℕ) → calls ≡ call_list 1 (zip_with call_after (minds_of (map see seats)) (inboxes core)) → length (map see seats) ≤ n → length calls ≤ n
+pub calls_few : {S : Type 0} (see : S → SeatView) (seats : List S) (core : Core) (calls : List ActorCall) (n : ℕ) → calls ≡ call_list 1 (zip_with call_after (minds_of (map see seats)) (inboxes core)) → length seats ≤ n → length calls ≤ n
 calls_few see seats core calls n are few =
     let places = map see seats in
-    omega (arith, ap length are, listed_short 1 (zip_with call_after (minds_of places) (inboxes core)), row_short (minds_of places) (inboxes core), length-map places mind_in, few)
-
-pub seats_few : {S : Type 0} (see : S → SeatView) (seats : List S) (n : ℕ) → length seats ≤ n → length (map see seats) ≤ n
-seats_few see seats n few = omega (arith, length-map seats see)
+    omega (arith, ap length are, listed_short 1 (zip_with call_after (minds_of places) (inboxes core)), row_short (minds_of places) (inboxes core), length-map places mind_in, length-map seats see, few)
 
 -- behind a reserve there is room for a round
-pub room_for : {deployed : Deployed} {part : PartView} {sim : Simulation} {places : List SeatView} (mid : Known) → IsKept deployed part sim places → mid ≡ record sim.kernel { room = mid.room } → length places ≤ mid.room → HasRoom (record sim { kernel = mid }) places
-room_for {deployed} {part} {sim} {places} mid kept same room =
+pub room_for : {A : Type 0} {mind : A → Option Mind} {deployed : Deployed} {part : PartView} {sim : Simulation A} (mid : Known) → IsKept mind deployed part sim → mid ≡ record sim.kernel { room = mid.room } → length sim.seats.items ≤ mid.room → HasRoom mind (record sim { kernel = mid })
+room_for {A} {mind} {deployed} {part} {sim} mid kept same room =
     let actors : length mid.core.actors ≡ length deployed.actors = ap (λ (k : Known). length k.core.actors) same ∙ kept.fits.actors in
     let limits : extent mid.setup ≡ extent_of deployed = ap (λ (k : Known). extent k.setup) same ∙ kept.fits.extent in
     record {
       number = kept.number ∙ sym actors;
-      seated = subst (λ (e : Extent). All (IsSeated e) places) (sym limits) kept.seated;
+      seated = subst (λ (e : Extent). All (IsSeated e) (places_in mind sim)) (sym limits) kept.seated;
       calls = omega (arith, kept.number, kept.calls);
       room = room;
     }

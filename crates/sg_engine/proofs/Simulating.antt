@@ -13,7 +13,6 @@ use Rattle.sg_edge.specs.declared.sinks.Stream.{Stream}
 use Rattle.sg_edge.specs.declared.sinks.Stream.TheVariants.{Out}
 use Rattle.sg_edge.specs.Sinks.{GainsFront}
 use Rattle.sg_kernel.specs.Known.{Known}
-use Rattle.sg_actor.specs.Seats.{SeatView}
 use Rattle.sg_base.specs.Limits.{Extent}
 use Rattle.sg_kernel.specs.World.{Setup, Core, extent}
 use Rattle.sg_states.specs.Actors.{is_ended}
@@ -38,7 +37,7 @@ use Rattle.sg_engine.specs.declared.show.Show.TheVariants as show
 use Rattle.sg_engine.specs.Output.{trace_of}
 use Rattle.sg_trace.specs.Line.{line_of}
 use Rattle.sg_engine.specs.declared.simulation.Simulation.{Simulation}
-use Rattle.sg_engine.specs.kept.Invariant.{IsKept, Holds, PartIs, StaysKept}
+use Rattle.sg_engine.specs.kept.Invariant.{places_in, IsKept, Holds, PartIs, StaysKept}
 use Rattle.sg_engine.specs.kept.SeatRules.{IsSeated}
 use Rattle.sg_engine.specs.kept.Stretches.{Trace, Advances, CutsOff, IsCutOff, IsOver}
 use Rattle.sg_engine.specs.kept.Writing.{Pending, pending, Adds, AddsFront, EndsForMemory}
@@ -135,8 +134,8 @@ pub part_cuts : (spent : ℕ) (names : Names) (trace : Trace) (whole : Answering
 part_cuts spent names trace whole how taken minds old new before after is cut = rw is cut
 
 -- what it keeps
-pub part_kept : (plan : Plan) (how : Option Ended) (shows : Part → PartView) (old new : Simulation) (places : List SeatView) → cuts how ≡ false → new.kernel.setup ≡ old.kernel.setup → Holds plan shows new places → StaysKept plan how shows old new places
-part_kept plan how shows old new places uncut setup kept = record { setup = setup; kept = rw uncut kept }
+pub part_kept : {A : Type 0} (mind : A → Option Mind) (plan : Plan) (how : Option Ended) (shows : Part → PartView) (old new : Simulation A) → cuts how ≡ false → new.kernel.setup ≡ old.kernel.setup → Holds mind plan shows new → StaysKept mind plan how shows old new
+part_kept mind plan how shows old new uncut setup kept = record { setup = setup; kept = rw uncut kept }
 
 -- a part for which memory was wanting
 pub part_short : (spent : ℕ) (names : Names) (trace : Trace) (whole : Answering → Progress) (how : Ended) (taken : List ℕ) (minds : List (Option Mind)) (old new : Moment) (waits first left : List ℕ) (before after : Stream → Option (List ℕ)) (faults : ℕ) → LacksMemory names whole taken old.part new.part → waits ≡ first → EndsForMemory waits how before after faults →
@@ -146,13 +145,13 @@ part_short spent names trace whole how taken minds old new waits first left befo
     part_cuts spent names trace whole (Some how) taken minds old new (pending (before Out) first) (pending (after Out) left) (memory_cuts waits how before after faults ends) (cuts_off_by names trace whole taken old.part new.part (pending (before Out) first) (after Out) lacks front)
 
 -- behind it nothing is kept but the setup
-pub short_kept : (plan : Plan) (how : Ended) (shows : Part → PartView) (old new : Simulation) (places : List SeatView) → is_cut how ≡ true → new.kernel.setup ≡ old.kernel.setup → StaysKept plan (Some how) shows old new places
-short_kept plan how shows old new places cut setup = record { setup = setup; kept = rw cut tt }
+pub short_kept : {A : Type 0} (mind : A → Option Mind) (plan : Plan) (how : Ended) (shows : Part → PartView) (old new : Simulation A) → is_cut how ≡ true → new.kernel.setup ≡ old.kernel.setup → StaysKept mind plan (Some how) shows old new
+short_kept mind plan how shows old new cut setup = record { setup = setup; kept = rw cut tt }
 
 -- what a simulation keeps behind a part whose records are in lines and cleared
-pub kept_on : (deployed : Deployed) (part : PartView) (sim : Simulation) (places : List SeatView) (known : Known) → Fits deployed (moment part (kept_of sim.script) known) → sim.kernel ≡ record known { records = [] } → length known.setup.homes ≡ length deployed.actors →
-    All (IsSeated (extent known.setup)) places → length places ≡ length deployed.actors → length deployed.actors ≤ vec_capacity sim.calls → length deployed.actors ≤ 65536 → IsKept deployed part sim places
-kept_on deployed part sim places known fits is homes seated number calls few = record {
+pub kept_on : {A : Type 0} (mind : A → Option Mind) (deployed : Deployed) (part : PartView) (sim : Simulation A) (known : Known) → Fits deployed (moment part (kept_of sim.script) known) → sim.kernel ≡ record known { records = [] } → length known.setup.homes ≡ length deployed.actors →
+    All (IsSeated (extent known.setup)) (places_in mind sim) → length sim.seats.items ≡ length deployed.actors → length deployed.actors ≤ vec_capacity sim.calls → length deployed.actors ≤ 65536 → IsKept mind deployed part sim
+kept_on mind deployed part sim known fits is homes seated number calls few = record {
   fits = record {
     actors = ap (λ (k : Known). length k.core.actors) is ∙ fits.actors;
     queues = fits.queues;
@@ -162,7 +161,7 @@ kept_on deployed part sim places known fits is homes seated number calls few = r
   };
   homes = ap (λ (k : Known). length k.setup.homes) is ∙ homes;
   number = number;
-  seated = subst (λ (e : Extent). All (IsSeated e) places) fits.extent seated;
+  seated = subst (λ (e : Extent). All (IsSeated e) (places_in mind sim)) fits.extent seated;
   calls = calls;
   few = few;
   cleared = ap (λ (k : Known). k.records) is;

@@ -1,8 +1,10 @@
 -- The lists that a run begins with.
-use Rattle.std.proofs.Common.{◌≡◌, ◌≢◌, ◌≤◌, length, ◌∙◌, sym, ap, ap₂, subst, refl, ℕ, ◌+◌, List, [], ◌∷◌, map, All, arith}
+use Rattle.std.proofs.Common.{◌≡◌, ◌≢◌, ◌≤◌, length, ◌∙◌, sym, ap, ap₂, subst, refl, ℕ, ◌+◌, List, [], ◌∷◌, All, Option, arith}
 use Rattle.std.specs.Prelude.{vec_capacity}
 use Rattle.std.proofs.lemmas.List.{length-map, length-replicate}
-use Rattle.sg_actor.specs.Seats.{SeatView}
+use Rattle.sg_actor.specs.Seats.{seat_view, seat_views}
+use Rattle.sg_actor.specs.declared.seat.Seat.{Seat}
+use Rattle.sg_base.specs.Mind.{Mind}
 use Rattle.sg_base.specs.declared.call.Answer.TheVariants as answer
 use Rattle.sg_edge.specs.Files.{PartView}
 use Rattle.sg_edge.specs.declared.files.Stage.TheVariants.{Fresh}
@@ -17,7 +19,7 @@ use Rattle.sg_script.specs.Known.{known_in}
 use Rattle.sg_script.specs.Stands.{AreLimited, Stands, kept_of, actors_of}
 use Rattle.sg_script.proofs.AllNeeds.{needed_none}
 use Rattle.sg_engine.specs.declared.simulation.Simulation.{Simulation}
-use Rattle.sg_engine.specs.kept.Invariant.{at_moment, IsFirst, IsKept}
+use Rattle.sg_engine.specs.kept.Invariant.{at_moment, minds_in, places_in, IsFirst, IsKept}
 use Rattle.sg_engine.specs.kept.Moments.{Fits}
 use Rattle.sg_engine.specs.Roles.{first_minds, minds_from}
 use Rattle.sg_engine.specs.kept.SeatRules.{mind_in, minds_of, IsSeated}
@@ -34,7 +36,7 @@ extent_is platform deployed budget =
 actors_are : (platform : Platform) (deployed : Deployed) (budget : ℕ) → length (first_known (capacities_in platform) (setup_of platform deployed budget)).core.actors ≡ length deployed.actors
 actors_are platform deployed budget = length-replicate (length (setup_of platform deployed budget).homes) (Ready answer.Start) ∙ length-map deployed.actors home_of
 
-first_fits : (platform : Platform) (deployed : Deployed) (budget : ℕ) (part : PartView) (sim : Simulation) → sim.kernel ≡ first_known (capacities_in platform) (setup_of platform deployed budget) → actors_of sim.script ≡ length deployed.actors →
+first_fits : {A : Type 0} (platform : Platform) (deployed : Deployed) (budget : ℕ) (part : PartView) (sim : Simulation A) → sim.kernel ≡ first_known (capacities_in platform) (setup_of platform deployed budget) → actors_of sim.script ≡ length deployed.actors →
     part.stage ≢ Fresh → AreLimited (extent_of deployed) (kept_of sim.script) → Fits deployed (at_moment part sim)
 first_fits platform deployed budget part sim new queues begun waiting = record {
   actors = ap (λ (k : Known). length k.core.actors) new ∙ actors_are platform deployed budget;
@@ -44,12 +46,12 @@ first_fits platform deployed budget part sim new queues begun waiting = record {
   waiting = waiting;
 }
 
-first_kept : (platform : Platform) (deployed : Deployed) (budget : ℕ) (part : PartView) (sim : Simulation) (places : List SeatView) → sim.kernel ≡ first_known (capacities_in platform) (setup_of platform deployed budget) → Fits deployed (at_moment part sim) →
-    minds_of places ≡ first_minds deployed → All (IsSeated (extent_of deployed)) places → length deployed.actors ≤ vec_capacity sim.calls → length deployed.actors ≤ 65536 → IsKept deployed part sim places
-first_kept platform deployed budget part sim places new fits minds seated calls few = record {
+first_kept : {A : Type 0} (mind : A → Option Mind) (platform : Platform) (deployed : Deployed) (budget : ℕ) (part : PartView) (sim : Simulation A) → sim.kernel ≡ first_known (capacities_in platform) (setup_of platform deployed budget) → Fits deployed (at_moment part sim) →
+    minds_in mind sim ≡ first_minds deployed → All (IsSeated (extent_of deployed)) (places_in mind sim) → length deployed.actors ≤ vec_capacity sim.calls → length deployed.actors ≤ 65536 → IsKept mind deployed part sim
+first_kept mind platform deployed budget part sim new fits minds seated calls few = record {
   fits = fits;
   homes = ap (λ (k : Known). length k.setup.homes) new ∙ length-map deployed.actors home_of;
-  number = sym (length-map places mind_in) ∙ ap length minds ∙ length-minds_from 1 deployed.actors;
+  number = sym (length-map (places_in mind sim) mind_in ∙ length-map sim.seats.items (seat_view mind)) ∙ ap length minds ∙ length-minds_from 1 deployed.actors;
   seated = seated;
   calls = calls;
   few = few;
@@ -57,18 +59,19 @@ first_kept platform deployed budget part sim places new fits minds seated calls 
 }
 
 -- the simulation at its beginning
-pub is_first : (platform : Platform) (deployed : Deployed) (budget : ℕ) (part : PartView) (sim : Simulation) (places : List SeatView) → sim.kernel ≡ first_known (capacities_in platform) (setup_of platform deployed budget) → actors_of sim.script ≡ length deployed.actors →
+pub is_first : {A : Type 0} (mind : A → Option Mind) (platform : Platform) (deployed : Deployed) (budget : ℕ) (part : PartView) (sim : Simulation A) → sim.kernel ≡ first_known (capacities_in platform) (setup_of platform deployed budget) → actors_of sim.script ≡ length deployed.actors →
     part.stage ≢ Fresh → AreLimited (extent_of deployed) (kept_of sim.script) → Stands (known_in deployed) [] part.stage (λ _. 0) (kept_of sim.script) →
-    minds_of places ≡ first_minds deployed → All (IsSeated (extent_of deployed)) places → length deployed.actors ≤ vec_capacity sim.calls → length deployed.actors ≤ 65536 → sim.buffer ≡ [] → IsFirst platform deployed budget part sim places
-is_first platform deployed budget part sim places new queues begun waiting stands minds seated calls few empty = record {
-  kept = first_kept platform deployed budget part sim places new (first_fits platform deployed budget part sim new queues begun waiting) minds seated calls few;
+    minds_in mind sim ≡ first_minds deployed → All (IsSeated (extent_of deployed)) (places_in mind sim) → length deployed.actors ≤ vec_capacity sim.calls → length deployed.actors ≤ 65536 → sim.buffer ≡ [] → IsFirst mind platform deployed budget part sim
+is_first mind platform deployed budget part sim new queues begun waiting stands minds seated calls few empty = record {
+  kept = first_kept mind platform deployed budget part sim new (first_fits platform deployed budget part sim new queues begun waiting) minds seated calls few;
   setup = ap (λ (k : Known). k.setup) new;
   stands = record { script = record { stands = stands; needed = needed_none (known_in deployed) part.stage (λ _. 0) }; core = ap (λ (k : Known). k.core) new; minds = minds };
   empty = empty;
 }
 
--- the same of the seats, as they are lent
-pub first_as : {S : Type 0} (see : S → SeatView) (seats lent : List S) (platform : Platform) (deployed : Deployed) (budget : ℕ) (part : PartView) (sim : Simulation) → lent ≡ seats →
-    ((part : PartView) (places : List SeatView) → part.stage ≢ Fresh → minds_of places ≡ first_minds deployed → All (IsSeated (extent_of deployed)) places → IsFirst platform deployed budget part sim places) →
-    part.stage ≢ Fresh → minds_of (map see seats) ≡ first_minds deployed → All (IsSeated (extent_of deployed)) (map see seats) → IsFirst platform deployed budget part sim (map see lent)
-first_as {S} see seats lent platform deployed budget part sim same first begun minds seated = subst (λ (l : List S). IsFirst platform deployed budget part sim (map see l)) (sym same) (first part (map see seats) begun minds seated)
+-- the same of a simulation with these seats
+pub first_with : {A : Type 0} (mind : A → Option Mind) (seats : List (Seat A)) (platform : Platform) (deployed : Deployed) (budget : ℕ) (part : PartView) (sim : Simulation A) → sim.seats.items ≡ seats →
+    ((part : PartView) → part.stage ≢ Fresh → minds_in mind sim ≡ first_minds deployed → All (IsSeated (extent_of deployed)) (places_in mind sim) → IsFirst mind platform deployed budget part sim) →
+    part.stage ≢ Fresh → minds_of (seat_views mind seats) ≡ first_minds deployed → All (IsSeated (extent_of deployed)) (seat_views mind seats) → IsFirst mind platform deployed budget part sim
+first_with {A} mind seats platform deployed budget part sim same first begun minds seated =
+    first part begun (ap (λ (l : List (Seat A)). minds_of (seat_views mind l)) same ∙ minds) (subst (λ (l : List (Seat A)). All (IsSeated (extent_of deployed)) (seat_views mind l)) (sym same) seated)

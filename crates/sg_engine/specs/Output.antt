@@ -27,7 +27,7 @@ use Rattle.sg_engine.specs.Roles.{first_minds}
 use Rattle.sg_engine.specs.Run.{Scene, scene, Progress, first_world, run_of}
 use Rattle.sg_engine.specs.World.{World}
 
--- what a run is of
+-- What a run is of: of a platform its hosts, links, network and profiles come with its setup, and its zones and routes with its roads.
 abbrev pub scene_of : Platform → Deployed → Bool → ℕ → Scene
 scene_of platform deployed script budget = scene (roads_of platform) (setup_of platform deployed budget) script
 

@@ -1,4 +1,4 @@
--- A run, for any number of hosts and actors: rounds until nobody is ready, then a pass, and again, until it ends.
+-- A run, for any number of hosts and actors: rounds until nobody is ready, then a pass, with the entries of profiles of its date, and again, until it ends.
 use Rattle.std.specs.Prelude.{ℕ, zero, suc, ◌+◌, ◌==◌, Option, None, Some, option_map, Result, Ok, Err, Bool, true, false, ◌&&◌, if◌then◌else◌, List, [], ◌∷◌, ◌++◌, map}
 use Rattle.std.specs.List.{list_any, list_all}
 use Rattle.sg_base.specs.declared.call.Action.{Action}
@@ -149,7 +149,7 @@ round_or_pass at answers world =
     if anyone_ready world.core then round at answers world
     else in_world (record world { work = world.work + work_of world.core.under }) (pass_of at.setup world.core)
 
--- So many rounds and passes. Each has an event at least or ends the run, so that one more than the budget is enough.
+-- So many rounds and passes. Each has an event at least (a call, an entry of a profile, the end of a phase) or ends the run, so that one more than the budget is enough.
 unfoldable pub run_from : ℕ → Scene → Answering → World → Progress
 run_from zero at answers world = at_world (Some ended.Budget) world
 run_from (suc n) at answers world =

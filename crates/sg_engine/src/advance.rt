@@ -1,6 +1,5 @@
 //! One part of a run, with its lines.
 ghost use Rattle.std.specs.Prelude.{◌≡◌, ◌+◌, ◌≤◌};
-ghost use Rattle.sg_actor.specs.Seats.{seat_views};
 ghost use Rattle.sg_engine.specs.kept.Moments.{ReadsScript};
 ghost use Rattle.sg_engine.specs.kept.Writing.{EndsForMemory};
 ghost use Rattle.sg_engine.specs.kept.Invariant.{snapshot_of, CanAdvance, IsCaused, LeadsPart, StaysKept};
@@ -8,11 +7,11 @@ ghost use Rattle.sg_engine.specs.Run.{next_work};
 
 use crate::buffer::Buffer;
 use crate::ended::Ended;
-use crate::plan::Plan;
+use crate::plan::Engine;
 use crate::printing::put_trace;
 use crate::rounds::round_or_pass;
 use crate::simulation::Simulation;
-use sg_actor::{Actor, Seat};
+use sg_actor::Actor;
 use sg_base::{Memory, Steps};
 use sg_edge::{Failed, Files, Part, Sinks, Stream};
 use sg_route::Router;
@@ -34,39 +33,36 @@ fn end_for_memory<O: Sinks>(buffer: &mut Buffer, out: &mut O) -> Ended
 /// Makes a round, or a pass where nobody is ready, and puts the lines of its records into the buffer. The answer is how
 /// the run ended, if it did. Where memory is wanting, the lines that wait are written.
 pub fn advance<R: Threads + Sync, F: Files, O: Sinks, L: Ledger>(
-    rt: &R,
-    plan: &Plan<'_>,
+    engine: &Engine<'_, '_, R>,
     router: &mut Router,
     sim: &mut Simulation,
-    seats: &mut [Seat],
     files: &mut F,
     out: &mut O,
     steps: &mut Steps<L>,
 ) -> Option<Ended>
-    requires going { CanAdvance plan.now (F.shows files.old) router.old sim.old
-        (seat_views (λ b. mind b) seats.old) }
+    requires going { CanAdvance (λ b. mind b) engine.now.plan (F.shows files.old) router.old
+        sim.old }
     requires sound { O.faults out.old ≡ 0 }
-    ensures part { LeadsPart plan.now router.old result
-        (snapshot_of plan.now (F.shows files.old) (O.contents out.old) sim.old
-        (seat_views (λ b. mind b) seats.old))
-        (snapshot_of plan.now (F.shows files.new) (O.contents out.new) sim.new
-        (seat_views (λ b. mind b) seats.new)) }
-    ensures kept { StaysKept plan.now result (F.shows files.new) sim.old sim.new
-        (seat_views (λ b. mind b) seats.new) }
-    ensures cause { IsCaused plan.now result (F.shows files.new) (O.faults out.new) }
-    ensures script { ReadsScript F.shows plan.now.script files.old files.new }
+    ensures part { LeadsPart engine.now.plan router.old result
+        (snapshot_of (λ b. mind b) engine.now.plan (F.shows files.old) (O.contents out.old) sim.old)
+        (snapshot_of (λ b. mind b) engine.now.plan (F.shows files.new) (O.contents out.new)
+        sim.new) }
+    ensures kept { StaysKept (λ b. mind b) engine.now.plan result (F.shows files.new) sim.old
+        sim.new }
+    ensures cause { IsCaused engine.now.plan result (F.shows files.new) (O.faults out.new) }
+    ensures script { ReadsScript F.shows engine.now.plan.script files.old files.new }
     ensures steps { steps.new ≤ steps.old + next_work sim.old.kernel.core }
     ensures router { router.new ≡ router.old }
 {
-    match sim.kernel.reserve_round(seats.len()) {
+    match sim.kernel.reserve_round(sim.seats.len()) {
         Ok(()) => {}
         Err(Memory) => return Some(end_for_memory(&mut sim.buffer, out)),
     }
-    let how = match round_or_pass(rt, plan, router, sim, seats, files, steps) {
+    let how = match round_or_pass(engine, router, sim, files, steps) {
         Ok(how) => how,
         Err(Memory) => return Some(end_for_memory(&mut sim.buffer, out)),
     };
-    match put_trace(plan, sim.kernel.records(), &mut sim.buffer, out) {
+    match put_trace(&engine.plan, sim.kernel.records(), &mut sim.buffer, out) {
         Ok(()) => {}
         Err(Failed) => return Some(Ended::WriteFault),
     }

@@ -25,3 +25,10 @@ pub struct Plan<'a> {
     pub terms: Terms,
     ghost deployed: { IsDeployedOn platform.now deployment.now },
 }
+
+/// What a plan is carried out by: with it the threads on which actors take their turns.
+#[derive(Drop)]
+pub struct Engine<'t, 'p, R> {
+    pub rt: &'t R,
+    pub plan: Plan<'p>,
+}

@@ -9,7 +9,7 @@ use sg_kernel::roads_are_over;
 use sg_route::Router;
 use sg_rows::{Deployment, PlatformText};
 
-/// A platform, the actors that are deployed on it, the routes between its hosts, and whether there is a script.
+/// A platform with its profiles, the actors that are deployed on it, the routes between its hosts, and whether there is a script.
 #[derive(Drop)]
 pub struct Setup {
     pub platform: PlatformText,

@@ -1,13 +1,15 @@
 //! What a run works with.
 use crate::actor_call::ActorCall;
 use crate::buffer::Buffer;
+use sg_actor::{Actor, Seat};
 use sg_kernel::Kernel;
 use sg_script::Script;
 
-/// The kernel, the script's reader, the calls that aren't answered yet, and the lines that aren't written yet. The
-/// actors sit beside it.
+/// The seats of all actors, the kernel, the script's reader, the calls that aren't answered yet, and the lines that
+/// aren't written yet.
 #[derive(Drop)]
-pub struct Simulation {
+pub struct Simulation<A = Box<dyn Actor + Send>> {
+    pub seats: Vec<Seat<A>>,
     pub kernel: Kernel,
     pub script: Script,
     pub calls: Vec<ActorCall>,

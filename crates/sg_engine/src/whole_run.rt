@@ -1,10 +1,9 @@
 //! The whole run.
 ghost use Rattle.std.specs.Prelude.{◌≡◌, ◌≢◌, ◌+◌, ◌<◌, ◌≤◌, ⊤, drop, IsTrue, MatchBool};
-ghost use Rattle.sg_actor.specs.Seats.{seat_views};
 ghost use Rattle.sg_edge.specs.declared.files.Stage.TheVariants.{Fresh, Broken};
 ghost use Rattle.sg_edge.specs.Cause.{HasCause};
 ghost use Rattle.sg_engine.specs.RunContract.{is_cut as is_cut_spec, ForSources, HasContexts, IsRun, IsRunCause, StandsAsBefore, TakesScript, output_of};
-ghost use Rattle.sg_engine.specs.kept.Invariant.{IsBeginning, IsKept};
+ghost use Rattle.sg_engine.specs.kept.Invariant.{Holds, IsBeginning};
 ghost use Rattle.sg_engine.specs.Output.{contexts_of};
 ghost use Rattle.sg_engine.specs.kept.Moments.{script_in, ReadsScript};
 ghost use Rattle.sg_engine.specs.kept.Stretches.{HasRun, planned_output};
@@ -12,13 +11,13 @@ ghost use Rattle.sg_engine.specs.kept.Stretches.{HasRun, planned_output};
 use crate::advance::advance;
 use crate::ended::Ended;
 use crate::finish::finish;
-use crate::plan::{Plan, Terms};
+use crate::plan::{Engine, Plan, Terms};
 use crate::seating::seat_all;
 use crate::setup::Setup;
 use crate::show::Show;
 use crate::simulation::Simulation;
 use crate::start::start;
-use sg_actor::{Actor, Seat};
+use sg_actor::Actor;
 use sg_base::{Memory, Steps};
 use sg_edge::{Files, Part, Sinks, Stream};
 use sg_route::Router;
@@ -28,35 +27,33 @@ use std::thread::Threads;
 
 // Simulates to the end of the run. The trace lines are written or wait in the buffer, where the run wasn't cut off.
 fn simulate<R: Threads + Sync, F: Files, O: Sinks, L: Ledger>(
-    rt: &R,
-    plan: &Plan<'_>,
+    engine: &Engine<'_, '_, R>,
     router: &mut Router,
     sim: &mut Simulation,
-    seats: &mut [Seat],
     files: &mut F,
     out: &mut O,
     steps: &mut Steps<L>,
 ) -> Ended
-    requires beginning { IsBeginning plan.now (F.shows files.old) router.old sim.old
-        (seat_views (λ b. mind b) seats.old) }
+    requires beginning { IsBeginning (λ b. mind b) engine.now.plan (F.shows files.old) router.old
+        sim.old }
     requires sound { O.faults out.old ≡ 0 }
-    ensures run { HasRun plan.now result sim.new steps.old steps.new
-        (script_in plan.now (F.shows files.old))
-        (script_in plan.now (F.shows files.new))
+    ensures run { HasRun engine.now.plan result sim.new steps.old steps.new
+        (script_in engine.now.plan (F.shows files.old))
+        (script_in engine.now.plan (F.shows files.new))
         (O.contents out.old Stream.Out) (O.contents out.new Stream.Out) }
-    ensures kept { MatchBool (is_cut_spec result) ⊤ (IsKept plan.now.deployment.now
-        (script_in plan.now (F.shows files.new)) sim.new (seat_views (λ b. mind b) seats.new)) }
+    ensures kept { MatchBool (is_cut_spec result) ⊤
+        (Holds (λ b. mind b) engine.now.plan (F.shows files.new) sim.new) }
     ensures err { O.contents out.new Stream.Err ≡ O.contents out.old Stream.Err }
     ensures cause { HasCause (result ≡ Ended.WriteFault) (result ≡ Ended.ReadFault)
-        (O.faults out.new) ((script_in plan.now (F.shows files.new)).stage ≡ Broken) }
-    ensures script { ReadsScript F.shows plan.now.script files.old files.new }
+        (O.faults out.new) ((script_in engine.now.plan (F.shows files.new)).stage ≡ Broken) }
+    ensures script { ReadsScript F.shows engine.now.plan.script files.old files.new }
     ensures router { router.new ≡ router.old }
 {
-    for _turn in 0..plan.terms.budget + 1 {
+    for _turn in 0..engine.plan.terms.budget + 1 {
         if sim.kernel.ending() {
             return Ended::Completed;
         }
-        match advance(rt, plan, router, sim, seats, files, out, steps) {
+        match advance(engine, router, sim, files, out, steps) {
             None => {}
             Some(how) => return how,
         }
@@ -82,32 +79,30 @@ fn is_cut(how: Ended) -> bool
 
 // Simulates, and writes the last lines of a run that wasn't cut off.
 fn run_from<R: Threads + Sync, F: Files, O: Sinks, L: Ledger>(
-    rt: &R,
-    plan: &Plan<'_>,
+    engine: &Engine<'_, '_, R>,
     router: &mut Router,
     sim: &mut Simulation,
-    seats: &mut [Seat],
     files: &mut F,
     out: &mut O,
     steps: &mut Steps<L>,
 ) -> Ended
-    requires beginning { IsBeginning plan.now (F.shows files.old) router.old sim.old
-        (seat_views (λ b. mind b) seats.old) }
+    requires beginning { IsBeginning (λ b. mind b) engine.now.plan (F.shows files.old) router.old
+        sim.old }
     requires sound { O.faults out.old ≡ 0 }
-    ensures output { ForSources plan.now.script (F.shows files.old) (F.shows files.new)
-        (λ source. IsRun (planned_output plan.now source) result (O.contents out.old)
+    ensures output { ForSources engine.now.plan.script (F.shows files.old) (F.shows files.new)
+        (λ source. IsRun (planned_output engine.now.plan source) result (O.contents out.old)
         (O.contents out.new) steps.old steps.new (F.shows files.old) (F.shows files.new)) }
     ensures cause { IsRunCause result (O.faults out.new) (F.shows files.old) (F.shows files.new) }
     ensures memory { result ≡ Ended.Memory →
         O.contents out.new Stream.Err ≡ O.contents out.old Stream.Err }
-    ensures script { TakesScript F.shows plan.now.script files.old files.new }
+    ensures script { TakesScript F.shows engine.now.plan.script files.old files.new }
     ensures router { router.new ≡ router.old }
 {
-    let how = simulate(rt, plan, router, sim, seats, files, out, steps);
+    let how = simulate(engine, router, sim, files, out, steps);
     if is_cut(how) {
         how
     } else {
-        finish(plan, sim, how, out)
+        finish(&engine.plan, sim, how, out)
     }
 }
 
@@ -159,15 +154,15 @@ pub fn run<R: Threads + Sync, F: Files, O: Sinks, L: Ledger>(
             show,
         },
     };
-    let mut seats = match seat_all(alloc, crew, plan.deployment) {
+    let seats = match seat_all(alloc, crew, plan.deployment) {
         Ok(seats) => seats,
         Err(Memory) => return Ended::Memory,
     };
-    match start(alloc, &plan) {
+    match start(alloc, &plan, seats) {
         Ok(mut sim) => {
-            let seats = seats.as_mut_slice();
+            let engine = Engine { rt, plan };
             let router = &mut setup.router;
-            run_from(rt, &plan, router, &mut sim, seats, files, out, steps)
+            run_from(&engine, router, &mut sim, files, out, steps)
         }
         Err(Memory) => Ended::Memory,
     }

@@ -126,6 +126,7 @@ impl Case {
                 self.platform.clear();
                 push_text(alloc, &mut self.platform, text)?;
             }
+            "with" => push_line(alloc, &mut self.platform, text)?,
             "deployment" => {
                 self.deployment.clear();
                 push_text(alloc, &mut self.deployment, text)?;

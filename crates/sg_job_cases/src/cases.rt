@@ -7,10 +7,10 @@ use std::test::Fail;
 /// Does the job of each case of a table, and fails where one comes to something else than what is wanted; the failure
 /// tells its words and its number in the table.
 ///
-/// A line is `KEY TEXT`. `job WORDS` and `over PLATFORM DEPLOYMENT` (by the names of texts), `platform TEXT`,
-/// `deployment TEXT`, `crew KIND NUMBER` and `meeting NUMBER WANTED TURN` stay for the cases below them; all other lines
-/// are of one case, which `ends STATUS` ends: `script LINE`, `lines TIMES LINE`, `unended TEXT`, what is written by
-/// `out LINE`, `front TEXT`, `back LINE` and `err LINE`, and what else [`Case`] has.
+/// A line is `KEY TEXT`. `job WORDS` and `over PLATFORM DEPLOYMENT` (by the names of texts), `platform TEXT`, `with LINE`
+/// behind it, `deployment TEXT`, `crew KIND NUMBER` and `meeting NUMBER WANTED TURN` stay for the cases below them; all
+/// other lines are of one case, which `ends STATUS` ends: `script LINE`, `lines TIMES LINE`, `unended TEXT`, what is
+/// written by `out LINE`, `front TEXT`, `back LINE` and `err LINE`, and what else [`Case`] has.
 pub fn hold<F: Fn(Global, &Case) -> Result<Done, Fail>>(
     alloc: Global,
     table: &str,

@@ -13,6 +13,8 @@ mod faults;
 mod jobs;
 mod limits;
 mod literal;
+mod outages;
+mod profiles;
 mod runs;
 mod texts;
 
@@ -26,4 +28,6 @@ pub use failures::{EACH_FAILURE, FAILURES};
 pub use faults::FAULTS;
 pub use jobs::{JOBS, MEETINGS};
 pub use limits::{LIMITS, LONG};
+pub use outages::OUTAGES;
+pub use profiles::PROFILES;
 pub use runs::{BY_HAND, COMPUTATIONS, RUNS};

@@ -20,6 +20,11 @@ route = [{src = 'h1', dst = 'h2', links = ['l']}]
 network = [{latency_factor = '13.01', bandwidth_factor = '0.97', window = '4194304'}]
 ";
 
+/// One host of two cores.
+const DUAL: &str = "zone = [{id = 'z', routing = 'Full'}]
+host = [{id = 'h1', zone = 'z', speed = '1Gf', core = 2}]
+";
+
 /// One host of 10 flops a second.
 const SLOW: &str = "zone = [{id = 'z', routing = 'Full'}]
 host = [{id = 'h1', zone = 'z', speed = '10f'}]
@@ -59,6 +64,21 @@ const PIPE: &str = "zone = [{id = 'z', routing = 'Full'}]
 host = [{id = 'h1', zone = 'z', speed = '1Gf'}, {id = 'h2', zone = 'z', speed = '1Gf'}]
 link = [{id = 'l', bandwidth = '1MBps', latency = '10ms', sharing_policy = 'FATPIPE'}]
 route = [{src = 'h1', dst = 'h2', links = ['l']}]
+";
+
+/// As [`LINE`], with a link that has a bandwidth for each way.
+const DUPLEX: &str = "zone = [{id = 'z', routing = 'Full'}]
+host = [{id = 'h1', zone = 'z', speed = '1Gf'}, {id = 'h2', zone = 'z', speed = '1Gf'}]
+link = [{id = 'l', bandwidth = '1MBps', latency = '10ms', sharing_policy = 'SPLITDUPLEX'}]
+route = [{src = 'h1', dst = 'h2', links = ['l_UP']}]
+";
+
+/// As [`LINE`], with no latency, and the greatest factor of bandwidths.
+const WIDEST: &str = "zone = [{id = 'z', routing = 'Full'}]
+host = [{id = 'h1', zone = 'z', speed = '1Gf'}, {id = 'h2', zone = 'z', speed = '1Gf'}]
+link = [{id = 'l', bandwidth = '1MBps'}]
+route = [{src = 'h1', dst = 'h2', links = ['l']}]
+network = [{bandwidth_factor = '1000'}]
 ";
 
 /// Three hosts in a line of two links.
@@ -287,6 +307,7 @@ pub fn text_named(name: &str) -> &'static str {
         "FAST" => FAST,
         "LINE" => LINE,
         "MEASURED" => MEASURED,
+        "DUAL" => DUAL,
         "SLOW" => SLOW,
         "SLOWEST" => SLOWEST,
         "SLOW_LINE" => SLOW_LINE,
@@ -294,6 +315,8 @@ pub fn text_named(name: &str) -> &'static str {
         "SLOWER_LINK" => SLOWER_LINK,
         "ONE_WAY" => ONE_WAY,
         "PIPE" => PIPE,
+        "DUPLEX" => DUPLEX,
+        "WIDEST" => WIDEST,
         "TWO_LINKS" => TWO_LINKS,
         "TWO_ZONES" => TWO_ZONES,
         "FOREIGN_GATEWAY" => FOREIGN_GATEWAY,

@@ -1,5 +1,5 @@
 -- Calls that are sides of communications, and others.
-use Rattle.std.proofs.Common.{◌≡◌, ℕ, true, false, Option, None, Some, refl, sym, ap, subst, arith}
+use Rattle.std.proofs.Common.{◌≡◌, ℕ, Bool, true, false, cond, Option, None, Some, refl, sym, ap, subst, arith}
 use Rattle.sg_base.specs.declared.call.Answer.{Answer}
 use Rattle.sg_base.specs.declared.call.Call.{Call}
 use Rattle.sg_base.specs.declared.call.Call.TheVariants as call
@@ -9,11 +9,13 @@ use Rattle.sg_requests.specs.Requested.{oldest, queue_at, taken}
 use Rattle.sg_route.specs.Roads.{Roads}
 use Rattle.sg_sync.specs.Objects.{Done, locked, unlocked, acquired, released, arrived}
 use Rattle.sg_kernel.specs.declared.meetings.Comer.{Comer}
-use Rattle.sg_kernel.specs.World.{Setup, Core, whose_at}
-use Rattle.sg_kernel.specs.Steps.{counted}
-use Rattle.sg_kernel.specs.Meetings.{comer_of, side_of, sends_by, receives_by, answer_of_over, waits_by, waits_until}
+use Rattle.sg_activity.specs.Links.{is_off}
+use Rattle.sg_kernel.specs.World.{Setup, Core, host_of, whose_at}
+use Rattle.sg_kernel.specs.Steps.{Step, counted}
+use Rattle.sg_kernel.specs.Answers.{side_of}
+use Rattle.sg_kernel.specs.Meetings.{comer_of, sends_by, receives_by, answer_of_over, waits_by, waits_until}
 use Rattle.sg_kernel.specs.Locks.{caller_gets, all_wake, caller_first, caller_last, with_objects}
-use Rattle.sg_kernel.specs.Calls.{answered_call, actor_of}
+use Rattle.sg_kernel.specs.Calls.{answered_call, actor_of, computes}
 use Rattle.sg_kernel.specs.kept.Sound.{IsComer}
 use Rattle.sg_kernel.proofs.Each.{both_on}
 use Rattle.sg_kernel.proofs.Woken.{all_on, caller_goes}
@@ -79,9 +81,16 @@ waits_goes : (found : Option Await) (actor : ℕ) (core : Core) → (waits_by fo
 waits_goes None actor core = refl
 waits_goes (Some on) actor core = waits_on (answer_of_over (whose_at core on.serial.0)) actor on (record core { requests = taken core.requests actor })
 
+computes_goes : (setup : Setup) (actor flops priority : ℕ) (core : Core) → (computes setup actor flops priority core).stop ≡ None
+computes_goes setup actor flops priority core = cases (is_off core.under.on.hosts (host_of setup actor)) _ _ refl refl
+  where
+    cases : (b : Bool) (one other : Step) → one.stop ≡ None → other.stop ≡ None → (cond b one other).stop ≡ None
+    cases true one other e f = e
+    cases false one other e f = f
+
 pub alone_goes : (roads : Roads) (setup : Setup) (core : Core) (actor : ℕ) (what : Call) → comer_of actor what ≡ None → (answered_call roads setup core actor what).stop ≡ None
 alone_goes roads setup core actor call.Ask e = refl
-alone_goes roads setup core actor (call.Compute n p) e = refl
+alone_goes roads setup core actor (call.Compute n p) e = computes_goes setup actor n p (counted core)
 alone_goes roads setup core actor (call.Sleep n) e = refl
 alone_goes roads setup core actor (call.Send b n m r) e = absurd (cc e)
 alone_goes roads setup core actor (call.Recv b) e = absurd (cc e)

@@ -17,6 +17,7 @@ use Rattle.sg_kernel.specs.kept.Owners.{Owned}
 use Rattle.sg_kernel.specs.kept.Sound.{setup_in, AreHeld, IsOwner, IsSound}
 use Rattle.sg_kernel.specs.kept.Whole.{IsWholeFor}
 use Rattle.sg_kernel.proofs.PostsKept.{meeting_more}
+use Rattle.sg_kernel.proofs.Timely.{IsTimelyAt}
 
 -- with other activities, owners and mailboxes
 pub sound_with : (fields : Fields) (doing : Doing) (whose : Owned) (boxes : Posts) → length whose.whose ≡ length doing.under.tasks → length doing.under.tasks ≤ fields.events → doing.under.capacities ≡ fields.doing.under.capacities → IsSound fields → IsSound (record fields { doing = doing; whose = whose; boxes = boxes })
@@ -51,6 +52,7 @@ whole_begun fields room actor task doing whose is fresh begun owned was =
       sound = sound_with fields doing whose fields.boxes (omega (arith, long, many, was.sound.numbered)) (omega (arith, long, fresh)) (ap (λ (d : Doing). d.under.capacities) begun) was.sound;
       roomy = record { starts = omega (arith, was.roomy.starts, ap (λ (d : Doing). d.room) begun); owners = omega (arith, was.roomy.owners, ap (λ (o : Owned). o.room) owned); mailboxes = omega (arith, was.roomy.mailboxes); requests = omega (arith, was.roomy.requests) };
       dated = omega (arith, was.dated, ap (λ (d : Doing). d.under.date) begun);
+      timely = subst (IsTimelyAt fields) (sym (ap (λ (d : Doing). d.under.date) begun)) was.timely;
       limited = subst (All (IsOwner e)) (sym owners) (All-push (IsOwner e) fields.whose.whose (Alone actor) was.limited is);
       meeting = meeting_more fields whose doing actor task was.sound.numbered owners tasks was.meeting;
       held = held_with fields doing whose fields.boxes was.held;

@@ -1,5 +1,5 @@
 -- Phases end one after another.
-use Rattle.std.proofs.Common.{◌≡◌, ◌≢◌, ℕ, Bool, true, false, cond, Option, None, Some, List, [], ◌∷◌, refl, sym, ap, ◌∙◌, append-nil}
+use Rattle.std.proofs.Common.{◌≡◌, ◌≢◌, ℕ, Bool, true, false, cond, Option, None, Some, List, [], ◌∷◌, refl, sym, ap, ◌∙◌}
 use Rattle.sg_activity.specs.Task.{Task, phase_after, task_at}
 use Rattle.sg_mailbox.specs.declared.sides.Side.{Side}
 use Rattle.sg_base.specs.declared.awaits.Party.{Party}
@@ -11,11 +11,11 @@ use Rattle.sg_kernel.specs.declared.owners.Whose.TheVariants.{Over, Alone, Poste
 use Rattle.sg_kernel.specs.declared.stop.Stop.TheVariants.{Budget}
 use Rattle.sg_kernel.specs.World.{Setup, Core, state_of, whose_at}
 use Rattle.sg_states.specs.Actors.{Blocking, blocking_in}
-use Rattle.sg_kernel.specs.Steps.{Step, stops, counted, each}
-use Rattle.sg_kernel.specs.Meetings.{bare_side}
-use Rattle.sg_kernel.specs.Passes.{is_on, for_receiver, answers_by, answers_side, answers, with_over, ends_in, ends_one, ends_by, ends}
+use Rattle.sg_kernel.specs.Steps.{Step, stops, counted}
+use Rattle.sg_kernel.specs.Answers.{answers, answers_by, answers_side, bare_side, for_receiver, is_on, with_over}
+use Rattle.sg_kernel.specs.Passes.{ends_in, ends_one, ends_by, ends, fails, fails_one}
 use Rattle.sg_kernel.specs.Known.{Known, after}
-use Rattle.sg_kernel.proofs.Each.{eq_no, eq_yes, then_after, both_on, still, still_stops, still_one, stops_one, each_stops}
+use Rattle.sg_kernel.proofs.Each.{eq_no, eq_yes, then_after, both_on, still, still_stops, still_next, still_used_up}
 
 -- ---- a phase end goes on
 answers_by_goes : (over : How) (serial : ℕ) (side : Party) (given : Side) (blocking : Option Blocking) (core : Core) → (answers_by over serial side given blocking core).stop ≡ None
@@ -26,7 +26,7 @@ answers_by_goes over serial side given (Some blocking) core = cases (is_on seria
     cases true one other e f = e
     cases false one other e f = f
 
-answers_side_goes : (over : How) (serial : ℕ) (side : Party) (given : Side) (core : Core) → (answers_side over serial side given core).stop ≡ None
+pub answers_side_goes : (over : How) (serial : ℕ) (side : Party) (given : Side) (core : Core) → (answers_side over serial side given core).stop ≡ None
 answers_side_goes over serial side given core = answers_by_goes over serial side given (blocking_in (state_of core given.actor.0)) core
 
 -- a communication's two sides are answered one after another
@@ -64,22 +64,33 @@ ends_goes : (setup : Setup) (serial : ℕ) (task : Task) (core : Core) → task_
 ends_goes setup serial task core at go =
     ap (λ (s : Step). s.stop) (ends_is setup serial task core at go) ∙ ends_goes_in serial (phase_after (task_at core.under.tasks serial)) (counted core)
 
+-- ---- a failure goes on, unless the budget is used up
+fails_is : (setup : Setup) (serial : ℕ) (core : Core) → core.events ≢ setup.budget → fails setup serial core ≡ fails_one serial core
+fails_is setup serial core go = ap (λ b. cond b (stops core [] Budget) (fails_one serial core)) (eq_no core.events setup.budget go)
+
+fails_used : (setup : Setup) (serial : ℕ) (core : Core) → core.events ≡ setup.budget → fails setup serial core ≡ stops core [] Budget
+fails_used setup serial core used = ap (λ b. cond b (stops core [] Budget) (fails_one serial core)) (eq_yes core.events setup.budget used)
+
+fails_goes : (serial : ℕ) (core : Core) → (fails_one serial core).stop ≡ None
+fails_goes serial core = answers_goes how.Failed serial (whose_at (counted core) serial) (with_over how.Failed serial (counted core))
+
+pub still_fails : (setup : Setup) (serial : ℕ) (left : List ℕ) (known next : Known) → known.core.events ≢ setup.budget → next ≡ after (fails_one serial known.core) known →
+    (still (fails setup) left next ≡ still (fails setup) (serial ∷ left) known) × (still_stops (fails setup) left next ≡ still_stops (fails setup) (serial ∷ left) known)
+still_fails setup serial left known next go is =
+    let one = fails_is setup serial known.core go in
+    still_next (fails setup) serial left known next (is ∙ ap (λ s. after s known) (sym one)) (ap (λ (s : Step). s.stop) one ∙ fails_goes serial known.core)
+
+pub still_unfailed : (setup : Setup) (serial : ℕ) (left : List ℕ) (known : Known) → known.core.events ≡ setup.budget →
+    (still (fails setup) (serial ∷ left) known ≡ known) × (still_stops (fails setup) (serial ∷ left) known ≡ Some Budget)
+still_unfailed setup serial left known used = still_used_up (fails setup) serial left known (fails_used setup serial known.core used)
+
 -- ---- one phase end, and then the others
 pub still_ends : (setup : Setup) (serial : ℕ) (task : Task) (left : List ℕ) (known next : Known) → task_at known.core.under.tasks serial ≡ Some task → known.core.events ≢ setup.budget → next ≡ after (ends_one serial known.core) known →
     (still (ends setup) left next ≡ still (ends setup) (serial ∷ left) known) × (still_stops (ends setup) left next ≡ still_stops (ends setup) (serial ∷ left) known)
 still_ends setup serial task left known next at go is =
-    let one : next ≡ after (ends setup serial known.core) known = is ∙ ap (λ s. after s known) (sym (ends_is setup serial task known.core at go)) in
-    let on = ends_goes setup serial task known.core at go in (
-      ap (still (ends setup) left) one ∙ still_one (ends setup) serial left known on,
-      ap (still_stops (ends setup) left) one ∙ stops_one (ends setup) serial left known on,
-    )
+    still_next (ends setup) serial left known next (is ∙ ap (λ s. after s known) (sym (ends_is setup serial task known.core at go))) (ends_goes setup serial task known.core at go)
 
 pub still_used : (setup : Setup) (serial : ℕ) (task : Task) (left : List ℕ) (known : Known) → task_at known.core.under.tasks serial ≡ Some task → known.core.events ≡ setup.budget →
     (still (ends setup) (serial ∷ left) known ≡ known) × (still_stops (ends setup) (serial ∷ left) known ≡ Some Budget)
 still_used setup serial task left known at used =
-    let stopped = ends_used setup serial task known.core at used in
-    let all : each (ends setup) (serial ∷ left) known.core ≡ stops known.core [] Budget = each_stops (ends setup) serial left known.core Budget (ap (λ (s : Step). s.stop) stopped) ∙ stopped in
-    (ap (λ s. after s known) all ∙ append_none known, ap (λ (s : Step). s.stop) all)
-  where
-    append_none : (known : Known) → after (stops known.core [] Budget) known ≡ known
-    append_none known = ap (λ r. record known { records = r }) (append-nil known.records)
+    still_used_up (ends setup) serial left known (ends_used setup serial task known.core at used)

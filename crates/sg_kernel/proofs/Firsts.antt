@@ -13,10 +13,12 @@ use Rattle.sg_base.specs.Limits.{Extent}
 use Rattle.sg_activity.specs.Doing.{Doing, idle_on}
 use Rattle.sg_activity.specs.Links.{IsLink}
 use Rattle.sg_mailbox.specs.Posts.{waiting}
+use Rattle.sg_profile.specs.Profiles.{AreProfiles, Timetable, first_table, profiles_in}
+use Rattle.sg_profile.proofs.Ahead.{ahead_at_first}
 use Rattle.sg_rows.specs.Deployment.{Deployed, IsDeployment, IsDeployedOn}
 use Rattle.sg_rows.specs.Ends.{link_ends}
 use Rattle.sg_rows.specs.Network.{IsNetwork, bandwidth_over}
-use Rattle.sg_rows.specs.Platform.{Platform, IsLinkRow}
+use Rattle.sg_rows.specs.Platform.{Platform, IsLinkRow, counts_of}
 use Rattle.sg_rows.specs.declared.network.Network.{Network}
 use Rattle.sg_rows.specs.declared.rows.ActorRow.{ActorRow}
 use Rattle.sg_rows.specs.declared.rows.LinkRow.{LinkRow}
@@ -35,7 +37,7 @@ use Rattle.sg_kernel.specs.Meetings.{posts_from}
 use Rattle.sg_kernel.specs.kept.Owners.{Owned}
 use Rattle.sg_kernel.specs.Start.{host_cap, link_cap, caps_in, caps_of, link_caps, home_of, capacity_of, replays, capacities_in, setup_of, first_objects}
 use Rattle.sg_kernel.specs.World.{extent}
-use Rattle.sg_kernel.specs.kept.Sound.{point_number, IsSound, HasRoom, known_of, setup_in, IsMade, IsOwner, AreMeeting, AreHeld, AreLimited}
+use Rattle.sg_kernel.specs.kept.Sound.{point_number, IsSound, HasRoom, known_of, setup_in, IsMade, IsOwner, IsTimely, IsTimetable, AreMeeting, AreHeld, AreLimited}
 use Rattle.sg_states.specs.States.{ActorStates}
 use Rattle.sg_kernel.proofs.Over.{links_count}
 
@@ -83,16 +85,17 @@ pub record IsFirst (platform : Platform) (deployed : Deployed) (fields : Fields)
   pub hosts : fields.hosts ≡ length (map host_cap platform.hosts)
   pub links : fields.links ≡ length (link_caps platform.network platform.links)
   pub network : fields.network ≡ platform.network
+  pub profiles : fields.profiles ≡ first_table (profiles_in platform)
   pub homes : fields.homes.items ≡ map (λ (actor : ActorRow). actor.host) deployed.actors
   pub mutexes : fields.mutexes ≡ length deployed.mutexes
   pub semaphores : fields.semaphores.items ≡ map capacity_of deployed.semaphores
   pub members : fields.members ≡ count_by replays deployed.actors
   pub events : fields.events ≡ 0
 
-abbrev made_of : Doing → ActorStates → List Whose → List (List Await) → Objects → ℕ → ℕ → Network → List ℕ → ℕ → List ℕ → ℕ → ℕ → ℕ → Known
-made_of doing states whose queues objects hosts links network homes mutexes semaphores members budget events = record {
-  setup = record { hosts = hosts; links = links; network = network; homes = homes; mutexes = mutexes; semaphores = semaphores; members = members; budget = budget };
-  core = record { under = doing.under; actors = states.actors; whose = whose; requests = queues; objects = objects; events = events };
+abbrev made_of : Doing → ActorStates → List Whose → List (List Await) → Objects → ℕ → ℕ → Network → Timetable → List ℕ → ℕ → List ℕ → ℕ → ℕ → ℕ → Known
+made_of doing states whose queues objects hosts links network table homes mutexes semaphores members budget events = record {
+  setup = record { hosts = hosts; links = links; network = network; profiles = table.profiles; homes = homes; mutexes = mutexes; semaphores = semaphores; members = members; budget = budget };
+  core = record { under = doing.under; turns = table.turns; actors = states.actors; whose = whose; requests = queues; objects = objects; events = events };
   records = states.records;
   room = states.room;
 }
@@ -117,19 +120,21 @@ first_is platform deployed fields is =
     let x = length platform.hosts in
     let y = length (link_ends platform.links) in
     let w = platform.network in
-    ap (λ v. made_of v p.states p.whose.whose p.requests.queues p.objects p.hosts p.links p.network (map point_number p.homes.items) p.mutexes p.semaphores.items p.members b p.events) is.doing
-    ∙ ap (λ v. made_of d v p.whose.whose p.requests.queues p.objects p.hosts p.links p.network (map point_number p.homes.items) p.mutexes p.semaphores.items p.members b p.events) (is.states ∙ ap (λ k. first_states k (length deployed.mutexes) (length deployed.semaphores)) n)
-    ∙ ap (λ (v : Owned). made_of d s v.whose p.requests.queues p.objects p.hosts p.links p.network (map point_number p.homes.items) p.mutexes p.semaphores.items p.members b p.events) is.whose
-    ∙ ap (λ v. made_of d s [] v p.objects p.hosts p.links p.network (map point_number p.homes.items) p.mutexes p.semaphores.items p.members b p.events) (ap (λ (q : Requested). q.queues) is.requests ∙ ap (λ k. replicate k []) n)
-    ∙ ap (λ v. made_of d s [] r v p.hosts p.links p.network (map point_number p.homes.items) p.mutexes p.semaphores.items p.members b p.events) is.objects
-    ∙ ap (λ v. made_of d s [] r o v p.links p.network (map point_number p.homes.items) p.mutexes p.semaphores.items p.members b p.events) (is.hosts ∙ length-map platform.hosts host_cap)
-    ∙ ap (λ v. made_of d s [] r o x v p.network (map point_number p.homes.items) p.mutexes p.semaphores.items p.members b p.events) (is.links ∙ sym (links_count platform.network platform.links))
-    ∙ ap (λ v. made_of d s [] r o x y v (map point_number p.homes.items) p.mutexes p.semaphores.items p.members b p.events) is.network
-    ∙ ap (λ v. made_of d s [] r o x y w v p.mutexes p.semaphores.items p.members b p.events) (ap (map point_number) is.homes ∙ homes_first deployed.actors)
-    ∙ ap (λ v. made_of d s [] r o x y w h v p.semaphores.items p.members b p.events) is.mutexes
-    ∙ ap (λ v. made_of d s [] r o x y w h m v p.members b p.events) is.semaphores
-    ∙ ap (λ v. made_of d s [] r o x y w h m c v b p.events) is.members
-    ∙ ap (λ v. made_of d s [] r o x y w h m c e b v) is.events
+    let t = first_table (profiles_in platform) in
+    ap (λ v. made_of v p.states p.whose.whose p.requests.queues p.objects p.hosts p.links p.network p.profiles (map point_number p.homes.items) p.mutexes p.semaphores.items p.members b p.events) is.doing
+    ∙ ap (λ v. made_of d v p.whose.whose p.requests.queues p.objects p.hosts p.links p.network p.profiles (map point_number p.homes.items) p.mutexes p.semaphores.items p.members b p.events) (is.states ∙ ap (λ k. first_states k (length deployed.mutexes) (length deployed.semaphores)) n)
+    ∙ ap (λ (v : Owned). made_of d s v.whose p.requests.queues p.objects p.hosts p.links p.network p.profiles (map point_number p.homes.items) p.mutexes p.semaphores.items p.members b p.events) is.whose
+    ∙ ap (λ v. made_of d s [] v p.objects p.hosts p.links p.network p.profiles (map point_number p.homes.items) p.mutexes p.semaphores.items p.members b p.events) (ap (λ (q : Requested). q.queues) is.requests ∙ ap (λ k. replicate k []) n)
+    ∙ ap (λ v. made_of d s [] r v p.hosts p.links p.network p.profiles (map point_number p.homes.items) p.mutexes p.semaphores.items p.members b p.events) is.objects
+    ∙ ap (λ v. made_of d s [] r o v p.links p.network p.profiles (map point_number p.homes.items) p.mutexes p.semaphores.items p.members b p.events) (is.hosts ∙ length-map platform.hosts host_cap)
+    ∙ ap (λ v. made_of d s [] r o x v p.network p.profiles (map point_number p.homes.items) p.mutexes p.semaphores.items p.members b p.events) (is.links ∙ sym (links_count platform.network platform.links))
+    ∙ ap (λ v. made_of d s [] r o x y v p.profiles (map point_number p.homes.items) p.mutexes p.semaphores.items p.members b p.events) is.network
+    ∙ ap (λ v. made_of d s [] r o x y w v (map point_number p.homes.items) p.mutexes p.semaphores.items p.members b p.events) is.profiles
+    ∙ ap (λ v. made_of d s [] r o x y w t v p.mutexes p.semaphores.items p.members b p.events) (ap (map point_number) is.homes ∙ homes_first deployed.actors)
+    ∙ ap (λ v. made_of d s [] r o x y w t h v p.semaphores.items p.members b p.events) is.mutexes
+    ∙ ap (λ v. made_of d s [] r o x y w t h m v p.members b p.events) is.semaphores
+    ∙ ap (λ v. made_of d s [] r o x y w t h m c v b p.events) is.members
+    ∙ ap (λ v. made_of d s [] r o x y w t h m c e b v) is.events
 
 pub first_hosts : (platform : Platform) (deployed : Deployed) (fields : Fields) → IsFirst platform deployed fields → IsDeployedOn platform deployed → All (λ (home : PointId). home.0 < length fields.doing.under.capacities.hosts) fields.homes.items
 first_hosts platform deployed fields is on =
@@ -226,3 +231,16 @@ pub first_roomy : (platform : Platform) (deployed : Deployed) (fields : Fields) 
 first_roomy platform deployed fields is =
     let none : fields.states.room ≡ 0 = ap (λ (q : ActorStates). q.room) is.states in
     record { starts = omega (arith, none); owners = omega (arith, none); mailboxes = omega (arith, none); requests = omega (arith, none) }
+
+pub first_timely : (platform : Platform) (deployed : Deployed) (fields : Fields) → IsFirst platform deployed fields → AreProfiles (counts_of platform).hosts (counts_of platform).links fields.profiles.profiles → IsTimely fields
+first_timely platform deployed fields is kept =
+    let hosts = length platform.hosts in
+    let links = length (link_ends platform.links) in
+    let profiles = profiles_in platform in
+    let date : fields.doing.under.date ≡ 0 = ap (λ (d : Doing). d.under.date) is.doing in
+    let first : AreProfiles hosts links profiles = subst (λ (t : Timetable). AreProfiles hosts links t.profiles) is.profiles kept in
+    let table : IsTimetable hosts links 0 (first_table profiles) = record { profiles = first; ahead = ahead_at_first hosts links profiles first } in
+    subst (λ n. IsTimetable n fields.links fields.doing.under.date fields.profiles) (sym (is.hosts ∙ length-map platform.hosts host_cap))
+    (subst (λ n. IsTimetable hosts n fields.doing.under.date fields.profiles) (sym (is.links ∙ sym (links_count platform.network platform.links)))
+    (subst (λ n. IsTimetable hosts links n fields.profiles) (sym date)
+    (subst (IsTimetable hosts links 0) (sym is.profiles) table)))

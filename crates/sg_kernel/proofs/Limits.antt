@@ -1,12 +1,14 @@
 -- What keeps to its limits, for the kernel and for the actors' states.
-use Rattle.std.proofs.Common.{◌≡◌, ◌<◌, ◌^◌, length, map, ◌∙◌, sym, subst, arith}
+use Rattle.std.proofs.Common.{◌≡◌, ◌-◌, ◌<◌, ◌^◌, length, map, ◌∙◌, sym, subst, arith}
 use Rattle.std.proofs.lemmas.List.{length-map}
+use Rattle.std.proofs.lemmas.List.Elements.{All-map}
 use Rattle.sg_base.specs.declared.call.Answer.{Answer}
 use Rattle.sg_base.specs.declared.call.Call.{Call}
-use Rattle.sg_base.specs.Limits.{IsAnswer}
+use Rattle.sg_base.specs.declared.ids.ActorId.{ActorId}
+use Rattle.sg_base.specs.Limits.{IsActorIn, IsAnswer}
 use Rattle.sg_states.specs.Records.{IsTellable}
 use Rattle.sg_kernel.specs.declared.fields.Fields.{Fields}
-use Rattle.sg_kernel.specs.World.{extent}
+use Rattle.sg_kernel.specs.World.{extent, host_of}
 use Rattle.sg_kernel.specs.kept.Sound.{setup_in, point_number, IsSound, IsDated}
 
 pub homes_counted : (fields : Fields) → IsSound fields → length (map point_number fields.homes.items) ≡ length fields.states.actors
@@ -24,3 +26,8 @@ kernel_tells fields what sound is = subst (λ e. IsTellable e what) sound.extent
 
 pub states_answer : (fields : Fields) (answer : Answer) → IsSound fields → IsAnswer (extent (setup_in fields)) answer → IsAnswer fields.states.extent answer
 states_answer fields answer sound is = subst (λ e. IsAnswer e answer) (sym sound.extent_is) is
+
+-- an actor's host exists
+pub home_exists : (fields : Fields) (actor : ActorId) → IsSound fields → IsActorIn (extent (setup_in fields)) actor → host_of (setup_in fields) actor.0 < length fields.doing.under.capacities.hosts
+home_exists fields actor sound is =
+    All-map (λ n. n < length fields.doing.under.capacities.hosts) point_number fields.homes.items (λ k d within. sound.hosts_known k d within) (actor.0 - 1) 0 (omega (arith, is.0, is.1, length-map fields.homes.items point_number))

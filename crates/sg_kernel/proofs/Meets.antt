@@ -18,7 +18,7 @@ use Rattle.sg_kernel.specs.declared.owners.How.TheVariants as how
 use Rattle.sg_kernel.specs.declared.owners.Whose.{Whose}
 use Rattle.sg_kernel.specs.declared.owners.Whose.TheVariants.{Over, Posted}
 use Rattle.sg_kernel.specs.Meetings.{post_in, posts_from}
-use Rattle.sg_kernel.specs.kept.Sound.{is_posted, IsMade}
+use Rattle.sg_kernel.specs.kept.Sound.{is_idle, is_posted, IsMade}
 use Rattle.sg_kernel.proofs.Postings.{FoundAt, box_found_same, posts-push, posts-set, posted_elsewhere, posted_here, found_post, not_posted}
 
 -- ---- requests are for communications that were made
@@ -53,11 +53,11 @@ made_oldest n queues actor on e are = first (queue_at queues actor) e (made_at n
     first [] e is = absurd (cc e)
     first (a ∷ queue) e is = (let same : a ≡ on = cc e in subst (IsMade n) same (All-head (IsMade n) a queue is))
 
--- ---- nothing of a communication of which one side is there is under way
+-- ---- nothing is under way of what is over or of a communication of which one side is there
 abbrev pub AreIdle : List Whose → List (Option Task) → Type 0
-AreIdle whose tasks = (place : ℕ) → IsTrue (is_posted (get_or whose place (Over how.Done))) → get_or tasks place None ≡ None
+AreIdle whose tasks = (place : ℕ) → IsTrue (is_idle (get_or whose place (Over how.Done))) → get_or tasks place None ≡ None
 
-pushed_at : {X : Type 0} (xs : List X) (y d : X) (i : ℕ) → (get_or (xs ++ y ∷ []) i d ≡ get_or xs i d) ⊎ ((i ≡ length xs) × (get_or (xs ++ y ∷ []) i d ≡ y))
+pub pushed_at : {X : Type 0} (xs : List X) (y d : X) (i : ℕ) → (get_or (xs ++ y ∷ []) i d ≡ get_or xs i d) ⊎ ((i ≡ length xs) × (get_or (xs ++ y ∷ []) i d ≡ y))
 pushed_at [] y d zero = inr (refl, refl)
 pushed_at [] y d (suc i) = inl refl
 pushed_at (x ∷ xs) y d zero = inl refl
@@ -69,24 +69,32 @@ at_end [] y d (suc i) e = absurd (omega (arith, e))
 at_end (x ∷ xs) y d zero e = absurd (omega (arith, e))
 at_end (x ∷ xs) y d (suc i) e = at_end xs y d i (omega (arith, e))
 
--- one more activity is made; nothing of it is under way where it is posted
-pub idle_more : (whose : List Whose) (tasks : List (Option Task)) (w : Whose) (t : Option Task) → length whose ≡ length tasks → (IsTrue (is_posted w) → t ≡ None) → AreIdle whose tasks → AreIdle (whose ++ w ∷ []) (tasks ++ t ∷ [])
+-- one more activity is made; nothing of it is under way where it is idle
+pub idle_more : (whose : List Whose) (tasks : List (Option Task)) (w : Whose) (t : Option Task) → length whose ≡ length tasks → (IsTrue (is_idle w) → t ≡ None) → AreIdle whose tasks → AreIdle (whose ++ w ∷ []) (tasks ++ t ∷ [])
 idle_more whose tasks w t same new old = λ place e. elim (pushed_at whose w (Over how.Done) place) [
   | inl k ↦ kept place k e (pushed_at tasks t None place)
-  | inr r ↦ at_end tasks t None place (omega (arith, r.0, same)) ∙ new (sym (ap is_posted r.1) ∙ e)
+  | inr r ↦ at_end tasks t None place (omega (arith, r.0, same)) ∙ new (sym (ap is_idle r.1) ∙ e)
 ]
   where
-    kept : (place : ℕ) → get_or (whose ++ w ∷ []) place (Over how.Done) ≡ get_or whose place (Over how.Done) → IsTrue (is_posted (get_or (whose ++ w ∷ []) place (Over how.Done))) → (get_or (tasks ++ t ∷ []) place None ≡ get_or tasks place None) ⊎ ((place ≡ length tasks) × (get_or (tasks ++ t ∷ []) place None ≡ t)) → get_or (tasks ++ t ∷ []) place None ≡ None
-    kept place k e (inl l) = l ∙ old place (sym (ap is_posted k) ∙ e)
-    kept place k e (inr r) = r.1 ∙ new (sym (ap is_posted (at_end whose w (Over how.Done) place (omega (arith, r.0, same)))) ∙ e)
+    kept : (place : ℕ) → get_or (whose ++ w ∷ []) place (Over how.Done) ≡ get_or whose place (Over how.Done) → IsTrue (is_idle (get_or (whose ++ w ∷ []) place (Over how.Done))) → (get_or (tasks ++ t ∷ []) place None ≡ get_or tasks place None) ⊎ ((place ≡ length tasks) × (get_or (tasks ++ t ∷ []) place None ≡ t)) → get_or (tasks ++ t ∷ []) place None ≡ None
+    kept place k e (inl l) = l ∙ old place (sym (ap is_idle k) ∙ e)
+    kept place k e (inr r) = r.1 ∙ new (sym (ap is_idle (at_end whose w (Over how.Done) place (omega (arith, r.0, same)))) ∙ e)
 
--- an activity becomes another's that isn't posted
-pub idle_put : (whose : List Whose) (tasks : List (Option Task)) (i : ℕ) (w : Whose) (t : Option Task) → i < length whose → is_posted w ≡ false → AreIdle whose tasks → AreIdle (set whose i w) (set tasks i t)
+-- an activity becomes another's that isn't idle
+pub idle_put : (whose : List Whose) (tasks : List (Option Task)) (i : ℕ) (w : Whose) (t : Option Task) → i < length whose → is_idle w ≡ false → AreIdle whose tasks → AreIdle (set whose i w) (set tasks i t)
 idle_put whose tasks i w t within isnt old = λ place e. cases place (cases_eq place i) e
   where
-    cases : (place : ℕ) → (place ≡ i) ⊎ (place ≢ i) → IsTrue (is_posted (get_or (set whose i w) place (Over how.Done))) → get_or (set tasks i t) place None ≡ None
-    cases place (inl is) e = absurd (true≢false (sym e ∙ ap is_posted (ap (λ k. get_or (set whose i w) k (Over how.Done)) is ∙ get_or-set_same whose i w (Over how.Done) within) ∙ isnt))
-    cases place (inr away) e = get_or-set_other tasks i place t None away ∙ old place (sym (ap is_posted (get_or-set_other whose i place w (Over how.Done) away)) ∙ e)
+    cases : (place : ℕ) → (place ≡ i) ⊎ (place ≢ i) → IsTrue (is_idle (get_or (set whose i w) place (Over how.Done))) → get_or (set tasks i t) place None ≡ None
+    cases place (inl is) e = absurd (true≢false (sym e ∙ ap is_idle (ap (λ k. get_or (set whose i w) k (Over how.Done)) is ∙ get_or-set_same whose i w (Over how.Done) within) ∙ isnt))
+    cases place (inr away) e = get_or-set_other tasks i place t None away ∙ old place (sym (ap is_idle (get_or-set_other whose i place w (Over how.Done) away)) ∙ e)
+
+-- one of which nothing is under way is over
+pub idle_over : (whose : List Whose) (tasks : List (Option Task)) (i : ℕ) (w : Whose) → get_or tasks i None ≡ None → AreIdle whose tasks → AreIdle (set whose i w) tasks
+idle_over whose tasks i w none old = λ place e. cases place (cases_eq place i) e
+  where
+    cases : (place : ℕ) → (place ≡ i) ⊎ (place ≢ i) → IsTrue (is_idle (get_or (set whose i w) place (Over how.Done))) → get_or tasks place None ≡ None
+    cases place (inl is) e = ap (λ k. get_or tasks k None) is ∙ none
+    cases place (inr away) e = old place (sym (ap is_idle (get_or-set_other whose i place w (Over how.Done) away)) ∙ e)
 
 -- ---- the mailboxes tell who is posted
 abbrev pub AreTold : Posts → List Whose → Type 0

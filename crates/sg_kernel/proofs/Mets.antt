@@ -20,7 +20,7 @@ use Rattle.sg_kernel.specs.declared.owners.How.TheVariants as how
 use Rattle.sg_kernel.specs.declared.owners.Whose.TheVariants.{Over, Posted}
 use Rattle.sg_kernel.specs.Meetings.{posts_from, sender_of, receiver_of, point_of, joins_over, comes, comes_by, takes_part}
 use Rattle.sg_kernel.specs.World.{Core, extent}
-use Rattle.sg_kernel.specs.kept.Sound.{core_of, setup_in, is_posted, IsSide, IsOwner, IsSound, AreLimited, AreMeeting}
+use Rattle.sg_kernel.specs.kept.Sound.{core_of, setup_in, is_idle, IsSide, IsOwner, IsSound, AreLimited, AreMeeting}
 use Rattle.sg_kernel.proofs.Postings.{FoundAt, found_post, posts_below}
 
 -- all that wait have lower serials than the next one
@@ -67,7 +67,7 @@ is_met fields comer serial other is limited meeting = go (meets comer.sends (wai
           side_is = sides;
           from = omega (arith, at.from, number);
           to = omega (arith, at.to, number);
-          idle = meeting.idle (serial.0 - 1) (ap is_posted posted);
+          idle = meeting.idle (serial.0 - 1) (ap is_idle posted);
           limited = subst (IsSide (extent (setup_in fields))) sides (subst (IsOwner (extent (setup_in fields))) at.is (limited (p.serial.0 - 1) (Over how.Done) place));
         }
 

@@ -17,7 +17,7 @@ use Rattle.sg_kernel.specs.declared.fields.Fields.{Fields}
 use Rattle.sg_kernel.specs.World.{extent}
 use Rattle.sg_kernel.specs.kept.Sound.{setup_in, AreHeld, AreMeeting, HasRoom, IsSound}
 use Rattle.sg_kernel.specs.kept.Waking.{AreWaking, LeavesCallers}
-use Rattle.sg_kernel.specs.kept.Whole.{CanStep, IsPassing, IsSteady, IsWhole, IsWholeFor}
+use Rattle.sg_kernel.specs.kept.Whole.{CanStep, IsPassing, IsSteady, IsWhole, IsWholeFor, KeepsWhole}
 use Rattle.sg_kernel.proofs.Limits.{homes_counted}
 use Rattle.sg_kernel.proofs.Waiting.{others_held, still_held}
 
@@ -90,6 +90,7 @@ whole_moved fields room states actor state able moves le was =
       sound = sound_moved fields states actor.0 state moves was.sound;
       roomy = roomy_less fields states room states.room le was.roomy;
       dated = was.dated;
+      timely = was.timely;
       limited = was.limited;
       meeting = meeting_moved fields states was.meeting;
       held = held_moved fields states actor state able.caller.from isnt moves was.held;
@@ -101,6 +102,7 @@ steady_moved fields states actor state moves le was = record {
   sound = sound_moved fields states actor state moves was.sound;
   roomy = roomy_less fields states fields.states.room states.room le was.roomy;
   dated = was.dated;
+  timely = was.timely;
   limited = was.limited;
   meeting = meeting_moved fields states was.meeting;
   round = moves.passing ∙ was.round;
@@ -129,6 +131,7 @@ whole_counted fields actor able =
       };
       roomy = record { starts = was.roomy.starts; owners = was.roomy.owners; mailboxes = was.roomy.mailboxes; requests = was.roomy.requests };
       dated = omega (arith, was.dated);
+      timely = was.timely;
       limited = was.limited;
       meeting = record { posts = was.meeting.posts; idle = was.meeting.idle; asked = was.meeting.asked };
       held = record {
@@ -171,6 +174,7 @@ steady_called fields objects actor able =
       };
       roomy = record { starts = was.roomy.starts; owners = was.roomy.owners; mailboxes = was.roomy.mailboxes; requests = was.roomy.requests };
       dated = was.dated;
+      timely = was.timely;
       limited = was.limited;
       meeting = record { posts = was.meeting.posts; idle = was.meeting.idle; asked = was.meeting.asked };
       round = was.round;
@@ -181,6 +185,7 @@ pub passing_moved : (fields : Fields) (states : ActorStates) (actor : ActorId) (
 passing_moved fields states actor state from isnt moves le was = record {
   sound = sound_moved fields states actor.0 state moves was.sound;
   roomy = roomy_less fields states fields.states.room states.room le was.roomy;
+  timely = was.timely;
   limited = was.limited;
   meeting = meeting_moved fields states was.meeting;
   held = held_moved fields states actor state from isnt moves was.held;
@@ -255,3 +260,35 @@ callers_left old new actor state is ready moves same =
 -- what contracts see tells that a call can be answered
 pub can_step : (fields : Fields) (actor : ℕ) → IsWhole fields → MayCall fields.states.actors actor → 0 < fields.states.room → fields.events ≢ fields.budget → CanStep fields actor
 can_step fields actor whole caller room budget = record { whole = whole; call = record { caller = caller; room = room; round = whole.round }; budget = budget }
+
+-- ---- one that waited is answered, in a pass or not
+pub whole_answered : (fields : Fields) (states : ActorStates) (actor : ActorId) (state : State) → IsActor fields.states.actors actor.0 → is_ready state ≡ true → is_held (state_at fields.states.actors actor.0) ≡ false → Moves fields.states states actor.0 state →
+    states.room ≡ fields.states.room → IsSound fields → KeepsWhole fields (record fields { states = states })
+whole_answered fields states actor state is ready isnt moves room sound = record {
+  passing = passing_moved fields states actor state is.from isnt moves (omega (arith, room));
+  whole = λ n was. record {
+    sound = sound_moved fields states actor.0 state moves was.sound;
+    roomy = record { starts = was.roomy.starts; owners = was.roomy.owners; mailboxes = was.roomy.mailboxes; requests = was.roomy.requests };
+    dated = was.dated;
+    timely = was.timely;
+    limited = was.limited;
+    meeting = meeting_moved fields states was.meeting;
+    held = held_moved fields states actor state is.from isnt moves was.held;
+    round = moves.passing ∙ was.round;
+  };
+  sound = sound_moved fields states actor.0 state moves sound;
+  callers = callers_left fields.states states actor.0 state is ready moves room;
+  room = room;
+  rest = refl;
+}
+
+-- or is not blocked so
+pub whole_kept : (fields : Fields) → IsSound fields → KeepsWhole fields fields
+whole_kept fields sound = record {
+  passing = λ was. was;
+  whole = λ n was. was;
+  sound = sound;
+  callers = record { actors = refl; callers = λ actor may. may };
+  room = refl;
+  rest = refl;
+}

@@ -28,7 +28,7 @@ box_apart a b apart = cases (box_eq a b) refl
 
 -- ---- the post of one activity
 pub not_posted : (mailbox : BoxId) (n : ℕ) (w : Whose) → is_posted w ≡ false → post_in mailbox n w ≡ None
-not_posted mailbox n (Over how.Done) e = refl
+not_posted mailbox n (Over over) e = refl
 not_posted mailbox n (Alone a) e = refl
 not_posted mailbox n (Posted m s d) e = absurd (true≢false e)
 not_posted mailbox n (Pair s r) e = refl
@@ -41,7 +41,7 @@ posted_here mailbox n s d = ap (λ b. cond b (Some (record { serial = record { 0
 
 -- what a post tells of its activity
 post_told : (mailbox : BoxId) (n : ℕ) (w : Whose) (q : Post) → post_in mailbox n w ≡ Some q → (q.serial.0 ≡ n) × (w ≡ Posted mailbox q.sends q.side)
-post_told mailbox n (Over how.Done) q e = absurd (cc e)
+post_told mailbox n (Over over) q e = absurd (cc e)
 post_told mailbox n (Alone a) q e = absurd (cc e)
 post_told mailbox n (Pair s r) q e = absurd (cc e)
 post_told mailbox n (Posted m s d) q e = cases (box_eq mailbox m) refl e

@@ -1,8 +1,8 @@
 -- Mailboxes and requests, as activities begin and end that are in no mailbox.
-use Rattle.std.proofs.Common.{◌≡◌, ◌≢◌, ℕ, zero, suc, ◌-◌, Bool, true, false, true≢false, IsTrue, Option, None, Some, List, [], ◌∷◌, ◌++◌, length, set, get_or, inl, inr, refl, sym, subst, ap, ◌∙◌, arith}
+use Rattle.std.proofs.Common.{◌≡◌, ◌≢◌, ℕ, Bool, true, false, true≢false, IsTrue, Option, None, Some, List, [], ◌∷◌, ◌++◌, length, set, get_or, inl, inr, refl, sym, subst, ap, ◌∙◌, arith}
 use Rattle.std.specs.Prelude.{All}
 use Rattle.std.proofs.lemmas.Bool.{cases_eq, cases_lt}
-use Rattle.std.proofs.lemmas.List.{append-nil, get_or-set_same, get_or-set_other, get_or_past, get_or_append_left, get_or-append_right, length-set, length-append}
+use Rattle.std.proofs.lemmas.List.{append-nil, get_or-set_same, get_or-set_other, get_or_past, length-set, length-append}
 use Rattle.sg_base.specs.declared.ids.ActorId.{ActorId}
 use Rattle.sg_activity.specs.Doing.{Doing}
 use Rattle.sg_activity.specs.Task.{Task, next_phase}
@@ -10,25 +10,36 @@ use Rattle.sg_activity.specs.declared.kinds.PhaseKind.{PhaseKind}
 use Rattle.sg_activity.specs.declared.kinds.PhaseKind.TheVariants as phase
 use Rattle.sg_base.specs.declared.awaits.Await.{Await}
 use Rattle.sg_kernel.specs.declared.fields.Fields.{Fields}
+use Rattle.sg_kernel.specs.declared.owners.How.{How}
 use Rattle.sg_kernel.specs.declared.owners.How.TheVariants as how
 use Rattle.sg_kernel.specs.declared.owners.Whose.{Whose}
-use Rattle.sg_kernel.specs.declared.owners.Whose.TheVariants.{Over, Alone}
+use Rattle.sg_kernel.specs.declared.owners.Whose.TheVariants.{Over, Alone, Posted, Pair}
 use Rattle.sg_kernel.specs.Meetings.{posts_from}
 use Rattle.sg_kernel.specs.kept.Owners.{Owned}
-use Rattle.sg_kernel.specs.kept.Sound.{is_posted, IsMade, AreMeeting}
+use Rattle.sg_kernel.specs.kept.Sound.{is_idle, is_posted, IsMade, AreMeeting}
+use Rattle.sg_kernel.proofs.Meets.{AreIdle, idle_more}
 use Rattle.sg_kernel.proofs.Postings.{posts-push, posts_kept}
 
--- nothing of what is posted is under way
-abbrev pub AreIdle : List Whose → List (Option Task) → Type 0
-AreIdle whose tasks = (place : ℕ) → IsTrue (is_posted (get_or whose place (Over how.Done))) → get_or tasks place None ≡ None
+posted_idle : (w : Whose) → IsTrue (is_posted w) → IsTrue (is_idle w)
+posted_idle (Over before) e = refl
+posted_idle (Alone actor) e = e
+posted_idle (Posted mailbox sends side) e = refl
+posted_idle (Pair sender receiver) e = e
 
--- what is under way isn't posted
-pub under_way : (whose : List Whose) (tasks : List (Option Task)) (place : ℕ) (task : Task) → AreIdle whose tasks → get_or tasks place None ≡ Some task → is_posted (get_or whose place (Over how.Done)) ≡ false
-under_way whose tasks place task idle at = cases (is_posted (get_or whose place (Over how.Done))) (idle place)
+-- what is under way is neither posted nor over
+pub under_way : (whose : List Whose) (tasks : List (Option Task)) (place : ℕ) (task : Task) → AreIdle whose tasks → get_or tasks place None ≡ Some task → is_idle (get_or whose place (Over how.Done)) ≡ false
+under_way whose tasks place task idle at = cases (is_idle (get_or whose place (Over how.Done))) (idle place)
   where
     cases : (b : Bool) → (IsTrue b → get_or tasks place None ≡ None) → b ≡ false
     cases true none = absurd (cc (at, none refl))
     cases false none = refl
+
+unposted : (w : Whose) → is_idle w ≡ false → is_posted w ≡ false
+unposted w e = cases (is_posted w) (posted_idle w)
+  where
+    cases : (b : Bool) → (IsTrue b → IsTrue (is_idle w)) → b ≡ false
+    cases true idle = absurd (true≢false (sym (idle refl) ∙ e))
+    cases false idle = refl
 
 -- ---- an activity ends
 none_there : (tasks : List (Option Task)) (place : ℕ) → get_or (set tasks place None) place None ≡ None
@@ -37,10 +48,10 @@ none_there tasks place = elim (cases_lt place (length tasks)) [
   | inr past ↦ get_or_past (set tasks place None) place None (omega (arith, past, length-set tasks place None))
 ]
 
-idle_gone : (whose : List Whose) (tasks : List (Option Task)) (place : ℕ) → AreIdle whose tasks → AreIdle (set whose place (Over how.Done)) (set tasks place None)
-idle_gone whose tasks place idle other posted = elim (cases_eq other place) [
+idle_gone : (whose : List Whose) (tasks : List (Option Task)) (place : ℕ) (over : How) → AreIdle whose tasks → AreIdle (set whose place (Over over)) (set tasks place None)
+idle_gone whose tasks place over idle other posted = elim (cases_eq other place) [
   | inl same ↦ ap (λ k. get_or (set tasks place None) k None) same ∙ none_there tasks place
-  | inr apart ↦ get_or-set_other tasks place other None None apart ∙ idle other (subst (λ w. IsTrue (is_posted w)) (get_or-set_other whose place other (Over how.Done) (Over how.Done) apart) posted)
+  | inr apart ↦ get_or-set_other tasks place other None None apart ∙ idle other (subst (λ w. IsTrue (is_idle w)) (get_or-set_other whose place other (Over over) (Over how.Done) apart) posted)
 ]
 
 -- nothing follows a phase but a latency
@@ -54,32 +65,22 @@ last_phase task last = cases task.kind last
     cases phase.Timer isnt = refl
 
 -- what was under way is nobody's
-pub meeting_gone : (fields : Fields) (whose : Owned) (doing : Doing) (place : ℕ) (task : Task) → get_or fields.doing.under.tasks place None ≡ Some task → whose.whose ≡ set fields.whose.whose place (Over how.Done) → doing.under.tasks ≡ set fields.doing.under.tasks place None → AreMeeting fields → AreMeeting (record fields { whose = whose; doing = doing })
-meeting_gone fields whose doing place task at owned over old =
-    let isnt = under_way fields.whose.whose fields.doing.under.tasks place task old.idle at in
+pub meeting_gone : (fields : Fields) (whose : Owned) (doing : Doing) (over : How) (place : ℕ) (task : Task) → get_or fields.doing.under.tasks place None ≡ Some task → whose.whose ≡ set fields.whose.whose place (Over over) → doing.under.tasks ≡ set fields.doing.under.tasks place None → AreMeeting fields → AreMeeting (record fields { whose = whose; doing = doing })
+meeting_gone fields whose doing over place task at owned gone old =
+    let isnt = unposted _ (under_way fields.whose.whose fields.doing.under.tasks place task old.idle at) in
     record {
-      posts = λ mailbox. old.posts mailbox ∙ sym (ap (posts_from mailbox 1) owned ∙ posts_kept mailbox place fields.whose.whose (Over how.Done) isnt refl);
-      idle = subst (λ w. AreIdle w doing.under.tasks) (sym owned) (subst (λ t. AreIdle (set fields.whose.whose place (Over how.Done)) t) (sym over) (idle_gone fields.whose.whose fields.doing.under.tasks place old.idle));
-      asked = subst (λ n. All (λ (queue : List Await). All (IsMade n) queue) fields.requests.queues) (sym (ap length owned ∙ length-set fields.whose.whose place (Over how.Done))) old.asked;
+      posts = λ mailbox. old.posts mailbox ∙ sym (ap (posts_from mailbox 1) owned ∙ posts_kept mailbox place fields.whose.whose (Over over) isnt refl);
+      idle = subst (λ w. AreIdle w doing.under.tasks) (sym owned) (subst (λ t. AreIdle (set fields.whose.whose place (Over over)) t) (sym gone) (idle_gone fields.whose.whose fields.doing.under.tasks place over old.idle));
+      asked = subst (λ n. All (λ (queue : List Await). All (IsMade n) queue) fields.requests.queues) (sym (ap length owned ∙ length-set fields.whose.whose place (Over over))) old.asked;
     }
 
 -- ---- an activity begins
-alone_there : (actor : ActorId) (k : ℕ) → is_posted (get_or (Alone actor ∷ []) k (Over how.Done)) ≡ false
-alone_there actor zero = refl
-alone_there actor (suc k) = refl
-
-idle_more : (whose : List Whose) (tasks : List (Option Task)) (actor : ActorId) (task : Option Task) → length whose ≡ length tasks → AreIdle whose tasks → AreIdle (whose ++ Alone actor ∷ []) (tasks ++ task ∷ [])
-idle_more whose tasks actor task numbered idle place posted = elim (cases_lt place (length whose)) [
-  | inl less ↦ get_or_append_left tasks (task ∷ []) None place (omega (arith, less, numbered)) ∙ idle place (subst (λ w. IsTrue (is_posted w)) (get_or_append_left whose (Alone actor ∷ []) (Over how.Done) place less) posted)
-  | inr past ↦ absurd (true≢false (sym posted ∙ ap is_posted (get_or-append_right whose (Alone actor ∷ []) (length whose) place (Over how.Done) refl past) ∙ alone_there actor (place - length whose)))
-]
-
 -- one more is under way, an actor's alone
 pub meeting_more : (fields : Fields) (whose : Owned) (doing : Doing) (actor : ActorId) (task : Task) → length fields.whose.whose ≡ length fields.doing.under.tasks → whose.whose ≡ fields.whose.whose ++ Alone actor ∷ [] → doing.under.tasks ≡ fields.doing.under.tasks ++ Some task ∷ [] → AreMeeting fields → AreMeeting (record fields { whose = whose; doing = doing })
 meeting_more fields whose doing actor task numbered owned begun old =
     let more = ap length owned ∙ length-append fields.whose.whose (Alone actor ∷ []) in
     record {
       posts = λ mailbox. old.posts mailbox ∙ sym (ap (posts_from mailbox 1) owned ∙ posts-push mailbox 1 fields.whose.whose (Alone actor) ∙ append-nil (posts_from mailbox 1 fields.whose.whose));
-      idle = subst (λ w. AreIdle w doing.under.tasks) (sym owned) (subst (λ t. AreIdle (fields.whose.whose ++ Alone actor ∷ []) t) (sym begun) (idle_more fields.whose.whose fields.doing.under.tasks actor (Some task) numbered old.idle));
+      idle = subst (λ w. AreIdle w doing.under.tasks) (sym owned) (subst (λ t. AreIdle (fields.whose.whose ++ Alone actor ∷ []) t) (sym begun) (idle_more fields.whose.whose fields.doing.under.tasks (Alone actor) (Some task) numbered (λ e. absurd (true≢false (sym e))) old.idle));
       asked = λ k d within j e inside. let made = old.asked k d within j e inside in record { from = made.from; to = omega (arith, made.to, more) };
     }

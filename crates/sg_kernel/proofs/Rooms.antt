@@ -19,8 +19,9 @@ use Rattle.sg_kernel.specs.declared.owners.Whose.TheVariants.{Over}
 use Rattle.sg_kernel.specs.World.{extent}
 use Rattle.sg_kernel.specs.Meetings.{posts_from}
 use Rattle.sg_kernel.specs.kept.Owners.{Owned}
-use Rattle.sg_kernel.specs.kept.Sound.{setup_in, is_posted, IsMade, IsOwner}
+use Rattle.sg_kernel.specs.kept.Sound.{setup_in, is_idle, IsMade, IsOwner}
 use Rattle.sg_kernel.specs.kept.Whole.{IsWhole}
+use Rattle.sg_kernel.proofs.Timely.{IsTimelyAt}
 
 -- how much room there is, is all that changed
 pub record IsRoomier (fields : Fields) (doing : Doing) (whose : Owned) (boxes : Posts) (requests : Requested) (states : ActorStates) : Type 0 where
@@ -59,10 +60,11 @@ whole_roomier fields doing whose boxes requests states is was =
       };
       roomy = record { starts = is.starts_room; owners = is.owners_room; mailboxes = is.mailboxes_room; requests = is.requests_room };
       dated = omega (arith, ap (λ (u : Underway). u.date) is.tasks, was.dated);
+      timely = subst (IsTimelyAt fields) (sym (ap (λ (u : Underway). u.date) is.tasks)) was.timely;
       limited = subst (All (IsOwner (extent (setup_in fields)))) (sym is.owners) was.limited;
       meeting = record {
         posts = λ mailbox. is.mailboxes mailbox ∙ was.meeting.posts mailbox ∙ sym (ap (posts_from mailbox 1) is.owners);
-        idle = λ place posted. ap (λ (u : Underway). get_or u.tasks place None) is.tasks ∙ was.meeting.idle place (sym (ap (λ (l : List Whose). is_posted (get_or l place (Over how.Done))) is.owners) ∙ posted);
+        idle = λ place posted. ap (λ (u : Underway). get_or u.tasks place None) is.tasks ∙ was.meeting.idle place (sym (ap (λ (l : List Whose). is_idle (get_or l place (Over how.Done))) is.owners) ∙ posted);
         asked =
             subst (λ (q : List (List Await)). All (λ (queue : List Await). All (IsMade (length whose.whose)) queue) q) (sym is.queues)
             (subst (λ (l : List Whose). All (λ (queue : List Await). All (IsMade (length l)) queue) fields.requests.queues) (sym is.owners) was.meeting.asked);

@@ -1,11 +1,12 @@
 -- How a call is answered. Each call is one event.
-use Rattle.std.specs.Prelude.{ℕ, ◌+◌, Option, None, Some, true, false, [], ◌∷◌, ◌++◌, length}
+use Rattle.std.specs.Prelude.{ℕ, ◌+◌, Option, None, Some, true, false, if◌then◌else◌, [], ◌∷◌, ◌++◌, length}
 use Rattle.sg_base.specs.declared.call.Call.{Call}
 use Rattle.sg_base.specs.declared.call.Call.TheVariants as call
 use Rattle.sg_base.specs.declared.call.Answer.{Answer}
 use Rattle.sg_base.specs.declared.call.Answer.TheVariants as answer
 use Rattle.sg_base.specs.declared.call.Action.{Action}
 use Rattle.sg_base.specs.declared.ids.ActorId.{ActorId}
+use Rattle.sg_activity.specs.Links.{is_off}
 use Rattle.sg_activity.specs.Task.{Task, exec_of, timer_of}
 use Rattle.sg_activity.specs.Underway.{started}
 use Rattle.sg_base.specs.declared.awaits.Await.{Await}
@@ -16,7 +17,8 @@ use Rattle.sg_states.specs.declared.state.State.TheVariants.{Ended}
 use Rattle.sg_kernel.specs.declared.owners.Whose.TheVariants.{Alone}
 use Rattle.sg_kernel.specs.World.{Setup, Core, host_of, with_state}
 use Rattle.sg_kernel.specs.Steps.{Step, goes_on, counted, unless_used, readied, blocked_by, at_once}
-use Rattle.sg_kernel.specs.Meetings.{side_of, sends_by, receives_by, comes, waits}
+use Rattle.sg_kernel.specs.Answers.{side_of}
+use Rattle.sg_kernel.specs.Meetings.{sends_by, receives_by, comes, waits}
 use Rattle.sg_kernel.specs.Locks.{caller_first, caller_last}
 
 abbrev pub actor_of : ℕ → ActorId
@@ -40,8 +42,12 @@ with_execution setup actor flops priority core =
 abbrev pub executes : Setup → ℕ → ℕ → ℕ → Core → Step
 executes setup actor flops priority core = goes_on (with_execution setup actor flops priority core) []
 
+-- on a host that is off it fails at once
 abbrev pub computes : Setup → ℕ → ℕ → ℕ → Core → Step
-computes setup actor flops priority core = executes setup actor flops priority core
+computes setup actor flops priority core =
+    if is_off core.under.on.hosts (host_of setup actor)
+    then at_once actor (call.Compute flops priority) 0 answer.Failed core
+    else executes setup actor flops priority core
 
 abbrev pub with_sleep : ℕ → ℕ → Core → Core
 with_sleep actor ns core = blocks_on (timer_of ns) actor (call.Sleep ns) core

@@ -5,12 +5,10 @@ use Rattle.sg_base.specs.declared.call.Answer.{Answer}
 use Rattle.sg_base.specs.declared.call.Answer.TheVariants as answer
 use Rattle.sg_base.specs.declared.call.Call.{Call}
 use Rattle.sg_base.specs.declared.call.Call.TheVariants as call
-use Rattle.sg_base.specs.declared.call.Msg.{Msg}
-use Rattle.sg_base.specs.declared.call.Msg.TheVariants as msg
 use Rattle.sg_base.specs.declared.ids.BoxId.{BoxId}
 use Rattle.sg_base.specs.declared.ids.PointId.{PointId}
 use Rattle.sg_base.specs.declared.ids.Serial.{Serial}
-use Rattle.sg_activity.specs.Task.{Task, comm_of}
+use Rattle.sg_activity.specs.Task.{Task, Way, comm_of, is_cut}
 use Rattle.sg_activity.specs.Underway.{begun, drawn}
 use Rattle.sg_mailbox.specs.declared.sides.Side.{Side}
 use Rattle.sg_mailbox.specs.declared.sides.Post.{Post}
@@ -29,9 +27,10 @@ use Rattle.sg_kernel.specs.declared.stop.Stop.{Stop}
 use Rattle.sg_kernel.specs.declared.stop.Stop.TheVariants as stop
 use Rattle.sg_kernel.specs.declared.owners.Whose.{Whose}
 use Rattle.sg_kernel.specs.declared.owners.Whose.TheVariants.{Over, Alone, Posted, Pair}
+use Rattle.sg_kernel.specs.Answers.{answers_side, bare_side, for_receiver, side_of, with_over}
 use Rattle.sg_kernel.specs.Network.{latency_over, own_bound}
 use Rattle.sg_kernel.specs.World.{Setup, Core, host_of, whose_at}
-use Rattle.sg_kernel.specs.Steps.{Step, goes_on, stops, counted, blocked_by, at_once}
+use Rattle.sg_kernel.specs.Steps.{Step, goes_on, stops, counted, and_then, blocked_by, at_once}
 
 -- ---- who waits in a mailbox
 abbrev pub post_in : BoxId → ℕ → Whose → Option Post
@@ -49,15 +48,6 @@ abbrev pub posts_at : BoxId → Core → List Post
 posts_at mailbox core = posts_from mailbox 1 core.whose
 
 -- ---- an actor takes part in a communication
--- the rate is that of the sender; 0 stands for none
-abbrev pub side_of : ℕ → ℕ → Msg → ℕ → Side
-side_of actor bytes message rate =
-    record { actor = record { 0 = actor }; bytes = bytes; msg = message; rate = rate }
-
--- a side that brings nothing
-abbrev pub bare_side : ℕ → Side
-bare_side actor = side_of actor 0 msg.Empty 0
-
 abbrev pub party_of : Bool → Party
 party_of true = Sender
 party_of false = Receiver
@@ -104,16 +94,24 @@ receiver_of comer other = if comer.sends then other else comer.side
 abbrev pub posted : Comer → Core → Core
 posted comer core = record core { under = drawn core.under; whose = core.whose ++ Posted comer.mailbox comer.sends comer.side ∷ [] }
 
+-- from the host of the sender over a route to that of the receiver
+abbrev pub way_over : Setup → Route → Side → Side → Way
+way_over setup route sender receiver = record {
+  links = route.links;
+  sender = host_of setup sender.actor.0;
+  receiver = host_of setup receiver.actor.0;
+}
+
 -- what a sender sends over a route: the rate is the sender's alone
-abbrev pub comm_over : Setup → Route → Side → Task
-comm_over setup route sender =
-    comm_of (record { links = route.links }) (latency_over setup route) sender.bytes
+abbrev pub comm_over : Setup → Route → Side → Side → Task
+comm_over setup route sender receiver =
+    comm_of (way_over setup route sender receiver) (latency_over setup route) sender.bytes
     (own_bound setup route sender.rate)
 
 -- both sides are there: the communication begins over its route
 abbrev pub joined : Setup → ℕ → Route → Side → Side → Core → Core
 joined setup serial route sender receiver core = record core {
-  under = begun serial (comm_over setup route sender) core.under;
+  under = begun serial (comm_over setup route sender receiver) core.under;
   whose = slice_set core.whose (serial - 1) (Pair sender receiver);
 }
 
@@ -133,14 +131,46 @@ joins_with route setup comer serial other core =
     takes_part comer.waits comer serial.0
     (joined setup serial.0 route (sender_of comer other) (receiver_of comer other) core)
 
-abbrev pub joins_on : Route → Setup → Comer → Post → Core → Step
-joins_on route setup comer post core = joins_with route setup comer post.serial post.side core
+-- ---- or it fails in the call, where something that it would use is off
+-- the side that comes: a call that waits fails, and any other is done at once, as ever
+abbrev pub takes_part_failed : Bool → Comer → ℕ → ℕ → Core → Step
+takes_part_failed true comer serial bytes core = at_once comer.side.actor.0 comer.what bytes answer.Failed core
+takes_part_failed false comer serial bytes core = takes_part false comer serial core
+
+abbrev pub comer_fails : Comer → ℕ → Side → Core → Step
+comer_fails comer serial other core = takes_part_failed comer.waits comer serial (sender_of comer other).bytes core
+
+abbrev pub other_fails : Comer → ℕ → Side → Core → Step
+other_fails comer serial other core =
+    if comer.sends then answers_side how.Failed serial Receiver (for_receiver comer.side other) core
+    else answers_side how.Failed serial Sender other core
+
+-- the sending side is answered first
+abbrev pub both_fail : Comer → ℕ → Side → Core → Step
+both_fail comer serial other core =
+    if comer.sends then and_then (comer_fails comer serial other core) (other_fails comer serial other)
+    else and_then (other_fails comer serial other core) (comer_fails comer serial other)
+
+abbrev pub fails_with : Comer → Serial → Side → Core → Step
+fails_with comer serial other core =
+    both_fail comer serial.0 other (with_over how.Failed serial.0 core)
+
+-- the way of a communication over a route with this other side
+abbrev pub way_with : Route → Setup → Comer → Side → Way
+way_with route setup comer other =
+    way_over setup route (sender_of comer other) (receiver_of comer other)
+
+abbrev pub joins_on : Route → Setup → Comer → Serial → Side → Core → Step
+joins_on route setup comer serial other core =
+    if is_cut core.under.on (way_with route setup comer other)
+    then fails_with comer serial other core
+    else joins_with route setup comer serial other core
 
 -- a missing or too long route stops the run, with all as it was
 abbrev pub joins_over : Result Route RouteFault → Setup → Comer → Post → Core → Step
 joins_over (Err why) setup comer post core =
     stops core [] (stop_of (point_of setup (sender_of comer post.side)) (point_of setup (receiver_of comer post.side)) why)
-joins_over (Ok route) setup comer post core = joins_on route setup comer post (counted core)
+joins_over (Ok route) setup comer post core = joins_on route setup comer post.serial post.side (counted core)
 
 abbrev pub posts : Comer → Core → Step
 posts comer core = takes_part comer.waits comer (length core.under.tasks + 1) (posted comer core)
@@ -158,6 +188,7 @@ comes roads setup comer core = comes_by (meets comer.sends (posts_at comer.mailb
 -- what an actor that waits for an activity is answered at once; none: it isn't over
 abbrev pub answer_of_over : Whose → Option Answer
 answer_of_over (Over how.Done) = Some answer.Done
+answer_of_over (Over how.Failed) = Some answer.Failed
 answer_of_over (Alone actor) = None
 answer_of_over (Posted mailbox sends side) = None
 answer_of_over (Pair sender receiver) = None

@@ -1,82 +1,64 @@
--- How a pass goes: the date moves to where the next phases are due, and these end by rising serial. Each phase end is one event.
-use Rattle.std.specs.Prelude.{ℕ, ◌-◌, ◌==◌, ◌&&◌, Bool, true, false, Option, None, Some, if◌then◌else◌, List, [], ◌∷◌, slice_set}
-use Rattle.sg_base.specs.declared.call.Answer.{Answer}
-use Rattle.sg_base.specs.declared.call.Answer.TheVariants as answer
-use Rattle.sg_base.specs.declared.call.Call.{Call}
-use Rattle.sg_base.specs.declared.call.Call.TheVariants as call
-use Rattle.sg_base.specs.declared.call.Msg.{Msg}
+-- How a pass goes: the date moves to where the next phases are due or the next entries of profiles come. First the entries of that date come, in order of rows, each followed by its failures, and then the phases that are due end, by rising serial. Each entry, each failure and each phase end is one event.
+use Rattle.std.specs.Prelude.{ℕ, ◌+◌, ◌-◌, Option, None, Some, option_map, if◌then◌else◌, List, [], ◌∷◌}
+use Rattle.sg_activity.specs.Slots.{sooner}
 use Rattle.sg_activity.specs.Task.{Task, phase_after, task_at}
 use Rattle.sg_activity.specs.Underway as underway
-use Rattle.sg_activity.specs.Underway.{due_in, is_running, later, next_in, with_task}
-use Rattle.sg_mailbox.specs.declared.sides.Side.{Side}
-use Rattle.sg_base.specs.declared.awaits.Await.{Await}
-use Rattle.sg_base.specs.declared.awaits.Party.{Party}
-use Rattle.sg_base.specs.declared.awaits.Party.TheVariants.{Sender, Receiver}
-use Rattle.sg_base.specs.declared.awaits.Party.TheVariants as party
-use Rattle.sg_base.specs.contracts.awaits.PartyPartialEq.TheImpl as party_eq_impl
-use Rattle.sg_kernel.specs.declared.owners.How.{How}
+use Rattle.sg_activity.specs.Underway.{Underway, due_in, hits, is_running, later, next_in, with_bandwidth, with_host_on, with_link_on, with_speed, with_task}
+use Rattle.sg_profile.specs.declared.entry.Entry.{Entry}
+use Rattle.sg_profile.specs.declared.entry.Entry.TheVariants as entry
+use Rattle.sg_profile.specs.Profiles.{entry_at, next_date, rows_at, stepped}
+use Rattle.sg_rows.specs.declared.network.Network.{Network}
+use Rattle.sg_rows.specs.Network.{bandwidth_over}
 use Rattle.sg_kernel.specs.declared.owners.How.TheVariants as how
-use Rattle.sg_kernel.specs.declared.owners.Whose.{Whose}
-use Rattle.sg_kernel.specs.declared.owners.Whose.TheVariants.{Over, Alone, Posted, Pair}
 use Rattle.sg_kernel.specs.declared.stop.Stop.TheVariants.{Deadlock, Starved}
-use Rattle.sg_kernel.specs.World.{Setup, Core, state_of, whose_at}
-use Rattle.sg_states.specs.Actors.{Blocking, blocking_in}
-use Rattle.sg_kernel.specs.Steps.{Step, goes_on, stops, counted, unless_used, and_then, each, all_of, replied}
-use Rattle.sg_kernel.specs.Meetings.{bare_side}
+use Rattle.sg_kernel.specs.World.{Setup, Core}
+use Rattle.sg_kernel.specs.Steps.{Step, goes_on, stops, counted, unless_used, each, all_of}
+use Rattle.sg_kernel.specs.Answers.{finishes}
 
--- ---- who is answered when an activity is done
-abbrev pub party_eq : Party → Party → Bool
-party_eq = (party_eq_impl.ghosts).eq
+-- ---- entries of profiles come
+-- what an entry changes: a bandwidth has the network's factor
+abbrev pub applied : Network → Entry → Underway → Underway
+applied network (entry.Speed host speed) under = with_speed host.0 speed under
+applied network (entry.Bandwidth link bandwidth) under =
+    with_bandwidth link.0 (bandwidth_over network bandwidth) under
+applied network (entry.HostOn host on) under = with_host_on host.0 on under
+applied network (entry.LinkOn link on) under = with_link_on link.0 on under
 
--- whether that is this side of the activity of this serial
-abbrev pub is_on : ℕ → Party → Option Await → Bool
-is_on serial side None = false
-is_on serial side (Some on) = (on.serial.0 == serial) && party_eq on.party side
+abbrev pub applied_if : Network → Option Entry → Underway → Underway
+applied_if network None under = under
+applied_if network (Some entry) under = applied network entry under
 
--- whether a call is a send or a receive that waits, whose record tells the bytes
-abbrev pub tells_bytes : Call → Bool
-tells_bytes (call.Send mailbox bytes message rate) = true
-tells_bytes (call.Recv mailbox) = true
-tells_bytes other = false
+-- the next entry of this row comes, and the row is gone past it
+abbrev pub enters : Setup → ℕ → Core → Core
+enters setup row core = record core {
+  under = applied_if setup.network (entry_at setup.profiles core.turns row) core.under;
+  turns = stepped setup.profiles row core.turns;
+}
 
--- a receive gets the message, and any other call is done
-abbrev pub answer_of_done : Call → Msg → Answer
-answer_of_done (call.Recv mailbox) message = answer.Got message
-answer_of_done other message = answer.Done
+-- that is one event
+abbrev pub enters_one : Setup → ℕ → Core → Step
+enters_one setup row core = goes_on (counted (enters setup row core)) []
 
--- by how the activity is over
-abbrev pub answer_to : How → Call → Msg → Answer
-answer_to how.Done what message = answer_of_done what message
+-- the activity of this serial uses something that is off, and fails
+abbrev pub fails_one : ℕ → Core → Step
+fails_one serial core = finishes how.Failed serial (counted core)
 
--- the actor is answered where it is blocked on this side of this activity
-abbrev pub answers_by : How → ℕ → Party → Side → Option Blocking → Core → Step
-answers_by over serial party given None core = goes_on core []
-answers_by over serial party given (Some blocking) core =
-    if is_on serial party blocking.on
-    then replied given.actor.0 blocking.what blocking.since (if tells_bytes blocking.what then given.bytes else 0) (answer_to over blocking.what given.msg) core
-    else goes_on core []
+abbrev pub fails : Setup → ℕ → Core → Step
+fails setup serial core = unless_used setup.budget core (fails_one serial core)
 
-abbrev pub answers_side : How → ℕ → Party → Side → Core → Step
-answers_side over serial party given core = answers_by over serial party given (blocking_in (state_of core given.actor.0)) core
+-- all that use something that is off, by rising serial
+abbrev pub all_fail : Setup → Core → Step
+all_fail setup core = each (fails setup) (hits core.under) core
 
--- what the sender sent, for the receiver
-abbrev pub for_receiver : Side → Side → Side
-for_receiver sender receiver = record sender { actor = receiver.actor }
+-- what comes with an entry, in this order
+abbrev pub entry_stretches : Setup → ℕ → List (Core → Step)
+entry_stretches setup row =
+    enters_one setup row ∷
+    all_fail setup ∷
+    []
 
--- of a communication the sending side is answered, and then the receiving side
-abbrev pub answers : How → ℕ → Whose → Core → Step
-answers over serial (Over before) core = goes_on core []
-answers over serial (Alone actor) core = answers_side over serial party.Alone (bare_side actor.0) core
-answers over serial (Posted mailbox sends side) core = goes_on core []
-answers over serial (Pair sender receiver) core = and_then (answers_side over serial Sender sender core) (answers_side over serial Receiver (for_receiver sender receiver))
-
--- nothing of it is under way any more, and it is nobody's
-abbrev pub with_over : How → ℕ → Core → Core
-with_over over serial core = record core { under = with_task serial None core.under; whose = slice_set core.whose (serial - 1) (Over over) }
-
--- the activity of this serial is over, and whose it was is answered
-abbrev pub finishes : How → ℕ → Core → Step
-finishes over serial core = answers over serial (whose_at core serial) (with_over over serial core)
+abbrev pub changes : Setup → ℕ → Core → Step
+changes setup row core = unless_used setup.budget core (all_of (entry_stretches setup row) core)
 
 -- ---- phases end
 -- after the phase of this serial the activity is done, or another phase follows
@@ -101,9 +83,21 @@ ends setup serial core = ends_by setup serial (task_at core.under.tasks serial) 
 abbrev pub core_later : ℕ → Core → Core
 core_later span core = record core { under = later span core.under }
 
+-- in how many nanoseconds this date is
+abbrev pub span_to : Core → Option ℕ → Option ℕ
+span_to core date = option_map (λ date. date - core.under.date) date
+
+-- in how many nanoseconds the next phase is due or the next entry comes; none: never
+abbrev pub next_span : Setup → Core → Option ℕ
+next_span setup core =
+    sooner (next_in core.under) (span_to core (next_date setup.profiles core.turns))
+
 -- what comes at the date of a pass, in this order; the world before it tells which
 abbrev pub stretches : Setup → ℕ → Core → List (Core → Step)
-stretches setup span core = each (ends setup) (due_in span core.under) ∷ []
+stretches setup span core =
+    each (changes setup) (rows_at (core.under.date + span) setup.profiles core.turns) ∷
+    each (ends setup) (due_in span core.under) ∷
+    []
 
 abbrev pub pass_at : Setup → Core → Option ℕ → Step
 pass_at setup core None = stops core [] (if is_running core.under then Starved else Deadlock)
@@ -115,7 +109,7 @@ settled core = record core { under = underway.settled core.under }
 
 -- a pass of a world whose rates are up to date
 abbrev pub settled_pass : Setup → Core → Step
-settled_pass setup core = pass_at setup core (next_in core.under)
+settled_pass setup core = pass_at setup core (next_span setup core)
 
 abbrev pub pass_of : Setup → Core → Step
 pass_of setup core = settled_pass setup (settled core)

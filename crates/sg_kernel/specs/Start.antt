@@ -6,6 +6,7 @@ use Rattle.sg_activity.specs.declared.kinds.HostCap.{HostCap}
 use Rattle.sg_activity.specs.declared.kinds.LinkCap.{LinkCap}
 use Rattle.sg_activity.specs.Links.{Capacities}
 use Rattle.sg_activity.specs.Underway.{nothing_on}
+use Rattle.sg_profile.specs.Profiles.{first_turns, profiles_in}
 use Rattle.sg_rows.specs.declared.rows.ActorRow.{ActorRow}
 use Rattle.sg_rows.specs.declared.rows.Function.{Function}
 use Rattle.sg_rows.specs.declared.rows.Function.TheVariants.{Replay, Worker, Master, Churn}
@@ -69,6 +70,7 @@ setup_of platform deployed budget = record {
   hosts = length platform.hosts;
   links = length (link_ends platform.links);
   network = platform.network;
+  profiles = profiles_in platform;
   homes = map home_of deployed.actors;
   mutexes = length deployed.mutexes;
   semaphores = map capacity_of deployed.semaphores;
@@ -89,10 +91,11 @@ first_objects setup = record {
   others = [];
 }
 
--- on these hosts and links nothing is under way, and all actors are ready with the answer Start
+-- on these hosts and links nothing is under way, each profile is before its first entry, and all actors are ready with the answer Start
 abbrev pub first_core : Capacities → Setup → Core
 first_core capacities setup = record {
   under = nothing_on capacities;
+  turns = first_turns setup.profiles;
   actors = replicate (length setup.homes) (Ready answer.Start);
   whose = [];
   requests = replicate (length setup.homes) [];

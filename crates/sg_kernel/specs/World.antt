@@ -4,6 +4,8 @@ use Rattle.sg_base.specs.declared.awaits.Await.{Await}
 use Rattle.sg_base.specs.Limits.{Extent}
 use Rattle.sg_base.specs.Mind.{Mind}
 use Rattle.sg_activity.specs.Underway.{Underway}
+use Rattle.sg_profile.specs.declared.turn.Turn.{Turn}
+use Rattle.sg_profile.specs.declared.profile.Profile.{Profile}
 use Rattle.sg_rows.specs.declared.network.Network.{Network}
 use Rattle.sg_states.specs.declared.state.State.{State}
 use Rattle.sg_states.specs.Actors.{put_state, state_at}
@@ -13,11 +15,12 @@ use Rattle.sg_kernel.specs.declared.owners.How.TheVariants as how
 use Rattle.sg_kernel.specs.declared.owners.Whose.{Whose}
 use Rattle.sg_kernel.specs.declared.owners.Whose.TheVariants.{Over}
 
--- what stays: how many hosts and links there are, what the network does to latencies and bandwidths, the host of each actor, how many mutexes there are, the capacity of each semaphore, how many members the barrier has, and how many events there may be
+-- what stays: how many hosts and links there are, what the network does to latencies and bandwidths, the profiles of hosts and links, the host of each actor, how many mutexes there are, the capacity of each semaphore, how many members the barrier has, and how many events there may be
 pub record Setup : Type 0 where
   pub hosts : ℕ
   pub links : ℕ
   pub network : Network
+  pub profiles : List Profile
   pub homes : List ℕ
   pub mutexes : ℕ
   pub semaphores : List ℕ
@@ -28,9 +31,10 @@ pub record Setup : Type 0 where
 abbrev pub extent : Setup → Extent
 extent setup = record { actors = length setup.homes; mutexes = setup.mutexes; semaphores = length setup.semaphores }
 
--- The part of the world that calls and passes change: what is under way, with its date and its hosts and links; what each actor does, by id from 1 on; whose each activity ever made is, by serial from 1 on; the requests of each actor, oldest first; the mutexes, the semaphores and the barrier; the count of events.
+-- The part of the world that calls and passes change: what is under way, with its date and its hosts and links as they are now; how far each profile is; what each actor does, by id from 1 on; whose each activity ever made is, by serial from 1 on; the requests of each actor, oldest first; the mutexes, the semaphores and the barrier; the count of events.
 pub record Core : Type 0 where
   pub under : Underway
+  pub turns : List Turn
   pub actors : List State
   pub whose : List Whose
   pub requests : List (List Await)

@@ -1,5 +1,6 @@
 -- How the kernel keeps what it knows.
 pub mod Owners
 pub mod Sound
+pub mod Coming
 pub mod Waking
 pub mod Whole

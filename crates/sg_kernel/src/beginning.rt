@@ -18,6 +18,7 @@ use crate::setup::{capacities, homes, hosts, links, members};
 use sg_activity::{Activities, HostCap, LinkCap};
 use sg_base::Memory;
 use sg_mailbox::Boxes;
+use sg_profile::Profiles;
 use sg_requests::Requests;
 use sg_rows::{Deployment, PlatformText};
 use sg_states::States;
@@ -60,6 +61,7 @@ pub(crate) fn first_fields(
 {
     let hosts = hosts(alloc, platform.hosts())?;
     let network = platform.network();
+    let profiles = Profiles::new(alloc, platform)?;
     let links = links(alloc, network, platform.links())?;
     let semaphores = capacities(alloc, deployment.semaphores())?;
     let mutexes = deployment.mutexes().len();
@@ -78,6 +80,7 @@ pub(crate) fn first_fields(
         hosts: hosts.len(),
         links: links.len(),
         network,
+        profiles,
         homes,
         mutexes,
         semaphores,

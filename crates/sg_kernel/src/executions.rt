@@ -1,13 +1,15 @@
 //! Executions and sleeps begin.
-ghost use Rattle.std.specs.Prelude.{◌≡◌};
+ghost use Rattle.std.specs.Prelude.{◌≡◌, ◌<◌, length};
 ghost use Rattle.sg_base.specs.Limits.{IsAmount, IsPriority, IsTime};
-ghost use Rattle.sg_kernel.specs.Calls.{alone, with_execution, with_sleep};
-ghost use Rattle.sg_kernel.specs.kept.Sound.{setup_in, CountsBy};
+ghost use Rattle.sg_kernel.specs.World.{host_of};
+ghost use Rattle.sg_kernel.specs.Calls.{alone, computes, with_execution, with_sleep};
+ghost use Rattle.sg_kernel.specs.kept.Sound.{setup_in, CallsBy, CountsBy, IsHome};
 ghost use Rattle.sg_kernel.specs.kept.Whole.{CanStep, IsWhole};
 
+use crate::at_once::answer_now;
 use crate::fields::Fields;
 use crate::owners::Whose;
-use sg_base::{ActorId, Await, Call, Party, Serial};
+use sg_base::{ActorId, Answer, Await, Call, Party, PointId, Serial};
 
 fn alone(serial: Serial) -> Await
     ensures { result ≡ alone serial.0 }
@@ -18,16 +20,25 @@ fn alone(serial: Serial) -> Await
     }
 }
 
-/// The actor computes at a priority.
-pub(crate) fn compute(fields: &mut Fields, actor: ActorId, flops: u64, priority: u32)
+// The host of an actor.
+fn home_of(fields: &Fields, actor: ActorId) -> PointId
+    requires { CanStep fields.now actor.0 }
+    ensures is { result.0 ≡ host_of (setup_in fields.now) actor.0 }
+    ensures exists { result.0 < length fields.now.doing.under.capacities.hosts }
+{
+    fields.homes[actor.index()]
+}
+
+// The actor computes on its host, which is on.
+fn execute(fields: &mut Fields, actor: ActorId, host: PointId, flops: u64, priority: u32)
     requires able { CanStep fields.old actor.0 }
     requires flops { IsAmount flops }
     requires priority { IsPriority priority }
+    requires home { IsHome fields.old actor.0 host }
     ensures known { CountsBy (with_execution (setup_in fields.old) actor.0 flops priority)
         fields.old fields.new }
     ensures whole { IsWhole fields.new }
 {
-    let host = fields.homes[actor.index()];
     let date = fields.doing.date();
     let serial = fields.doing.start_exec(host, flops, priority);
     fields.whose.push(Whose::Alone(actor));
@@ -38,6 +49,29 @@ pub(crate) fn compute(fields: &mut Fields, actor: ActorId, flops: u64, priority:
         Some(alone(serial)),
     );
     fields.events += 1;
+}
+
+/// The actor computes at a priority, unless its host is off.
+pub(crate) fn compute(fields: &mut Fields, actor: ActorId, flops: u64, priority: u32)
+    requires able { CanStep fields.old actor.0 }
+    requires flops { IsAmount flops }
+    requires priority { IsPriority priority }
+    ensures known { CallsBy (computes (setup_in fields.old) actor.0 flops priority)
+        fields.old fields.new }
+    ensures whole { IsWhole fields.new }
+{
+    let host = home_of(fields, actor);
+    if fields.doing.is_host_off(host) {
+        answer_now(
+            fields,
+            actor,
+            Call::Compute(flops, priority),
+            0,
+            Answer::Failed,
+        )
+    } else {
+        execute(fields, actor, host, flops, priority)
+    }
 }
 
 /// The actor sleeps.

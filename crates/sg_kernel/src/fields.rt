@@ -3,6 +3,7 @@ use crate::owners::Owners;
 use sg_activity::Activities;
 use sg_base::PointId;
 use sg_mailbox::Boxes;
+use sg_profile::Profiles;
 use sg_requests::Requests;
 use sg_rows::Network;
 use sg_states::States;
@@ -25,6 +26,8 @@ pub(crate) struct Fields {
     /// How many links there are, with the loopback.
     pub(crate) links: usize,
     pub(crate) network: Network,
+    /// The profiles of hosts and links, and how far each is.
+    pub(crate) profiles: Profiles,
     /// The host of each actor.
     pub(crate) homes: Vec<PointId>,
     /// How many mutexes there are.

@@ -20,7 +20,7 @@ use crate::at_once::go_on;
 use crate::beginning::first_fields;
 use crate::calls::answer_call;
 use crate::fields::Fields;
-use crate::passes::{end_due, none_next};
+use crate::passes::move_on;
 use crate::stop::Stop;
 use sg_base::{Action, ActorId, Answer, Call, Memory, Record, Steps};
 use sg_route::Router;
@@ -30,8 +30,9 @@ use std::marker::Model;
 use std::sync::ledger::Ledger;
 
 /// What runs a simulation. In a round each ready actor takes its turn, and the kernel answers the calls by rising
-/// actor; once nobody is ready, a pass moves the date to where the next activities are done. Each call that is
-/// answered and each activity that is done is one event.
+/// actor; once nobody is ready, a pass moves the date to where the next activities are done or a host or a link
+/// changes. Each call that is answered, each of these changes, each activity that fails by one and each activity that
+/// is done is one event.
 ///
 /// Contracts see the setup, the core of the world, the records that aren't cleared, and for how many calls there is
 /// room. It stands for each world with that core: it keeps no minds of actors, no numbers of their Asks, nothing of
@@ -91,8 +92,9 @@ impl Kernel {
         self.fields.states.reserve_round(n)
     }
 
-    /// Answers a call of a ready actor. An Ask is refused: `tell` is its answer where there is a script. `router` has
-    /// the routes of the kernel's platform, and stands for the same ones afterwards.
+    /// Answers a call of a ready actor. An Ask is refused: `tell` is its answer where there is a script. An execution on
+    /// a host that is off fails at once, and so does a communication that would begin over a link that is off, or from
+    /// or to such a host. `router` has the routes of the kernel's platform, and stands for the same ones afterwards.
     pub fn answer(&mut self, actor: ActorId, call: Call, router: &mut Router) -> Result<(), Stop>
         requires caller { MayCall self.old.core actor.0 }
         requires call { IsCall (extent self.old.setup) call }
@@ -127,9 +129,12 @@ impl Kernel {
         Ok(())
     }
 
-    /// Moves the date to where the next activities are done, and ends them by rising serial: each answers its actor,
-    /// with a record. `steps` counts the looks of the filling, at uses of what shares hosts or links with what began
-    /// and ended since the pass before.
+    /// Moves the date to where the next activities are done or the next entries of profiles come. First the entries of
+    /// that date come, in order of rows; after each, all that uses a host or a link that is off fails, by rising serial.
+    /// Then the activities that are due end, by rising serial. Each that fails or ends answers its actor, with a record.
+    /// Where neither will ever come, the run is in a deadlock, or starved where something is under way. `steps` counts
+    /// the looks of the filling, at uses of what shares hosts or links with what began, ended or changed since the pass
+    /// before.
     pub fn pass<L: Ledger>(&mut self, steps: &mut Steps<L>) -> Result<(), Stop>
         requires idle { list_any is_ready self.old.core.actors ≡ false }
         requires going { list_all is_ended self.old.core.actors ≡ false }
@@ -139,17 +144,7 @@ impl Kernel {
         ensures actors { length self.new.core.actors ≡ length self.old.core.actors }
     {
         self.fields.doing.settle(steps);
-        let Some(date) = self.fields.doing.next_date() else {
-            return Err(none_next(&self.fields.doing));
-        };
-        if self.fields.events == self.fields.budget {
-            return Err(Stop::Budget);
-        }
-        self.fields.doing.advance_to(date);
-        self.fields.states.begin_pass();
-        let stopped = end_due(&mut self.fields);
-        self.fields.states.end_pass();
-        stopped
+        move_on(&mut self.fields)
     }
 
     /// How many actors there are. Their ids count from 1.

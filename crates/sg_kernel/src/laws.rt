@@ -2,6 +2,7 @@
 ghost use Rattle.std.specs.Prelude.{◌≡◌, length};
 ghost use Rattle.sg_route.specs.Roads.{roads_of};
 ghost use Rattle.sg_rows.specs.Ends.{link_ends};
+ghost use Rattle.sg_kernel.specs.Failures.{NothingOffIsUsed};
 ghost use Rattle.sg_kernel.specs.Known.{StandsAtFirst, StepsLead};
 ghost use Rattle.sg_kernel.specs.Roads.{AreOver};
 
@@ -17,6 +18,12 @@ pub fn stands_at_first()
 /// which it then stands.
 pub fn steps_lead()
     ensures { StepsLead }
+{}
+
+/// Nothing that is under way uses a host or a link that is off: not at first, not after a call, and not after a pass
+/// that wasn't stopped.
+pub fn nothing_off_is_used()
+    ensures { NothingOffIsUsed }
 {}
 
 /// All routes of a platform's router are such as its kernels ask for: over 1 to 64 of its links, and with a latency

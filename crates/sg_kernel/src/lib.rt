@@ -1,10 +1,13 @@
 //! The kernel of a simulation: it answers the calls of actors, moves the date, and tells when a run has to end.
 #![tactic(auto)]
 
+mod answers;
 mod at_once;
 mod beginning;
 mod calls;
+mod entries;
 mod executions;
+mod failures;
 mod fields;
 mod kernel;
 mod laws;
@@ -17,6 +20,6 @@ mod setup;
 mod stop;
 
 pub use kernel::Kernel;
-pub use laws::{roads_are_over, stands_at_first, steps_lead};
+pub use laws::{nothing_off_is_used, roads_are_over, stands_at_first, steps_lead};
 pub use owners::{How, Whose};
 pub use stop::Stop;

@@ -1,6 +1,7 @@
 //! Sides of communications come to mailboxes, and actors wait for their requests.
 
-ghost use Rattle.std.specs.Prelude.{◌≡◌, ◌≢◌, ◌-◌, ◌<◌, ◌≤◌, AllPairs, None, Some, is_ok, length, true};
+ghost use Rattle.std.specs.Prelude.{◌≡◌, ◌≢◌, ◌-◌, ◌<◌, ◌≤◌, ◌^◌, AllPairs, None, Some, false, is_ok, length, true};
+ghost use Rattle.sg_activity.specs.Task.{is_cut};
 ghost use Rattle.sg_base.specs.declared.ids.BoxId.{BoxId};
 ghost use Rattle.sg_base.specs.Limits.{IsActorIn};
 ghost use Rattle.sg_mailbox.specs.Posts.{meets, waiting, IsFound};
@@ -8,18 +9,21 @@ ghost use Rattle.sg_states.specs.Records.{IsTellable};
 ghost use Rattle.sg_states.specs.States.{CanCall};
 ghost use Rattle.sg_kernel.specs.World.{extent};
 ghost use Rattle.sg_kernel.specs.Steps.{blocked_by, result_of};
-ghost use Rattle.sg_kernel.specs.Meetings.{answer_of_over as answer_of_over_spec, bare_side, comer_of, joins_with, party_of, point_of, posts, receiver_of, receives_by, sender_of, sends_by, side_of, stop_of, takes_part, waits as waits_spec};
+ghost use Rattle.sg_kernel.specs.Answers.{bare_side, side_of};
+ghost use Rattle.sg_kernel.specs.Meetings.{answer_of_over as answer_of_over_spec, comer_fails, comer_of, fails_with, joins_on, joins_with, other_fails, party_of, point_of, posts, receiver_of, receives_by, sender_of, sends_by, stop_of, takes_part, waits as waits_spec, way_with};
 ghost use Rattle.sg_kernel.specs.Known.{after_call};
 ghost use Rattle.sg_kernel.specs.Roads.{AreOver, IsOver};
-ghost use Rattle.sg_kernel.specs.kept.Sound.{core_of, known_of, setup_in, comes_in, CallsBy, CountsBy, IsComer};
-ghost use Rattle.sg_kernel.specs.kept.Whole.{CanStep, IsWhole, IsWholeFor};
+ghost use Rattle.sg_kernel.specs.kept.Sound.{core_of, known_of, setup_in, comes_in, CallsBy, CountsBy, IsComer, IsSide, IsSound, StepsBy};
+ghost use Rattle.sg_kernel.specs.kept.Whole.{CanStep, IsWhole, IsWholeFor, KeepsWhole};
 
+use crate::answers::{answer_side, for_receiver};
 use crate::at_once::answer_now;
 use crate::fields::Fields;
 use crate::network::{latency_over, own_bound};
 use crate::owners::{How, Whose};
 use crate::stop::Stop;
 use arrayvec::ArrayVec;
+use sg_activity::Transfer;
 use sg_base::{ActorId, Answer, Await, BoxId, Call, LinkId, Msg, Party, PointId, Serial};
 use sg_mailbox::{Found, Side};
 use sg_route::{RouteFault, Router};
@@ -210,6 +214,9 @@ fn begin(
     requires route { IsOver fields.old.links
         (record { links = links.now; latency = latency }) }
     requires apart { AllPairs (λ a b. a ≢ b) links.now }
+    requires on { is_cut fields.old.doing.under.on
+        (way_with (record { links = links.now; latency = latency }) (setup_in fields.old)
+        comer met.1) ≡ false }
     ensures known { CallsBy
         (joins_with (record { links = links.now; latency = latency }) (setup_in fields.old)
         comer met.0 met.1)
@@ -218,23 +225,127 @@ fn begin(
 {
     let (serial, other) = met;
     let sender = sender_of(comer, other);
+    let receiver = receiver_of(comer, other);
     let lasts = latency_over(fields, links, latency);
     let bound = own_bound(fields, links, latency, sender.rate);
+    let from = point_of(fields, sender);
+    let to = point_of(fields, receiver);
+    let transfer = Transfer {
+        latency: lasts,
+        bytes: sender.bytes,
+        bound,
+        sender: from,
+        receiver: to,
+    };
     fields.events += 1;
     let next = fields.doing.next_serial();
     fields
         .boxes
         .enter(comer.mailbox, comer.sends, found, comer.side, next);
-    fields
-        .doing
-        .start_comm(serial, links, lasts, sender.bytes, bound);
-    fields
-        .whose
-        .put(serial, Whose::Pair(sender, receiver_of(comer, other)));
+    fields.doing.start_comm(serial, links, transfer);
+    fields.whose.put(serial, Whose::Pair(sender, receiver));
     take_part(fields, comer, serial);
 }
 
-// Both sides are there, and the communication begins over its route.
+// The actor of a call that is counted takes part in a communication that fails; that takes the room of the call.
+fn fail_comer(fields: &mut Fields, comer: Comer, serial: Serial, other: Side)
+    requires able { CanCall fields.old.states comer.side.actor.0 }
+    requires comer { IsComer (extent (setup_in fields.old)) comer }
+    requires other { IsSide (extent (setup_in fields.old)) other }
+    requires made { (0 < serial.0) × (serial.0 ≤ length fields.old.whose.whose) }
+    requires room { fields.old.states.room ≤ fields.old.requests.room }
+    requires few { fields.old.requests.asked < fields.old.events }
+    requires whole { IsWholeFor (fields.old.states.room - 1) fields.old }
+    ensures known { known_of fields.new ≡ after_call true
+        (comer_fails comer serial.0 other (core_of fields.old)) (known_of fields.old) }
+    ensures whole { IsWhole fields.new }
+{
+    let date = fields.doing.date();
+    if comer.waits {
+        let bytes = sender_of(comer, other).bytes;
+        fields
+            .states
+            .answer(comer.side.actor, comer.what, bytes, Answer::Failed, date)
+    } else {
+        take_part(fields, comer, serial)
+    }
+}
+
+// The side that waited is answered, where its communication fails.
+fn fail_other(fields: &mut Fields, comer: Comer, serial: Serial, other: Side)
+    requires comer { IsComer (extent (setup_in fields.old)) comer }
+    requires other { IsSide (extent (setup_in fields.old)) other }
+    requires sound { IsSound fields.old }
+    requires small { fields.old.doing.under.date < 10 ^ 33 }
+    ensures known { StepsBy (other_fails comer serial.0 other) fields.old fields.new }
+    ensures keeps { KeepsWhole fields.old fields.new }
+{
+    if comer.sends {
+        let given = for_receiver(comer.side, other);
+        answer_side(fields, How::Failed, serial, Party::Receiver, given)
+    } else {
+        answer_side(fields, How::Failed, serial, Party::Sender, other)
+    }
+}
+
+// Both sides are there, but something that they would use is off: the communication fails in the call.
+fn fail_at_once(fields: &mut Fields, comer: Comer, found: Found, met: (Serial, Side))
+    requires able { CanStep fields.old comer.side.actor.0 }
+    requires comer { IsComer (extent (setup_in fields.old)) comer }
+    requires found { IsFound fields.old.boxes comer.mailbox comer.sends found }
+    requires met { found.met ≡ Some met }
+    ensures known { CallsBy (fails_with comer met.0 met.1) fields.old fields.new }
+    ensures whole { IsWhole fields.new }
+{
+    let (serial, other) = met;
+    fields.events += 1;
+    let next = fields.doing.next_serial();
+    fields
+        .boxes
+        .enter(comer.mailbox, comer.sends, found, comer.side, next);
+    fields.whose.put(serial, Whose::Over(How::Failed));
+    if comer.sends {
+        fail_comer(fields, comer, serial, other);
+        fail_other(fields, comer, serial, other)
+    } else {
+        fail_other(fields, comer, serial, other);
+        fail_comer(fields, comer, serial, other)
+    }
+}
+
+// Both sides are there: the communication begins over these links, unless something is off that it would use.
+fn meet(
+    fields: &mut Fields,
+    comer: Comer,
+    found: Found,
+    met: (Serial, Side),
+    links: &[LinkId],
+    latency: u128,
+)
+    requires able { CanStep fields.old comer.side.actor.0 }
+    requires comer { IsComer (extent (setup_in fields.old)) comer }
+    requires found { IsFound fields.old.boxes comer.mailbox comer.sends found }
+    requires met { found.met ≡ Some met }
+    requires route { IsOver fields.old.links
+        (record { links = links.now; latency = latency }) }
+    requires apart { AllPairs (λ a b. a ≢ b) links.now }
+    ensures known { CallsBy
+        (joins_on (record { links = links.now; latency = latency }) (setup_in fields.old)
+        comer met.0 met.1)
+        fields.old fields.new }
+    ensures whole { IsWhole fields.new }
+{
+    let (_, other) = met;
+    let sender = point_of(fields, sender_of(comer, other));
+    let receiver = point_of(fields, receiver_of(comer, other));
+    if fields.doing.is_cut(links, sender, receiver) {
+        fail_at_once(fields, comer, found, met)
+    } else {
+        begin(fields, comer, found, met, links, latency)
+    }
+}
+
+// Both sides are there: their communication begins over its route, or fails.
 fn join(
     fields: &mut Fields,
     router: &mut Router,
@@ -259,7 +370,7 @@ fn join(
     let mut links: ArrayVec<LinkId, 64> = ArrayVec::new();
     match router.route(from, to, &mut links) {
         Ok(latency) => {
-            begin(fields, comer, found, met, links.as_slice(), latency);
+            meet(fields, comer, found, met, links.as_slice(), latency);
             Ok(())
         }
         Err(fault) => Err(stop_of(from, to, fault)),
@@ -305,6 +416,7 @@ fn answer_of_over(whose: Whose) -> Option<Answer>
 {
     match whose {
         Whose::Over(How::Done) => Some(Answer::Done),
+        Whose::Over(How::Failed) => Some(Answer::Failed),
         Whose::Alone(_) | Whose::Posted(..) | Whose::Pair(..) => None,
     }
 }

@@ -1,5 +1,5 @@
 //! Whose each activity is.
-ghost use Rattle.std.specs.Prelude.{◌≡◌, ◌+◌, ◌-◌, ◌<◌, ◌≤◌, ◌^◌, ◌++◌, ◌∷◌, [], length, slice_index_or, slice_set, OnOk};
+ghost use Rattle.std.specs.Prelude.{◌≡◌, ◌≢◌, ◌+◌, ◌-◌, ◌<◌, ◌≤◌, ◌^◌, ◌++◌, ◌∷◌, [], length, slice_index_or, slice_set, OnOk};
 ghost use Rattle.sg_kernel.specs.declared.owners.How.TheVariants as how;
 ghost use Rattle.sg_kernel.specs.declared.owners.Whose.TheVariants.{Over};
 ghost use Rattle.sg_kernel.specs.kept.Owners.{whose_of as whose_of_spec};
@@ -15,6 +15,8 @@ use std::marker::Model;
 pub enum How {
     /// All of it is done.
     Done,
+    /// It failed: something that it used is off, or went off.
+    Failed,
 }
 
 /// Whose an activity is.
@@ -30,7 +32,8 @@ pub enum Whose {
     Pair(Side, Side),
 }
 
-/// Whose each activity is. It keeps nothing of one that is done, and contracts see a list by serial.
+/// Whose each activity is. It keeps nothing of one that is done, and of one that failed that it did. Contracts see a list
+/// by serial.
 #[derive(Drop)]
 pub(crate) struct Owners {
     owners: HashMap<u64, Whose>,
@@ -127,6 +130,27 @@ impl Owners {
             Err(_) => unreachable!(),
         }
         self.room -= 1;
+    }
+
+    /// The activity of this serial, which isn't over, failed; the answer is whose it was.
+    pub(crate) fn fail(&mut self, serial: Serial) -> Whose
+        requires from { 0 < serial.0 }
+        requires to { serial.0 ≤ length self.old.whose }
+        requires under_way { slice_index_or self.old.whose (serial.0 - 1) (Over how.Done)
+            ≢ Over how.Done }
+        ensures was { result ≡ slice_index_or self.old.whose (serial.0 - 1) (Over how.Done) }
+        ensures is { self.new ≡ record self.old {
+          whose = slice_set self.old.whose (serial.0 - 1) (Over how.Failed);
+        } }
+    {
+        match self.owners.get_mut(&serial.0) {
+            Some(whose) => {
+                let was = *whose;
+                *whose = Whose::Over(How::Failed);
+                was
+            }
+            None => unreachable!(),
+        }
     }
 
     /// The activity of this serial is done; the answer is whose it was.

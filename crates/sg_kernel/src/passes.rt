@@ -1,103 +1,32 @@
-//! Ends of phases.
+//! Passes, and ends of phases.
 
-ghost use Rattle.std.specs.Prelude.{◌≡◌, ◌≢◌, ◌+◌, ◌<◌, [], drop, if◌then◌else◌, Some};
+ghost use Rattle.std.specs.Prelude.{◌≡◌, ◌≢◌, ◌+◌, ◌<◌, ◌⊎◌, [], IsTrue, MatchOption, None, Some, drop, false, if◌then◌else◌};
 ghost use Rattle.sg_activity.specs.declared.kinds.PhaseKind.TheVariants as phase_kind;
 ghost use Rattle.sg_activity.specs.Doing.{IsDue};
 ghost use Rattle.sg_activity.specs.Underway.{is_running};
-ghost use Rattle.sg_kernel.specs.declared.owners.How.TheVariants as how;
-ghost use Rattle.sg_kernel.specs.World.{extent};
-ghost use Rattle.sg_kernel.specs.Steps.{each, result_of};
-ghost use Rattle.sg_kernel.specs.Passes.{answer_of_done as answer_of_done_spec, answers, answers_side, ends, ends_one, tells_bytes as tells_bytes_spec};
-ghost use Rattle.sg_kernel.specs.kept.Sound.{core_of, setup_in, IsOwner, IsSide, StepsBy};
-ghost use Rattle.sg_kernel.specs.kept.Whole.{IsPassing};
+ghost use Rattle.std.specs.List.{list_any};
+ghost use Rattle.sg_states.specs.Actors.{is_ready};
+ghost use Rattle.sg_kernel.specs.Steps.{all_of, each, result_of};
+ghost use Rattle.sg_kernel.specs.Passes.{ends, ends_one, next_span, settled_pass};
+ghost use Rattle.sg_kernel.specs.kept.Coming.{coming, CountsSome, IsNextDate};
+ghost use Rattle.sg_kernel.specs.kept.Sound.{core_of, rows_now, setup_in, StepsBy};
+ghost use Rattle.sg_kernel.specs.kept.Whole.{IsPassing, IsWhole};
 
+use crate::answers::answer_owners;
+use crate::entries::change_due;
 use crate::fields::Fields;
-use crate::meetings::bare_side;
-use crate::owners::Whose;
+use crate::owners::How;
 use crate::stop::Stop;
 use sg_activity::{Activities, Phase, PhaseKind};
-use sg_base::{Answer, Call, Msg, Party, Serial};
-use sg_mailbox::Side;
-use sg_states::State;
 
-/// Why there is no next date.
-pub(crate) fn none_next(doing: &Activities) -> Stop
+// Why there is no next date.
+fn none_next(doing: &Activities) -> Stop
     ensures { result ≡ (if is_running doing.now.under then Stop.Starved else Stop.Deadlock) }
 {
     if doing.running() {
         Stop::Starved
     } else {
         Stop::Deadlock
-    }
-}
-
-fn tells_bytes(what: Call) -> bool
-    ensures { result ≡ tells_bytes_spec what }
-{
-    match what {
-        Call::Send(..) | Call::Recv(_) => true,
-        _ => false,
-    }
-}
-
-// How many bytes the record of a call tells, of those that came.
-fn bytes_told(what: Call, bytes: u64) -> u64
-    ensures { result ≡ (if tells_bytes_spec what then bytes else 0) }
-{
-    if tells_bytes(what) { bytes } else { 0 }
-}
-
-fn answer_of_done(what: Call, msg: Msg) -> Answer
-    ensures { result ≡ answer_of_done_spec what msg }
-{
-    match what {
-        Call::Recv(_) => Answer::Got(msg),
-        _ => Answer::Done,
-    }
-}
-
-// Answers the actor of a side, where it is blocked on this side of this activity: with what the side gives.
-fn answer_side(fields: &mut Fields, serial: Serial, party: Party, given: Side)
-    requires given { IsSide (extent (setup_in fields.old)) given }
-    requires passing { IsPassing fields.old }
-    ensures known { StepsBy (answers_side how.Done serial.0 party given) fields.old fields.new }
-    ensures passing { IsPassing fields.new }
-    ensures doing { fields.new.doing ≡ fields.old.doing }
-    ensures events { fields.new.events ≡ fields.old.events }
-{
-    match fields.states.state(given.actor) {
-        State::Blocked(what, since, Some(on)) if on.serial.0 == serial.0 && on.party == party => {
-            let bytes = bytes_told(what, given.bytes);
-            let answer = answer_of_done(what, given.msg);
-            let date = fields.doing.date();
-            fields
-                .states
-                .reply(given.actor, what, since, bytes, answer, date);
-        }
-        _ => {}
-    }
-}
-
-// Answers those whose activity is done: the sender, and then the receiver.
-fn answer_owners(fields: &mut Fields, serial: Serial, whose: Whose)
-    requires whose { IsOwner (extent (setup_in fields.old)) whose }
-    requires passing { IsPassing fields.old }
-    ensures known { StepsBy (answers how.Done serial.0 whose) fields.old fields.new }
-    ensures passing { IsPassing fields.new }
-    ensures doing { fields.new.doing ≡ fields.old.doing }
-    ensures events { fields.new.events ≡ fields.old.events }
-{
-    match whose {
-        Whose::Alone(actor) => answer_side(fields, serial, Party::Alone, bare_side(actor)),
-        Whose::Pair(sender, receiver) => {
-            answer_side(fields, serial, Party::Sender, sender);
-            let given = Side {
-                actor: receiver.actor,
-                ..sender
-            };
-            answer_side(fields, serial, Party::Receiver, given);
-        }
-        Whose::Over(_) | Whose::Posted(..) => {}
     }
 }
 
@@ -132,7 +61,7 @@ fn end_activity(fields: &mut Fields, phase: Phase)
     let whose = fields.whose.take(phase.serial);
     fields.doing.finish();
     fields.events += 1;
-    answer_owners(fields, phase.serial, whose);
+    answer_owners(fields, How::Done, phase.serial, whose);
 }
 
 // Ends the first phase that is due.
@@ -152,11 +81,9 @@ fn end_phase(fields: &mut Fields, phase: Phase)
     }
 }
 
-/// Ends the phases that are due, as far as the budget goes.
-pub(crate) fn end_due(fields: &mut Fields) -> Result<(), Stop>
-    requires passing { IsPassing fields.old }
-    requires some { fields.old.doing.due ≢ [] }
-    requires budget { fields.old.events ≢ fields.old.budget }
+// Ends the phases that are due, as far as the budget goes.
+fn end_due(fields: &mut Fields) -> Result<(), Stop>
+    requires { IsPassing fields.old }
     ensures known { StepsBy (each (ends (setup_in fields.old)) fields.old.doing.due)
         fields.old fields.new }
     ensures result { result
@@ -164,7 +91,7 @@ pub(crate) fn end_due(fields: &mut Fields) -> Result<(), Stop>
         (core_of fields.old)).stop }
     ensures passing { IsPassing fields.new }
     ensures date { fields.new.doing.under.date ≡ fields.old.doing.under.date }
-    ensures events { fields.old.events < fields.new.events }
+    ensures events { CountsSome fields.old.doing.due fields.old fields.new }
 {
     while let Some(phase) = fields.doing.due() {
         if fields.events == fields.budget {
@@ -173,4 +100,62 @@ pub(crate) fn end_due(fields: &mut Fields) -> Result<(), Stop>
         end_phase(fields, phase);
     }
     Ok(())
+}
+
+// All that comes at the date: the entries of profiles, and then the ends of phases, as far as the budget goes.
+fn come(fields: &mut Fields) -> Result<(), Stop>
+    requires passing { IsPassing fields.old }
+    requires some { (rows_now fields.old ≢ []) ⊎ (fields.old.doing.due ≢ []) }
+    requires stale { fields.old.doing.under.marks.began ≡ [] }
+    requires budget { fields.old.events ≢ fields.old.budget }
+    ensures known { StepsBy (all_of (coming fields.old)) fields.old fields.new }
+    ensures result { result ≡ result_of (all_of (coming fields.old) (core_of fields.old)).stop }
+    ensures passing { IsPassing fields.new }
+    ensures date { fields.new.doing.under.date ≡ fields.old.doing.under.date }
+    ensures events { fields.old.events < fields.new.events }
+{
+    match change_due(fields) {
+        Ok(()) => end_due(fields),
+        Err(stop) => Err(stop),
+    }
+}
+
+// Where a pass goes next: to where the next phase is due or the next entry comes.
+fn next_date(fields: &Fields) -> Option<u128>
+    requires settled { IsTrue fields.now.doing.settled }
+    requires whole { IsWhole fields.now }
+    ensures { MatchOption result (next_span (setup_in fields.now) (core_of fields.now) ≡ None)
+        (λ date. IsNextDate fields.now date) }
+{
+    let Some((entry, _)) = fields.profiles.next() else {
+        return fields.doing.next_date();
+    };
+    match fields.doing.next_date() {
+        Some(phase) => Some(phase.min(entry)),
+        None => Some(entry),
+    }
+}
+
+/// Moves the date to where something comes next, and lets come what does. The rates are up to date.
+pub(crate) fn move_on(fields: &mut Fields) -> Result<(), Stop>
+    requires settled { IsTrue fields.old.doing.settled }
+    requires stale { fields.old.doing.under.marks.began ≡ [] }
+    requires whole { IsWhole fields.old }
+    requires idle { list_any is_ready fields.old.states.actors ≡ false }
+    ensures known { StepsBy (settled_pass (setup_in fields.old)) fields.old fields.new }
+    ensures result { result
+        ≡ result_of (settled_pass (setup_in fields.old) (core_of fields.old)).stop }
+    ensures whole { IsWhole fields.new }
+{
+    let Some(date) = next_date(fields) else {
+        return Err(none_next(&fields.doing));
+    };
+    if fields.events == fields.budget {
+        return Err(Stop::Budget);
+    }
+    fields.doing.advance_to(date);
+    fields.states.begin_pass();
+    let stopped = come(fields);
+    fields.states.end_pass();
+    stopped
 }

@@ -20,8 +20,8 @@ pub enum Stop {
         from: PointId,
         to: PointId,
     },
-    /// Nobody is ready, and nothing is under way.
+    /// Nobody is ready, nothing is under way, and no entry of a profile is left.
     Deadlock,
-    /// Nobody is ready, and nothing that is under way will ever be over.
+    /// Nobody is ready, nothing that is under way will ever be over, and no entry of a profile is left.
     Starved,
 }

@@ -1,5 +1,5 @@
 -- Filling goes on from what is filled.
-use Rattle.std.proofs.Common.{◌≡◌, ◌≢◌, ℕ, ◌+◌, ◌-◌, ◌*◌, ◌<◌, ◌≤◌, ◌^◌, inl, inr, Bool, true, None, IsSome, is_some, List, ◌++◌, length, get_or, take, drop, All, AllPairs, length-append, length-drop, refl, sym, ap, ap₂, subst, ◌∙◌, arith}
+use Rattle.std.proofs.Common.{◌≡◌, ◌≢◌, ℕ, ◌+◌, ◌-◌, ◌*◌, ◌<◌, ◌≤◌, ◌^◌, ◌⊎◌, inl, inr, Bool, true, false, true≢false, None, IsSome, is_some, List, ◌++◌, length, get_or, take, drop, All, AllPairs, length-append, length-drop, refl, sym, ap, ap₂, subst, ◌∙◌, arith}
 use Rattle.std.proofs.lemmas.List.{get_or-drop, take_all}
 use Rattle.std.proofs.lemmas.List.Elements.{All-get_or, All-from_get_or}
 use Rattle.std.proofs.lemmas.List.Sums.{sum_by-append}
@@ -13,15 +13,12 @@ use Rattle.sg_lazy.specs.kept.Component.{AllPass, AreIn, AreVisited, Grows, IsCl
 use Rattle.sg_lazy.specs.kept.Filling.{AreJoined, AreLeveled, HasPlaces, KeepsOthers, bound_at, flow_in, flows_at}
 use Rattle.sg_lazy.specs.kept.Parts.{FillsOn, HasShare, IsFilled, fill_looks}
 use Rattle.sg_lazy.proofs.Apart.{came, came_closed, shares_on}
-use Rattle.sg_lazy.proofs.Growing.{all_stay, grows_mark, grows_on, grows_same, in_at, mark_cases}
+use Rattle.sg_lazy.proofs.Growing.{all_stay, at_in, grows_mark, grows_on, grows_same, in_at, mark_cases}
 use Rattle.sg_lazy.proofs.Rows.{on_held}
 use Rattle.sg_lazy.proofs.Twice.{counts_twice_lem}
 
 pub fills_none : (s : Sharing) (a : Component) (x : ℕ) → FillsOn s a a x x
 fills_none s a x = record { touched = grows_same a.touched.members; reached = grows_same a.reached.members; looks = omega arith }
-
-pub fills_by : (s : Sharing) (a b : Component) (x y z : ℕ) → FillsOn s a b x y → x ≤ z → FillsOn s a b z y
-fills_by s a b x y z on h = record { touched = on.touched; reached = on.reached; looks = omega (arith, on.looks, h) }
 
 pub fills_on : (s : Sharing) (a b c : Component) (x y z : ℕ) → FillsOn s a b x y → FillsOn s b c y z → FillsOn s a c x z
 fills_on s a b c x y z one two = record {
@@ -36,9 +33,21 @@ lengths_came rows old new g = ap (lengths rows) (sym (came old new g)) ∙ sum_b
 pub length_came : (old new : List ℕ) → Grows old new → length new ≡ length old + length (drop (length old) new)
 length_came old new g = ap length (sym (came old new g)) ∙ length-append old (drop (length old) new)
 
+-- what stands in the longer list alone is among those that came
+pub some_came : (old new : List ℕ) (x : ℕ) → Grows old new → is_in x old ≡ false → is_in x new ≡ true → 0 < length (drop (length old) new)
+some_came old new x g off on =
+    let at = at_in x new on in
+    elim (below_cases at.0 (length old)) [
+      | inl h ↦ absurd (true≢false (sym (in_at x old at.0 h (sym (g.same at.0 h) ∙ at.2)) ∙ off))
+      | inr h ↦ omega (arith, h, at.1, length-drop (length old) new)
+    ]
+  where
+    below_cases : (a b : ℕ) → (a < b) ⊎ (b ≤ a)
+    below_cases a b = grind arith
+
 -- u uses and m flows are filled; the part has v uses and k flows, is reached by 2 * v looks, and takes so many to fill
-pub part_looks : (u v m k x y : ℕ) → y ≤ x + 2 * v + v + k * (3 * v) → y + (3 * u + m * (3 * u)) ≤ x + (3 * (u + v) + (m + k) * (3 * (u + v)))
-part_looks u v m k x y h = omega (arith, h)
+pub part_looks : (u v m k x y : ℕ) → 0 < k → y ≤ x + 2 * v + v + k * (3 * v) → y + 1 + (m + 3 * u + m * (3 * u)) ≤ x + (m + k + 3 * (u + v) + (m + k) * (3 * (u + v)))
+part_looks u v m k x y some h = omega (arith, some, h)
 
 -- ---- what came is a part
 pub rest_is : (n : ℕ) (xs : List ℕ) → take (length xs - n) (drop n xs) ≡ drop n xs
@@ -89,8 +98,8 @@ module _ (s : Sharing) (sound : IsSound s) (a z : Component) (f : Filling) (old 
   pub part_twice : lengths (users_on s.users) resources ≤ lengths (uses_at s.slots) part
   part_twice = counts_twice_lem (uses_at s.slots) (users_on s.users) part resources sound.both (once_drop (length a.reached.members) z.reached.members distinct) part_closed.covered
 
-  pub looks_are : fill_looks s z ≡ 3 * (touched_uses s a + lengths (uses_at s.slots) part) + (length a.touched.members + length part) * (3 * (touched_uses s a + lengths (uses_at s.slots) part))
-  looks_are = ap₂ (λ n u. 3 * u + n * (3 * u)) (length_came a.touched.members z.touched.members gt) (lengths_came (uses_at s.slots) a.touched.members z.touched.members gt)
+  pub looks_are : fill_looks s z ≡ length a.touched.members + length part + 3 * (touched_uses s a + lengths (uses_at s.slots) part) + (length a.touched.members + length part) * (3 * (touched_uses s a + lengths (uses_at s.slots) part))
+  looks_are = ap₂ (λ n u. n + 3 * u + n * (3 * u)) (length_came a.touched.members z.touched.members gt) (lengths_came (uses_at s.slots) a.touched.members z.touched.members gt)
 
   pub filled_on : (f' : Filling) → IsOpen s z → HasPlaces s f' → KeepsOthers part f f' → AreLeveled s part f' →
       ((i : ℕ) → i < length part → bound_at s.slots (get_or part i 0) ≡ None → share_of s.capacities (flows_at s.slots part) (flow_in s.slots (get_or part i 0)) < 2 ^ 64) → IsFilled s z f'
@@ -151,10 +160,3 @@ reached_more s a f c r old none e =
       places = old.places;
       shares = old.shares;
     }
-
-pub fills_reached : (s : Sharing) (a : Component) (c : ℕ) (r : MarkSet) (x : ℕ) → r ≡ record a.reached { members = with_mark c a.reached.members } → FillsOn s a (record { touched = a.touched; reached = r }) (x + 1) x
-fills_reached s a c r x e = record {
-  touched = grows_same a.touched.members;
-  reached = subst (Grows a.reached.members) (sym (ap (λ (m : MarkSet). m.members) e)) (grows_mark c a.reached.members);
-  looks = omega arith;
-}

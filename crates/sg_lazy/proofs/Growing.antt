@@ -47,8 +47,8 @@ in_end number xs = in_at number (xs ++ number ∷ []) (length xs) (omega (arith,
     at_end [] = refl
     at_end (x ∷ xs) = at_end xs
 
-pub marked : (number : ℕ) (xs : List ℕ) → is_in number (with_mark number xs) ≡ true
-marked number xs = (elim (is_in number xs) as (λ b. is_in number xs ≡ b → is_in number (cond b xs (xs ++ number ∷ [])) ≡ true) [ true ↦ λ e. e | false ↦ λ e. in_end number xs ]) refl
+pub mark_there : (number : ℕ) (xs : List ℕ) → is_in number (with_mark number xs) ≡ true
+mark_there number xs = (elim (is_in number xs) as (λ b. is_in number xs ≡ b → is_in number (cond b xs (xs ++ number ∷ [])) ≡ true) [ true ↦ λ e. e | false ↦ λ e. in_end number xs ]) refl
 
 pub few_mark : (number : ℕ) (xs : List ℕ) → length (with_mark number xs) ≤ length xs + 1
 few_mark number xs = elim (is_in number xs) as (λ b. length (cond b xs (xs ++ number ∷ [])) ≤ length xs + 1) [ true ↦ omega arith | false ↦ omega (arith, length-append xs (number ∷ [])) ]

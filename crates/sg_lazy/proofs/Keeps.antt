@@ -1,4 +1,4 @@
--- What is kept outlives starts and ends, and settling makes all rates those of the whole.
+-- What is kept outlives starts, ends and changes, and settling makes all rates those of the whole.
 use Rattle.std.proofs.Common.{◌≡◌, ◌≢◌, ℕ, ◌+◌, ◌<◌, ◌⊎◌, inl, inr, Bool, true, false, cond, true≢false, Option, None, Some, IsTrue, List, [], ◌∷◌, Contains, length, set, sum_by, get_or-set_same, get_or-set_other, refl, sym, ap, subst, ◌∙◌, arith}
 use Rattle.std.specs.List.{list_any}
 use Rattle.sg_maxmin.specs.Fill.{Flow, is_on, share_of}
@@ -8,16 +8,12 @@ use Rattle.sg_maxmin.proofs.Members.{In, In-from_contains, contains_from_In, lis
 use Rattle.sg_maxmin.proofs.Rises.{is_on_uses}
 use Rattle.sg_lazy.specs.Touch.{touches, has_uses, SameBut}
 use Rattle.sg_lazy.proofs.Parts.{keeps_rate_lem, touched_rate_lem, free_rate_lem}
-use Rattle.sg_lazy.specs.RunningFlow.{RunningFlow, running_at, flows_in}
-use Rattle.sg_lazy.specs.kept.Keeping.{IsUnmarked, StartKeeps, EndKeeps, SettlesRates, SettleKeeps}
+use Rattle.sg_base.specs.MarkSet.{is_in, with_mark}
+use Rattle.sg_lazy.specs.RunningFlow.{RunningFlow, bounded_by, running_at, flows_in}
+use Rattle.sg_lazy.specs.kept.Keeping.{IsUnmarked, StartKeeps, EndKeeps, CapacityKeeps, BoundKeeps, SettlesRates, SettleKeeps}
+use Rattle.sg_lazy.proofs.Growing.{mark_there}
+use Rattle.sg_lazy.proofs.Listing.{bool_cases, eq_cases, is_in_other}
 use Rattle.sg_lazy.proofs.Slots.{In-flows, In-flows_back, sum_written}
-
-eq_cases : (a b : ℕ) → (a ≡ b) ⊎ (a ≢ b)
-eq_cases a b = grind arith
-
-bool_cases : (b : Bool) → (b ≡ true) ⊎ (b ≡ false)
-bool_cases true = inl refl
-bool_cases false = inr refl
 
 -- what stands in a list of slots of which one was written
 module _ (slots : List (Option RunningFlow)) (id : ℕ) (new : Option RunningFlow) (h : id < length slots) where
@@ -41,17 +37,17 @@ some_same : (a b : RunningFlow) → Some a ≡ Some b → a ≡ b
 some_same a b h = cc h
 
 pub start_keeps : StartKeeps
-start_keeps caps slots ended id running k h none began limit = record {
+start_keeps caps slots ended resources id running k h none marked limit = record {
   past_capacities = k.past_capacities;
   past = k.past;
   past_limits = k.past_limits;
   limits = each slots id (Some running) h (λ r. HasLimit r.flow) (λ other r ne e. k.limits other r e) (λ r e. subst (λ (x : RunningFlow). HasLimit x.flow) (some_same running r e) limit);
-  there = each slots id (Some running) h (λ r. r.began ≡ false → Contains k.past r.flow) (λ other r ne e. k.there other r e) (λ r e b. absurd (true≢false (sym began ∙ ap (λ (x : RunningFlow). x.began) (some_same running r e) ∙ b)));
-  rates = each slots id (Some running) h (λ r. r.began ≡ false → r.rate ≡ share_of k.past_capacities k.past r.flow) (λ other r ne e. k.rates other r e) (λ r e b. absurd (true≢false (sym began ∙ ap (λ (x : RunningFlow). x.began) (some_same running r e) ∙ b)));
+  there = each slots id (Some running) h (λ r. r.marked ≡ false → Contains k.past r.flow) (λ other r ne e. k.there other r e) (λ r e b. absurd (true≢false (sym marked ∙ ap (λ (x : RunningFlow). x.marked) (some_same running r e) ∙ b)));
+  rates = each slots id (Some running) h (λ r. r.marked ≡ false → r.rate ≡ share_of k.past_capacities k.past r.flow) (λ other r ne e. k.rates other r e) (λ r e b. absurd (true≢false (sym marked ∙ ap (λ (x : RunningFlow). x.marked) (some_same running r e) ∙ b)));
   same_capacities = λ c u. k.same_capacities c (before c u);
   same_flows = λ c u g.
       let g' : Flow → ℕ = λ f. cond (is_on c f) (g f) 0 in
-      let off : g' running.flow ≡ 0 = on_part c g running.flow (u.begun id running (here slots id (Some running) h) began) in
+      let off : g' running.flow ≡ 0 = on_part c g running.flow (u.unused id running (here slots id (Some running) h) marked) in
       k.same_flows c (before c u) g ∙ unchanged (sum_by g' (flows_in slots)) (sum_by g' (flows_in (set slots id (Some running)))) (g' running.flow) (sum_written g' slots id (Some running) None h none) off;
 }
   where
@@ -61,17 +57,17 @@ start_keeps caps slots ended id running k h none began limit = record {
     other_one : (other : ℕ) (r : RunningFlow) → running_at slots other ≡ Some r → other ≢ id
     other_one other r e q = let w : None ≡ Some r = sym none ∙ ap (running_at slots) (sym q) ∙ e in cc
 
-    before : (c : ℕ) → IsUnmarked (set slots id (Some running)) ended c → IsUnmarked slots ended c
-    before c u = record { begun = λ other r e b. u.begun other r (there slots id (Some running) h other (other_one other r e) ∙ e) b; gone = u.gone }
+    before : (c : ℕ) → IsUnmarked (set slots id (Some running)) ended resources c → IsUnmarked slots ended resources c
+    before c u = record { unused = λ other r e b. u.unused other r (there slots id (Some running) h other (other_one other r e) ∙ e) b; gone = u.gone; same = u.same }
 
 pub end_keeps : EndKeeps
-end_keeps caps slots ended id running k h is = record {
+end_keeps caps slots ended resources id running k h is = record {
   past_capacities = k.past_capacities;
   past = k.past;
   past_limits = k.past_limits;
   limits = each slots id None h (λ r. HasLimit r.flow) (λ other r ne e. k.limits other r e) (λ r e. cc);
-  there = each slots id None h (λ r. r.began ≡ false → Contains k.past r.flow) (λ other r ne e. k.there other r e) (λ r e. cc);
-  rates = each slots id None h (λ r. r.began ≡ false → r.rate ≡ share_of k.past_capacities k.past r.flow) (λ other r ne e. k.rates other r e) (λ r e. cc);
+  there = each slots id None h (λ r. r.marked ≡ false → Contains k.past r.flow) (λ other r ne e. k.there other r e) (λ r e. cc);
+  rates = each slots id None h (λ r. r.marked ≡ false → r.rate ≡ share_of k.past_capacities k.past r.flow) (λ other r ne e. k.rates other r e) (λ r e. cc);
   same_capacities = λ c u. k.same_capacities c (before c u);
   same_flows = λ c u g.
       let g' : Flow → ℕ = λ f. cond (is_on c f) (g f) 0 in
@@ -82,19 +78,72 @@ end_keeps caps slots ended id running k h is = record {
     unchanged : (a b d : ℕ) → b + d ≡ a + 0 → d ≡ 0 → a ≡ b
     unchanged a b d e z = omega arith
 
-    mine : (c : ℕ) → IsUnmarked (set slots id None) (running.flow ∷ ended) c → is_on c running.flow ≡ false
+    mine : (c : ℕ) → IsUnmarked (set slots id None) (running.flow ∷ ended) resources c → is_on c running.flow ≡ false
     mine c u = u.gone running.flow (contains_from_In (running.flow ∷ ended) running.flow (inl refl))
 
-    before : (c : ℕ) → IsUnmarked (set slots id None) (running.flow ∷ ended) c → IsUnmarked slots ended c
+    before : (c : ℕ) → IsUnmarked (set slots id None) (running.flow ∷ ended) resources c → IsUnmarked slots ended resources c
     before c u = record {
-      begun = λ other r e b. elim (eq_cases other id) [
+      unused = λ other r e b. elim (eq_cases other id) [
         | inl q ↦ subst (λ (x : RunningFlow). is_on c x.flow ≡ false) (some_same running r (sym is ∙ ap (running_at slots) (sym q) ∙ e)) (mine c u)
-        | inr ne ↦ u.begun other r (there slots id None h other ne ∙ e) b
+        | inr ne ↦ u.unused other r (there slots id None h other ne ∙ e) b
       ];
       gone = λ f i. u.gone f (contains_from_In (running.flow ∷ ended) f (inr (In-from_contains ended f i)));
+      same = u.same;
     }
 
--- a flow that began, and uses something, is touched
+pub capacity_keeps : CapacityKeeps
+capacity_keeps caps slots ended resources resource capacity k = record {
+  past_capacities = k.past_capacities;
+  past = k.past;
+  past_limits = k.past_limits;
+  limits = k.limits;
+  there = k.there;
+  rates = k.rates;
+  same_capacities = λ c u. k.same_capacities c (before c u) ∙ sym (get_or-set_other caps resource c capacity 0 (other c u));
+  same_flows = λ c u. k.same_flows c (before c u);
+}
+  where
+    other : (c : ℕ) → IsUnmarked slots ended (with_mark resource resources) c → c ≢ resource
+    other c u e = true≢false (sym (mark_there resource resources) ∙ ap (λ n. is_in n (with_mark resource resources)) (sym e) ∙ u.same)
+
+    before : (c : ℕ) → IsUnmarked slots ended (with_mark resource resources) c → IsUnmarked slots ended resources c
+    before c u = record { unused = u.unused; gone = u.gone; same = sym (is_in_other c resource resources (other c u)) ∙ u.same }
+
+pub bound_keeps : BoundKeeps
+bound_keeps caps slots ended resources id bound running k h is = record {
+  past_capacities = k.past_capacities;
+  past = k.past;
+  past_limits = k.past_limits;
+  limits = each slots id (Some new) h (λ r. HasLimit r.flow) (λ other r ne e. k.limits other r e) (λ r e. subst (λ (x : RunningFlow). HasLimit x.flow) (some_same new r e) (record { weighs = (k.limits id running is).weighs; bounds = λ none. refl }));
+  there = each slots id (Some new) h (λ r. r.marked ≡ false → Contains k.past r.flow) (λ other r ne e. k.there other r e) (λ r e b. absurd (true≢false (ap (λ (x : RunningFlow). x.marked) (some_same new r e) ∙ b)));
+  rates = each slots id (Some new) h (λ r. r.marked ≡ false → r.rate ≡ share_of k.past_capacities k.past r.flow) (λ other r ne e. k.rates other r e) (λ r e b. absurd (true≢false (ap (λ (x : RunningFlow). x.marked) (some_same new r e) ∙ b)));
+  same_capacities = λ c u. k.same_capacities c (before c u);
+  same_flows = λ c u g.
+      let g' : Flow → ℕ = λ f. cond (is_on c f) (g f) 0 in
+      k.same_flows c (before c u) g
+      ∙ unchanged (sum_by g' (flows_in slots)) (sum_by g' (flows_in (set slots id (Some new)))) (g' running.flow) (g' new.flow) (sum_written g' slots id (Some new) (Some running) h is) (on_part c g running.flow (mine c u)) (on_part c g new.flow (mine c u));
+}
+  where
+    new : RunningFlow
+    new = bounded_by bound running
+
+    unchanged : (a b d e : ℕ) → b + d ≡ a + e → d ≡ 0 → e ≡ 0 → a ≡ b
+    unchanged a b d e s y z = omega arith
+
+    mine : (c : ℕ) → IsUnmarked (set slots id (Some new)) ended resources c → is_on c running.flow ≡ false
+    mine c u = u.unused id new (here slots id (Some new) h) refl
+
+    before : (c : ℕ) → IsUnmarked (set slots id (Some new)) ended resources c → IsUnmarked slots ended resources c
+    before c u = record {
+      unused = λ other r e b. elim (eq_cases other id) [
+        | inl q ↦ subst (λ (x : RunningFlow). is_on c x.flow ≡ false) (some_same running r (sym is ∙ ap (running_at slots) (sym q) ∙ e)) (mine c u)
+        | inr ne ↦ u.unused other r (there slots id (Some new) h other ne ∙ e) b
+      ];
+      gone = u.gone;
+      same = u.same;
+    }
+
+-- a marked flow that uses something is touched
 some_use : (f : Flow) → f.uses ≢ [] → (c : ℕ) × In c f.uses
 some_use f ne = first f.uses ne
   where
@@ -117,11 +166,11 @@ untouched : (reached : ℕ → Bool) (xs : List ℕ) (c : ℕ) → In c xs → l
 untouched reached xs c i e = elim (bool_cases (reached c)) [ inr q ↦ q | inl q ↦ absurd (true≢false (sym (list_any_in reached xs c i q) ∙ e)) ]
 
 pub settles_rates_lem : SettlesRates
-settles_rates_lem caps slots ended reached id old rate k closed marked is rated = elim (bool_cases (touches reached old.flow)) [
+settles_rates_lem caps slots ended resources reached id old rate k closed marked is rated = elim (bool_cases (touches reached old.flow)) [
   | inl e ↦ rated.touched e ∙ touched_rate_lem caps flows reached old.flow limits closed mine e
   | inr e ↦ elim (empty_cases old.flow.uses) [
     | inl none ↦ sym (free_rate_lem caps flows old.flow rate limits mine none (rated.free none))
-    | inr some ↦ rated.others e some ∙ k.rates id old is (not_begun id old is some e)
+    | inr some ↦ rated.others e some ∙ k.rates id old is (not_marked id old is some e)
         ∙ keeps_rate_lem k.past_capacities caps k.past flows reached old.flow k.past_limits limits closed same past mine (uses_some old.flow.uses some) e
   ]
 ]
@@ -135,12 +184,12 @@ settles_rates_lem caps slots ended reached id old rate k closed marked is rated 
     mine : Contains (flows_in slots) old.flow
     mine = contains_from_In (flows_in slots) old.flow (In-flows slots id old is)
 
-    not_begun : (id : ℕ) (r : RunningFlow) → running_at slots id ≡ Some r → r.flow.uses ≢ [] → touches reached r.flow ≡ false → r.began ≡ false
-    not_begun id r is some e = elim (bool_cases r.began) [
+    not_marked : (id : ℕ) (r : RunningFlow) → running_at slots id ≡ Some r → r.flow.uses ≢ [] → touches reached r.flow ≡ false → r.marked ≡ false
+    not_marked id r is some e = elim (bool_cases r.marked) [
       | inr b ↦ b
       | inl b ↦
           let u = some_use r.flow some in
-          absurd (true≢false (sym (is_on_uses u.0 r.flow u.1) ∙ (marked u.0 (untouched reached r.flow.uses u.0 u.1 e)).begun id r is b))
+          absurd (true≢false (sym (is_on_uses u.0 r.flow u.1) ∙ (marked u.0 (untouched reached r.flow.uses u.0 u.1 e)).unused id r is b))
     ]
 
     same : SameBut reached k.past_capacities caps k.past (flows_in slots)
@@ -149,7 +198,7 @@ settles_rates_lem caps slots ended reached id old rate k closed marked is rated 
     past : (other : Flow) → Contains (flows_in slots) other → IsTrue (has_uses other) → touches reached other ≡ false → Contains k.past other
     past other i some e =
         let b = In-flows_back slots other (In-from_contains (flows_in slots) other i) in
-        subst (Contains k.past) b.3 (k.there b.0 b.1 b.2 (not_begun b.0 b.1 b.2 (λ q. true≢false (sym some ∙ ap has_some (sym (ap (λ (x : Flow). x.uses) b.3) ∙ q))) (ap (touches reached) b.3 ∙ e)))
+        subst (Contains k.past) b.3 (k.there b.0 b.1 b.2 (not_marked b.0 b.1 b.2 (λ q. true≢false (sym some ∙ ap has_some (sym (ap (λ (x : Flow). x.uses) b.3) ∙ q))) (ap (touches reached) b.3 ∙ e)))
 
 pub settle_keeps : SettleKeeps
 settle_keeps caps slots limits rates = record {

@@ -24,6 +24,7 @@ one_none fresh s idles roomier flow_room use_room =
       few = λ resource. omega (arith, nobody resource);
       none = λ resource h. nobody resource;
       ended = roomier.ended ∙ idles.ended;
+      steady = roomier.resources ∙ idles.steady;
     }
 
 on_next : (count resource : ℕ) → count ≢ resource → is_on resource (flow (count ∷ []) 1 (Some 10)) ≡ false
@@ -33,7 +34,7 @@ on_next count resource ne = ap (λ b. b || false) (ne_eqb count resource ne)
 pub one_more : (s : Lazily) (count id : ℕ) → IsOneEach count s → count < 100 → running_at s.slots id ≡ None → id < length s.slots → IsOneEach (count + 1) (with_flow s id (flow (count ∷ []) 1 (Some 10)))
 one_more s count id each more free below =
     let new = flow (count ∷ []) 1 (Some 10) in
-    let began : RunningFlow = record { flow = new; rate = 0; began = true } in
+    let began : RunningFlow = record { flow = new; rate = 0; began = true; marked = true } in
     let sums : (resource : ℕ) → users_of resource (set s.slots id (Some began)) ≡ users_of resource s.slots + cond (is_on resource new) 1 0 = λ resource. omega (arith, sum_written (λ f. cond (is_on resource f) 1 0) s.slots id (Some began) None below free) in
     let off : (resource : ℕ) → count ≢ resource → ◌≡◌ {A = ℕ} (cond (is_on resource new) 1 0) 0 = λ resource ne. ap {B = ℕ} (λ b. cond b 1 0) (on_next count resource ne) in
     record {
@@ -50,6 +51,7 @@ one_more s count id each more free below =
       ];
       none = λ resource h. let ne : count ≢ resource = (λ q. omega (arith, q, h)) in omega (arith, sums resource, off resource ne, each.none resource (omega (arith, h)));
       ended = each.ended;
+      steady = each.steady;
     }
   where
     same : (a b : RunningFlow) → Some a ≡ Some b → a ≡ b
@@ -86,6 +88,7 @@ one_settled s t count settled each =
       few = λ resource. omega (arith, sums resource, each.few resource);
       none = λ resource h. sums resource ∙ each.none resource h;
       ended = settled.none_ended;
+      steady = settled.no_resources;
     }
   where
     same_flow : (a b : Flow) → Some a ≡ Some b → a ≡ b

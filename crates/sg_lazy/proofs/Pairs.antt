@@ -1,5 +1,7 @@
 -- Flows that run in both, as one starts, and as one ends.
-use Rattle.std.proofs.Common.{◌≡◌, ◌≢◌, ℕ, ◌<◌, inl, inr, Option, None, Some, IsSome, is_some, List, length, set, get_or-set_same, get_or-set_other, sym, ap, subst, ◌∙◌}
+use Rattle.std.proofs.Common.{◌≡◌, ◌≢◌, ℕ, ◌<◌, ◌≤◌, ◌⊎◌, inl, inr, Option, None, Some, IsSome, is_some, List, length, get_or, set, get_or-set_same, get_or-set_other, sym, ap, subst, ◌∙◌, arith}
+use Rattle.std.proofs.lemmas.Grind.{get_or-set_at}
+use Rattle.std.proofs.lemmas.List.{get_or_past}
 use Rattle.sg_maxmin.specs.Sharing.{Sharing, flow_at}
 use Rattle.sg_lazy.specs.RunningFlow.{RunningFlow, running_at}
 use Rattle.sg_lazy.specs.Lazily.{Lazily}
@@ -15,6 +17,20 @@ same_number i j h = cc h
 is_none : {X : Type 0} (o : Option X) → o ≡ None → IsSome o → ⊥
 is_none None e h = cc h
 is_none (Some x) e h = none_some x (sym e)
+
+-- what is there stays there, where one that is there is written
+pub still_there : {X : Type 0} (xs : List (Option X)) (id : ℕ) (y : Option X) (other : ℕ) → IsSome y → IsSome (get_or xs other None) → IsSome (get_or (set xs id y) other None)
+still_there xs id y other some h = elim (eq_cases other id) [
+  | inr ne ↦ ap is_some (get_or-set_other xs id other y None ne) ∙ h
+  | inl q ↦ ap is_some (get_or-set_at xs id other y None q (below q (below_cases other (length xs)))) ∙ some
+]
+  where
+    below_cases : (a b : ℕ) → (a < b) ⊎ (b ≤ a)
+    below_cases a b = grind arith
+
+    below : other ≡ id → (other < length xs) ⊎ (length xs ≤ other) → id < length xs
+    below q (inl l) = omega (arith, q, l)
+    below q (inr past) = absurd (is_none (get_or xs other None) (get_or_past xs other None past) h)
 
 -- where each flow goes on, and no number changes its twin
 pub pairs_stay : (a b : Lazily) (s t : Sharing) (twins twins' : List (Option ℕ)) → ArePaired a s twins → length b.capacities ≡ length a.capacities → length t.capacities ≡ length s.capacities → ((id : ℕ) → IsSome (running_at a.slots id) → IsSome (running_at b.slots id)) → ((id : ℕ) → IsSome (flow_at s.slots id) → IsSome (flow_at t.slots id)) →

@@ -1,5 +1,5 @@
 -- After a settling each flow has its share of the whole.
-use Rattle.std.proofs.Common.{◌≡◌, ◌≢◌, ℕ, suc, ◌<◌, ◌≤◌, ◌⊎◌, inl, inr, Bool, true, false, true≢false, cond, ◌||◌, ◌&&◌, not, eqb, eq-eqb, ne_eqb, Option, None, Some, IsSome, is_some, List, [], ◌∷◌, map, length, get_or, set, sum_by, AllPairs, Contains, get_or-set_same, get_or-set_other, refl, sym, ap, subst, ◌∙◌, arith}
+use Rattle.std.proofs.Common.{◌≡◌, ◌≢◌, ℕ, suc, ◌<◌, ◌≤◌, ◌⊎◌, inl, inr, Bool, true, false, true≢false, cond, ◌||◌, ◌&&◌, not, eqb, eq-eqb, ne_eqb, Option, None, Some, is_some, List, [], ◌∷◌, map, length, get_or, set, sum_by, AllPairs, Contains, get_or-set_same, get_or-set_other, refl, sym, ap, subst, ◌∙◌, arith}
 use Rattle.std.proofs.lemmas.List.{get_or_past}
 use Rattle.std.proofs.lemmas.List.Sums.{sum_by-cons}
 use Rattle.sg_base.specs.MarkSet.{is_in}
@@ -16,8 +16,8 @@ use Rattle.sg_lazy.specs.RunningFlow.{RunningFlow, running_at, flows_in}
 use Rattle.sg_lazy.specs.kept.Component.{AreIn, IsClosure, AllPass}
 use Rattle.sg_lazy.specs.kept.Changes.{WritesRates, did_change}
 use Rattle.sg_lazy.specs.kept.Filling.{flow_in, flows_at}
-use Rattle.sg_lazy.specs.kept.Keeping.{IsUnmarked, AreKept}
-use Rattle.sg_lazy.specs.kept.Held.{IsWithout, running_of, running_in, flow_or_none, ended_in}
+use Rattle.sg_lazy.specs.kept.Keeping.{IsUnmarked}
+use Rattle.sg_lazy.specs.kept.Held.{IsLazy, IsWithout, running_of, running_in, flow_or_none, ended_in}
 use Rattle.sg_lazy.proofs.Growing.{at_in, in_at}
 use Rattle.sg_lazy.proofs.Keeps.{settles_rates_lem}
 use Rattle.sg_lazy.proofs.Parts.{free_rate_lem}
@@ -56,9 +56,9 @@ empty_cases [] = inl refl
 empty_cases (x ∷ xs) = inr (λ e. cc)
 
 -- ---- a settling: the flows that ended are gone
-module _ (s t : Sharing) (rates began ended : List ℕ) (without : IsWithout s t ended) (sound : IsSound t) where
+module _ (s t : Sharing) (rates began marked ended : List ℕ) (without : IsWithout s t ended) (sound : IsSound t) where
   abbrev running : List (Option RunningFlow)
-  running = running_in s.slots rates began ended
+  running = running_in s.slots rates began marked ended
 
   abbrev all : List Flow
   all = flows_in running
@@ -70,14 +70,14 @@ module _ (s t : Sharing) (rates began ended : List ℕ) (without : IsWithout s t
     | inr q ↦ (q, sym (without.slots id ∙ ap (λ b. cond b None (flow_at s.slots id)) q) ∙ e)
   ]
 
-  pub held_runs : (id : ℕ) (flow : Flow) → flow_at t.slots id ≡ Some flow → running_at running id ≡ Some (record { flow = flow; rate = get_or rates id 0; began = is_in id began })
+  pub held_runs : (id : ℕ) (flow : Flow) → flow_at t.slots id ≡ Some flow → running_at running id ≡ Some (record { flow = flow; rate = get_or rates id 0; began = is_in id began; marked = is_in id marked })
   held_runs id flow e =
       let b = held_before id flow e in
-      at_listed (length s.slots) (running_of s.slots rates began ended) id None (flow_below s.slots id flow b.1) ∙ rw (b.0, b.1) refl
+      at_listed (length s.slots) (running_of s.slots rates began marked ended) id None (flow_below s.slots id flow b.1) ∙ rw (b.0, b.1) refl
 
   pub runs_held : (id : ℕ) (r : RunningFlow) → running_at running id ≡ Some r → flow_at t.slots id ≡ Some r.flow
   runs_held id r at =
-      let here = is_here s.slots rates began ended id r at in
+      let here = is_here s.slots rates began marked ended id r at in
       without.slots id ∙ ap (λ b. cond b None (flow_at s.slots id)) here.off ∙ here.held
 
   all_limits : HaveLimits all
@@ -103,7 +103,7 @@ module _ (s t : Sharing) (rates began ended : List ℕ) (without : IsWithout s t
       inside = λ f i.
           let b = In-map_back (flow_in t.slots) touched f i in
           let k = some_of (flow_at t.slots b.0) (live b.0 (in_is b.0 touched b.1)) in
-          subst (λ x. In x all) (sym (flow_in_is t.slots b.0 k.0 k.1) ∙ b.2) (In-flows running b.0 (record { flow = k.0; rate = get_or rates b.0 0; began = is_in b.0 began }) (held_runs b.0 k.0 k.1));
+          subst (λ x. In x all) (sym (flow_in_is t.slots b.0 k.0 k.1) ∙ b.2) (In-flows running b.0 (record { flow = k.0; rate = get_or rates b.0 0; began = is_in b.0 began; marked = is_in b.0 marked }) (held_runs b.0 k.0 k.1));
       alone = λ f i c u h.
           let b = In-map_back (flow_in t.slots) touched f i in
           let k = some_of (flow_at t.slots b.0) (live b.0 (in_is b.0 touched b.1)) in
@@ -113,7 +113,7 @@ module _ (s t : Sharing) (rates began ended : List ℕ) (without : IsWithout s t
           (λ j l.
           let id = get_or touched j 0 in
           let m = some_of (flow_at t.slots id) (live id (in_at id touched j l refl)) in
-          (record { flow = m.0; rate = get_or rates id 0; began = is_in id began }, held_runs id m.0 m.1, sym (flow_in_is t.slots id m.0 m.1)))
+          (record { flow = m.0; rate = get_or rates id 0; began = is_in id began; marked = is_in id marked }, held_runs id m.0 m.1, sym (flow_in_is t.slots id m.0 m.1)))
           (λ id r at off. elim (bool_cases (is_on c r.flow)) [
             | inr q ↦ ap (λ b. cond b (h r.flow) 0) q
             | inl q ↦ absurd (true≢false (sym (joined id c r.flow (runs_held id r at) q here) ∙ off))
@@ -127,8 +127,8 @@ module _ (s t : Sharing) (rates began ended : List ℕ) (without : IsWithout s t
         ap (share_of caps (flows_at t.slots touched)) b
         ∙ share_of_part caps (flows_at t.slots touched) all (limited_from caps (flows_at t.slots touched) touched_limits) (limited_from caps all all_limits) is_part flow (subst (λ x. In x (flows_at t.slots touched)) b (In-map (flow_in t.slots) touched id (is_in_In id touched i)))
 
-    module _ (began_there : (id : ℕ) → is_in id began ≡ true → is_in id ended ≡ false → is_in id touched ≡ true) (ended_there : (id : ℕ) → is_in id ended ≡ true → AreIn (uses_at s.slots id) reached) (caps : List ℕ) (kept : AreKept caps running (ended_in s.slots ended))
-        (ended_are : (id : ℕ) → is_in id ended ≡ true → IsSome (flow_at s.slots id)) where
+    module _ (resources : List ℕ) (lazy : IsLazy s rates began marked ended resources) (marked_there : (id : ℕ) → is_in id marked ≡ true → is_in id ended ≡ false → is_in id touched ≡ true) (ended_there : (id : ℕ) → is_in id ended ≡ true → AreIn (uses_at s.slots id) reached)
+        (resources_there : (c : ℕ) → is_in c resources ≡ true → is_in c reached ≡ true) where
       is_closed : IsClosed all (λ c. is_in c reached)
       is_closed flow i r c u =
           let b = In-flows_back running flow (In-from_contains all flow i) in
@@ -136,54 +136,65 @@ module _ (s t : Sharing) (rates began ended : List ℕ) (without : IsWithout s t
           let e : flow_at t.slots b.0 ≡ Some flow = runs_held b.0 b.1 b.2 ∙ ap Some b.3 in
           spreads b.0 c flow e (joined b.0 used.0 flow e (in_is used.0 flow.uses used.1) used.2) u
 
-      are_unmarked : (c : ℕ) → is_in c reached ≡ false → IsUnmarked running (ended_in s.slots ended) c
+      are_unmarked : (c : ℕ) → is_in c reached ≡ false → IsUnmarked running (ended_in s.slots ended) resources c
       are_unmarked c off = record {
-        begun = λ id r at b.
-            let here = is_here s.slots rates began ended id r at in
+        unused = λ id r at b.
+            let here = is_here s.slots rates began marked ended id r at in
             elim (bool_cases (is_on c r.flow)) [
               | inr q ↦ q
-              | inl q ↦ absurd (true≢false (sym (spreads id c r.flow (runs_held id r at) (began_there id (sym here.started ∙ b) here.off) q) ∙ off))
+              | inl q ↦ absurd (true≢false (sym (spreads id c r.flow (runs_held id r at) (marked_there id (sym here.noted ∙ b) here.off) q) ∙ off))
             ];
         gone = λ flow i.
             let b = In-map_back (λ id. flow_or_none (flow_at s.slots id)) ended flow (In-from_contains (ended_in s.slots ended) flow i) in
-            let k = some_of (flow_at s.slots b.0) (ended_are b.0 (in_is b.0 ended b.1)) in
+            let k = some_of (flow_at s.slots b.0) (lazy.ended_are b.0 (in_is b.0 ended b.1)) in
             elim (bool_cases (is_on c flow)) [
               | inr q ↦ q
               | inl q ↦ absurd (true≢false (sym (into (uses_at s.slots b.0) reached c (ended_there b.0 (in_is b.0 ended b.1)) (uses_in_row s.slots b.0 c k.0 k.1 (ap (is_on c) (sym (ap flow_or_none k.1) ∙ b.2) ∙ q))) ∙ off))
             ];
+        same = elim (bool_cases (is_in c resources)) [
+          | inr q ↦ q
+          | inl q ↦ absurd (true≢false (sym (resources_there c q) ∙ off))
+        ];
       }
+
+      not_marked : (id : ℕ) (flow : Flow) → flow_at t.slots id ≡ Some flow → is_in id touched ≡ false → is_in id marked ≡ false
+      not_marked id flow e off = elim (bool_cases (is_in id marked)) [
+        | inr q ↦ q
+        | inl q ↦ absurd (true≢false (sym (marked_there id q (held_before id flow e).0) ∙ off))
+      ]
 
       not_begun : (id : ℕ) (flow : Flow) → flow_at t.slots id ≡ Some flow → is_in id touched ≡ false → is_in id began ≡ false
       not_begun id flow e off = elim (bool_cases (is_in id began)) [
         | inr q ↦ q
-        | inl q ↦ absurd (true≢false (sym (began_there id q (held_before id flow e).0) ∙ off))
+        | inl q ↦ absurd (true≢false (sym (lazy.began_are id q) ∙ not_marked id flow e off))
       ]
 
       -- a flow that isn't touched has its rate already
-      pub untouched_share : (id : ℕ) (flow : Flow) → flow_at t.slots id ≡ Some flow → is_in id touched ≡ false → get_or rates id 0 ≡ share_of caps all flow
+      pub untouched_share : (id : ℕ) (flow : Flow) → flow_at t.slots id ≡ Some flow → is_in id touched ≡ false → get_or rates id 0 ≡ share_of s.capacities all flow
       untouched_share id flow e off =
-          let r : RunningFlow = record { flow = flow; rate = get_or rates id 0; began = is_in id began } in
+          let r : RunningFlow = record { flow = flow; rate = get_or rates id 0; began = is_in id began; marked = is_in id marked } in
           let at = held_runs id flow e in
           let mine : Contains all flow = contains_from_In all flow (In-flows running id r at) in
-          let old = not_begun id flow e off in
+          let old = not_marked id flow e off in
+          let kept = lazy.kept in
           elim (empty_cases flow.uses) [
             | inl none ↦
                 let bound = some_of flow.bound ((sound.flows id flow e).limit.bounds none) in
-                kept.rates id r at old ∙ free_rate_lem kept.past_capacities kept.past flow bound.0 kept.past_limits (kept.there id r at old) none bound.1 ∙ sym (free_rate_lem caps all flow bound.0 all_limits mine none bound.1)
-            | inr some ↦ settles_rates_lem caps running (ended_in s.slots ended) (λ c. is_in c reached) id r (get_or rates id 0) kept is_closed are_unmarked at (record {
+                kept.rates id r at old ∙ free_rate_lem kept.past_capacities kept.past flow bound.0 kept.past_limits (kept.there id r at old) none bound.1 ∙ sym (free_rate_lem s.capacities all flow bound.0 all_limits mine none bound.1)
+            | inr some ↦ settles_rates_lem s.capacities running (ended_in s.slots ended) resources (λ c. is_in c reached) id r (get_or rates id 0) kept is_closed are_unmarked at (record {
               touched = λ u. let used = list_any_back (λ c. is_in c reached) flow.uses u in absurd (true≢false (sym (joined id used.0 flow e (in_is used.0 flow.uses used.1) used.2) ∙ off));
               free = λ none. absurd (some none);
               others = λ u v. refl;
             })
           ]
 
-      module _ (given : ℕ → ℕ) (rates' changed : List ℕ) (filled : (i : ℕ) → i < length touched → given (get_or touched i 0) ≡ share_of caps (flows_at t.slots touched) (flow_in t.slots (get_or touched i 0))) (written : WritesRates touched began given rates rates' changed) where
+      module _ (given : ℕ → ℕ) (rates' changed : List ℕ) (filled : (i : ℕ) → i < length touched → given (get_or touched i 0) ≡ share_of s.capacities (flows_at t.slots touched) (flow_in t.slots (get_or touched i 0))) (written : WritesRates touched began given rates rates' changed) where
         -- the rates that were written are those of the whole
-        pub rated : (id : ℕ) (flow : Flow) → flow_at t.slots id ≡ Some flow → get_or rates' id 0 ≡ share_of caps all flow
+        pub rated : (id : ℕ) (flow : Flow) → flow_at t.slots id ≡ Some flow → get_or rates' id 0 ≡ share_of s.capacities all flow
         rated id flow e = elim (bool_cases (is_in id touched)) [
           | inl i ↦
               let at = at_in id touched i in
-              ap (λ k. get_or rates' k 0) (sym at.2) ∙ written.rates at.0 at.1 ∙ filled at.0 at.1 ∙ ap (λ k. share_of caps (flows_at t.slots touched) (flow_in t.slots k)) at.2 ∙ touched_share caps id flow e i
+              ap (λ k. get_or rates' k 0) (sym at.2) ∙ written.rates at.0 at.1 ∙ filled at.0 at.1 ∙ ap (λ k. share_of s.capacities (flows_at t.slots touched) (flow_in t.slots k)) at.2 ∙ touched_share s.capacities id flow e i
           | inr off ↦ written.others id off ∙ untouched_share id flow e off
         ]
 

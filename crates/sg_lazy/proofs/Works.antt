@@ -1,5 +1,5 @@
 -- The work of a settling, whatever the order of the flows.
-use Rattle.std.proofs.Common.{◌≡◌, ℕ, zero, suc, ◌+◌, ◌*◌, Bool, cond, ◌&&◌, ◌||◌, List, [], ◌∷◌, map, length, sum_by, refl, sym, ap, ◌∙◌, arith}
+use Rattle.std.proofs.Common.{◌≡◌, ℕ, zero, suc, ◌+◌, ◌*◌, Bool, cond, ◌&&◌, ◌||◌, List, [], ◌∷◌, map, length, sum_by, eqb, refl, sym, ap, ap₂, ◌∙◌, arith}
 use Rattle.std.specs.List.{list_any}
 use Rattle.std.specs.List.Sorted.{IsPermutation}
 use Rattle.std.proofs.lemmas.List.Sums.{sum_by-cons}
@@ -29,32 +29,33 @@ reach_same (suc n) flows flows' first first' p e c =
     (list_any-IsPermutation (λ f. is_on c f && touches (reach n flows first) f) flows flows' p
     ∙ any_same (λ f. is_on c f && touches (reach n flows first) f) (λ f. is_on c f && touches (reach n flows' first') f) flows' (λ f. ap (λ b. is_on c f && b) (any_same (reach n flows first) (reach n flows' first') f.uses rest)))
 
-marked_same : (running running' : List RunningFlow) (ended ended' : List Flow) → IsPermutation running running' → IsPermutation ended ended' → (c : ℕ) → is_marked running ended c ≡ is_marked running' ended' c
-marked_same running running' ended ended' p q c =
-    ap (λ b. b || list_any (is_on c) ended) (list_any-IsPermutation (λ r. r.began && is_on c r.flow) running running' p) ∙ ap (λ b. list_any (λ r. r.began && is_on c r.flow) running' || b) (list_any-IsPermutation (is_on c) ended ended' q)
+marked_same : (running running' : List RunningFlow) (ended ended' : List Flow) (resources resources' : List ℕ) → IsPermutation running running' → IsPermutation ended ended' → IsPermutation resources resources' → (c : ℕ) → is_marked running ended resources c ≡ is_marked running' ended' resources' c
+marked_same running running' ended ended' resources resources' p q w c =
+    ap₂ (λ a b. a || b) (list_any-IsPermutation (λ r. r.marked && is_on c r.flow) running running' p)
+    (ap₂ (λ a b. a || b) (list_any-IsPermutation (is_on c) ended ended' q) (list_any-IsPermutation (λ n. eqb n c) resources resources' w))
 
-joined_same : (running running' : List RunningFlow) (ended ended' : List Flow) → IsPermutation running running' → IsPermutation ended ended' → (r : RunningFlow) → is_joined running ended r ≡ is_joined running' ended' r
+joined_same : (running running' : List RunningFlow) (ended ended' : List Flow) (resources resources' : List ℕ) → IsPermutation running running' → IsPermutation ended ended' → IsPermutation resources resources' → (r : RunningFlow) → is_joined running ended resources r ≡ is_joined running' ended' resources' r
 unfolding is_joined
-joined_same running running' ended ended' p q r =
+joined_same running running' ended ended' resources resources' p q w r =
     let flows = map (λ (s : RunningFlow). s.flow) running in
     let flows' = map (λ (s : RunningFlow). s.flow) running' in
-    ap (λ b. r.began || b) (
-    any_same (reach (length running) flows (is_marked running ended)) (reach (length running) flows' (is_marked running' ended')) r.flow.uses (reach_same (length running) flows flows' (is_marked running ended) (is_marked running' ended') (IsPermutation-map (λ s. s.flow) running running' p) (marked_same running running' ended ended' p q))
-    ∙ ap (λ n. touches (reach n flows' (is_marked running' ended')) r.flow) (sym (length_permutation running running' p))
+    ap (λ b. r.marked || b) (
+    any_same (reach (length running) flows (is_marked running ended resources)) (reach (length running) flows' (is_marked running' ended' resources')) r.flow.uses (reach_same (length running) flows flows' (is_marked running ended resources) (is_marked running' ended' resources') (IsPermutation-map (λ s. s.flow) running running' p) (marked_same running running' ended ended' resources resources' p q w))
+    ∙ ap (λ n. touches (reach n flows' (is_marked running' ended' resources')) r.flow) (sym (length_permutation running running' p))
     )
 
 pub names_lem : NamesDontMatter
 unfolding work
-names_lem running running' ended ended' p q =
-    let m = sum_same (λ r. cond (is_joined running ended r) 1 0) (λ r. cond (is_joined running' ended' r) 1 0) running (λ r. ap {B = ℕ} (λ b. cond b 1 0) (joined_same running running' ended ended' p q r))
-    ∙ sym (sum_by-IsPermutation (λ r. cond (is_joined running' ended' r) 1 0) running running' p) in
-    let u = sum_same (λ r. cond (is_joined running ended r) (length r.flow.uses) 0) (λ r. cond (is_joined running' ended' r) (length r.flow.uses) 0) running (λ r. ap (λ b. cond b (length r.flow.uses) 0) (joined_same running running' ended ended' p q r))
-    ∙ sym (sum_by-IsPermutation (λ r. cond (is_joined running' ended' r) (length r.flow.uses) 0) running running' p) in
+names_lem running running' ended ended' resources resources' p q w =
+    let m = sum_same (λ r. cond (is_joined running ended resources r) 1 0) (λ r. cond (is_joined running' ended' resources' r) 1 0) running (λ r. ap {B = ℕ} (λ b. cond b 1 0) (joined_same running running' ended ended' resources resources' p q w r))
+    ∙ sym (sum_by-IsPermutation (λ r. cond (is_joined running' ended' resources' r) 1 0) running running' p) in
+    let u = sum_same (λ r. cond (is_joined running ended resources r) (length r.flow.uses) 0) (λ r. cond (is_joined running' ended' resources' r) (length r.flow.uses) 0) running (λ r. ap (λ b. cond b (length r.flow.uses) 0) (joined_same running running' ended ended' resources resources' p q w r))
+    ∙ sym (sum_by-IsPermutation (λ r. cond (is_joined running' ended' resources' r) (length r.flow.uses) 0) running running' p) in
     let e = sym (length_permutation ended ended' q) in
     let v = sym (sum_by-IsPermutation (λ (flow : Flow). length flow.uses) ended ended' q) in
-    let count : touched_count running ended ≡ touched_count running' ended' = ap (λ n. n + sum_by (λ r. cond (is_joined running ended r) 1 0) running) e ∙ ap (λ n. length ended' + n) m in
-    let uses : touched_uses running ended ≡ touched_uses running' ended' = ap (λ n. n + sum_by (λ r. cond (is_joined running ended r) (length r.flow.uses) 0) running) v ∙ ap (λ n. sum_by (λ flow. length flow.uses) ended' + n) u in
-    ap (λ n. 4 * (n + 1) * (n + touched_uses running ended)) count ∙ ap (λ n. 4 * (touched_count running' ended' + 1) * (touched_count running' ended' + n)) uses
+    let count : touched_count running ended resources ≡ touched_count running' ended' resources' = ap (λ n. n + sum_by (λ r. cond (is_joined running ended resources r) 1 0) running) e ∙ ap (λ n. length ended' + n) m in
+    let uses : touched_uses running ended resources ≡ touched_uses running' ended' resources' = ap (λ n. n + sum_by (λ r. cond (is_joined running ended resources r) (length r.flow.uses) 0) running) v ∙ ap (λ n. sum_by (λ flow. length flow.uses) ended' + n) u in
+    ap (λ n. 4 * (n + 1) * (n + touched_uses running ended resources)) count ∙ ap (λ n. 4 * (touched_count running' ended' resources' + 1) * (touched_count running' ended' resources' + n)) uses
 
 pub suffices_lem : WorkSuffices
 suffices_lem m e r = omega arith

@@ -27,9 +27,9 @@ abbrev pub TouchedRate : Type 0
 TouchedRate = (capacities : List ℕ) (flows : List Flow) (reached : ℕ → Bool) (flow : Flow) → HaveLimits flows → IsClosed flows reached → Contains flows flow → IsTrue (touches reached flow)
     → share_of capacities (filter (touches reached) flows) flow ≡ share_of capacities flows flow
 
--- The order and the names of the flows don't matter.
+-- The order and the names of the flows don't matter, nor the order of the resources.
 abbrev pub NamesDontMatter : Type 0
-NamesDontMatter = (running running' : List RunningFlow) (ended ended' : List Flow) → IsPermutation running running' → IsPermutation ended ended' → work running ended ≡ work running' ended'
+NamesDontMatter = (running running' : List RunningFlow) (ended ended' : List Flow) (resources resources' : List ℕ) → IsPermutation running running' → IsPermutation ended ended' → IsPermutation resources resources' → work running ended resources ≡ work running' ended' resources'
 
 -- A second settling changes a flow only by its rate.
 abbrev pub SettledKeepsNone : Type 0

@@ -1,12 +1,17 @@
 -- The flows of a `Lazy`.
-use Rattle.std.specs.Prelude.{ℕ, Bool, Option, None, option_map, List, filter_map, slice_index_or}
+use Rattle.std.specs.Prelude.{ℕ, Bool, true, Option, None, Some, option_map, List, filter_map, slice_index_or}
 use Rattle.sg_maxmin.specs.Fill.{Flow}
 
--- a flow that runs, the rate that it was given last, and whether it began since the last settling
+-- a flow that runs, the rate that it was given last, whether it began since the last settling, and whether it is marked: it began, or its bound changed since
 pub record RunningFlow : Type 0 where
   pub flow : Flow
   pub rate : ℕ
   pub began : Bool
+  pub marked : Bool
+
+-- the same under another bound, and marked
+abbrev pub bounded_by : ℕ → RunningFlow → RunningFlow
+bounded_by bound running = record running { flow = record running.flow { bound = Some bound }; marked = true }
 
 -- what runs under a number
 abbrev pub running_at : List (Option RunningFlow) → ℕ → Option RunningFlow

@@ -17,11 +17,16 @@ pub record ArePaired (lazy : Lazily) (whole : Sharing) (twins : List (Option ℕ
   pub held : (id twin : ℕ) → twin_of twins id ≡ Some twin → IsSome (flow_at whole.slots twin)
   pub apart : (id other twin : ℕ) → twin_of twins id ≡ Some twin → twin_of twins other ≡ Some twin → id ≡ other
 
+-- what is paired before is paired afterwards
+abbrev pub StayPaired : Lazily → Lazily → Sharing → Sharing → Type 0
+StayPaired lazy lazy' whole whole' = (twins : List (Option ℕ)) → ArePaired lazy whole twins → ArePaired lazy' whole' twins
+
 -- nothing runs on 100 resources
 pub record IsIdle (s : Lazily) : Type 0 where
   pub resources : length s.capacities ≡ 100
   pub slots : s.slots ≡ []
   pub ended : s.ended ≡ []
+  pub steady : s.resources ≡ []
 
 -- how many flows use the resource
 abbrev pub users_of : ℕ → List (Option RunningFlow) → ℕ
@@ -36,7 +41,8 @@ pub record IsOneEach (count_of_flows : ℕ) (s : Lazily) : Type 0 where
   pub few : (resource : ℕ) → users_of resource s.slots ≤ 1
   pub none : (resource : ℕ) → count_of_flows ≤ resource → users_of resource s.slots ≡ 0
   pub ended : s.ended ≡ []
+  pub steady : s.resources ≡ []
 
--- no flow began since the last settling
+-- no flow is marked
 abbrev pub IsCalm : Lazily → Type 0
-IsCalm s = (id : ℕ) (running : RunningFlow) → running_at s.slots id ≡ Some running → running.began ≡ false
+IsCalm s = (id : ℕ) (running : RunningFlow) → running_at s.slots id ≡ Some running → running.marked ≡ false

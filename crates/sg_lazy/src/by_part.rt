@@ -11,7 +11,7 @@ use sg_base::{Marks, Steps};
 use sg_maxmin::System;
 use std::sync::ledger::Ledger;
 
-// Fills what sharing joins to a flow.
+// Fills what sharing joins to a flow that isn't touched. Of the looks that suffice it spares one.
 fn fill_part<L: Ledger>(
     system: &System,
     flow: usize,
@@ -20,10 +20,11 @@ fn fill_part<L: Ledger>(
     steps: &mut Steps<L>,
 )
     requires held { IsSome (flow_at system.now.slots flow) }
+    requires untouched { is_in flow component.old.touched.members ≡ false }
     requires sound { IsSound system.now }
     requires filled { IsFilled system.now component.old filling.old }
     ensures filled { IsFilled system.now component.new filling.new }
-    ensures on { FillsOn system.now component.old component.new steps.old steps.new }
+    ensures on { FillsOn system.now component.old component.new steps.old (steps.new + 1) }
     ensures there { IsTrue (is_in flow component.new.touched.members) }
     ensures least { (p q : ℕ → Bool) → PassAlong system.now p q → IsTrue (p flow)
         → StaysWithin p q component.old component.new }
@@ -41,7 +42,7 @@ fn fill_part<L: Ledger>(
     );
 }
 
-// Fills what sharing joins to a flow that began, unless it ended or is filled already.
+// Fills what sharing joins to a marked flow, unless it ended or is filled already.
 fn fill_running<L: Ledger>(
     system: &System,
     flow: usize,
@@ -71,32 +72,32 @@ fn fill_running<L: Ledger>(
     fill_part(system, flow, component, filling, steps);
 }
 
-/// Fills what sharing joins to the flows that began, but for those that ended: one part after the other.
-pub fn fill_began<L: Ledger>(
+/// Fills what sharing joins to the marked flows, but for those that ended: one part after the other.
+pub fn fill_marked<L: Ledger>(
     system: &System,
-    began: &[usize],
+    marked: &[usize],
     ended: &Marks,
     component: &mut Component,
     filling: &mut Filling,
     steps: &mut Steps<L>,
 )
-    requires began { AreHeldUnless system.now ended.now began.now }
+    requires marked { AreHeldUnless system.now ended.now marked.now }
     requires sound { IsSound system.now }
     requires filled { IsFilled system.now component.old filling.old }
     ensures filled { IsFilled system.now component.new filling.new }
     ensures on { FillsOn system.now component.old component.new steps.old steps.new }
-    ensures there { (id : ℕ) → is_in id began.now ≡ true → is_in id ended.now.members ≡ false
+    ensures there { (id : ℕ) → is_in id marked.now ≡ true → is_in id ended.now.members ≡ false
         → IsTrue (is_in id component.new.touched.members) }
     ensures least { (p q : ℕ → Bool) → PassAlong system.now p q
-        → ((id : ℕ) → is_in id began.now ≡ true → is_in id ended.now.members ≡ false
+        → ((id : ℕ) → is_in id marked.now ≡ true → is_in id ended.now.members ≡ false
         → IsTrue (p id)) → StaysWithin p q component.old component.new }
 {
-    for flow in began {
+    for flow in marked {
         fill_running(system, *flow, ended, component, filling, steps);
     }
 }
 
-// Fills what sharing joins to a resource, unless it is filled already. It takes a look.
+// Fills what sharing joins to a resource, unless it is filled already.
 fn fill_on<L: Ledger>(
     system: &System,
     resource: usize,
@@ -108,7 +109,7 @@ fn fill_on<L: Ledger>(
     requires sound { IsSound system.now }
     requires filled { IsFilled system.now component.old filling.old }
     ensures filled { IsFilled system.now component.new filling.new }
-    ensures on { FillsOn system.now component.old component.new (steps.old + 1) steps.new }
+    ensures on { FillsOn system.now component.old component.new steps.old steps.new }
     ensures there { IsTrue (is_in resource component.new.reached.members) }
     ensures least { (p q : ℕ → Bool) → PassAlong system.now p q → IsTrue (q resource)
         → StaysWithin p q component.old component.new }
@@ -125,25 +126,24 @@ fn fill_on<L: Ledger>(
     }
 }
 
-/// Fills what sharing joins to the resources that ended flows used: one part after the other.
-pub fn fill_freed<L: Ledger>(
+/// Fills what sharing joins to these resources: one part after the other.
+pub fn fill_on_all<L: Ledger>(
     system: &System,
-    freed: &[usize],
+    resources: &[usize],
     component: &mut Component,
     filling: &mut Filling,
     steps: &mut Steps<L>,
 )
-    requires freed { All (λ c. c < length system.now.capacities) freed.now }
+    requires resources { All (λ c. c < length system.now.capacities) resources.now }
     requires sound { IsSound system.now }
     requires filled { IsFilled system.now component.old filling.old }
     ensures filled { IsFilled system.now component.new filling.new }
-    ensures on { FillsOn system.now component.old component.new
-        (steps.old + length freed.now) steps.new }
-    ensures there { AllPass (λ c. is_in c component.new.reached.members) freed.now }
-    ensures least { (p q : ℕ → Bool) → PassAlong system.now p q → AllPass q freed.now
+    ensures on { FillsOn system.now component.old component.new steps.old steps.new }
+    ensures there { AllPass (λ c. is_in c component.new.reached.members) resources.now }
+    ensures least { (p q : ℕ → Bool) → PassAlong system.now p q → AllPass q resources.now
         → StaysWithin p q component.old component.new }
 {
-    for c in freed {
+    for c in resources {
         fill_on(system, *c, component, filling, steps);
     }
 }

@@ -9,7 +9,7 @@ pub fn touched_rates()
     ensures free { FreeRate }
 {}
 
-/// How many looks a settling may take doesn't depend on the flows' names or order.
+/// How many looks a settling may take doesn't depend on the flows' names or order, nor on the resources' order.
 pub fn names_dont_matter()
     ensures { NamesDontMatter }
 {}

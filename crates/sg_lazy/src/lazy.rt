@@ -3,24 +3,24 @@ ghost use Rattle.std.specs.Prelude.{◌≡◌, ◌≤◌, ◌<◌, ◌+◌, IsSo
 ghost use Rattle.sg_maxmin.specs.Fill.{flow};
 ghost use Rattle.sg_maxmin.specs.Sharing.{IsFlow};
 ghost use Rattle.sg_lazy.specs.RunningFlow.{running_at};
-ghost use Rattle.sg_lazy.specs.Lazily.{IsFresh, IsRoomier, IsSettled, looks_of, with_flow, without_flow};
+ghost use Rattle.sg_lazy.specs.Lazily.{IsFresh, IsRoomier, IsSettled, looks_of, with_bound, with_capacity, with_flow, without_flow};
 
 use crate::component::Component;
 use crate::filling::Filling;
 use crate::room::{grow_marks, grow_rows};
-use crate::settle::{Found, Pending, Rated, settle_flows};
+use crate::settle::{Pending, Rated, settle_flows};
 use sg_base::{Marks, Memory, Steps};
 use sg_maxmin::System;
 use std::alloc::Global;
 use std::marker::Model;
 use std::sync::ledger::Ledger;
 
-/// Flows and their rates: the filling of all of them, of which a settling does anew only what flows that began or
-/// ended since the last one touch.
+/// Flows and their rates: the filling of all of them, of which a settling does anew only what changes since the last
+/// one touch. Capacities, bounds and rates are in the caller's units.
 ///
-/// Contracts see the capacities, the flow that runs under each number with its rate and whether it began since the
-/// last settling, the flows that ended since, the numbers of the flows whose rates the last settling changed, and for
-/// how many flows and uses more there is room.
+/// Contracts see the capacities, the flow that runs under each number with its rate, whether it began since the last
+/// settling and whether it is marked, the flows that ended since, the resources whose capacities changed since, the
+/// numbers of the flows whose rates the last settling changed, and for how many flows and uses more there is room.
 #[derive(Drop)]
 pub struct Lazy {
     // the flows that run, and until the next settling those that ended
@@ -28,7 +28,7 @@ pub struct Lazy {
     pending: Pending,
     rated: Rated,
     // where a settling notes what it touches, and fills
-    found: Found,
+    component: Component,
     filling: Filling,
 }
 
@@ -43,15 +43,18 @@ impl Model for Lazy {
 
     ghost view = { λ s. record {
       capacities = s.system.capacities;
-      slots = running_in s.system.slots s.rated.rates.items s.pending.began.members s.pending.ended.members;
+      slots = running_in s.system.slots s.rated.rates.items s.pending.began.members
+          s.pending.marked.members s.pending.ended.members;
       ended = ended_in s.system.slots s.pending.ended.members;
+      resources = s.pending.resources.members;
       changed = s.rated.changed.members;
       flow_room = s.system.flow_room;
       use_room = s.system.use_room;
     } };
 
-    ghost invariant = { λ s. IsLazy s.system s.rated.rates.items s.pending.began.members s.pending.ended.members
-        × HasRoom s.system s.pending s.found s.filling s.rated };
+    ghost invariant = { λ s. IsLazy s.system s.rated.rates.items s.pending.began.members
+        s.pending.marked.members s.pending.ended.members s.pending.resources.members
+        × HasRoom s.system s.pending s.component s.filling s.rated };
 }
 
 impl Lazy {
@@ -59,8 +62,8 @@ impl Lazy {
     pub fn new(alloc: Global, capacities: &[u64]) -> Result<Lazy, Memory>
         ensures { IfOk result (IsFresh capacities.now) }
     {
-        let mut freed = Marks::new(alloc);
-        freed.reserve(capacities.len())?;
+        let mut resources = Marks::new(alloc);
+        resources.reserve(capacities.len())?;
         let mut reached = Marks::new(alloc);
         reached.reserve(capacities.len())?;
         let mut stale = Marks::new(alloc);
@@ -71,18 +74,17 @@ impl Lazy {
             system,
             pending: Pending {
                 began: Marks::new(alloc),
+                marked: Marks::new(alloc),
                 ended: Marks::new(alloc),
+                resources,
             },
             rated: Rated {
                 rates: Vec::new(alloc),
                 changed: Marks::new(alloc),
             },
-            found: Found {
-                freed,
-                component: Component {
-                    touched: Marks::new(alloc),
-                    reached,
-                },
+            component: Component {
+                touched: Marks::new(alloc),
+                reached,
             },
             filling: Filling {
                 fixed: Vec::new(alloc),
@@ -115,7 +117,7 @@ impl Lazy {
         grow_marks(
             n,
             &mut self.pending,
-            &mut self.found.component.touched,
+            &mut self.component.touched,
             &mut self.rated.changed,
         )?;
         grow_rows(n, &mut self.rated.rates, &mut self.filling.fixed)?;
@@ -134,11 +136,12 @@ impl Lazy {
         ensures in_range { result < length self.old.slots }
         ensures starts { self.new ≡ with_flow self.old result (flow uses.now weight bound) }
     {
-        let flow = self.system.add(uses, weight, bound);
+        let number = self.system.add(uses, weight, bound);
         self.system.is_sound();
-        self.rated.rates[flow] = 0;
-        self.pending.began.insert(flow);
-        flow
+        self.rated.rates[number] = 0;
+        self.pending.began.insert(number);
+        self.pending.marked.insert(number);
+        number
     }
 
     /// Ends a flow. Its number and its room are free again after the next settling.
@@ -150,22 +153,45 @@ impl Lazy {
         self.pending.ended.insert(flow);
     }
 
-    /// Brings all rates up to date. Only flows that began or ended since the last settling, and those that sharing
-    /// joins to them, are looked at; `steps` counts the looks at uses.
+    /// Changes the capacity of a resource; 0 is one too. The rates stay until the next settling.
+    pub fn set_capacity(&mut self, resource: usize, capacity: u64)
+        requires { resource < length self.old.capacities }
+        ensures { self.new ≡ with_capacity self.old resource capacity }
+    {
+        self.system.set_capacity(resource, capacity);
+        self.system.is_sound();
+        self.pending.resources.insert(resource);
+    }
+
+    /// Changes the bound of a flow, also of one that has none. Its rate stays until the next settling.
+    pub fn set_bound(&mut self, flow: usize, bound: u64)
+        requires { IsSome (running_at self.old.slots flow) }
+        ensures { self.new ≡ with_bound self.old flow bound }
+    {
+        self.system.set_bound(flow, bound);
+        self.system.is_sound();
+        self.pending.marked.insert(flow);
+    }
+
+    /// Brings all rates up to date. Only flows that began or ended or whose bounds changed since the last settling,
+    /// resources whose capacities changed, and what sharing joins to these is looked at; `steps` counts the looks at
+    /// uses.
     pub fn settle<L: Ledger>(&mut self, steps: &mut Steps<L>)
         ensures settled { IsSettled self.old self.new }
         ensures looks { steps.new ≤ steps.old + looks_of self.old }
     {
         settle_flows(
             &mut self.system,
-            &self.pending,
-            &mut self.found,
+            &mut self.pending,
+            &mut self.component,
             &mut self.filling,
             &mut self.rated,
             steps,
         );
         self.pending.began.clear();
+        self.pending.marked.clear();
         self.pending.ended.clear();
+        self.pending.resources.clear();
     }
 
     /// The rate that the last settling gave to a flow; 0 for one that began since.

@@ -1,6 +1,6 @@
 //! Room for more flows.
 ghost use Rattle.std.specs.Prelude.{◌≡◌, ◌≤◌, ℕ, OnOk, length, slice_index};
-ghost use Rattle.sg_lazy.specs.kept.Held.{GrowsRoom};
+ghost use Rattle.sg_lazy.specs.kept.Held.{GrowsRoom, HaveRoom};
 
 use crate::settle::Pending;
 use sg_base::{Marks, Memory};
@@ -13,13 +13,15 @@ pub fn grow_marks(
     changed: &mut Marks,
 ) -> Result<(), Memory>
     ensures began { GrowsRoom pending.old.began pending.new.began }
+    ensures marked { GrowsRoom pending.old.marked pending.new.marked }
     ensures ended { GrowsRoom pending.old.ended pending.new.ended }
+    ensures resources { pending.new.resources ≡ pending.old.resources }
     ensures touched { GrowsRoom touched.old touched.new }
     ensures changed { GrowsRoom changed.old changed.new }
-    ensures room { OnOk result ((n ≤ pending.new.began.room) × (n ≤ pending.new.ended.room)
-        × (n ≤ touched.new.room) × (n ≤ changed.new.room)) }
+    ensures room { OnOk result (HaveRoom n pending.new touched.new changed.new) }
 {
     pending.began.reserve(n)?;
+    pending.marked.reserve(n)?;
     pending.ended.reserve(n)?;
     touched.reserve(n)?;
     changed.reserve(n)

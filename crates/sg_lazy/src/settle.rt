@@ -6,7 +6,7 @@ ghost use Rattle.sg_lazy.specs.Work.{work};
 ghost use Rattle.sg_lazy.specs.kept.Component.{MarksRows, lengths};
 ghost use Rattle.sg_lazy.specs.kept.Held.{HasRoom, IsLazy, IsRefilled, IsWithout, running_in, ended_in};
 
-use crate::by_part::{fill_began, fill_freed};
+use crate::by_part::{fill_marked, fill_on_all};
 use crate::component::{Component, mark_uses};
 use crate::filling::Filling;
 use crate::writing::write_rates;
@@ -14,18 +14,15 @@ use sg_base::{Marks, Steps};
 use sg_maxmin::System;
 use std::sync::ledger::Ledger;
 
-/// The flows that began and ended since the last settling.
+/// What changed since the last settling.
 #[derive(Drop)]
 pub struct Pending {
     pub began: Marks,
+    // the flows that began, and those whose bounds changed
+    pub marked: Marks,
     pub ended: Marks,
-}
-
-/// The resources that ended flows used, and what is touched and reached.
-#[derive(Drop)]
-pub struct Found {
-    pub freed: Marks,
-    pub component: Component,
+    // whose capacities changed; a settling adds those that ended flows used
+    pub resources: Marks,
 }
 
 /// The rates, and the flows whose rates the last settling changed.
@@ -70,49 +67,53 @@ fn remove_all(system: &mut System, ended: &[usize])
 /// part by part.
 pub fn settle_flows<L: Ledger>(
     system: &mut System,
-    pending: &Pending,
-    found: &mut Found,
+    pending: &mut Pending,
+    component: &mut Component,
     filling: &mut Filling,
     rated: &mut Rated,
     steps: &mut Steps<L>,
 )
-    requires lazy { IsLazy system.old rated.old.rates.items
-        pending.now.began.members pending.now.ended.members }
-    requires room { HasRoom system.old pending.now found.old filling.old rated.old }
-    ensures refilled { IsRefilled system.old system.new
-        pending.now.began.members pending.now.ended.members
+    requires lazy { IsLazy system.old rated.old.rates.items pending.old.began.members
+        pending.old.marked.members pending.old.ended.members pending.old.resources.members }
+    requires room { HasRoom system.old pending.old component.old filling.old rated.old }
+    ensures refilled { IsRefilled system.old system.new pending.old.began.members
+        pending.old.marked.members pending.old.ended.members
         rated.old.rates.items rated.new.rates.items rated.new.changed.members }
-    ensures room { HasRoom system.new pending.now found.new filling.new rated.new }
+    ensures room { HasRoom system.new pending.new component.new filling.new rated.new }
     ensures looks { steps.new ≤ steps.old + work
-        (running_flows (running_in system.old.slots rated.old.rates.items
-        pending.now.began.members pending.now.ended.members))
-        (ended_in system.old.slots pending.now.ended.members) }
+        (running_flows (running_in system.old.slots rated.old.rates.items pending.old.began.members
+        pending.old.marked.members pending.old.ended.members))
+        (ended_in system.old.slots pending.old.ended.members) pending.old.resources.members }
 {
-    found.freed.clear();
-    found.component.touched.clear();
-    found.component.reached.clear();
+    component.touched.clear();
+    component.reached.clear();
     rated.changed.clear();
-    reach_ended(system, pending.ended.members(), &mut found.freed, steps);
+    reach_ended(
+        system,
+        pending.ended.members(),
+        &mut pending.resources,
+        steps,
+    );
     remove_all(system, pending.ended.members());
     system.is_sound();
-    fill_began(
+    fill_marked(
         system,
-        pending.began.members(),
+        pending.marked.members(),
         &pending.ended,
-        &mut found.component,
+        component,
         filling,
         steps,
     );
-    fill_freed(
+    fill_on_all(
         system,
-        found.freed.members(),
-        &mut found.component,
+        pending.resources.members(),
+        component,
         filling,
         steps,
     );
     write_rates(
         system,
-        found.component.touched.members(),
+        component.touched.members(),
         &pending.began,
         &filling.fixed,
         &mut rated.rates,

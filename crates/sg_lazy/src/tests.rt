@@ -1,8 +1,9 @@
-//! Settlings beside fillings of the whole, and what a second execution on a host changes.
-ghost use Rattle.std.specs.Prelude.{◌≡◌, ◌<◌, ◌≤◌, ◌+◌, ℕ, [], IsSome, OnOk, length};
+//! Settlings beside fillings of the whole, and what a second execution on a host and another speed of it change.
+ghost use Rattle.std.specs.Prelude.{◌≡◌, ◌<◌, ◌≤◌, ◌+◌, ℕ, List, Option, [], IsSome, OnOk, length};
 ghost use Rattle.sg_maxmin.specs.Fill.{flow};
-ghost use Rattle.sg_maxmin.specs.Sharing.{IsFlow};
-ghost use Rattle.sg_lazy.specs.Tested.{ArePaired, IsCalm, IsIdle, IsOneEach, twin_of};
+ghost use Rattle.sg_maxmin.specs.Sharing.{IsFlow, flow_at};
+ghost use Rattle.sg_lazy.specs.RunningFlow.{running_at};
+ghost use Rattle.sg_lazy.specs.Tested.{ArePaired, IsCalm, IsIdle, IsOneEach, StayPaired, twin_of};
 
 use crate::Lazy;
 use sg_base::{Marks, Memory, Steps};
@@ -14,6 +15,9 @@ use std::sync::ledger::{Blank, Ledger};
 use std::test::Fail;
 
 const RESOURCES: usize = 6;
+
+// what a resource may come to offer
+const CAPACITIES: [u64; 6] = [0, 5, 17, 300, 1_000_000, 1 << 60];
 
 const SETTLINGS: usize = 500;
 
@@ -130,8 +134,33 @@ fn start_one(
     start(draw.picked.members(), weight, bound, lazy, whole, twins)
 }
 
-// A number is drawn: the flow that has it ends in both, and where there is none one starts.
-fn change(
+// One of the resources gets another capacity in both.
+fn change_capacity(draw: &mut Draw, lazy: &mut Lazy, whole: &mut System)
+    requires lazy { length lazy.old.capacities ≡ 6 }
+    requires whole { length whole.old.capacities ≡ 6 }
+    ensures picked { draw.new.picked ≡ draw.old.picked }
+    ensures paired { StayPaired lazy.old lazy.new whole.old whole.new }
+{
+    let resource = draw.below(RESOURCES);
+    let capacity = CAPACITIES[draw.below(CAPACITIES.len())];
+    lazy.set_capacity(resource, capacity);
+    whole.set_capacity(resource, capacity);
+}
+
+// A flow gets another bound in both, which may be 0.
+fn change_bound(draw: &mut Draw, lazy: &mut Lazy, whole: &mut System, id: usize, twin: usize)
+    requires runs { IsSome (running_at lazy.old.slots id) }
+    requires held { IsSome (flow_at whole.old.slots twin) }
+    ensures picked { draw.new.picked ≡ draw.old.picked }
+    ensures paired { StayPaired lazy.old lazy.new whole.old whole.new }
+{
+    let bound = 25 * draw.below(5) as u64;
+    lazy.set_bound(id, bound);
+    whole.set_bound(twin, bound);
+}
+
+// A number is drawn: the flow that has it gets another bound or ends in both, and where there is none one starts.
+fn change_flow(
     draw: &mut Draw,
     lazy: &mut Lazy,
     whole: &mut System,
@@ -148,12 +177,37 @@ fn change(
     match twins[id] {
         None => start_one(draw, lazy, whole, twins),
         Some(twin) => {
+            if draw.below(3) == 0 {
+                change_bound(draw, lazy, whole, id, twin);
+                return Ok(());
+            }
             lazy.end(id);
             whole.remove(twin);
             twins[id] = None;
             Ok(())
         }
     }
+}
+
+// A capacity changes, or a flow starts, ends or gets another bound.
+fn change(
+    draw: &mut Draw,
+    lazy: &mut Lazy,
+    whole: &mut System,
+    twins: &mut Vec<Option<usize>>,
+) -> Result<(), Memory>
+    requires room { draw.old.picked.room ≡ 6 }
+    requires numbers { 0 < length twins.old.items }
+    requires paired { ArePaired lazy.old whole.old twins.old.items }
+    ensures room { draw.new.picked.room ≡ 6 }
+    ensures paired { OnOk result (ArePaired lazy.new whole.new twins.new.items) }
+    ensures longer { length twins.old.items ≤ length twins.new.items }
+{
+    if draw.below(4) == 0 {
+        change_capacity(draw, lazy, whole);
+        return Ok(());
+    }
+    change_flow(draw, lazy, whole, twins)
 }
 
 // The changes between two settlings.
@@ -339,6 +393,64 @@ fn changes_two_of_100<L: Ledger>(
 fn second_execution_changes_two(rt: HostRuntime) -> Result<(), Fail> {
     for host in 0..HOSTS {
         changes_two_of_100::<Brand>(&rt, rt.alloc(), Blank::new(1), host)?;
+    }
+    Ok(())
+}
+
+// Another speed of a host, settled with no more looks than its one flow allows.
+fn slow_host<L: Ledger>(lazy: &mut Lazy, host: usize, speed: u64, steps: &mut Steps<L>)
+    requires each { IsOneEach 100 lazy.old }
+    requires calm { IsCalm lazy.old }
+    requires host { host < 100 }
+    ensures { steps.new ≤ steps.old + 16 }
+{
+    lazy.set_capacity(host, speed);
+    lazy.settle(steps);
+}
+
+// The flow whose rate a host's speed changes is the one there.
+fn changes_one<L: Ledger>(
+    rt: &impl Abort,
+    lazy: &mut Lazy,
+    flows: &mut Vec<usize>,
+    host: usize,
+    steps: &mut Steps<L>,
+) -> Result<(), Memory>
+    requires idle { IsIdle lazy.old }
+    requires host { host < 100 }
+{
+    one_each(lazy, flows, steps)?;
+    slow_host(lazy, host, 4, steps);
+    let changed = lazy.changed();
+    assert_eq!(rt; changed.len(), 1);
+    if let Some(flow) = flows.get(host) {
+        assert!(rt; changed.contains(flow));
+    }
+    Ok(())
+}
+
+// The same on a system of its own.
+fn changes_one_of_100<L: Ledger>(
+    rt: &impl Abort,
+    alloc: Global,
+    blank: Blank,
+    host: usize,
+) -> Result<(), Memory>
+    requires name { blank.name ≡ L.name }
+    requires parts { blank.parts ≡ L.parts }
+    requires some { 0 < blank.parts }
+    requires host { host < 100 }
+{
+    let mut steps = Steps::<L>::new(blank);
+    let mut flows = Vec::new(alloc);
+    let mut lazy = Lazy::new(alloc, &[10; HOSTS])?;
+    changes_one(rt, &mut lazy, &mut flows, host, &mut steps)
+}
+
+#[test]
+fn another_speed_changes_one(rt: HostRuntime) -> Result<(), Fail> {
+    for host in 0..HOSTS {
+        changes_one_of_100::<Brand>(&rt, rt.alloc(), Blank::new(1), host)?;
     }
     Ok(())
 }

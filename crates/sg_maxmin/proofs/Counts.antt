@@ -10,7 +10,7 @@ use Rattle.sg_chains.specs.Chain.{resources, IsChain}
 use Rattle.sg_maxmin.specs.kept.Uses.{flow_of, AreRows, IsOneChain}
 use Rattle.sg_maxmin.specs.Sharing.{IsFlow}
 use Rattle.sg_chains.specs.Chained.{times}
-use Rattle.sg_maxmin.specs.kept.Counting.{row_share, IsLeast, least_with, with_level, SameRows, RowSteps, IsStepped}
+use Rattle.sg_maxmin.specs.kept.Counting.{row_share, IsLeast, least_with, with_level, without_share, SameRows, RowSteps, IsStepped}
 
 pub eq_cases : (a b : ℕ) → (a ≡ b) ⊎ (a ≢ b)
 eq_cases a b = grind arith
@@ -192,14 +192,14 @@ pub flows_same : (uses : List (Option Use)) (old new : List (Option FlowRow)) �
 unfolding flow_of
 flows_same uses old new same key = sym (through (get_or new key None)) ∙ ap (option_map (flow_of uses)) (same key) ∙ through (get_or old key None)
   where
-    through : (o : Option FlowRow) → option_map (flow_of uses) (option_map (with_level None) o) ≡ option_map (flow_of uses) o
+    through : (o : Option FlowRow) → option_map (flow_of uses) (option_map without_share o) ≡ option_map (flow_of uses) o
     through None = refl
     through (Some row) = refl
 
 -- the row that stood there before
-pub row_before : (o p : Option FlowRow) (row : FlowRow) → option_map (with_level None) p ≡ option_map (with_level None) o → p ≡ Some row → (before : FlowRow) × (o ≡ Some before) × (with_level None row ≡ with_level None before)
-row_before None p row e there = cc (sym (ap (option_map (with_level None)) there) ∙ e)
-row_before (Some before) p row e there = (before, refl, some_row (sym (ap (option_map (with_level None)) there) ∙ e))
+pub row_before : (o p : Option FlowRow) (row : FlowRow) → option_map without_share p ≡ option_map without_share o → p ≡ Some row → (before : FlowRow) × (o ≡ Some before) × (without_share row ≡ without_share before)
+row_before None p row e there = cc (sym (ap (option_map without_share) there) ∙ e)
+row_before (Some before) p row e there = (before, refl, some_row (sym (ap (option_map without_share) there) ∙ e))
   where
     some_row : {a b : FlowRow} → Some a ≡ Some b → a ≡ b
     some_row h = cc
@@ -231,6 +231,6 @@ steps_else low limits (Some row) after h e = (row.level, e, stays row.level (λ 
     stays None k = inr (λ at. k refl at, refl)
     stays (Some x) k = refl
 
-pub same_step : (low : ℕ) (limits : FlowRow → List ℕ) (o n : Option FlowRow) → RowSteps low limits o n → option_map (with_level None) n ≡ option_map (with_level None) o
-same_step low limits None n h = ap (option_map (with_level None)) h
-same_step low limits (Some row) n h = ap (option_map (with_level None)) h.1
+pub same_step : (low : ℕ) (limits : FlowRow → List ℕ) (o n : Option FlowRow) → RowSteps low limits o n → option_map without_share n ≡ option_map without_share o
+same_step low limits None n h = ap (option_map without_share) h
+same_step low limits (Some row) n h = ap (option_map without_share) h.1

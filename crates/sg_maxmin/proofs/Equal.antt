@@ -4,7 +4,7 @@ use Rattle.std.specs.Option.{unwrap_or}
 use Rattle.std.specs.List.{list_any}
 use Rattle.sg_maxmin.specs.Fill.{Flow, Fixed, is_on, bounded, share_at, share_of_fixed, taken, waiting, level, bound_level, limits, least, lowest, is_at, step, steps_from, unfixed, level_of, share_of}
 use Rattle.sg_maxmin.specs.Unweighted.{taken as equal_taken, waiting as equal_waiting, level as equal_level, limits as equal_limits, lowest as equal_lowest, is_at as equal_at, step as equal_step, steps_from as equal_steps, share_of as equal_share, FillsEqually}
-use Rattle.sg_maxmin.proofs.Members.{In, In-from_contains, contains_from_In}
+use Rattle.sg_maxmin.proofs.Members.{In, contains_from_In}
 use Rattle.sg_maxmin.proofs.Sums.{sum_by_same}
 use Rattle.sg_maxmin.proofs.OneStep.{limit_bound, lowest_le, was, gets, waits, step_cases}
 

@@ -8,11 +8,11 @@ use Rattle.sg_maxmin.specs.Fill.{Flow, Fixed, is_on, taken, waiting, level, limi
 use Rattle.sg_maxmin.specs.Laws.{HaveLimits}
 use Rattle.sg_maxmin.specs.Sharing.{Sharing, HasLimit, held, flow_at}
 use Rattle.sg_chains.specs.Chain.{IsChain, resources}
-use Rattle.sg_maxmin.specs.kept.Uses.{flow_of, flows_of, share_in, AreRows}
+use Rattle.sg_maxmin.specs.kept.Uses.{flow_of, flows_of, share_in, share_by_level, AreRows}
 use Rattle.sg_chains.proofs.ChainLemmas.{length-resources}
-use Rattle.sg_maxmin.proofs.Rows.{flow_at-flows_of}
+use Rattle.sg_maxmin.proofs.Rows.{flow_at-flows_of, some_row}
 use Rattle.std.proofs.Math.ListN.{get_or-map}
-use Rattle.sg_maxmin.specs.kept.Counting.{rows_held, row_share, taken_on, waiting_on, AreCounted, row_limits, all_limits, IsLeast, RowSteps, IsStepped, with_level, SameRows, AreFixed, AreRowLevels, row_count, count_of}
+use Rattle.sg_maxmin.specs.kept.Counting.{rows_held, row_share, taken_on, waiting_on, AreCounted, row_limits, all_limits, IsLeast, RowSteps, IsStepped, with_level, with_share, without_share, SameRows, AreFixed, AreRowLevels, AreRowShares, row_count, count_of}
 use Rattle.sg_maxmin.proofs.Members.{In, In-map, In-map_back, In-from_contains, contains_from_In, In-filter, In-flat_map}
 use Rattle.sg_maxmin.proofs.Sums.{sum_by_same, le-sum_by}
 use Rattle.sg_maxmin.proofs.Rises.{is_on_uses}
@@ -37,7 +37,7 @@ same_flows uses (o ∷ old) (n ∷ new) same len =
     ap₂ (λ f fs. f ∷ fs) (sym (through n) ∙ ap (option_map (flow_of uses)) (same 0) ∙ through o)
     (same_flows uses old new (λ key. same (suc key)) (omega (arith, len)))
   where
-    through : (p : Option FlowRow) → option_map (flow_of uses) (option_map (with_level None) p) ≡ option_map (flow_of uses) p
+    through : (p : Option FlowRow) → option_map (flow_of uses) (option_map without_share p) ≡ option_map (flow_of uses) p
     through None = refl
     through (Some row) = refl
 
@@ -166,9 +166,6 @@ step_case caps flows fixed f low list None after e lim i low_is (inr h) =
       | waits p q away ↦ h.1 ∙ sym q
     ]
 
-some_row : (a b : FlowRow) → Some a ≡ Some b → a ≡ b
-some_row a b h = cc h
-
 row_steps : (caps : List ℕ) (old : List (Option FlowRow)) (uses : List (Option Use)) (left waiting' : List ℕ) (fixed : Fixed) (low : ℕ) → AreRows caps old uses → AreFixed uses old fixed → AreCounted caps old uses left waiting' →
     IsLeast (Some low) (all_limits left waiting' uses old) → (key : ℕ) (row before : FlowRow) → get_or old key None ≡ Some before → RowSteps low (row_limits left waiting' uses) (Some before) (Some row) →
     row.level ≡ step caps (held (flows_of old uses)) fixed (flow_of uses row)
@@ -225,12 +222,16 @@ levels_early n caps rows uses left waiting' sound h few are counted none =
     subst (λ ys. In limit.0 ys) (all_limits_are caps rows uses left waiting' fixed sound are counted ∙ none) in')
 
 -- ---- the beginning, and the number of flows
-pub unfix_same : (old new : List (Option FlowRow)) → ((key : ℕ) → get_or new key None ≡ option_map (with_level None) (get_or old key None)) → SameRows old new
-unfix_same old new h = λ key. ap (option_map (with_level None)) (h key) ∙ twice (get_or old key None)
+-- each row changed by a function that leaves it as it is but for its level and share
+mapped_same : (f : FlowRow → FlowRow) → ((row : FlowRow) → without_share (f row) ≡ without_share row) → (old new : List (Option FlowRow)) → ((key : ℕ) → get_or new key None ≡ option_map f (get_or old key None)) → SameRows old new
+mapped_same f leaves old new h = λ key. ap (option_map without_share) (h key) ∙ through (get_or old key None)
   where
-    twice : (o : Option FlowRow) → option_map (with_level None) (option_map (with_level None) o) ≡ option_map (with_level None) o
-    twice None = refl
-    twice (Some row) = refl
+    through : (o : Option FlowRow) → option_map without_share (option_map f o) ≡ option_map without_share o
+    through None = refl
+    through (Some row) = ap (λ w. Some w) (leaves row)
+
+pub unfix_same : (old new : List (Option FlowRow)) → ((key : ℕ) → get_or new key None ≡ option_map (with_level None) (get_or old key None)) → SameRows old new
+unfix_same old new h = mapped_same (with_level None) (λ row. refl) old new h
 
 pub unfix_fixed : (caps : List ℕ) (flows : List Flow) (uses : List (Option Use)) (old new : List (Option FlowRow)) → ((key : ℕ) → get_or new key None ≡ option_map (with_level None) (get_or old key None)) → AreFixed uses new (steps_from 0 caps flows unfixed)
 unfolding steps_from
@@ -261,7 +262,7 @@ count_same [] (n ∷ new) same len = absurd (omega (arith, len))
 count_same (o ∷ old) [] same len = absurd (omega (arith, len))
 count_same (o ∷ old) (n ∷ new) same len = count-cons n new ∙ ap₂ (λ a b. a + b) (sym (through n) ∙ ap row_count (same 0) ∙ through o) (count_same old new (λ key. same (suc key)) (omega (arith, len))) ∙ sym (count-cons o old)
   where
-    through : (p : Option FlowRow) → row_count (option_map (with_level None) p) ≡ row_count p
+    through : (p : Option FlowRow) → row_count (option_map without_share p) ≡ row_count p
     through None = refl
     through (Some row) = refl
 
@@ -298,10 +299,31 @@ share_fits caps flows limits' fit f i bound = by_uses f.uses refl
         let here : part f ≡ share_of caps flows f = ap (λ b. cond b (share_of caps flows f) 0) on in
         omega (arith, fit c, (is_fair_lem caps flows limits').within c, le-sum_by part flows f i, here)
 
-pub shares_shown : (caps : List ℕ) (rows : List (Option FlowRow)) (uses : List (Option Use)) → AreRows caps rows uses → ((c : ℕ) → get_or caps c 0 < 2 ^ 64) → AreRowLevels caps uses rows →
+-- ---- the shares of the levels
+pub put_same : (old new : List (Option FlowRow)) → ((key : ℕ) → get_or new key None ≡ option_map with_share (get_or old key None)) → SameRows old new
+put_same old new h = mapped_same with_share (λ row. refl) old new h
+
+pub put_row_shares : (old new : List (Option FlowRow)) → ((key : ℕ) → get_or new key None ≡ option_map with_share (get_or old key None)) → AreRowShares new
+put_row_shares old new h = λ key row e. one (get_or old key None) row (sym (h key) ∙ e)
+  where
+    one : (o : Option FlowRow) (row : FlowRow) → option_map with_share o ≡ Some row → row.share ≡ share_by_level row
+    one None row e = cc e
+    one (Some r) row e = subst (λ w. w.share ≡ share_by_level w) (some_row (with_share r) row e) refl
+
+pub put_row_levels : (caps : List ℕ) (uses : List (Option Use)) (old new : List (Option FlowRow)) → ((key : ℕ) → get_or new key None ≡ option_map with_share (get_or old key None)) → length new ≡ length old →
+    AreRowLevels caps uses old → AreRowLevels caps uses new
+unfolding flow_of
+put_row_levels caps uses old new h len are = λ key row e.
+    subst (λ slots. row.level ≡ Some (level_of caps (held slots) (flow_of uses row))) (sym (same_flows uses old new (put_same old new h) len)) (one key row (get_or old key None) refl (sym (h key) ∙ e))
+  where
+    one : (key : ℕ) (row : FlowRow) (o : Option FlowRow) → get_or old key None ≡ o → option_map with_share o ≡ Some row → row.level ≡ Some (level_of caps (held (flows_of old uses)) (flow_of uses row))
+    one key row None there e = cc e
+    one key row (Some r) there e = subst (λ w. w.level ≡ Some (level_of caps (held (flows_of old uses)) (flow_of uses w))) (some_row (with_share r) row e) (are key r there)
+
+pub shares_shown : (caps : List ℕ) (rows : List (Option FlowRow)) (uses : List (Option Use)) → AreRows caps rows uses → ((c : ℕ) → get_or caps c 0 < 2 ^ 64) → AreRowLevels caps uses rows → AreRowShares rows →
     (id : ℕ) (flow : Flow) → flow_at (flows_of rows uses) id ≡ Some flow → get_or (map share_in rows) id 0 ≡ share_of caps (held (flows_of rows uses)) flow
 unfolding share_at flow_of
-shares_shown caps rows uses sound fit are id flow e =
+shares_shown caps rows uses sound fit are shares id flow e =
     let shown = sym (flow_at-flows_of rows uses id) ∙ e in
     get_or-map share_in rows id None ∙ at (get_or rows id None) refl shown
   where
@@ -317,7 +339,8 @@ shares_shown caps rows uses sound fit are id flow e =
         let flows = held (flows_of rows uses) in
         let f = flow_of uses row in
         let l = level_of caps flows f in
-        ap (λ o. min (2 ^ 64 - 1) (bounded row.bound (row.weight * unwrap_or o 0))) (are id row there)
+        shares id row there
+        ∙ ap (λ o. min (2 ^ 64 - 1) (bounded row.bound (row.weight * unwrap_or o 0))) (are id row there)
         ∙ whole (share_of caps flows f) (share_fits caps flows (have_limits caps rows uses sound) fit f (In-flows rows uses id row there) (sound.bounds_fit id row there))
         ∙ ap (λ g. share_of caps flows g) (some_flow (sym (ap (option_map (flow_of uses)) there) ∙ h))
 
@@ -334,6 +357,6 @@ count_is caps rows uses are =
 pub len_same : (old new : List (Option FlowRow)) → SameRows old new → length new ≡ length old → count_by is_some new ≡ count_by is_some old
 len_same old new same len = sym (length-held new []) ∙ ap (λ fs. length (held fs)) (same_flows [] old new same len) ∙ length-held old []
 
-pub sharing_same : (a b : List ℕ) (s t : List (Option Flow)) (xs : List ℕ) (us vs : List (Option Use)) (js ks : List (List ℕ)) (m n p q : ℕ) → a ≡ b → s ≡ t → us ≡ vs → js ≡ ks → m ≡ n → p ≡ q →
-    ◌≡◌ {A = Sharing} (record { capacities = a; slots = s; shares = xs; uses = us; users = js; flow_room = m; use_room = p }) (record { capacities = b; slots = t; shares = xs; uses = vs; users = ks; flow_room = n; use_room = q })
-sharing_same a b s t xs us vs js ks m n p q e f u w g h = rw (e, f, u, w, g, h) refl
+pub sharing_same : (a b : List ℕ) (s t : List (Option Flow)) (xs ys : List ℕ) (us vs : List (Option Use)) (js ks : List (List ℕ)) (m n p q : ℕ) → a ≡ b → s ≡ t → xs ≡ ys → us ≡ vs → js ≡ ks → m ≡ n → p ≡ q →
+    ◌≡◌ {A = Sharing} (record { capacities = a; slots = s; shares = xs; uses = us; users = js; flow_room = m; use_room = p }) (record { capacities = b; slots = t; shares = ys; uses = vs; users = ks; flow_room = n; use_room = q })
+sharing_same a b s t xs ys us vs js ks m n p q e f x u w g h = rw (e, f, x, u, w, g, h) refl

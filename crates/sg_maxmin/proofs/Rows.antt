@@ -1,12 +1,13 @@
 -- Rows of flows, as one comes or goes.
-use Rattle.std.proofs.Common.{◌≡◌, ◌≢◌, ℕ, zero, suc, ◌+◌, ◌-◌, ◌*◌, ◌<◌, ◌≤◌, ◌^◌, ◌==◌, true, false, cond, min, length, IfSome, ◌⊎◌, inl, inr, Option, None, Some, List, [], ◌∷◌, map, get_or, option_map, refl, sym, ap, subst, ◌∙◌, arith}
+use Rattle.std.proofs.Common.{◌≡◌, ◌≢◌, ℕ, zero, suc, ◌+◌, ◌<◌, ◌≤◌, ◌^◌, ◌==◌, true, false, cond, length, length-set, IfSome, ◌⊎◌, inl, inr, Option, None, Some, List, [], ◌∷◌, All, map, get_or, get_or-set_same, get_or-set_other, set, option_map, refl, sym, ap, subst, ◌∙◌, arith}
 use Rattle.sg_chains.specs.declared.uses.Use.{Use}
 use Rattle.sg_chains.specs.Walk.{Leads, next_of_flow, resource_of}
 use Rattle.sg_chains.proofs.ChainLemmas.{chain_leads, chain_few, length-resources}
 use Rattle.sg_maxmin.specs.declared.flow_row.FlowRow.{FlowRow}
-use Rattle.std.specs.Option.{unwrap_or}
-use Rattle.std.proofs.lemmas.List.{length-map}
-use Rattle.sg_maxmin.specs.Fill.{Flow, flow, bounded}
+use Rattle.std.proofs.lemmas.List.{length-map, map-set}
+use Rattle.std.proofs.Math.Seq.{map-set_same}
+use Rattle.sg_maxmin.specs.Fill.{Flow, flow}
+use Rattle.sg_maxmin.proofs.FreeNumbers.{in_rows}
 use Rattle.sg_maxmin.specs.Sharing.{flow_at, IsFlow, Changes, IsExtended, uses_in, uses_at, AreBothWays}
 use Rattle.sg_chains.specs.Chain.{IsChain, IsSameChain, KeepsChains}
 use Rattle.sg_chains.specs.Chained.{Chained, times, users_on, GainsUses}
@@ -25,6 +26,9 @@ flow_at-flows_of rows uses id = get_or-map_none (flow_of uses) rows id
 flow_of_kept : (id : ℕ) (old new : List (Option Use)) (row : FlowRow) → IsSameChain old new id row.count row.first → flow_of new row ≡ flow_of old row
 unfolding flow_of
 flow_of_kept id old new row h = ap (λ us. flow us row.weight row.bound) h.over
+
+pub some_row : (a b : FlowRow) → Some a ≡ Some b → a ≡ b
+some_row a b e = cc e
 
 eq_cases : (a b : ℕ) → (a ≡ b) ⊎ (a ≢ b)
 eq_cases a b = grind arith
@@ -88,13 +92,9 @@ extended rows rows' uses more kept longer few = record {
   few = omega (arith, few, length-map rows (option_map (flow_of uses)), length-map rows' (option_map (flow_of uses)));
 }
 
--- a row that isn't fixed has no share
-pub share_none : (rows : List (Option FlowRow)) (id : ℕ) (row : FlowRow) → get_or rows id None ≡ Some row → row.level ≡ None → get_or (map share_in rows) id 0 ≡ 0
-share_none rows id row there none = get_or-map share_in rows id None ∙ ap share_in there ∙ ap (λ o. min (2 ^ 64 - 1) (bounded row.bound (row.weight * unwrap_or o 0))) none ∙ nothing row.bound row.weight
-  where
-    nothing : (o : Option ℕ) (w : ℕ) → min (2 ^ 64 - 1) (bounded o (w * 0)) ≡ 0
-    nothing None w = omega arith
-    nothing (Some b) w = omega arith
+-- a row that no `solve` has seen has no share
+pub share_none : (rows : List (Option FlowRow)) (id : ℕ) (row : FlowRow) → get_or rows id None ≡ Some row → row.share ≡ 0 → get_or (map share_in rows) id 0 ≡ 0
+share_none rows id row there none = get_or-map share_in rows id None ∙ ap share_in there ∙ none
 
 -- ---- the chains agree, as a flow comes or goes
 same_test : (a : ℕ) → (a == a) ≡ true
@@ -185,3 +185,64 @@ kept_extended caps rows rows' chains left waiting k same = record {
 
 pub kept_room : (caps : List ℕ) (rows : List (Option FlowRow)) (chains : Chained) (room : ℕ) (left waiting : List ℕ) → IsKept caps rows chains left waiting → IsKept caps rows (record chains { room = room }) left waiting
 kept_room caps rows chains room left waiting k = record { are_rows = k.are_rows; both = k.both; users_len = k.users_len; left_len = k.left_len; waiting_len = k.waiting_len }
+
+-- ---- what is kept stays so where a capacity, or the bound of a flow, is another
+pub kept_capacity : (caps : List ℕ) (resource capacity : ℕ) (rows : List (Option FlowRow)) (chains : Chained) (left waiting : List ℕ) → IsKept caps rows chains left waiting → IsKept (set caps resource capacity) rows chains left waiting
+kept_capacity caps resource capacity rows chains left waiting k =
+    let len : length caps ≡ length (set caps resource capacity) = sym (length-set caps resource capacity) in
+    record {
+      are_rows = record {
+        chains = k.are_rows.chains;
+        flows = λ id row e. let f = k.are_rows.flows id row e in record { exist = subst (λ n. All (λ r. r < n) (flow_of chains.uses row).uses) len f.exist; once = f.once; light = f.light; limit = f.limit };
+        bounds_fit = k.are_rows.bounds_fit;
+      };
+      both = k.both;
+      users_len = k.users_len ∙ len;
+      left_len = k.left_len ∙ len;
+      waiting_len = k.waiting_len ∙ len;
+    }
+
+-- the row with this bound
+abbrev pub with_bound : ℕ → FlowRow → FlowRow
+with_bound bound row = record row { bound = Some bound }
+
+rows_bound : (caps : List ℕ) (rows : List (Option FlowRow)) (uses : List (Option Use)) (id bound : ℕ) (row : FlowRow) → AreRows caps rows uses → get_or rows id None ≡ Some row → bound < 2 ^ 64 →
+    AreRows caps (set rows id (Some (with_bound bound row))) uses × Changes (flows_of rows uses) (flows_of (set rows id (Some (with_bound bound row))) uses) id (Some (flow_of uses (with_bound bound row)))
+unfolding flow_of
+rows_bound caps rows uses id bound row are there fits =
+    let row' = with_bound bound row in
+    let f = are.flows id row there in
+    let new : IsNewRow caps uses id row' = record {
+      chain = are.chains id row there;
+      is_flow = record { exist = f.exist; once = f.once; light = f.light; limit = record { weighs = f.limit.weighs; bounds = λ none. refl } };
+      bound_fits = fits;
+    } in
+    rows_changed caps rows (set rows id (Some row')) uses uses id (Some row') are (λ other n at ne chain. record { chain = chain; over = refl })
+    (get_or-set_same rows id (Some row') None (in_rows rows id row there)) (λ other ne. get_or-set_other rows id other (Some row') None ne) (λ r e. subst (λ w. IsNewRow caps uses id w) (some_row row' r e) new)
+
+both_bound : (old new : List (Option Flow)) (users : List (List ℕ)) (id : ℕ) (before after : Flow) → AreBothWays old users → flow_at old id ≡ Some before → Changes old new id (Some after) → after.uses ≡ before.uses → AreBothWays new users
+both_bound old new users id before after both there ch same = λ other r. elim (eq_cases other id) [
+  | inl e ↦ both other r ∙ ap (λ us. times r us) (subst (λ k. uses_at old k ≡ uses_at new k) (sym e) (ap uses_in there ∙ sym same ∙ sym (ap uses_in ch.changed)))
+  | inr ne ↦ both other r ∙ sym (ap (λ o. times r (uses_in o)) (ch.others other ne))
+]
+
+pub kept_bound : (caps : List ℕ) (rows : List (Option FlowRow)) (chains : Chained) (left waiting : List ℕ) (id bound : ℕ) (row : FlowRow) → IsKept caps rows chains left waiting → get_or rows id None ≡ Some row → bound < 2 ^ 64 →
+    IsKept caps (set rows id (Some (with_bound bound row))) chains left waiting
+unfolding flow_of
+kept_bound caps rows chains left waiting id bound row k there fits =
+    let out = rows_bound caps rows chains.uses id bound row k.are_rows there fits in
+    record {
+      are_rows = out.0;
+      both = both_bound (flows_of rows chains.uses) (flows_of (set rows id (Some (with_bound bound row))) chains.uses) chains.users id (flow_of chains.uses row) (flow_of chains.uses (with_bound bound row)) k.both (flow_held rows chains.uses id row there) out.1 refl;
+      users_len = k.users_len;
+      left_len = k.left_len;
+      waiting_len = k.waiting_len;
+    }
+
+-- the flow has the bound as well, and its share stays
+pub flows_bound : (rows : List (Option FlowRow)) (uses : List (Option Use)) (id bound : ℕ) (row : FlowRow) → flows_of (set rows id (Some (with_bound bound row))) uses ≡ set (flows_of rows uses) id (Some (record (flow_of uses row) { bound = Some bound }))
+unfolding flow_of
+flows_bound rows uses id bound row = map-set (option_map (flow_of uses)) rows id (Some (with_bound bound row))
+
+pub shares_bound : (rows : List (Option FlowRow)) (id bound : ℕ) (row : FlowRow) → get_or rows id None ≡ Some row → map share_in (set rows id (Some (with_bound bound row))) ≡ map share_in rows
+shares_bound rows id bound row there = map-set_same share_in rows id (Some (with_bound bound row)) None (sym (ap share_in there))

@@ -1,5 +1,5 @@
 -- Filling where all flows weigh the same. It is what filling with weights gives where each weight is 1.
-use Rattle.std.specs.Prelude.{◌≡◌, ℕ, zero, suc, ◌-◌, ◌/◌, ◌==◌, Bool, ◌&&◌, Contains, Option, None, Some, is_none, unwrap_or, option_to_list, if◌then◌else◌, List, ◌++◌, map, filter, flat_map, length, sum_by, count_by, slice_index}
+use Rattle.std.specs.Prelude.{◌≡◌, ℕ, zero, suc, ◌-◌, ◌/◌, ◌==◌, Bool, ◌&&◌, Contains, Some, is_none, unwrap_or, option_to_list, if◌then◌else◌, List, ◌++◌, map, filter, flat_map, length, sum_by, count_by, slice_index}
 use Rattle.std.specs.List.{list_any}
 use Rattle.sg_maxmin.specs.Fill.{Flow, Fixed, is_on, least, unfixed, fill}
 

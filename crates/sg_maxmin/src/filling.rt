@@ -9,7 +9,7 @@ ghost use Rattle.sg_maxmin.specs.Laws.{HaveLimits};
 ghost use Rattle.sg_maxmin.specs.Sharing.{held};
 ghost use Rattle.sg_maxmin.specs.Fill.{bounded, bound_level};
 ghost use Rattle.sg_maxmin.specs.kept.Numbers.{row_at};
-ghost use Rattle.sg_maxmin.specs.kept.Counting.{HavePlaces, IsLeast, row_limits, least_with, AreCounted, row_taken, row_waiting, row_count, count_of, unfixed_limits, all_limits, with_level, RowSteps, SameRows, AreRowLevels};
+ghost use Rattle.sg_maxmin.specs.kept.Counting.{HavePlaces, IsLeast, row_limits, least_with, AreCounted, row_taken, row_waiting, row_count, count_of, unfixed_limits, all_limits, with_level, with_share, RowSteps, SameRows, AreRowLevels};
 
 use crate::flow_row::FlowRow;
 use crate::numbers::Rows;
@@ -30,7 +30,7 @@ fn level_of_bound(row: FlowRow) -> Option<u64>
 }
 
 // The share of a flow at a level, as far as 64 bits go.
-pub(crate) fn share_at(row: FlowRow, level: u64) -> u64
+fn share_at(row: FlowRow, level: u64) -> u64
     ensures { result ≡ min (2 ^ 64 - 1) (bounded row.bound (row.weight * level)) }
 {
     let share = u64::from(row.weight).saturating_mul(level);
@@ -363,5 +363,28 @@ pub(crate) fn fill<L: Ledger>(
             return;
         };
         fix_all(flows, uses, left, waiting, low, steps);
+    }
+}
+
+// Gives the flow under one number the share of its level.
+fn put_share(flows: &mut Rows, id: usize)
+    ensures changed { row_at flows.new id ≡ option_map with_share (row_at flows.old id) }
+    ensures others { (other : ℕ) → other ≢ id → row_at flows.new other ≡ row_at flows.old other }
+    ensures len { length flows.new ≡ length flows.old }
+{
+    if let Some(row) = flows.get(id) {
+        let share = share_at(row, row.level.unwrap_or(0));
+        flows.replace(id, FlowRow { share, ..row });
+    }
+}
+
+// Gives each flow the share of the level at which `fill` fixed it.
+pub(crate) fn put_shares(flows: &mut Rows)
+    ensures all { (key : ℕ) →
+        row_at flows.new key ≡ option_map with_share (row_at flows.old key) }
+    ensures len { length flows.new ≡ length flows.old }
+{
+    for id in 0..flows.numbers() {
+        put_share(flows, id);
     }
 }

@@ -10,6 +10,8 @@ pub(crate) struct FlowRow {
     pub(crate) bound: Option<u64>,
     /// None before the first `solve`, and in one while the flow isn't fixed.
     pub(crate) level: Option<u64>,
+    /// As the last `solve` gave it, and 0 before: the bound may have changed since.
+    pub(crate) share: u64,
 }
 
 // A bound: what a contract doesn't see inside an `Option` is that the number fits its type.
@@ -39,6 +41,7 @@ impl FlowRow {
         ensures bound { result.bound ≡ bound }
         ensures fits { IfSome result.bound (λ bound. bound < 2 ^ 64) }
         ensures level { result.level ≡ None }
+        ensures share { result.share ≡ 0 }
     {
         let bound = checked(bound);
         FlowRow {
@@ -47,6 +50,7 @@ impl FlowRow {
             weight,
             bound,
             level: None,
+            share: 0,
         }
     }
 }

@@ -1,12 +1,12 @@
 //! The system of capacities and flows: which flow uses which resources, and the share that each gets.
-ghost use Rattle.std.specs.Prelude.{◌≡◌, ◌≤◌, ◌<◌, ◌+◌, ℕ, [], length, Some, None, IsSome, IfSome, IfOk, OnOk, slice_index, slice_index_or};
+ghost use Rattle.std.specs.Prelude.{◌≡◌, ◌≤◌, ◌<◌, ◌+◌, ℕ, [], length, Some, None, IsSome, IfSome, IfOk, OnOk, slice_index, slice_index_or, slice_set};
 ghost use Rattle.sg_maxmin.specs.Fair.{IsFair};
 ghost use Rattle.sg_maxmin.specs.Fill.{flow, share_of};
 ghost use Rattle.sg_chains.specs.Chained.{users_on};
 ghost use Rattle.sg_chains.specs.Walk.{Leads, next_of_flow, next_on, resource_of, user_of};
 ghost use Rattle.sg_maxmin.specs.Sharing.{IsSound, uses_at, flow_at, held, AreShares, Changes, IsExtended, IsFlow, KeepsShares, use_count};
 
-use crate::filling::{fill, share_at};
+use crate::filling::{fill, put_shares};
 use crate::flow_row::FlowRow;
 use crate::numbers::Rows;
 use sg_base::{Memory, Steps};
@@ -138,6 +138,31 @@ impl System {
         self.chains.remove(flow, row.count, row.first);
     }
 
+    /// Gives a resource another capacity. Until the next `solve` each flow has the share that it had.
+    pub fn set_capacity(&mut self, resource: usize, capacity: u64)
+        requires { resource < length self.old.capacities }
+        ensures { self.new ≡ record self.old {
+          capacities = slice_set self.old.capacities resource capacity;
+        } }
+    {
+        self.capacities[resource] = capacity;
+    }
+
+    /// Gives a flow another bound, also where it had none. Until the next `solve` each flow has the share that it
+    /// had.
+    pub fn set_bound(&mut self, flow: FlowId, bound: u64)
+        requires { IsSome (flow_at self.old.slots flow) }
+        ensures { IfSome (flow_at self.old.slots flow) (λ held.
+            self.new ≡ record self.old {
+              slots = slice_set self.old.slots flow (Some (record held { bound = Some bound }));
+            }) }
+    {
+        if let Some(row) = self.flows.get(flow) {
+            let bound = Some(bound);
+            self.flows.replace(flow, FlowRow { bound, ..row });
+        }
+    }
+
     /// Gives each flow its share by progressive filling over the whole system; the shares are max-min fair.
     /// `steps` counts the looks at uses: each use is looked at once at least.
     pub fn solve<L: Ledger>(&mut self, steps: &mut Steps<L>)
@@ -155,6 +180,7 @@ impl System {
             &mut self.waiting,
             steps,
         );
+        put_shares(&mut self.flows);
     }
 
     /// The flow's share, as the last `solve` gave it; 0 for a flow that was added since.
@@ -163,7 +189,7 @@ impl System {
         ensures { result ≡ slice_index self.now.shares flow }
     {
         match self.flows.get(flow) {
-            Some(row) => share_at(row, row.level.unwrap_or(0)),
+            Some(row) => row.share,
             None => 0,
         }
     }
@@ -218,7 +244,7 @@ impl System {
         }
     }
 
-    /// A flow's bound; None exactly where `add` was given none.
+    /// A flow's bound, as `add` or a later `set_bound` gave it; None exactly where neither did.
     pub fn bound(&self, flow: FlowId) -> Option<u64>
         requires { IsSome (flow_at self.now.slots flow) }
         ensures { IfSome (flow_at self.now.slots flow) (λ held. result ≡ held.bound) }

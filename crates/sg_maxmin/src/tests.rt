@@ -56,6 +56,34 @@ fn as_flows_change<L: Ledger>(alloc: Global, blank: Blank) -> Result<[u64; 6], M
     ])
 }
 
+// the shares of two flows after a solve, then under another capacity and other bounds before the next, and after it
+fn as_bounds_change<L: Ledger>(alloc: Global, blank: Blank) -> Result<[u64; 6], Memory>
+    requires name { blank.name ≡ L.name }
+    requires parts { blank.parts ≡ L.parts }
+    requires some { 0 < blank.parts }
+{
+    let mut steps = Steps::<L>::new(blank);
+    let mut system = System::new(alloc, &[10])?;
+    system.reserve(2, 2)?;
+    let one = system.add(&[0], 1, None);
+    let other = system.add(&[0], 1, Some(2));
+    system.solve(&mut steps);
+    let (first, second) = (system.share(one), system.share(other));
+    system.set_capacity(0, 20);
+    system.set_bound(one, 5);
+    system.set_bound(other, 30);
+    let (third, fourth) = (system.share(one), system.share(other));
+    system.solve(&mut steps);
+    Ok([
+        first,
+        second,
+        third,
+        fourth,
+        system.share(one),
+        system.share(other),
+    ])
+}
+
 #[test]
 fn fills_two_links(rt: HostRuntime) -> Result<(), Fail> {
     assert_eq!(rt;
@@ -70,6 +98,15 @@ fn keeps_shares_until_the_next_solve(rt: HostRuntime) -> Result<(), Fail> {
     assert_eq!(rt;
         as_flows_change::<Brand>(rt.alloc(), Blank::new(1))?,
         [8, 2, 8, 0, 7, 3]
+    );
+    Ok(())
+}
+
+#[test]
+fn keeps_shares_until_the_solve_after_a_change(rt: HostRuntime) -> Result<(), Fail> {
+    assert_eq!(rt;
+        as_bounds_change::<Brand>(rt.alloc(), Blank::new(1))?,
+        [8, 2, 8, 2, 5, 15]
     );
     Ok(())
 }

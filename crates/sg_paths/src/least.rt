@@ -11,8 +11,15 @@ use crate::settle::{Known, begin, place_of, settle};
 use crate::trail::{Settled, write_links};
 use sg_base::LinkId;
 
-/// Room for a search: the points that are settled, the place of each, the routes to them that are gone back over, and the
-/// links of a path.
+/// The mark of the empty list, which is at hand first.
+const FIRST: Mark = Mark {
+    date: 0,
+    serial: 0,
+    rank: 0,
+};
+
+/// Room for a search: the points that are settled, the place of each, the routes to them that are gone back over, and
+/// the links of a path.
 #[derive(Drop)]
 pub struct Reach {
     pub settled: Vec<Settled>,
@@ -24,8 +31,8 @@ pub struct Reach {
 
 /// Whether there is a path; where there is one, the least one's links are the best list.
 ///
-/// Points are settled from `to` on, the one with the least path first: the routes from others to those that are settled are
-/// gone back over a link at a time, the one first whose list from where it stands is least.
+/// Points are settled from `to` on, the one with the least path first: the routes from others to those that are settled
+/// are gone back over a link at a time, the one first whose list from where it stands is least.
 pub fn find(
     routes: &[PathRoute],
     arrivals: &Arrivals,
@@ -44,17 +51,10 @@ pub fn find(
 {
     begin(&mut reach.settled, &mut reach.places, to);
     clear(&mut reach.ahead);
+    let (settled, places) = (&reach.settled, &reach.places);
+    let known = Known { settled, places };
+    enter(routes, arrivals, known, &mut reach.ahead, to, FIRST);
     let mut rank: u64 = 0;
-    let first = Mark {
-        date: 0,
-        serial: 0,
-        rank,
-    };
-    let known = Known {
-        settled: &reach.settled,
-        places: &reach.places,
-    };
-    enter(routes, arrivals, known, &mut reach.ahead, to, first);
     'settling: while let Some((i, date, serial)) = reach.ahead.agenda.least() {
         let mark = Mark {
             date,
@@ -78,20 +78,12 @@ pub fn find(
             next: reach.places[routes[i].to as usize],
         };
         settle(&mut reach.settled, &mut reach.places, hop);
+        let (settled, places) = (&reach.settled, &reach.places);
         if point == from {
-            write_links(
-                routes,
-                reach.settled.as_slice(),
-                hop,
-                reach.most,
-                &mut reach.best,
-            );
+            write_links(routes, settled, hop, reach.most, &mut reach.best);
             return true;
         }
-        let known = Known {
-            settled: &reach.settled,
-            places: &reach.places,
-        };
+        let known = Known { settled, places };
         enter(routes, arrivals, known, &mut reach.ahead, point, mark);
         rank += 1;
     }

@@ -30,18 +30,20 @@ use Rattle.sg_tree.specs.Faults.{of_type}
 use Rattle.sg_tree.specs.Tree.{text_at, text_or_empty}
 use Rattle.toml.specs.Data.{Data, as_integer, as_str, get}
 
--- the numbers of names stay below the counts
+-- the numbers of names stay below the counts, and a link that has a name is not the loopback
 pub record IsCounted (names : Known) (counts : Counts) : Type 0 where
   pub zones : names.zones ≡ counts.zones
+  pub hosts : names.hosts ≡ counts.hosts
   pub points : (q : List ℕ) → IfSome (names.points q) (λ n. n < names.zones + counts.points)
   pub links : (q : List ℕ) → IfSome (names.links q) (λ n. n < counts.links)
+  pub declared : (q : List ℕ) → IfSome (names.links q) (λ n. n + 1 < counts.links)
 
 zone_below : (names : Known) (counts : Counts) → IsCounted names counts → (name : List ℕ) → zone_kinds names name ≡ [] → (zone_id names name).0 < counts.zones
 zone_below names counts counted name empty =
     let there = zone_there names name empty in
     rw there.1 (omega (arith, there.3, counted.zones))
 
-point_under : (zones points n : ℕ) → zones ≤ n → n < zones + points → n - zones < points
+pub point_under : (zones points n : ℕ) → zones ≤ n → n < zones + points → n - zones < points
 point_under zones points n low high = omega (arith, low, high)
 
 point_below : (names : Known) (counts : Counts) → IsCounted names counts → (name : List ℕ) → point_kinds names name ≡ [] → (point_id names name).0 < counts.points

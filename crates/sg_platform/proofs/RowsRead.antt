@@ -1,6 +1,6 @@
 -- What was read of each table of a platform is what the tree gives.
 use Rattle.std.proofs.Common.{◌≡◌, ◌∙◌, ap, codes, map}
-use Rattle.sg_platform.specs.Build.{host_row, network_of, route_row, router_row, spoke_row, zone_route_row, zone_row}
+use Rattle.sg_platform.specs.Build.{host_row, network_of, profile_row, route_row, router_row, spoke_row, state_profile_row, zone_route_row, zone_row}
 use Rattle.sg_platform.specs.PlatformOf.{links_of, rows_of}
 use Rattle.sg_rows.specs.Ends.{link_ends}
 use Rattle.sg_rows.specs.Platform.{Platform}
@@ -18,6 +18,8 @@ pub record IsRead (names : Known) (tree : Members) (p : Platform) : Type 0 where
   pub zone_routes : p.zone_routes ≡ map (zone_route_row names) (rows_at (codes "zone_route") tree)
   pub spokes : p.spokes ≡ map (spoke_row names (link_ends p.links)) (rows_at (codes "spoke") tree)
   pub network : p.network ≡ network_of (rows_at (codes "network") tree)
+  pub profiles : p.profiles ≡ map (profile_row names) (rows_at (codes "profile") tree)
+  pub state_profiles : p.state_profiles ≡ map (state_profile_row names) (rows_at (codes "state_profile") tree)
 
 pub rows_read : (names : Known) (tree : Members) (p : Platform) → IsRead names tree p → p ≡ rows_of names tree
 unfolding rows_of
@@ -32,4 +34,6 @@ rows_read names tree p read =
       zone_routes = read.zone_routes i;
       spokes = spokes i;
       network = read.network i;
+      profiles = read.profiles i;
+      state_profiles = read.state_profiles i;
     }

@@ -1,14 +1,15 @@
 -- The rows of a tree that has no fault are a platform.
-use Rattle.std.proofs.Common.{◌≡◌, ℕ, ◌+◌, ◌≤◌, Bool, true, false, cond, List, [], ◌∷◌, map, length, codes, Option, Some, None, refl, sym, subst, length-append, arith}
+use Rattle.std.proofs.Common.{◌≡◌, ℕ, ◌+◌, ◌<◌, ◌≤◌, Bool, true, false, cond, List, [], ◌∷◌, map, length, codes, Option, Some, None, IfSome, refl, sym, subst, length-append, arith}
 use Rattle.std.proofs.lemmas.List.{length-map}
 use Rattle.std.proofs.lemmas.List.Elements.{All-map}
 use Rattle.std.specs.List.{All, flat_map}
 use Rattle.sg_rows.proofs.EndsBelow.{link_ends_count}
+use Rattle.sg_platform.proofs.KeptProfiles.{profile_kept, state_profile_kept}
 use Rattle.sg_platform.proofs.KeptRows.{IsCounted, host_kept, link_kept, network_kept, network_row_kept, route_kept, router_kept, spoke_kept, zone_kept, zone_route_kept}
-use Rattle.sg_platform.specs.Build.{host_row, link_row, network_row, route_row, router_row, spoke_row, zone_route_row, zone_row}
+use Rattle.sg_platform.specs.Build.{host_row, link_row, network_row, profile_row, route_row, router_row, spoke_row, state_profile_row, zone_route_row, zone_row}
 use Rattle.sg_rows.specs.Ends.{ends_from, ends_of, link_ends}
 use Rattle.sg_rows.specs.Network.{IsNetwork}
-use Rattle.sg_rows.specs.Platform.{Counts, IsHostRow, IsLinkRow, IsPlatform, IsRouteRow, IsRouterRow, IsSpokeRow, IsZoneRouteRow, IsZoneRow, counts_of}
+use Rattle.sg_rows.specs.Platform.{Counts, IsHostRow, IsLinkRow, IsPlatform, IsProfileRow, IsRouteRow, IsRouterRow, IsSpokeRow, IsStateProfileRow, IsZoneRouteRow, IsZoneRow, counts_of}
 use Rattle.sg_platform.specs.PlatformOf.{links_of, rows_of}
 use Rattle.sg_rows.specs.declared.rows.Policy.TheVariants.{Shared, Fatpipe, SplitDuplex}
 use Rattle.sg_rules.proofs.Kept.{rows_few, rows_kept}
@@ -17,7 +18,7 @@ use Rattle.sg_rules.specs.Faults.{faults_of, table_faults}
 use Rattle.sg_rules.specs.LinkNames.{is_split, link_names, names_by}
 use Rattle.sg_rules.specs.Names.{Known, platform_known}
 use Rattle.sg_rules.specs.Tables.{platform_tables}
-use Rattle.sg_rules.specs.declared.tables.Table.TheVariants.{Zone, Host, Router, Link, Route, ZoneRoute, Spoke, Network}
+use Rattle.sg_rules.specs.declared.tables.Table.TheVariants.{Zone, Host, Router, Link, Route, ZoneRoute, Spoke, Network, Profile, StateProfile}
 use Rattle.sg_tree.proofs.Bounds.{below_all}
 use Rattle.sg_tree.proofs.Kept.{empty_left, empty_right, none_empty}
 use Rattle.sg_tree.specs.Along.{first}
@@ -27,6 +28,10 @@ use Rattle.toml.specs.Data.{Data, Members}
 pub known_zones : (tree : Members) → (platform_known tree).zones ≡ length (rows_at (codes "zone") tree)
 unfolding platform_known
 known_zones tree = refl
+
+known_hosts : (tree : Members) → (platform_known tree).hosts ≡ length (rows_at (codes "host") tree)
+unfolding platform_known
+known_hosts tree = refl
 
 -- no table has a fault
 pub record NoFaults (names : Known) (tree : Members) : Type 0 where
@@ -38,6 +43,8 @@ pub record NoFaults (names : Known) (tree : Members) : Type 0 where
   pub zone_routes : table_faults names tree ZoneRoute ≡ []
   pub spokes : table_faults names tree Spoke ≡ []
   pub network : table_faults names tree Network ≡ []
+  pub profiles : table_faults names tree Profile ≡ []
+  pub state_profiles : table_faults names tree StateProfile ≡ []
 
 pub no_faults : (names : Known) (tree : Members) → first (faults_of names platform_tables tree) ≡ None → NoFaults names tree
 unfolding faults_of
@@ -50,6 +57,8 @@ no_faults names tree none =
     let zone_routes = empty_right _ _ routes in
     let spokes = empty_right _ _ zone_routes in
     let network = empty_right _ _ spokes in
+    let profiles = empty_right _ _ network in
+    let state_profiles = empty_right _ _ profiles in
     record {
       zones = empty_left _ _ zones;
       hosts = empty_left _ _ hosts;
@@ -59,6 +68,8 @@ no_faults names tree none =
       zone_routes = empty_left _ _ zone_routes;
       spokes = empty_left _ _ spokes;
       network = empty_left _ _ network;
+      profiles = empty_left _ _ profiles;
+      state_profiles = empty_left _ _ state_profiles;
     }
 
 -- a row gives at least as many links as names of links
@@ -84,9 +95,14 @@ names_within first (row ∷ rows) =
 counts_in : Members → Counts
 counts_in tree = record {
   zones = length (rows_at (codes "zone") tree);
+  hosts = length (rows_at (codes "host") tree);
   points = length (rows_at (codes "host") tree) + length (rows_at (codes "router") tree);
   links = length (link_ends (links_of tree));
 }
+
+below_less : (found : Option ℕ) (m n : ℕ) → m + 1 ≤ n → IfSome found (λ i. i < m) → IfSome found (λ i. i + 1 < n)
+below_less None m n less below = tt
+below_less (Some i) m n less below = omega (arith, less, below)
 
 counted : (tree : Members) → IsCounted (platform_known tree) (counts_in tree)
 unfolding counts_in
@@ -97,8 +113,10 @@ counted tree =
     let links = rows_at (codes "link") tree in
     record {
       zones = known_zones tree;
+      hosts = known_hosts tree;
       points = λ q. rw (known_points tree q, known_zones tree) (below_all _ (length zones + length hosts + length routers) (length zones + (length hosts + length routers)) (omega arith) (points_below zones hosts routers q));
       links = λ q. rw (known_links tree q) (below_all _ (length (flat_map link_names links)) (length (link_ends (links_of tree))) (omega (arith, names_within 0 links, link_ends_count (links_of tree))) (links_below links q));
+      declared = λ q. rw (known_links tree q) (below_less _ (length (flat_map link_names links)) (length (link_ends (links_of tree))) (omega (arith, names_within 0 links, link_ends_count (links_of tree))) (links_below links q));
     }
 
 counts_same : (names : Known) (tree : Members) → counts_in tree ≡ counts_of (rows_of names tree)
@@ -107,7 +125,7 @@ counts_same names tree =
     let zones = sym (length-map (rows_at (codes "zone") tree) (zone_row names)) in
     let hosts = sym (length-map (rows_at (codes "host") tree) (host_row names)) in
     let routers = sym (length-map (rows_at (codes "router") tree) (router_row names)) in
-    λ i. record { zones = zones i; points = hosts i + routers i; links = length (link_ends (links_of tree)) }
+    λ i. record { zones = zones i; hosts = hosts i; points = hosts i + routers i; links = length (link_ends (links_of tree)) }
 
 rows_platform : (names : Known) (tree : Members) (counts : Counts) → counts ≡ counts_of (rows_of names tree) → IsCounted names counts → counts.links ≡ length (link_ends (links_of tree)) → NoFaults names tree → IsPlatform (rows_of names tree)
 unfolding rows_of
@@ -119,6 +137,8 @@ rows_platform names tree counts same kept ends none =
     let routes = rows_at (codes "route") tree in
     let zone_routes = rows_at (codes "zone_route") tree in
     let spokes = rows_at (codes "spoke") tree in
+    let profiles = rows_at (codes "profile") tree in
+    let state_profiles = rows_at (codes "state_profile") tree in
     let spoke = spoke_row names (link_ends (links_of tree)) in
     record {
       few_zones = omega (arith, length-map zones (zone_row names), rows_few names tree Zone none.zones);
@@ -128,6 +148,8 @@ rows_platform names tree counts same kept ends none =
       few_routes = omega (arith, length-map routes (route_row names), rows_few names tree Route none.routes);
       few_zone_routes = omega (arith, length-map zone_routes (zone_route_row names), rows_few names tree ZoneRoute none.zone_routes);
       few_spokes = omega (arith, length-map spokes spoke, rows_few names tree Spoke none.spokes);
+      few_profiles = omega (arith, length-map profiles (profile_row names), rows_few names tree Profile none.profiles);
+      few_state_profiles = omega (arith, length-map state_profiles (state_profile_row names), rows_few names tree StateProfile none.state_profiles);
       zones = subst (λ c. All (IsZoneRow c) (map (zone_row names) zones)) same
           (All-map (IsZoneRow counts) (zone_row names) zones (rows_kept names tree Zone (λ row. IsZoneRow counts (zone_row names row)) (λ number row fine. zone_kept names counts kept number row fine) none.zones));
       hosts = subst (λ c. All (IsHostRow c) (map (host_row names) hosts)) same
@@ -142,6 +164,10 @@ rows_platform names tree counts same kept ends none =
       spokes = subst (λ c. All (IsSpokeRow c) (map spoke spokes)) same
           (All-map (IsSpokeRow counts) spoke spokes (rows_kept names tree Spoke (λ row. IsSpokeRow counts (spoke row)) (λ number row fine. spoke_kept names counts kept (links_of tree) ends number row fine) none.spokes));
       network = network_kept (rows_at (codes "network") tree) (rows_kept names tree Network (λ row. IsNetwork (network_row row)) (λ number row fine. network_row_kept names number row fine) none.network);
+      profiles = subst (λ c. All (IsProfileRow c) (map (profile_row names) profiles)) same
+          (All-map (IsProfileRow counts) (profile_row names) profiles (rows_kept names tree Profile (λ row. IsProfileRow counts (profile_row names row)) (λ number row fine. profile_kept names counts kept number row fine) none.profiles));
+      state_profiles = subst (λ c. All (IsStateProfileRow c) (map (state_profile_row names) state_profiles)) same
+          (All-map (IsStateProfileRow counts) (state_profile_row names) state_profiles (rows_kept names tree StateProfile (λ row. IsStateProfileRow counts (state_profile_row names row)) (λ number row fine. state_profile_kept names counts kept number row fine) none.state_profiles));
     }
 
 links_count : (tree : Members) → (counts_in tree).links ≡ length (link_ends (links_of tree))

@@ -1,5 +1,5 @@
 -- The rows that a tree gives, where it has no fault. A value that is missing or unfit stands for its default here.
-use Rattle.std.specs.Prelude.{ℕ, ◌-◌, ◌&&◌, true, ℤ, pos, negsuc, nat_le, nat_lt, List, [], ◌∷◌, map, if◌then◌else◌, Option, Some, None, option_map, option_and_then, unwrap_or, codes}
+use Rattle.std.specs.Prelude.{ℕ, ◌-◌, ◌&&◌, Bool, true, false, ℤ, pos, negsuc, nat_le, nat_lt, List, [], ◌∷◌, map, if◌then◌else◌, Option, Some, None, option_map, option_and_then, unwrap_or, codes}
 use Rattle.std.specs.Str.{bytes_eq}
 use Rattle.sg_base.specs.declared.ids.Child.{Child}
 use Rattle.sg_base.specs.declared.ids.Child.TheVariants.{Point as PointChild, Zone as ZoneChild}
@@ -17,20 +17,28 @@ use Rattle.sg_rows.specs.declared.rows.LinkRow.{LinkRow}
 use Rattle.sg_rows.specs.declared.rows.MutexRow.{MutexRow}
 use Rattle.sg_rows.specs.declared.rows.Policy.{Policy}
 use Rattle.sg_rows.specs.declared.rows.Policy.TheVariants.{Shared, Fatpipe, SplitDuplex}
+use Rattle.sg_rows.specs.declared.rows.ProfileRow.{ProfileRow}
+use Rattle.sg_rows.specs.declared.rows.Profiled.{Profiled}
+use Rattle.sg_rows.specs.declared.rows.Profiled.TheVariants.{Host as OfHost, Link as OfLink}
 use Rattle.sg_rows.specs.declared.rows.RouteRow.{RouteRow}
 use Rattle.sg_rows.specs.declared.rows.RouterRow.{RouterRow}
 use Rattle.sg_rows.specs.declared.rows.Routing.{Routing}
 use Rattle.sg_rows.specs.declared.rows.Routing.TheVariants.{Full, Star, Dijkstra}
 use Rattle.sg_rows.specs.declared.rows.SemaphoreRow.{SemaphoreRow}
 use Rattle.sg_rows.specs.declared.rows.SpokeRow.{SpokeRow}
+use Rattle.sg_rows.specs.declared.rows.StateProfileRow.{StateProfileRow}
 use Rattle.sg_rows.specs.declared.rows.ZoneRouteRow.{ZoneRouteRow}
 use Rattle.sg_rows.specs.declared.rows.ZoneRow.{ZoneRow}
+use Rattle.sg_rules.specs.Arguments.{text_of}
 use Rattle.sg_rules.specs.Pairs.{truth_or}
 use Rattle.sg_rules.specs.Names.{Known}
-use Rattle.sg_rules.specs.Units.{amount_value, bandwidth_value, factor_value, latency_value, speed_value}
+use Rattle.sg_rules.specs.Profiles.{amount_in, items_at, quantity_of, state_in}
+use Rattle.sg_rules.specs.Units.{amount_value, bandwidth_value, factor_value, latency_value, speed_value, time_value}
+use Rattle.sg_rules.specs.declared.units.Quantity.{Quantity}
+use Rattle.sg_rules.specs.declared.units.Quantity.TheVariants.{Time}
 use Rattle.sg_tree.specs.Names.{Finds}
-use Rattle.sg_tree.specs.Tree.{items_or_none, text_at, text_or_empty}
-use Rattle.toml.specs.Data.{Data, get, as_array, as_integer, as_str}
+use Rattle.sg_tree.specs.Tree.{text_at, text_or_empty}
+use Rattle.toml.specs.Data.{Data, get, as_integer}
 
 abbrev pub number_of : Finds → List ℕ → ℕ
 number_of numbers name = unwrap_or (numbers name) 0
@@ -90,11 +98,24 @@ abbrev pub capacity_of : Data → ℕ
 capacity_of row = capacity_or_zero (option_and_then as_integer (get (codes "capacity") row))
 
 abbrev pub link_of : Known → Data → LinkId
-link_of names d = link_id names (unwrap_or (as_str d) [])
+link_of names item = link_id names (text_of item)
+
+-- the amounts that the items of the array at a key give
+abbrev pub amounts_at : Quantity → List ℕ → Data → List ℕ
+amounts_at quantity key row = map (λ item. unwrap_or (amount_in quantity item) 0) (items_at key row)
+
+-- the states that the items of the array at a key give
+abbrev pub states_at : List ℕ → Data → List Bool
+states_at key row = map (λ item. unwrap_or (state_in item) false) (items_at key row)
+
+-- a host where the row names one, else a link
+abbrev pub subject_by : Known → Data → Option (List ℕ) → Profiled
+subject_by names row None = OfLink (link_id names (text_or_empty (codes "link") row))
+subject_by names row (Some host) = OfHost (point_id names host)
 
 -- the links that a list at a key names
 abbrev pub links_at : Known → List ℕ → Data → List LinkId
-links_at names key row = map (link_of names) (items_or_none (option_and_then as_array (get key row)))
+links_at names key row = map (link_of names) (items_at key row)
 
 -- the links down to a child: by default the way back of those up
 abbrev pub links_or_back : Known → List LinkEnd → Data → List LinkId → Option Data → List LinkId
@@ -155,6 +176,22 @@ spoke_row names ends row = record {
   gateway = gateway names row (codes "gateway") (codes "child");
   up = links_at names (codes "up") row;
   down = down_links names ends row (links_at names (codes "up") row);
+}
+
+unfoldable pub profile_row : Known → Data → ProfileRow
+profile_row names row = record {
+  of = subject_by names row (text_at (codes "host") row);
+  dates = amounts_at Time (codes "dates") row;
+  values = amounts_at (quantity_of row) (codes "values") row;
+  gap = option_and_then time_value (text_at (codes "loop") row);
+}
+
+unfoldable pub state_profile_row : Known → Data → StateProfileRow
+state_profile_row names row = record {
+  of = subject_by names row (text_at (codes "host") row);
+  dates = amounts_at Time (codes "dates") row;
+  states = states_at (codes "states") row;
+  gap = option_and_then time_value (text_at (codes "loop") row);
 }
 
 unfoldable pub mutex_row : Data → MutexRow

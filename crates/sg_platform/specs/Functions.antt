@@ -1,17 +1,17 @@
 -- What the actors of a tree do, where it has no fault.
-use Rattle.std.specs.Prelude.{ℕ, List, [], ◌∷◌, map, if◌then◌else◌, option_and_then, unwrap_or, codes}
+use Rattle.std.specs.Prelude.{ℕ, List, [], ◌∷◌, map, if◌then◌else◌, unwrap_or, codes}
 use Rattle.sg_base.specs.declared.ids.ActorId.{ActorId}
 use Rattle.sg_rows.specs.declared.rows.Function.{Function}
 use Rattle.sg_rows.specs.declared.rows.Function.TheVariants.{Replay, Worker, Master}
 use Rattle.sg_rules.specs.Arguments.{has_function, text_of}
 use Rattle.sg_rules.specs.Names.{Known}
+use Rattle.sg_rules.specs.Profiles.{items_at}
 use Rattle.sg_rules.specs.Units.{amount_value}
-use Rattle.sg_tree.specs.Tree.{items_or_none}
-use Rattle.toml.specs.Data.{Data, as_array, get}
+use Rattle.toml.specs.Data.{Data}
 
 -- the arguments of a row
 abbrev pub arguments_at : Data → List Data
-arguments_at row = items_or_none (option_and_then as_array (get (codes "argument") row))
+arguments_at row = items_at (codes "argument") row
 
 abbrev pub amount_of : Data → ℕ
 amount_of d = unwrap_or (amount_value (text_of d)) 0

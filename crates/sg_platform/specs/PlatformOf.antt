@@ -1,6 +1,6 @@
 -- The platform that a text describes, or its fault of least place, and there of least kind.
 use Rattle.std.specs.Prelude.{ℕ, List, map, length, codes, if◌then◌else◌, nat_lt, Option, Some, None, Result, Ok, Err}
-use Rattle.sg_platform.specs.Build.{host_row, link_row, network_of, route_row, router_row, spoke_row, zone_route_row, zone_row}
+use Rattle.sg_platform.specs.Build.{host_row, link_row, network_of, profile_row, route_row, router_row, spoke_row, state_profile_row, zone_route_row, zone_row}
 use Rattle.sg_rows.specs.Ends.{link_ends}
 use Rattle.sg_rows.specs.Platform.{Platform}
 use Rattle.sg_platform.specs.declared.platform.PlatformFault.{PlatformFault}
@@ -43,6 +43,8 @@ rows_of names tree = record {
   zone_routes = map (zone_route_row names) (rows_at (codes "zone_route") tree);
   spokes = map (spoke_row names (link_ends (links_of tree))) (rows_at (codes "spoke") tree);
   network = network_of (rows_at (codes "network") tree);
+  profiles = map (profile_row names) (rows_at (codes "profile") tree);
+  state_profiles = map (state_profile_row names) (rows_at (codes "state_profile") tree);
 }
 
 abbrev pub rows_unless : Known → Members → Option Fault → Result Platform PlatformFault

@@ -1,11 +1,13 @@
 //! Makes rows of a tree that has no fault.
-ghost use Rattle.std.specs.Prelude.{◌≡◌, ℕ, List, IfOk, map};
+ghost use Rattle.std.specs.Prelude.{◌≡◌, ℕ, List, IfOk, codes, map, option_and_then, unwrap_or};
 ghost use Rattle.std.specs.HashMap.{get_by_text};
-ghost use Rattle.sg_platform.specs.Build.{actor_row, bandwidth_of, capacity_of, child_of, core_count, down_links, gateway, host_row, latency_of, link_id, link_of, link_row, links_at, mutex_row, network_of, network_row, number_of, point_id, policy_of, route_row, router_row, routing_of, semaphore_row, speed_of, spoke_row, value_at, zone_id, zone_route_row, zone_row};
+ghost use Rattle.sg_platform.specs.Build.{actor_row, amounts_at, bandwidth_of, capacity_of, child_of, core_count, down_links, gateway, host_row, latency_of, link_id, link_of, link_row, links_at, mutex_row, network_of, network_row, number_of, point_id, policy_of, profile_row, route_row, router_row, routing_of, semaphore_row, speed_of, spoke_row, state_profile_row, states_at, subject_by, value_at, zone_id, zone_route_row, zone_row};
 ghost use Rattle.sg_rows.specs.declared.ends.LinkEnd.{LinkEnd};
 ghost use Rattle.sg_rules.specs.Names.{Known};
-ghost use Rattle.sg_rules.specs.Units.{amount_value, factor_value};
+ghost use Rattle.sg_rules.specs.Profiles.{amount_in, state_in};
+ghost use Rattle.sg_rules.specs.Units.{amount_value, factor_value, time_value};
 ghost use Rattle.sg_rules.specs.kept.NamesView.{names_view};
+ghost use Rattle.sg_tree.specs.Tree.{text_at};
 ghost use Rattle.toml.specs.Data.{Data};
 ghost use Rattle.toml.specs.View.{view};
 
@@ -13,11 +15,13 @@ use crate::functions::function_of;
 use indexmap::IndexMap;
 use sg_base::{Child, LinkId, Links, Memory, PointId, Text, ZoneId};
 use sg_rows::{
-    ActorRow, HostRow, LinkEnd, LinkRow, MutexRow, Network, Policy, RouteRow, RouterRow, Routing,
-    SemaphoreRow, SpokeRow, ZoneRouteRow, ZoneRow, way_back,
+    ActorRow, HostRow, LinkEnd, LinkRow, MutexRow, Network, Numbers, Policy, ProfileRow, Profiled,
+    RouteRow, RouterRow, Routing, SemaphoreRow, SpokeRow, StateProfileRow, States, ZoneRouteRow,
+    ZoneRow, way_back,
 };
 use sg_rules::{
-    Names, amount_value, bandwidth_value, factor_value, is_symmetrical, latency_value, speed_value,
+    Names, Quantity, amount_in, amount_value, bandwidth_value, factor_value, is_symmetrical,
+    items_at, latency_value, quantity_of, speed_value, state_in, text_of, time_value,
 };
 use sg_tree::{text_at, text_or_empty};
 use std::alloc::Global;
@@ -145,33 +149,61 @@ fn capacity_of(row: &Value) -> u64
     }
 }
 
-fn links_in(alloc: Global, names: &Names, items: &[Value]) -> Result<Links, Memory>
-    ensures { IfOk result
-        (λ links. links ≡ map (λ d. link_of (names_view names.now) d) (map view items.now)) }
-{
-    let mut made = Vec::new(alloc);
-    for item in items {
-        let name = match item.as_str() {
-            Some(name) => name,
-            None => "",
-        };
-        made.push(link_id(names, name))?;
-    }
-    Ok(Links::from_vec(made))
-}
-
 /// The links that a list at a key names.
-#[tactic(auto, using(sg_tree::proofs::TreeLemmas::list_of_items))]
 fn links_at(alloc: Global, names: &Names, row: &Value, key: &str) -> Result<Links, Memory>
     ensures { IfOk result
         (λ links. links ≡ links_at (names_view names.now) key.now (view row.now)) }
 {
-    match row.get(key) {
-        Some(value) => match value.as_array() {
-            Some(items) => links_in(alloc, names, items.as_slice()),
-            None => links_in(alloc, names, &[]),
-        },
-        None => links_in(alloc, names, &[]),
+    let items = items_at(row, key);
+    let mut made = Vec::new(alloc);
+    for item in items {
+        made.push(link_id(names, text_of(item)))?;
+    }
+    Ok(Links::from_vec(made))
+}
+
+/// The amounts that the items of the array at a key give.
+fn amounts_at(alloc: Global, quantity: Quantity, row: &Value, key: &str) -> Result<Numbers, Memory>
+    ensures { IfOk result (λ amounts. amounts ≡ amounts_at quantity key.now (view row.now)) }
+{
+    let items = items_at(row, key);
+    let mut made = Vec::new(alloc);
+    for item in items {
+        made.push(amount_in(quantity, item).unwrap_or(0))?;
+    }
+    Ok(Numbers::from_vec(made))
+}
+
+/// The states that the items of the array at a key give.
+fn states_at(alloc: Global, row: &Value, key: &str) -> Result<States, Memory>
+    ensures { IfOk result (λ states. states ≡ states_at key.now (view row.now)) }
+{
+    let items = items_at(row, key);
+    let mut made = Vec::new(alloc);
+    for item in items {
+        made.push(state_in(item).unwrap_or(false))?;
+    }
+    Ok(States::from_vec(made))
+}
+
+fn subject_of(names: &Names, row: &Value) -> Profiled
+    ensures { result
+        ≡ subject_by (names_view names.now) (view row.now)
+        (text_at (codes "host") (view row.now)) }
+{
+    match text_at(row, "host") {
+        Some(host) => Profiled::Host(point_id(names, host)),
+        None => Profiled::Link(link_id(names, text_or_empty(row, "link"))),
+    }
+}
+
+/// How long after its last date a profile begins anew, where it does.
+fn gap_of(row: &Value) -> Option<u64>
+    ensures { result ≡ option_and_then time_value (text_at (codes "loop") (view row.now)) }
+{
+    match text_at(row, "loop") {
+        Some(text) => time_value(text.as_bytes()),
+        None => None,
     }
 }
 
@@ -416,6 +448,50 @@ impl Row for SpokeRow {
             gateway,
             up,
             down,
+        })
+    }
+}
+
+impl Row for ProfileRow {
+    ghost row_of = { λ names _ row. profile_row names row };
+
+    #[tactic(auto, unfolding(crate::specs::Build::profile_row))]
+    fn read(
+        alloc: Global,
+        names: &Names,
+        _ends: &[LinkEnd],
+        row: &Value,
+    ) -> Result<ProfileRow, Memory> {
+        let of = subject_of(names, row);
+        let dates = amounts_at(alloc, Quantity::Time, row, "dates")?;
+        let values = amounts_at(alloc, quantity_of(row), row, "values")?;
+        Ok(ProfileRow {
+            of,
+            dates,
+            values,
+            gap: gap_of(row),
+        })
+    }
+}
+
+impl Row for StateProfileRow {
+    ghost row_of = { λ names _ row. state_profile_row names row };
+
+    #[tactic(auto, unfolding(crate::specs::Build::state_profile_row))]
+    fn read(
+        alloc: Global,
+        names: &Names,
+        _ends: &[LinkEnd],
+        row: &Value,
+    ) -> Result<StateProfileRow, Memory> {
+        let of = subject_of(names, row);
+        let dates = amounts_at(alloc, Quantity::Time, row, "dates")?;
+        let states = states_at(alloc, row, "states")?;
+        Ok(StateProfileRow {
+            of,
+            dates,
+            states,
+            gap: gap_of(row),
         })
     }
 }

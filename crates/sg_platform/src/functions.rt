@@ -1,12 +1,12 @@
 //! What the actors of a tree do, where it has no fault.
 ghost use Rattle.std.specs.Prelude.{◌≡◌, IfOk, map};
-ghost use Rattle.sg_platform.specs.Functions.{amount_of, arguments_at, function_of, master_of, worker_id};
+ghost use Rattle.sg_platform.specs.Functions.{amount_of, function_of, master_of, worker_id};
 ghost use Rattle.sg_rules.specs.kept.NamesView.{names_view};
 ghost use Rattle.toml.specs.View.{view};
 
 use sg_base::{ActorId, Ids, Memory};
 use sg_rows::Function;
-use sg_rules::{Names, amount_value, has_function, text_of};
+use sg_rules::{Names, amount_value, has_function, items_at, text_of};
 use std::alloc::Global;
 use toml::Value;
 
@@ -58,21 +58,6 @@ fn master_of(alloc: Global, names: &Names, items: &[Value]) -> Result<Function, 
     }
 }
 
-/// The function of a master's row.
-#[tactic(auto, using(sg_tree::proofs::TreeLemmas::list_of_items))]
-fn master_at(alloc: Global, names: &Names, row: &Value) -> Result<Function, Memory>
-    ensures { IfOk result
-        (λ function. function ≡ master_of (names_view names.now) (arguments_at (view row.now))) }
-{
-    match row.get("argument") {
-        Some(value) => match value.as_array() {
-            Some(items) => master_of(alloc, names, items.as_slice()),
-            None => master_of(alloc, names, &[]),
-        },
-        None => master_of(alloc, names, &[]),
-    }
-}
-
 /// What the actor of a row does.
 #[tactic(auto, unfolding(crate::specs::Functions::function_of))]
 pub fn function_of(alloc: Global, names: &Names, row: &Value) -> Result<Function, Memory>
@@ -80,7 +65,7 @@ pub fn function_of(alloc: Global, names: &Names, row: &Value) -> Result<Function
         (λ function. function ≡ function_of (names_view names.now) (view row.now)) }
 {
     if has_function(row, "master") {
-        master_at(alloc, names, row)
+        master_of(alloc, names, items_at(row, "argument"))
     } else if has_function(row, "worker") {
         Ok(Function::Worker)
     } else {

@@ -10,8 +10,8 @@ ghost use Rattle.toml.specs.View.{table_view};
 
 use crate::build::{network_of, read_rows};
 use sg_rows::{
-    HostRow, LinkRow, PlatformRows, PlatformText, RouteRow, RouterRow, SpokeRow, ZoneRouteRow,
-    ZoneRow, link_ends,
+    HostRow, LinkRow, PlatformRows, PlatformText, ProfileRow, RouteRow, RouterRow, SpokeRow,
+    StateProfileRow, ZoneRouteRow, ZoneRow, link_ends,
 };
 use sg_rules::{Names, PLATFORM, first_fault, platform_names};
 use sg_tree::{Fault, Kind, NoTree, Place, read_tree, rows_at};
@@ -124,6 +124,9 @@ fn rows_of(
     let routes = read_rows::<RouteRow>(alloc, names, &[], rows_at(tree, "route"))?;
     let zone_routes = read_rows::<ZoneRouteRow>(alloc, names, &[], rows_at(tree, "zone_route"))?;
     let spokes = read_rows::<SpokeRow>(alloc, names, ends.as_slice(), rows_at(tree, "spoke"))?;
+    let profiles = read_rows::<ProfileRow>(alloc, names, &[], rows_at(tree, "profile"))?;
+    let states = rows_at(tree, "state_profile");
+    let state_profiles = read_rows::<StateProfileRow>(alloc, names, &[], states)?;
     Ok(PlatformText::with_rows(PlatformRows {
         zones,
         hosts,
@@ -133,6 +136,8 @@ fn rows_of(
         zone_routes,
         spokes,
         network: network_of(rows_at(tree, "network")),
+        profiles,
+        state_profiles,
     }))
 }
 

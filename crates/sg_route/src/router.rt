@@ -93,9 +93,12 @@ impl Router {
         links: &mut ArrayVec<LinkId, 64>,
     ) -> Result<u128, RouteFault>
         ensures route { LeavesRoute (route_of self.old a b) result links.new.items }
-        // In Dijkstra zones its links are those of a path, no path has fewer, or as many with a smaller list, ..
-        ensures reached { a.0 ≢ b.0 → LeavesMade (IsReached self.old) self.old a b result links.new.items }
-        ensures least { a.0 ≢ b.0 → LeavesMade (IsLeastThere self.old) self.old a b result links.new.items }
+        // In Dijkstra zones its links are those of a path, no path has fewer, or as many with a
+        // smaller list, ..
+        ensures reached { a.0 ≢ b.0 →
+            LeavesMade (IsReached self.old) self.old a b result links.new.items }
+        ensures least { a.0 ≢ b.0 →
+            LeavesMade (IsLeastThere self.old) self.old a b result links.new.items }
         // .. and where the local route of one is missing, there is no path.
         ensures none { IfErr result (IsWithoutPath self.old) }
         ensures apart { AllPairs (λ x y. x ≢ y) links.new.items }

@@ -32,7 +32,12 @@ impl Model for Ways {
 
     ghost Value = { Roads };
 
-    ghost view = { λ w. record { tree = w.zones; locals = w.locals; spokes = w.spokes; ends = w.ends.items } };
+    ghost view = { λ w. record {
+      tree = w.zones;
+      locals = w.locals;
+      spokes = w.spokes;
+      ends = w.ends.items;
+    } };
 
     ghost invariant = { λ w. w.loopback.0 ≡ length w.ends.items - 1 };
 }

@@ -1,5 +1,5 @@
 pub mod EndsBelow
 pub mod MemberIds
 pub mod Networks
-pub mod Numbers
+pub mod RowsBelow
 pub mod WayBack

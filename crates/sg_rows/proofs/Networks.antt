@@ -1,5 +1,5 @@
 -- What networks make of latencies and bandwidths.
-use Rattle.std.proofs.Common.{◌≤◌, ◌*◌, ◌/◌, ◌^◌, ℕ, arith}
+use Rattle.std.proofs.Common.{arith}
 use Rattle.sg_rows.specs.Network.{IsNetwork, plain_network}
 
 pub plain_kept : IsNetwork plain_network

@@ -39,6 +39,8 @@ platform_with zones hosts links spokes = record {
   zone_routes = [];
   spokes = spokes;
   network = plain_network;
+  profiles = [];
+  state_profiles = [];
 }
 
 -- zones and hosts share a space of names

@@ -1,5 +1,6 @@
 -- A platform, and what holds of each one: its limits, and that each number in a row is that of something declared.
-use Rattle.std.specs.Prelude.{ℕ, ◌+◌, ◌<◌, ◌≤◌, List, IfSome, length}
+use Rattle.std.specs.Prelude.{◌≡◌, ℕ, ◌+◌, ◌^◌, ◌<◌, ◌≤◌, List, Option, IfSome, length}
+use Rattle.std.specs.List.Sorted.{IsStrictlyIncreasing}
 use Rattle.std.specs.List.{All}
 use Rattle.sg_base.specs.declared.ids.Child.{Child}
 use Rattle.sg_base.specs.declared.ids.Child.TheVariants.{Point, Zone}
@@ -10,9 +11,13 @@ use Rattle.sg_rows.specs.declared.network.Network.{Network}
 use Rattle.sg_rows.specs.declared.rows.HostRow.{HostRow}
 use Rattle.sg_rows.specs.declared.rows.LinkRow.{LinkRow}
 use Rattle.sg_rows.specs.declared.rows.PlatformRows.{PlatformRows}
+use Rattle.sg_rows.specs.declared.rows.ProfileRow.{ProfileRow}
+use Rattle.sg_rows.specs.declared.rows.Profiled.{Profiled}
+use Rattle.sg_rows.specs.declared.rows.Profiled.TheVariants.{Host, Link}
 use Rattle.sg_rows.specs.declared.rows.RouteRow.{RouteRow}
 use Rattle.sg_rows.specs.declared.rows.RouterRow.{RouterRow}
 use Rattle.sg_rows.specs.declared.rows.SpokeRow.{SpokeRow}
+use Rattle.sg_rows.specs.declared.rows.StateProfileRow.{StateProfileRow}
 use Rattle.sg_rows.specs.declared.rows.ZoneRouteRow.{ZoneRouteRow}
 use Rattle.sg_rows.specs.declared.rows.ZoneRow.{ZoneRow}
 
@@ -25,6 +30,8 @@ pub record Platform : Type 0 where
   pub zone_routes : List ZoneRouteRow
   pub spokes : List SpokeRow
   pub network : Network
+  pub profiles : List ProfileRow
+  pub state_profiles : List StateProfileRow
 
 -- what the code keeps of its tables
 abbrev pub rows_view : PlatformRows → Platform
@@ -37,16 +44,24 @@ rows_view rows = record {
   zone_routes = rows.zone_routes.items;
   spokes = rows.spokes.items;
   network = rows.network;
+  profiles = rows.profiles.items;
+  state_profiles = rows.state_profiles.items;
 }
 
--- how much a platform has: zones, points, and links with the loopback
+-- how much a platform has: zones, hosts, points, and links with the loopback
 pub record Counts : Type 0 where
   pub zones : ℕ
+  pub hosts : ℕ
   pub points : ℕ
   pub links : ℕ
 
 abbrev pub counts_of : Platform → Counts
-counts_of p = record { zones = length p.zones; points = length p.hosts + length p.routers; links = length (link_ends p.links) }
+counts_of p = record {
+  zones = length p.zones;
+  hosts = length p.hosts;
+  points = length p.hosts + length p.routers;
+  links = length (link_ends p.links);
+}
 
 pub record IsZoneRow (counts : Counts) (zone : ZoneRow) : Type 0 where
   pub id : length zone.id ≤ 64
@@ -99,6 +114,28 @@ pub record IsSpokeRow (counts : Counts) (spoke : SpokeRow) : Type 0 where
   pub up : IsLinkList counts spoke.up
   pub down : IsLinkList counts spoke.down
 
+-- a host, or a declared link: the last link is the loopback
+abbrev pub IsProfiled : Counts → Profiled → Type 0
+IsProfiled counts (Host host) = host.0 < counts.hosts
+IsProfiled counts (Link link) = link.0 + 1 < counts.links
+
+-- 1 to 1,024 dates that rise, and a value for each of them
+pub record HasDates (counts : Counts) (of : Profiled) (dates : List ℕ) (values : ℕ) (gap : Option ℕ) : Type 0 where
+  pub exists : IsProfiled counts of
+  pub some : 1 ≤ length dates
+  pub few : length dates ≤ 1024
+  pub each : values ≡ length dates
+  pub rising : IsStrictlyIncreasing dates
+  pub soon : All (λ date. date ≤ 10 ^ 18) dates
+  pub wide : IfSome gap (λ gap. (1 ≤ gap) × (gap ≤ 10 ^ 18))
+
+pub record IsProfileRow (counts : Counts) (profile : ProfileRow) : Type 0 where
+  pub dates : HasDates counts profile.of profile.dates (length profile.values) profile.gap
+  pub values : All (λ value. value ≤ 10 ^ 15) profile.values
+
+abbrev pub IsStateProfileRow : Counts → StateProfileRow → Type 0
+IsStateProfileRow counts profile = HasDates counts profile.of profile.dates (length profile.states) profile.gap
+
 pub record IsPlatform (platform : Platform) : Type 0 where
   pub few_zones : length platform.zones ≤ 1024
   pub few_hosts : length platform.hosts ≤ 16384
@@ -107,6 +144,8 @@ pub record IsPlatform (platform : Platform) : Type 0 where
   pub few_routes : length platform.routes ≤ 262144
   pub few_zone_routes : length platform.zone_routes ≤ 262144
   pub few_spokes : length platform.spokes ≤ 32768
+  pub few_profiles : length platform.profiles ≤ 4096
+  pub few_state_profiles : length platform.state_profiles ≤ 4096
   pub zones : All (IsZoneRow (counts_of platform)) platform.zones
   pub hosts : All (IsHostRow (counts_of platform)) platform.hosts
   pub routers : All (IsRouterRow (counts_of platform)) platform.routers
@@ -115,3 +154,5 @@ pub record IsPlatform (platform : Platform) : Type 0 where
   pub zone_routes : All (IsZoneRouteRow (counts_of platform)) platform.zone_routes
   pub spokes : All (IsSpokeRow (counts_of platform)) platform.spokes
   pub network : IsNetwork platform.network
+  pub profiles : All (IsProfileRow (counts_of platform)) platform.profiles
+  pub state_profiles : All (IsStateProfileRow (counts_of platform)) platform.state_profiles

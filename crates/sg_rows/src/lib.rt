@@ -5,16 +5,20 @@ mod deployment;
 mod ends;
 mod index;
 mod network;
+mod numbers;
 mod of_rows;
 mod platform;
 mod rows;
+mod states;
 
 pub use deployment::Deployment;
 pub use ends::{LinkEnd, link_ends, way_back};
 pub use index::hosts_by_name;
 pub use network::Network;
+pub use numbers::Numbers;
 pub use platform::PlatformText;
 pub use rows::{
-    ActorRow, Function, HostRow, LinkRow, MutexRow, PlatformRows, Policy, RouteRow, RouterRow,
-    Routing, SemaphoreRow, SpokeRow, ZoneRouteRow, ZoneRow,
+    ActorRow, Function, HostRow, LinkRow, MutexRow, PlatformRows, Policy, ProfileRow, Profiled,
+    RouteRow, RouterRow, Routing, SemaphoreRow, SpokeRow, StateProfileRow, ZoneRouteRow, ZoneRow,
 };
+pub use states::States;

@@ -37,6 +37,8 @@ impl PlatformText {
             zone_routes: Vec::new(alloc),
             spokes,
             network: Network::plain(),
+            profiles: Vec::new(alloc),
+            state_profiles: Vec::new(alloc),
         }))
     }
 }

@@ -4,7 +4,8 @@ ghost use Rattle.sg_rows.specs.Platform.{IsPlatform, rows_view};
 
 use crate::network::Network;
 use crate::rows::{
-    HostRow, LinkRow, PlatformRows, RouteRow, RouterRow, SpokeRow, ZoneRouteRow, ZoneRow,
+    HostRow, LinkRow, PlatformRows, ProfileRow, RouteRow, RouterRow, SpokeRow, StateProfileRow,
+    ZoneRouteRow, ZoneRow,
 };
 use std::marker::Model;
 
@@ -95,5 +96,21 @@ impl PlatformText {
         ensures kept { IsPlatform self.now }
     {
         self.rows.network
+    }
+
+    /// The profiles of speeds and bandwidths, in declared order.
+    pub fn profiles(&self) -> &[ProfileRow]
+        ensures rows { result.now ≡ self.now.profiles }
+        ensures kept { IsPlatform self.now }
+    {
+        self.rows.profiles.as_slice()
+    }
+
+    /// The profiles of states, in declared order.
+    pub fn state_profiles(&self) -> &[StateProfileRow]
+        ensures rows { result.now ≡ self.now.state_profiles }
+        ensures kept { IsPlatform self.now }
+    {
+        self.rows.state_profiles.as_slice()
     }
 }

@@ -1,6 +1,8 @@
 //! The rows of platforms and deployments, with resolved names.
 use crate::network::Network;
-use sg_base::{ActorId, Child, Ids, Links, PointId, Text, ZoneId};
+use crate::numbers::Numbers;
+use crate::states::States;
+use sg_base::{ActorId, Child, Ids, LinkId, Links, PointId, Text, ZoneId};
 
 /// How a zone finds the routes between its children.
 #[derive(Clone, Copy, Debug, PartialEq, Eq)]
@@ -96,6 +98,37 @@ pub struct SpokeRow {
     pub down: Links,
 }
 
+/// What a profile is of.
+#[derive(Clone, Copy, Debug, PartialEq, Eq)]
+pub enum Profiled {
+    Host(PointId),
+    Link(LinkId),
+}
+
+/// How the speed of a host or the bandwidth of a link changes while a run goes on.
+#[derive(Debug, Drop)]
+pub struct ProfileRow {
+    pub of: Profiled,
+    /// When it changes, in nanoseconds, each later than the one before.
+    pub dates: Numbers,
+    /// What it is from each date on, in flops or bytes per second.
+    pub values: Numbers,
+    /// How long after the last date the next turn begins, in nanoseconds, where all comes again.
+    pub gap: Option<u64>,
+}
+
+/// When a host or a link goes on or off while a run goes on.
+#[derive(Debug, Drop)]
+pub struct StateProfileRow {
+    pub of: Profiled,
+    /// When it goes on or off, in nanoseconds, each later than the one before.
+    pub dates: Numbers,
+    /// Whether it is on from each date on.
+    pub states: States,
+    /// How long after the last date the next turn begins, in nanoseconds, where all comes again.
+    pub gap: Option<u64>,
+}
+
 /// The rows of a platform's tables, in declared order.
 #[derive(Drop)]
 pub struct PlatformRows {
@@ -109,6 +142,8 @@ pub struct PlatformRows {
     pub spokes: Vec<SpokeRow>,
     /// That of the one row, or the plain one.
     pub network: Network,
+    pub profiles: Vec<ProfileRow>,
+    pub state_profiles: Vec<StateProfileRow>,
 }
 
 /// What an actor does.

@@ -2,10 +2,10 @@
 use Rattle.std.proofs.Common.{◌≡◌, ℕ, ◌≤◌, ◌==◌, Bool, true, false, cond, nat_le, List, length, Option, Some, None, Result, Ok, Err, IfOk, inl, inr, arith}
 use Rattle.std.proofs.lemmas.Bool.{cases_Bool}
 use Rattle.std.proofs.lemmas.Bool.Decides.{nat_tests}
-use Rattle.sg_rules.specs.Units.{amount_value, bandwidth_value, factor_value, if_latency, latency_value, speed_value, value_of}
+use Rattle.sg_rules.specs.Units.{amount_value, bandwidth_value, factor_value, if_latency, latency_value, speed_value, time_value, value_of}
 use Rattle.sg_units.specs.Amount.{up_to, value_in_unit, amount_of, bandwidth_of, factor_of, amount_by, speed_of, time_of, is_short, value_of as amount}
 use Rattle.sg_units.specs.Number.{Number, number_of}
-use Rattle.sg_units.specs.Units.{Units, amount_units, bandwidth_units, factor_units, size_of, speed_units}
+use Rattle.sg_units.specs.Units.{Units, amount_units, bandwidth_units, factor_units, size_of, speed_units, time_units}
 use Rattle.sg_units.specs.declared.fault.AmountFault.{AmountFault}
 use Rattle.sg_units.specs.declared.fault.AmountFault.TheVariants.{NotANumber, TooLarge}
 use Rattle.sg_units.specs.declared.units.Ratio.{Ratio}
@@ -52,6 +52,10 @@ bandwidth_within text n same = value_within 1000000000000000 (bandwidth_of text)
 pub factor_within : (text : List ℕ) (n : ℕ) → factor_value text ≡ Some n → n ≤ 1000000000
 unfolding factor_value
 factor_within text n same = value_within 1000000000 (factor_of text) n (within_read factor_units 1000000000 text) same
+
+pub time_within : (text : List ℕ) (n : ℕ) → time_value text ≡ Some n → n ≤ 1000000000000000000
+unfolding time_value
+time_within text n same = value_within 1000000000000000000 (time_of text) n (within_read time_units 1000000000000000000 text) same
 
 latency_at_most : (o : Option ℕ) (n : ℕ) → if_latency o ≡ Some n → n ≤ 1000000000000000
 latency_at_most None n same = cc

@@ -1,16 +1,18 @@
 -- What holds of the rows of a tree that has no fault.
-use Rattle.std.proofs.Common.{◌≡◌, ℕ, ◌+◌, ◌<◌, ◌≤◌, ◌==◌, Bool, true, false, not, nat_le, nat_lt, ◌&&◌, ◌||◌, is_none, List, [], ◌∷◌, length, Option, Some, None, option_and_then, refl, sym, arith}
+use Rattle.std.proofs.Common.{◌≡◌, ℕ, ◌+◌, ◌<◌, ◌≤◌, ◌==◌, Bool, true, false, not, nat_le, nat_lt, ◌&&◌, ◌||◌, is_none, List, [], ◌∷◌, length, Option, Some, None, option_and_then, refl, sym, inl, inr, arith}
+use Rattle.std.proofs.lemmas.Bool.{cases_Bool}
 use Rattle.std.proofs.lemmas.Bool.Decides.{nat_tests}
 use Rattle.std.specs.List.{All, AllByRecursion, list_all}
 use Rattle.sg_rules.proofs.TableLemmas.{few_rows}
 use Rattle.sg_rules.specs.Faults.{key_faults, row_faults, row_faults_at, rows_before, table_faults, table_kinds}
 use Rattle.sg_rules.specs.Names.{Known}
-use Rattle.sg_rules.specs.Rules.{child_kinds, end_kinds, host_kinds, id_kinds, is_between, is_from, is_positive, key_kinds, kinds_at, refused_kinds, link_id_kinds, point_kinds, positive_kinds, route_end_kinds, text_kinds, value_kinds, zone_kinds, zone_route_end_kinds}
+use Rattle.sg_rules.specs.Profiles.{items_at}
+use Rattle.sg_rules.specs.Rules.{child_kinds, end_kinds, host_kinds, id_kinds, is_between, is_from, is_positive, is_text, key_kinds, kinds_at, refused_kinds, link_id_kinds, list_kinds, point_kinds, positive_kinds, route_end_kinds, text_kinds, texts_kinds, value_kinds, zone_kinds, zone_route_end_kinds}
 use Rattle.sg_rules.specs.Tables.{key, keys_of, row_limit, shape_of, table_number, table_text, word_text}
 use Rattle.sg_rules.specs.declared.tables.Key.{Key}
 use Rattle.sg_rules.specs.declared.tables.Need.TheVariants.{Required, Optional}
 use Rattle.sg_rules.specs.declared.tables.Rule.{Rule}
-use Rattle.sg_rules.specs.declared.tables.Shape.TheVariants.{Text}
+use Rattle.sg_rules.specs.declared.tables.Shape.TheVariants.{Text, Texts}
 use Rattle.sg_rules.specs.declared.tables.Table.{Table}
 use Rattle.sg_rules.specs.declared.tables.Word.{Word}
 use Rattle.sg_tree.proofs.Kept.{all_kept, empty_at, empty_left, empty_right}
@@ -18,9 +20,9 @@ use Rattle.sg_tree.specs.Along.{along}
 use Rattle.sg_tree.specs.Faults.{kind_if, of_type}
 use Rattle.sg_tree.specs.Names.{Finds}
 use Rattle.sg_tree.specs.Spelling.{is_name, is_name_byte}
-use Rattle.sg_tree.specs.Tree.{rows_at, text_at}
+use Rattle.sg_tree.specs.Tree.{items_or_none, list_of, rows_at, text_at}
 use Rattle.sg_tree.specs.declared.fault.Kind.{Kind}
-use Rattle.toml.specs.Data.{Data, Members, get, get_member, as_str}
+use Rattle.toml.specs.Data.{Data, Items, Members, get, get_member, as_array, as_str}
 
 -- a rule that gives no kind is kept
 pub unbroken : (b : Bool) (kind : Kind) → kind_if b kind ≡ [] → b ≡ false
@@ -66,7 +68,7 @@ typed_text : (names : Known) (number : ℕ) (row : Data) (rule : Rule) (found : 
 typed_text names number row rule None empty = cc
 typed_text names number row rule (Some text) empty = (text, refl, empty)
 
-required_at : (names : Known) (number : ℕ) (row : Data) (word : Word) (rule : Rule) → shape_of rule ≡ Text → (d : Option Data) → kinds_at names number row (key word Required rule) d ≡ []
+pub required_at : (names : Known) (number : ℕ) (row : Data) (word : Word) (rule : Rule) → shape_of rule ≡ Text → (d : Option Data) → kinds_at names number row (key word Required rule) d ≡ []
     → HasText names number row rule (option_and_then as_str d)
 unfolding value_kinds
 required_at names number row word rule shape None empty = cc
@@ -89,6 +91,30 @@ pub optional_text : (names : Known) (number : ℕ) (row : Data) (word : Word) (r
     → (text : List ℕ) → text_at (word_text word) row ≡ Some text → text_kinds names number row rule text ≡ []
 unfolding key_kinds
 optional_text names number row word rule shape empty text there = optional_at names number row word rule shape (get (word_text word) row) empty text there
+
+typed_texts : (names : Known) (row : Data) (rule : Rule) (items : List Data) → list_kinds names row rule items ≡ [] → texts_kinds names row rule items ≡ []
+unfolding list_kinds
+typed_texts names row rule items empty =
+    elim (cases_Bool (list_all is_text items)) [
+      | inl texts ↦ let kept : texts_kinds names row rule items ≡ [] = rw texts at empty in kept
+      | inr other ↦ let wrong = rw other at empty in cc
+    ]
+
+typed_items : (names : Known) (row : Data) (rule : Rule) (found : Option Items) → of_type (λ items. list_kinds names row rule (list_of items)) found ≡ [] → texts_kinds names row rule (items_or_none found) ≡ []
+typed_items names row rule None empty = cc
+typed_items names row rule (Some items) empty = typed_texts names row rule (list_of items) empty
+
+items_there : (names : Known) (number : ℕ) (row : Data) (word : Word) (rule : Rule) → shape_of rule ≡ Texts → (d : Option Data) → kinds_at names number row (key word Required rule) d ≡ []
+    → texts_kinds names row rule (items_or_none (option_and_then as_array d)) ≡ []
+unfolding value_kinds
+items_there names number row word rule shape None empty = cc
+items_there names number row word rule shape (Some d) empty = typed_items names row rule (as_array d) (rw shape at empty)
+
+-- the items of a required array keep its rule
+pub required_items : (names : Known) (number : ℕ) (row : Data) (word : Word) (rule : Rule) → shape_of rule ≡ Texts → key_kinds names number row (key word Required rule) ≡ []
+    → texts_kinds names row rule (items_at (word_text word) row) ≡ []
+unfolding key_kinds
+required_items names number row word rule shape empty = items_there names number row word rule shape (get (word_text word) row) empty
 
 -- a new name has at most 64 bytes
 pub name_short : (numbers : Finds) (number : ℕ) (name : List ℕ) → id_kinds numbers number name ≡ [] → length name ≤ 64
@@ -142,7 +168,7 @@ pub point_there : (names : Known) (name : List ℕ) → point_kinds names name �
 unfolding point_kinds
 point_there names name empty = from_there names.zones (names.points name) (not_false _ (unbroken _ _ empty))
 
-some_there : (found : Option ℕ) → is_none found ≡ false → (n : ℕ) × (found ≡ Some n)
+pub some_there : (found : Option ℕ) → is_none found ≡ false → (n : ℕ) × (found ≡ Some n)
 some_there None absent = cc
 some_there (Some n) absent = (n, refl)
 

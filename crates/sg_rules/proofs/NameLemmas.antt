@@ -19,6 +19,10 @@ pub record FindsSame (a b : Known) : Type 0 where
   pub pairs : SamePairs a.pairs b.pairs
   pub zone_pairs : SamePairs a.zone_pairs b.zone_pairs
   pub children : SameNames a.children b.children
+  pub profiled_hosts : SameNames a.profiles.hosts b.profiles.hosts
+  pub profiled_links : SameNames a.profiles.links b.profiles.links
+  pub switched_hosts : SameNames a.state_profiles.hosts b.state_profiles.hosts
+  pub switched_links : SameNames a.state_profiles.links b.state_profiles.links
   pub actors : SameNames a.actors b.actors
   pub workers : SameNames a.workers b.workers
   pub mutexes : SameNames a.mutexes b.mutexes
@@ -34,6 +38,8 @@ known_same a b s = λ i. record {
   pairs = λ q. s.pairs q i;
   zone_pairs = λ q. s.zone_pairs q i;
   children = λ q. s.children q i;
+  profiles = record { hosts = λ q. s.profiled_hosts q i; links = λ q. s.profiled_links q i };
+  state_profiles = record { hosts = λ q. s.switched_hosts q i; links = λ q. s.switched_links q i };
   actors = λ q. s.actors q i;
   workers = λ q. s.workers q i;
   mutexes = λ q. s.mutexes q i;

@@ -5,7 +5,8 @@ use Rattle.sg_rules.proofs.Rising.{Each, each_append}
 use Rattle.sg_rules.specs.Faults.{faults_of, key_faults, row_faults, row_faults_at, row_kinds, rows_before, table_faults, table_kinds, top_kinds}
 use Rattle.sg_rules.specs.Names.{Known}
 use Rattle.sg_rules.specs.PlatformKinds.{IsPlatformFault, PlatformKinds}
-use Rattle.sg_rules.specs.Rules.{child_kinds, default_kinds, end_kinds, host_kinds, id_kinds, is_text, key_kinds, kinds_at, refused_kinds, link_id_kinds, link_list_kinds, list_kinds, point_kinds, positive_kinds, route_end_kinds, shape_kinds, text_kinds, texts_kinds, value_kinds, whole_kinds, word_kinds, zone_kinds, zone_route_end_kinds}
+use Rattle.sg_rules.specs.Profiles.{dates_kinds, each_date_kinds}
+use Rattle.sg_rules.specs.Rules.{child_kinds, default_kinds, end_kinds, host_kinds, id_kinds, is_text, key_kinds, kinds_at, refused_kinds, link_id_kinds, link_list_kinds, list_kinds, point_kinds, positive_kinds, profiled_host_kinds, profiled_link_kinds, route_end_kinds, shape_kinds, text_kinds, texts_kinds, value_kinds, whole_kinds, word_kinds, zone_kinds, zone_route_end_kinds}
 use Rattle.sg_rules.specs.Tables.{keys_of, platform_tables, table_number, table_text}
 use Rattle.sg_rules.specs.declared.tables.Key.{Key}
 use Rattle.sg_rules.specs.declared.tables.Rule.{Rule}
@@ -48,7 +49,7 @@ IsPlatformRule rule.ArgumentList = ⊥
 IsPlatformRule _ = Unit {0}
 
 text_small : (names : Known) (number : ℕ) (row : Data) (r : Rule) (text : List ℕ) → IsPlatformRule r → AreSmall (text_kinds names number row r text)
-unfolding child_kinds end_kinds host_kinds id_kinds refused_kinds link_id_kinds point_kinds positive_kinds route_end_kinds word_kinds zone_kinds zone_route_end_kinds
+unfolding child_kinds end_kinds host_kinds id_kinds refused_kinds link_id_kinds point_kinds positive_kinds profiled_host_kinds profiled_link_kinds route_end_kinds word_kinds zone_kinds zone_route_end_kinds
 text_small names number row rule.NewPoint text h = two _ _ BadName Duplicate (omega arith) (omega arith)
 text_small names number row rule.NewLink text h = two _ _ BadName Duplicate (omega arith) (omega arith)
 text_small names number row rule.NewActor text h = two _ _ BadName Duplicate (omega arith) (omega arith)
@@ -70,10 +71,18 @@ text_small names number row rule.LatencyText text h = one _ BadValue (omega arit
 text_small names number row rule.FactorText text h = one _ BadValue (omega arith)
 text_small names number row rule.PositiveFactorText text h = one _ BadValue (omega arith)
 text_small names number row rule.AmountText text h = one _ BadValue (omega arith)
+text_small names number row rule.PositiveTimeText text h = one _ BadValue (omega arith)
 text_small names number row rule.CoreCount text h = tt
 text_small names number row rule.CapacityCount text h = tt
 text_small names number row rule.TruthValue text h = tt
+text_small names number row rule.ProfiledHost text h = two _ _ Duplicate Unknown (omega arith) (omega arith)
+text_small names number row rule.ProfiledLink text h = three _ _ _ BadValue Duplicate Unknown (omega arith) (omega arith) (omega arith)
+text_small names number row rule.SwitchedHost text h = two _ _ Duplicate Unknown (omega arith) (omega arith)
+text_small names number row rule.SwitchedLink text h = three _ _ _ BadValue Duplicate Unknown (omega arith) (omega arith) (omega arith)
 text_small names number row rule.LinkList text h = tt
+text_small names number row rule.DateList text h = tt
+text_small names number row rule.ValueList text h = tt
+text_small names number row rule.StateList text h = tt
 text_small names number row rule.ArgumentList text h = tt
 
 whole_small : (r : Rule) (z : ℤ) → AreSmall (whole_kinds r z)
@@ -82,8 +91,11 @@ whole_small rule.CapacityCount z = one _ BadValue (omega arith)
 whole_small _ z = tt
 
 texts_small : (names : Known) (row : Data) (r : Rule) (items : List Data) → IsPlatformRule r → AreSmall (texts_kinds names row r items)
-unfolding link_list_kinds
+unfolding dates_kinds each_date_kinds link_list_kinds
 texts_small names row rule.LinkList items h = three _ _ _ BadValue Unknown Limit (omega arith) (omega arith) (omega arith)
+texts_small names row rule.DateList items h = two _ _ BadValue Limit (omega arith) (omega arith)
+texts_small names row rule.ValueList items h = two _ _ BadValue Limit (omega arith) (omega arith)
+texts_small names row rule.StateList items h = two _ _ BadValue Limit (omega arith) (omega arith)
 texts_small names row rule.ArgumentList items h = absurd h
 texts_small names row _ items h = tt
 
@@ -159,7 +171,7 @@ table_small names tree table h =
 
 keys_small : Each IsPlatformTable platform_tables
 keys_small =
-    ((tt, (tt, (tt, tt))), ((tt, (tt, (tt, (tt, tt)))), ((tt, (tt, tt)), ((tt, (tt, (tt, (tt, tt)))), ((tt, (tt, (tt, (tt, tt)))), ((tt, (tt, (tt, (tt, (tt, (tt, tt)))))), ((tt, (tt, (tt, (tt, (tt, tt))))), ((tt, (tt, (tt, tt))), tt))))))))
+    ((tt, (tt, (tt, tt))), ((tt, (tt, (tt, (tt, tt)))), ((tt, (tt, tt)), ((tt, (tt, (tt, (tt, tt)))), ((tt, (tt, (tt, (tt, tt)))), ((tt, (tt, (tt, (tt, (tt, (tt, tt)))))), ((tt, (tt, (tt, (tt, (tt, tt))))), ((tt, (tt, (tt, tt))), ((tt, (tt, (tt, (tt, (tt, tt))))), ((tt, (tt, (tt, (tt, (tt, tt))))), tt))))))))))
 
 pub platform_kinds : PlatformKinds
 unfolding faults_of

@@ -5,7 +5,8 @@ use Rattle.sg_rules.specs.Arguments.{argument_kinds}
 use Rattle.sg_rules.specs.Faults.{faults_of, key_faults, row_faults, row_faults_at, row_kinds, rows_before, table_faults, table_kinds, top_kinds}
 use Rattle.sg_rules.specs.Names.{Known}
 use Rattle.sg_rules.specs.Rising.{FaultsRise, IsBefore, IsRising}
-use Rattle.sg_rules.specs.Rules.{child_kinds, default_kinds, end_kinds, host_kinds, id_kinds, is_text, key_kinds, kinds_at, refused_kinds, link_id_kinds, link_list_kinds, list_kinds, point_kinds, positive_kinds, route_end_kinds, shape_kinds, text_kinds, texts_kinds, value_kinds, whole_kinds, word_kinds, zone_kinds, zone_route_end_kinds}
+use Rattle.sg_rules.specs.Profiles.{dates_kinds, each_date_kinds}
+use Rattle.sg_rules.specs.Rules.{child_kinds, default_kinds, end_kinds, host_kinds, id_kinds, is_text, key_kinds, kinds_at, refused_kinds, link_id_kinds, link_list_kinds, list_kinds, point_kinds, positive_kinds, profiled_host_kinds, profiled_link_kinds, route_end_kinds, shape_kinds, text_kinds, texts_kinds, value_kinds, whole_kinds, word_kinds, zone_kinds, zone_route_end_kinds}
 use Rattle.sg_rules.specs.Tables.{deployment_tables, keys_of, platform_tables, shape_of, table_number, table_text}
 use Rattle.sg_rules.specs.declared.tables.Key.{Key}
 use Rattle.sg_rules.specs.declared.tables.Rule.{Rule}
@@ -66,7 +67,7 @@ typed kinds None h = (tt, tt)
 typed kinds (Some x) h = h x
 
 text_rise : (names : Known) (number : ℕ) (row : Data) (r : Rule) (text : List ℕ) → KindsRise (text_kinds names number row r text)
-unfolding child_kinds end_kinds host_kinds id_kinds refused_kinds link_id_kinds point_kinds positive_kinds route_end_kinds word_kinds zone_kinds zone_route_end_kinds
+unfolding child_kinds end_kinds host_kinds id_kinds refused_kinds link_id_kinds point_kinds positive_kinds profiled_host_kinds profiled_link_kinds route_end_kinds word_kinds zone_kinds zone_route_end_kinds
 text_rise names number row rule.NewPoint text = two _ _ BadName Duplicate (omega arith)
 text_rise names number row rule.NewLink text = two _ _ BadName Duplicate (omega arith)
 text_rise names number row rule.NewActor text = two _ _ BadName Duplicate (omega arith)
@@ -88,10 +89,18 @@ text_rise names number row rule.LatencyText text = one _ BadValue
 text_rise names number row rule.FactorText text = one _ BadValue
 text_rise names number row rule.PositiveFactorText text = one _ BadValue
 text_rise names number row rule.AmountText text = one _ BadValue
+text_rise names number row rule.PositiveTimeText text = one _ BadValue
 text_rise names number row rule.CoreCount text = tt
 text_rise names number row rule.CapacityCount text = tt
 text_rise names number row rule.TruthValue text = tt
+text_rise names number row rule.ProfiledHost text = two _ _ Duplicate Unknown (omega arith)
+text_rise names number row rule.ProfiledLink text = three _ _ _ BadValue Duplicate Unknown (omega arith) (omega arith)
+text_rise names number row rule.SwitchedHost text = two _ _ Duplicate Unknown (omega arith)
+text_rise names number row rule.SwitchedLink text = three _ _ _ BadValue Duplicate Unknown (omega arith) (omega arith)
 text_rise names number row rule.LinkList text = tt
+text_rise names number row rule.DateList text = tt
+text_rise names number row rule.ValueList text = tt
+text_rise names number row rule.StateList text = tt
 text_rise names number row rule.ArgumentList text = tt
 
 whole_rise : (r : Rule) (z : ℤ) → KindsRise (whole_kinds r z)
@@ -100,8 +109,11 @@ whole_rise rule.CapacityCount z = one _ BadValue
 whole_rise _ z = tt
 
 texts_rise : (names : Known) (row : Data) (r : Rule) (items : List Data) → KindsRise (texts_kinds names row r items)
-unfolding argument_kinds link_list_kinds
+unfolding argument_kinds dates_kinds each_date_kinds link_list_kinds
 texts_rise names row rule.LinkList items = three _ _ _ BadValue Unknown Limit (omega arith) (omega arith)
+texts_rise names row rule.DateList items = two _ _ BadValue Limit (omega arith)
+texts_rise names row rule.ValueList items = two _ _ BadValue Limit (omega arith)
+texts_rise names row rule.StateList items = two _ _ BadValue Limit (omega arith)
 texts_rise names row rule.ArgumentList items = one _ Arguments
 texts_rise names row _ items = tt
 
@@ -239,6 +251,6 @@ text_faults_rise names tree tables h =
 
 pub faults_rise : FaultsRise
 faults_rise = record {
-  platform = λ names tree. text_faults_rise names tree platform_tables (omega arith, (omega arith, (omega arith, (omega arith, (omega arith, (omega arith, (omega arith, (omega arith, tt))))))));
+  platform = λ names tree. text_faults_rise names tree platform_tables (omega arith, (omega arith, (omega arith, (omega arith, (omega arith, (omega arith, (omega arith, (omega arith, (omega arith, (omega arith, tt))))))))));
   deployment = λ names tree. text_faults_rise names tree deployment_tables (omega arith, (omega arith, (omega arith, tt)));
 }

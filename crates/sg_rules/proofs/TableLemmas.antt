@@ -11,7 +11,7 @@ use Rattle.sg_rules.specs.Faults.{row_faults_at, table_kinds, table_faults, rows
 use Rattle.sg_rules.specs.Tables.{table_text, table_number, keys_of, row_limit}
 use Rattle.sg_tree.specs.declared.fault.Kind.{Kind}
 use Rattle.sg_rules.specs.declared.tables.Table.{Table}
-use Rattle.sg_rules.specs.declared.tables.Table.TheVariants.{Zone, Host, Router, Link, Route, ZoneRoute, Spoke, Network, Actor, Mutex, Semaphore}
+use Rattle.sg_rules.specs.declared.tables.Table.TheVariants.{Zone, Host, Router, Link, Route, ZoneRoute, Spoke, Network, Profile, StateProfile, Actor, Mutex, Semaphore}
 use Rattle.sg_tree.proofs.Along.{first_append_none, first_append_some, first_at_none, first_at_some, along_map}
 use Rattle.std.proofs.lemmas.Bool.{cases_Bool}
 use Rattle.std.proofs.lemmas.Bool.Decides.{nat_tests}
@@ -51,6 +51,8 @@ limit_small Route = omega arith
 limit_small ZoneRoute = omega arith
 limit_small Spoke = omega arith
 limit_small Network = omega arith
+limit_small Profile = omega arith
+limit_small StateProfile = omega arith
 limit_small Actor = omega arith
 limit_small Mutex = omega arith
 limit_small Semaphore = omega arith

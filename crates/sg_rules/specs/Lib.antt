@@ -1,6 +1,7 @@
 pub mod Tables
 pub mod Units
 pub mod Arguments
+pub mod Profiles
 pub mod LinkNames
 pub mod Pairs
 pub mod Names

@@ -5,6 +5,7 @@ use Rattle.std.specs.Str.{bytes_eq}
 use Rattle.sg_rules.specs.Arguments.{worker_numbers}
 use Rattle.sg_rules.specs.LinkNames.{declared_numbers, taken_numbers}
 use Rattle.sg_rules.specs.Pairs.{pair_numbers}
+use Rattle.sg_rules.specs.Profiles.{Subjects, no_subjects, subjects_of}
 use Rattle.sg_tree.specs.Names.{Finds, Pair, names_from, pair_eq}
 use Rattle.sg_tree.specs.Tree.{rows_at}
 use Rattle.toml.specs.Data.{Data, Members}
@@ -19,6 +20,8 @@ pub record Known : Type 0 where
   pub pairs : Pair → Option ℕ
   pub zone_pairs : Pair → Option ℕ
   pub children : Finds
+  pub profiles : Subjects
+  pub state_profiles : Subjects
   pub actors : Finds
   pub workers : Finds
   pub mutexes : Finds
@@ -52,6 +55,8 @@ platform_known tree = record {
   pairs = λ q. lookup (pair_eq q) (pair_numbers (points_in tree) (rows_at (codes "route") tree));
   zone_pairs = λ q. lookup (pair_eq q) (pair_numbers (points_in tree) (rows_at (codes "zone_route") tree));
   children = λ q. lookup (bytes_eq q) (names_from (codes "child") 0 (rows_at (codes "spoke") tree));
+  profiles = subjects_of (rows_at (codes "profile") tree);
+  state_profiles = subjects_of (rows_at (codes "state_profile") tree);
   actors = finds_none;
   workers = finds_none;
   mutexes = finds_none;
@@ -69,6 +74,8 @@ deployment_known hosts points tree = record {
   pairs = pairs_none;
   zone_pairs = pairs_none;
   children = finds_none;
+  profiles = no_subjects;
+  state_profiles = no_subjects;
   actors = λ q. lookup (bytes_eq q) (names_from (codes "name") 0 (rows_at (codes "actor") tree));
   workers = λ q. lookup (bytes_eq q) (worker_numbers (rows_at (codes "actor") tree));
   mutexes = λ q. lookup (bytes_eq q) (names_from (codes "id") 0 (rows_at (codes "mutex") tree));

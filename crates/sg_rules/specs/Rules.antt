@@ -6,13 +6,14 @@ use Rattle.sg_rules.specs.Arguments.{argument_kinds}
 use Rattle.sg_rules.specs.LinkNames.{is_split}
 use Rattle.sg_rules.specs.Names.{Known}
 use Rattle.sg_rules.specs.Pairs.{pairs_of}
+use Rattle.sg_rules.specs.Profiles.{Subjects, dates_kinds, is_of_host, states_kinds, values_kinds}
 use Rattle.sg_rules.specs.Tables.{shape_of, word_text}
-use Rattle.sg_rules.specs.Units.{amount_value, bandwidth_value, factor_value, latency_value, speed_value}
+use Rattle.sg_rules.specs.Units.{amount_value, bandwidth_value, factor_value, latency_value, speed_value, time_value}
 use Rattle.sg_rules.specs.declared.tables.Key.{Key}
 use Rattle.sg_rules.specs.declared.tables.Need.{Need}
-use Rattle.sg_rules.specs.declared.tables.Need.TheVariants.{Required, Optional, IfZone}
+use Rattle.sg_rules.specs.declared.tables.Need.TheVariants.{Required, Optional, IfZone, Unless}
 use Rattle.sg_rules.specs.declared.tables.Rule.{Rule}
-use Rattle.sg_rules.specs.declared.tables.Rule.TheVariants.{NewPoint, NewLink, NewActor, NewMutex, NewSemaphore, ZoneName, PointName, EndName, HostName, RouteEnd, ZoneRouteEnd, SpokeChild, RoutingWord, PolicyWord, FunctionWord, SpeedText, BandwidthText, LatencyText, FactorText, PositiveFactorText, AmountText, CoreCount, CapacityCount, TruthValue, LinkList, ArgumentList}
+use Rattle.sg_rules.specs.declared.tables.Rule.TheVariants.{NewPoint, NewLink, NewActor, NewMutex, NewSemaphore, ZoneName, PointName, EndName, HostName, RouteEnd, ZoneRouteEnd, SpokeChild, RoutingWord, PolicyWord, FunctionWord, SpeedText, BandwidthText, LatencyText, FactorText, PositiveFactorText, AmountText, PositiveTimeText, CoreCount, CapacityCount, TruthValue, ProfiledHost, ProfiledLink, SwitchedHost, SwitchedLink, LinkList, DateList, ValueList, StateList, ArgumentList}
 use Rattle.sg_rules.specs.declared.tables.Shape.{Shape}
 use Rattle.sg_rules.specs.declared.tables.Shape.TheVariants.{Text, Whole, Truth, Texts}
 use Rattle.sg_tree.specs.Faults.{kind_if, of_type}
@@ -75,6 +76,17 @@ child_kinds names number name = kind_if (is_taken (names.children name) number) 
 unfoldable pub host_kinds : Known → List ℕ → List Kind
 host_kinds names name = kind_if (not (is_between names.zones (names.zones + names.hosts) (names.points name))) Unknown
 
+-- the name of a host that no earlier row of the table has
+unfoldable pub profiled_host_kinds : Known → Subjects → ℕ → List ℕ → List Kind
+profiled_host_kinds names earlier number name = kind_if (is_taken (earlier.hosts name) number) Duplicate ++ host_kinds names name
+
+-- the name of a link that no earlier row of the table has; the row names no host beside it
+unfoldable pub profiled_link_kinds : Known → Subjects → ℕ → Data → List ℕ → List Kind
+profiled_link_kinds names earlier number row name =
+    kind_if (is_of_host row) BadValue
+    ++ kind_if (is_taken (earlier.links name) number) Duplicate
+    ++ kind_if (is_none (names.links name)) Unknown
+
 -- one of these words, else this kind
 unfoldable pub word_kinds : List (List ℕ) → Kind → List ℕ → List Kind
 word_kinds words kind text = kind_if (not (list_any (λ word. bytes_eq text word) words)) kind
@@ -88,7 +100,7 @@ policies = codes "SHARED" ∷ codes "FATPIPE" ∷ codes "SPLITDUPLEX" ∷ []
 abbrev pub functions : List (List ℕ)
 functions = codes "replay" ∷ codes "master" ∷ codes "worker" ∷ []
 
--- a speed, a bandwidth, or a factor of bandwidths: above zero, where its reader takes the text
+-- a speed, a bandwidth, a factor of bandwidths, or a time: above zero, where its reader takes the text
 abbrev pub is_positive : Option ℕ → Bool
 is_positive None = false
 is_positive (Some n) = nat_lt 0 n
@@ -123,10 +135,18 @@ text_kinds names number row LatencyText text = refused_kinds (latency_value text
 text_kinds names number row FactorText text = refused_kinds (factor_value text)
 text_kinds names number row PositiveFactorText text = positive_kinds (factor_value text)
 text_kinds names number row AmountText text = refused_kinds (amount_value text)
+text_kinds names number row PositiveTimeText text = positive_kinds (time_value text)
 text_kinds names number row CoreCount text = []
 text_kinds names number row CapacityCount text = []
 text_kinds names number row TruthValue text = []
+text_kinds names number row ProfiledHost text = profiled_host_kinds names names.profiles number text
+text_kinds names number row ProfiledLink text = profiled_link_kinds names names.profiles number row text
+text_kinds names number row SwitchedHost text = profiled_host_kinds names names.state_profiles number text
+text_kinds names number row SwitchedLink text = profiled_link_kinds names names.state_profiles number row text
 text_kinds names number row LinkList text = []
+text_kinds names number row DateList text = []
+text_kinds names number row ValueList text = []
+text_kinds names number row StateList text = []
 text_kinds names number row ArgumentList text = []
 
 abbrev pub is_core_count : ℤ → Bool
@@ -160,6 +180,9 @@ link_list_kinds links items =
 -- what is wrong with a list of texts
 abbrev pub texts_kinds : Known → Data → Rule → List Data → List Kind
 texts_kinds names row LinkList items = link_list_kinds names.links items
+texts_kinds names row DateList items = dates_kinds items
+texts_kinds names row ValueList items = values_kinds row items
+texts_kinds names row StateList items = states_kinds row items
 texts_kinds names row ArgumentList items = argument_kinds names.workers row items
 texts_kinds names row _ items = []
 
@@ -186,6 +209,7 @@ abbrev pub is_required : Known → Data → Need → Bool
 is_required names row Required = true
 is_required names row Optional = false
 is_required names row (IfZone word) = names_zone names (text_at (word_text word) row)
+is_required names row (Unless word) = is_none (get (word_text word) row)
 
 -- what is wrong where an optional key is left out: its default must fit the row too
 abbrev pub default_kinds : Known → Data → Rule → List Kind

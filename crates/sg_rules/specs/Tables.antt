@@ -3,13 +3,13 @@
 use Rattle.std.specs.Prelude.{ℕ, List, [], ◌∷◌, codes}
 use Rattle.sg_rules.specs.declared.tables.Key.{Key}
 use Rattle.sg_rules.specs.declared.tables.Need.{Need}
-use Rattle.sg_rules.specs.declared.tables.Need.TheVariants.{Required, Optional, IfZone}
+use Rattle.sg_rules.specs.declared.tables.Need.TheVariants.{Required, Optional, IfZone, Unless}
 use Rattle.sg_rules.specs.declared.tables.Rule.{Rule}
-use Rattle.sg_rules.specs.declared.tables.Rule.TheVariants.{NewPoint, NewLink, NewActor, NewMutex, NewSemaphore, ZoneName, PointName, EndName, HostName, RouteEnd, ZoneRouteEnd, SpokeChild, RoutingWord, PolicyWord, FunctionWord, SpeedText, BandwidthText, LatencyText, FactorText, PositiveFactorText, AmountText, CoreCount, CapacityCount, TruthValue, LinkList, ArgumentList}
+use Rattle.sg_rules.specs.declared.tables.Rule.TheVariants.{NewPoint, NewLink, NewActor, NewMutex, NewSemaphore, ZoneName, PointName, EndName, HostName, RouteEnd, ZoneRouteEnd, SpokeChild, RoutingWord, PolicyWord, FunctionWord, SpeedText, BandwidthText, LatencyText, FactorText, PositiveFactorText, AmountText, PositiveTimeText, CoreCount, CapacityCount, TruthValue, ProfiledHost, ProfiledLink, SwitchedHost, SwitchedLink, LinkList, DateList, ValueList, StateList, ArgumentList}
 use Rattle.sg_rules.specs.declared.tables.Shape.{Shape}
 use Rattle.sg_rules.specs.declared.tables.Shape.TheVariants as shape
 use Rattle.sg_rules.specs.declared.tables.Table.{Table}
-use Rattle.sg_rules.specs.declared.tables.Table.TheVariants.{Zone, Host, Router, Link, Route, ZoneRoute, Spoke, Network, Actor, Mutex, Semaphore}
+use Rattle.sg_rules.specs.declared.tables.Table.TheVariants.{Zone, Host, Router, Link, Route, ZoneRoute, Spoke, Network, Profile, StateProfile, Actor, Mutex, Semaphore}
 use Rattle.sg_rules.specs.declared.tables.Word.{Word}
 use Rattle.sg_rules.specs.declared.tables.Word.TheVariants as word
 
@@ -65,6 +65,20 @@ keys_of Network =
     ∷ key word.BandwidthFactor Optional PositiveFactorText
     ∷ key word.Window Optional AmountText
     ∷ []
+keys_of Profile =
+    key word.Host (Unless word.Link) ProfiledHost
+    ∷ key word.Link Optional ProfiledLink
+    ∷ key word.Dates Required DateList
+    ∷ key word.Values Required ValueList
+    ∷ key word.Loop Optional PositiveTimeText
+    ∷ []
+keys_of StateProfile =
+    key word.Host (Unless word.Link) SwitchedHost
+    ∷ key word.Link Optional SwitchedLink
+    ∷ key word.Dates Required DateList
+    ∷ key word.States Required StateList
+    ∷ key word.Loop Optional PositiveTimeText
+    ∷ []
 keys_of Actor =
     key word.Name Required NewActor
     ∷ key word.Host Required HostName
@@ -88,6 +102,8 @@ table_text Route = codes "route"
 table_text ZoneRoute = codes "zone_route"
 table_text Spoke = codes "spoke"
 table_text Network = codes "network"
+table_text Profile = codes "profile"
+table_text StateProfile = codes "state_profile"
 table_text Actor = codes "actor"
 table_text Mutex = codes "mutex"
 table_text Semaphore = codes "semaphore"
@@ -102,6 +118,8 @@ table_number Route = 5
 table_number ZoneRoute = 6
 table_number Spoke = 7
 table_number Network = 8
+table_number Profile = 9
+table_number StateProfile = 10
 table_number Actor = 1
 table_number Mutex = 2
 table_number Semaphore = 3
@@ -116,13 +134,15 @@ row_limit Route = 262144
 row_limit ZoneRoute = 262144
 row_limit Spoke = 32768
 row_limit Network = 1
+row_limit Profile = 4096
+row_limit StateProfile = 4096
 row_limit Actor = 65536
 row_limit Mutex = 65536
 row_limit Semaphore = 65536
 
 -- the tables of a platform, and those of a deployment, in order
 abbrev pub platform_tables : List Table
-platform_tables = Zone ∷ Host ∷ Router ∷ Link ∷ Route ∷ ZoneRoute ∷ Spoke ∷ Network ∷ []
+platform_tables = Zone ∷ Host ∷ Router ∷ Link ∷ Route ∷ ZoneRoute ∷ Spoke ∷ Network ∷ Profile ∷ StateProfile ∷ []
 
 abbrev pub deployment_tables : List Table
 deployment_tables = Actor ∷ Mutex ∷ Semaphore ∷ []
@@ -156,6 +176,11 @@ word_text word.Capacity = codes "capacity"
 word_text word.LatencyFactor = codes "latency_factor"
 word_text word.BandwidthFactor = codes "bandwidth_factor"
 word_text word.Window = codes "window"
+word_text word.Link = codes "link"
+word_text word.Dates = codes "dates"
+word_text word.Values = codes "values"
+word_text word.Loop = codes "loop"
+word_text word.States = codes "states"
 
 -- the type of the values that a rule is for
 abbrev pub shape_of : Rule → Shape
@@ -163,5 +188,8 @@ shape_of CoreCount = shape.Whole
 shape_of CapacityCount = shape.Whole
 shape_of TruthValue = shape.Truth
 shape_of LinkList = shape.Texts
+shape_of DateList = shape.Texts
+shape_of ValueList = shape.Texts
+shape_of StateList = shape.Texts
 shape_of ArgumentList = shape.Texts
 shape_of _ = shape.Text

@@ -1,5 +1,7 @@
 -- Values with units, where their reader takes the text.
 use Rattle.std.specs.Prelude.{ℕ, nat_le, List, if◌then◌else◌, Option, Some, None, Result, Ok, Err}
+use Rattle.sg_rules.specs.declared.units.Quantity.{Quantity}
+use Rattle.sg_rules.specs.declared.units.Quantity.TheVariants.{Time, Speed, Bandwidth}
 use Rattle.sg_units.specs.Amount.{amount_of, bandwidth_of, factor_of, speed_of, time_of}
 use Rattle.sg_units.specs.declared.fault.AmountFault.{AmountFault}
 
@@ -22,6 +24,16 @@ bandwidth_value text = value_of (bandwidth_of text)
 -- the factor that a text gives, in millionths
 unfoldable pub factor_value : List ℕ → Option ℕ
 factor_value text = value_of (factor_of text)
+
+-- the time that a text gives, in nanoseconds
+unfoldable pub time_value : List ℕ → Option ℕ
+time_value text = value_of (time_of text)
+
+-- by the reader of what it is an amount of
+abbrev pub quantity_value : Quantity → List ℕ → Option ℕ
+quantity_value Time text = time_value text
+quantity_value Speed text = speed_value text
+quantity_value Bandwidth text = bandwidth_value text
 
 -- the greatest latency, in nanoseconds
 abbrev pub greatest_latency : ℕ

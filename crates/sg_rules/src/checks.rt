@@ -4,21 +4,24 @@ ghost use Rattle.std.specs.HashMap.{get_by, get_by_text};
 ghost use Rattle.std.specs.List.{list_all, list_any};
 ghost use Rattle.sg_tree.specs.Along.{first};
 ghost use Rattle.sg_tree.specs.declared.fault.Kind.TheVariants as kind;
-ghost use Rattle.sg_rules.specs.kept.NamesView.{names_view};
+ghost use Rattle.sg_rules.specs.kept.NamesView.{names_view, subjects_view};
 ghost use Rattle.sg_rules.specs.Pairs.{pairs_of};
 ghost use Rattle.sg_tree.specs.Names.{Pair, pair_eq};
 ghost use Rattle.sg_tree.specs.Spelling.{is_name, is_name_byte, split_names};
 ghost use Rattle.sg_tree.specs.Tree.{text_at};
 ghost use Rattle.toml.specs.Data.{as_str};
-ghost use Rattle.sg_rules.specs.Rules.{child_kinds, default_kinds, end_kinds, functions, host_kinds, id_kinds, is_capacity, is_core_count, is_pair_taken, is_required, is_taken, is_text, is_unknown, key_kinds, refused_kinds, link_id_kinds, link_list_kinds, list_kinds, names_zone, point_kinds, policies, positive_kinds, route_end_kinds, routings, text_kinds, texts_kinds, value_kinds, whole_kinds, word_kinds, zone_kinds, zone_route_end_kinds};
+ghost use Rattle.sg_rules.specs.Rules.{child_kinds, default_kinds, end_kinds, functions, host_kinds, id_kinds, is_capacity, is_core_count, is_pair_taken, is_required, is_taken, is_text, is_unknown, key_kinds, refused_kinds, link_id_kinds, link_list_kinds, list_kinds, names_zone, point_kinds, policies, positive_kinds, profiled_host_kinds, profiled_link_kinds, route_end_kinds, routings, text_kinds, texts_kinds, value_kinds, whole_kinds, word_kinds, zone_kinds, zone_route_end_kinds};
 ghost use Rattle.toml.specs.View.{view};
 
 use crate::arguments::argument_fault;
 use crate::links::is_split;
 use crate::names::Names;
 use crate::pairs::{is_symmetrical, point_at};
+use crate::profiles::{Subjects, dates_fault, is_of_host, states_fault, values_fault};
 use crate::tables::{Key, Need, Rule, Shape};
-use crate::units::{amount_value, bandwidth_value, factor_value, latency_value, speed_value};
+use crate::units::{
+    amount_value, bandwidth_value, factor_value, latency_value, speed_value, time_value,
+};
 use arrayvec::ArrayString;
 use indexmap::IndexMap;
 use sg_base::Memory;
@@ -229,6 +232,42 @@ fn host_fault(names: &Names, name: &str) -> Option<Kind>
     }
 }
 
+#[tactic(auto, unfolding(crate::specs::Rules::profiled_host_kinds))]
+fn profiled_host_fault(names: &Names, earlier: &Subjects, number: usize, name: &str) -> Option<Kind>
+    ensures { result
+        ≡ first (profiled_host_kinds (names_view names.now) (subjects_view earlier.now) number
+        name.now) }
+{
+    if is_given(&earlier.hosts, number, name) {
+        Some(Kind::Duplicate)
+    } else {
+        host_fault(names, name)
+    }
+}
+
+#[tactic(auto, unfolding(crate::specs::Rules::profiled_link_kinds))]
+fn profiled_link_fault(
+    names: &Names,
+    earlier: &Subjects,
+    number: usize,
+    row: &Value,
+    name: &str,
+) -> Option<Kind>
+    ensures { result
+        ≡ first (profiled_link_kinds (names_view names.now) (subjects_view earlier.now) number
+        (view row.now) name.now) }
+{
+    if is_of_host(row) {
+        Some(Kind::BadValue)
+    } else if is_given(&earlier.links, number, name) {
+        Some(Kind::Duplicate)
+    } else if names.links.contains_key(name) {
+        None
+    } else {
+        Some(Kind::Unknown)
+    }
+}
+
 #[tactic(auto, unfolding(crate::specs::Rules::positive_kinds))]
 fn positive_fault(value: Option<u64>) -> Option<Kind>
     ensures { result ≡ first (positive_kinds value) }
@@ -306,10 +345,18 @@ fn text_fault(names: &Names, number: usize, row: &Value, rule: Rule, text: &str)
         Rule::FactorText => refused_fault(factor_value(text.as_bytes())),
         Rule::PositiveFactorText => positive_fault(factor_value(text.as_bytes())),
         Rule::AmountText => refused_fault(amount_value(text.as_bytes())),
+        Rule::PositiveTimeText => positive_fault(time_value(text.as_bytes())),
+        Rule::ProfiledHost => profiled_host_fault(names, &names.profiles, number, text),
+        Rule::ProfiledLink => profiled_link_fault(names, &names.profiles, number, row, text),
+        Rule::SwitchedHost => profiled_host_fault(names, &names.state_profiles, number, text),
+        Rule::SwitchedLink => profiled_link_fault(names, &names.state_profiles, number, row, text),
         Rule::CoreCount
         | Rule::CapacityCount
         | Rule::TruthValue
         | Rule::LinkList
+        | Rule::DateList
+        | Rule::ValueList
+        | Rule::StateList
         | Rule::ArgumentList => None,
     }
 }
@@ -398,6 +445,9 @@ fn texts_fault(
 {
     match rule {
         Rule::LinkList => Ok(link_list_fault(&names.links, items)),
+        Rule::DateList => Ok(dates_fault(items)),
+        Rule::ValueList => Ok(values_fault(row, items)),
+        Rule::StateList => Ok(states_fault(row, items)),
         Rule::ArgumentList => argument_fault(alloc, &names.workers, row, items),
         _ => Ok(None),
     }
@@ -473,6 +523,7 @@ fn is_required(names: &Names, row: &Value, need: Need) -> bool
         Need::Required => true,
         Need::Optional => false,
         Need::IfZone(word) => names_zone(names, row, word.text()),
+        Need::Unless(word) => row.get(word.text()).is_none(),
     }
 }
 

@@ -9,6 +9,7 @@ mod laws;
 mod links;
 mod names;
 mod pairs;
+mod profiles;
 mod tables;
 mod units;
 
@@ -18,5 +19,8 @@ pub use laws::{faults_rise, platform_kinds};
 pub use links::is_split;
 pub use names::{Names, deployment_names, platform_names};
 pub use pairs::is_symmetrical;
+pub use profiles::{Subjects, amount_in, is_of_host, items_at, quantity_of, state_in};
 pub use tables::{DEPLOYMENT, Key, Need, PLATFORM, Rule, Table, Word};
-pub use units::{amount_value, bandwidth_value, factor_value, latency_value, speed_value};
+pub use units::{
+    Quantity, amount_value, bandwidth_value, factor_value, latency_value, speed_value, time_value,
+};

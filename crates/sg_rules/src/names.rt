@@ -13,6 +13,7 @@ ghost use Rattle.toml.specs.View.{view, table_view};
 use crate::arguments::workers_in;
 use crate::links::{declared_links, taken_links};
 use crate::pairs::pairs_in;
+use crate::profiles::Subjects;
 use indexmap::IndexMap;
 use sg_base::Memory;
 use sg_tree::{add_names, names_at, rows_at, small_number};
@@ -38,6 +39,10 @@ pub struct Names {
     pub zone_pairs: IndexMap<(u32, u32), u32>,
     /// The children of spoke rows.
     pub children: IndexMap<String, u32>,
+    /// What profile rows are of.
+    pub profiles: Subjects,
+    /// What rows of states are of.
+    pub state_profiles: Subjects,
     pub actors: IndexMap<String, u32>,
     /// The actors of function `worker`, by their identifiers.
     pub workers: IndexMap<String, u32>,
@@ -116,6 +121,8 @@ pub fn platform_names(alloc: Global, tree: &Table) -> Result<Names, Memory>
     let links = link_names(alloc, rows_at(tree, "link"))?;
     let pairs = route_pairs(alloc, &points, routes, zone_routes)?;
     let children = names_at(alloc, "child", rows_at(tree, "spoke"))?;
+    let profiles = Subjects::of_rows(alloc, rows_at(tree, "profile"))?;
+    let state_profiles = Subjects::of_rows(alloc, rows_at(tree, "state_profile"))?;
     Ok(Names {
         zones: zone_count,
         hosts: host_count,
@@ -125,6 +132,8 @@ pub fn platform_names(alloc: Global, tree: &Table) -> Result<Names, Memory>
         pairs: pairs.0,
         zone_pairs: pairs.1,
         children,
+        profiles,
+        state_profiles,
         actors: IndexMap::new(alloc),
         workers: IndexMap::new(alloc),
         mutexes: IndexMap::new(alloc),
@@ -158,6 +167,8 @@ pub fn deployment_names(
         pairs: IndexMap::new(alloc),
         zone_pairs: IndexMap::new(alloc),
         children: IndexMap::new(alloc),
+        profiles: Subjects::none(alloc),
+        state_profiles: Subjects::none(alloc),
         actors,
         workers,
         mutexes,

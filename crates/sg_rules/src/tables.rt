@@ -32,6 +32,11 @@ pub enum Word {
     LatencyFactor,
     BandwidthFactor,
     Window,
+    Link,
+    Dates,
+    Values,
+    Loop,
+    States,
 }
 
 /// Whether a row must have a key.
@@ -41,6 +46,8 @@ pub enum Need {
     Optional,
     /// Required where this other key of the row names a zone.
     IfZone(Word),
+    /// Required where the row doesn't have this other key.
+    Unless(Word),
 }
 
 /// What the value of a key must be.
@@ -88,14 +95,30 @@ pub enum Rule {
     PositiveFactorText,
     /// Flops or bytes.
     AmountText,
+    /// A time that isn't zero.
+    PositiveTimeText,
     /// A whole number from 1 to 1,024.
     CoreCount,
     /// A whole number from 0 to 10^9.
     CapacityCount,
     /// `true` or `false`.
     TruthValue,
+    /// The name of a host, where no earlier profile row has it.
+    ProfiledHost,
+    /// The name of a link, where no earlier profile row has it, nor this row a host.
+    ProfiledLink,
+    /// The name of a host, where no earlier row of states has it.
+    SwitchedHost,
+    /// The name of a link, where no earlier row of states has it, nor this row a host.
+    SwitchedLink,
     /// The names of 1 to 64 links.
     LinkList,
+    /// 1 to 1,024 times, each later than the one before.
+    DateList,
+    /// A speed or a bandwidth for each date.
+    ValueList,
+    /// `on` or `off` for each date.
+    StateList,
     /// The texts that an actor is given.
     ArgumentList,
 }
@@ -128,13 +151,15 @@ pub enum Table {
     ZoneRoute,
     Spoke,
     Network,
+    Profile,
+    StateProfile,
     Actor,
     Mutex,
     Semaphore,
 }
 
 /// The tables of a platform text, in order.
-pub const PLATFORM: [Table; 8] = [
+pub const PLATFORM: [Table; 10] = [
     Table::Zone,
     Table::Host,
     Table::Router,
@@ -143,6 +168,8 @@ pub const PLATFORM: [Table; 8] = [
     Table::ZoneRoute,
     Table::Spoke,
     Table::Network,
+    Table::Profile,
+    Table::StateProfile,
 ];
 
 /// The tables of a deployment text, in order.
@@ -181,6 +208,11 @@ impl Word {
             Word::LatencyFactor => "latency_factor",
             Word::BandwidthFactor => "bandwidth_factor",
             Word::Window => "window",
+            Word::Link => "link",
+            Word::Dates => "dates",
+            Word::Values => "values",
+            Word::Loop => "loop",
+            Word::States => "states",
         }
     }
 }
@@ -193,15 +225,19 @@ impl Rule {
         match self {
             Rule::CoreCount | Rule::CapacityCount => Shape::Whole,
             Rule::TruthValue => Shape::Truth,
-            Rule::LinkList | Rule::ArgumentList => Shape::Texts,
+            Rule::LinkList
+            | Rule::DateList
+            | Rule::ValueList
+            | Rule::StateList
+            | Rule::ArgumentList => Shape::Texts,
             _ => Shape::Text,
         }
     }
 }
 
 macro_rules! key {
-    ($word:ident, IfZone($end:ident), $rule:ident) => {
-        Key { word: Word::$word, need: Need::IfZone(Word::$end), rule: Rule::$rule }
+    ($word:ident, $need:ident($other:ident), $rule:ident) => {
+        Key { word: Word::$word, need: Need::$need(Word::$other), rule: Rule::$rule }
     };
     ($word:ident, $need:ident, $rule:ident) => {
         Key { word: Word::$word, need: Need::$need, rule: Rule::$rule }
@@ -222,6 +258,8 @@ impl Table {
             Table::ZoneRoute => "zone_route",
             Table::Spoke => "spoke",
             Table::Network => "network",
+            Table::Profile => "profile",
+            Table::StateProfile => "state_profile",
             Table::Actor => "actor",
             Table::Mutex => "mutex",
             Table::Semaphore => "semaphore",
@@ -241,6 +279,8 @@ impl Table {
             Table::ZoneRoute => 6,
             Table::Spoke => 7,
             Table::Network => 8,
+            Table::Profile => 9,
+            Table::StateProfile => 10,
         }
     }
 
@@ -251,6 +291,7 @@ impl Table {
         match self {
             Table::Network => 1,
             Table::Zone => 1024,
+            Table::Profile | Table::StateProfile => 4096,
             Table::Host | Table::Router => 16384,
             Table::Spoke => 32768,
             Table::Link | Table::Actor | Table::Mutex | Table::Semaphore => 65536,
@@ -306,6 +347,20 @@ impl Table {
                 key!(LatencyFactor, Optional, FactorText),
                 key!(BandwidthFactor, Optional, PositiveFactorText),
                 key!(Window, Optional, AmountText),
+            ],
+            Table::Profile => &[
+                key!(Host, Unless(Link), ProfiledHost),
+                key!(Link, Optional, ProfiledLink),
+                key!(Dates, Required, DateList),
+                key!(Values, Required, ValueList),
+                key!(Loop, Optional, PositiveTimeText),
+            ],
+            Table::StateProfile => &[
+                key!(Host, Unless(Link), SwitchedHost),
+                key!(Link, Optional, SwitchedLink),
+                key!(Dates, Required, DateList),
+                key!(States, Required, StateList),
+                key!(Loop, Optional, PositiveTimeText),
             ],
             Table::Actor => &[
                 key!(Name, Required, NewActor),

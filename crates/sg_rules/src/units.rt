@@ -1,8 +1,32 @@
 //! Values with units, where their reader takes the text.
 ghost use Rattle.std.specs.Prelude.{◌≡◌};
-ghost use Rattle.sg_rules.specs.Units.{amount_value, bandwidth_value, factor_value, latency_value, speed_value};
+ghost use Rattle.sg_rules.specs.Units.{amount_value, bandwidth_value, factor_value, latency_value, quantity_value, speed_value, time_value};
 
 use sg_units::{read_amount, read_bandwidth, read_factor, read_speed, read_time};
+
+/// What a text gives an amount of.
+#[derive(Clone, Copy, Debug, PartialEq, Eq)]
+pub enum Quantity {
+    /// In nanoseconds.
+    Time,
+    /// In flops per second.
+    Speed,
+    /// In bytes per second.
+    Bandwidth,
+}
+
+impl Quantity {
+    /// The amount that a text gives.
+    pub fn value(self, text: &[u8]) -> Option<u64>
+        ensures { result ≡ quantity_value self text.now }
+    {
+        match self {
+            Quantity::Time => time_value(text),
+            Quantity::Speed => speed_value(text),
+            Quantity::Bandwidth => bandwidth_value(text),
+        }
+    }
+}
 
 /// The greatest latency, in nanoseconds.
 const GREATEST_LATENCY: u64 = 1_000_000_000_000_000;
@@ -47,6 +71,17 @@ pub fn factor_value(text: &[u8]) -> Option<u64>
 {
     match read_factor(text) {
         Ok(factor) => Some(factor),
+        Err(_) => None,
+    }
+}
+
+/// The time that a text gives, in nanoseconds.
+#[tactic(auto, unfolding(crate::specs::Units::time_value))]
+pub fn time_value(text: &[u8]) -> Option<u64>
+    ensures { result ≡ time_value text.now }
+{
+    match read_time(text) {
+        Ok(time) => Some(time),
         Err(_) => None,
     }
 }

@@ -5,6 +5,7 @@ use Rattle.std.proofs.lemmas.Bool.{cases_Bool}
 use Rattle.std.proofs.lemmas.Bool.Decides.{nat_tests}
 use Rattle.sg_edge.specs.Files.{PartView}
 use Rattle.sg_edge.specs.Sources.{Source}
+use Rattle.sg_edge.specs.declared.files.Part.{Part}
 use Rattle.sg_edge.specs.declared.files.Stage.{Stage}
 use Rattle.sg_base.specs.declared.call.Action.{Action}
 use Rattle.sg_script.specs.Known.{Known}
@@ -129,14 +130,14 @@ ask_is known taken asks actor (Err (Line n kind)) v w old new stands is = asked_
 ask_is known taken asks actor (Err Read) v w old new stands is = asked_is known taken asks actor (Err Read) v w old new stands is
 ask_is known taken asks actor (Err Memory) v w old new stands is = cut_is known taken asks actor v w old new stands is
 
-breaks : (piece : List ℕ) (v w : PartView) → Reads piece v w → BreaksOnFailure v w
-breaks piece v w r = record { name = r.name; broke = r.broke; sound = r.sound; begun = r.begun }
+breaks : (piece : List ℕ) (part : Part) (v w : Part → PartView) → Reads piece (v part) (w part) → BreaksOnFailure part v w
+breaks piece part v w r = record { name = r.name; broke = r.broke; sound = r.sound; begun = r.begun }
 
-pub breaking : (known : Known) (actor : ℕ) (answer : Result (Option Action) ScriptFault) (v w : PartView) (old new : Kept) → Ends known actor answer v w old new → BreaksOnFailure v w × (length new.queues ≡ length old.queues)
-breaking known actor (Ok found) v w old new is = (breaks is.piece v w is.reads, is.queues)
-breaking known actor (Err (Line n kind)) v w old new is = (breaks is.piece v w is.reads, is.queues)
-breaking known actor (Err Read) v w old new is = (breaks is.piece v w is.reads, is.queues)
-breaking known actor (Err Memory) v w old new is = (breaks is.piece v w is.reads, is.queues)
+pub breaking : (known : Known) (actor : ℕ) (answer : Result (Option Action) ScriptFault) (part : Part) (v w : Part → PartView) (old new : Kept) → Ends known actor answer (v part) (w part) old new → BreaksOnFailure part v w × (length new.queues ≡ length old.queues)
+breaking known actor (Ok found) part v w old new is = (breaks is.piece part v w is.reads, is.queues)
+breaking known actor (Err (Line n kind)) part v w old new is = (breaks is.piece part v w is.reads, is.queues)
+breaking known actor (Err Read) part v w old new is = (breaks is.piece part v w is.reads, is.queues)
+breaking known actor (Err Memory) part v w old new is = (breaks is.piece part v w is.reads, is.queues)
 
 -- a new script stands for no bytes and no Asks
 pub new_stands : (known : Known) (stage : Stage) (kept : Kept) (n : ℕ) → kept.queues ≡ replicate n [] → kept.lines ≡ 0 → kept.pending ≡ [] → Stands known [] stage (λ _. 0) kept

@@ -3,7 +3,7 @@ use Rattle.std.proofs.Common.{◌≡◌, ◌<◌, ◌+◌, refl, ℕ, List, Opti
 use Rattle.std.specs.Prelude.{IfSome, option_map}
 use Rattle.sg_base.specs.declared.ids.ActorId.{ActorId}
 use Rattle.sg_base.specs.Limits.{Extent, IsActorIn}
-use Rattle.sg_rows.proofs.Numbers.{mutex_below, replay_below, semaphore_below}
+use Rattle.sg_rows.proofs.RowsBelow.{mutex_below, replay_below, semaphore_below}
 use Rattle.sg_rows.specs.Deployment.{Deployed, extent_of, mutex_named, replay_actor_named, semaphore_named}
 use Rattle.sg_rows.specs.Index.{replay_number}
 

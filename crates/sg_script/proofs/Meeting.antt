@@ -137,9 +137,10 @@ counts_agree P p q agree (x ∷ steps) all =
     ∙ ap₂ (λ (b : Bool) (n : ℕ). cond b 1 0 + n) (agree x (all 0 x (omega arith))) (counts_agree P p q agree steps (All-tail P x steps all))
     ∙ sym (count_more q x steps)
 
--- a step more, of one of two kinds or of none
-kinds_more : (p q r : Step → Bool) (x : Step) (steps : List Step) → ◌≡◌ {A = ℕ} (cond (p x) 1 0) (cond (q x) 1 0 + cond (r x) 1 0) → count_by p steps ≡ count_by q steps + count_by r steps → count_by p (x ∷ steps) ≡ count_by q (x ∷ steps) + count_by r (x ∷ steps)
-kinds_more p q r x steps here rest = omega (arith, here, rest, count_more p x steps, count_more q x steps, count_more r x steps)
+-- steps of two kinds that are counted together are counted apart
+counts_apart : (p q r : Step → Bool) → ((x : Step) → ◌≡◌ {A = ℕ} (cond (p x) 1 0) (cond (q x) 1 0 + cond (r x) 1 0)) → (steps : List Step) → count_by p steps ≡ count_by q steps + count_by r steps
+counts_apart p q r each [] = refl
+counts_apart p q r each (x ∷ steps) = omega (arith, each x, counts_apart p q r each steps, count_more p x steps, count_more q x steps, count_more r x steps)
 
 send_named : (members : List ActorId) (actor me : ℕ) (rank : Option ℕ) → Differ members → rank_of members actor ≡ rank → (step : Step) → NamesOther me (length members) step → sends_to actor (action_of members step) ≡ sends_where (is_at rank) step
 send_named members actor me rank differ is (Send peer bytes) other = named members actor rank differ is peer other.0
@@ -157,23 +158,27 @@ receive_named members actor me rank differ is (ISend peer bytes) other = refl
 receive_named members actor me rank differ is (Compute flops) other = refl
 receive_named members actor me rank differ is Wait other = refl
 
+send_kind : (rank : ℕ) (x : Step) → ◌≡◌ {A = ℕ} (cond (sends_where (is_at (Some rank)) x) 1 0) (cond (is_send rank x) 1 0 + cond (is_isend rank x) 1 0)
+send_kind rank (Send peer bytes) = omega arith
+send_kind rank (ISend peer bytes) = omega arith
+send_kind rank (Recv peer) = omega arith
+send_kind rank (IRecv peer) = omega arith
+send_kind rank (Compute flops) = omega arith
+send_kind rank Wait = omega arith
+
 sends_kinds : (rank : ℕ) (steps : List Step) → count_by (sends_where (is_at (Some rank))) steps ≡ sends_at rank steps
-sends_kinds rank [] = refl
-sends_kinds rank (Send peer bytes ∷ steps) = kinds_more (sends_where (is_at (Some rank))) (is_send rank) (is_isend rank) (Send peer bytes) steps (omega arith) (sends_kinds rank steps)
-sends_kinds rank (ISend peer bytes ∷ steps) = kinds_more (sends_where (is_at (Some rank))) (is_send rank) (is_isend rank) (ISend peer bytes) steps (omega arith) (sends_kinds rank steps)
-sends_kinds rank (Recv peer ∷ steps) = kinds_more (sends_where (is_at (Some rank))) (is_send rank) (is_isend rank) (Recv peer) steps (omega arith) (sends_kinds rank steps)
-sends_kinds rank (IRecv peer ∷ steps) = kinds_more (sends_where (is_at (Some rank))) (is_send rank) (is_isend rank) (IRecv peer) steps (omega arith) (sends_kinds rank steps)
-sends_kinds rank (Compute flops ∷ steps) = kinds_more (sends_where (is_at (Some rank))) (is_send rank) (is_isend rank) (Compute flops) steps (omega arith) (sends_kinds rank steps)
-sends_kinds rank (Wait ∷ steps) = kinds_more (sends_where (is_at (Some rank))) (is_send rank) (is_isend rank) Wait steps (omega arith) (sends_kinds rank steps)
+sends_kinds rank = counts_apart (sends_where (is_at (Some rank))) (is_send rank) (is_isend rank) (send_kind rank)
+
+receive_kind : (rank : ℕ) (x : Step) → ◌≡◌ {A = ℕ} (cond (receives_where (is_at (Some rank)) x) 1 0) (cond (is_recv rank x) 1 0 + cond (is_irecv rank x) 1 0)
+receive_kind rank (Send peer bytes) = omega arith
+receive_kind rank (ISend peer bytes) = omega arith
+receive_kind rank (Recv peer) = omega arith
+receive_kind rank (IRecv peer) = omega arith
+receive_kind rank (Compute flops) = omega arith
+receive_kind rank Wait = omega arith
 
 receives_kinds : (rank : ℕ) (steps : List Step) → count_by (receives_where (is_at (Some rank))) steps ≡ receives_at rank steps
-receives_kinds rank [] = refl
-receives_kinds rank (Send peer bytes ∷ steps) = kinds_more (receives_where (is_at (Some rank))) (is_recv rank) (is_irecv rank) (Send peer bytes) steps (omega arith) (receives_kinds rank steps)
-receives_kinds rank (ISend peer bytes ∷ steps) = kinds_more (receives_where (is_at (Some rank))) (is_recv rank) (is_irecv rank) (ISend peer bytes) steps (omega arith) (receives_kinds rank steps)
-receives_kinds rank (Recv peer ∷ steps) = kinds_more (receives_where (is_at (Some rank))) (is_recv rank) (is_irecv rank) (Recv peer) steps (omega arith) (receives_kinds rank steps)
-receives_kinds rank (IRecv peer ∷ steps) = kinds_more (receives_where (is_at (Some rank))) (is_recv rank) (is_irecv rank) (IRecv peer) steps (omega arith) (receives_kinds rank steps)
-receives_kinds rank (Compute flops ∷ steps) = kinds_more (receives_where (is_at (Some rank))) (is_recv rank) (is_irecv rank) (Compute flops) steps (omega arith) (receives_kinds rank steps)
-receives_kinds rank (Wait ∷ steps) = kinds_more (receives_where (is_at (Some rank))) (is_recv rank) (is_irecv rank) Wait steps (omega arith) (receives_kinds rank steps)
+receives_kinds rank = counts_apart (receives_where (is_at (Some rank))) (is_recv rank) (is_irecv rank) (receive_kind rank)
 
 sends_none : (steps : List Step) → count_by (sends_where (is_at None)) steps ≡ 0
 sends_none [] = refl
@@ -194,17 +199,20 @@ receives_none (Compute flops ∷ steps) = receives_none steps
 receives_none (Wait ∷ steps) = receives_none steps
 
 -- ---- two actors
+-- the actions of a member that pass are as many as its steps that do
+counted : (members : List ActorId) (collective : Collective) (me : ℕ) (p : Action → Bool) (q : Step → Bool) → me < length members → ((step : Step) → NamesOther me (length members) step → p (action_of members step) ≡ q step)
+    → count_by p (actions_at members collective (Some me)) ≡ count_by q (expansion collective me (length members))
+counted members collective me p q below agree =
+    count_by-map p (action_of members) (expansion collective me (length members))
+    ∙ counts_agree (NamesOther me (length members)) (λ step. p (action_of members step)) q agree (expansion collective me (length members)) (peers_are_others collective me (length members) below)
+
 sent : (members : List ActorId) (collective : Collective) (me actor : ℕ) (rank : Option ℕ) → Differ members → me < length members → rank_of members actor ≡ rank
     → count_by (sends_to actor) (actions_at members collective (Some me)) ≡ count_by (sends_where (is_at rank)) (expansion collective me (length members))
-sent members collective me actor rank differ below is =
-    count_by-map (sends_to actor) (action_of members) (expansion collective me (length members))
-    ∙ counts_agree (NamesOther me (length members)) (λ step. sends_to actor (action_of members step)) (sends_where (is_at rank)) (send_named members actor me rank differ is) (expansion collective me (length members)) (peers_are_others collective me (length members) below)
+sent members collective me actor rank differ below is = counted members collective me (sends_to actor) (sends_where (is_at rank)) below (send_named members actor me rank differ is)
 
 received : (members : List ActorId) (collective : Collective) (me actor : ℕ) (rank : Option ℕ) → Differ members → me < length members → rank_of members actor ≡ rank
     → count_by (receives_from actor) (actions_at members collective (Some me)) ≡ count_by (receives_where (is_at rank)) (expansion collective me (length members))
-received members collective me actor rank differ below is =
-    count_by-map (receives_from actor) (action_of members) (expansion collective me (length members))
-    ∙ counts_agree (NamesOther me (length members)) (λ step. receives_from actor (action_of members step)) (receives_where (is_at rank)) (receive_named members actor me rank differ is) (expansion collective me (length members)) (peers_are_others collective me (length members) below)
+received members collective me actor rank differ below is = counted members collective me (receives_from actor) (receives_where (is_at rank)) below (receive_named members actor me rank differ is)
 
 by_ranks : (members : List ActorId) (collective : Collective) (a b : ℕ) (ra rb : Option ℕ) → Differ members → rank_of members a ≡ ra → rank_of members b ≡ rb
     → count_by (sends_to b) (actions_at members collective ra) ≡ count_by (receives_from a) (actions_at members collective rb)

@@ -4,6 +4,7 @@ use Rattle.std.specs.Prelude.{◌≡◌, ℕ, Bool, ◌+◌, ◌-◌, ◌++◌, 
 use Rattle.std.specs.List.{All}
 use Rattle.sg_base.specs.Limits.{Extent, IsAction}
 use Rattle.sg_edge.specs.Files.{before, PartView}
+use Rattle.sg_edge.specs.declared.files.Part.{Part}
 use Rattle.sg_edge.specs.declared.files.Stage.{Stage}
 use Rattle.sg_base.specs.declared.call.Action.{Action}
 use Rattle.sg_script.specs.Known.{Known}
@@ -138,11 +139,11 @@ IsRead (Err Read) part = part.stage ≡ Broken
 IsRead (Err Memory) part = ⊤
 
 -- a part breaks only by a call that failed, and keeps its name
-pub record BreaksOnFailure (old new : PartView) : Type 0 where
-  pub name : new.name ≡ old.name
-  pub broke : new.stage ≡ Broken → (old.stage ≡ Broken) ⊎ (old.faults < new.faults)
-  pub sound : new.stage ≢ Broken → new.faults ≡ old.faults
-  pub begun : new.stage ≢ Fresh
+pub record BreaksOnFailure (part : Part) (old new : Part → PartView) : Type 0 where
+  pub name : (new part).name ≡ (old part).name
+  pub broke : (new part).stage ≡ Broken → ((old part).stage ≡ Broken) ⊎ ((old part).faults < (new part).faults)
+  pub sound : (new part).stage ≢ Broken → (new part).faults ≡ (old part).faults
+  pub begun : (new part).stage ≢ Fresh
 
 -- an action that is answered keeps to the limits, and what it names exists
 abbrev pub IsLimited : Extent → Result (Option Action) ScriptFault → Type 0

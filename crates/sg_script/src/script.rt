@@ -24,8 +24,8 @@ type Answer = Result<Option<Action>, ScriptFault>;
 
 /// A script that is read as far as the answers to Asks need it.
 ///
-/// It keeps the lines that were read and of which something may be left, how many lines there were, and the bytes behind them.
-/// What stands there is judged when it is reached, so a bad line and a read that failed are told again to each Ask
+/// It keeps the lines that were read and of which something may be left, how many lines there were, and the bytes behind
+/// them. What stands there is judged when it is reached, so a bad line and a read that failed are told again to each Ask
 /// that needs more.
 #[derive(Drop)]
 pub struct Script {
@@ -279,8 +279,7 @@ impl Script {
         ensures frugal { Frugal (known_in deployment.now) actor.0 (F.shows files.old Part.Script)
             (F.shows files.new Part.Script) (kept_of self.old) }
         ensures read { IsRead result (F.shows files.new Part.Script) }
-        ensures part { BreaksOnFailure (F.shows files.old Part.Script)
-            (F.shows files.new Part.Script) }
+        ensures part { BreaksOnFailure Part.Script (F.shows files.old) (F.shows files.new) }
         ensures actors { actors_of self.new ≡ actors_of self.old }
         ensures others { Only Part.Script (F.shows files.old) (F.shows files.new) }
     {

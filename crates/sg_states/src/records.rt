@@ -1,16 +1,19 @@
 //! Records of calls that are answered.
 ghost use Rattle.std.specs.Prelude.{◌≡◌};
-ghost use Rattle.sg_states.specs.Records.{record_of as record_of_spec, took_by as took_by_spec};
+ghost use Rattle.sg_states.specs.Records.{end_by as end_by_spec, record_of as record_of_spec};
 
-use sg_base::{ActorId, Answer, Call, Record};
+use sg_base::{ActorId, Answer, Call, End, Record};
 
-// How long a call took, where its answer came after so many nanoseconds.
-fn took_by(answer: Answer, ns: u128) -> Option<u128>
-    ensures { result ≡ took_by_spec answer ns }
+// How a call ended that had its answer after so many nanoseconds.
+fn end_by(answer: Answer, ns: u128) -> End
+    ensures { result ≡ end_by_spec answer ns }
 {
     match answer {
-        Answer::Start | Answer::Act(_) | Answer::NoMore | Answer::Done | Answer::Got(_) => Some(ns),
-        Answer::Refused => None,
+        Answer::Start | Answer::Act(_) | Answer::NoMore | Answer::Done | Answer::Got(_) => {
+            End::Done(ns)
+        }
+        Answer::Refused => End::Refused,
+        Answer::Failed => End::Failed,
     }
 }
 
@@ -30,6 +33,6 @@ pub(crate) fn record_of(
         date: now,
         what,
         bytes,
-        took: took_by(answer, now.saturating_sub(since)),
+        end: end_by(answer, now.saturating_sub(since)),
     }
 }

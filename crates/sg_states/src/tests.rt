@@ -1,6 +1,6 @@
 //! Two actors in a round and in a pass.
 use crate::States;
-use sg_base::{ActorId, Answer, Call, Memory, Record};
+use sg_base::{ActorId, Answer, Call, End, Memory, Record};
 use std::alloc::Global;
 use std::test::Fail;
 
@@ -14,7 +14,7 @@ fn lock(actor: ActorId, date: u128, took: u128) -> Record {
         date,
         what: Call::Lock(0),
         bytes: 0,
-        took: Some(took),
+        end: End::Done(took),
     }
 }
 

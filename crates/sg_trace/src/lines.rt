@@ -9,7 +9,7 @@ ghost use Rattle.sg_trace.specs.kept.Room.{HasRoom, GrowsBy};
 use crate::calls::push_call;
 use crate::last::Last;
 use crate::names::push_actor;
-use crate::pieces::{Line, push_date, push_number, push_took};
+use crate::pieces::{Line, push_date, push_end, push_number};
 use sg_base::Record;
 use sg_rows::{Deployment, PlatformText};
 
@@ -27,7 +27,7 @@ pub fn line(answered: &Record, platform: &PlatformText, deployment: &Deployment)
     line.push_str("] ");
     push_call(&mut line, deployment, answered.what, Some(answered.bytes));
     line.push_str(" ");
-    push_took(&mut line, answered.took);
+    push_end(&mut line, answered.end);
     line.push_str("\n");
     line
 }

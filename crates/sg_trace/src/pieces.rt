@@ -1,12 +1,13 @@
 //! The pieces of a line.
 ghost use Rattle.std.specs.Prelude.{◌≡◌, ◌++◌, decimal};
-ghost use Rattle.std.specs.Option.{ForSome};
+ghost use Rattle.sg_base.specs.Limits.{IsEnd};
 ghost use Rattle.sg_units.specs.Date.{date_of};
-ghost use Rattle.sg_trace.specs.Line.{IsDate, took_text};
+ghost use Rattle.sg_trace.specs.Line.{IsDate, end_text};
 ghost use Rattle.sg_trace.specs.kept.Room.{HasRoom, GrowsBy};
 
 use arrayvec::ArrayString;
 use itoa::Buffer;
+use sg_base::End;
 use sg_units::date_text;
 
 /// A line with its newline. The limits on names, dates and numbers leave it room.
@@ -30,15 +31,16 @@ pub fn push_date(line: &mut Line, ns: u128)
     line.push_str(date_text(ns).as_str());
 }
 
-/// How long a call took, or that it was refused.
-pub fn push_took(line: &mut Line, took: Option<u128>)
-    requires took { ForSome took IsDate }
+/// How long a call took, or that it was refused or failed.
+pub fn push_end(line: &mut Line, end: End)
+    requires end { IsEnd end }
     requires room { HasRoom line.old 64 }
-    ensures bytes { line.new.bytes ≡ line.old.bytes ++ took_text took }
+    ensures bytes { line.new.bytes ≡ line.old.bytes ++ end_text end }
     ensures len { GrowsBy line.old line.new 64 }
 {
-    match took {
-        Some(duration) => push_date(line, duration),
-        None => line.push_str("refused"),
+    match end {
+        End::Done(duration) => push_date(line, duration),
+        End::Refused => line.push_str("refused"),
+        End::Failed => line.push_str("failed"),
     }
 }

@@ -24,7 +24,7 @@ pub const STEPS: &str =
     "Steps of each actor, 0 to 1000000: it computes, sends to the next, receives from the one before, and waits";
 
 pub const PLATFORM: &str =
-    "The platform, a TOML file: zones, hosts, routers, links, routes, and factors of the network";
+    "The platform, a TOML file: zones, hosts, routers, links, routes, factors of the network, and profiles";
 
 pub const DEPLOYMENT: &str =
     "The deployment, a TOML file: which actor is on which host, mutexes and semaphores";

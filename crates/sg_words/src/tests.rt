@@ -182,7 +182,7 @@ const REPLAY_HELP: &str =
 Usage: simgrid_replay replay [OPTIONS] <PLATFORM> <DEPLOYMENT> <SCRIPT>
 
 Arguments:
-  <PLATFORM>    The platform, a TOML file: zones, hosts, routers, links, routes, and factors of the network
+  <PLATFORM>    The platform, a TOML file: zones, hosts, routers, links, routes, factors of the network, and profiles
   <DEPLOYMENT>  The deployment, a TOML file: which actor is on which host, mutexes and semaphores
   <SCRIPT>      The script, a text file: one action on each line, like 'p0 compute 1e9 3', at priority 3, or 'p0 send p1 1e6 2MBps', at that rate at most; - is standard input
 
@@ -199,7 +199,7 @@ const RUN_HELP: &str = "Runs masters and workers, which need no script
 Usage: simgrid_replay run [OPTIONS] <PLATFORM> <DEPLOYMENT>
 
 Arguments:
-  <PLATFORM>    The platform, a TOML file: zones, hosts, routers, links, routes, and factors of the network
+  <PLATFORM>    The platform, a TOML file: zones, hosts, routers, links, routes, factors of the network, and profiles
   <DEPLOYMENT>  The deployment, a TOML file: which actor is on which host, mutexes and semaphores
 
 Options:

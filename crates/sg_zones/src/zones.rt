@@ -28,7 +28,12 @@ impl Model for Zones {
 
     ghost Value = { Tree };
 
-    ghost view = { λ z. record { parents = z.parents.items; routings = z.routings.items; paths = z.paths.items; homes = z.homes.items } };
+    ghost view = { λ z. record {
+      parents = z.parents.items;
+      routings = z.routings.items;
+      paths = z.paths.items;
+      homes = z.homes.items;
+    } };
 }
 
 /// The routing of each zone.

@@ -28,3 +28,12 @@ only_memory platform tree result why zones is given other =
     let fits : or_zone_fault platform (zones_of platform) ≡ Ok platform = ap (or_zone_fault platform) zones in
     let known : result ≡ or_zone_fault platform (zones_of platform) = given not in
     cc
+
+-- and what stands then is the platform
+pub keeps_platform : (platform found : Platform) (tree : Tree) (result : Result Platform Refusal) → zones_of platform ≡ Ok tree → result ≡ C.Ok found →
+    (◌≢◌ {A = Result Platform Refusal} result (C.Err R.Memory) → result ≡ or_zone_fault platform (zones_of platform)) → found ≡ platform
+keeps_platform platform found tree result zones is given =
+    let not : ◌≢◌ {A = Result Platform Refusal} result (C.Err R.Memory) = λ e. (cc) in
+    let fits : or_zone_fault platform (zones_of platform) ≡ Ok platform = ap (or_zone_fault platform) zones in
+    let known : result ≡ or_zone_fault platform (zones_of platform) = given not in
+    cc

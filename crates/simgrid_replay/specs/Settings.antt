@@ -46,7 +46,7 @@ deployment_given platform source =
     else or_deployment_fault (deployment_of source.bytes platform)
 
 -- ---- what is run
--- a platform, and what is deployed on it
+-- a platform, all its rows, those of profiles among them, and what is deployed on it
 pub record Setting : Type 0 where
   pub platform : Platform
   pub deployment : Deployed

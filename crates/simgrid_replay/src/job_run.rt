@@ -11,13 +11,13 @@ ghost use Rattle.simgrid_replay.specs.Outcome.{is_refusal, run_on};
 ghost use Rattle.simgrid_replay.specs.kept.Setups.{setting_in, IsSetupOfJob};
 ghost use Rattle.simgrid_replay.specs.Requests.{has_script, show_if as show_if_spec, show_of};
 
+use crate::host::Host;
 use crate::reports::status;
 use sg_actor::Actor;
 use sg_base::{Status, Steps};
 use sg_edge::{Files, Part, Sinks};
 use sg_engine::{Setup, Show, Terms, run};
 use sg_words::{Command, Job};
-use std::alloc::Global;
 use std::sync::ledger::Ledger;
 use std::thread::Threads;
 
@@ -72,38 +72,45 @@ fn begin_script<F: Files>(job: &Job, files: &mut F)
     }
 }
 
+/// A job, and what it runs.
+#[derive(Drop)]
+pub struct JobSetup<'a> {
+    pub job: &'a Job,
+    pub setup: Setup,
+}
+
 /// Begins the script of a job, where it has one, and runs its setup.
 pub fn run_job<R: Threads + Sync, F: Files, O: Sinks, L: Ledger>(
-    rt: &R,
-    alloc: Global,
-    job: &Job,
-    setup: &mut Setup,
+    host: &Host<'_, R>,
+    on: JobSetup<'_>,
     files: &mut F,
     out: &mut O,
     crew: &mut Vec<Box<dyn Actor + Send>>,
     steps: &mut Steps<L>,
 ) -> Status
-    requires setup { IsSetupOfJob job.now (length crew.old.items) setup.old }
+    requires setup { IsSetupOfJob on.job.now (length crew.old.items) on.setup }
     requires fresh { (F.shows files.old Part.Script).stage ≡ Fresh }
     requires sound { O.faults out.old ≡ 0 }
     requires blank { All (λ b. mind b ≡ None) crew.old.items }
-    ensures output { (s : Source) → ScriptGives (request_of job.now) (F.shows files.old)
-        (F.shows files.new) s → ComesTo (run_on (job_view job.now) s (setting_in setup.old)) result
+    ensures output { (s : Source)
+        → ScriptGives (request_of on.entry.job.now) (F.shows files.old) (F.shows files.new) s
+        → ComesTo (run_on (job_view on.entry.job.now) s (setting_in on.entry.setup)) result
         (O.contents out.old) (O.contents out.new) steps.old steps.new
         (F.shows files.old) (F.shows files.new) }
     ensures crew { result ≢ Status.Memory
-        → crew.new.items ≡ drop (contexts_of setup.old.deployment) crew.old.items }
+        → crew.new.items ≡ drop (contexts_of on.entry.setup.deployment) crew.old.items }
     ensures unrefused { is_refusal result ≡ false }
     ensures cause { IsCallCause result (O.faults out.new)
         (Broke Part.Script (F.shows files.old) (F.shows files.new)) }
-    ensures script { BeginsScript F.shows (request_of job.now) files.old files.new }
+    ensures script { BeginsScript F.shows (request_of on.entry.job.now) files.old files.new }
 {
+    let JobSetup { job, mut setup } = on;
     begin_script(job, files);
     let terms = terms_for(job);
     let ended = run(
-        rt,
-        alloc,
-        setup,
+        host.rt,
+        host.alloc,
+        &mut setup,
         files,
         crew,
         terms.threads,

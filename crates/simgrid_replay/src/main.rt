@@ -3,6 +3,7 @@
 
 mod churn_setup;
 mod fitting;
+mod host;
 mod job_run;
 mod loading;
 mod real_files;

@@ -3,13 +3,14 @@ ghost use Rattle.std.specs.Prelude.{◌≡◌, ◌<◌, All, None, IfOk};
 ghost use Rattle.sg_edge.specs.declared.files.Part.{Part};
 ghost use Rattle.sg_edge.specs.declared.files.Stage.TheVariants.{Fresh};
 
+use crate::host::Host;
 use crate::whole_call::simgrid;
 use sg_actor::{Actor, PlainContext, TapeContext, all_blank};
 use sg_base::{Memory, Steps};
 use sg_edge::{Files, MemFiles, MemSinks, Sinks, SureFiles, SureSinks};
 use sg_job_cases::{
     BY_HAND, COLLECTIVES, COMPUTATIONS, Case, Done, EACH_FAILURE, FAILURES, FAULTS, JOBS, Kind,
-    LIMITS, LONG, MEETINGS, RUNS, hold, hold_failing,
+    LIMITS, LONG, MEETINGS, OUTAGES, PROFILES, RUNS, hold, hold_failing,
 };
 use std::alloc::Global;
 use std::marker::Brand;
@@ -50,8 +51,7 @@ fn crew_of(alloc: Global, case: &Case) -> Result<Vec<Box<dyn Actor + Send>>, Mem
 
 // The exit status of a job, which counts its own looks.
 fn code_of<R: Threads + Sync, F: Files, O: Sinks, L: Ledger>(
-    rt: &R,
-    alloc: Global,
+    host: &Host<'_, R>,
     words: &[String],
     files: &mut F,
     out: &mut O,
@@ -66,7 +66,7 @@ fn code_of<R: Threads + Sync, F: Files, O: Sinks, L: Ledger>(
     requires some { 0 < blank.parts }
 {
     let mut steps = Steps::<L>::new(blank);
-    simgrid(rt, alloc, words, files, out, crew, &mut steps).code()
+    simgrid(host.rt, host.alloc, words, files, out, crew, &mut steps).code()
 }
 
 // Does the job of a case.
@@ -76,8 +76,7 @@ fn done<R: Threads + Sync>(rt: &R, alloc: Global, case: &Case) -> Result<Done, F
     let mut out = case.sinks(alloc)?;
     let mut crew = crew_of(alloc, case)?;
     let code = code_of::<R, MemFiles, MemSinks, Brand>(
-        rt,
-        alloc,
+        &Host { rt, alloc },
         &words,
         &mut files,
         &mut out,
@@ -94,8 +93,7 @@ fn over_sure_parts<R: Threads + Sync>(rt: &R, alloc: Global, case: &Case) -> Res
     let mut out = SureSinks::new();
     let mut crew = crew_of(alloc, case)?;
     let code = code_of::<R, SureFiles, SureSinks, Brand>(
-        rt,
-        alloc,
+        &Host { rt, alloc },
         &words,
         &mut files,
         &mut out,
@@ -107,7 +105,7 @@ fn over_sure_parts<R: Threads + Sync>(rt: &R, alloc: Global, case: &Case) -> Res
 
 #[test]
 fn writes_the_lines_of_runs(rt: HostRuntime) -> Result<(), Fail> {
-    for table in [RUNS, COMPUTATIONS, BY_HAND, COLLECTIVES] {
+    for table in [RUNS, COMPUTATIONS, BY_HAND, COLLECTIVES, PROFILES, OUTAGES] {
         hold(rt.alloc(), table, |alloc, case| done(&rt, alloc, case))?;
     }
     Ok(())

@@ -15,7 +15,8 @@ ghost use Rattle.simgrid_replay.specs.Outcome.{is_refusal, outcome, contexts_for
 ghost use Rattle.simgrid_replay.specs.Settings.{platform_given, setting};
 ghost use Rattle.simgrid_replay.specs.Requests.{has_parts, has_script};
 
-use crate::job_run::run_job;
+use crate::host::Host;
+use crate::job_run::{JobSetup, run_job};
 use crate::reports::{refuse, report_words};
 use crate::setups::prepare;
 use sg_actor::Actor;
@@ -28,8 +29,7 @@ use std::thread::Threads;
 
 // Does a job.
 fn do_job<R: Threads + Sync, F: Files, O: Sinks, L: Ledger>(
-    rt: &R,
-    alloc: Global,
+    host: &Host<'_, R>,
     job: &Job,
     files: &mut F,
     out: &mut O,
@@ -52,9 +52,9 @@ fn do_job<R: Threads + Sync, F: Files, O: Sinks, L: Ledger>(
     ensures cause { IsCallCause result (O.faults out.new)
         (SomeBroke (F.shows files.old) (F.shows files.new)) }
 {
-    match prepare(alloc, files, job, crew.len()) {
-        Ok(mut setup) => run_job(rt, alloc, job, &mut setup, files, out, crew, steps),
-        Err(why) => refuse(alloc, why, out),
+    match prepare(host.alloc, files, job, crew.len()) {
+        Ok(setup) => run_job(host, JobSetup { job, setup }, files, out, crew, steps),
+        Err(why) => refuse(host.alloc, why, out),
     }
 }
 
@@ -164,7 +164,7 @@ pub fn simgrid<R: Threads + Sync, F: Files, O: Sinks, L: Ledger>(
 {
     accepted_words_have_a_job();
     match read_words(alloc, words) {
-        Ok(job) => do_job(rt, alloc, &job, files, out, crew, steps),
+        Ok(job) => do_job(&Host { rt, alloc }, &job, files, out, crew, steps),
         Err(fault) => report_words(fault, out),
     }
 }

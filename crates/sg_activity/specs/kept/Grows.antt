@@ -15,6 +15,7 @@ pub record Grows (old new : Kept) : Type 0 where
   pub by_flow : (id : ℕ) → slice_index new.by_flow.items id ≡ slice_index old.by_flow.items id
   pub fresh : new.fresh.members ≡ old.fresh.members
   pub ended : new.lazy.ended ≡ old.lazy.ended
+  pub resources : new.lazy.resources ≡ old.lazy.resources
   pub capacities : new.lazy.capacities ≡ old.lazy.capacities
   pub keys_free : old.lives.room ≤ new.lives.room
   pub flow_room : old.lazy.flow_room ≤ new.lazy.flow_room

@@ -1,5 +1,5 @@
 -- What `Activities` keeps is of one mind.
-use Rattle.std.specs.Prelude.{◌≡◌, ◌≢◌, ℕ, ◌+◌, ◌*◌, ◌^◌, ◌<◌, ◌≤◌, Bool, true, false, Option, None, Some, IfSome, List, [], length, slice_index, sum_by, All, AllPairs, IsTrue, IsSome}
+use Rattle.std.specs.Prelude.{◌≡◌, ◌≢◌, ℕ, ◌+◌, ◌*◌, ◌^◌, ◌<◌, ◌≤◌, ◌||◌, false, Option, None, Some, IfSome, List, [], length, slice_index, sum_by, All, AllPairs, IsTrue, IsSome}
 use Rattle.sg_base.specs.declared.ids.LinkId.{LinkId}
 use Rattle.sg_base.specs.Limits.{IsPriority}
 use Rattle.sg_base.specs.MarkSet.{is_in}
@@ -8,14 +8,12 @@ use Rattle.sg_maxmin.specs.Fill.{share_of}
 use Rattle.sg_maxmin.specs.Sharing.{HasLimit}
 use Rattle.sg_lazy.specs.RunningFlow.{RunningFlow, running_at, flows_in}
 use Rattle.sg_activity.specs.declared.kept.Kept.{Kept}
-use Rattle.sg_activity.specs.declared.kinds.PhaseKind.{PhaseKind}
-use Rattle.sg_activity.specs.declared.kinds.PhaseKind.TheVariants as phase
 use Rattle.sg_activity.specs.declared.lives.Live.{Live}
 use Rattle.sg_activity.specs.Links.{Capacities, capacities_of}
-use Rattle.sg_activity.specs.Task.{takes_share, pace}
+use Rattle.sg_activity.specs.Task.{Place, Way, nowhere, on_host, over, flows_ahead, takes_share, pace, is_rebound_at}
 use Rattle.sg_activity.specs.kept.Stamps.{due_of}
 use Rattle.sg_activity.specs.kept.Pool.{slot_at}
-use Rattle.sg_activity.specs.kept.State.{State, state_of, links_at, task_of, asked_by, dated}
+use Rattle.sg_activity.specs.kept.State.{State, state_of, links_at, place_of, asked_by, dated}
 
 -- all different links that exist, one at least and 64 at most
 pub record IsWay (capacities : Capacities) (way : List LinkId) : Type 0 where
@@ -24,9 +22,30 @@ pub record IsWay (capacities : Capacities) (way : List LinkId) : Type 0 where
   pub exist : All (λ (link : LinkId). link.0 < length capacities.links) way
   pub few : length way ≤ 64
 
+-- the links of a way exist, and the hosts at its ends
+pub record IsPath (capacities : Capacities) (way : Way) : Type 0 where
+  pub links : IsWay capacities way.links
+  pub sender : way.sender < length capacities.hosts
+  pub receiver : way.receiver < length capacities.hosts
+
+-- the host exists, or the way does
+abbrev pub IsPlace : Capacities → Place → Type 0
+IsPlace capacities nowhere = Unit {0}
+IsPlace capacities (on_host host) = host < length capacities.hosts
+IsPlace capacities (over way) = IsPath capacities way
+
+-- where the activity under a key goes on
+abbrev pub place_at : State → ℕ → Live → Place
+place_at s key live = place_of live.kind live.host live.peer (links_at s.ways key)
+
 -- the flow of an activity as it runs
 abbrev pub run_of : State → ℕ → Live → RunningFlow
-run_of s key live = record { flow = asked_by s key live; rate = live.rate; began = is_in key s.fresh }
+run_of s key live = record {
+  flow = asked_by s key live;
+  rate = live.rate;
+  began = is_in key s.fresh;
+  marked = is_in key s.fresh || is_rebound_at s.capacities s.resources (place_at s key live);
+}
 
 -- What takes a share has its flow, which goes at the rate that is kept, and whose key is known.
 pub record HasFlow (s : State) (key : ℕ) (live : Live) : Type 0 where
@@ -45,7 +64,7 @@ pub record IsHeld (s : State) (key : ℕ) (live : Live) : Type 0 where
   pub few_bytes : live.bytes ≤ 10 ^ 15
   pub weighs : IsPriority live.weight
   pub paced : takes_share live.kind ≡ false → live.rate ≡ pace live.kind
-  pub over : live.kind ≡ phase.Latency → IsWay s.capacities (links_at s.ways key)
+  pub placed : IsPlace s.capacities (place_at s key live)
   pub flow : IsTrue (takes_share live.kind) → HasFlow s key live
   pub dated : key_at s.keys key ≡ dated s.fresh key live
 
@@ -72,13 +91,6 @@ pub record IsKept (s : State) : Type 0 where
       running.rate ≡ share_of (capacities_of s.capacities) (flows_in s.runs) running.flow
 
 -- ---- room
--- how many flows begin once a phase of this kind is over
-abbrev pub flows_ahead : PhaseKind → ℕ
-flows_ahead phase.Latency = 1
-flows_ahead phase.Flow = 0
-flows_ahead phase.Exec = 0
-flows_ahead phase.Timer = 0
-
 abbrev pub slot_ahead : Option Live → ℕ
 slot_ahead None = 0
 slot_ahead (Some live) = flows_ahead live.kind

@@ -1,5 +1,5 @@
 -- What is kept, and what it stands for.
-use Rattle.std.specs.Prelude.{◌≡◌, ℕ, zero, suc, ◌+◌, ◌-◌, ◌==◌, Bool, true, false, Option, None, Some, option_map, option_and_then, if◌then◌else◌, List, [], ◌∷◌, map, slice_index, slice_index_or, IsTrue}
+use Rattle.std.specs.Prelude.{ℕ, suc, ◌+◌, ◌==◌, Bool, false, Option, None, Some, option_map, option_and_then, if◌then◌else◌, List, [], ◌∷◌, map, slice_index_or}
 use Rattle.sg_base.specs.declared.ids.LinkId.{LinkId}
 use Rattle.sg_base.specs.MarkSet.{is_in}
 use Rattle.sg_heap.specs.Agenda.{Key, key_at}
@@ -10,16 +10,17 @@ use Rattle.sg_activity.specs.declared.kinds.PhaseKind.{PhaseKind}
 use Rattle.sg_activity.specs.declared.kinds.PhaseKind.TheVariants as phase
 use Rattle.sg_activity.specs.declared.lives.Live.{Live}
 use Rattle.sg_activity.specs.Doing.{Doing}
-use Rattle.sg_activity.specs.Links.{Capacities, machines}
+use Rattle.sg_activity.specs.Links.{Capacities, Switches, machines}
 use Rattle.sg_activity.specs.Slots.{listed, serials}
-use Rattle.sg_activity.specs.Task.{Way, Place, nowhere, on_host, over, Task, flow_of}
+use Rattle.sg_activity.specs.Task.{Place, nowhere, on_host, over, Task, flow_of}
 use Rattle.sg_activity.specs.Underway.{Underway}
 use Rattle.sg_activity.specs.kept.Stamps.{left_at, due_of}
 use Rattle.sg_activity.specs.kept.Pool.{slot_at}
 
--- What is kept: by key the activities, the links of their ways and their dates; by number the flows, and the keys of these; the keys of the phases that began since the rates were brought up to date, and the flows that ended since; and whether those whose date is now are due.
+-- What is kept: by key the activities, the links of their ways and their dates; by number the flows, and the keys of these; the keys of the phases that began since the rates were brought up to date, the flows that ended since, and the resources whose capacity changed since; and whether those whose date is now are due.
 pub record State : Type 0 where
   pub capacities : Capacities
+  pub on : Switches
   pub date : ℕ
   pub drawn : ℕ
   pub slots : List (Option Live)
@@ -29,12 +30,14 @@ pub record State : Type 0 where
   pub by_flow : List ℕ
   pub fresh : List ℕ
   pub ended : List Flow
+  pub resources : List ℕ
   pub settled : Bool
   pub arrived : Bool
 
 abbrev pub state_of : Kept → State
 state_of kept = record {
   capacities = machines kept.hosts.items kept.links.items;
+  on = record { hosts = kept.hosts_on.items; links = kept.links_on.items };
   date = kept.date;
   drawn = kept.drawn;
   slots = kept.lives.slots;
@@ -44,6 +47,7 @@ state_of kept = record {
   by_flow = kept.by_flow.items;
   fresh = kept.fresh.members;
   ended = kept.lazy.ended;
+  resources = kept.lazy.resources;
   settled = kept.settled;
   arrived = kept.arrived;
 }
@@ -53,19 +57,21 @@ state_of kept = record {
 abbrev pub links_at : List (List LinkId) → ℕ → List LinkId
 links_at ways key = slice_index_or ways key []
 
--- where a phase goes on: an execution on its host, a latency and a flow over their way
-abbrev pub place_of : PhaseKind → ℕ → List LinkId → Place
-place_of phase.Latency host links = over (record { links = links })
-place_of phase.Flow host links = over (record { links = links })
-place_of phase.Exec host links = on_host host
-place_of phase.Timer host links = nowhere
+-- where a phase goes on: an execution on its host, a latency and a flow over these links from the host to its peer
+abbrev pub place_of : PhaseKind → ℕ → ℕ → List LinkId → Place
+place_of phase.Latency host peer links =
+    over (record { links = links; sender = host; receiver = peer })
+place_of phase.Flow host peer links =
+    over (record { links = links; sender = host; receiver = peer })
+place_of phase.Exec host peer links = on_host host
+place_of phase.Timer host peer links = nowhere
 
 -- the phase of an activity at a date, over these links
 abbrev pub task_from : ℕ → List LinkId → Live → Task
 task_from date links live = record {
   kind = live.kind;
   left = left_at live.kept live.rate live.stamp date;
-  place = place_of live.kind live.host links;
+  place = place_of live.kind live.host live.peer links;
   weight = live.weight;
   bound = live.bound;
   bytes = live.bytes;
@@ -125,8 +131,13 @@ abbrev pub under_of : State → Underway
 under_of s = record {
   date = s.date;
   capacities = s.capacities;
+  on = s.on;
   tasks = told_by (task_of s) s;
-  marks = record { began = map (serial_at s.slots) s.fresh; ended = s.ended };
+  marks = record {
+    began = map (serial_at s.slots) s.fresh;
+    ended = s.ended;
+    resources = s.resources;
+  };
 }
 
 -- what is kept stands for this

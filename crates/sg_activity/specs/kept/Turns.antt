@@ -1,5 +1,5 @@
 -- One activity makes way for another, or comes, or goes.
-use Rattle.std.specs.Prelude.{◌≡◌, ◌≢◌, ℕ, ◌≤◌, Bool, false, Option, None, Some, length, slice_index, IsTrue, IsSome}
+use Rattle.std.specs.Prelude.{◌≡◌, ◌≢◌, ℕ, ◌≤◌, false, Option, None, Some, length, slice_index, IsTrue, IsSome}
 use Rattle.sg_base.specs.MarkSet.{is_in}
 use Rattle.sg_heap.specs.Agenda.{key_at}
 use Rattle.sg_lazy.specs.RunningFlow.{RunningFlow, running_at}
@@ -12,6 +12,8 @@ use Rattle.sg_activity.specs.kept.Sound.{IsHeld, IsFlowOf}
 -- Under the key is this activity now, or none, and nothing is in the agenda; all others are as they were.
 pub record Turns (s new : State) (key serial : ℕ) (slot : Option Live) : Type 0 where
   pub capacities : new.capacities ≡ s.capacities
+  pub resources : new.resources ≡ s.resources
+  pub on : new.on ≡ s.on
   pub date : new.date ≡ s.date
   pub drawn : s.drawn ≤ new.drawn
   pub unsettled : new.settled ≡ false

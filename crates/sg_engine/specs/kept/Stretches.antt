@@ -68,7 +68,7 @@ planned_output plan source = run_output plan.platform.now plan.deployment.now pl
 
 -- The run was cut off behind a front of its trace lines, or this simulation has come to this end behind all of them, of
 -- which the last may wait in its buffer. None waited at the beginning.
-abbrev pub HasRun : Plan → Ended → Simulation → ℕ → ℕ → PartView → PartView → Option (List ℕ) → Option (List ℕ) → Type 0
+abbrev pub HasRun : {A : Type 0} → Plan → Ended → Simulation A → ℕ → ℕ → PartView → PartView → Option (List ℕ) → Option (List ℕ) → Type 0
 HasRun plan how sim start count old new before after =
     MatchBool (is_cut how)
     (IsCutOff start count (known_in plan.deployment.now) (trace_in plan) (run_by plan) old new (pending before []) after)

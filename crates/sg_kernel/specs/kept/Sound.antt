@@ -1,12 +1,15 @@
 -- How the kernel keeps what it knows.
-use Rattle.std.specs.Prelude.{◌≡◌, ℕ, ◌+◌, ◌-◌, ◌*◌, ◌^◌, ◌<◌, ◌≤◌, Bool, true, false, IsTrue, None, List, length, map, slice_index_or, All}
+use Rattle.std.specs.Prelude.{◌≡◌, ℕ, ◌+◌, ◌-◌, ◌*◌, ◌^◌, ◌<◌, ◌≤◌, min, Bool, true, false, IsTrue, None, List, length, map, slice_index_or, All}
 use Rattle.sg_base.specs.declared.awaits.Await.{Await}
 use Rattle.sg_base.specs.declared.ids.ActorId.{ActorId}
 use Rattle.sg_base.specs.declared.ids.BoxId.{BoxId}
 use Rattle.sg_base.specs.declared.ids.PointId.{PointId}
 use Rattle.sg_base.specs.Limits.{Extent, IsActorIn, IsActorNumber, IsAmount, IsMsg, IsRate}
+use Rattle.sg_activity.specs.Links.{is_off}
 use Rattle.sg_mailbox.specs.declared.sides.Side.{Side}
 use Rattle.sg_mailbox.specs.Posts.{waiting}
+use Rattle.sg_profile.specs.Ahead.{IsAhead}
+use Rattle.sg_profile.specs.Profiles.{AreProfiles, Timetable, next_row, rows_at}
 use Rattle.sg_route.specs.Roads.{Roads}
 use Rattle.sg_rows.specs.Network.{IsNetwork}
 use Rattle.sg_states.specs.Actors.{is_held}
@@ -17,7 +20,7 @@ use Rattle.sg_kernel.specs.declared.meetings.Comer.{Comer}
 use Rattle.sg_kernel.specs.declared.owners.How.TheVariants as how
 use Rattle.sg_kernel.specs.declared.owners.Whose.{Whose}
 use Rattle.sg_kernel.specs.declared.owners.Whose.TheVariants.{Over, Alone, Posted, Pair}
-use Rattle.sg_kernel.specs.World.{Setup, Core, extent, state_of}
+use Rattle.sg_kernel.specs.World.{Setup, Core, extent, host_of, state_of}
 use Rattle.sg_kernel.specs.Known.{Known, after, after_call}
 use Rattle.sg_kernel.specs.Meetings.{comes, posts_from}
 use Rattle.sg_kernel.specs.Steps.{Step, counted}
@@ -30,6 +33,7 @@ setup_in fields = record {
   hosts = fields.hosts;
   links = fields.links;
   network = fields.network;
+  profiles = fields.profiles.profiles;
   homes = map point_number fields.homes.items;
   mutexes = fields.mutexes;
   semaphores = fields.semaphores.items;
@@ -40,6 +44,7 @@ setup_in fields = record {
 abbrev pub core_of : Fields → Core
 core_of fields = record {
   under = fields.doing.under;
+  turns = fields.profiles.turns;
   actors = fields.states.actors;
   whose = fields.whose.whose;
   requests = fields.requests.queues;
@@ -88,9 +93,35 @@ pub record HasRoom (room : ℕ) (fields : Fields) : Type 0 where
   pub mailboxes : room ≤ fields.boxes.room
   pub requests : room ≤ fields.requests.room
 
--- the first event moves no date
+-- how late it may be after so many events: the first moves the date by the gap between two entries at most, and any other by the longest wait
+abbrev pub latest : ℕ → ℕ
+latest events = min events 1 * (2 * 10 ^ 18) + (events - 1) * 10 ^ 24
+
 abbrev pub IsDated : Fields → Type 0
-IsDated fields = fields.doing.under.date ≤ (fields.events - 1) * 10 ^ 24
+IsDated fields = fields.doing.under.date ≤ latest fields.events
+
+-- ---- profiles
+-- Their hosts and links exist, and no entry is overdue or further ahead than from one entry to the next.
+pub record IsTimetable (hosts links date : ℕ) (table : Timetable) : Type 0 where
+  pub profiles : AreProfiles hosts links table.profiles
+  pub ahead : IsAhead date table.profiles table.turns
+
+abbrev pub IsTimely : Fields → Type 0
+IsTimely fields = IsTimetable fields.hosts fields.links fields.doing.under.date fields.profiles
+
+-- the rows whose next entry is of the date
+abbrev pub rows_now : Fields → List ℕ
+rows_now fields = rows_at fields.doing.under.date fields.profiles.profiles fields.profiles.turns
+
+-- the row of the next entry
+abbrev pub row_next : Fields → ℕ
+row_next fields = next_row fields.profiles.profiles fields.profiles.turns
+
+-- the host of an actor, which is on
+pub record IsHome (fields : Fields) (actor : ℕ) (host : PointId) : Type 0 where
+  pub is : host.0 ≡ host_of (setup_in fields) actor
+  pub exists : host.0 < length fields.doing.under.capacities.hosts
+  pub on : is_off fields.doing.under.on.hosts host.0 ≡ false
 
 -- ---- what keeps to its limits
 pub record IsSide (extent : Extent) (side : Side) : Type 0 where
@@ -121,15 +152,22 @@ is_posted (Alone actor) = false
 is_posted (Posted mailbox sends side) = true
 is_posted (Pair sender receiver) = false
 
+-- whether nothing of such an activity is under way
+abbrev pub is_idle : Whose → Bool
+is_idle (Over before) = true
+is_idle (Alone actor) = false
+is_idle (Posted mailbox sends side) = true
+is_idle (Pair sender receiver) = false
+
 -- an activity of this serial was made
 pub record IsMade (made : ℕ) (on : Await) : Type 0 where
   pub from : 0 < on.serial.0
   pub to : on.serial.0 ≤ made
 
--- In the mailboxes stand those communications of which one side is there; nothing of them is under way. Requests are for communications that were made.
+-- In the mailboxes stand those communications of which one side is there. Nothing of them is under way, nor of what is over. Requests are for communications that were made.
 pub record AreMeeting (fields : Fields) : Type 0 where
   pub posts : (mailbox : BoxId) → waiting fields.boxes mailbox ≡ posts_from mailbox 1 fields.whose.whose
-  pub idle : (place : ℕ) → IsTrue (is_posted (slice_index_or fields.whose.whose place (Over how.Done))) → slice_index_or fields.doing.under.tasks place None ≡ None
+  pub idle : (place : ℕ) → IsTrue (is_idle (slice_index_or fields.whose.whose place (Over how.Done))) → slice_index_or fields.doing.under.tasks place None ≡ None
   pub asked : All (λ (queue : List Await). All (IsMade (length fields.whose.whose)) queue) fields.requests.queues
 
 -- ---- mutexes, semaphores and the barrier

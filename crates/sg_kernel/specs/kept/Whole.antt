@@ -2,13 +2,15 @@
 use Rattle.std.specs.Prelude.{◌≡◌, ◌≢◌, ℕ, ◌<◌, ◌^◌, true, false}
 use Rattle.sg_states.specs.States.{CanCall}
 use Rattle.sg_kernel.specs.declared.fields.Fields.{Fields}
-use Rattle.sg_kernel.specs.kept.Sound.{IsSound, HasRoom, IsDated, AreLimited, AreMeeting, AreHeld}
+use Rattle.sg_kernel.specs.kept.Waking.{LeavesCallers}
+use Rattle.sg_kernel.specs.kept.Sound.{IsSound, HasRoom, IsDated, IsTimely, AreLimited, AreMeeting, AreHeld}
 
 -- between any two calls, with room for what so many calls begin
 pub record IsWholeFor (room : ℕ) (fields : Fields) : Type 0 where
   pub sound : IsSound fields
   pub roomy : HasRoom room fields
   pub dated : IsDated fields
+  pub timely : IsTimely fields
   pub limited : AreLimited fields
   pub meeting : AreMeeting fields
   pub held : AreHeld fields
@@ -28,6 +30,7 @@ pub record IsSteady (fields : Fields) : Type 0 where
   pub sound : IsSound fields
   pub roomy : HasRoom fields.states.room fields
   pub dated : IsDated fields
+  pub timely : IsTimely fields
   pub limited : AreLimited fields
   pub meeting : AreMeeting fields
   pub round : fields.states.passing ≡ false
@@ -36,8 +39,18 @@ pub record IsSteady (fields : Fields) : Type 0 where
 pub record IsPassing (fields : Fields) : Type 0 where
   pub sound : IsSound fields
   pub roomy : HasRoom fields.states.room fields
+  pub timely : IsTimely fields
   pub limited : AreLimited fields
   pub meeting : AreMeeting fields
   pub held : AreHeld fields
   pub passing : fields.states.passing ≡ true
   pub small : fields.doing.under.date < 10 ^ 33
+
+-- an actor that waited may be answered: all that holds before holds after
+pub record KeepsWhole (old new : Fields) : Type 0 where
+  pub passing : IsPassing old → IsPassing new
+  pub whole : (room : ℕ) → IsWholeFor room old → IsWholeFor room new
+  pub sound : IsSound new
+  pub callers : LeavesCallers old.states new.states
+  pub room : new.states.room ≡ old.states.room
+  pub rest : new ≡ record old { states = new.states }

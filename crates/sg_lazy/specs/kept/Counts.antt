@@ -11,6 +11,6 @@ AreBothWays flows users = (flow resource : ℕ) → times flow (users resource) 
 abbrev pub CountsTwice : Type 0
 CountsTwice = (flows users : ℕ → List ℕ) (touched reached : List ℕ) → AreBothWays flows users → AllPairs (λ a b. a ≢ b) reached → Covers users reached touched → lengths users reached ≤ lengths flows touched
 
--- Looks that suffice for a settling: two for each use of an ended flow, and for the running touched flows three at each use, to reach it and to begin, and three a step, with no more steps than touched flows.
+-- Looks that suffice for a settling: one for each use of an ended flow, and for the running touched flows one to find it, three at each use, to reach it and to begin, and three a step, with no more steps than touched flows.
 abbrev pub WorkSuffices : Type 0
-WorkSuffices = (m ended_uses running_uses : ℕ) → 2 * ended_uses + (3 * running_uses + m * (3 * running_uses)) ≤ 4 * (m + 1) * (m + (ended_uses + running_uses))
+WorkSuffices = (m ended_uses running_uses : ℕ) → ended_uses + (m + 3 * running_uses + m * (3 * running_uses)) ≤ 4 * (m + 1) * (m + (ended_uses + running_uses))

@@ -4,7 +4,7 @@ use Rattle.sg_base.specs.MarkSet.{MarkSet, is_in}
 use Rattle.sg_maxmin.specs.Fill.{Flow, flow, share_of}
 use Rattle.sg_maxmin.specs.Sharing.{Sharing, IsSound, flow_at, uses_at}
 use Rattle.sg_lazy.specs.declared.filling.Filling.{Filling}
-use Rattle.sg_lazy.specs.declared.settle.Found.{Found}
+use Rattle.sg_lazy.specs.declared.component.Component.{Component}
 use Rattle.sg_lazy.specs.declared.settle.Pending.{Pending}
 use Rattle.sg_lazy.specs.declared.settle.Rated.{Rated}
 use Rattle.sg_lazy.specs.RunningFlow.{RunningFlow, flows_in}
@@ -18,11 +18,11 @@ listed zero f = []
 listed (suc n) f = f 0 ∷ listed n (λ i. f (suc i))
 
 -- what runs under a number: a flow that is held, and didn't end
-abbrev pub running_of : List (Option Flow) → List ℕ → List ℕ → List ℕ → ℕ → Option RunningFlow
-running_of slots rates began ended id = if is_in id ended then None else option_map (λ held. record { flow = held; rate = slice_index rates id; began = is_in id began }) (flow_at slots id)
+abbrev pub running_of : List (Option Flow) → List ℕ → List ℕ → List ℕ → List ℕ → ℕ → Option RunningFlow
+running_of slots rates began marked ended id = if is_in id ended then None else option_map (λ held. record { flow = held; rate = slice_index rates id; began = is_in id began; marked = is_in id marked }) (flow_at slots id)
 
-abbrev pub running_in : List (Option Flow) → List ℕ → List ℕ → List ℕ → List (Option RunningFlow)
-running_in slots rates began ended = listed (length slots) (running_of slots rates began ended)
+abbrev pub running_in : List (Option Flow) → List ℕ → List ℕ → List ℕ → List ℕ → List (Option RunningFlow)
+running_in slots rates began marked ended = listed (length slots) (running_of slots rates began marked ended)
 
 abbrev pub flow_or_none : Option Flow → Flow
 flow_or_none None = flow [] 1 None
@@ -32,22 +32,24 @@ abbrev pub ended_in : List (Option Flow) → List ℕ → List Flow
 ended_in slots ended = map (λ id. flow_or_none (flow_at slots id)) ended
 
 -- there is room for all flows, and for all resources
-pub record HasRoom (s : Sharing) (pending : Pending) (found : Found) (filling : Filling) (rated : Rated) : Type 0 where
+pub record HasRoom (s : Sharing) (pending : Pending) (component : Component) (filling : Filling) (rated : Rated) : Type 0 where
   pub began : length s.slots ≤ pending.began.room
+  pub marked : length s.slots ≤ pending.marked.room
   pub ended : length s.slots ≤ pending.ended.room
-  pub freed : found.freed.room ≡ length s.capacities
-  pub touched : length s.slots ≤ found.component.touched.room
-  pub reached : found.component.reached.room ≡ length s.capacities
+  pub resources : pending.resources.room ≡ length s.capacities
+  pub touched : length s.slots ≤ component.touched.room
+  pub reached : component.reached.room ≡ length s.capacities
   pub places : HasPlaces s filling
   pub rates : length s.slots ≤ length rated.rates.items
   pub changed : length s.slots ≤ rated.changed.room
 
 -- all that a `Lazy` keeps
-pub record IsLazy (s : Sharing) (rates began ended : List ℕ) : Type 0 where
+pub record IsLazy (s : Sharing) (rates began marked ended resources : List ℕ) : Type 0 where
   pub sound : IsSound s
   pub ended_are : (id : ℕ) → is_in id ended ≡ true → IsSome (flow_at s.slots id)
-  pub began_are : (id : ℕ) → is_in id began ≡ true → IsSome (flow_at s.slots id)
-  pub kept : AreKept s.capacities (running_in s.slots rates began ended) (ended_in s.slots ended)
+  pub marked_are : (id : ℕ) → is_in id marked ≡ true → IsSome (flow_at s.slots id)
+  pub began_are : (id : ℕ) → is_in id began ≡ true → is_in id marked ≡ true
+  pub kept : AreKept s.capacities (running_in s.slots rates began marked ended) (ended_in s.slots ended) resources
 
 -- the system without the flows that ended
 pub record IsWithout (old new : Sharing) (ended : List ℕ) : Type 0 where
@@ -58,13 +60,21 @@ pub record IsWithout (old new : Sharing) (ended : List ℕ) : Type 0 where
   pub use_room : new.use_room ≡ old.use_room + lengths (uses_at old.slots) ended
 
 -- the rates are those of the filling of all that runs, and those that changed are noted
-pub record IsRefilled (old new : Sharing) (began ended rates rates' changed : List ℕ) : Type 0 where
+pub record IsRefilled (old new : Sharing) (began marked ended rates rates' changed : List ℕ) : Type 0 where
   pub without : IsWithout old new ended
   pub sound : IsSound new
-  pub rates_are : (id : ℕ) (flow : Flow) → flow_at new.slots id ≡ Some flow → slice_index rates' id ≡ share_of old.capacities (flows_in (running_in old.slots rates began ended)) flow
+  pub rates_are : (id : ℕ) (flow : Flow) → flow_at new.slots id ≡ Some flow → slice_index rates' id ≡ share_of old.capacities (flows_in (running_in old.slots rates began marked ended)) flow
   pub changed_are : (id : ℕ) (flow : Flow) → flow_at new.slots id ≡ Some flow → is_in id changed ≡ (is_in id began || not (slice_index rates id == slice_index rates' id))
   pub unchanged : (id : ℕ) → flow_at new.slots id ≡ None → is_in id changed ≡ false
   pub once : AllPairs (λ a b. a ≢ b) changed
+
+-- the sets of flows have room for so many numbers
+pub record HaveRoom (n : ℕ) (pending : Pending) (touched changed : MarkSet) : Type 0 where
+  pub began : n ≤ pending.began.room
+  pub marked : n ≤ pending.marked.room
+  pub ended : n ≤ pending.ended.room
+  pub flows : n ≤ touched.room
+  pub rates : n ≤ changed.room
 
 -- the same numbers, and no less room
 pub record GrowsRoom (old new : MarkSet) : Type 0 where

@@ -22,9 +22,9 @@ pub record IsFilled (s : Sharing) (component : Component) (filling : Filling) : 
   pub places : HasPlaces s filling
   pub shares : (id : ℕ) → is_in id component.touched.members ≡ true → HasShare s component.touched.members filling id
 
--- looks that suffice for the touched flows: three at each use, and three a step, with no more steps than touched flows
+-- looks that suffice for the touched flows: one to find each, three at each use, and three a step, with no more steps than touched flows
 abbrev pub fill_looks : Sharing → Component → ℕ
-fill_looks s component = 3 * touched_uses s component + length component.touched.members * (3 * touched_uses s component)
+fill_looks s component = length component.touched.members + 3 * touched_uses s component + length component.touched.members * (3 * touched_uses s component)
 
 -- more is touched and reached, by so many looks
 pub record FillsOn (s : Sharing) (old new : Component) (before after : ℕ) : Type 0 where

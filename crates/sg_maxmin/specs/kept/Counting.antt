@@ -1,11 +1,11 @@
 -- What one pass over the rows counts.
-use Rattle.std.specs.Prelude.{◌≡◌, ℕ, ◌-◌, ◌*◌, ◌/◌, ◌<◌, ◌≤◌, ◌==◌, ◌&&◌, ◌⊎◌, Option, None, Some, is_none, if◌then◌else◌, List, [], ◌++◌, map, filter, filter_map, flat_map, length, slice_index, slice_index_or, sum_by, count_by, unwrap_or, option_to_list, option_map, Contains, min}
+use Rattle.std.specs.Prelude.{◌≡◌, ℕ, ◌-◌, ◌*◌, ◌/◌, ◌<◌, ◌≤◌, ◌&&◌, ◌⊎◌, Option, None, Some, is_none, if◌then◌else◌, List, [], ◌++◌, map, filter, filter_map, flat_map, length, slice_index, slice_index_or, sum_by, option_to_list, option_map, Contains, min}
 use Rattle.sg_maxmin.specs.declared.flow_row.FlowRow.{FlowRow}
 use Rattle.sg_chains.specs.declared.uses.Use.{Use}
 use Rattle.sg_chains.specs.Chain.{resources}
 use Rattle.sg_maxmin.specs.Fill.{Fixed, is_on, bounded, bound_level, level_of}
 use Rattle.sg_maxmin.specs.Sharing.{held}
-use Rattle.sg_maxmin.specs.kept.Uses.{AreRows, flow_of, flows_of}
+use Rattle.sg_maxmin.specs.kept.Uses.{AreRows, flow_of, flows_of, share_by_level}
 
 -- the rows that are there
 abbrev pub rows_held : List (Option FlowRow) → List FlowRow
@@ -78,18 +78,30 @@ RowSteps low limits (Some row) after = (level : Option ℕ) × (after ≡ Some (
 abbrev pub with_level : Option ℕ → FlowRow → FlowRow
 with_level level row = record row { level = level }
 
+-- the row, with the share of its level
+abbrev pub with_share : FlowRow → FlowRow
+with_share row = record row { share = share_by_level row }
+
+-- the row without what `solve` gives it
+abbrev pub without_share : FlowRow → FlowRow
+without_share row = record row { level = None; share = 0 }
+
 -- the limits of a row that isn't fixed
 abbrev pub unfixed_limits : (FlowRow → List ℕ) → Option FlowRow → List ℕ
 unfixed_limits limits None = []
 unfixed_limits limits (Some row) = if is_none row.level then limits row else []
 
--- the same rows, but for their levels
+-- the same rows, but for their levels and shares
 abbrev pub SameRows : List (Option FlowRow) → List (Option FlowRow) → Type 0
-SameRows old new = (key : ℕ) → option_map (with_level None) (slice_index_or new key None) ≡ option_map (with_level None) (slice_index_or old key None)
+SameRows old new = (key : ℕ) → option_map without_share (slice_index_or new key None) ≡ option_map without_share (slice_index_or old key None)
 
 -- each row is fixed at the level of its flow among the flows of all rows
 abbrev pub AreRowLevels : List ℕ → List (Option Use) → List (Option FlowRow) → Type 0
 AreRowLevels capacities uses rows = (key : ℕ) (row : FlowRow) → slice_index_or rows key None ≡ Some row → row.level ≡ Some (level_of capacities (held (flows_of rows uses)) (flow_of uses row))
+
+-- each row has the share of its level
+abbrev pub AreRowShares : List (Option FlowRow) → Type 0
+AreRowShares rows = (key : ℕ) (row : FlowRow) → slice_index_or rows key None ≡ Some row → row.share ≡ share_by_level row
 
 -- where filling stands after so many steps: each row is as fixed as its flow
 abbrev pub AreFixed : List (Option Use) → List (Option FlowRow) → Fixed → Type 0

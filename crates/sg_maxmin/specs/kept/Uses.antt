@@ -1,5 +1,5 @@
 -- How a `System` keeps its flows: each has a chain of uses.
-use Rattle.std.specs.Prelude.{◌≡◌, ℕ, ◌-◌, ◌*◌, ◌^◌, ◌<◌, min, IfSome, Option, None, Some, List, [], ◌∷◌, length, map, slice_index_or, unwrap_or, option_map}
+use Rattle.std.specs.Prelude.{◌≡◌, ℕ, ◌-◌, ◌*◌, ◌^◌, ◌<◌, min, IfSome, Option, None, Some, List, ◌∷◌, length, map, slice_index_or, unwrap_or, option_map}
 use Rattle.sg_chains.specs.declared.uses.Use.{Use}
 use Rattle.sg_chains.specs.Chain.{IsChain, resources}
 use Rattle.sg_chains.specs.Chained.{Chained}
@@ -15,10 +15,14 @@ row_uses uses row = resources row.count uses row.first
 unfoldable pub flow_of : List (Option Use) → FlowRow → Flow
 flow_of uses row = flow (row_uses uses row) row.weight row.bound
 
--- the share of a row, once it is fixed, as far as 64 bits go
+-- the share that the row's level gives it, as far as 64 bits go; none while it isn't fixed
+abbrev pub share_by_level : FlowRow → ℕ
+share_by_level row = min (2 ^ 64 - 1) (bounded row.bound (row.weight * unwrap_or row.level 0))
+
+-- the share that the row has
 abbrev pub share_in : Option FlowRow → ℕ
 share_in None = 0
-share_in (Some row) = min (2 ^ 64 - 1) (bounded row.bound (row.weight * unwrap_or row.level 0))
+share_in (Some row) = row.share
 
 abbrev pub flows_of : List (Option FlowRow) → List (Option Use) → List (Option Flow)
 flows_of rows uses = map (option_map (flow_of uses)) rows

@@ -1,8 +1,13 @@
 -- What the code has collected of the names of a tree.
 use Rattle.std.specs.HashMap.{get_by, get_by_text}
 use Rattle.sg_rules.specs.Names.{Known}
+use Rattle.sg_rules.specs.Profiles.{Subjects}
 use Rattle.sg_rules.specs.declared.names.Names.{Names}
+use Rattle.sg_rules.specs.declared.profiles.Subjects.{Subjects as SubjectMaps}
 use Rattle.sg_tree.specs.Names.{pair_eq}
+
+abbrev pub subjects_view : SubjectMaps → Subjects
+subjects_view maps = record { hosts = λ q. get_by_text maps.hosts q; links = λ q. get_by_text maps.links q }
 
 -- what the code has collected
 abbrev pub names_view : Names → Known
@@ -15,6 +20,8 @@ names_view names = record {
   pairs = λ q. get_by (pair_eq q) names.pairs;
   zone_pairs = λ q. get_by (pair_eq q) names.zone_pairs;
   children = λ q. get_by_text names.children q;
+  profiles = subjects_view names.profiles;
+  state_profiles = subjects_view names.state_profiles;
   actors = λ q. get_by_text names.actors q;
   workers = λ q. get_by_text names.workers q;
   mutexes = λ q. get_by_text names.mutexes q;

@@ -1,4 +1,4 @@
-use Rattle.std.proofs.Common.{◌≡◌, ◌+◌, ◌-◌, ◌*◌, ◌<◌, ◌≤◌, ℕ, All, true, false, None, Some, Option, option_map, List, [], ◌∷◌, ◌++◌, length, length-set, get_or, set, sum_by, sym, ap, ap₂, subst, ◌∙◌, refl, arith}
+use Rattle.std.proofs.Common.{◌≡◌, ◌*◌, ◌<◌, ℕ, All, true, false, None, Some, List, [], ◌∷◌, ◌++◌, length, length-set, get_or, set, sum_by, sym, ap, ap₂, subst, ◌∙◌, refl, arith}
 use Rattle.std.proofs.lemmas.List.{get_or_default}
 use Rattle.sg_base.specs.declared.ids.LinkId.{LinkId}
 use Rattle.sg_base.specs.MarkSet.{MarkSet}
@@ -11,8 +11,9 @@ use Rattle.sg_activity.specs.declared.kinds.PhaseKind.TheVariants as phase
 use Rattle.sg_activity.specs.declared.lives.Live.{Live}
 use Rattle.sg_activity.specs.Links.{capacities_of, route_bound, shared_of}
 use Rattle.sg_activity.specs.Slots.{sooner}
-use Rattle.sg_activity.specs.kept.State.{State, state_of, links_at, under_of}
-use Rattle.sg_activity.specs.kept.Sound.{IsKept, IsSound, IsWay, flows_ahead, slot_ahead}
+use Rattle.sg_activity.specs.kept.State.{State, state_of, links_at, place_of, under_of}
+use Rattle.sg_activity.specs.kept.Sound.{IsKept, IsPath, IsPlace, IsSound, IsWay, slot_ahead}
+use Rattle.sg_activity.specs.Task.{flows_ahead}
 use Rattle.sg_activity.specs.kept.Turns.{Turns}
 use Rattle.sg_activity.proofs.Pairing.{there_within}
 use Rattle.sg_activity.proofs.Roomy.{ahead_set, ahead_counted}
@@ -20,11 +21,22 @@ use Rattle.sg_activity.proofs.Routed.{way_is_flow}
 use Rattle.sg_activity.proofs.Told.{new_mark}
 use Rattle.sg_activity.proofs.Turned.{turned}
 use Rattle.sg_activity.proofs.Turning.{begun_state, state_same, flow_turns, flow_begins, flow_under}
+use Rattle.std.proofs.Common.{inl, inr}
+use Rattle.sg_activity.specs.kept.Index.{used_by}
+use Rattle.sg_activity.specs.kept.Hits.{hit_in}
+use Rattle.sg_activity.proofs.Hitting.{hits_still, hit_on}
+use Rattle.sg_activity.proofs.Indexing.{used_still, used_on}
+use Rattle.sg_activity.proofs.Listing.{eq_cases}
+use Rattle.sg_activity.proofs.Starts.{set_here, set_there}
 use Rattle.sg_activity.proofs.phases.begin_flow.Goals as goal
 
--- the way of a latency
+-- the way of a latency, and its ends
+path_of : (kept : Kept) (key : ℕ) (live : Live) → IsSound kept → get_or kept.lives.slots key None ≡ Some live → live.kind ≡ phase.Latency → IsPath (state_of kept).capacities (record { links = links_at kept.ways.items key; sender = live.host; receiver = live.peer })
+path_of kept key live sound at latency =
+    subst (λ k. IsPlace (state_of kept).capacities (place_of k live.host live.peer (links_at kept.ways.items key))) latency (sound.are.each key live at).placed
+
 way_of : (kept : Kept) (key : ℕ) (live : Live) → IsSound kept → get_or kept.lives.slots key None ≡ Some live → live.kind ≡ phase.Latency → IsWay (state_of kept).capacities (links_at kept.ways.items key)
-way_of kept key live sound at latency = (sound.are.each key live at).over latency
+way_of kept key live sound at latency = (path_of kept key live sound at latency).links
 
 -- what is read is what stands there
 read : (kept : Kept) (key : ℕ) (live : Live) (links : List LinkId) → IsSound kept → get_or kept.lives.slots key None ≡ Some live → links ≡ get_or kept.ways.items key links → links ≡ links_at kept.ways.items key
@@ -73,8 +85,8 @@ overflow_mul-from c =
     let small = (c.requires.sound.are.each c.args.key c.args.live c.requires.at).few_bytes in
     omega (arith, c.from.ensures, small)
 
-pub returns : goal.returns
-returns c =
+pub returns-clause-ends : goal.returns-clause-ends
+returns-clause-ends c =
     let kept = c.args.kept.now in
     let s : State = state_of kept in
     let sound = c.requires.sound in
@@ -90,19 +102,19 @@ returns c =
     let bound : c.tighter-bound.result ≡ sooner (route_bound kept.links.items links) c.args.live.bound = c.tighter-bound.ensures ∙ ap (λ b. sooner b c.args.live.bound) (c.bound_of.ensures ∙ ap₂ route_bound c.deref-2.ensures.value route) in
     let weighs = (sound.are.each key old c.requires.at).weighs in
     let asked : Flow = flow (shared_of (length kept.hosts.items) kept.links.items links) old.weight (sooner (route_bound kept.links.items links) old.bound) in
-    let run : RunningFlow = record { flow = asked; rate = 0; began = true } in
+    let run : RunningFlow = record { flow = asked; rate = 0; began = true; marked = true } in
     let live : Live = record old { kind = phase.Flow; kept = old.bytes * 1000000000; stamp = kept.date; rate = 0; flow = id } in
     let within = there_within s.slots key old c.requires.at in
     let keys_in : key < length s.keys = omega (arith, within, sound.room.agenda_long) in
     let by_in : id < length s.by_flow = omega (arith, c.start-flow.ensures.in_range, sound.room.by_flow_long) in
     let starts = c.start-flow.ensures.starts in
-    let runs : c.start-flow.new.self.slots ≡ set s.runs id (Some run) = ap (λ (l : Lazily). l.slots) starts ∙ ap₂ (λ u b. set s.runs id (Some (record { flow = flow u old.weight b; rate = 0; began = true }))) uses bound in
+    let runs : c.start-flow.new.self.slots ≡ set s.runs id (Some run) = ap (λ (l : Lazily). l.slots) starts ∙ ap₂ (λ u b. set s.runs id (Some (record { flow = flow u old.weight b; rate = 0; began = true; marked = true }))) uses bound in
     let lives : c.set.new.self.slots ≡ set s.slots key (Some live) = c.set.ensures.slots ∙ ap (λ n. set s.slots key (Some (record old { kind = phase.Flow; kept = n * 1000000000; stamp = kept.date; rate = 0; flow = id }))) c.from.ensures in
     let new : State = begun_state s s.drawn key live s.ways (set s.keys key None) (set s.runs id (Some run)) (set s.by_flow id key) in
     let turns : Turns s new key live.serial (Some live) =
-    flow_turns s s.drawn key live (set s.keys key None) sound.are (flow_begins s key old live sound.are c.requires.at c.requires.kind within keys_in refl refl refl refl refl) refl refl c.start-flow.ensures.free c.start-flow.ensures.in_range by_in (way_is_flow s.capacities links old.weight old.bound way weighs).limit in
-    let state_is = state_same s s.drawn false c.set.new.self.slots (set s.slots key (Some live)) s.ways s.ways c.clear.new.self (set s.keys key None) c.start-flow.new.self.slots (set s.runs id (Some run)) (set s.by_flow id key) (set s.by_flow id key) c.insert.new.self.members (s.fresh ++ key ∷ []) c.start-flow.new.self.ended s.ended
-    lives refl c.clear.ensures runs refl (ap (λ (m : MarkSet). m.members) c.insert.ensures ∙ new_mark key s.fresh c.requires.stale) (ap (λ (l : Lazily). l.ended) starts) in
+    flow_turns s s.drawn key live (set s.keys key None) sound.are (flow_begins s key old live sound.are c.requires.at c.requires.kind within keys_in refl refl refl refl refl) refl refl c.start-flow.ensures.free c.start-flow.ensures.in_range by_in (way_is_flow s.capacities links old.weight old.bound way weighs).limit (path_of kept key old sound c.requires.at c.requires.kind) in
+    let state_is = state_same s s.drawn false c.set.new.self.slots (set s.slots key (Some live)) s.ways s.ways c.clear.new.self (set s.keys key None) c.start-flow.new.self.slots (set s.runs id (Some run)) (set s.by_flow id key) (set s.by_flow id key) c.insert.new.self.members (s.fresh ++ key ∷ []) c.start-flow.new.self.ended s.ended c.start-flow.new.self.resources s.resources
+    lives refl c.clear.ensures runs refl (ap (λ (m : MarkSet). m.members) c.insert.ensures ∙ new_mark key s.fresh c.requires.stale) (ap (λ (l : Lazily). l.ended) starts) (ap (λ (l : Lazily). l.resources) starts) in
     let counted = ahead_counted s.slots key old within c.requires.at in
     record {
       slot = Some live;
@@ -127,3 +139,37 @@ returns c =
       };
       room = refl;
     }
+
+pub returns-clause-used : goal.returns-clause-used
+returns-clause-used c index is =
+    let kept = c.args.kept.now in
+    let s : State = state_of kept in
+    let key = c.args.key in
+    let old = c.args.live in
+    let live : Live = record old { kind = phase.Flow; kept = c.from.result * 1000000000; stamp = kept.date; rate = 0; flow = c.start-flow.result } in
+    let within = there_within s.slots key old c.requires.at in
+    used_still s.capacities s.slots s.ways kept.room index is c.set.new.self.slots s.ways kept.room
+    (λ k. ap (λ l. used_by (length s.capacities.hosts) (length s.capacities.links) (links_at s.ways k) (get_or l k None)) c.set.ensures.slots ∙ elim (eq_cases k key) [
+      | inl e ↦ ap (λ n. used_by (length s.capacities.hosts) (length s.capacities.links) (links_at s.ways k) (get_or (set s.slots key (Some live)) n None)) e ∙ ap (used_by (length s.capacities.hosts) (length s.capacities.links) (links_at s.ways k)) (set_here s.slots key (Some live) within)
+          ∙ used_on (length s.capacities.hosts) (length s.capacities.links) (links_at s.ways k) old live c.requires.kind refl refl
+          ∙ sym (ap (λ n. used_by (length s.capacities.hosts) (length s.capacities.links) (links_at s.ways k) (get_or s.slots n None)) e ∙ ap (used_by (length s.capacities.hosts) (length s.capacities.links) (links_at s.ways k)) c.requires.at)
+      | inr ne ↦ ap (used_by (length s.capacities.hosts) (length s.capacities.links) (links_at s.ways k)) (set_there s.slots key k (Some live) ne)
+    ])
+    (ap length c.set.ensures.slots ∙ length-set s.slots key (Some live)) (omega arith)
+
+pub returns-clause-hit : goal.returns-clause-hit
+returns-clause-hit c hits is =
+    let kept = c.args.kept.now in
+    let s : State = state_of kept in
+    let key = c.args.key in
+    let old = c.args.live in
+    let live : Live = record old { kind = phase.Flow; kept = c.from.result * 1000000000; stamp = kept.date; rate = 0; flow = c.start-flow.result } in
+    let within = there_within s.slots key old c.requires.at in
+    hits_still s.on s.slots s.ways hits is c.set.new.self.slots s.ways
+    (λ k. ap (λ l. hit_in s.on (links_at s.ways k) (get_or l k None)) c.set.ensures.slots ∙ elim (eq_cases k key) [
+      | inl e ↦ ap (λ n. hit_in s.on (links_at s.ways k) (get_or (set s.slots key (Some live)) n None)) e ∙ ap (hit_in s.on (links_at s.ways k)) (set_here s.slots key (Some live) within)
+          ∙ hit_on s.on (links_at s.ways k) old live c.requires.kind refl refl
+          ∙ sym (ap (λ n. hit_in s.on (links_at s.ways k) (get_or s.slots n None)) e ∙ ap (hit_in s.on (links_at s.ways k)) c.requires.at)
+      | inr ne ↦ ap (hit_in s.on (links_at s.ways k)) (set_there s.slots key k (Some live) ne)
+    ])
+    (ap length c.set.ensures.slots ∙ length-set s.slots key (Some live))

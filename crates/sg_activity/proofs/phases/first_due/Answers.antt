@@ -1,7 +1,7 @@
-use Rattle.std.proofs.Common.{◌≡◌, sym, ap, subst, ◌∙◌}
+use Rattle.std.proofs.Common.{sym, ◌∙◌}
 use Rattle.sg_heap.specs.Agenda.{key}
 use Rattle.sg_activity.specs.kept.State.{State, state_of}
-use Rattle.sg_activity.proofs.Due.{first_is, idle_later, idle_none}
+use Rattle.sg_activity.proofs.Due.{first_is, idle_later}
 use Rattle.sg_activity.proofs.phases.first_due.Goals as goal
 
 pub returns-in-Some-get : goal.returns-in-Some-get

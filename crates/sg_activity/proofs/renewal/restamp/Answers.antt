@@ -1,4 +1,4 @@
-use Rattle.std.proofs.Common.{◌≡◌, ◌+◌, ◌<◌, ◌≤◌, ◌||◌, true, ℕ, Option, None, Some, IsSome, option_map, length, length-set, get_or, set, take, subst, sym, List, ap, ap₂, ◌∙◌, refl, arith}
+use Rattle.std.proofs.Common.{◌≡◌, ◌+◌, ◌<◌, ◌≤◌, ◌||◌, true, ℕ, Option, None, Some, IsSome, option_map, length, length-set, get_or, set, take, subst, sym, List, ap, ap₂, ◌∙◌}
 use Rattle.std.proofs.lemmas.List.{take_all}
 use Rattle.std.specs.Option.{IfSome}
 use Rattle.sg_base.specs.MarkSet.{MarkSet, is_in, with_mark}

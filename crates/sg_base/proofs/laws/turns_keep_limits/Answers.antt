@@ -44,6 +44,7 @@ replay_call extent n answer.NoMore shaped h = tt
 replay_call extent n answer.Done shaped h = tt
 replay_call extent n (answer.Got m) shaped h = tt
 replay_call extent n answer.Refused shaped h = tt
+replay_call extent n answer.Failed shaped h = tt
 
 worker_call : (extent : Extent) (n : List ℕ) (a : Answer) → IsShaped extent worker n → IsAnswer extent a → IsCall extent (worker_turn n a).call
 worker_call extent n answer.Start (one, actors) h = only extent n one actors
@@ -52,6 +53,7 @@ worker_call extent n answer.NoMore (one, actors) h = only extent n one actors
 worker_call extent n answer.Done (one, actors) h = only extent n one actors
 worker_call extent n (answer.Got m) shaped h = got_call extent n m shaped h
 worker_call extent n answer.Refused (one, actors) h = only extent n one actors
+worker_call extent n answer.Failed (one, actors) h = only extent n one actors
 
 master_call : (extent : Extent) (n : List ℕ) → IsShaped extent master n → IsCall extent (master_turn n).call
 master_call extent n h = grind (arith, common_steps)

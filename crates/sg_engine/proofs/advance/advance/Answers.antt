@@ -1,5 +1,4 @@
-use Rattle.std.proofs.Common.{◌≡◌, ◌≤◌, ◌+◌, ◌∙◌, sym, ap, arith, refl, subst, ℕ, List, length, Ok, Option}
-use Rattle.std.proofs.lemmas.List.{length-map}
+use Rattle.std.proofs.Common.{◌≡◌, ◌≤◌, ◌+◌, ◌∙◌, sym, ap, arith, refl, rules, subst, ℕ, List, length, Ok, Option}
 use Rattle.sg_base.specs.declared.trace_record.Record.{Record}
 use Rattle.sg_edge.specs.declared.files.Part.TheVariants.{Script}
 use Rattle.sg_edge.specs.declared.sinks.Stream.TheVariants.{Out}
@@ -13,7 +12,7 @@ use Rattle.sg_engine.specs.Output.{trace_of}
 use Rattle.sg_engine.specs.kept.Moments.{moment, script_part}
 use Rattle.sg_engine.specs.kept.Writing.{Adds, AddsFront, pending}
 use Rattle.sg_engine.specs.Run.{next_work, scene, round_or_pass}
-use Rattle.sg_engine.proofs.Parts.{room_for, seats_few}
+use Rattle.sg_engine.proofs.Parts.{room_for}
 use Rattle.sg_engine.proofs.Files.{script_unread}
 use Rattle.sg_engine.proofs.Fronts.{memory_cause, memory_cuts, memory_err}
 use Rattle.sg_engine.proofs.Simulating.{advances, cuts_off_at, kept_on, lacks_room, lacks_scene, part_is, part_kept, part_short, scene_as, short_kept}
@@ -36,7 +35,7 @@ returns-in-Err-clause-part g c = (
   memory_err _ _ _ _ _ c.end_for_memory.ensures,
   λ taken world stands.
       part_short _ _ _ _ c.end_for_memory.result taken _ _ _ c.args.sim.now.buffer c.args.sim.now.buffer c.end_for_memory.new.buffer (g.O.Sinks.contents c.args.out.now) (g.O.Sinks.contents c.end_for_memory.new.out) _
-      (lacks_room _ (scene c.args.router.now c.args.sim.now.kernel.setup c.args.plan.now.script) taken _ _ world c.requires.going.kept.fits.begun stands) refl c.end_for_memory.ensures,
+      (lacks_room _ (scene c.args.router.now c.args.sim.now.kernel.setup c.args.engine.now.plan.script) taken _ _ world c.requires.going.kept.fits.begun stands) refl c.end_for_memory.ensures,
 )
 
 pub returns-in-Err-round_or_pass-clause-part : goal.returns-in-Err-round_or_pass-clause-part
@@ -45,7 +44,7 @@ returns-in-Err-round_or_pass-clause-part g c = (
   λ taken world stands.
       let core = ap (λ (k : Known). k.core) c.in-Ok.ensures.kept in
       part_short _ _ _ _ c.end_for_memory-in-Err-round_or_pass.result taken _ _ _ c.round_or_pass.new.sim.buffer c.args.sim.now.buffer c.end_for_memory-in-Err-round_or_pass.new.buffer (g.O.Sinks.contents c.args.out.now) (g.O.Sinks.contents c.end_for_memory-in-Err-round_or_pass.new.out) _
-      (lacks_scene _ c.args.router.now c.args.plan.now.script c.args.sim.now.kernel.setup c.reserve_round.new.self.setup taken world _ _ (ap (λ (k : Known). k.setup) c.in-Ok.ensures.kept)
+      (lacks_scene _ c.args.router.now c.args.engine.now.plan.script c.args.sim.now.kernel.setup c.reserve_round.new.self.setup taken world _ _ (ap (λ (k : Known). k.setup) c.in-Ok.ensures.kept)
       (c.in-Err-round_or_pass.ensures.step taken world (record { script = stands.script; core = core ∙ stands.core; minds = stands.minds }))) c.round_or_pass.ensures.seats.buffer
       c.end_for_memory-in-Err-round_or_pass.ensures,
 )
@@ -54,13 +53,13 @@ pub returns-in-Err-put_trace-clause-part : goal.returns-in-Err-put_trace-clause-
 returns-in-Err-put_trace-clause-part g c = (
   c.in-Err-put_trace.ensures.err_held,
   λ taken world stands.
-      let names = known_in c.args.plan.now.deployment.now in
-      let trace = trace_of c.args.plan.now.terms.show c.args.plan.now.platform.now c.args.plan.now.deployment.now in
+      let names = known_in c.args.engine.now.plan.deployment.now in
+      let trace = trace_of c.args.engine.now.plan.terms.show c.args.engine.now.plan.platform.now c.args.engine.now.plan.deployment.now in
       let old = c.args.sim.now.kernel in
       let mid = c.reserve_round.new.self in
       let new = c.round_or_pass.new.sim.kernel in
-      let part = script_part c.args.plan.now.script (g.F.Files.shows c.args.files.now Script) in
-      let part' = script_part c.args.plan.now.script (g.F.Files.shows c.round_or_pass.new.files Script) in
+      let part = script_part c.args.engine.now.plan.script (g.F.Files.shows c.args.files.now Script) in
+      let part' = script_part c.args.engine.now.plan.script (g.F.Files.shows c.round_or_pass.new.files Script) in
       let kept = kept_of c.args.sim.now.script in
       let kept' = kept_of c.round_or_pass.new.sim.script in
       let same : mid ≡ record old { room = mid.room } = c.in-Ok.ensures.kept in
@@ -70,8 +69,8 @@ returns-in-Err-put_trace-clause-part g c = (
       let front : AddsFront (trace new.records) before after =
       subst (λ (b : List ℕ). AddsFront (trace new.records) (pending before.held b) after) c.round_or_pass.ensures.seats.buffer
       (subst (λ (l : List Record). AddsFront (trace l) (pending before.held c.round_or_pass.new.sim.buffer) after) c.records.ensures.are c.in-Err-put_trace.ensures.front) in
-      cuts_off_at names trace (λ answers. round_or_pass (scene c.args.router.now old.setup c.args.plan.now.script) answers world) c.in-Ok-round_or_pass.how taken _ part part' kept kept' mid new before after
-      (scene_as names c.args.router.now c.args.plan.now.script old.setup mid.setup c.in-Ok-round_or_pass.how taken _ world (moment part kept mid) (moment part' kept' new) (ap (λ (k : Known). k.setup) same) reached)
+      cuts_off_at names trace (λ answers. round_or_pass (scene c.args.router.now old.setup c.args.engine.now.plan.script) answers world) c.in-Ok-round_or_pass.how taken _ part part' kept kept' mid new before after
+      (scene_as names c.args.router.now c.args.engine.now.plan.script old.setup mid.setup c.in-Ok-round_or_pass.how taken _ world (moment part kept mid) (moment part' kept' new) (ap (λ (k : Known). k.setup) same) reached)
       (ap (λ (k : Known). k.records) same ∙ c.requires.going.kept.cleared) front,
 )
 
@@ -79,15 +78,15 @@ pub returns-clause-part : goal.returns-clause-part
 returns-clause-part g c = (
   c.in-Ok-put_trace.ensures.err_held,
   λ taken world stands.
-      let names = known_in c.args.plan.now.deployment.now in
-      let trace = trace_of c.args.plan.now.terms.show c.args.plan.now.platform.now c.args.plan.now.deployment.now in
+      let names = known_in c.args.engine.now.plan.deployment.now in
+      let trace = trace_of c.args.engine.now.plan.terms.show c.args.engine.now.plan.platform.now c.args.engine.now.plan.deployment.now in
       let how = c.in-Ok-round_or_pass.how in
       let old = c.args.sim.now.kernel in
       let mid = c.reserve_round.new.self in
       let new = c.round_or_pass.new.sim.kernel in
       let new' = c.clear_records.new.self in
-      let part = script_part c.args.plan.now.script (g.F.Files.shows c.args.files.now Script) in
-      let part' = script_part c.args.plan.now.script (g.F.Files.shows c.round_or_pass.new.files Script) in
+      let part = script_part c.args.engine.now.plan.script (g.F.Files.shows c.args.files.now Script) in
+      let part' = script_part c.args.engine.now.plan.script (g.F.Files.shows c.round_or_pass.new.files Script) in
       let kept = kept_of c.args.sim.now.script in
       let kept' = kept_of c.round_or_pass.new.sim.script in
       let same : mid ≡ record old { room = mid.room } = c.in-Ok.ensures.kept in
@@ -98,8 +97,8 @@ returns-clause-part g c = (
       subst (λ (b : List ℕ). Adds (trace new.records) (pending before.held b) after) c.round_or_pass.ensures.seats.buffer
       (subst (λ (l : List Record). Adds (trace l) (pending before.held c.round_or_pass.new.sim.buffer) after) c.records.ensures.are c.in-Ok-put_trace.ensures.written) in
       part_is names trace _ how taken _ _ _ before after c.in-Ok-round_or_pass.ensures.script.uncut
-      (advances names trace (λ answers. round_or_pass (scene c.args.router.now old.setup c.args.plan.now.script) answers world) how taken _ part part' kept kept' old mid new before after
-      (scene_as names c.args.router.now c.args.plan.now.script old.setup mid.setup how taken _ world (moment part kept mid) (moment part' kept' new) (ap (λ (k : Known). k.setup) same) reached)
+      (advances names trace (λ answers. round_or_pass (scene c.args.router.now old.setup c.args.engine.now.plan.script) answers world) how taken _ part part' kept kept' old mid new before after
+      (scene_as names c.args.router.now c.args.engine.now.plan.script old.setup mid.setup how taken _ world (moment part kept mid) (moment part' kept' new) (ap (λ (k : Known). k.setup) same) reached)
       (ap (λ (k : Known). k.records) same ∙ c.requires.going.kept.cleared)
       c.requires.going.kept.cleared
       (ap (λ (k : Known). k.setup) same)
@@ -110,23 +109,25 @@ returns-clause-part g c = (
 )
 
 pub round_or_pass-requires-clause-room : goal.round_or_pass-requires-clause-room
-round_or_pass-requires-clause-room g c κs within = room_for c.reserve_round.new.self c.requires.going.kept c.in-Ok.ensures.kept (seats_few _ c.args.seats.now _ c.in-Ok.ensures.room)
+round_or_pass-requires-clause-room g c κs within =
+    let number : c.len.result ≡ length c.args.sim.now.seats.items = search rules in
+    room_for c.reserve_round.new.self c.requires.going.kept c.in-Ok.ensures.kept (omega (arith, number, c.in-Ok.ensures.room))
 
 pub returns-in-Err-clause-cause : goal.returns-in-Err-clause-cause
 returns-in-Err-clause-cause g c = memory_cause _ _ _ _ _ _ c.end_for_memory.ensures
 
 pub returns-in-Err-clause-kept : goal.returns-in-Err-clause-kept
-returns-in-Err-clause-kept g c = short_kept _ c.end_for_memory.result _ _ _ _ (memory_cuts _ _ _ _ _ c.end_for_memory.ensures) (ap (λ (k : Known). k.setup) c.in-Err.ensures.kept)
+returns-in-Err-clause-kept g c = short_kept _ _ c.end_for_memory.result _ _ _ (memory_cuts _ _ _ _ _ c.end_for_memory.ensures) (ap (λ (k : Known). k.setup) c.in-Err.ensures.kept)
 
 pub returns-in-Err-clause-script : goal.returns-in-Err-clause-script
-returns-in-Err-clause-script g c = script_unread g.F.Files.shows c.args.plan.now.script c.args.files.now
+returns-in-Err-clause-script g c = script_unread g.F.Files.shows c.args.engine.now.plan.script c.args.files.now
 
 pub returns-in-Err-round_or_pass-clause-cause : goal.returns-in-Err-round_or_pass-clause-cause
 returns-in-Err-round_or_pass-clause-cause g c = memory_cause _ _ _ _ _ _ c.end_for_memory-in-Err-round_or_pass.ensures
 
 pub returns-in-Err-round_or_pass-clause-kept : goal.returns-in-Err-round_or_pass-clause-kept
 returns-in-Err-round_or_pass-clause-kept g c =
-    short_kept _ c.end_for_memory-in-Err-round_or_pass.result _ _ _ _ (memory_cuts _ _ _ _ _ c.end_for_memory-in-Err-round_or_pass.ensures)
+    short_kept _ _ c.end_for_memory-in-Err-round_or_pass.result _ _ _ (memory_cuts _ _ _ _ _ c.end_for_memory-in-Err-round_or_pass.ensures)
     (c.round_or_pass.ensures.seats.setup ∙ ap (λ (k : Known). k.setup) c.in-Ok.ensures.kept)
 
 pub returns-in-Err-put_trace-clause-cause : goal.returns-in-Err-put_trace-clause-cause
@@ -147,9 +148,10 @@ returns-clause-kept g c =
     let kept = c.requires.going.kept in
     let seats = c.round_or_pass.ensures.seats in
     let setup = seats.setup ∙ ap (λ (k : Known). k.setup) c.in-Ok.ensures.kept in
+    let sim = record c.round_or_pass.new.sim { kernel = c.clear_records.new.self; buffer = c.put_trace.new.buffer } in
     part_kept _ _ _ _ _ _ c.in-Ok-round_or_pass.ensures.script.uncut (ap (λ (k : Known). k.setup) c.clear_records.ensures ∙ setup)
-    (kept_on c.args.plan.now.deployment.now _ _ _ c.round_or_pass.new.sim.kernel c.round_or_pass.ensures.fits c.clear_records.ensures (ap (λ (s : Setup). length s.homes) setup ∙ kept.homes) seats.seated
-    (length-map c.round_or_pass.new.seats _ ∙ c.round_or_pass.auto.seats ∙ sym (length-map c.args.seats.now _) ∙ kept.number) (omega (arith, seats.calls, kept.calls)) kept.few)
+    (kept_on _ c.args.engine.now.plan.deployment.now _ sim c.round_or_pass.new.sim.kernel c.round_or_pass.ensures.fits c.clear_records.ensures (ap (λ (s : Setup). length s.homes) setup ∙ kept.homes) seats.seated
+    (seats.number ∙ kept.number) (omega (arith, seats.calls, kept.calls)) kept.few)
 
 pub returns-clause-steps : goal.returns-clause-steps
 returns-clause-steps g c = next_as c.args.sim.now.kernel c.reserve_round.new.self c.args.steps.now c.round_or_pass.new.steps c.in-Ok.ensures.kept c.round_or_pass.ensures.steps

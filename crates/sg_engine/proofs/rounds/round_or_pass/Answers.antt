@@ -24,11 +24,11 @@ returns-else-any_ready-clause-step g c = λ taken world stands.
 pub returns-else-any_ready-clause-seats : goal.returns-else-any_ready-clause-seats
 returns-else-any_ready-clause-seats g c =
     let setup = ap (λ (k : Known). k.setup) c.pass.ensures.step in
-    record { setup = setup; seated = seated_as c.args.sim.now.kernel.setup c.pass.new.self.setup _ setup c.requires.room.seated; calls = refl; buffer = refl }
+    record { setup = setup; number = refl; seated = seated_as c.args.sim.now.kernel.setup c.pass.new.self.setup _ setup c.requires.room.seated; calls = refl; buffer = refl }
 
 pub returns-else-any_ready-clause-script : goal.returns-else-any_ready-clause-script
 returns-else-any_ready-clause-script g c = record {
-  reads = script_unread g.F.Files.shows c.args.plan.now.script c.args.files.now;
+  reads = script_unread g.F.Files.shows c.args.engine.now.plan.script c.args.files.now;
   uncut = c.end_of.ensures.uncut;
   cause = λ is. absurd (c.end_of.ensures.no_fault (cc is));
 }

@@ -13,15 +13,15 @@ finish-requires-clause-how g c = sym c.is_cut.ensures ∙ c.if-is_cut.false
 
 pub returns-then-is_cut-clause-output : goal.returns-then-is_cut-clause-output
 returns-then-is_cut-clause-output g c = λ source gives.
-    let going = is_going c.args.plan.now.script _ _ source (λ over. g.met.F.Files.nothing_left c.simulate-how.new.files Script over) gives in
+    let going = is_going c.args.engine.now.plan.script _ _ source (λ over. g.met.F.Files.nothing_left c.simulate-how.new.files Script over) gives in
     let cut = in_cut _ _ (sym c.is_cut.ensures ∙ c.if-is_cut.true) c.simulate-how.ensures.run in record {
-      ends = run_cut c.args.plan.now.platform.now c.args.plan.now.deployment.now c.args.plan.now.script c.args.plan.now.terms.budget c.args.plan.now.terms.show c.simulate-how.result _ _ _ _ source
+      ends = run_cut c.args.engine.now.plan.platform.now c.args.engine.now.plan.deployment.now c.args.engine.now.plan.script c.args.engine.now.plan.terms.budget c.args.engine.now.plan.terms.show c.simulate-how.result _ _ _ _ source
           going
           (sym c.is_cut.ensures ∙ c.if-is_cut.true)
           cut.cut
           c.simulate-how.ensures.err;
       work = cut.worked source (going cut.cut.piece cut.cut.reads);
-      needed = run_needed c.args.plan.now.platform.now c.args.plan.now.deployment.now c.args.plan.now.script c.args.plan.now.terms.budget c.args.plan.now.terms.show cut.cut.piece _ _ source going cut.cut.reads
+      needed = run_needed c.args.engine.now.plan.platform.now c.args.engine.now.plan.deployment.now c.args.engine.now.plan.script c.args.engine.now.plan.terms.budget c.args.engine.now.plan.terms.show cut.cut.piece _ _ source going cut.cut.reads
           (λ isnt. ap (λ (f : _). g.F.Files.shows f Script) (c.simulate-how.ensures.script.unscripted isnt)) cut.cut.needed;
     }
 
@@ -29,7 +29,7 @@ pub returns-then-is_cut-clause-cause : goal.returns-then-is_cut-clause-cause
 returns-then-is_cut-clause-cause g c =
     let cut = (in_cut _ _ (sym c.is_cut.ensures ∙ c.if-is_cut.true) c.simulate-how.ensures.run).cut in
     let cause = c.simulate-how.ensures.cause in
-    record { write = cause.write; sound = cause.sound; read = λ is. broken_part c.args.plan.now.script cut.piece _ _ cut.reads (cause.read is) }
+    record { write = cause.write; sound = cause.sound; read = λ is. broken_part c.args.engine.now.plan.script cut.piece _ _ cut.reads (cause.read is) }
 
 pub returns-then-is_cut-clause-script : goal.returns-then-is_cut-clause-script
 returns-then-is_cut-clause-script g c =
@@ -38,19 +38,19 @@ returns-then-is_cut-clause-script g c =
     record {
       others = script.others;
       unscripted = script.unscripted;
-      name = keeps_name c.args.plan.now.script cut.piece _ _ cut.reads (λ isnt. ap (λ (f : _). g.F.Files.shows f Script) (script.unscripted isnt));
-      telling = goes_on_telling c.args.plan.now.script cut.piece _ _ cut.reads (λ isnt. ap (λ (f : _). g.F.Files.shows f Script) (script.unscripted isnt));
+      name = keeps_name c.args.engine.now.plan.script cut.piece _ _ cut.reads (λ isnt. ap (λ (f : _). g.F.Files.shows f Script) (script.unscripted isnt));
+      telling = goes_on_telling c.args.engine.now.plan.script cut.piece _ _ cut.reads (λ isnt. ap (λ (f : _). g.F.Files.shows f Script) (script.unscripted isnt));
     }
 
 pub returns-else-is_cut-clause-output : goal.returns-else-is_cut-clause-output
 returns-else-is_cut-clause-output g c = λ source gives.
-    let going = is_going c.args.plan.now.script _ _ source (λ over. g.met.F.Files.nothing_left c.simulate-how.new.files Script over) gives in
+    let going = is_going c.args.engine.now.plan.script _ _ source (λ over. g.met.F.Files.nothing_left c.simulate-how.new.files Script over) gives in
     let over = in_over _ _ (sym c.is_cut.ensures ∙ c.if-is_cut.false) c.simulate-how.ensures.run in
     record {
-      ends = run_ends c.args.steps.now c.simulate-how.new.steps c.args.plan.now.platform.now c.args.plan.now.deployment.now c.args.plan.now.script c.args.plan.now.terms.budget c.args.plan.now.terms.show c.simulate-how.result c.finish.result c.simulate-how.new.sim.kernel.core _ _ c.simulate-how.new.sim.buffer _ _ _ source
+      ends = run_ends c.args.steps.now c.simulate-how.new.steps c.args.engine.now.plan.platform.now c.args.engine.now.plan.deployment.now c.args.engine.now.plan.script c.args.engine.now.plan.terms.budget c.args.engine.now.plan.terms.show c.simulate-how.result c.finish.result c.simulate-how.new.sim.kernel.core _ _ c.simulate-how.new.sim.buffer _ _ _ source
           going over c.simulate-how.ensures.err c.finish.ensures.ends;
-      work = run_work c.args.steps.now c.simulate-how.new.steps c.args.plan.now.platform.now c.args.plan.now.deployment.now c.args.plan.now.script c.args.plan.now.terms.budget c.args.plan.now.terms.show c.simulate-how.result c.simulate-how.new.sim.kernel.core _ _ _ _ source going over;
-      needed = run_needed c.args.plan.now.platform.now c.args.plan.now.deployment.now c.args.plan.now.script c.args.plan.now.terms.budget c.args.plan.now.terms.show over.piece _ _ source going over.reads
+      work = run_work c.args.steps.now c.simulate-how.new.steps c.args.engine.now.plan.platform.now c.args.engine.now.plan.deployment.now c.args.engine.now.plan.script c.args.engine.now.plan.terms.budget c.args.engine.now.plan.terms.show c.simulate-how.result c.simulate-how.new.sim.kernel.core _ _ _ _ source going over;
+      needed = run_needed c.args.engine.now.plan.platform.now c.args.engine.now.plan.deployment.now c.args.engine.now.plan.script c.args.engine.now.plan.terms.budget c.args.engine.now.plan.terms.show over.piece _ _ source going over.reads
           (λ isnt. ap (λ (f : _). g.F.Files.shows f Script) (c.simulate-how.ensures.script.unscripted isnt)) over.needed;
     }
 
@@ -58,7 +58,7 @@ pub returns-else-is_cut-clause-cause : goal.returns-else-is_cut-clause-cause
 returns-else-is_cut-clause-cause g c =
     let over = in_over _ _ (sym c.is_cut.ensures ∙ c.if-is_cut.false) c.simulate-how.ensures.run in
     let cause = c.finish.ensures.cause in
-    record { write = cause.write; sound = cause.sound; read = λ is. broken_part c.args.plan.now.script over.piece _ _ over.reads (c.simulate-how.ensures.cause.read (cause.read is)) }
+    record { write = cause.write; sound = cause.sound; read = λ is. broken_part c.args.engine.now.plan.script over.piece _ _ over.reads (c.simulate-how.ensures.cause.read (cause.read is)) }
 
 pub returns-else-is_cut-clause-memory : goal.returns-else-is_cut-clause-memory
 returns-else-is_cut-clause-memory g c = λ is. absurd (c.finish.ensures.memory is)
@@ -70,6 +70,6 @@ returns-else-is_cut-clause-script g c =
     record {
       others = script.others;
       unscripted = script.unscripted;
-      name = keeps_name c.args.plan.now.script over.piece _ _ over.reads (λ isnt. ap (λ (f : _). g.F.Files.shows f Script) (script.unscripted isnt));
-      telling = goes_on_telling c.args.plan.now.script over.piece _ _ over.reads (λ isnt. ap (λ (f : _). g.F.Files.shows f Script) (script.unscripted isnt));
+      name = keeps_name c.args.engine.now.plan.script over.piece _ _ over.reads (λ isnt. ap (λ (f : _). g.F.Files.shows f Script) (script.unscripted isnt));
+      telling = goes_on_telling c.args.engine.now.plan.script over.piece _ _ over.reads (λ isnt. ap (λ (f : _). g.F.Files.shows f Script) (script.unscripted isnt));
     }

@@ -21,23 +21,23 @@ use Rattle.sg_engine.proofs.whole_run.simulate.Goals as goal
 
 pub loop-turn-init : goal.loop-turn-init
 loop-turn-init g c =
-    let platform = c.args.plan.now.platform.now in
-    let deployed = c.args.plan.now.deployment.now in
-    let origin = first_of platform deployed c.args.plan.now.terms.budget in
-    let at = scene_of platform deployed c.args.plan.now.script c.args.plan.now.terms.budget in
+    let platform = c.args.engine.now.plan.platform.now in
+    let deployed = c.args.engine.now.plan.deployment.now in
+    let origin = first_of platform deployed c.args.engine.now.plan.terms.budget in
+    let at = scene_of platform deployed c.args.engine.now.plan.script c.args.engine.now.plan.terms.budget in
     let first = c.requires.beginning.first in
-    let none : c.args.plan.now.terms.budget + 1 - 0 ≡ c.args.plan.now.terms.budget + 1 = omega arith in
+    let none : c.args.engine.now.plan.terms.budget + 1 - 0 ≡ c.args.engine.now.plan.terms.budget + 1 = omega arith in
     record {
-      far = far_first c.args.steps.now (known_in deployed) (trace_of c.args.plan.now.terms.show platform deployed) (run_of at origin) (rest_of (c.args.plan.now.terms.budget + 1 - 0) at) _ (script_part c.args.plan.now.script (g.F.Files.shows c.args.files.now Script)) (kept_of c.args.sim.now.script) c.args.sim.now.kernel (g.O.Sinks.contents c.args.out.now Out) c.args.sim.now.buffer
+      far = far_first c.args.steps.now (known_in deployed) (trace_of c.args.engine.now.plan.terms.show platform deployed) (run_of at origin) (rest_of (c.args.engine.now.plan.terms.budget + 1 - 0) at) _ (script_part c.args.engine.now.plan.script (g.F.Files.shows c.args.files.now Script)) (kept_of c.args.sim.now.script) c.args.sim.now.kernel (g.O.Sinks.contents c.args.out.now Out) c.args.sim.now.buffer
           origin first.kept.fits.begun first.stands
           (λ answers. sym (ap (λ n. run_from n at answers origin) none))
-          refl (trace_none c.args.plan.now.terms.show platform deployed) first.empty;
+          refl (trace_none c.args.engine.now.plan.terms.show platform deployed) first.empty;
       kept = first.kept;
       router = refl;
       same = first.setup;
       err = refl;
       sound = c.requires.sound;
-      script = script_unread g.F.Files.shows c.args.plan.now.script c.args.files.now;
+      script = script_unread g.F.Files.shows c.args.engine.now.plan.script c.args.files.now;
     }
 
 pub advance-requires-clause-going : goal.advance-requires-clause-going
@@ -50,70 +50,70 @@ advance-requires-clause-going g c κs within = record {
 
 pub returns-then-ending-clause-run : goal.returns-then-ending-clause-run
 returns-then-ending-clause-run g c =
-    let platform = c.args.plan.now.platform.now in
-    let deployed = c.args.plan.now.deployment.now in
+    let platform = c.args.engine.now.plan.platform.now in
+    let deployed = c.args.engine.now.plan.deployment.now in
     let far = c.loop-turn.invariant.far in
-    let n = c.args.plan.now.terms.budget + 1 - c.loop-turn._turn in
-    let m = c.args.plan.now.terms.budget + 1 - (c.loop-turn._turn + 1) in
+    let n = c.args.engine.now.plan.terms.budget + 1 - c.loop-turn._turn in
+    let m = c.args.engine.now.plan.terms.budget + 1 - (c.loop-turn._turn + 1) in
     let more : n ≡ suc m = omega (arith, c.loop-turn-test.true) in
-    completed c.args.steps.now c.loop-turn.steps (known_in deployed) (trace_of c.args.plan.now.terms.show platform deployed) _ n m _ _ _ _ _ _ _ _ c.loop-turn.sim.kernel.core _ _ far.reached more refl (sym c.ending.ensures.is ∙ c.if-ending.true) far.printed far.worked
+    completed c.args.steps.now c.loop-turn.steps (known_in deployed) (trace_of c.args.engine.now.plan.terms.show platform deployed) _ n m _ _ _ _ _ _ _ _ c.loop-turn.sim.kernel.core _ _ far.reached more refl (sym c.ending.ensures.is ∙ c.if-ending.true) far.printed far.worked
 
 pub returns-in-Some-clause-run : goal.returns-in-Some-clause-run
 returns-in-Some-clause-run g c =
-    let platform = c.args.plan.now.platform.now in
-    let deployed = c.args.plan.now.deployment.now in
-    let origin = first_of platform deployed c.args.plan.now.terms.budget in
-    let at = scene_of platform deployed c.args.plan.now.script c.args.plan.now.terms.budget in
+    let platform = c.args.engine.now.plan.platform.now in
+    let deployed = c.args.engine.now.plan.deployment.now in
+    let origin = first_of platform deployed c.args.engine.now.plan.terms.budget in
+    let at = scene_of platform deployed c.args.engine.now.plan.script c.args.engine.now.plan.terms.budget in
     let names = known_in deployed in
-    let trace = trace_of c.args.plan.now.terms.show platform deployed in
+    let trace = trace_of c.args.engine.now.plan.terms.show platform deployed in
     let inv = c.loop-turn.invariant in
     let far = inv.far in
-    let n = c.args.plan.now.terms.budget + 1 - c.loop-turn._turn in
-    let m = c.args.plan.now.terms.budget + 1 - (c.loop-turn._turn + 1) in
+    let n = c.args.engine.now.plan.terms.budget + 1 - c.loop-turn._turn in
+    let m = c.args.engine.now.plan.terms.budget + 1 - (c.loop-turn._turn + 1) in
     let more : n ≡ suc m = omega (arith, c.loop-turn-test.true) in
     let how = c.in-Some.how in
-    let old = at_moment (script_part c.args.plan.now.script (g.F.Files.shows c.loop-turn.files Script)) c.loop-turn.sim in
-    let new = at_moment (script_part c.args.plan.now.script (g.F.Files.shows c.advance.new.files Script)) c.advance.new.sim in
+    let old = at_moment (script_part c.args.engine.now.plan.script (g.F.Files.shows c.loop-turn.files Script)) c.loop-turn.sim in
+    let new = at_moment (script_part c.args.engine.now.plan.script (g.F.Files.shows c.advance.new.files Script)) c.advance.new.sim in
     let before = pending (g.O.Sinks.contents c.loop-turn.out Out) c.loop-turn.sim.buffer in
     let after = pending (g.O.Sinks.contents c.advance.new.out Out) c.advance.new.sim.buffer in
     let leads = rw inv.router at c.in-Some.ensures.part in
     let part = leads.1 far.reached.piece far.reached.world (record { script = far.reached.stands.script; core = far.reached.stands.core; minds = far.reached.stands.minds }) in
     let next = far.reached.world.work + next_work far.reached.world.core in
-    let same : scene c.args.router.now c.loop-turn.sim.kernel.setup c.args.plan.now.script ≡ at = ap₂ (λ (r : Roads) (t : Setup). scene r t c.args.plan.now.script) c.requires.beginning.roads.are inv.same in
+    let same : scene c.args.router.now c.loop-turn.sim.kernel.setup c.args.engine.now.plan.script ≡ at = ap₂ (λ (r : Roads) (t : Setup). scene r t c.args.engine.now.plan.script) c.requires.beginning.roads.are inv.same in
     let part' = part_as next names trace _ at (Some how) far.reached.piece _ far.reached.world old new before after same part in
     let worked : c.advance.new.steps ≤ c.args.steps.now + next =
     work_more c.args.steps.now c.loop-turn.steps c.advance.new.steps far.spent far.reached.world.work (next_work c.loop-turn.sim.kernel.core) (next_work far.reached.world.core) far.worked far.reached.work
     (ap next_work far.reached.stands.core) c.in-Some.ensures.steps in
-    far_ends c.args.steps.now c.loop-turn.steps c.advance.new.steps names trace (trace_appends c.args.plan.now.terms.show platform deployed) (run_of at origin) how (is_cut how) n m at _ _
+    far_ends c.args.steps.now c.loop-turn.steps c.advance.new.steps names trace (trace_appends c.args.engine.now.plan.terms.show platform deployed) (run_of at origin) how (is_cut how) n m at _ _
     _ _ _ _ _ _ c.args.sim.now.kernel c.loop-turn.sim.kernel c.advance.new.sim.kernel (pending (g.O.Sinks.contents c.args.out.now Out) []) before after far more (sym c.ending.ensures.is ∙ c.if-ending.false) c.requires.beginning.first.kept.cleared inv.kept.cleared part' worked
 
 pub loop-turn-preserved : goal.loop-turn-preserved
 loop-turn-preserved g c =
-    let platform = c.args.plan.now.platform.now in
-    let deployed = c.args.plan.now.deployment.now in
-    let origin = first_of platform deployed c.args.plan.now.terms.budget in
-    let at = scene_of platform deployed c.args.plan.now.script c.args.plan.now.terms.budget in
+    let platform = c.args.engine.now.plan.platform.now in
+    let deployed = c.args.engine.now.plan.deployment.now in
+    let origin = first_of platform deployed c.args.engine.now.plan.terms.budget in
+    let at = scene_of platform deployed c.args.engine.now.plan.script c.args.engine.now.plan.terms.budget in
     let names = known_in deployed in
-    let trace = trace_of c.args.plan.now.terms.show platform deployed in
+    let trace = trace_of c.args.engine.now.plan.terms.show platform deployed in
     let inv = c.loop-turn.invariant in
     let far = inv.far in
-    let n = c.args.plan.now.terms.budget + 1 - c.loop-turn._turn in
-    let m = c.args.plan.now.terms.budget + 1 - (c.loop-turn._turn + 1) in
+    let n = c.args.engine.now.plan.terms.budget + 1 - c.loop-turn._turn in
+    let m = c.args.engine.now.plan.terms.budget + 1 - (c.loop-turn._turn + 1) in
     let more : n ≡ suc m = omega (arith, c.loop-turn-test.true) in
-    let old = at_moment (script_part c.args.plan.now.script (g.F.Files.shows c.loop-turn.files Script)) c.loop-turn.sim in
-    let new = at_moment (script_part c.args.plan.now.script (g.F.Files.shows c.advance.new.files Script)) c.advance.new.sim in
+    let old = at_moment (script_part c.args.engine.now.plan.script (g.F.Files.shows c.loop-turn.files Script)) c.loop-turn.sim in
+    let new = at_moment (script_part c.args.engine.now.plan.script (g.F.Files.shows c.advance.new.files Script)) c.advance.new.sim in
     let before = pending (g.O.Sinks.contents c.loop-turn.out Out) c.loop-turn.sim.buffer in
     let after = pending (g.O.Sinks.contents c.advance.new.out Out) c.advance.new.sim.buffer in
     let leads = rw inv.router at c.in-None.ensures.part in
     let part = leads.1 far.reached.piece far.reached.world (record { script = far.reached.stands.script; core = far.reached.stands.core; minds = far.reached.stands.minds }) in
     let next = far.reached.world.work + next_work far.reached.world.core in
-    let same : scene c.args.router.now c.loop-turn.sim.kernel.setup c.args.plan.now.script ≡ at = ap₂ (λ (r : Roads) (t : Setup). scene r t c.args.plan.now.script) c.requires.beginning.roads.are inv.same in
+    let same : scene c.args.router.now c.loop-turn.sim.kernel.setup c.args.engine.now.plan.script ≡ at = ap₂ (λ (r : Roads) (t : Setup). scene r t c.args.engine.now.plan.script) c.requires.beginning.roads.are inv.same in
     let part' = part_as next names trace _ at None far.reached.piece _ far.reached.world old new before after same part in
     let worked : c.advance.new.steps ≤ c.args.steps.now + next =
     work_more c.args.steps.now c.loop-turn.steps c.advance.new.steps far.spent far.reached.world.work (next_work c.loop-turn.sim.kernel.core) (next_work far.reached.world.core) far.worked far.reached.work
     (ap next_work far.reached.stands.core) c.in-None.ensures.steps in
     record {
-      far = far_on c.args.steps.now c.loop-turn.steps c.advance.new.steps names trace (trace_appends c.args.plan.now.terms.show platform deployed) (run_of at origin) n m at _ _
+      far = far_on c.args.steps.now c.loop-turn.steps c.advance.new.steps names trace (trace_appends c.args.engine.now.plan.terms.show platform deployed) (run_of at origin) n m at _ _
           _ _ _ _ _ _ c.args.sim.now.kernel c.loop-turn.sim.kernel c.advance.new.sim.kernel (pending (g.O.Sinks.contents c.args.out.now Out) []) before after far more (sym c.ending.ensures.is ∙ c.if-ending.false) c.requires.beginning.first.kept.cleared inv.kept.cleared part' worked;
       kept = c.in-None.ensures.kept.kept;
       router = c.in-None.ensures.router ∙ inv.router;
@@ -125,12 +125,12 @@ loop-turn-preserved g c =
 
 pub returns-clause-run : goal.returns-clause-run
 returns-clause-run g c =
-    let platform = c.args.plan.now.platform.now in
-    let deployed = c.args.plan.now.deployment.now in
+    let platform = c.args.engine.now.plan.platform.now in
+    let deployed = c.args.engine.now.plan.deployment.now in
     let far = c.loop-turn.invariant.far in
-    let n = c.args.plan.now.terms.budget + 1 - c.loop-turn._turn in
+    let n = c.args.engine.now.plan.terms.budget + 1 - c.loop-turn._turn in
     let none : n ≡ 0 = omega (arith, c.loop-turn-test.false) in
-    used_up c.args.steps.now c.loop-turn.steps (known_in deployed) (trace_of c.args.plan.now.terms.show platform deployed) _ n _ _ _ _ _ _ _ _ c.loop-turn.sim.kernel.core _ _ far.reached none refl far.printed far.worked
+    used_up c.args.steps.now c.loop-turn.steps (known_in deployed) (trace_of c.args.engine.now.plan.terms.show platform deployed) _ n _ _ _ _ _ _ _ _ c.loop-turn.sim.kernel.core _ _ far.reached none refl far.printed far.worked
 
 pub returns-then-ending-clause-cause : goal.returns-then-ending-clause-cause
 returns-then-ending-clause-cause g c = record { write = λ is. cc is; sound = λ isnt. c.loop-turn.invariant.sound; read = λ is. cc is }

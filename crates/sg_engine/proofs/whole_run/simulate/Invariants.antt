@@ -1,29 +1,26 @@
 use Rattle.std.proofs.Common.{◌≡◌, ◌+◌, ◌-◌, []}
-use Rattle.sg_actor.specs.Seats.{seat_views}
 use Rattle.sg_edge.specs.declared.files.Part.TheVariants.{Script}
 use Rattle.sg_edge.specs.declared.sinks.Stream.TheVariants.{Out, Err}
 use Rattle.sg_script.specs.Known.{known_in}
 use Rattle.sg_script.specs.Stands.{kept_of}
-use Rattle.sg_engine.specs.kept.Invariant.{IsKept}
+use Rattle.sg_engine.specs.kept.Invariant.{minds_in, IsKept}
 use Rattle.sg_engine.specs.Output.{first_of, trace_of, scene_of}
 use Rattle.sg_engine.specs.kept.Moments.{script_part, ReadsScript}
 use Rattle.sg_engine.specs.Run.{run_of}
 use Rattle.sg_engine.specs.kept.Writing.{pending}
-use Rattle.sg_engine.specs.kept.SeatRules.{minds_of}
 use Rattle.sg_engine.proofs.Simulating.{rest_of, SoFar}
 use Rattle.sg_engine.proofs.whole_run.simulate.Given as goal
 
 abbrev pub invariant-loop-turn : goal.invariant-loop-turn
 invariant-loop-turn g l =
-    let at = scene_of l.plan.platform.now l.plan.deployment.now l.plan.script l.plan.terms.budget in
-    let places = seat_views (λ b. (goal.Actor-dyn g (b.vtable, b.value)).mind b.value) l.seats in
+    let at = scene_of l.engine.plan.platform.now l.engine.plan.deployment.now l.engine.plan.script l.engine.plan.terms.budget in
     record {
-      far : SoFar l.fn.steps l.steps (known_in l.plan.deployment.now) (trace_of l.plan.terms.show l.plan.platform.now l.plan.deployment.now) (run_of at (first_of l.plan.platform.now l.plan.deployment.now l.plan.terms.budget)) (rest_of (l.plan.terms.budget + 1 - l._turn) at) (minds_of places)
-          (script_part l.plan.script (g.F.Files.shows l.fn.files Script)) (script_part l.plan.script (g.F.Files.shows l.files Script)) (kept_of l.fn.sim.script) (kept_of l.sim.script) l.fn.sim.kernel l.sim.kernel (pending (g.O.Sinks.contents l.fn.out Out) []) (pending (g.O.Sinks.contents l.out Out) l.sim.buffer);
-      kept : IsKept l.plan.deployment.now (script_part l.plan.script (g.F.Files.shows l.files Script)) l.sim places;
+      far : SoFar l.fn.steps l.steps (known_in l.engine.plan.deployment.now) (trace_of l.engine.plan.terms.show l.engine.plan.platform.now l.engine.plan.deployment.now) (run_of at (first_of l.engine.plan.platform.now l.engine.plan.deployment.now l.engine.plan.terms.budget)) (rest_of (l.engine.plan.terms.budget + 1 - l._turn) at) (minds_in (λ b. (goal.Actor-dyn g (b.vtable, b.value)).mind b.value) l.sim)
+          (script_part l.engine.plan.script (g.F.Files.shows l.fn.files Script)) (script_part l.engine.plan.script (g.F.Files.shows l.files Script)) (kept_of l.fn.sim.script) (kept_of l.sim.script) l.fn.sim.kernel l.sim.kernel (pending (g.O.Sinks.contents l.fn.out Out) []) (pending (g.O.Sinks.contents l.out Out) l.sim.buffer);
+      kept : IsKept (λ b. (goal.Actor-dyn g (b.vtable, b.value)).mind b.value) l.engine.plan.deployment.now (script_part l.engine.plan.script (g.F.Files.shows l.files Script)) l.sim;
       router : l.router ≡ l.fn.router;
       same : l.sim.kernel.setup ≡ at.setup;
       err : g.O.Sinks.contents l.out Err ≡ g.O.Sinks.contents l.fn.out Err;
       sound : g.O.Sinks.faults l.out ≡ 0;
-      script : ReadsScript g.F.Files.shows l.plan.script l.fn.files l.files;
+      script : ReadsScript g.F.Files.shows l.engine.plan.script l.fn.files l.files;
     }

@@ -10,7 +10,7 @@ use Rattle.sg_rows.specs.declared.rows.ActorRow.{ActorRow}
 use Rattle.sg_states.specs.States.{ActorStates}
 use Rattle.sg_kernel.specs.declared.fields.Fields.{Fields}
 use Rattle.sg_kernel.specs.Start.{host_cap, link_caps, capacity_of, replays}
-use Rattle.sg_kernel.proofs.Firsts.{links_fit, IsFirst, first_is, first_meeting, first_held, first_limited, first_roomy, first_sound, first_states, objects_first}
+use Rattle.sg_kernel.proofs.Firsts.{links_fit, IsFirst, first_is, first_meeting, first_held, first_limited, first_roomy, first_sound, first_states, first_timely, objects_first}
 use Rattle.sg_kernel.proofs.beginning.first_fields.Goals.{After-drop-hosts-2}
 use Rattle.sg_kernel.proofs.beginning.first_fields.Goals as goal
 
@@ -30,13 +30,14 @@ abbrev made : After-drop-hosts-2 → Fields
 made c = record {
   doing = c.in_ok-idle.idle.doing;
   states = c.in_ok-states.states;
-  whose = c.new-4.result;
+  whose = c.new-5.result;
   boxes = c.in_ok-idle.idle.boxes;
   requests = c.in_ok-requests.requests;
   objects = c.in_ok-objects.objects;
   hosts = c.len-2.result;
   links = c.len-3.result;
   network = c.network-network.result;
+  profiles = c.in_ok-profiles.profiles;
   homes = c.in_ok-homes.homes;
   mutexes = length c.mutexes-mutexes.result.now;
   semaphores = c.in_ok-semaphores.semaphores;
@@ -66,13 +67,14 @@ first c =
           ∙ ap (λ n. first_states n (length c.mutexes-mutexes.result.now) c.len.result) actors
           ∙ ap (λ n. first_states (length deployed.actors) n c.len.result) mutexes
           ∙ ap (λ n. first_states (length deployed.actors) (length deployed.mutexes) n) semaphores;
-      whose = c.new-4.ensures;
+      whose = c.new-5.ensures;
       boxes = c.in_ok-idle.ensures.boxes;
       requests = c.in_ok-requests.ensures ∙ ap (λ n. record { queues = replicate n []; asked = 0; room = 0 }) actors;
       objects = c.in_ok-objects.ensures ∙ objects_first c.args.platform.now deployed c.args.budget _ _ _ _ actors mutexes (c.deref.ensures.value ∙ capacities_are c) (c.members-members.ensures ∙ ap (count_by replays) c.actors.ensures.rows);
       hosts = c.len-2.ensures ∙ c.in_ok-hosts.hosts.ok.0 ∙ ap length (c.in_ok-hosts.ensures ∙ ap (map host_cap) c.hosts.ensures.rows);
       links = c.len-3.ensures ∙ c.in_ok-links.links.ok.0 ∙ ap length (c.in_ok-links.ensures ∙ ap₂ link_caps c.network-network.ensures.value c.links.ensures.rows);
       network = c.network-network.ensures.value;
+      profiles = c.in_ok-profiles.ensures.table;
       homes = c.in_ok-homes.ensures ∙ ap (map (λ (actor : ActorRow). actor.host)) c.actors-2.ensures.rows;
       mutexes = mutexes;
       semaphores = capacities_are c;
@@ -93,6 +95,7 @@ returns-clause-whole c =
       sound = first_sound platform deployed fields is c.requires.deployed c.network-network.ensures.kept.network c.requires.budget;
       roomy = first_roomy platform deployed fields is;
       dated = omega (arith, ap (λ (d : Doing). d.under.date) is.doing);
+      timely = first_timely platform deployed fields is c.in_ok-profiles.ensures.kept;
       limited = first_limited platform deployed fields is;
       meeting = first_meeting platform deployed fields is;
       held = first_held platform deployed fields is c.mutexes-mutexes.ensures.kept;

@@ -1,20 +1,35 @@
-use Rattle.std.proofs.Common.{◌+◌, ◌-◌, Some, ap, arith}
+use Rattle.std.proofs.Common.{◌≡◌, true, false, cond, sym, ap, ◌∙◌}
+use Rattle.sg_base.specs.declared.call.Answer.TheVariants as answer
 use Rattle.sg_base.specs.declared.call.Call.TheVariants as call
-use Rattle.sg_states.specs.declared.state.State.TheVariants.{Blocked}
-use Rattle.sg_states.specs.States.{ActorStates}
-use Rattle.sg_kernel.proofs.Begins.{whole_begun}
-use Rattle.sg_kernel.proofs.Limits.{homes_counted}
-use Rattle.sg_kernel.proofs.Moves.{moves_called, whole_counted, whole_moved}
+use Rattle.sg_activity.specs.Links.{is_off}
+use Rattle.sg_kernel.specs.Calls.{executes}
+use Rattle.sg_kernel.specs.Known.{after_call}
+use Rattle.sg_kernel.specs.Steps.{at_once, counted}
+use Rattle.sg_kernel.specs.World.{host_of}
+use Rattle.sg_kernel.specs.kept.Sound.{core_of, known_of, setup_in}
+use Rattle.sg_kernel.proofs.Each.{called_alone}
 use Rattle.sg_kernel.proofs.executions.compute.Goals as goal
 
-pub returns-clause-whole : goal.returns-clause-whole
-returns-clause-whole c =
+pub execute-requires-clause-home : goal.execute-requires-clause-home
+execute-requires-clause-home c = record { is = c.home_of-host.ensures.is; exists = c.home_of-host.ensures.exists; on = sym c.is_host_off.ensures ∙ c.if-is_host_off.false }
+
+pub returns-then-is_host_off-clause-known : goal.returns-then-is_host_off-clause-known
+returns-then-is_host_off-clause-known c =
     let old = c.args.fields.now in
-    let able = c.requires.able in
-    let counted = record old { events = old.events + 1 } in
-    let new = c.block.new.self in
-    let state = Blocked (call.Compute c.args.flops c.args.priority) c.date-date.result (Some c.alone.result) in
-    let id = c.args.actor.0 in
-    let begun = whole_begun counted old.states.room c.args.actor _ c.start_exec-serial.new.self c.push.new.self (able.call.caller.from, omega (arith, able.call.caller.to, homes_counted old able.whole.sound)) (omega (arith, able.whole.sound.few)) c.start_exec-serial.ensures.starts c.push.ensures (whole_counted old id able) in
-    whole_moved (record counted { doing = c.start_exec-serial.new.self; whose = c.push.new.self }) (old.states.room - 1) new c.args.actor state able.call (moves_called old.states new id state c.block.ensures)
-    (omega (arith, ap (λ (s : ActorStates). s.room) c.block.ensures)) begun
+    let setup = setup_in old in
+    let core = counted (core_of old) in
+    let actor = c.args.actor.0 in
+    let off : is_off core.under.on.hosts (host_of setup actor) ≡ true = sym (ap (is_off core.under.on.hosts) c.home_of-host.ensures.is) ∙ sym c.is_host_off.ensures ∙ c.if-is_host_off.true in
+    c.answer_now.ensures.known
+    ∙ sym (ap (λ b. after_call true (cond b (at_once actor (call.Compute c.args.flops c.args.priority) 0 answer.Failed core) (executes setup actor c.args.flops c.args.priority core)) (known_of old)) off)
+
+pub returns-else-is_host_off-clause-known : goal.returns-else-is_host_off-clause-known
+returns-else-is_host_off-clause-known c =
+    let old = c.args.fields.now in
+    let setup = setup_in old in
+    let core = counted (core_of old) in
+    let actor = c.args.actor.0 in
+    let on : is_off core.under.on.hosts (host_of setup actor) ≡ false = sym (ap (is_off core.under.on.hosts) c.home_of-host.ensures.is) ∙ sym c.is_host_off.ensures ∙ c.if-is_host_off.false in
+    c.execute.ensures.known
+    ∙ called_alone (known_of old) (executes setup actor c.args.flops c.args.priority core).core
+    ∙ sym (ap (λ b. after_call true (cond b (at_once actor (call.Compute c.args.flops c.args.priority) 0 answer.Failed core) (executes setup actor c.args.flops c.args.priority core)) (known_of old)) on)

@@ -23,6 +23,7 @@ returns-clause-whole c =
       sound = steady.sound;
       roomy = steady.roomy;
       dated = steady.dated;
+      timely = steady.timely;
       limited = steady.limited;
       meeting = steady.meeting;
       held = held_again c.wake_others.new.fields woken;

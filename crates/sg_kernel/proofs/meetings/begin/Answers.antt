@@ -1,17 +1,21 @@
-use Rattle.std.proofs.Common.{◌≡◌, ◌+◌, ◌-◌, ◌<◌, ◌≤◌, List, Some, Option, length, set, refl, sym, ap, subst, arith, ◌∙◌}
+use Rattle.std.proofs.Common.{◌≡◌, ◌+◌, ◌-◌, ◌<◌, ◌≤◌, List, Some, Option, length, set, refl, sym, ap, ap₂, subst, arith, ◌∙◌, ℕ}
 use Rattle.std.specs.List.{All}
 use Rattle.std.proofs.lemmas.List.{length-set}
 use Rattle.std.proofs.lemmas.List.Elements.{All-set}
 use Rattle.sg_activity.specs.Doing.{Doing}
-use Rattle.sg_activity.specs.Task.{Task, comm_of}
+use Rattle.sg_activity.specs.Task.{Task, comm_of, is_cut}
 use Rattle.sg_base.specs.declared.ids.LinkId.{LinkId}
+use Rattle.sg_base.specs.declared.ids.PointId.{PointId}
 use Rattle.sg_base.specs.declared.ids.Serial.{Serial}
 use Rattle.sg_kernel.specs.declared.owners.Whose.{Whose}
 use Rattle.sg_kernel.specs.declared.owners.Whose.TheVariants.{Pair}
 use Rattle.sg_kernel.specs.kept.Owners.{Owned}
-use Rattle.sg_kernel.specs.World.{extent}
+use Rattle.sg_mailbox.specs.declared.sides.Side.{Side}
+use Rattle.sg_kernel.specs.World.{extent, host_of}
 use Rattle.sg_kernel.specs.kept.Sound.{setup_in, IsSide, IsOwner}
 use Rattle.sg_kernel.proofs.Begins.{held_with, sound_with}
+use Rattle.sg_kernel.proofs.Timely.{IsTimelyAt}
+use Rattle.sg_kernel.proofs.Limits.{home_exists}
 use Rattle.sg_kernel.proofs.Meets.{AreIdle, AreTold, idle_put, made_more, told_met}
 use Rattle.sg_kernel.proofs.Mets.{is_met, sides_limited, waiting_below}
 use Rattle.sg_kernel.proofs.Moves.{whole_counted}
@@ -29,14 +33,42 @@ start_comm-requires-clause-to c = omega (arith, (is_met c.args.fields.now c.args
 pub start_comm-requires-clause-idle : goal.start_comm-requires-clause-idle
 start_comm-requires-clause-idle c = (is_met c.args.fields.now c.args.comer c.args.met.0 c.args.met.1 (sym c.requires.found.met ∙ c.requires.met) c.requires.able.whole.limited c.requires.able.whole.meeting).idle
 
-pub start_comm-requires-clause-bytes : goal.start_comm-requires-clause-bytes
-start_comm-requires-clause-bytes c =
+pub point_of-from-requires : goal.point_of-from-requires
+point_of-from-requires c =
     let old = c.args.fields.now in
+    let e = extent (setup_in old) in
     let m = is_met old c.args.comer c.args.met.0 c.args.met.1 (sym c.requires.found.met ∙ c.requires.met) c.requires.able.whole.limited c.requires.able.whole.meeting in
-    (subst (IsSide (extent (setup_in old))) (sym c.sender_of-sender.ensures) (sides_limited (extent (setup_in old)) c.args.comer c.args.met.1 c.requires.comer.side m.limited).0).bytes
+    (subst (IsSide e) (sym c.sender_of-sender.ensures) (sides_limited e c.args.comer c.args.met.1 c.requires.comer.side m.limited).0).actor
 
-pub start_comm-requires-clause-exist : goal.start_comm-requires-clause-exist
-start_comm-requires-clause-exist c = subst (λ n. All (λ (link : LinkId). link.0 < n) c.args.links.now) (sym c.requires.able.whole.sound.links_counted) c.requires.route.exist
+pub point_of-to-requires : goal.point_of-to-requires
+point_of-to-requires c =
+    let old = c.args.fields.now in
+    let e = extent (setup_in old) in
+    let m = is_met old c.args.comer c.args.met.0 c.args.met.1 (sym c.requires.found.met ∙ c.requires.met) c.requires.able.whole.limited c.requires.able.whole.meeting in
+    (subst (IsSide e) (sym c.receiver_of-receiver.ensures) (sides_limited e c.args.comer c.args.met.1 c.requires.comer.side m.limited).1).actor
+
+pub start_comm-requires-clause-transfer : goal.start_comm-requires-clause-transfer
+start_comm-requires-clause-transfer c =
+    let old = c.args.fields.now in
+    let sound = c.requires.able.whole.sound in
+    let e = extent (setup_in old) in
+    let m = is_met old c.args.comer c.args.met.0 c.args.met.1 (sym c.requires.found.met ∙ c.requires.met) c.requires.able.whole.limited c.requires.able.whole.meeting in
+    let sides = sides_limited e c.args.comer c.args.met.1 c.requires.comer.side m.limited in
+    let sender = subst (IsSide e) (sym c.sender_of-sender.ensures) sides.0 in
+    let receiver = subst (IsSide e) (sym c.receiver_of-receiver.ensures) sides.1 in
+    let from = ap (λ (p : PointId). p.0) c.point_of-from.ensures in
+    let to = ap (λ (p : PointId). p.0) c.point_of-to.ensures in
+    record {
+      some = c.requires.route.some;
+      apart = c.requires.apart;
+      exist = subst (λ n. All (λ (link : LinkId). link.0 < n) c.args.links.now) (sym sound.links_counted) c.requires.route.exist;
+      few = c.requires.route.few;
+      sender = omega (arith, from, home_exists old c.sender_of-sender.result.actor sound sender.actor);
+      receiver = omega (arith, to, home_exists old c.receiver_of-receiver.result.actor sound receiver.actor);
+      on = ap₂ (λ (a b : ℕ). is_cut old.doing.under.on (record { links = c.args.links.now; sender = a; receiver = b })) (from ∙ ap (λ (s : Side). host_of (setup_in old) s.actor.0) c.sender_of-sender.ensures) (to ∙ ap (λ (s : Side). host_of (setup_in old) s.actor.0) c.receiver_of-receiver.ensures) ∙ c.requires.on;
+      latency = c.latency_over-lasts.ensures.limit;
+      bytes = sender.bytes;
+    }
 
 pub put-requires-clause-from : goal.put-requires-clause-from
 put-requires-clause-from c = (is_met c.args.fields.now c.args.comer c.args.met.0 c.args.met.1 (sym c.requires.found.met ∙ c.requires.met) c.requires.able.whole.limited c.requires.able.whole.meeting).from
@@ -48,7 +80,7 @@ pub take_part-requires-clause-made : goal.take_part-requires-clause-made
 take_part-requires-clause-made c =
     let old = c.args.fields.now in
     let m = is_met old c.args.comer c.args.met.0 c.args.met.1 (sym c.requires.found.met ∙ c.requires.met) c.requires.able.whole.limited c.requires.able.whole.meeting in
-    let w = Pair c.sender_of-sender.result c.receiver_of.result in
+    let w = Pair c.sender_of-sender.result c.receiver_of-receiver.result in
     (m.from, omega (arith, m.to, ap (λ (o : Owned). length o.whose) c.put.ensures, length-set old.whose.whose (c.args.met.0.0 - 1) w))
 
 pub take_part-requires-clause-whole : goal.take_part-requires-clause-whole
@@ -60,14 +92,14 @@ take_part-requires-clause-whole c =
     let counted = record old { events = old.events + 1 } in
     let was = whole_counted old comer.side.actor.0 c.requires.able in
     let m = is_met old comer serial c.args.met.1 (sym c.requires.found.met ∙ c.requires.met) c.requires.able.whole.limited c.requires.able.whole.meeting in
-    let w = Pair c.sender_of-sender.result c.receiver_of.result in
+    let w = Pair c.sender_of-sender.result c.receiver_of-receiver.result in
     let doing = c.start_comm.new.self in
     let begun = c.start_comm.ensures in
     let entered = c.enter.ensures in
     let sides = sides_limited e comer c.args.met.1 c.requires.comer.side m.limited in
     let whose : c.put.new.self.whose ≡ set old.whose.whose (serial.0 - 1) w = ap (λ (o : Owned). o.whose) c.put.ensures in
-    let both : IsOwner e w = (subst (IsSide e) (sym c.sender_of-sender.ensures) sides.0, subst (IsSide e) (sym c.receiver_of.ensures) sides.1) in
-    let task = comm_of (record { links = c.args.links.now }) c.latency_over-lasts.result c.sender_of-sender.result.bytes c.own_bound-bound.result in
+    let both : IsOwner e w = (subst (IsSide e) (sym c.sender_of-sender.ensures) sides.0, subst (IsSide e) (sym c.receiver_of-receiver.ensures) sides.1) in
+    let task = comm_of (record { links = c.args.links.now; sender = c.point_of-from.result.0; receiver = c.point_of-to.result.0 }) c.latency_over-lasts.result c.sender_of-sender.result.bytes c.own_bound-bound.result in
     let place : serial.0 - 1 < length old.whose.whose = omega (arith, m.from, m.to) in
     let tasks : doing.under.tasks ≡ set old.doing.under.tasks (serial.0 - 1) (Some task) = ap (λ (d : Doing). d.under.tasks) begun in
     let long = ap length tasks ∙ length-set old.doing.under.tasks (serial.0 - 1) (Some task) in
@@ -84,6 +116,7 @@ take_part-requires-clause-whole c =
         requests = omega (arith, was.roomy.requests);
       };
       dated = omega (arith, was.dated, ap (λ (d : Doing). d.under.date) begun);
+      timely = subst (IsTimelyAt counted) (sym (ap (λ (d : Doing). d.under.date) begun)) was.timely;
       limited = subst (All (IsOwner e)) (sym whose) (All-set (IsOwner e) old.whose.whose (serial.0 - 1) w both was.limited);
       meeting = record {
         posts = subst (AreTold c.enter.new.self) (ap (λ (s : Serial). set old.whose.whose (s.0 - 1) w) m.serial_is ∙ sym whose) told;

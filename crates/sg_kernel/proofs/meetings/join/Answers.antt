@@ -8,10 +8,11 @@ use Rattle.sg_route.specs.Route.{Route, route_of}
 use Rattle.sg_route.specs.Route.{LeavesRoute}
 use Rattle.sg_kernel.specs.World.{extent}
 use Rattle.sg_kernel.specs.Known.{after}
-use Rattle.sg_kernel.specs.Meetings.{joined, point_of, sender_of, receiver_of, stop_of}
+use Rattle.sg_kernel.specs.Meetings.{point_of, stop_of}
 use Rattle.sg_kernel.specs.Steps.{Step, counted, result_of}
 use Rattle.sg_kernel.specs.kept.Sound.{core_of, known_of, setup_in, IsSide}
-use Rattle.sg_kernel.proofs.Mets.{comes_met, is_met, routed_err, routed_ok, sides_limited, takes_part_on}
+use Rattle.sg_kernel.proofs.Mets.{comes_met, is_met, routed_err, routed_ok, sides_limited}
+use Rattle.sg_kernel.proofs.Unmet.{joins_goes}
 use Rattle.sg_kernel.proofs.meetings.join.Goals as goal
 
 pub point_of-from-requires : goal.point_of-from-requires
@@ -37,7 +38,7 @@ returns-in-Ok-clause-known c =
     let routed = subst (λ (r : Result ℕ RouteFault). LeavesRoute between r c.route.new.links.items) c.in-Ok.is c.route.ensures.route in
     let way : between ≡ Ok route = routed_ok between c.in-Ok.latency c.route.new.links.items routed ∙ ap (λ (l : List LinkId). Ok (record { links = l; latency = c.in-Ok.latency })) (sym c.as_slice.ensures.value) in
     let told = comes_met old c.args.router.now c.args.comer c.args.met.0 c.args.met.1 c.sender_of.result c.receiver_of.result c.point_of-from.result c.point_of-to.result (Ok route) m c.requires.able.whole.meeting c.sender_of.ensures c.receiver_of.ensures c.point_of-from.ensures c.point_of-to.ensures way in
-    c.begin.ensures.known ∙ sym (ap (λ (s : Step). record (after s (known_of old)) { room = old.states.room - 1 }) told.1)
+    c.meet.ensures.known ∙ sym (ap (λ (s : Step). record (after s (known_of old)) { room = old.states.room - 1 }) told.1)
 
 pub returns-in-Ok-clause-result : goal.returns-in-Ok-clause-result
 returns-in-Ok-clause-result c =
@@ -48,7 +49,7 @@ returns-in-Ok-clause-result c =
     let routed = subst (λ (r : Result ℕ RouteFault). LeavesRoute between r c.route.new.links.items) c.in-Ok.is c.route.ensures.route in
     let way : between ≡ Ok route = routed_ok between c.in-Ok.latency c.route.new.links.items routed in
     let told = comes_met old c.args.router.now c.args.comer c.args.met.0 c.args.met.1 c.sender_of.result c.receiver_of.result c.point_of-from.result c.point_of-to.result (Ok route) m c.requires.able.whole.meeting c.sender_of.ensures c.receiver_of.ensures c.point_of-from.ensures c.point_of-to.ensures way in
-    let goes = takes_part_on c.args.comer.waits c.args.comer c.args.met.0.0 (joined (setup_in old) c.args.met.0.0 route (sender_of c.args.comer c.args.met.1) (receiver_of c.args.comer c.args.met.1) (counted (core_of old))) in
+    let goes = joins_goes route (setup_in old) c.args.comer c.args.met.0 c.args.met.1 (counted (core_of old)) in
     sym (ap (λ (s : Step). result_of s.stop) told.1 ∙ ap result_of goes)
 
 pub returns-in-Err-clause-known : goal.returns-in-Err-clause-known

@@ -10,6 +10,7 @@ use Rattle.sg_kernel.specs.World.{extent}
 use Rattle.sg_kernel.specs.kept.Owners.{Owned}
 use Rattle.sg_kernel.specs.kept.Sound.{setup_in, IsOwner}
 use Rattle.sg_kernel.proofs.Begins.{held_with, sound_with}
+use Rattle.sg_kernel.proofs.Timely.{IsTimelyAt}
 use Rattle.sg_kernel.proofs.Meets.{AreIdle, AreTold, idle_more, made_more, told_posted}
 use Rattle.sg_kernel.proofs.Mets.{waiting_below}
 use Rattle.sg_kernel.proofs.Moves.{whole_counted}
@@ -44,6 +45,7 @@ take_part-requires-clause-whole c =
         requests = omega (arith, was.roomy.requests);
       };
       dated = omega (arith, was.dated, ap (λ (d : Doing). d.under.date) drawn);
+      timely = subst (IsTimelyAt counted) (sym (ap (λ (d : Doing). d.under.date) drawn)) was.timely;
       limited = subst (All (IsOwner e)) (sym whose) (All-push (IsOwner e) old.whose.whose w was.limited c.requires.comer.side);
       meeting = record {
         posts =

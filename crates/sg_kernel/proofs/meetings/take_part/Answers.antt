@@ -61,6 +61,7 @@ returns-else-comer-clause-whole c =
       };
       roomy = record { starts = was.roomy.starts; owners = was.roomy.owners; mailboxes = was.roomy.mailboxes; requests = omega (arith, c.requires.room, ap (λ (r : Requested). r.room) c.push.ensures) };
       dated = was.dated;
+      timely = was.timely;
       limited = was.limited;
       meeting = record {
         posts = was.meeting.posts;

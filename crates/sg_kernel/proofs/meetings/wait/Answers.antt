@@ -31,6 +31,7 @@ asking_less fields actor requests is able =
         };
         roomy = record { starts = was.roomy.starts; owners = was.roomy.owners; mailboxes = was.roomy.mailboxes; requests = omega (arith, was.roomy.requests, ap (λ (r : Requested). r.room) is) };
         dated = was.dated;
+        timely = was.timely;
         limited = was.limited;
         meeting = record { posts = was.meeting.posts; idle = was.meeting.idle; asked = subst (AreMade n) (sym queues) (made_taken n fields.requests.queues actor was.meeting.asked) };
         held = record { owners = was.held.owners; counts = was.held.counts; actors = was.held.actors; few = was.held.few; once = was.held.once; held = was.held.held; locking = was.held.locking; acquiring = was.held.acquiring };

@@ -6,6 +6,7 @@ pub returns-clause-passing : goal.returns-clause-passing
 returns-clause-passing c = record {
   sound = grind (arith, common_steps);
   roomy = grind (arith, common_steps);
+  timely = search rules;
   limited = grind (arith, common_steps);
   meeting = search rules;
   held = search rules;

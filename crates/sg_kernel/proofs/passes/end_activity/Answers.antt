@@ -3,6 +3,7 @@ use Rattle.std.proofs.Common.{arith, rules, ◌+◌, ◌-◌, ◌∙◌, set, sy
 use Rattle.sg_activity.specs.Doing.{Doing, ended_first}
 use Rattle.sg_activity.specs.Task.{phase_after}
 use Rattle.sg_kernel.specs.kept.Owners.{Owned}
+use Rattle.sg_kernel.specs.declared.owners.How.TheVariants as how
 use Rattle.sg_kernel.proofs.PostsKept.{meeting_gone, last_phase}
 use Rattle.sg_kernel.proofs.passes.end_activity.Goals as goal
 
@@ -17,8 +18,9 @@ answer_owners-requires-clause-passing c =
     record {
       sound = grind (arith, common_steps);
       roomy = grind (arith, common_steps);
+      timely = search rules;
       limited = grind (arith, common_steps);
-      meeting = meeting_gone (record old { events = old.events + 1 }) c.take-whose.new.self c.finish.new.self place due.task due.at (ap (λ (o : Owned). o.whose) c.take-whose.ensures.is) over (record { posts = m.posts; idle = m.idle; asked = m.asked });
+      meeting = meeting_gone (record old { events = old.events + 1 }) c.take-whose.new.self c.finish.new.self how.Done place due.task due.at (ap (λ (o : Owned). o.whose) c.take-whose.ensures.is) over (record { posts = m.posts; idle = m.idle; asked = m.asked });
       held = search rules;
       passing = search rules;
       small = search rules;

@@ -1,9 +1,10 @@
-use Rattle.std.proofs.Common.{◌≡◌, ◌≢◌, inl, inr, drop, sym, ap, ◌∙◌, arith}
+use Rattle.std.proofs.Common.{◌≡◌, ◌≢◌, inl, refl, drop, sym, ap, ◌∙◌, arith}
 use Rattle.sg_kernel.specs.Known.{Known}
 use Rattle.sg_kernel.specs.Passes.{ends}
 use Rattle.sg_kernel.specs.Steps.{result_of}
 use Rattle.sg_kernel.specs.World.{Setup}
 use Rattle.sg_kernel.specs.kept.Sound.{known_of, setup_in}
+use Rattle.sg_kernel.proofs.Counting.{counted_more, counts_all, counts_used}
 use Rattle.sg_kernel.proofs.Each.{still, still_stops, still_none, stops_none}
 use Rattle.sg_kernel.proofs.Ends.{still_ends, still_used}
 use Rattle.sg_kernel.proofs.passes.end_due.Goals as goal
@@ -32,6 +33,15 @@ returns-then-fields-clause-result c =
     ∙ inv.stop
     )
 
+pub returns-then-fields-clause-events : goal.returns-then-fields-clause-events
+returns-then-fields-clause-events c =
+    let now = c.loop-phase.fields in
+    let inv = c.loop-phase.invariant in
+    counts_used c.args.fields.now now c.args.fields.now.doing.due now.doing.due inv.events (sym (ap (λ (s : Setup). s.budget) inv.setup)) c.if-fields.true
+
+pub loop-phase-init : goal.loop-phase-init
+loop-phase-init c = record { passing = c.requires; setup = refl; known = refl; stop = refl; date = refl; events = inl (refl, refl) }
+
 pub loop-phase-preserved : goal.loop-phase-preserved
 loop-phase-preserved c =
     let setup = setup_in c.args.fields.now in
@@ -57,7 +67,7 @@ loop-phase-preserved c =
           ∙ ap (λ d. still_stops (ends setup) d (known_of old)) (sym due.first)
           ∙ inv.stop;
       date = made.date ∙ inv.date;
-      events = elim inv.events [ inl e ↦ inr (omega (arith, e.0, made.events)) | inr lt ↦ inr (omega (arith, lt, made.events)) ];
+      events = counted_more c.args.fields.now old new c.args.fields.now.doing.due old.doing.due new.doing.due inv.events (omega (arith, made.events));
     }
 
 pub returns-clause-known : goal.returns-clause-known
@@ -79,3 +89,8 @@ returns-clause-result c =
     ∙ ap (λ d. still_stops (ends setup) d (known_of now)) (sym c.in_default.ensures)
     ∙ inv.stop
     )
+
+pub returns-clause-events : goal.returns-clause-events
+returns-clause-events c =
+    let now = c.loop-phase.fields in
+    counts_all c.args.fields.now now c.args.fields.now.doing.due now.doing.due c.loop-phase.invariant.events c.in_default.ensures

@@ -1,7 +1,8 @@
-use Rattle.std.proofs.Common.{◌≡◌, ◌≢◌, ◌<◌, ◌⊎◌, [], length}
+use Rattle.std.proofs.Common.{◌≡◌, length}
 use Rattle.sg_kernel.specs.Passes.{ends}
 use Rattle.sg_kernel.specs.kept.Sound.{known_of, setup_in}
 use Rattle.sg_kernel.specs.kept.Whole.{IsPassing}
+use Rattle.sg_kernel.proofs.Counting.{Counted}
 use Rattle.sg_kernel.proofs.Each.{still, still_stops}
 use Rattle.sg_kernel.proofs.passes.end_due.Given as goal
 
@@ -12,7 +13,7 @@ invariant-loop-phase l = record {
   known : still (ends (setup_in l.fn.fields)) l.fields.doing.due (known_of l.fields) ≡ still (ends (setup_in l.fn.fields)) l.fn.fields.doing.due (known_of l.fn.fields);
   stop : still_stops (ends (setup_in l.fn.fields)) l.fields.doing.due (known_of l.fields) ≡ still_stops (ends (setup_in l.fn.fields)) l.fn.fields.doing.due (known_of l.fn.fields);
   date : l.fields.doing.under.date ≡ l.fn.fields.doing.under.date;
-  events : ((l.fields.events ≡ l.fn.fields.events) × (l.fields.doing.due ≢ [])) ⊎ (l.fn.fields.events < l.fields.events);
+  events : Counted l.fn.fields l.fields l.fn.fields.doing.due l.fields.doing.due;
 }
 
 abbrev pub decreases-loop-phase : goal.decreases-loop-phase

@@ -7,7 +7,7 @@ use Rattle.sg_lazy.specs.kept.Component.{AreVisited, IsOpen, lengths}
 use Rattle.sg_lazy.specs.kept.Filling.{AreJoined, AreLeveled, KeepsOthers, bound_at, flow_in, flows_at}
 use Rattle.sg_lazy.specs.kept.Parts.{fill_looks}
 use Rattle.sg_lazy.proofs.Apart.{first_of}
-use Rattle.sg_lazy.proofs.Filled.{filled_on, rest_is, lengths_came, looks_are, part_joined, part_live, part_looks, part_twice, visited_on}
+use Rattle.sg_lazy.proofs.Filled.{filled_on, rest_is, lengths_came, looks_are, part_joined, part_live, part_looks, part_twice, some_came, visited_on}
 use Rattle.sg_lazy.proofs.Growing.{grows_on, stays}
 use Rattle.sg_lazy.proofs.Rows.{held_below}
 use Rattle.sg_lazy.proofs.by_part.fill_part.Goals as goal
@@ -98,11 +98,12 @@ returns-clause-on g c =
     ap (λ (xs : List ℕ). lengths users (take (length xs) b.reached.members)) c.members-reached.ensures.members ∙ ap (lengths users) (first_of a.reached.members b.reached.members one.reached) in
     let fill = subst (λ (xs : List ℕ). c.fill.new.steps ≤ c.reach.new.steps + lengths uses xs + length xs * (3 * lengths uses xs)) part c.fill.ensures.looks in
     let most : c.fill.new.steps ≤ c.args.steps.now + 2 * lengths uses t' + lengths uses t' + length t' * (3 * lengths uses t') = omega (arith, c.touch.ensures.looks, c.reach.ensures.looks, twice, came, reached, before, fill) in
+    let some = some_came a.touched.members z.touched.members c.args.flow gt c.requires.untouched (stays c.args.flow b.touched.members z.touched.members two.touched c.touch.ensures.there) in
     record {
       touched = gt;
       reached = gr;
-      looks = subst (λ w. c.fill.new.steps + fill_looks s a ≤ c.args.steps.now + w) (sym (looks_are s c.requires.sound a z c.args.filling.now c.requires.filled gt gr c.reach.ensures.closed live once distinct))
-          (part_looks (lengths uses a.touched.members) (lengths uses t') (length a.touched.members) (length t') c.args.steps.now c.fill.new.steps most);
+      looks = subst (λ w. c.fill.new.steps + 1 + fill_looks s a ≤ c.args.steps.now + w) (sym (looks_are s c.requires.sound a z c.args.filling.now c.requires.filled gt gr c.reach.ensures.closed live once distinct))
+          (part_looks (lengths uses a.touched.members) (lengths uses t') (length a.touched.members) (length t') c.args.steps.now c.fill.new.steps some most);
     }
 
 pub returns-clause-there : goal.returns-clause-there

@@ -4,7 +4,7 @@ use Rattle.sg_base.specs.MarkSet.{MarkSet, is_in, with_mark}
 use Rattle.sg_maxmin.specs.Sharing.{uses_at}
 use Rattle.sg_chains.specs.Walk.{next_of_flow, resource_of}
 use Rattle.sg_lazy.specs.kept.Component.{AllPass, Grows}
-use Rattle.sg_lazy.proofs.Growing.{grows_on, grows_mark, stays, marked, few_mark, pass_mark}
+use Rattle.sg_lazy.proofs.Growing.{grows_on, grows_mark, stays, mark_there, few_mark, pass_mark}
 use Rattle.sg_lazy.proofs.Led.{can_look, looked, walk_on, nearer, walked}
 use Rattle.sg_lazy.proofs.component.mark_uses.Goals as goal
 
@@ -45,7 +45,7 @@ loop-at-preserved g c =
         grows = subst (λ xs. Grows c.args.reached.now.members xs) (sym e) (grows_on c.args.reached.now.members old (with_mark number old) inv.1.grows (grows_mark number old));
         room = ap (λ (x : MarkSet). x.room) c.insert.ensures ∙ inv.1.room;
         done = λ i h. below_more _ _ (λ i h. subst (λ xs. is_in (get_or row i 0) xs ≡ true) (sym e) (stays (get_or row i 0) old (with_mark number old) (grows_mark number old) (inv.1.done i h)))
-            (subst (λ xs. is_in number xs ≡ true) (sym e) (marked number old)) i (omega (arith, h));
+            (subst (λ xs. is_in number xs ≡ true) (sym e) (mark_there number old)) i (omega (arith, h));
         few = omega (arith, ap length e, few_mark number old, inv.1.few);
         least = λ q all start. subst (AllPass q) (sym e) (pass_mark q number old (all k r.less) (inv.1.least q all start));
         looks = omega (arith, inv.1.looks, c.look-one.ensures.looks);

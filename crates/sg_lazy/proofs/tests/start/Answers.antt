@@ -18,7 +18,7 @@ returns-clause-paired c =
     let adds = c.add-twin.ensures in
     let still = pairs_stay a b s t c.args.twins.now.items twins c.requires.paired (ap length roomier.capacities) (ap length wider.capacities)
     (λ id h. ap is_some (roomier.runs id) ∙ h) (λ id h. ap is_some (wider.slots.same id) ∙ h) c.lengthen.ensures.same in
-    pairs_start b c.start-id.new.self t c.add-twin.new.self twins c.start-id.result c.add-twin.result (record { flow = its; rate = 0; began = true }) still
+    pairs_start b c.start-id.new.self t c.add-twin.new.self twins c.start-id.result c.add-twin.result (record { flow = its; rate = 0; began = true; marked = true }) still
     (ap (λ (x : Lazily). length x.capacities) starts.starts) (ap length adds.capacities) starts.in_range
     (omega (arith, starts.in_range, c.reserve.ensures.few, c.numbers.ensures, c.in-Some.ensures, c.in_ok-lengthen.ensures.long))
     (ap (λ (x : Lazily). x.slots) starts.starts) adds.free (ap is_some adds.added.changed) adds.added.others

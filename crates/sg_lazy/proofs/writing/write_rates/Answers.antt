@@ -2,14 +2,14 @@ use Rattle.std.proofs.Common.{◌≡◌, ◌≢◌, ℕ, Bool, true, false, true
 use Rattle.sg_base.specs.MarkSet.{MarkSet, is_in, with_mark}
 use Rattle.sg_lazy.specs.kept.Changes.{did_change}
 use Rattle.sg_lazy.specs.kept.Filling.{given_at}
-use Rattle.sg_lazy.proofs.Growing.{marked}
+use Rattle.sg_lazy.proofs.Growing.{mark_there}
 use Rattle.sg_lazy.proofs.Listing.{eq_cases, is_in_other}
 use Rattle.sg_lazy.proofs.Taking.{in_take_self, in_take_other, not_before, mark_once}
 use Rattle.sg_lazy.proofs.writing.write_rates.Goals as goal
 
 -- a flow was marked where it changed
 at_flow : (d : Bool) (flow : ℕ) (old : List ℕ) → is_in flow old ≡ false → is_in flow (cond d (with_mark flow old) old) ≡ d
-at_flow true flow old off = marked flow old
+at_flow true flow old off = mark_there flow old
 at_flow false flow old off = off
 
 at_other : (d : Bool) (id flow : ℕ) (old : List ℕ) → id ≢ flow → is_in id (cond d (with_mark flow old) old) ≡ is_in id old

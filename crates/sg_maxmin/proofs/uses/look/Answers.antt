@@ -1,7 +1,7 @@
 use Rattle.std.proofs.Common.{◌≡◌, ◌-◌, Some, is_some, ◌∷◌, sym, ap, subst, ◌∙◌}
 use Rattle.sg_chains.specs.declared.uses.Use.{Use}
 use Rattle.sg_chains.specs.Chain.{IsChain, resources}
-use Rattle.sg_chains.proofs.ChainLemmas.{Front, front_of, no_front}
+use Rattle.sg_chains.proofs.ChainLemmas.{front_of, no_front}
 use Rattle.sg_maxmin.proofs.uses.look.Goals as goal
 
 pub unreachable-requires : goal.unreachable-requires

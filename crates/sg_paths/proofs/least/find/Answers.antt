@@ -217,7 +217,7 @@ write_links-requires-clause-back c =
     let hop : Settled = record { point = route.from; route = i; next = c.index.result.now } in
     let below_next : c.index.result.now < length settled = slice_get_within settled c.index.result.now next.0 next.1 in
     let R : List Settled → Type 0 = λ l. LeadsBack l in
-    let same : settled ++ hop ∷ [] ≡ c.as_slice-then-point-from.result.now = sym (c.as_slice-then-point-from.ensures.value ∙ c.settle.ensures.settled) in
+    let same : settled ++ hop ∷ [] ≡ c.deref.result.now = sym (c.deref.ensures.value ∙ c.settle.ensures.settled) in
     subst R same (leads_back settled hop inv.back below_next)
 
 pub write_links-requires-clause-next : goal.write_links-requires-clause-next
@@ -237,7 +237,7 @@ write_links-requires-clause-next c =
     let next : IsSettledAt settled c.index.result.now route.to = next_read routes to settled places old ranks i k d c.index-routes-i-in-Some.result c.index.result.now _ inv.state inv.places at c.index.ensures in
     let hop : Settled = record { point = route.from; route = i; next = c.index.result.now } in
     let below_next : c.index.result.now < length settled = slice_get_within settled c.index.result.now next.0 next.1 in
-    let same : length c.as_slice-then-point-from.result.now ≡ length (settled ++ hop ∷ []) = ap (length {A = Settled}) (c.as_slice-then-point-from.ensures.value ∙ c.settle.ensures.settled) in
+    let same : length c.deref.result.now ≡ length (settled ++ hop ∷ []) = ap (length {A = Settled}) (c.deref.ensures.value ∙ c.settle.ensures.settled) in
     omega (arith, below_next, same, length-append settled (hop ∷ []))
 
 pub returns-then-point-from-clause-yes : goal.returns-then-point-from-clause-yes
@@ -261,7 +261,7 @@ returns-then-point-from-clause-yes c =
     let Q : List Settled → Type 0 = λ l. IsNew l route.from in
     let new_point : IsNew settled route.from = subst Q c.as_slice.ensures.value (c.in_default-place_of.ensures.none refl) in
     let nearest = is_nearest routes to settled places ranks i k hop route old inv.state at.first inv.places back at.there refl refl next new_point in
-    let same : c.as_slice-then-point-from.result.now ≡ settled ++ hop ∷ [] = c.as_slice-then-point-from.ensures.value ∙ c.settle.ensures.settled in
+    let same : c.deref.result.now ≡ settled ++ hop ∷ [] = c.deref.ensures.value ∙ c.settle.ensures.settled in
     let R : List Settled → Type 0 = λ l. AreLinksOf routes l hop c.write_links.new.out.items in
     let S : ℕ → Type 0 = λ p. IsLeastPath routes p to c.write_links.new.out.items in
     subst S c.if-point-from.true (hop_is_least routes to settled ranks hop old c.write_links.new.out.items inv.state inv.root inv.back nearest (subst R same c.write_links.ensures.links))

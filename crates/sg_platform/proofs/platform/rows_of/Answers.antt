@@ -1,6 +1,6 @@
 use Rattle.std.proofs.Common.{◌≡◌, ◌∙◌, ap, map, subst, sym}
 use Rattle.sg_platform.proofs.RowsRead.{IsRead, rows_read}
-use Rattle.sg_platform.specs.Build.{host_row, link_row, network_of, route_row, router_row, spoke_row, zone_route_row, zone_row}
+use Rattle.sg_platform.specs.Build.{host_row, link_row, network_of, profile_row, route_row, router_row, spoke_row, state_profile_row, zone_route_row, zone_row}
 use Rattle.sg_rows.specs.Ends.{link_ends}
 use Rattle.sg_rows.specs.Platform.{IsPlatform, Platform}
 use Rattle.sg_rules.specs.kept.NamesView.{names_view}
@@ -21,6 +21,8 @@ with_rows-requires c =
       zone_routes = c.in_ok-zone_routes.zone_routes.items;
       spokes = c.in_ok-spokes.spokes.items;
       network = c.network_of.result;
+      profiles = c.in_ok-profiles.profiles.items;
+      state_profiles = c.in_ok-state_profiles.state_profiles.items;
     } in
     let read : IsRead names tree made = record {
       zones = c.in_ok-zones.ensures ∙ ap (map (zone_row names)) c.rows_at.ensures;
@@ -30,7 +32,9 @@ with_rows-requires c =
       routes = c.in_ok-routes.ensures ∙ ap (map (route_row names)) c.rows_at-5.ensures;
       zone_routes = c.in_ok-zone_routes.ensures ∙ ap (map (zone_route_row names)) c.rows_at-6.ensures;
       spokes = c.in_ok-spokes.ensures ∙ (λ i. map (spoke_row names (ends i)) (c.rows_at-7.ensures i));
-      network = c.network_of.ensures ∙ ap network_of c.rows_at-8.ensures;
+      network = c.network_of.ensures ∙ ap network_of c.rows_at-9.ensures;
+      profiles = c.in_ok-profiles.ensures ∙ ap (map (profile_row names)) c.rows_at-8.ensures;
+      state_profiles = c.in_ok-state_profiles.ensures ∙ ap (map (state_profile_row names)) c.rows_at-states.ensures;
     } in
     subst IsPlatform (sym (rows_read names tree made read)) c.requires
 
@@ -47,5 +51,7 @@ returns c =
       routes = c.in_ok-routes.ensures ∙ ap (map (route_row names)) c.rows_at-5.ensures;
       zone_routes = c.in_ok-zone_routes.ensures ∙ ap (map (zone_route_row names)) c.rows_at-6.ensures;
       spokes = c.in_ok-spokes.ensures ∙ (λ i. map (spoke_row names (ends i)) (c.rows_at-7.ensures i));
-      network = c.network_of.ensures ∙ ap network_of c.rows_at-8.ensures;
+      network = c.network_of.ensures ∙ ap network_of c.rows_at-9.ensures;
+      profiles = c.in_ok-profiles.ensures ∙ ap (map (profile_row names)) c.rows_at-8.ensures;
+      state_profiles = c.in_ok-state_profiles.ensures ∙ ap (map (state_profile_row names)) c.rows_at-states.ensures;
     })

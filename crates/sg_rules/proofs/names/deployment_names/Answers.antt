@@ -17,6 +17,10 @@ returns c = rw (← c.rows_at-rows.ensures, ← c.rows_at.ensures, ← c.rows_at
       pairs = λ q. let empty : get_by (pair_eq q) c.new-3.result ≡ None = rw c.new-3.ensures.empty in empty;
       zone_pairs = λ q. let empty : get_by (pair_eq q) c.new-4.result ≡ None = rw c.new-4.ensures.empty in empty;
       children = λ q. let empty : get_by_text c.new-5.result q ≡ None = rw c.new-5.ensures.empty in empty;
+      profiled_hosts = c.none.ensures.hosts;
+      profiled_links = c.none.ensures.links;
+      switched_hosts = c.none-2.ensures.hosts;
+      switched_links = c.none-2.ensures.links;
       actors = c.in_ok-actors.ensures;
       workers = c.in_ok-workers.ensures;
       mutexes = c.in_ok-mutexes.ensures;

@@ -7,6 +7,7 @@ use Rattle.sg_rules.proofs.NameLemmas.{known_same}
 use Rattle.sg_rules.specs.LinkNames.{declared_numbers, taken_numbers}
 use Rattle.sg_rules.specs.Names.{platform_known, point_numbers, points_in}
 use Rattle.sg_rules.specs.Pairs.{pair_numbers}
+use Rattle.sg_rules.specs.Profiles.{subjects_of}
 use Rattle.sg_tree.specs.Names.{Finds, Pair, names_from, pair_eq}
 use Rattle.sg_tree.specs.Tree.{rows_at}
 use Rattle.toml.specs.View.{table_view, view}
@@ -39,6 +40,10 @@ returns c =
       pairs = λ q. c.in_ok-pairs.ensures.pairs q ∙ pairs q;
       zone_pairs = λ q. c.in_ok-pairs.ensures.zone_pairs q ∙ zone_pairs q;
       children = λ q. c.in_ok-children.ensures q ∙ ap (λ rows. lookup (bytes_eq q) (names_from (codes "child") 0 rows)) c.rows_at-3.ensures;
+      profiled_hosts = λ q. c.in_ok-profiles.ensures.hosts q ∙ ap (λ rows. (subjects_of rows).hosts q) c.rows_at-4.ensures;
+      profiled_links = λ q. c.in_ok-profiles.ensures.links q ∙ ap (λ rows. (subjects_of rows).links q) c.rows_at-4.ensures;
+      switched_hosts = λ q. c.in_ok-state_profiles.ensures.hosts q ∙ ap (λ rows. (subjects_of rows).hosts q) c.rows_at-5.ensures;
+      switched_links = λ q. c.in_ok-state_profiles.ensures.links q ∙ ap (λ rows. (subjects_of rows).links q) c.rows_at-5.ensures;
       actors = λ q. let empty : get_by_text c.new.result q ≡ None = rw c.new.ensures.empty in empty;
       workers = λ q. let empty : get_by_text c.new-2.result q ≡ None = rw c.new-2.ensures.empty in empty;
       mutexes = λ q. let empty : get_by_text c.new-3.result q ≡ None = rw c.new-3.ensures.empty in empty;

@@ -14,17 +14,17 @@ run-ended-requires-clause-crew g c κs within = record { blank = c.requires.blan
 
 pub returns-clause-output : goal.returns-clause-output
 returns-clause-output g c = λ s gives.
-    let job = job_view c.args.job.now in
-    let on = setting_in c.args.setup.now in
+    let job = job_view c.args.on.job.now in
+    let on = setting_in c.args.on.setup in
     let terms = c.terms_for-terms.result in
     let asked = c.terms_for-terms.ensures in
     let run = c.run-ended.ensures.output s (λ scripted. begun_gives _ _ _ s c.begin_script.ensures.left (gives (subst (λ (b : Bool). IsTrue b) c.requires.setup.script scripted))) in
     record {
       outcome = record {
-        prints = run_prints_on job on c.args.setup.now.script terms.budget terms.show s c.run-ended.result c.status.result _ _ c.requires.setup.script asked.budget asked.show c.status.ensures.is run.ends;
-        counts = run_counts_on job on c.args.setup.now.script terms.budget terms.show s _ _ c.requires.setup.script asked.budget asked.show run.work;
+        prints = run_prints_on job on c.args.on.setup.script terms.budget terms.show s c.run-ended.result c.status.result _ _ c.requires.setup.script asked.budget asked.show c.status.ensures.is run.ends;
+        counts = run_counts_on job on c.args.on.setup.script terms.budget terms.show s _ _ c.requires.setup.script asked.budget asked.show run.work;
       };
-      needed = run_needs_on job on c.args.setup.now.script terms.budget terms.show s _ _ _ c.requires.setup.script asked.budget asked.show c.begin_script.ensures.left run.needed;
+      needed = run_needs_on job on c.args.on.setup.script terms.budget terms.show s _ _ _ c.requires.setup.script asked.budget asked.show c.begin_script.ensures.left run.needed;
     }
 
 pub returns-clause-crew : goal.returns-clause-crew
@@ -41,6 +41,6 @@ returns-clause-script g c =
     record {
       others = λ q away. script.others q away ∙ c.begin_script.ensures.others q away;
       unscripted = λ none. script.unscripted (c.requires.setup.script ∙ none) ∙ c.begin_script.ensures.unscripted none;
-      named = named_on (request_of c.args.job.now) Script (g.F.Files.shows c.begin_script.new.files Script) (g.F.Files.shows c.run-ended.new.files Script) script.name c.begin_script.ensures.named;
+      named = named_on (request_of c.args.on.job.now) Script (g.F.Files.shows c.begin_script.new.files Script) (g.F.Files.shows c.run-ended.new.files Script) script.name c.begin_script.ensures.named;
       telling = λ told. script.telling (subst (λ (left : Option (List ℕ)). IsSome left) (sym c.begin_script.ensures.left) told);
     }

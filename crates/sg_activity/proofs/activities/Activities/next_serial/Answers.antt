@@ -1,13 +1,7 @@
-use Rattle.std.proofs.Common.{◌≡◌, ◌+◌, length, sym, ap, ◌∙◌, arith}
+use Rattle.std.proofs.Common.{◌+◌, length, ap, arith}
 use Rattle.sg_activity.specs.Doing.{Doing}
 use Rattle.sg_activity.specs.kept.State.{state_of, told_at, task_of}
 use Rattle.sg_activity.proofs.Listing.{length-listed}
-use Rattle.sg_activity.proofs.Going.{gone_told}
-use Rattle.sg_activity.proofs.Due.{due_told}
-use Rattle.sg_activity.proofs.Pooled.{given}
-use Rattle.sg_activity.proofs.Renewed.{dated_next}
-use Rattle.sg_activity.proofs.Turning.{end_under}
-use Rattle.sg_activity.proofs.Settled.{settled_told}
 use Rattle.sg_activity.proofs.activities.Activities.next_serial.Goals as goal
 
 pub returns : goal.returns

@@ -1,32 +1,79 @@
-use Rattle.std.proofs.Common.{◌≡◌, ◌+◌, ◌-◌, ◌*◌, ◌≤◌, sym, ap, ap₂, subst, ◌∙◌, arith}
+use Rattle.std.proofs.Common.{◌≡◌, All, length, refl, sym, ap, ap₂, subst, ◌∙◌, arith}
 use Rattle.sg_activity.specs.declared.kept.Kept.{Kept}
 use Rattle.sg_activity.specs.Doing.{Doing}
+use Rattle.sg_activity.specs.Hosts.{IsHost}
 use Rattle.sg_activity.specs.kept.Sound.{IsSound}
-use Rattle.sg_activity.specs.kept.State.{state_of, doing_of}
+use Rattle.sg_activity.specs.kept.State.{state_of}
 use Rattle.sg_activity.proofs.Grown.{sound_grown, grown_doing}
+use Rattle.sg_activity.specs.kept.Hits.{AreHit, AreSwitches}
+use Rattle.sg_activity.proofs.Hitting.{hits_grown, hits_wider, slots_enough}
+use Rattle.sg_activity.proofs.Indexing.{used_grown, used_wider}
 use Rattle.sg_activity.proofs.activities.Activities.reserve.Goals as goal
 
 pub invariant_of-self : goal.invariant_of-self
 invariant_of-self c =
     let kept = c.self.inside.kept in
-    let new = c.grow.new.kept in
     let is = c.self.invariant in
+    let wider = c.reserve.ensures.wider in
+    record {
+      sound = is.sound;
+      hosts = is.hosts;
+      used = used_wider (state_of kept).capacities kept.lives.slots kept.ways.items kept.room c.self.inside.index is.used kept.lives.slots kept.ways.items kept.room c.reserve.new.self wider (λ k. refl) (λ k. refl) (omega (arith, is.used.long, wider.longer)) (omega (arith, is.used.uses_free, wider.room));
+      switches = is.switches;
+      hit = is.hit;
+    }
+
+pub invariant_of-self-in_err-reserve-2 : goal.invariant_of-self-in_err-reserve-2
+invariant_of-self-in_err-reserve-2 c =
+    let kept = c.self.inside.kept in
+    let is = c.self.invariant in
+    let wider = c.reserve.ensures.wider in
+    record {
+      sound = is.sound;
+      hosts = is.hosts;
+      used = used_wider (state_of kept).capacities kept.lives.slots kept.ways.items kept.room c.self.inside.index is.used kept.lives.slots kept.ways.items kept.room c.reserve.new.self wider (λ k. refl) (λ k. refl) (omega (arith, is.used.long, wider.longer)) (omega (arith, is.used.uses_free, wider.room));
+      switches = is.switches;
+      hit = subst (AreHit kept) (sym c.in_err-reserve-2.ensures.memory) is.hit;
+    }
+
+pub invariant_of-self-in_err-grow : goal.invariant_of-self-in_err-grow
+invariant_of-self-in_err-grow c =
+    let kept = c.self.inside.kept in
+    let new = c.grow.new.kept in
+    let is = c.self.invariant.sound in
     let g = c.grow.ensures.grows in
+    let wider = c.reserve.ensures.wider in
     let same : new ≡ record new { room = kept.room; flows = kept.flows } = ap₂ (λ r f. record new { room = r; flows = f }) (ap (λ (k : Kept). k.room) g.rest) (ap (λ (k : Kept). k.flows) g.rest) in
-    subst IsSound (sym same) (sound_grown kept new kept.room kept.flows is g is.room.flows (omega (arith, is.room.flow_room, g.flow_room)) (omega (arith, is.room.use_room, g.use_room)) (omega (arith, is.room.keys_free, g.keys_free)))
+    record {
+      sound = subst IsSound (sym same) (sound_grown kept new kept.room kept.flows is g is.room.flows (omega (arith, is.room.flow_room, g.flow_room)) (omega (arith, is.room.use_room, g.use_room)) (omega (arith, is.room.keys_free, g.keys_free)));
+      hosts = subst (λ (k : Kept). All IsHost k.hosts.items) (sym g.rest) c.self.invariant.hosts;
+      used = used_grown kept new c.self.inside.index c.reserve.new.self new.room c.self.invariant.used g wider (omega (arith, c.grow.ensures.few, c.in-Some-checked_add.ensures, c.numbers.ensures, c.in_ok-reserve.ensures.keys))
+          (omega (arith, c.self.invariant.used.uses_free, wider.room, ap (λ (k : Kept). k.room) g.rest));
+      switches = subst (λ (k : Kept). AreSwitches k) (sym g.rest) c.self.invariant.switches;
+      hit = hits_grown kept new c.reserve-2.new.self (subst (AreHit kept) (sym c.in_ok-reserve-2.ensures.room) (hits_wider kept c.self.inside.hits c.in-Some-checked_add.keys c.self.invariant.hit)) g (omega (arith, c.grow.ensures.few, c.in-Some-checked_add.ensures, c.numbers.ensures, slots_enough c.in-Some-checked_add.keys c.self.inside.hits, ap length c.in_ok-reserve-2.ensures.room));
+    }
 
 pub returns-in_err-grow-clause-kept : goal.returns-in_err-grow-clause-kept
 returns-in_err-grow-clause-kept c =
     let kept = c.self.inside.kept in
     let new = c.grow.new.kept in
-    grown_doing kept new kept.room kept.flows c.self.invariant c.grow.ensures.grows new.room ∙ ap (λ (d : Doing). record d { room = new.room }) c.self.view_is
+    grown_doing kept new kept.room kept.flows c.self.invariant.sound c.grow.ensures.grows new.room ∙ ap (λ (d : Doing). record d { room = new.room }) c.self.view_is
 
 pub invariant_of-self-2 : goal.invariant_of-self-2
 invariant_of-self-2 c =
     let kept = c.self.inside.kept in
-    let is = c.self.invariant in
-    sound_grown kept c.grow.new.kept c.max-n.result c.in-Some.flows is c.grow.ensures.grows (omega (arith, c.in-Some.ensures, is.room.flows)) c.in_ok-grow.ensures.flows (omega (arith, c.in-Some-checked_mul.ensures, c.in_ok-grow.ensures.uses)) c.in_ok-grow.ensures.keys
+    let new = c.grow.new.kept in
+    let is = c.self.invariant.sound in
+    let g = c.grow.ensures.grows in
+    record {
+      sound = sound_grown kept new c.max-n.result c.in-Some.flows is g (omega (arith, c.in-Some.ensures, is.room.flows)) c.in_ok-grow.ensures.flows (omega (arith, c.in-Some-checked_mul.ensures, c.in_ok-grow.ensures.uses)) c.in_ok-grow.ensures.keys;
+      hosts = subst (λ (k : Kept). All IsHost k.hosts.items) (sym g.rest) c.self.invariant.hosts;
+      used = used_grown kept new c.self.inside.index c.reserve.new.self c.max-n.result c.self.invariant.used g c.reserve.ensures.wider (omega (arith, c.grow.ensures.few, c.in-Some-checked_add.ensures, c.numbers.ensures, c.in_ok-reserve.ensures.keys))
+          (omega (arith, c.in_ok-reserve.ensures.uses));
+      switches = subst (λ (k : Kept). AreSwitches k) (sym g.rest) c.self.invariant.switches;
+      hit = hits_grown kept new c.reserve-2.new.self (subst (AreHit kept) (sym c.in_ok-reserve-2.ensures.room) (hits_wider kept c.self.inside.hits c.in-Some-checked_add.keys c.self.invariant.hit)) g (omega (arith, c.grow.ensures.few, c.in-Some-checked_add.ensures, c.numbers.ensures, slots_enough c.in-Some-checked_add.keys c.self.inside.hits, ap length c.in_ok-reserve-2.ensures.room));
+    }
 
 pub returns-clause-kept : goal.returns-clause-kept
 returns-clause-kept c =
-    grown_doing c.self.inside.kept c.grow.new.kept c.max-n.result c.in-Some.flows c.self.invariant c.grow.ensures.grows c.max-n.result ∙ ap (λ (d : Doing). record d { room = c.max-n.result }) c.self.view_is
+    grown_doing c.self.inside.kept c.grow.new.kept c.max-n.result c.in-Some.flows c.self.invariant.sound c.grow.ensures.grows c.max-n.result ∙ ap (λ (d : Doing). record d { room = c.max-n.result }) c.self.view_is

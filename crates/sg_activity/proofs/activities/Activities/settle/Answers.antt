@@ -1,78 +1,92 @@
-use Rattle.std.proofs.Common.{◌≡◌, ◌+◌, ◌≤◌, ◌<◌, ℕ, true, false, List, [], option_map, length, sum_by, All, sym, ap, subst, ◌∙◌, refl, arith}
-use Rattle.sg_base.specs.MarkSet.{MarkSet, is_in}
+use Rattle.std.proofs.Common.{◌+◌, ◌<◌, true, false, length, All, sym, ap, subst, ◌∙◌, refl, arith}
+use Rattle.sg_base.specs.MarkSet.{MarkSet}
 use Rattle.sg_activity.specs.Underway.{work_of}
 use Rattle.sg_activity.specs.Doing.{Doing, settled_in}
-use Rattle.sg_activity.specs.kept.Renewal.{HaveKeys, AreRenewed, restamped}
+use Rattle.sg_activity.specs.kept.Renewal.{HaveKeys, AreRenewed}
 use Rattle.sg_activity.specs.kept.Sound.{IsKept}
-use Rattle.sg_activity.specs.kept.State.{State, state_of, doing_of, under_of}
+use Rattle.sg_activity.specs.kept.State.{State, state_of, doing_of}
 use Rattle.sg_activity.proofs.Rates.{work_told}
 use Rattle.sg_activity.proofs.Settled.{keyed_flows, small_lives, marked_below, ahead_stamped, settled_kept, settled_told}
+use Rattle.sg_activity.specs.kept.Index.{used_by}
+use Rattle.sg_activity.specs.kept.Pool.{slot_at}
+use Rattle.sg_activity.specs.kept.State.{links_at}
+use Rattle.sg_activity.specs.kept.Hits.{hit_in}
+use Rattle.sg_activity.proofs.Hitting.{hits_still, hit_stamped}
+use Rattle.sg_activity.proofs.Indexing.{used_still, used_stamped}
 use Rattle.sg_activity.proofs.activities.Activities.settle.Goals as goal
 
 pub restamp-requires-clause-keys : goal.restamp-requires-clause-keys
 restamp-requires-clause-keys g c =
     let kept = c.self.inside.kept in
     let s : State = state_of kept in
-    subst (λ l. HaveKeys s.slots l c.settle.new.self s.date) (sym c.deref.ensures.value) (keyed_flows s kept.lazy c.settle.new.self c.self.invariant.are refl c.settle.ensures.settled)
+    subst (λ l. HaveKeys s.slots l c.settle.new.self s.date) (sym c.deref.ensures.value) (keyed_flows s kept.lazy c.settle.new.self c.self.invariant.sound.are refl c.settle.ensures.settled)
 
 pub renew-requires-clause-below : goal.renew-requires-clause-below
 renew-requires-clause-below g c =
     let kept = c.self.inside.kept in
     let s : State = state_of kept in
     subst (All (λ key. key < length c.restamp.new.lives.slots)) (sym c.members.ensures.members)
-    (marked_below s c.settle.new.self.changed c.restamp.new.fresh.members c.restamp.new.lives.slots c.self.invariant.are c.restamp.ensures.fresh c.restamp.ensures.long)
+    (marked_below s c.settle.new.self.changed c.restamp.new.fresh.members c.restamp.new.lives.slots c.self.invariant.sound.are c.restamp.ensures.fresh c.restamp.ensures.long)
 
 pub renew-requires-clause-small : goal.renew-requires-clause-small
 renew-requires-clause-small g c =
     let kept = c.self.inside.kept in
     let s : State = state_of kept in
-    small_lives s c.settle.new.self.changed c.settle.new.self.slots c.restamp.new.lives.slots c.self.invariant.are c.self.invariant.room.early c.restamp.ensures.slots
+    small_lives s c.settle.new.self.changed c.settle.new.self.slots c.restamp.new.lives.slots c.self.invariant.sound.are c.self.invariant.sound.room.early c.restamp.ensures.slots
 
 pub invariant_of-self : goal.invariant_of-self
 invariant_of-self g c =
     let kept = c.self.inside.kept in
     let s : State = state_of kept in
-    let is = c.self.invariant in
+    let is = c.self.invariant.sound in
     let pool = c.restamp.new.lives in
     let new = c.settle.new.self in
     let by = c.settle.ensures.settled in
     let renewed = subst (λ l. AreRenewed s.keys c.renew.new.agenda pool.slots l) c.members.ensures.members c.renew.ensures.dates in
     let none = ap (λ (m : MarkSet). m.members) c.clear.ensures in
     record {
-      are = subst (λ l. IsKept (record s { slots = pool.slots; keys = c.renew.new.agenda; runs = new.slots; fresh = l; ended = new.ended; settled = true; arrived = false })) (sym none)
-          (settled_kept s kept.lazy new pool kept.fresh c.restamp.new.fresh c.renew.new.agenda is.are refl is.room.capacities by refl kept.lives refl c.restamp.ensures renewed);
-      room = record {
-        capacities = by.capacities_kept ∙ is.room.capacities;
-        few = is.room.few;
-        early = is.room.early;
-        flows = is.room.flows ∙ ap (λ n. kept.room + n) (sym (ahead_stamped new.changed new.slots s.date s.slots pool.slots c.restamp.ensures.slots c.restamp.ensures.long));
-        flow_room = omega (arith, is.room.flow_room, by.flow_room_back);
-        use_room = omega (arith, is.room.use_room, by.use_room_back);
-        keys_free = omega (arith, is.room.keys_free, c.restamp.ensures.room);
-        ways_long = omega (arith, is.room.ways_long, c.restamp.ensures.long);
-        agenda_long = omega (arith, is.room.agenda_long, c.restamp.ensures.long, c.renew.ensures.long);
-        fresh_room = omega (arith, is.room.fresh_room, c.restamp.ensures.long, c.restamp.ensures.fresh_room, ap (λ (m : MarkSet). m.room) c.clear.ensures);
-        by_flow_long = omega (arith, is.room.by_flow_long, by.numbers);
+      sound = record {
+        are = subst (λ l. IsKept (record s { slots = pool.slots; keys = c.renew.new.agenda; runs = new.slots; fresh = l; ended = new.ended; resources = new.resources; settled = true; arrived = false })) (sym none)
+            (settled_kept s kept.lazy new pool kept.fresh c.restamp.new.fresh c.renew.new.agenda is.are refl is.room.capacities by refl kept.lives refl c.restamp.ensures renewed);
+        room = record {
+          capacities = by.capacities_kept ∙ is.room.capacities;
+          few = is.room.few;
+          early = is.room.early;
+          flows = is.room.flows ∙ ap (λ n. kept.room + n) (sym (ahead_stamped new.changed new.slots s.date s.slots pool.slots c.restamp.ensures.slots c.restamp.ensures.long));
+          flow_room = omega (arith, is.room.flow_room, by.flow_room_back);
+          use_room = omega (arith, is.room.use_room, by.use_room_back);
+          keys_free = omega (arith, is.room.keys_free, c.restamp.ensures.room);
+          ways_long = omega (arith, is.room.ways_long, c.restamp.ensures.long);
+          agenda_long = omega (arith, is.room.agenda_long, c.restamp.ensures.long, c.renew.ensures.long);
+          fresh_room = omega (arith, is.room.fresh_room, c.restamp.ensures.long, c.restamp.ensures.fresh_room, ap (λ (m : MarkSet). m.room) c.clear.ensures);
+          by_flow_long = omega (arith, is.room.by_flow_long, by.numbers);
+        };
       };
+      hosts = c.self.invariant.hosts;
+      used = used_still s.capacities s.slots s.ways kept.room c.self.inside.index c.self.invariant.used pool.slots s.ways kept.room
+          (λ key. ap (used_by (length s.capacities.hosts) (length s.capacities.links) (links_at s.ways key)) (c.restamp.ensures.slots key) ∙ used_stamped (length s.capacities.hosts) (length s.capacities.links) (links_at s.ways key) new.changed new.slots s.date (slot_at s.slots key))
+          c.restamp.ensures.long (omega arith);
+      switches = c.self.invariant.switches;
+      hit = hits_still s.on s.slots s.ways c.self.inside.hits c.self.invariant.hit pool.slots s.ways (λ key. ap (hit_in s.on (links_at s.ways key)) (c.restamp.ensures.slots key) ∙ hit_stamped s.on (links_at s.ways key) new.changed new.slots s.date (slot_at s.slots key)) c.restamp.ensures.long;
     }
 
 pub returns-clause-settles : goal.returns-clause-settles
 returns-clause-settles g c =
     let kept = c.self.inside.kept in
     let s : State = state_of kept in
-    let is = c.self.invariant in
+    let is = c.self.invariant.sound in
     let pool = c.restamp.new.lives in
     let new = c.settle.new.self in
     let by = c.settle.ensures.settled in
     let renewed = subst (λ l. AreRenewed s.keys c.renew.new.agenda pool.slots l) c.members.ensures.members c.renew.ensures.dates in
     let none = ap (λ (m : MarkSet). m.members) c.clear.ensures in
-    ap (λ l. doing_of (record s { slots = pool.slots; keys = c.renew.new.agenda; runs = new.slots; fresh = l; ended = new.ended; settled = true; arrived = false }) kept.room) none
+    ap (λ l. doing_of (record s { slots = pool.slots; keys = c.renew.new.agenda; runs = new.slots; fresh = l; ended = new.ended; resources = new.resources; settled = true; arrived = false }) kept.room) none
     ∙ settled_told s kept.lazy new pool kept.fresh c.restamp.new.fresh c.renew.new.agenda is.are refl is.room.capacities by refl kept.lives refl c.restamp.ensures renewed kept.room
     ∙ ap settled_in c.self.view_is
 
 pub returns-clause-looks : goal.returns-clause-looks
 returns-clause-looks g c =
     let s : State = state_of c.self.inside.kept in
-    let same = work_told s c.self.invariant.are in
+    let same = work_told s c.self.invariant.sound.are in
     let view = ap (λ (d : Doing). work_of d.under) c.self.view_is in
     omega (arith, c.settle.ensures.looks, same, view)

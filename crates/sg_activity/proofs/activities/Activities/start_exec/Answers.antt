@@ -1,4 +1,4 @@
-use Rattle.std.proofs.Common.{◌≡◌, ◌+◌, ◌-◌, ◌*◌, ◌<◌, ◌≤◌, ◌^◌, true, false, None, Some, option_map, List, [], ◌∷◌, ◌++◌, length, length-set, set, sum_by, sym, ap, ap₂, subst, ◌∙◌, refl, arith}
+use Rattle.std.proofs.Common.{◌≡◌, ◌+◌, ◌-◌, ◌*◌, ◌<◌, ◌≤◌, ◌^◌, true, false, None, Some, [], ◌∷◌, ◌++◌, length, length-set, set, sum_by, sym, ap, subst, ◌∙◌, refl, arith}
 use Rattle.sg_base.specs.MarkSet.{MarkSet}
 use Rattle.sg_activity.specs.declared.kinds.PhaseKind.TheVariants as phase
 use Rattle.sg_activity.specs.declared.lives.Live.{Live}
@@ -17,22 +17,46 @@ use Rattle.sg_activity.proofs.Listing.{length-listed}
 use Rattle.sg_activity.proofs.Roomy.{ahead_set}
 use Rattle.sg_activity.proofs.Told.{new_mark, unmarked, started_told}
 use Rattle.sg_activity.proofs.Turned.{turned}
-use Rattle.sg_activity.proofs.Turning.{begun_state, state_with, state_same, flow_turns, new_begins, left_fresh}
+use Rattle.sg_activity.proofs.Turning.{begun_state, state_same, flow_turns, new_begins, left_fresh}
+use Rattle.std.proofs.Common.{get_or}
+use Rattle.sg_activity.specs.kept.Index.{used_by}
+use Rattle.sg_activity.specs.kept.State.{links_at}
+use Rattle.sg_activity.specs.Links.{is_off}
+use Rattle.sg_activity.proofs.Hitting.{hits_more}
+use Rattle.sg_activity.proofs.Indexing.{row_idle, used_turned}
+use Rattle.sg_activity.proofs.Routed.{all_cons}
+use Rattle.sg_activity.proofs.Starts.{set_here, set_there}
 use Rattle.sg_activity.proofs.activities.Activities.start_exec.Goals as goal
+
+pub enter-requires-clause-key : goal.enter-requires-clause-key
+enter-requires-clause-key c = omega (arith, c.put-key.ensures.in_range, c.self.invariant.used.long)
+
+pub enter-requires-clause-idle : goal.enter-requires-clause-idle
+enter-requires-clause-idle c =
+    let s : State = state_of c.self.inside.kept in
+    row_idle s.capacities s.slots s.ways c.self.inside.kept.room c.self.inside.index c.self.invariant.used c.put-key.result c.put-key.ensures.free
+
+pub enter-requires-clause-exist : goal.enter-requires-clause-exist
+enter-requires-clause-exist c =
+    let there : c.args.host.0 < length c.self.inside.kept.hosts.items = subst (λ (d : Doing). c.args.host.0 < length d.under.capacities.hosts) (sym c.self.view_is) c.requires.host in
+    all_cons (λ thing. thing < length c.self.inside.index.users) c.args.host.0 [] (omega (arith, there, c.self.invariant.used.things)) (λ k d w. absurd (omega (arith, w)))
+
+pub enter-requires-clause-room : goal.enter-requires-clause-room
+enter-requires-clause-room c = omega (arith, c.self.invariant.used.uses_free, ap (λ (d : Doing). d.room) c.self.view_is, c.requires.room)
 
 pub invariant_of-self : goal.invariant_of-self
 invariant_of-self c =
     let kept = c.self.inside.kept in
     let s : State = state_of kept in
-    let is = c.self.invariant in
+    let is = c.self.invariant.sound in
     let key = c.put-key.result in
-    let live : Live = record { serial = c.next_serial-serial.result.0; kind = phase.Exec; kept = c.from.result * 1000000000; stamp = kept.date; rate = 0; weight = c.args.priority; bound = None; bytes = 0; host = c.args.host.0; flow = c.start-flow.result } in
+    let live : Live = record { serial = c.next_serial-serial.result.0; kind = phase.Exec; kept = c.from.result * 1000000000; stamp = kept.date; rate = 0; weight = c.args.priority; bound = None; bytes = 0; host = c.args.host.0; peer = 0; flow = c.start-flow.result } in
     let id = c.start-flow.result in
     let asked : Flow = flow (c.args.host.0 ∷ []) c.args.priority (Some (host_at kept.hosts.items c.args.host.0).speed) in
-    let run : RunningFlow = record { flow = asked; rate = 0; began = true } in
+    let run : RunningFlow = record { flow = asked; rate = 0; began = true; marked = true } in
     let there : c.args.host.0 < length kept.hosts.items = subst (λ (d : Doing). c.args.host.0 < length d.under.capacities.hosts) (sym c.self.view_is) c.requires.host in
     let speed = ap (λ (h : HostCap). h.speed) (c.index.ensures ∙ get_or_default kept.hosts.items _ _ _ there) in
-    let runs : c.start-flow.new.self.slots ≡ set s.runs id (Some run) = ap (λ (l : Lazily). l.slots) c.start-flow.ensures.starts ∙ ap (λ v. set s.runs id (Some (record { flow = flow (c.args.host.0 ∷ []) c.args.priority (Some v); rate = 0; began = true }))) speed in
+    let runs : c.start-flow.new.self.slots ≡ set s.runs id (Some run) = ap (λ (l : Lazily). l.slots) c.start-flow.ensures.starts ∙ ap (λ v. set s.runs id (Some (record { flow = flow (c.args.host.0 ∷ []) c.args.priority (Some v); rate = 0; began = true; marked = true }))) speed in
     let by_in : id < length s.by_flow = omega (arith, c.start-flow.ensures.in_range, is.room.by_flow_long) in
     let room = ap (λ (d : Doing). d.room) c.self.view_is in
     let drawn : length c.args.self.now.under.tasks ≡ s.drawn = sym (ap (λ (d : Doing). length d.under.tasks) c.self.view_is) ∙ length-listed s.drawn (λ i. told_at (task_of s) s.slots (i + 1)) in
@@ -41,39 +65,48 @@ invariant_of-self c =
     let serial : live.serial ≡ s.drawn + 1 = omega (arith, c.next_serial-serial.ensures, drawn) in
     let small : live.kept ≤ 10 ^ 24 = omega (arith, c.from.ensures, c.requires.flops) in
     let new : State = begun_state s (s.drawn + 1) key live s.ways s.keys (set s.runs id (Some run)) (set s.by_flow id key) in
-    let turns : Turns s new key live.serial (Some live) = flow_turns s (s.drawn + 1) key live s.keys is.are (new_begins s key live is.are within free serial refl small (omega arith) c.requires.priority) refl refl c.start-flow.ensures.free c.start-flow.ensures.in_range by_in (record { weighs = c.requires.priority.0; bounds = λ _. refl }) in
-    let state_is = state_same s (s.drawn + 1) false c.put-key.new.self.slots (set s.slots key (Some live)) s.ways s.ways s.keys s.keys c.start-flow.new.self.slots (set s.runs id (Some run)) (set s.by_flow id key) (set s.by_flow id key) c.insert.new.self.members (s.fresh ++ key ∷ []) c.start-flow.new.self.ended s.ended
-    c.put-key.ensures.slots refl refl runs refl (ap (λ (m : MarkSet). m.members) c.insert.ensures ∙ new_mark key s.fresh (unmarked s key is.are free)) (ap (λ (l : Lazily). l.ended) c.start-flow.ensures.starts) in
+    let turns : Turns s new key live.serial (Some live) = flow_turns s (s.drawn + 1) key live s.keys is.are (new_begins s key live is.are within free serial refl small (omega arith) c.requires.priority) refl refl c.start-flow.ensures.free c.start-flow.ensures.in_range by_in (record { weighs = c.requires.priority.0; bounds = λ _. refl }) there in
+    let state_is = state_same s (s.drawn + 1) false c.put-key.new.self.slots (set s.slots key (Some live)) s.ways s.ways s.keys s.keys c.start-flow.new.self.slots (set s.runs id (Some run)) (set s.by_flow id key) (set s.by_flow id key) c.insert.new.self.members (s.fresh ++ key ∷ []) c.start-flow.new.self.ended s.ended c.start-flow.new.self.resources s.resources
+    c.put-key.ensures.slots refl refl runs refl (ap (λ (m : MarkSet). m.members) c.insert.ensures ∙ new_mark key s.fresh (unmarked s key is.are free)) (ap (λ (l : Lazily). l.ended) c.start-flow.ensures.starts) (ap (λ (l : Lazily). l.resources) c.start-flow.ensures.starts) in
     record {
-      are = subst IsKept (sym state_is) (turned s new key live.serial (Some live) is.are turns);
-      room = record {
-        capacities = ap (λ (l : Lazily). l.capacities) c.start-flow.ensures.starts ∙ is.room.capacities;
-        few = omega (arith, drawn, c.requires.few);
-        early = is.room.early;
-        flows = omega (arith, is.room.flows, room, c.requires.room, ahead_set s.slots key (Some live) within, ap slot_ahead free, ap (sum_by slot_ahead) c.put-key.ensures.slots);
-        flow_room = omega (arith, is.room.flow_room, is.room.flows, room, c.requires.room, ap (λ (l : Lazily). l.flow_room) c.start-flow.ensures.starts);
-        use_room = omega (arith, is.room.use_room, is.room.flows, room, c.requires.room, ap (λ (l : Lazily). l.use_room) c.start-flow.ensures.starts);
-        keys_free = omega (arith, is.room.keys_free, room, c.requires.room, c.put-key.ensures.room);
-        ways_long = omega (arith, is.room.ways_long, ap length c.put-key.ensures.slots, length-set s.slots key (Some live));
-        agenda_long = omega (arith, is.room.agenda_long, ap length c.put-key.ensures.slots, length-set s.slots key (Some live));
-        fresh_room = omega (arith, is.room.fresh_room, ap length c.put-key.ensures.slots, length-set s.slots key (Some live), ap (λ (m : MarkSet). m.room) c.insert.ensures);
-        by_flow_long = omega (arith, is.room.by_flow_long, ap length runs, length-set s.runs id (Some run), length-set s.by_flow id key);
+      sound = record {
+        are = subst IsKept (sym state_is) (turned s new key live.serial (Some live) is.are turns);
+        room = record {
+          capacities = ap (λ (l : Lazily). l.capacities) c.start-flow.ensures.starts ∙ is.room.capacities;
+          few = omega (arith, drawn, c.requires.few);
+          early = is.room.early;
+          flows = omega (arith, is.room.flows, room, c.requires.room, ahead_set s.slots key (Some live) within, ap slot_ahead free, ap (sum_by slot_ahead) c.put-key.ensures.slots);
+          flow_room = omega (arith, is.room.flow_room, is.room.flows, room, c.requires.room, ap (λ (l : Lazily). l.flow_room) c.start-flow.ensures.starts);
+          use_room = omega (arith, is.room.use_room, is.room.flows, room, c.requires.room, ap (λ (l : Lazily). l.use_room) c.start-flow.ensures.starts);
+          keys_free = omega (arith, is.room.keys_free, room, c.requires.room, c.put-key.ensures.room);
+          ways_long = omega (arith, is.room.ways_long, ap length c.put-key.ensures.slots, length-set s.slots key (Some live));
+          agenda_long = omega (arith, is.room.agenda_long, ap length c.put-key.ensures.slots, length-set s.slots key (Some live));
+          fresh_room = omega (arith, is.room.fresh_room, ap length c.put-key.ensures.slots, length-set s.slots key (Some live), ap (λ (m : MarkSet). m.room) c.insert.ensures);
+          by_flow_long = omega (arith, is.room.by_flow_long, ap length runs, length-set s.runs id (Some run), length-set s.by_flow id key);
+        };
       };
+      hosts = c.self.invariant.hosts;
+      used = used_turned s.capacities s.slots s.ways kept.room c.self.inside.index c.self.invariant.used c.put-key.new.self.slots s.ways (kept.room - 1) c.enter.new.self key (c.args.host.0 ∷ []) c.enter.ensures.row
+          (ap (used_by (length s.capacities.hosts) (length s.capacities.links) (links_at s.ways key)) (sym (ap (λ l. get_or l key None) c.put-key.ensures.slots ∙ set_here s.slots key (Some live) within)))
+          (λ k ne. ap (λ l. get_or l k None) c.put-key.ensures.slots ∙ set_there s.slots key k (Some live) ne) (λ k ne. refl) (ap length c.put-key.ensures.slots ∙ length-set s.slots key (Some live)) c.enter.ensures.users
+          (omega (arith, c.self.invariant.used.uses_free, c.enter.ensures.room, room, c.requires.room));
+      switches = c.self.invariant.switches;
+      hit = hits_more s.on s.slots s.ways c.self.inside.hits c.self.invariant.hit key live c.put-key.new.self.slots s.ways free within (subst (λ (d : Doing). is_off d.under.on.hosts c.args.host.0 ≡ false) (sym c.self.view_is) c.requires.on) c.put-key.ensures.slots (λ k ne. refl);
     }
 
 pub returns-clause-starts : goal.returns-clause-starts
 returns-clause-starts c =
     let kept = c.self.inside.kept in
     let s : State = state_of kept in
-    let is = c.self.invariant in
+    let is = c.self.invariant.sound in
     let key = c.put-key.result in
-    let live : Live = record { serial = c.next_serial-serial.result.0; kind = phase.Exec; kept = c.from.result * 1000000000; stamp = kept.date; rate = 0; weight = c.args.priority; bound = None; bytes = 0; host = c.args.host.0; flow = c.start-flow.result } in
+    let live : Live = record { serial = c.next_serial-serial.result.0; kind = phase.Exec; kept = c.from.result * 1000000000; stamp = kept.date; rate = 0; weight = c.args.priority; bound = None; bytes = 0; host = c.args.host.0; peer = 0; flow = c.start-flow.result } in
     let id = c.start-flow.result in
     let asked : Flow = flow (c.args.host.0 ∷ []) c.args.priority (Some (host_at kept.hosts.items c.args.host.0).speed) in
-    let run : RunningFlow = record { flow = asked; rate = 0; began = true } in
+    let run : RunningFlow = record { flow = asked; rate = 0; began = true; marked = true } in
     let there : c.args.host.0 < length kept.hosts.items = subst (λ (d : Doing). c.args.host.0 < length d.under.capacities.hosts) (sym c.self.view_is) c.requires.host in
     let speed = ap (λ (h : HostCap). h.speed) (c.index.ensures ∙ get_or_default kept.hosts.items _ _ _ there) in
-    let runs : c.start-flow.new.self.slots ≡ set s.runs id (Some run) = ap (λ (l : Lazily). l.slots) c.start-flow.ensures.starts ∙ ap (λ v. set s.runs id (Some (record { flow = flow (c.args.host.0 ∷ []) c.args.priority (Some v); rate = 0; began = true }))) speed in
+    let runs : c.start-flow.new.self.slots ≡ set s.runs id (Some run) = ap (λ (l : Lazily). l.slots) c.start-flow.ensures.starts ∙ ap (λ v. set s.runs id (Some (record { flow = flow (c.args.host.0 ∷ []) c.args.priority (Some v); rate = 0; began = true; marked = true }))) speed in
     let by_in : id < length s.by_flow = omega (arith, c.start-flow.ensures.in_range, is.room.by_flow_long) in
     let drawn : length c.args.self.now.under.tasks ≡ s.drawn = sym (ap (λ (d : Doing). length d.under.tasks) c.self.view_is) ∙ length-listed s.drawn (λ i. told_at (task_of s) s.slots (i + 1)) in
     let free = c.put-key.ensures.free in
@@ -81,9 +114,9 @@ returns-clause-starts c =
     let serial : live.serial ≡ s.drawn + 1 = omega (arith, c.next_serial-serial.ensures, drawn) in
     let small : live.kept ≤ 10 ^ 24 = omega (arith, c.from.ensures, c.requires.flops) in
     let new : State = begun_state s (s.drawn + 1) key live s.ways s.keys (set s.runs id (Some run)) (set s.by_flow id key) in
-    let turns : Turns s new key live.serial (Some live) = flow_turns s (s.drawn + 1) key live s.keys is.are (new_begins s key live is.are within free serial refl small (omega arith) c.requires.priority) refl refl c.start-flow.ensures.free c.start-flow.ensures.in_range by_in (record { weighs = c.requires.priority.0; bounds = λ _. refl }) in
-    let state_is = state_same s (s.drawn + 1) false c.put-key.new.self.slots (set s.slots key (Some live)) s.ways s.ways s.keys s.keys c.start-flow.new.self.slots (set s.runs id (Some run)) (set s.by_flow id key) (set s.by_flow id key) c.insert.new.self.members (s.fresh ++ key ∷ []) c.start-flow.new.self.ended s.ended
-    c.put-key.ensures.slots refl refl runs refl (ap (λ (m : MarkSet). m.members) c.insert.ensures ∙ new_mark key s.fresh (unmarked s key is.are free)) (ap (λ (l : Lazily). l.ended) c.start-flow.ensures.starts) in
+    let turns : Turns s new key live.serial (Some live) = flow_turns s (s.drawn + 1) key live s.keys is.are (new_begins s key live is.are within free serial refl small (omega arith) c.requires.priority) refl refl c.start-flow.ensures.free c.start-flow.ensures.in_range by_in (record { weighs = c.requires.priority.0; bounds = λ _. refl }) there in
+    let state_is = state_same s (s.drawn + 1) false c.put-key.new.self.slots (set s.slots key (Some live)) s.ways s.ways s.keys s.keys c.start-flow.new.self.slots (set s.runs id (Some run)) (set s.by_flow id key) (set s.by_flow id key) c.insert.new.self.members (s.fresh ++ key ∷ []) c.start-flow.new.self.ended s.ended c.start-flow.new.self.resources s.resources
+    c.put-key.ensures.slots refl refl runs refl (ap (λ (m : MarkSet). m.members) c.insert.ensures ∙ new_mark key s.fresh (unmarked s key is.are free)) (ap (λ (l : Lazily). l.ended) c.start-flow.ensures.starts) (ap (λ (l : Lazily). l.resources) c.start-flow.ensures.starts) in
     ap (λ st. doing_of st (kept.room - 1)) state_is
     ∙ started_told s new key live.serial (Some live) is.are turns live kept.room refl refl serial free refl refl
     ∙ ap (λ n. started_in (record { kind = phase.Exec; left = n; place = on_host c.args.host.0; weight = c.args.priority; bound = None; bytes = 0 }) (doing_of s kept.room)) (left_fresh (c.from.result * 1000000000) 0 kept.date ∙ ap (λ n. n * 1000000000) c.from.ensures)

@@ -1,4 +1,4 @@
-use Rattle.std.proofs.Common.{◌+◌, ◌≡◌, length, sym, ap, ◌∙◌, arith}
+use Rattle.std.proofs.Common.{◌+◌, length, ap, ◌∙◌, arith}
 use Rattle.sg_activity.specs.Doing.{Doing, drawn_in}
 use Rattle.sg_activity.specs.kept.State.{state_of, told_at, task_of}
 use Rattle.sg_activity.proofs.Drawn.{drawn_kept, drawn_told}
@@ -8,23 +8,29 @@ use Rattle.sg_activity.proofs.activities.Activities.take_serial.Goals as goal
 pub invariant_of-self : goal.invariant_of-self
 invariant_of-self c =
     let s = state_of c.self.inside.kept in
-    let is = c.self.invariant in
+    let is = c.self.invariant.sound in
     record {
-      are = drawn_kept s is.are;
-      room = record {
-        capacities = is.room.capacities;
-        few = omega (arith, ap (λ (d : Doing). length d.under.tasks) c.self.view_is, length-listed s.drawn (λ i. told_at (task_of s) s.slots (i + 1)), c.requires);
-        early = is.room.early;
-        flows = is.room.flows;
-        flow_room = is.room.flow_room;
-        use_room = is.room.use_room;
-        keys_free = is.room.keys_free;
-        ways_long = is.room.ways_long;
-        agenda_long = is.room.agenda_long;
-        fresh_room = is.room.fresh_room;
-        by_flow_long = is.room.by_flow_long;
+      sound = record {
+        are = drawn_kept s is.are;
+        room = record {
+          capacities = is.room.capacities;
+          few = omega (arith, ap (λ (d : Doing). length d.under.tasks) c.self.view_is, length-listed s.drawn (λ i. told_at (task_of s) s.slots (i + 1)), c.requires);
+          early = is.room.early;
+          flows = is.room.flows;
+          flow_room = is.room.flow_room;
+          use_room = is.room.use_room;
+          keys_free = is.room.keys_free;
+          ways_long = is.room.ways_long;
+          agenda_long = is.room.agenda_long;
+          fresh_room = is.room.fresh_room;
+          by_flow_long = is.room.by_flow_long;
+        };
       };
+      hosts = c.self.invariant.hosts;
+      used = c.self.invariant.used;
+      switches = c.self.invariant.switches;
+      hit = c.self.invariant.hit;
     }
 
 pub returns-clause-drawn : goal.returns-clause-drawn
-returns-clause-drawn c = drawn_told (state_of c.self.inside.kept) c.self.inside.kept.room c.self.invariant.are ∙ ap drawn_in c.self.view_is
+returns-clause-drawn c = drawn_told (state_of c.self.inside.kept) c.self.inside.kept.room c.self.invariant.sound.are ∙ ap drawn_in c.self.view_is

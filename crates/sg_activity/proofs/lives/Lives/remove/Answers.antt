@@ -1,7 +1,6 @@
-use Rattle.std.proofs.Common.{IsSome, ◌≡◌, ◌++◌, [], ◌∷◌, None, set, subst, sym, ap, ◌∙◌, arith}
+use Rattle.std.proofs.Common.{IsSome, ◌++◌, [], ◌∷◌, None, set, subst, sym}
 use Rattle.std.specs.Prelude.{vec_capacity}
 use Rattle.sg_activity.specs.kept.Pool.{Pool, IsPool, slot_at}
-use Rattle.sg_activity.proofs.Pairing.{there_within}
 use Rattle.sg_activity.proofs.Pooled.{given_back, within_there}
 use Rattle.sg_activity.proofs.lives.Lives.remove.Goals as goal
 

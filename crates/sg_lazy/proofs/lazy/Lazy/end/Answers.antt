@@ -11,7 +11,7 @@ pub insert-requires : goal.insert-requires
 insert-requires c =
     let i = c.self.inside in
     let r = some_of (running_at c.args.self.now.slots c.args.flow) c.requires in
-    let here = is_here i.system.slots i.rated.rates.items i.pending.began.members i.pending.ended.members c.args.flow r.0 (ap (λ (v : Lazily). running_at v.slots c.args.flow) c.self.view_is ∙ r.1) in
+    let here = is_here i.system.slots i.rated.rates.items i.pending.began.members i.pending.marked.members i.pending.ended.members c.args.flow r.0 (ap (λ (v : Lazily). running_at v.slots c.args.flow) c.self.view_is ∙ r.1) in
     omega (arith, here.below, c.self.invariant.1.ended)
 
 pub invariant_of-self : goal.invariant_of-self
@@ -21,12 +21,13 @@ invariant_of-self c =
     let inv = c.self.invariant in
     let r = some_of (running_at c.args.self.now.slots c.args.flow) c.requires in
     let e = ap (λ (m : MarkSet). m.members) c.insert.ensures in (
-      subst (IsLazy s i.rated.rates.items i.pending.began.members) (sym e)
-          (end_lazy s i.rated.rates.items i.pending.began.members i.pending.ended.members c.args.flow r.0 inv.0 (ap (λ (v : Lazily). running_at v.slots c.args.flow) c.self.view_is ∙ r.1)),
+      subst (λ gone. IsLazy s i.rated.rates.items i.pending.began.members i.pending.marked.members gone i.pending.resources.members) (sym e)
+          (end_lazy s i.rated.rates.items i.pending.began.members i.pending.marked.members i.pending.ended.members i.pending.resources.members c.args.flow r.0 inv.0 (ap (λ (v : Lazily). running_at v.slots c.args.flow) c.self.view_is ∙ r.1)),
       record {
         began = inv.1.began;
+        marked = inv.1.marked;
         ended = omega (arith, inv.1.ended, ap (λ (m : MarkSet). m.room) c.insert.ensures);
-        freed = inv.1.freed;
+        resources = inv.1.resources;
         touched = inv.1.touched;
         reached = inv.1.reached;
         places = inv.1.places;
@@ -41,10 +42,10 @@ returns c =
     let s = i.system in
     let r = some_of (running_at c.args.self.now.slots c.args.flow) c.requires in
     let at = ap (λ (v : Lazily). running_at v.slots c.args.flow) c.self.view_is ∙ r.1 in
-    let here = is_here s.slots i.rated.rates.items i.pending.began.members i.pending.ended.members c.args.flow r.0 at in
+    let here = is_here s.slots i.rated.rates.items i.pending.began.members i.pending.marked.members i.pending.ended.members c.args.flow r.0 at in
     let e = ap (λ (m : MarkSet). m.members) c.insert.ensures in
-    subst (λ o. IfSome o (λ (running : RunningFlow). record { capacities = s.capacities; slots = running_in s.slots i.rated.rates.items i.pending.began.members c.insert.new.self.members; ended = ended_in s.slots c.insert.new.self.members; changed = i.rated.changed.members; flow_room = s.flow_room; use_room = s.use_room } ≡ without_flow c.args.self.now c.args.flow running.flow)) (sym r.1)
-    (ap₂ (λ x y. record { capacities = s.capacities; slots = x; ended = y; changed = i.rated.changed.members; flow_room = s.flow_room; use_room = s.use_room })
-    (ap (running_in s.slots i.rated.rates.items i.pending.began.members) e ∙ end_slots s.slots i.rated.rates.items i.pending.began.members i.pending.ended.members c.args.flow here.below)
+    subst (λ o. IfSome o (λ (running : RunningFlow). record { capacities = s.capacities; slots = running_in s.slots i.rated.rates.items i.pending.began.members i.pending.marked.members c.insert.new.self.members; ended = ended_in s.slots c.insert.new.self.members; resources = i.pending.resources.members; changed = i.rated.changed.members; flow_room = s.flow_room; use_room = s.use_room } ≡ without_flow c.args.self.now c.args.flow running.flow)) (sym r.1)
+    (ap₂ (λ x y. record { capacities = s.capacities; slots = x; ended = y; resources = i.pending.resources.members; changed = i.rated.changed.members; flow_room = s.flow_room; use_room = s.use_room })
+    (ap (running_in s.slots i.rated.rates.items i.pending.began.members i.pending.marked.members) e ∙ end_slots s.slots i.rated.rates.items i.pending.began.members i.pending.marked.members i.pending.ended.members c.args.flow here.below)
     (ap (ended_in s.slots) e ∙ ended_more s.slots i.pending.ended.members c.args.flow r.0.flow here.off here.held)
     ∙ ap (λ (v : Lazily). without_flow v c.args.flow r.0.flow) c.self.view_is)

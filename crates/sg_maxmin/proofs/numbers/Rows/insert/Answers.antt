@@ -1,4 +1,4 @@
-use Rattle.std.proofs.Common.{◌≡◌, ℕ, ◌+◌, ◌-◌, ◌<◌, Some, None, cond, is_some, length, get_or, sym, ap, subst, ◌∙◌, arith, count_by}
+use Rattle.std.proofs.Common.{◌≡◌, ℕ, ◌-◌, ◌<◌, Some, None, cond, is_some, length, get_or, sym, ap, subst, ◌∙◌, arith, count_by}
 use Rattle.std.proofs.lemmas.Grind.{get_or_default_zero}
 use Rattle.sg_maxmin.specs.kept.Numbers.{row_at, free_count}
 use Rattle.sg_maxmin.proofs.FreeNumbers.{free_taken, count_set}

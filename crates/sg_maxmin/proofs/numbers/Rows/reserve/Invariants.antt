@@ -1,4 +1,4 @@
-use Rattle.std.proofs.Common.{◌≡◌, ℕ, ◌+◌, ◌≤◌, length, count_by, is_some}
+use Rattle.std.proofs.Common.{◌≡◌, ℕ, ◌+◌, length, count_by, is_some}
 use Rattle.sg_maxmin.specs.kept.Numbers.{row_at}
 use Rattle.sg_maxmin.proofs.numbers.Rows.reserve.Given as goal
 

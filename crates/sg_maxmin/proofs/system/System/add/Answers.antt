@@ -4,7 +4,7 @@ use Rattle.sg_maxmin.specs.Fill.{Flow, flow}
 use Rattle.sg_maxmin.specs.Sharing.{IsFlow, Changes, flow_at}
 use Rattle.sg_chains.specs.Chain.{IsChain, resources}
 use Rattle.sg_maxmin.specs.kept.Uses.{flow_of, flows_of, AreRows}
-use Rattle.sg_maxmin.proofs.Rows.{rows_changed, IsNewRow, share_kept, share_none, both_with, flow_at-flows_of}
+use Rattle.sg_maxmin.proofs.Rows.{rows_changed, IsNewRow, share_kept, share_none, both_with, flow_at-flows_of, some_row}
 use Rattle.sg_maxmin.proofs.system.System.add.Goals as goal
 
 pub add-row-requires-clause-exist : goal.add-row-requires-clause-exist
@@ -20,7 +20,7 @@ given c = flow c.args.uses.now c.args.weight c.args.bound
 
 -- the row as it is kept
 row : (c : goal.After-replace) → FlowRow
-row c = record { first = c.add-row.result; count = c.new-row.result.count; weight = c.new-row.result.weight; bound = c.new-row.result.bound; level = c.new-row.result.level }
+row c = record { first = c.add-row.result; count = c.new-row.result.count; weight = c.new-row.result.weight; bound = c.new-row.result.bound; level = c.new-row.result.level; share = c.new-row.result.share }
 
 changed : (c : goal.After-replace) → get_or c.replace.new.self c.insert-id.result None ≡ Some (row c)
 unfolding row
@@ -54,9 +54,6 @@ both c =
     let out = rows_changed caps c.self.inside.flows c.replace.new.self c.self.inside.chains.uses uses' id (Some (row c)) c.self.invariant.are_rows
     made.kept (changed c) (others c) (λ r e. subst (λ w. IsNewRow caps uses' id w) (some_row (row c) r e) sound) in
     (out.0, subst (λ w. Changes (flows_of c.self.inside.flows c.self.inside.chains.uses) (flows_of c.replace.new.self uses') id (Some w)) same out.1)
-  where
-    some_row : (a b : FlowRow) → Some a ≡ Some b → a ≡ b
-    some_row a b e = cc e
 
 free : (c : goal.After-replace) → flow_at (flows_of c.self.inside.flows c.self.inside.chains.uses) c.insert-id.result ≡ None
 free c = flow_at-flows_of c.self.inside.flows c.self.inside.chains.uses c.insert-id.result ∙ ap (option_map (flow_of c.self.inside.chains.uses)) c.insert-id.ensures.free
@@ -78,7 +75,7 @@ returns-clause-added c = subst (λ s. Changes s.slots (flows_of c.replace.new.se
 
 pub returns-clause-share : goal.returns-clause-share
 unfolding row
-returns-clause-share c = share_none c.replace.new.self c.insert-id.result (row c) (changed c) c.new-row.ensures.level
+returns-clause-share c = share_none c.replace.new.self c.insert-id.result (row c) (changed c) c.new-row.ensures.share
 
 pub returns-clause-shares : goal.returns-clause-shares
 returns-clause-shares c = λ other away. share_kept c.self.inside.flows c.replace.new.self other (others c other away) ∙ ap (λ s. slice_index s.shares other) c.self.view_is

@@ -1,4 +1,4 @@
-use Rattle.std.proofs.Common.{◌≡◌, None, Some, IfSome, refl, sym, ap, subst, ◌∙◌}
+use Rattle.std.proofs.Common.{◌≡◌, Some, IfSome, refl, sym, subst, ◌∙◌}
 use Rattle.sg_maxmin.specs.Sharing.{flow_at}
 use Rattle.sg_maxmin.specs.kept.Uses.{flow_of}
 use Rattle.sg_maxmin.proofs.Rows.{flow_held}

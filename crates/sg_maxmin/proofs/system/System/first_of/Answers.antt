@@ -1,4 +1,4 @@
-use Rattle.std.proofs.Common.{◌≡◌, ◌≤◌, None, Some, length, sym, subst, ◌∙◌}
+use Rattle.std.proofs.Common.{None, sym, subst, ◌∙◌}
 use Rattle.sg_maxmin.specs.Sharing.{uses_at}
 use Rattle.sg_maxmin.proofs.Rows.{IsLed, first_leads, first_none}
 use Rattle.sg_maxmin.proofs.system.System.first_of.Goals as goal

@@ -1,4 +1,4 @@
-use Rattle.std.proofs.Common.{◌≡◌, ◌≤◌, length, sym, ap, subst, ◌∙◌, option_map, arith}
+use Rattle.std.proofs.Common.{subst, option_map, arith}
 use Rattle.std.proofs.lemmas.List.{length-map}
 use Rattle.sg_maxmin.specs.Sharing.{IsSound}
 use Rattle.sg_maxmin.specs.kept.Uses.{flow_of}

@@ -1,4 +1,4 @@
-use Rattle.std.proofs.Common.{◌≡◌, ◌≢◌, ℕ, None, Some, length, get_or, get_or-set_same, get_or-set_other, slice_index, option_map, sym, ap, subst, ◌∙◌, arith}
+use Rattle.std.proofs.Common.{◌≡◌, ◌≢◌, ℕ, None, Some, length, get_or, get_or-set_same, get_or-set_other, slice_index, option_map, ap, subst, ◌∙◌, arith}
 use Rattle.sg_maxmin.specs.Sharing.{Changes, flow_at}
 use Rattle.sg_maxmin.specs.kept.Uses.{flow_of, flows_of, AreRows}
 use Rattle.sg_chains.proofs.ChainLemmas.{length-resources}

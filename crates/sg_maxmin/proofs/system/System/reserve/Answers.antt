@@ -1,6 +1,6 @@
-use Rattle.std.proofs.Common.{◌≡◌, ℕ, get_or, map, sym, ap, subst, ◌∙◌}
+use Rattle.std.proofs.Common.{get_or, sym, ap, subst, ◌∙◌}
 use Rattle.sg_maxmin.specs.Sharing.{IsExtended}
-use Rattle.sg_maxmin.specs.kept.Uses.{flows_of, share_in, IsKept}
+use Rattle.sg_maxmin.specs.kept.Uses.{flows_of, IsKept}
 use Rattle.sg_maxmin.proofs.Rows.{extended, share_kept, kept_extended, kept_room}
 use Rattle.sg_maxmin.proofs.system.System.reserve.Goals as goal
 

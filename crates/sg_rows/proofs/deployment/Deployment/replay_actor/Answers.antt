@@ -1,5 +1,5 @@
 use Rattle.std.proofs.Common.{arith, ◌∙◌, sym}
-use Rattle.sg_rows.proofs.Numbers.{replay_below}
+use Rattle.sg_rows.proofs.RowsBelow.{replay_below}
 use Rattle.sg_rows.proofs.deployment.Deployment.replay_actor.Goals as goal
 
 pub overflow_add-result : goal.overflow_add-result

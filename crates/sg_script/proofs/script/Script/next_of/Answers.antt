@@ -10,10 +10,10 @@ pub returns-clause-asked : goal.returns-clause-asked
 returns-clause-asked g c = λ taken asks stands. ask_is (known_in c.args.deployment.now) taken asks c.args.actor.0 c.answer.result (g.F.Files.shows c.args.files.now ScriptPart) (g.F.Files.shows c.answer.new.files ScriptPart) (kept_of c.args.self.now) (kept_of c.answer.new.self) stands c.answer.ensures.ends
 
 pub returns-clause-part : goal.returns-clause-part
-returns-clause-part g c = (breaking (known_in c.args.deployment.now) c.args.actor.0 c.answer.result (g.F.Files.shows c.args.files.now ScriptPart) (g.F.Files.shows c.answer.new.files ScriptPart) (kept_of c.args.self.now) (kept_of c.answer.new.self) c.answer.ensures.ends).0
+returns-clause-part g c = (breaking (known_in c.args.deployment.now) c.args.actor.0 c.answer.result ScriptPart (g.F.Files.shows c.args.files.now) (g.F.Files.shows c.answer.new.files) (kept_of c.args.self.now) (kept_of c.answer.new.self) c.answer.ensures.ends).0
 
 pub returns-clause-actors : goal.returns-clause-actors
-returns-clause-actors g c = ap (λ (n : ℕ). n - 1) ((breaking (known_in c.args.deployment.now) c.args.actor.0 c.answer.result (g.F.Files.shows c.args.files.now ScriptPart) (g.F.Files.shows c.answer.new.files ScriptPart) (kept_of c.args.self.now) (kept_of c.answer.new.self) c.answer.ensures.ends).1)
+returns-clause-actors g c = ap (λ (n : ℕ). n - 1) ((breaking (known_in c.args.deployment.now) c.args.actor.0 c.answer.result ScriptPart (g.F.Files.shows c.args.files.now) (g.F.Files.shows c.answer.new.files) (kept_of c.args.self.now) (kept_of c.answer.new.self) c.answer.ensures.ends).1)
 
 pub returns-clause-frugal : goal.returns-clause-frugal
 returns-clause-frugal g c = frugal_of (known_in c.args.deployment.now) c.args.actor.0 c.answer.result (g.F.Files.shows c.args.files.now ScriptPart) (g.F.Files.shows c.answer.new.files ScriptPart) (kept_of c.args.self.now) (kept_of c.answer.new.self) c.answer.ensures.ends

@@ -1,0 +1,229 @@
+-- A capacity is another now.
+use Rattle.std.proofs.Common.{◌≡◌, ℕ, ◌+◌, ◌<◌, Bool, true, false, cond, ◌||◌, true≢false, Option, None, Some, option_map, List, [], ◌∷◌, length, set, get_or, All, IsTrue, IsSome, refl, sym, ap, ap₂, subst, ◌∙◌, arith}
+use Rattle.std.proofs.lemmas.List.{get_or_default}
+use Rattle.sg_base.specs.MarkSet.{is_in, with_mark}
+use Rattle.sg_chains.specs.Chained.{times, users_on}
+use Rattle.sg_maxmin.specs.Fill.{Flow}
+use Rattle.sg_maxmin.specs.Sharing.{HasLimit}
+use Rattle.sg_lazy.specs.Lazily.{Lazily, with_capacity}
+use Rattle.sg_lazy.specs.RunningFlow.{RunningFlow, running_at}
+use Rattle.sg_activity.specs.declared.kept.Kept.{Kept}
+use Rattle.sg_activity.specs.declared.lives.Live.{Live}
+use Rattle.sg_activity.specs.Links.{Capacities, capacities_of, machines}
+use Rattle.sg_activity.specs.Task.{Task, flow_of, is_rebound_at, takes_share}
+use Rattle.sg_activity.specs.kept.Index.{Indexed, IsIndexed, row_at, used_at, used_by}
+use Rattle.sg_activity.specs.kept.Pool.{slot_at}
+use Rattle.sg_activity.specs.kept.Bounds.{HasFlows, Rebounds, Resets, rebound_to}
+use Rattle.sg_activity.specs.kept.Sound.{HasFlow, HasRoom, IsKept, IsPlace, IsSound, place_at}
+use Rattle.sg_activity.specs.kept.State.{State, asked_by, links_at, state_of, task_of}
+use Rattle.sg_activity.specs.kept.Whole.{IsUsed}
+use Rattle.sg_activity.proofs.Moved.{IsMoved, bound_moved, flow_bound, in_times, place_moved, rebound_moved, rebound_more, rebound_some, uses_moved, weight_moved, bound_at}
+use Rattle.sg_activity.proofs.Pooled.{within_there}
+use Rattle.sg_activity.proofs.Bounds.{some_is}
+use Rattle.sg_activity.proofs.Routed.{sooner_more}
+use Rattle.sg_activity.proofs.Told.{member_at}
+
+-- ---- who is on a thing
+abbrev pub AreBothWays : Indexed → Type 0
+AreBothWays index = (key thing : ℕ) → times key (users_on index.users thing) ≡ times thing (row_at index.rows key)
+
+module _ (kept : Kept) (index : Indexed) (used : IsUsed kept index) (both : AreBothWays index) (thing : ℕ) where
+  -- those on it are activities
+  pub users_below : All (λ key. key < length kept.lives.slots) (users_on index.users thing)
+  users_below k d within =
+      let users = users_on index.users thing in
+      let key = get_or users k 0 in
+      let there : is_in thing (row_at index.rows key) ≡ true = sym (in_times key thing users (row_at index.rows key) (both key thing)) ∙ member_at users k within in
+      subst (λ n. n < length kept.lives.slots) (get_or_default users k 0 d within) (within_there kept.lives.slots key (go key (slot_at kept.lives.slots key) refl there))
+    where
+      go : (key : ℕ) (o : Option Live) → slot_at kept.lives.slots key ≡ o → is_in thing (row_at index.rows key) ≡ true → IsSome (slot_at kept.lives.slots key)
+      go key None e there = absurd (true≢false (sym there ∙ ap (is_in thing) (used.rows key ∙ ap (used_by (length kept.hosts.items) (length kept.links.items) (links_at kept.ways.items key)) e)))
+      go key (Some live) e there = subst IsSome (sym e) refl
+
+  -- and each that uses it is there
+  pub is_user : (key : ℕ) (live : Live) → slot_at kept.lives.slots key ≡ Some live → is_in key (users_on index.users thing) ≡ is_in thing (used_at (length kept.hosts.items) (length kept.links.items) (place_at (state_of kept) key live))
+  is_user key live at =
+      in_times key thing (users_on index.users thing) (row_at index.rows key) (both key thing)
+      ∙ ap (is_in thing) (used.rows key ∙ ap (used_by (length kept.hosts.items) (length kept.links.items) (links_at kept.ways.items key)) at)
+
+or_true : (b : Bool) → (b || true) ≡ true
+or_true true = refl
+or_true false = refl
+
+flow_is : (f g : Flow) → f.uses ≡ g.uses → f.weight ≡ g.weight → f.bound ≡ g.bound → f ≡ g
+flow_is f g u w b =
+    ap (λ x. record { uses = x; weight = f.weight; bound = f.bound }) u ∙ ap (λ x. record { uses = g.uses; weight = x; bound = f.bound }) w ∙ ap (λ x. record { uses = g.uses; weight = g.weight; bound = x }) b
+
+-- ---- all stays of one mind
+module _ (s : State) (capacities : Capacities) (resource : ℕ) (runs : List (Option RunningFlow)) (is : IsKept s) (moved : IsMoved s.capacities capacities resource)
+    (rebound : (key : ℕ) (live : Live) → slot_at s.slots key ≡ Some live → IsTrue (takes_share live.kind) →
+    running_at runs live.flow ≡ cond (is_rebound_at s.capacities (resource ∷ []) (place_at s key live)) (option_map (rebound_to (flow_of capacities (task_of s key live)).bound) (running_at s.runs live.flow)) (running_at s.runs live.flow))
+    (back : (id : ℕ) → IsSome (running_at runs id) → IsSome (running_at s.runs id)) where
+  abbrev pub reset_state : State
+  reset_state = record s { capacities = capacities; runs = runs; resources = with_mark resource s.resources; settled = false }
+
+  -- what is asked for, but for its bound
+  asked_with : (key : ℕ) (live : Live) (bound : ℕ) → (asked_by reset_state key live).bound ≡ Some bound → record (asked_by s key live) { bound = Some bound } ≡ asked_by reset_state key live
+  asked_with key live bound e =
+      let task = task_of s key live in
+      flow_is (record (asked_by s key live) { bound = Some bound }) (asked_by reset_state key live) (sym (uses_moved s.capacities capacities resource moved task task.place)) (sym (weight_moved s.capacities capacities resource moved task task.place)) (sym e)
+
+  marked_as : (key : ℕ) (live : Live) → is_rebound_at capacities (with_mark resource s.resources) (place_at s key live) ≡ (is_rebound_at s.capacities (resource ∷ []) (place_at s key live) || is_rebound_at s.capacities s.resources (place_at s key live))
+  marked_as key live =
+      rebound_moved s.capacities capacities resource moved (with_mark resource s.resources) (place_at s key live) ∙ rebound_more s.capacities resource s.resources (place_at s key live)
+
+  bound_there : (key : ℕ) (live : Live) → is_rebound_at s.capacities (resource ∷ []) (place_at s key live) ≡ true → IsSome (asked_by reset_state key live).bound
+  bound_there key live e =
+      let task = task_of s key live in
+      let some = rebound_some capacities (resource ∷ []) task.place (rebound_moved s.capacities capacities resource moved (resource ∷ []) task.place ∙ e) in
+      subst IsSome (sym (flow_bound capacities task task.place)) (sooner_more (bound_at capacities task.place) task.bound some)
+
+  flow_held : (key : ℕ) (live : Live) → slot_at s.slots key ≡ Some live → IsTrue (takes_share live.kind) → HasFlow s key live → HasFlow reset_state key live
+  flow_held key live at full has = cases (is_rebound_at s.capacities (resource ∷ []) (place_at s key live)) refl
+    where
+      task : Task
+      task = task_of s key live
+
+      uses_are : (asked_by reset_state key live).uses ≡ (asked_by s key live).uses
+      uses_are = uses_moved s.capacities capacities resource moved task task.place
+
+      limit : (x : Bool) → is_rebound_at s.capacities (resource ∷ []) (place_at s key live) ≡ x → HasLimit (asked_by reset_state key live)
+      limit x e = record {
+        weighs = subst (λ n. 0 < n) (sym (weight_moved s.capacities capacities resource moved task task.place)) has.limit.weighs;
+        bounds = λ none. some x e none;
+      }
+        where
+          some : (x : Bool) → is_rebound_at s.capacities (resource ∷ []) (place_at s key live) ≡ x → (asked_by reset_state key live).uses ≡ [] → IsSome (asked_by reset_state key live).bound
+          some true e none = bound_there key live e
+          some false e none = subst IsSome (sym (bound_moved s.capacities capacities resource moved task task.place e)) (has.limit.bounds (sym uses_are ∙ none))
+
+      cases : (x : Bool) → is_rebound_at s.capacities (resource ∷ []) (place_at s key live) ≡ x → HasFlow reset_state key live
+      cases true e =
+          let r = some_is (asked_by reset_state key live).bound (bound_there key live e) in
+          let mark : is_rebound_at capacities (with_mark resource s.resources) (place_at s key live) ≡ true = marked_as key live ∙ ap (λ b. b || is_rebound_at s.capacities s.resources (place_at s key live)) e in
+          record {
+            runs = rebound key live at full ∙ ap (λ b. cond b (option_map (rebound_to (asked_by reset_state key live).bound) (running_at s.runs live.flow)) (running_at s.runs live.flow)) e
+                ∙ ap₂ (λ b o. option_map (rebound_to b) o) r.1 has.runs
+                ∙ ap (λ f. Some (record { flow = f; rate = live.rate; began = is_in key s.fresh; marked = true })) (asked_with key live r.0 r.1)
+                ∙ ap (λ m. Some (record { flow = asked_by reset_state key live; rate = live.rate; began = is_in key s.fresh; marked = m })) (sym (ap (λ m. is_in key s.fresh || m) mark ∙ or_true (is_in key s.fresh)));
+            limit = limit true e;
+            within = has.within;
+            known = has.known;
+          }
+      cases false e =
+          let asked : asked_by reset_state key live ≡ asked_by s key live = flow_is (asked_by reset_state key live) (asked_by s key live) uses_are (weight_moved s.capacities capacities resource moved task task.place) (bound_moved s.capacities capacities resource moved task task.place e) in
+          let mark : is_rebound_at capacities (with_mark resource s.resources) (place_at s key live) ≡ is_rebound_at s.capacities s.resources (place_at s key live) = marked_as key live ∙ ap (λ b. b || is_rebound_at s.capacities s.resources (place_at s key live)) e in
+          record {
+            runs = rebound key live at full ∙ ap (λ b. cond b (option_map (rebound_to (asked_by reset_state key live).bound) (running_at s.runs live.flow)) (running_at s.runs live.flow)) e
+                ∙ has.runs
+                ∙ ap₂ (λ f m. Some (record { flow = f; rate = live.rate; began = is_in key s.fresh; marked = is_in key s.fresh || m })) (sym asked) (sym mark);
+            limit = limit false e;
+            within = has.within;
+            known = has.known;
+          }
+
+  pub reset_kept : IsKept reset_state
+  reset_kept = record {
+    each = λ key live at.
+        let h = is.each key live at in
+        record {
+          from = h.from;
+          to = h.to;
+          stamped = h.stamped;
+          in_time = h.in_time;
+          small = h.small;
+          few_bytes = h.few_bytes;
+          weighs = h.weighs;
+          paced = h.paced;
+          placed = place_moved s.capacities capacities resource moved (place_at s key live) h.placed;
+          flow = λ full. flow_held key live at full (h.flow full);
+          dated = h.dated;
+        };
+    idle = is.idle;
+    apart = is.apart;
+    back = λ id running e.
+        let r = some_is (running_at s.runs id) (back id (subst IsSome (sym e) refl)) in
+        let of = is.back id r.0 r.1 in
+        record { live = of.live; there = of.there; full = of.full; is = of.is };
+    fresh = is.fresh;
+    none_fresh = λ set. absurd (true≢false (sym set));
+    rates = λ set. absurd (true≢false (sym set));
+  }
+
+-- ---- what is kept
+module _ (kept mid : Kept) (capacities : Capacities) (resource value : ℕ) (sound : IsSound kept) (moved : IsMoved (state_of kept).capacities capacities resource) (rest : mid ≡ record kept { hosts = mid.hosts; links = mid.links; lazy = mid.lazy })
+    (caps : machines mid.hosts.items mid.links.items ≡ capacities) (lazy : mid.lazy ≡ with_capacity kept.lazy resource value) (offered : set (capacities_of (state_of kept).capacities) resource value ≡ capacities_of capacities) where
+  abbrev s : State
+  s = state_of kept
+
+  pub flows_reset : HasFlows mid
+  flows_reset = subst HasFlows (sym rest) (record {
+    places = λ key live at. subst (λ c. IsPlace c (place_at s key live)) (sym caps) (place_moved s.capacities capacities resource moved (place_at s key live) (sound.are.each key live at).placed);
+    runs = λ key live at full. subst IsSome (sym (ap (λ (l : Lazily). running_at l.slots live.flow) lazy ∙ ((sound.are.each key live at).flow full).runs)) refl;
+    own = λ key live at full. ((sound.are.each key live at).flow full).known;
+    ways_long = sound.room.ways_long;
+  })
+
+  module _ (new : Kept) (keys : List ℕ) (by : Rebounds mid new keys) (covers : (key : ℕ) (live : Live) → slot_at kept.lives.slots key ≡ Some live → is_in key keys ≡ is_rebound_at s.capacities (resource ∷ []) (place_at s key live)) where
+    abbrev with_lazy : Lazily → Kept
+    with_lazy l = record kept { hosts = mid.hosts; links = mid.links; lazy = l; settled = false }
+
+    new_rest : record new { settled = false } ≡ with_lazy new.lazy
+    new_rest = ap (λ (m : Kept). record m { settled = false }) by.rest ∙ ap (λ (m : Kept). record m { lazy = new.lazy; settled = false }) rest
+
+    new_lazy : new.lazy ≡ record kept.lazy { capacities = set kept.lazy.capacities resource value; resources = with_mark resource kept.lazy.resources; slots = new.lazy.slots }
+    new_lazy = by.lazy ∙ ap (λ (l : Lazily). record l { slots = new.lazy.slots }) lazy
+
+    rebound : (key : ℕ) (live : Live) → slot_at s.slots key ≡ Some live → IsTrue (takes_share live.kind) →
+        running_at new.lazy.slots live.flow ≡ cond (is_rebound_at s.capacities (resource ∷ []) (place_at s key live)) (option_map (rebound_to (flow_of capacities (task_of s key live)).bound) (running_at s.runs live.flow)) (running_at s.runs live.flow)
+    rebound key live at full =
+        let bound : (asked_by (state_of mid) key live).bound ≡ (flow_of capacities (task_of s key live)).bound =
+        ap (λ (m : Kept). (asked_by (state_of m) key live).bound) rest ∙ ap (λ c. (flow_of c (task_of s key live)).bound) caps in
+        let same : running_at mid.lazy.slots live.flow ≡ running_at s.runs live.flow = ap (λ (l : Lazily). running_at l.slots live.flow) lazy in
+        by.runs key live (ap (λ (m : Kept). slot_at m.lives.slots key) rest ∙ at) full
+        ∙ ap₂ (λ b o. cond (is_in key keys) (option_map (rebound_to b) o) o) bound same
+        ∙ ap (λ x. cond x (option_map (rebound_to (flow_of capacities (task_of s key live)).bound) (running_at s.runs live.flow)) (running_at s.runs live.flow)) (covers key live at)
+
+    back : (id : ℕ) → IsSome (running_at new.lazy.slots id) → IsSome (running_at s.runs id)
+    back id some = subst (λ (l : Lazily). IsSome (running_at l.slots id)) lazy (by.back id some)
+
+    state_is : state_of (record new { settled = false }) ≡ record s { capacities = capacities; runs = new.lazy.slots; resources = with_mark resource kept.lazy.resources; settled = false }
+    state_is =
+        ap state_of new_rest
+        ∙ ap₂ (λ c e. record s { capacities = c; runs = new.lazy.slots; ended = e; resources = new.lazy.resources; settled = false }) caps (ap (λ (l : Lazily). l.ended) new_lazy)
+        ∙ ap (λ r. record s { capacities = capacities; runs = new.lazy.slots; resources = r; settled = false }) (ap (λ (l : Lazily). l.resources) new_lazy)
+
+    room : HasRoom (with_lazy new.lazy)
+    room = record {
+      capacities = ap (λ (l : Lazily). l.capacities) new_lazy ∙ ap (λ l. set l resource value) sound.room.capacities ∙ offered ∙ sym (ap capacities_of caps);
+      few = sound.room.few;
+      early = sound.room.early;
+      flows = sound.room.flows;
+      flow_room = omega (arith, sound.room.flow_room, ap (λ (l : Lazily). l.flow_room) new_lazy);
+      use_room = omega (arith, sound.room.use_room, ap (λ (l : Lazily). l.use_room) new_lazy);
+      keys_free = sound.room.keys_free;
+      ways_long = sound.room.ways_long;
+      agenda_long = sound.room.agenda_long;
+      fresh_room = sound.room.fresh_room;
+      by_flow_long = omega (arith, sound.room.by_flow_long, by.long, ap (λ (l : Lazily). length l.slots) lazy);
+    }
+
+    pub resets : Resets kept (record new { settled = false }) capacities resource
+    resets = record {
+      state = state_is;
+      sound = record {
+        are = subst IsKept (sym state_is) (reset_kept s capacities resource new.lazy.slots sound.are moved rebound back);
+        room = subst HasRoom (sym new_rest) room;
+      };
+      room = ap (λ (k : Kept). k.room) new_rest;
+    }
+
+-- what is used stays
+pub used_reset : (kept new : Kept) (capacities : Capacities) (resource : ℕ) (index : Indexed) → IsMoved (state_of kept).capacities capacities resource → Resets kept new capacities resource → IsUsed kept index → IsUsed new index
+used_reset kept new capacities resource index moved by is =
+    subst (λ (s : State). IsIndexed s.capacities s.slots s.ways new.room index) (sym by.state) (record {
+      rows = λ key. is.rows key ∙ ap₂ (λ n m. used_by n m (links_at kept.ways.items key) (slot_at kept.lives.slots key)) (sym moved.hosts) (sym moved.links);
+      long = is.long;
+      things = is.things ∙ ap₂ (λ h l. h + l + h) (sym moved.hosts) (sym moved.links);
+      uses_free = omega (arith, is.uses_free, by.room);
+    })

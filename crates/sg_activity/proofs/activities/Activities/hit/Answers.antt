@@ -1,0 +1,18 @@
+use Rattle.std.proofs.Common.{◌≡◌, [], subst}
+use Rattle.sg_heap.specs.Agenda.{key}
+use Rattle.sg_activity.specs.Doing.{Doing, IsHit}
+use Rattle.sg_activity.specs.Underway.{hits}
+use Rattle.sg_activity.specs.kept.State.{State, state_of}
+use Rattle.sg_activity.proofs.Struck.{hit_told, none_hit}
+use Rattle.sg_activity.proofs.activities.Activities.hit.Goals as goal
+
+pub returns-in-Some : goal.returns-in-Some
+returns-in-Some c =
+    let kept = c.self.inside.kept in
+    let s : State = state_of kept in
+    subst (λ (d : Doing). IsHit d c.in-Some.serial.0) c.self.view_is (hit_told s c.self.invariant.sound.are c.self.inside.hits c.self.invariant.hit c.in-Some.field-0-0 (key c.in-Some.field-0-1 c.in-Some.serial) c.in-Some.ensures.first kept.room)
+
+pub returns-in-None : goal.returns-in-None
+returns-in-None c =
+    let s : State = state_of c.self.inside.kept in
+    subst (λ (d : Doing). hits d.under ≡ []) c.self.view_is (none_hit s c.self.invariant.sound.are c.self.inside.hits c.self.invariant.hit c.in-None.ensures.none)

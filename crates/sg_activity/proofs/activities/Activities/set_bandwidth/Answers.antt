@@ -1,0 +1,28 @@
+use Rattle.std.proofs.Common.{◌+◌, ◌<◌, All, length, sym, ap, ap₂, subst, ◌∙◌}
+use Rattle.sg_activity.specs.Doing.{Doing, set_in}
+use Rattle.sg_activity.specs.Hosts.{IsHost}
+use Rattle.sg_activity.specs.Links.{at_bandwidth}
+use Rattle.sg_activity.specs.Underway.{with_bandwidth}
+use Rattle.sg_activity.specs.kept.State.{State, state_of, doing_of}
+use Rattle.sg_activity.proofs.Moved.{bandwidth_moved}
+use Rattle.sg_activity.specs.kept.Hits.{AreHits}
+use Rattle.sg_activity.proofs.Switched.{switches_alike}
+use Rattle.sg_activity.proofs.Reset.{used_reset}
+use Rattle.sg_activity.proofs.activities.Activities.set_bandwidth.Goals as goal
+
+pub invariant_of-self : goal.invariant_of-self
+invariant_of-self c =
+    let kept = c.self.inside.kept in
+    let s : State = state_of kept in
+    let r = c.set_bandwidth.ensures in
+    let there : c.args.link.0 < length kept.links.items = subst (λ (d : Doing). c.args.link.0 < length d.under.capacities.links) (sym c.self.view_is) c.requires.link in
+    record {
+      sound = r.sound;
+      hosts = subst (λ (st : State). All IsHost st.capacities.hosts) (sym r.state) c.self.invariant.hosts;
+      used = used_reset kept c.set_bandwidth.new.kept (at_bandwidth c.args.link.0 c.args.bandwidth s.capacities) (length kept.hosts.items + c.args.link.0) c.self.inside.index (bandwidth_moved s.capacities c.args.link.0 c.args.bandwidth there) r c.self.invariant.used;
+      switches = switches_alike s (state_of c.set_bandwidth.new.kept) (ap (λ (st : State). st.on) r.state) (ap (λ (st : State). length st.capacities.hosts) r.state ∙ (bandwidth_moved s.capacities c.args.link.0 c.args.bandwidth there).hosts) (ap (λ (st : State). length st.capacities.links) r.state ∙ (bandwidth_moved s.capacities c.args.link.0 c.args.bandwidth there).links) c.self.invariant.switches;
+      hit = subst (λ (st : State). AreHits st.on st.slots st.ways c.self.inside.hits) (sym r.state) c.self.invariant.hit;
+    }
+
+pub returns : goal.returns
+returns c = let r = c.set_bandwidth.ensures in ap₂ doing_of r.state r.room ∙ ap (set_in (with_bandwidth c.args.link.0 c.args.bandwidth)) c.self.view_is

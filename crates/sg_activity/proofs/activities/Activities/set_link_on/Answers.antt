@@ -1,0 +1,22 @@
+use Rattle.std.proofs.Common.{All, sym, ap, ap₂, subst, ◌∙◌}
+use Rattle.sg_activity.specs.Doing.{switched_in}
+use Rattle.sg_activity.specs.Hosts.{IsHost}
+use Rattle.sg_activity.specs.Underway.{with_link_on}
+use Rattle.sg_activity.specs.kept.Index.{IsIndexed}
+use Rattle.sg_activity.specs.kept.State.{State, state_of, doing_of}
+use Rattle.sg_activity.proofs.activities.Activities.set_link_on.Goals as goal
+
+pub invariant_of-self : goal.invariant_of-self
+invariant_of-self c =
+    let s : State = state_of c.self.inside.kept in
+    let r = c.set_link_on.ensures.flips in
+    record {
+      sound = r.sound;
+      hosts = subst (λ (st : State). All IsHost st.capacities.hosts) (sym r.state) c.self.invariant.hosts;
+      used = subst (λ (st : State). IsIndexed st.capacities st.slots st.ways c.set_link_on.new.kept.room c.self.inside.index) (sym r.state) (subst (λ n. IsIndexed s.capacities s.slots s.ways n c.self.inside.index) (sym r.room) c.self.invariant.used);
+      switches = c.set_link_on.ensures.switches;
+      hit = c.set_link_on.ensures.hit;
+    }
+
+pub returns : goal.returns
+returns c = let r = c.set_link_on.ensures.flips in ap₂ doing_of r.state r.room ∙ ap (switched_in (with_link_on c.args.link.0 c.args.on)) c.self.view_is

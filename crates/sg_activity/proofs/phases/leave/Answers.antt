@@ -1,0 +1,105 @@
+use Rattle.std.proofs.Common.{◌≡◌, ℕ, true, false, None, Some, IsSome, length, length-set, set, sym, ap, subst, ◌∙◌, refl}
+use Rattle.std.specs.Option.{IfSome}
+use Rattle.sg_lazy.specs.Lazily.{Lazily, without_flow}
+use Rattle.sg_lazy.specs.RunningFlow.{RunningFlow, running_at}
+use Rattle.sg_activity.specs.Task.{takes_share}
+use Rattle.sg_activity.specs.kept.State.{State, state_of}
+use Rattle.sg_activity.specs.kept.Sound.{run_of}
+use Rattle.std.proofs.Common.{◌-◌}
+use Rattle.sg_activity.specs.Task.{flows_ahead}
+use Rattle.sg_activity.specs.kept.Ends.{Ends}
+use Rattle.sg_activity.proofs.Roomy.{ahead_counted}
+use Rattle.sg_activity.proofs.Ending.{Goes, ends_from}
+use Rattle.sg_activity.proofs.Turning.{with_flow, without, ended_filled, ended_unfilled}
+use Rattle.std.proofs.Common.{◌≤◌, arith}
+use Rattle.sg_activity.specs.declared.kept.Kept.{Kept}
+use Rattle.sg_activity.specs.kept.Index.{IsIndexed}
+use Rattle.sg_activity.specs.kept.Hits.{AreHits}
+use Rattle.sg_activity.proofs.Hitting.{hits_left}
+use Rattle.sg_activity.proofs.Indexing.{used_gone}
+use Rattle.sg_activity.proofs.Pairing.{there_within}
+use Rattle.sg_activity.proofs.phases.leave.Goals as goal
+use Rattle.sg_activity.proofs.phases.leave.Goals.{then-takes_share, else-takes_share}
+
+pub end-requires : goal.end-requires
+end-requires c =
+    let full : takes_share c.args.live.kind ≡ true = sym c.takes_share.ensures ∙ c.if-takes_share.true in
+    subst (λ o. IsSome o) (sym ((c.requires.sound.are.each c.args.key c.args.live c.requires.at).flow full).runs) refl
+
+-- what is said of the flow that ended
+gone : (old new : Lazily) (id : ℕ) (running : RunningFlow) → running_at old.slots id ≡ Some running → IfSome (running_at old.slots id) (λ r. new ≡ without_flow old id r.flow) → new ≡ without_flow old id running.flow
+gone old new id running e is = subst (λ o. IfSome o (λ r. new ≡ without_flow old id r.flow)) e is
+
+pub returns-clause-ends : goal.returns-clause-ends
+returns-clause-ends c =
+    let kept = c.args.kept.now in
+    let s : State = state_of kept in
+    let key = c.args.key in
+    let live = c.args.live in
+    let sound = c.requires.sound in
+    let after : ℕ → Type 0 = λ n. Ends kept (record c.if-takes_share.kept { lives = c.remove.new.self; agenda = c.clear-2.new.self; settled = false; flows = c.if-takes_share.kept.flows - n }) key live None in
+    elim c.if-takes_share.branch [
+      | then-takes_share w ↦
+          let full : takes_share live.kind ≡ true = sym c.takes_share.ensures ∙ w.if-takes_share.true in
+          let has = (sound.are.each key live c.requires.at).flow full in
+          let is = gone kept.lazy w.end.new.self live.flow (run_of s key live) has.runs w.end.ensures in
+          let goes : Goes kept w.end.new.self key live = record {
+            went = with_flow full (ap (λ (l : Lazily). l.slots) is);
+            ended = ap (λ (l : Lazily). l.ended) is ∙ ended_filled s key live full;
+            capacities = ap (λ (l : Lazily). l.capacities) is;
+            resources = ap (λ (l : Lazily). l.resources) is;
+            flow_room = ap (λ (l : Lazily). l.flow_room) is;
+            use_room = ap (λ (l : Lazily). l.use_room) is;
+            long = ap (λ (l : Lazily). length l.slots) is ∙ length-set s.runs live.flow None;
+          } in
+          subst after (sym c.flows_ahead.ensures) (ends_from kept c.if-takes_share.kept w.end.new.self c.remove.new.self c.clear-2.new.self key live sound c.requires.at c.requires.stale goes w.kept-is c.remove.ensures.slots c.remove.ensures.room c.clear-2.ensures)
+      | else-takes_share w ↦
+          let empty : takes_share live.kind ≡ false = sym c.takes_share.ensures ∙ w.if-takes_share.false in
+          let goes : Goes kept kept.lazy key live = record {
+            went = without empty refl;
+            ended = ended_unfilled s key live empty;
+            capacities = refl;
+            resources = refl;
+            flow_room = refl;
+            use_room = refl;
+            long = refl;
+          } in
+          subst after (sym c.flows_ahead.ensures) (ends_from kept c.if-takes_share.kept kept.lazy c.remove.new.self c.clear-2.new.self key live sound c.requires.at c.requires.stale goes w.kept-is c.remove.ensures.slots c.remove.ensures.room c.clear-2.ensures)
+    ]
+
+pub leave-requires : goal.leave-requires
+leave-requires c = omega (arith, there_within c.args.kept.now.lives.slots c.args.key c.args.live c.requires.at, c.requires.used.long)
+
+pub returns-clause-used : goal.returns-clause-used
+returns-clause-used c =
+    let kept = c.args.kept.now in
+    let key = c.args.key in
+    let row = c.leave.ensures in
+    let from : (mid : Kept) (lazy : Lazily) → mid ≡ record kept { lazy = lazy } → c.remove.new.self.slots ≡ set mid.lives.slots key None → IsIndexed (state_of mid).capacities c.remove.new.self.slots mid.ways.items mid.room c.leave.new.self =
+    λ mid lazy e slots. used_gone kept mid lazy c.remove.new.self.slots c.args.index.now c.leave.new.self key c.args.live c.requires.used c.requires.at e slots row.row row.users (omega (arith, row.room)) in
+    elim c.if-takes_share.branch [
+      | then-takes_share w ↦ from c.if-takes_share.kept w.end.new.self w.kept-is c.remove.ensures.slots
+      | else-takes_share w ↦ from c.if-takes_share.kept kept.lazy w.kept-is c.remove.ensures.slots
+    ]
+
+pub clear-requires : goal.clear-requires
+clear-requires c = omega (arith, there_within c.args.kept.now.lives.slots c.args.key c.args.live c.requires.at, c.requires.hit.long)
+
+pub overflow_sub-kept : goal.overflow_sub-kept
+overflow_sub-kept c =
+    let kept = c.args.kept.now in
+    let counted : flows_ahead c.args.live.kind ≤ kept.flows = omega (arith, c.requires.sound.room.flows, ahead_counted kept.lives.slots c.args.key c.args.live (there_within kept.lives.slots c.args.key c.args.live c.requires.at) c.requires.at) in
+    elim c.if-takes_share.branch [
+      | then-takes_share w ↦ omega (arith, c.flows_ahead.ensures, counted, ap (λ (k : Kept). k.flows) w.kept-is)
+      | else-takes_share w ↦ omega (arith, c.flows_ahead.ensures, counted, ap (λ (k : Kept). k.flows) w.kept-is)
+    ]
+
+pub returns-clause-hit : goal.returns-clause-hit
+returns-clause-hit c =
+    let kept = c.args.kept.now in
+    let from : (mid : Kept) (lazy : Lazily) → mid ≡ record kept { lazy = lazy } → c.remove.new.self.slots ≡ set mid.lives.slots c.args.key None → AreHits (state_of mid).on c.remove.new.self.slots mid.ways.items c.clear.new.self =
+    λ mid lazy e slots. subst (AreHits (state_of mid).on c.remove.new.self.slots mid.ways.items) (sym c.clear.ensures) (hits_left kept mid lazy c.remove.new.self.slots c.args.hits.now c.args.key c.args.live c.requires.hit c.requires.at e slots) in
+    elim c.if-takes_share.branch [
+      | then-takes_share w ↦ from c.if-takes_share.kept w.end.new.self w.kept-is c.remove.ensures.slots
+      | else-takes_share w ↦ from c.if-takes_share.kept kept.lazy w.kept-is c.remove.ensures.slots
+    ]

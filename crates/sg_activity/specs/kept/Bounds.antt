@@ -1,0 +1,43 @@
+-- What a change of a capacity changes.
+use Rattle.std.specs.Prelude.{◌≡◌, ℕ, ◌≤◌, false, Option, None, Some, option_map, if◌then◌else◌, List, length, slice_index, IsTrue, IsSome}
+use Rattle.sg_base.specs.MarkSet.{is_in, with_mark}
+use Rattle.sg_lazy.specs.RunningFlow.{RunningFlow, bounded_by, running_at}
+use Rattle.sg_activity.specs.declared.kept.Kept.{Kept}
+use Rattle.sg_activity.specs.declared.lives.Live.{Live}
+use Rattle.sg_activity.specs.Links.{Capacities}
+use Rattle.sg_activity.specs.Task.{takes_share}
+use Rattle.sg_activity.specs.kept.Pool.{slot_at}
+use Rattle.sg_activity.specs.kept.State.{state_of, asked_by}
+use Rattle.sg_activity.specs.kept.Sound.{IsPlace, IsSound, place_at}
+
+-- the flow under another bound, if there is one, and marked
+abbrev pub rebound_to : Option ℕ → RunningFlow → RunningFlow
+rebound_to None running = running
+rebound_to (Some bound) running = bounded_by bound running
+
+-- the flow under what bounds the activity under a key now
+abbrev pub rebound_by : Kept → ℕ → Live → Option RunningFlow → Option RunningFlow
+rebound_by kept key live slot =
+    option_map (rebound_to (asked_by (state_of kept) key live).bound) slot
+
+-- Each activity is where something exists, and what takes a share has a flow of its own.
+pub record HasFlows (kept : Kept) : Type 0 where
+  pub places : (key : ℕ) (live : Live) → slot_at kept.lives.slots key ≡ Some live → IsPlace (state_of kept).capacities (place_at (state_of kept) key live)
+  pub runs : (key : ℕ) (live : Live) → slot_at kept.lives.slots key ≡ Some live → IsTrue (takes_share live.kind) → IsSome (running_at kept.lazy.slots live.flow)
+  pub own : (key : ℕ) (live : Live) → slot_at kept.lives.slots key ≡ Some live → IsTrue (takes_share live.kind) → slice_index kept.by_flow.items live.flow ≡ key
+  pub ways_long : length kept.lives.slots ≤ length kept.ways.items
+
+-- The flows of the activities under these keys have the bounds that hold now, and nothing else changed.
+pub record Rebounds (old new : Kept) (keys : List ℕ) : Type 0 where
+  pub rest : new ≡ record old { lazy = new.lazy }
+  pub lazy : new.lazy ≡ record old.lazy { slots = new.lazy.slots }
+  pub long : length new.lazy.slots ≡ length old.lazy.slots
+  pub runs : (key : ℕ) (live : Live) → slot_at old.lives.slots key ≡ Some live → IsTrue (takes_share live.kind) →
+      running_at new.lazy.slots live.flow ≡ (if is_in key keys then rebound_by old key live (running_at old.lazy.slots live.flow) else running_at old.lazy.slots live.flow)
+  pub back : (id : ℕ) → IsSome (running_at new.lazy.slots id) → IsSome (running_at old.lazy.slots id)
+
+-- The capacities are these now, and that of this resource changed; nothing else did.
+pub record Resets (old new : Kept) (capacities : Capacities) (resource : ℕ) : Type 0 where
+  pub state : state_of new ≡ record (state_of old) { capacities = capacities; runs = new.lazy.slots; resources = with_mark resource old.lazy.resources; settled = false }
+  pub sound : IsSound new
+  pub room : new.room ≡ old.room

@@ -1,0 +1,144 @@
+//! Which activities use which hosts and links.
+
+ghost use Rattle.std.specs.Prelude.{◌≡◌, ◌≤◌, ◌<◌, ◌+◌, ℕ, [], All, IfOk, IsSome, None, OnOk, Some, length, slice_index_or};
+ghost use Rattle.sg_chains.specs.Chained.{times, users_on};
+ghost use Rattle.sg_chains.specs.Walk.{Leads, next_on, user_of};
+ghost use Rattle.sg_activity.specs.kept.Index.{IsRow, IsWider, row_at, uses_at};
+
+use sg_base::{Memory, Steps};
+use sg_chains::{Chains, Use};
+use std::alloc::Global;
+use std::marker::Model;
+use std::sync::ledger::Ledger;
+
+// The uses of an activity: so many, from the first one on.
+#[derive(Clone, Copy)]
+pub(crate) struct Uses {
+    first: Option<usize>,
+    count: usize,
+}
+
+const NO_USES: Uses = Uses {
+    first: None,
+    count: 0,
+};
+
+/// The things, hosts or links, that the activity under each key uses, and the keys of those that use each thing.
+/// Nothing but `reserve` takes memory.
+#[derive(Drop)]
+pub(crate) struct Index {
+    chains: Chains,
+    // by key
+    rows: Vec<Uses>,
+}
+
+impl Model for Index {
+    ghost use Rattle.sg_activity.specs.kept.Index.{Indexed};
+
+    ghost Value = { Indexed };
+
+    ghost use Rattle.std.specs.Prelude.{map};
+    ghost use Rattle.sg_activity.specs.kept.Index.{IsIndex, things_of};
+
+    ghost view = { λ s. record {
+      rows = map (things_of s.chains.uses) s.rows.items;
+      uses = s.chains.uses;
+      users = s.chains.users;
+      room = s.chains.room;
+    } };
+
+    ghost invariant = { λ s. IsIndex s.rows.items s.chains };
+}
+
+// Makes so many rows, the new ones without uses.
+fn grow_rows(rows: &mut Vec<Uses>, n: usize) -> Result<(), Memory>
+    ensures same { (key : ℕ) → uses_at rows.new.items key ≡ uses_at rows.old.items key }
+    ensures longer { length rows.old.items ≤ length rows.new.items }
+    ensures long { OnOk result (n ≤ length rows.new.items) }
+{
+    for _key in rows.len()..n {
+        match rows.push(NO_USES) {
+            Ok(()) => {}
+            Err(_) => return Err(Memory),
+        }
+    }
+    Ok(())
+}
+
+impl Index {
+    /// There are so many things, and nothing uses them.
+    pub(crate) fn new(alloc: Global, things: usize) -> Result<Index, Memory>
+        ensures rows { IfOk result (λ index. index.rows ≡ []) }
+        ensures things { IfOk result (λ index. length index.users ≡ things) }
+    {
+        Ok(Index {
+            chains: Chains::new(alloc, things)?,
+            rows: Vec::new(alloc),
+        })
+    }
+
+    /// Makes room for so many keys, and for so many uses more.
+    pub(crate) fn reserve(&mut self, keys: usize, uses: usize) -> Result<(), Memory>
+        ensures wider { IsWider self.old self.new }
+        ensures keys { OnOk result (keys ≤ length self.new.rows) }
+        ensures uses { OnOk result (uses ≤ self.new.room) }
+    {
+        grow_rows(&mut self.rows, keys)?;
+        self.chains.reserve(uses)
+    }
+
+    /// The activity under a key, which used nothing, uses these things.
+    pub(crate) fn enter(&mut self, key: usize, things: &[usize])
+        requires key { key < length self.old.rows }
+        requires idle { row_at self.old.rows key ≡ [] }
+        requires exist { All (λ thing. thing < length self.old.users) things.now }
+        requires room { length things.now ≤ self.old.room }
+        ensures row { IsRow self.old.rows self.new.rows key things.now }
+        ensures users { length self.new.users ≡ length self.old.users }
+        ensures room { self.new.room + length things.now ≡ self.old.room }
+    {
+        let first = self.chains.add(key, things);
+        self.rows[key] = Uses {
+            first,
+            count: things.len(),
+        };
+    }
+
+    /// The activity under a key uses nothing any more.
+    pub(crate) fn leave(&mut self, key: usize)
+        requires { key < length self.old.rows }
+        ensures row { IsRow self.old.rows self.new.rows key [] }
+        ensures users { length self.new.users ≡ length self.old.users }
+        ensures room { self.new.room ≡ self.old.room + length (row_at self.old.rows key) }
+    {
+        let row = self.rows[key];
+        self.chains.remove(key, row.count, row.first);
+        self.rows[key] = NO_USES;
+    }
+
+    /// The first use of a thing; `None` where nothing uses it.
+    pub(crate) fn first_on(&self, thing: usize) -> Option<usize>
+        requires { thing < length self.now.users }
+        ensures leads { Leads next_on user_of self.now.uses result
+            (users_on self.now.users thing) }
+        ensures few { length (users_on self.now.users thing) ≤ length self.now.uses }
+    {
+        self.chains.first_on(thing)
+    }
+
+    /// The use under a number.
+    pub(crate) fn look<L: Ledger>(&self, i: usize, steps: &mut Steps<L>) -> Use
+        requires { IsSome (slice_index_or self.now.uses i None) }
+        ensures { slice_index_or self.now.uses i None ≡ Some result }
+    {
+        self.chains.look(i, steps)
+    }
+
+    /// A thing is used under a key as often as the key is among its users.
+    pub(crate) fn is_both_ways(&self)
+        ensures { (key thing : ℕ) →
+            times key (users_on self.now.users thing) ≡ times thing (row_at self.now.rows key) }
+    {
+        let _keys = self.rows.len();
+    }
+}

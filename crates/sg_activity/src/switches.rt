@@ -1,0 +1,147 @@
+//! Hosts and links that go off and on, and the activities that use what is off.
+
+ghost use Rattle.std.specs.Prelude.{◌≡◌, ◌≤◌, ◌<◌, ◌+◌, ◌||◌, All, length, slice_set};
+ghost use Rattle.std.specs.List.{list_any};
+ghost use Rattle.sg_base.specs.declared.ids.LinkId.{LinkId};
+ghost use Rattle.sg_chains.specs.Chained.{users_on};
+ghost use Rattle.sg_activity.specs.Links.{is_off};
+ghost use Rattle.sg_activity.specs.Task.{is_cut, uses_off as uses_off_spec};
+ghost use Rattle.sg_activity.specs.kept.Hits.{AreHit, AreLooked, ArePlaced, AreSwitches, Flips, hit_in};
+ghost use Rattle.sg_activity.specs.kept.Pool.{slot_at};
+ghost use Rattle.sg_activity.specs.kept.Sound.{IsPlace, IsSound, place_at};
+ghost use Rattle.sg_activity.specs.kept.State.{links_at, state_of};
+ghost use Rattle.sg_activity.specs.kept.Whole.{IsUsed};
+
+use crate::index::Index;
+use crate::kept::Kept;
+use crate::kinds::PhaseKind;
+use crate::lives::Live;
+use sg_base::{LinkId, Serial, Steps};
+use sg_heap::Agenda;
+use std::marker::Brand;
+use std::sync::ledger::{Blank, Ledger};
+
+// Whether one of the links is off.
+fn any_off(on: &[bool], links: &[LinkId]) -> bool
+    requires { All (λ (link : LinkId). link.0 < length on.now) links.now }
+    ensures { result ≡ list_any (λ (link : LinkId). is_off on.now link.0) links.now }
+{
+    for link in links {
+        if !on[link.0 as usize] {
+            return true;
+        }
+    }
+    false
+}
+
+/// Whether something is off of these links and of the hosts at both ends.
+pub(crate) fn is_way_cut(kept: &Kept, links: &[LinkId], sender: usize, receiver: usize) -> bool
+    requires links { All (λ (link : LinkId). link.0 < length kept.now.links_on.items) links.now }
+    requires sender { sender < length kept.now.hosts_on.items }
+    requires receiver { receiver < length kept.now.hosts_on.items }
+    ensures { result ≡ is_cut (state_of kept.now).on
+        (record { links = links.now; sender = sender; receiver = receiver }) }
+{
+    any_off(&kept.links_on, links) || !kept.hosts_on[sender] || !kept.hosts_on[receiver]
+}
+
+// Whether the activity under a key uses something that is off.
+fn uses_off(kept: &Kept, key: usize, live: &Live) -> bool
+    requires key { key < length kept.now.ways.items }
+    requires switches { AreSwitches kept.now }
+    requires place { IsPlace (state_of kept.now).capacities
+        (place_at (state_of kept.now) key live.now) }
+    ensures { result ≡ uses_off_spec (state_of kept.now).on
+        (place_at (state_of kept.now) key live.now) }
+{
+    match live.kind {
+        PhaseKind::Exec => !kept.hosts_on[live.host],
+        PhaseKind::Latency | PhaseKind::Flow => {
+            is_way_cut(kept, kept.ways[key].route(), live.host, live.peer)
+        }
+        PhaseKind::Timer => false,
+    }
+}
+
+// Notes whether the activity under a key uses something that is off.
+fn update_hit(kept: &Kept, hits: &mut Agenda, key: usize)
+    requires key { key < length kept.now.lives.slots }
+    requires ways { length kept.now.lives.slots ≤ length kept.now.ways.items }
+    requires hits { length kept.now.lives.slots ≤ length hits.old }
+    requires switches { AreSwitches kept.now }
+    requires placed { ArePlaced kept.now }
+    ensures { hits.new ≡ slice_set hits.old key
+        (hit_in (state_of kept.now).on (links_at kept.now.ways.items key)
+        (slot_at kept.now.lives.slots key)) }
+{
+    let Some(live) = kept.lives.get(key) else {
+        hits.clear(key);
+        return;
+    };
+    if uses_off(kept, key, &live) {
+        hits.set(key, 0, Serial(live.serial));
+    } else {
+        hits.clear(key);
+    }
+}
+
+// The same of each activity that uses a thing.
+fn update_hits<L: Ledger>(kept: &Kept, index: &Index, hits: &mut Agenda, thing: usize, blank: Blank)
+    requires name { blank.name ≡ L.name }
+    requires parts { blank.parts ≡ L.parts }
+    requires some { 0 < blank.parts }
+    requires thing { thing < length index.now.users }
+    requires keys { All (λ key. key < length kept.now.lives.slots)
+        (users_on index.now.users thing) }
+    requires ways { length kept.now.lives.slots ≤ length kept.now.ways.items }
+    requires hits { length kept.now.lives.slots ≤ length hits.old }
+    requires switches { AreSwitches kept.now }
+    requires placed { ArePlaced kept.now }
+    ensures { AreLooked (state_of kept.now).on kept.now.lives.slots kept.now.ways.items
+        hits.old hits.new (users_on index.now.users thing) }
+{
+    let mut steps = Steps::<L>::new(blank);
+    let mut at = index.first_on(thing);
+    while let Some(i) = at {
+        let one = index.look(i, &mut steps);
+        update_hit(kept, hits, one.flow);
+        at = one.next_on;
+    }
+}
+
+/// Puts a host on or off: an execution there uses it, and a communication from it or to it.
+pub(crate) fn set_host_on(kept: &mut Kept, index: &Index, hits: &mut Agenda, host: usize, on: bool)
+    requires host { host < length kept.old.hosts.items }
+    requires sound { IsSound kept.old }
+    requires used { IsUsed kept.old index.now }
+    requires switches { AreSwitches kept.old }
+    requires hit { AreHit kept.old hits.old }
+    ensures flips { Flips kept.old kept.new
+        (record (state_of kept.old).on { hosts = slice_set kept.old.hosts_on.items host on }) }
+    ensures switches { AreSwitches kept.new }
+    ensures hit { AreHit kept.new hits.new }
+{
+    index.is_both_ways();
+    let end = kept.hosts.len() + kept.links.len() + host;
+    kept.hosts_on[host] = on;
+    update_hits::<Brand>(kept, index, hits, host, Blank::new(1));
+    update_hits::<Brand>(kept, index, hits, end, Blank::new(1));
+}
+
+/// Puts a link on or off.
+pub(crate) fn set_link_on(kept: &mut Kept, index: &Index, hits: &mut Agenda, link: usize, on: bool)
+    requires link { link < length kept.old.links.items }
+    requires sound { IsSound kept.old }
+    requires used { IsUsed kept.old index.now }
+    requires switches { AreSwitches kept.old }
+    requires hit { AreHit kept.old hits.old }
+    ensures flips { Flips kept.old kept.new
+        (record (state_of kept.old).on { links = slice_set kept.old.links_on.items link on }) }
+    ensures switches { AreSwitches kept.new }
+    ensures hit { AreHit kept.new hits.new }
+{
+    index.is_both_ways();
+    let thing = kept.hosts.len() + link;
+    kept.links_on[link] = on;
+    update_hits::<Brand>(kept, index, hits, thing, Blank::new(1));
+}

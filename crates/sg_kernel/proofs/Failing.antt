@@ -1,0 +1,82 @@
+-- An activity that uses something that is off fails.
+use Rattle.std.proofs.Common.{◌≡◌, ◌≢◌, ℕ, ◌+◌, ◌-◌, true≢false, None, Some, length, set, get_or, sym, ap, subst, ◌∙◌, arith}
+use Rattle.std.specs.List.{All}
+use Rattle.std.proofs.lemmas.List.{length-set}
+use Rattle.std.proofs.lemmas.List.Elements.{All-set}
+use Rattle.sg_activity.specs.Doing.{Doing, IsHit, gave_up}
+use Rattle.sg_activity.specs.Task.{Task, task_at}
+use Rattle.sg_kernel.specs.declared.fields.Fields.{Fields}
+use Rattle.sg_kernel.specs.declared.owners.How.TheVariants as how
+use Rattle.sg_kernel.specs.declared.owners.Whose.{Whose}
+use Rattle.sg_kernel.specs.declared.owners.Whose.TheVariants.{Over}
+use Rattle.sg_kernel.specs.World.{extent}
+use Rattle.sg_kernel.specs.kept.Owners.{Owned}
+use Rattle.sg_kernel.specs.kept.Sound.{setup_in, is_idle, AreHeld, AreMeeting, IsOwner, IsSound}
+use Rattle.sg_kernel.specs.kept.Whole.{IsPassing}
+use Rattle.sg_kernel.proofs.Begins.{held_with, sound_with}
+use Rattle.sg_kernel.proofs.PostsKept.{meeting_gone, under_way}
+use Rattle.sg_kernel.proofs.Timely.{IsTimelyAt}
+
+-- what is under way isn't over
+pub not_over : (fields : Fields) (serial : ℕ) (task : Task) → task_at fields.doing.under.tasks serial ≡ Some task → AreMeeting fields → get_or fields.whose.whose (serial - 1) (Over how.Done) ≢ Over how.Done
+not_over fields serial task at meeting over = true≢false (sym (ap is_idle over) ∙ under_way fields.whose.whose fields.doing.under.tasks (serial - 1) task meeting.idle at)
+
+pub failed_owner : (fields : Fields) (serial : ℕ) (whose : Whose) → whose ≡ get_or fields.whose.whose (serial - 1) (Over how.Done) → IsHit fields.doing serial → IsPassing fields → IsOwner (extent (setup_in fields)) whose
+failed_owner fields serial whose is hit passing =
+    subst (IsOwner (extent (setup_in fields))) (sym is) (passing.limited (serial - 1) (Over how.Done) (omega (arith, hit.from, hit.to, passing.sound.numbered)))
+
+-- ---- an event is counted
+sound_counted : (fields : Fields) → fields.events ≢ fields.budget → IsSound fields → IsSound (record fields { events = fields.events + 1 })
+sound_counted fields go was = record {
+  numbered = was.numbered;
+  few = omega (arith, was.few);
+  within = omega (arith, was.within, go);
+  budgeted = was.budgeted;
+  hosts_counted = was.hosts_counted;
+  links_counted = was.links_counted;
+  homes_known = was.homes_known;
+  hosts_known = was.hosts_known;
+  requests_known = was.requests_known;
+  requests_few = omega (arith, was.requests_few);
+  extent_is = was.extent_is;
+  network_kept = was.network_kept;
+}
+
+held_counted : (fields : Fields) → AreHeld fields → AreHeld (record fields { events = fields.events + 1 })
+held_counted fields was = record {
+  owners = was.owners;
+  counts = was.counts;
+  actors = was.actors;
+  few = λ k d within. omega (arith, was.few k d within);
+  once = was.once;
+  held = was.held;
+  locking = was.locking;
+  acquiring = was.acquiring;
+}
+
+-- all that holds in a pass holds on
+pub failed_passing : (fields : Fields) (serial : ℕ) (whose : Owned) (doing : Doing) → IsHit fields.doing serial → whose ≡ record fields.whose { whose = set fields.whose.whose (serial - 1) (Over how.Failed) } → doing ≡ gave_up serial fields.doing → fields.events ≢ fields.budget →
+    IsPassing fields → IsPassing (record fields { whose = whose; doing = doing; events = fields.events + 1 })
+failed_passing fields serial whose doing hit owned gone go was =
+    let counted : Fields = record fields { events = fields.events + 1 } in
+    let owners = ap (λ (o : Owned). o.whose) owned in
+    let tasks = ap (λ (d : Doing). d.under.tasks) gone in
+    let long = ap length tasks ∙ length-set fields.doing.under.tasks (serial - 1) None in
+    let many = ap length owners ∙ length-set fields.whose.whose (serial - 1) (Over how.Failed) in
+    let e = extent (setup_in fields) in
+    let m = was.meeting in
+    record {
+      sound = sound_with counted doing whose fields.boxes (many ∙ was.sound.numbered ∙ sym long) (omega (arith, was.sound.few, long)) (ap (λ (d : Doing). d.under.capacities) gone) (sound_counted fields go was.sound);
+      roomy = record {
+        starts = omega (arith, was.roomy.starts, ap (λ (d : Doing). d.room) gone);
+        owners = omega (arith, was.roomy.owners, ap (λ (o : Owned). o.room) owned);
+        mailboxes = was.roomy.mailboxes;
+        requests = was.roomy.requests;
+      };
+      timely = subst (IsTimelyAt fields) (sym (ap (λ (d : Doing). d.under.date) gone)) was.timely;
+      limited = subst (All (IsOwner e)) (sym owners) (All-set (IsOwner e) fields.whose.whose (serial - 1) (Over how.Failed) tt was.limited);
+      meeting = meeting_gone counted whose doing how.Failed (serial - 1) hit.task hit.at owners tasks (record { posts = m.posts; idle = m.idle; asked = m.asked });
+      held = held_with counted doing whose fields.boxes (held_counted fields was.held);
+      passing = was.passing;
+      small = omega (arith, was.small, ap (λ (d : Doing). d.under.date) gone);
+    }

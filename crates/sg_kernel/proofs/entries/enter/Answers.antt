@@ -1,0 +1,33 @@
+use Rattle.std.proofs.Common.{◌<◌, ◌^◌, length, sym, subst}
+use Rattle.std.specs.Option.{IsSomeAnd}
+use Rattle.sg_profile.specs.Profiles.{IsEntry}
+use Rattle.sg_kernel.proofs.Entering.{entered_known, entered_passing, entered_rows, set_keeps, with_entry}
+use Rattle.sg_kernel.proofs.Leaving.{leaves_same}
+use Rattle.sg_kernel.proofs.entries.enter.Goals as goal
+
+pub apply-requires-clause-entry : goal.apply-requires-clause-entry
+apply-requires-clause-entry c =
+    let fields = c.args.fields.now in
+    let sound = c.requires.passing.sound in
+    subst (λ n. IsEntry n (length fields.doing.under.capacities.links) c.args.entry) (sym sound.hosts_counted) (subst (λ n. IsEntry fields.hosts n c.args.entry) (sym sound.links_counted) c.requires.due.exists)
+
+pub step-requires : goal.step-requires
+step-requires c = subst (λ o. IsSomeAnd o (λ date. date < 10 ^ 33)) (sym c.requires.due.next.date_is) c.requires.passing.small
+
+pub returns-clause-known : goal.returns-clause-known
+returns-clause-known c = entered_known c.args.fields.now c.apply.new.doing c.step.new.self c.args.entry c.requires.due c.apply.ensures c.step.ensures
+
+pub returns-clause-passing : goal.returns-clause-passing
+returns-clause-passing c = entered_passing c.args.fields.now c.apply.new.doing c.step.new.self c.args.entry c.requires.due c.apply.ensures c.step.ensures c.requires.budget c.requires.passing
+
+pub returns-clause-rows : goal.returns-clause-rows
+returns-clause-rows c =
+    let fields = c.args.fields.now in
+    let keeps = set_keeps fields.network c.args.entry fields.doing c.apply.new.doing c.apply.ensures in
+    entered_rows fields c.apply.new.doing c.step.new.self c.args.entry c.requires.due keeps.date c.step.ensures c.requires.passing.timely
+
+pub returns-clause-due : goal.returns-clause-due
+returns-clause-due c =
+    let fields = c.args.fields.now in
+    let keeps = set_keeps fields.network c.args.entry fields.doing c.apply.new.doing c.apply.ensures in
+    leaves_same fields (with_entry fields c.apply.new.doing c.step.new.self) keeps.date keeps.began keeps.tasks c.apply.ensures.due

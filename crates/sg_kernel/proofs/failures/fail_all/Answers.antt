@@ -1,0 +1,91 @@
+use Rattle.std.proofs.Common.{◌≡◌, ◌≢◌, drop, refl, sym, ap, ◌∙◌, arith}
+use Rattle.sg_activity.specs.Underway.{hits}
+use Rattle.sg_kernel.specs.Known.{Known}
+use Rattle.sg_kernel.specs.Passes.{fails}
+use Rattle.sg_kernel.specs.Steps.{result_of}
+use Rattle.sg_kernel.specs.World.{Setup}
+use Rattle.sg_kernel.specs.kept.Sound.{known_of, setup_in}
+use Rattle.sg_kernel.proofs.Each.{still, still_none, still_stops, stops_none}
+use Rattle.sg_kernel.proofs.Ends.{still_fails, still_unfailed}
+use Rattle.sg_kernel.proofs.Leaving.{leaves_both, leaves_same}
+use Rattle.sg_kernel.proofs.failures.fail_all.Goals as goal
+
+pub loop-serial-init : goal.loop-serial-init
+loop-serial-init c =
+    let fields = c.args.fields.now in
+    record { passing = c.requires.passing; setup = refl; known = refl; stop = refl; due = leaves_same fields fields refl refl refl refl; profiles = refl; events = omega arith }
+
+pub fail-requires-clause-stale : goal.fail-requires-clause-stale
+fail-requires-clause-stale c = c.loop-serial.invariant.due.began ∙ c.requires.stale
+
+pub loop-serial-preserved : goal.loop-serial-preserved
+loop-serial-preserved c =
+    let first = c.args.fields.now in
+    let setup = setup_in first in
+    let old = c.loop-serial.fields in
+    let new = c.fail.new.fields in
+    let inv = c.loop-serial.invariant in
+    let made = c.fail.ensures in
+    let hit = c.in-Some.ensures in
+    let go : old.events ≢ setup.budget = λ e. c.if-fields.false (e ∙ sym (ap (λ (s : Setup). s.budget) inv.setup)) in
+    let rest : hits new.doing.under ≡ hit.rest = made.hits ∙ ap (drop 1) hit.first in
+    let more = still_fails setup c.in-Some.serial.0 hit.rest (known_of old) (known_of new) go made.known in
+    record {
+      passing = made.passing;
+      setup = ap (λ (k : Known). k.setup) made.known ∙ inv.setup;
+      known =
+          ap (λ d. still (fails setup) d (known_of new)) rest
+          ∙ more.0
+          ∙ ap (λ d. still (fails setup) d (known_of old)) (sym hit.first)
+          ∙ inv.known;
+      stop =
+          ap (λ d. still_stops (fails setup) d (known_of new)) rest
+          ∙ more.1
+          ∙ ap (λ d. still_stops (fails setup) d (known_of old)) (sym hit.first)
+          ∙ inv.stop;
+      due = leaves_both first old new inv.due made.due;
+      profiles = made.profiles ∙ inv.profiles;
+      events = omega (arith, inv.events, made.events);
+    }
+
+pub returns-then-fields-clause-known : goal.returns-then-fields-clause-known
+returns-then-fields-clause-known c =
+    let setup = setup_in c.args.fields.now in
+    let now = c.loop-serial.fields in
+    let inv = c.loop-serial.invariant in
+    let hit = c.in-Some.ensures in
+    let used = c.if-fields.true ∙ ap (λ (s : Setup). s.budget) inv.setup in
+    sym (still_unfailed setup c.in-Some.serial.0 hit.rest (known_of now) used).0
+    ∙ ap (λ d. still (fails setup) d (known_of now)) (sym hit.first)
+    ∙ inv.known
+
+pub returns-then-fields-clause-result : goal.returns-then-fields-clause-result
+returns-then-fields-clause-result c =
+    let setup = setup_in c.args.fields.now in
+    let now = c.loop-serial.fields in
+    let inv = c.loop-serial.invariant in
+    let hit = c.in-Some.ensures in
+    let used = c.if-fields.true ∙ ap (λ (s : Setup). s.budget) inv.setup in
+    ap result_of (
+    sym (still_unfailed setup c.in-Some.serial.0 hit.rest (known_of now) used).1
+    ∙ ap (λ d. still_stops (fails setup) d (known_of now)) (sym hit.first)
+    ∙ inv.stop
+    )
+
+pub returns-clause-known : goal.returns-clause-known
+returns-clause-known c =
+    let setup = setup_in c.args.fields.now in
+    let now = c.loop-serial.fields in
+    sym (still_none (fails setup) (known_of now))
+    ∙ ap (λ d. still (fails setup) d (known_of now)) (sym c.in_default.ensures)
+    ∙ c.loop-serial.invariant.known
+
+pub returns-clause-result : goal.returns-clause-result
+returns-clause-result c =
+    let setup = setup_in c.args.fields.now in
+    let now = c.loop-serial.fields in
+    ap result_of (
+    sym (stops_none (fails setup) (known_of now))
+    ∙ ap (λ d. still_stops (fails setup) d (known_of now)) (sym c.in_default.ensures)
+    ∙ c.loop-serial.invariant.stop
+    )

@@ -1,0 +1,50 @@
+-- What comes at the dates to which passes go.
+use Rattle.std.specs.Prelude.{◌≡◌, ◌≢◌, ℕ, ◌+◌, ◌-◌, ◌<◌, ◌≤◌, Bool, false, None, Some, List, [], ◌∷◌, filter}
+use Rattle.sg_activity.specs.Doing.{Doing}
+use Rattle.sg_activity.specs.Task.{task_at}
+use Rattle.sg_profile.specs.declared.entry.Entry.{Entry}
+use Rattle.sg_profile.specs.Profiles.{IsEntry, IsNextEntry}
+use Rattle.sg_rows.specs.declared.network.Network.{Network}
+use Rattle.sg_kernel.specs.declared.fields.Fields.{Fields}
+use Rattle.sg_kernel.specs.World.{Core}
+use Rattle.sg_kernel.specs.Passes.{applied, changes, ends, next_span}
+use Rattle.sg_kernel.specs.Steps.{Step, each}
+use Rattle.sg_kernel.specs.kept.Sound.{core_of, latest, rows_now, setup_in}
+
+-- a pass goes to this date next, which is no later than a date may be after one more event
+pub record IsNextDate (fields : Fields) (date : ℕ) : Type 0 where
+  pub from : fields.doing.under.date ≤ date
+  pub in_time : next_span (setup_in fields) (core_of fields) ≡ Some (date - fields.doing.under.date)
+  pub soon : date ≤ latest (fields.events + 1)
+
+-- this entry is the first of those of the date
+pub record IsDueEntry (fields : Fields) (entry : Entry) : Type 0 where
+  pub next : IsNextEntry fields.profiles fields.doing.under.date entry
+  pub exists : IsEntry fields.hosts fields.links entry
+
+-- an entry changed what it is of: its rate is up to date no more, unless that only went on or off
+pub record IsApplied (network : Network) (entry : Entry) (old new : Doing) : Type 0 where
+  pub under : new.under ≡ applied network entry old.under
+  pub due : new.due ≡ old.due
+  pub room : new.room ≡ old.room
+
+-- The date stays, and nothing begins. What isn't due any more isn't under way.
+pub record LeavesDue (old new : Fields) : Type 0 where
+  pub date : new.doing.under.date ≡ old.doing.under.date
+  pub began : new.doing.under.marks.began ≡ old.doing.under.marks.began
+  pub idle : (serial : ℕ) → task_at old.doing.under.tasks serial ≡ None → task_at new.doing.under.tasks serial ≡ None
+  pub test : ℕ → Bool
+  pub due : new.doing.due ≡ filter test old.doing.due
+  pub gone : (serial : ℕ) → test serial ≡ false → task_at new.doing.under.tasks serial ≡ None
+
+-- what comes at the date, in this order
+abbrev pub coming : Fields → List (Core → Step)
+coming fields =
+    each (changes (setup_in fields)) (rows_now fields) ∷
+    each (ends (setup_in fields)) fields.doing.due ∷
+    []
+
+-- no event is taken back; where some of these are to come and the budget isn't used up, there is one
+pub record CountsSome (left : List ℕ) (old new : Fields) : Type 0 where
+  pub more : old.events ≤ new.events
+  pub some : old.events ≢ old.budget → left ≢ [] → old.events < new.events

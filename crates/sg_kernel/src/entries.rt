@@ -1,0 +1,112 @@
+//! Entries of profiles.
+
+ghost use Rattle.std.specs.Prelude.{◌≡◌, ◌≢◌, ◌+◌, ◌<◌, [], MatchOption, Ok, OnOk, drop, length};
+ghost use Rattle.sg_profile.specs.Profiles.{IsEntry};
+ghost use Rattle.sg_rows.specs.Network.{IsNetwork};
+ghost use Rattle.sg_kernel.specs.Steps.{each, result_of};
+ghost use Rattle.sg_kernel.specs.Passes.{changes, enters_one};
+ghost use Rattle.sg_kernel.specs.kept.Coming.{CountsSome, IsApplied, IsDueEntry, LeavesDue};
+ghost use Rattle.sg_kernel.specs.kept.Sound.{core_of, row_next, rows_now, setup_in, IsTimely, StepsBy};
+ghost use Rattle.sg_kernel.specs.kept.Whole.{IsPassing};
+
+use crate::failures::fail_all;
+use crate::fields::Fields;
+use crate::stop::Stop;
+use sg_activity::Activities;
+use sg_profile::Entry;
+use sg_rows::Network;
+
+// The next entry of all, where it is of this date.
+fn due_entry(fields: &Fields) -> Option<Entry>
+    requires timely { IsTimely fields.now }
+    ensures { MatchOption result (rows_now fields.now ≡ [])
+        (λ entry. IsDueEntry fields.now entry) }
+{
+    let Some((date, entry)) = fields.profiles.next() else {
+        return None;
+    };
+    if date == fields.doing.date() {
+        Some(entry)
+    } else {
+        None
+    }
+}
+
+// What an entry changes.
+fn apply(doing: &mut Activities, network: Network, entry: Entry)
+    requires network { IsNetwork network }
+    requires entry { IsEntry (length doing.old.under.capacities.hosts)
+        (length doing.old.under.capacities.links) entry }
+    ensures { IsApplied network entry doing.old doing.new }
+{
+    match entry {
+        Entry::Speed(host, speed) => doing.set_speed(host, speed),
+        Entry::HostOn(host, on) => doing.set_host_on(host, on),
+        Entry::LinkOn(link, on) => doing.set_link_on(link, on),
+        Entry::Bandwidth(link, bandwidth) => {
+            doing.set_bandwidth(link, network.bandwidth_over(bandwidth));
+        }
+    }
+}
+
+// The next entry comes, and its row is gone past it.
+fn enter(fields: &mut Fields, entry: Entry)
+    requires due { IsDueEntry fields.old entry }
+    requires passing { IsPassing fields.old }
+    requires budget { fields.old.events ≢ fields.old.budget }
+    ensures known { StepsBy (enters_one (setup_in fields.old) (row_next fields.old))
+        fields.old fields.new }
+    ensures passing { IsPassing fields.new }
+    ensures rows { rows_now fields.new ≡ drop 1 (rows_now fields.old) }
+    ensures due { LeavesDue fields.old fields.new }
+    ensures events { fields.new.events ≡ fields.old.events + 1 }
+{
+    apply(&mut fields.doing, fields.network, entry);
+    fields.profiles.step();
+    fields.events += 1;
+}
+
+// The next entry comes, with all that comes with it, as far as the budget goes.
+fn change(fields: &mut Fields, entry: Entry) -> Result<(), Stop>
+    requires due { IsDueEntry fields.old entry }
+    requires passing { IsPassing fields.old }
+    requires stale { fields.old.doing.under.marks.began ≡ [] }
+    ensures known { StepsBy (changes (setup_in fields.old) (row_next fields.old))
+        fields.old fields.new }
+    ensures result { result
+        ≡ result_of (changes (setup_in fields.old) (row_next fields.old)
+        (core_of fields.old)).stop }
+    ensures passing { IsPassing fields.new }
+    ensures rows { OnOk result (rows_now fields.new ≡ drop 1 (rows_now fields.old)) }
+    ensures due { LeavesDue fields.old fields.new }
+    ensures events { CountsSome (rows_now fields.old) fields.old fields.new }
+{
+    if fields.events == fields.budget {
+        return Err(Stop::Budget);
+    }
+    enter(fields, entry);
+    fail_all(fields)
+}
+
+/// The entries of the date come in order of rows, as far as the budget goes.
+pub(crate) fn change_due(fields: &mut Fields) -> Result<(), Stop>
+    requires passing { IsPassing fields.old }
+    requires stale { fields.old.doing.under.marks.began ≡ [] }
+    ensures known { StepsBy (each (changes (setup_in fields.old)) (rows_now fields.old))
+        fields.old fields.new }
+    ensures result { result
+        ≡ result_of (each (changes (setup_in fields.old)) (rows_now fields.old)
+        (core_of fields.old)).stop }
+    ensures passing { IsPassing fields.new }
+    ensures due { LeavesDue fields.old fields.new }
+    ensures idle { rows_now fields.old ≡ [] → fields.new.doing.due ≡ fields.old.doing.due }
+    ensures events { CountsSome (rows_now fields.old) fields.old fields.new }
+{
+    while let Some(entry) = due_entry(fields) {
+        match change(fields, entry) {
+            Ok(()) => {}
+            Err(stop) => return Err(stop),
+        }
+    }
+    Ok(())
+}

@@ -1,0 +1,198 @@
+-- What holds of the rows of profiles that break no rule.
+use Rattle.std.proofs.Common.{◌≡◌, ℕ, zero, suc, ◌+◌, ◌<◌, ◌≤◌, ◌==◌, Bool, true, false, ◌&&◌, nat_lt, List, [], ◌∷◌, map, length, get_or, Option, Some, None, IfSome, option_and_then, unwrap_or, codes, refl, sym, subst, ◌∙◌, inl, inr, arith}
+use Rattle.std.proofs.lemmas.Bool.{cases_Bool}
+use Rattle.std.proofs.lemmas.Bool.Decides.{nat_tests}
+use Rattle.std.proofs.lemmas.List.{length-map}
+use Rattle.std.proofs.lemmas.List.Elements.{All-map}
+use Rattle.std.specs.List.{All}
+use Rattle.std.specs.Prelude.{slice_index}
+use Rattle.std.specs.List.Sorted.{IsStrictlyIncreasing}
+use Rattle.sg_platform.proofs.KeptRows.{IsCounted, point_under}
+use Rattle.sg_platform.proofs.LinkLists.{and_left, and_right}
+use Rattle.sg_platform.specs.Build.{amounts_at, link_id, profile_row, state_profile_row, states_at, subject_by}
+use Rattle.sg_rows.specs.Platform.{Counts, HasDates, IsProfileRow, IsProfiled, IsStateProfileRow}
+use Rattle.sg_rows.specs.declared.rows.Profiled.{Profiled}
+use Rattle.sg_rules.proofs.Greatest.{bandwidth_within, speed_within, time_within}
+use Rattle.sg_rules.proofs.Kept.{KeysKept, host_there, not_false, optional_text, positive_there, required_at, required_items, some_there, unbroken}
+use Rattle.sg_rules.specs.Names.{Known}
+use Rattle.sg_rules.specs.Profiles.{Subjects, amount_in, are_rising, dates_kinds, each_date_kinds, is_later, is_of_host, items_at, quantity_of, state_in}
+use Rattle.sg_rules.specs.Rules.{host_kinds, key_kinds, kinds_at, profiled_host_kinds, profiled_link_kinds, text_kinds}
+use Rattle.sg_rules.specs.Tables.{key, keys_of, shape_of}
+use Rattle.sg_rules.specs.Units.{quantity_value, time_value}
+use Rattle.sg_rules.specs.declared.tables.Need.TheVariants.{Optional, Required, Unless}
+use Rattle.sg_rules.specs.declared.tables.Rule.{Rule}
+use Rattle.sg_rules.specs.declared.tables.Rule.TheVariants as rule
+use Rattle.sg_rules.specs.declared.tables.Shape.TheVariants.{Text}
+use Rattle.sg_rules.specs.declared.tables.Table.TheVariants.{Profile, StateProfile}
+use Rattle.sg_rules.specs.declared.tables.Word.TheVariants as word
+use Rattle.sg_rules.specs.declared.units.Quantity.{Quantity}
+use Rattle.sg_rules.specs.declared.units.Quantity.TheVariants.{Time, Speed, Bandwidth}
+use Rattle.sg_tree.proofs.Kept.{empty_left, empty_right}
+use Rattle.sg_tree.specs.Tree.{text_at}
+use Rattle.toml.specs.Data.{Data, as_str, get}
+
+-- ---- of what it is
+link_below : (names : Known) (counts : Counts) (earlier : Subjects) → IsCounted names counts → (number : ℕ) (row : Data) (name : List ℕ) → profiled_link_kinds names earlier number row name ≡ []
+    → (link_id names name).0 + 1 < counts.links
+unfolding profiled_link_kinds
+link_below names counts earlier counted number row name empty =
+    let there = some_there (names.links name) (unbroken _ _ (empty_right _ _ empty)) in
+    let below = rw there.1 at (counted.declared name) in
+    rw there.1 below
+
+of_host : (names : Known) (earlier : Subjects) (number : ℕ) (name : List ℕ) → profiled_host_kinds names earlier number name ≡ [] → host_kinds names name ≡ []
+unfolding profiled_host_kinds
+of_host names earlier number name empty = empty_right _ _ empty
+
+host_below : (names : Known) (counts : Counts) (earlier : Subjects) → IsCounted names counts → (number : ℕ) (row : Data) (name : List ℕ) → profiled_host_kinds names earlier number name ≡ []
+    → IsProfiled counts (subject_by names row (Some name))
+host_below names counts earlier counted number row name empty =
+    let there = host_there names name (of_host names earlier number name empty) in
+    let below = point_under names.zones names.hosts there.0 there.2 there.3 in
+    rw there.1 (omega (arith, below, counted.hosts))
+
+-- These rules are those of what a profile is of, where these are the subjects of its table.
+record AreOfSubjects (names : Known) (number : ℕ) (row : Data) (earlier : Subjects) (host link : Rule) : Type 0 where
+  host_text : shape_of host ≡ Text
+  link_text : shape_of link ≡ Text
+  hosts : (name : List ℕ) → text_kinds names number row host name ≡ profiled_host_kinds names earlier number name
+  links : (name : List ℕ) → text_kinds names number row link name ≡ profiled_link_kinds names earlier number row name
+
+profiled_kept : (names : Known) (counts : Counts) → IsCounted names counts → (number : ℕ) (row : Data) (earlier : Subjects) (hosts links : Rule) → AreOfSubjects names number row earlier hosts links
+    → (host link : Option Data) → get (codes "link") row ≡ link
+    → kinds_at names number row (key word.Host (Unless word.Link) hosts) host ≡ [] → kinds_at names number row (key word.Link Optional links) link ≡ []
+    → IsProfiled counts (subject_by names row (option_and_then as_str host))
+profiled_kept names counts counted number row earlier hosts links rules (Some d) link link_is host_kept link_kept =
+    let host = required_at names number row word.Host hosts rules.host_text (Some d) host_kept in
+    rw host.1 (host_below names counts earlier counted number row host.0 (sym (rules.hosts host.0) ∙ host.2))
+profiled_kept names counts counted number row earlier hosts links rules None None link_is host_kept link_kept = let missing = rw link_is at host_kept in cc
+profiled_kept names counts counted number row earlier hosts links rules None (Some d) link_is host_kept link_kept =
+    let link = required_at names number row word.Link links rules.link_text (Some d) link_kept in
+    rw (link_is, link.1) (link_below names counts earlier counted number row link.0 (sym (rules.links link.0) ∙ link.2))
+
+of_kept : (names : Known) (counts : Counts) → IsCounted names counts → (number : ℕ) (row : Data) (earlier : Subjects) (hosts links : Rule) → AreOfSubjects names number row earlier hosts links
+    → key_kinds names number row (key word.Host (Unless word.Link) hosts) ≡ [] → key_kinds names number row (key word.Link Optional links) ≡ []
+    → IsProfiled counts (subject_by names row (text_at (codes "host") row))
+unfolding key_kinds
+of_kept names counts counted number row earlier hosts links rules host link = profiled_kept names counts counted number row earlier hosts links rules (get (codes "host") row) (get (codes "link") row) refl host link
+
+-- ---- its dates
+abbrev amount_or_zero : Quantity → Data → ℕ
+amount_or_zero quantity item = unwrap_or (amount_in quantity item) 0
+
+later_less : (a b : Option ℕ) → is_later a b ≡ true → unwrap_or a 0 < unwrap_or b 0
+later_less None b later = cc
+later_less (Some a) None later = cc
+later_less (Some a) (Some b) later = grind (arith, nat_tests)
+
+dates_rise : (items : List Data) → are_rising (map (amount_in Time) items) ≡ true → IsStrictlyIncreasing (map (amount_or_zero Time) items)
+dates_rise [] rising k within = cc
+dates_rise (a ∷ []) rising k within = absurd (omega arith)
+dates_rise (a ∷ (b ∷ items)) rising zero within = later_less (amount_in Time a) (amount_in Time b) (and_left _ _ rising)
+dates_rise (a ∷ (b ∷ items)) rising (suc k) within =
+    let dates = map (amount_or_zero Time) (a ∷ (b ∷ items)) in
+    let same : suc (k + 1) ≡ suc k + 1 = omega arith in
+    subst (λ next. slice_index dates (suc k) < slice_index dates next) same (dates_rise (b ∷ items) (and_right _ _ rising) k (omega arith))
+
+some_dates : (items : List Data) → are_rising (map (amount_in Time) items) ≡ true → 1 ≤ length items
+some_dates [] rising = cc
+some_dates (item ∷ items) rising = omega arith
+
+few_items : (n : ℕ) → nat_lt 1024 n ≡ false → n ≤ 1024
+few_items n within = grind (arith, nat_tests)
+
+-- the greatest amount of each kind
+abbrev greatest : Quantity → ℕ
+greatest Time = 1000000000000000000
+greatest Speed = 1000000000000000
+greatest Bandwidth = 1000000000000000
+
+quantity_within : (quantity : Quantity) (text : List ℕ) (n : ℕ) → quantity_value quantity text ≡ Some n → n ≤ greatest quantity
+quantity_within Time text n same = time_within text n same
+quantity_within Speed text n same = speed_within text n same
+quantity_within Bandwidth text n same = bandwidth_within text n same
+
+found_within : (found : Option ℕ) (most : ℕ) → ((n : ℕ) → found ≡ Some n → n ≤ most) → unwrap_or found 0 ≤ most
+found_within None most within = omega arith
+found_within (Some n) most within = within n refl
+
+amounts_within : (quantity : Quantity) (items : List Data) → All (λ amount. amount ≤ greatest quantity) (map (amount_or_zero quantity) items)
+amounts_within quantity items =
+    All-map (λ amount. amount ≤ greatest quantity) (amount_or_zero quantity) items
+    (λ k item within. found_within (amount_in quantity (get_or items k item)) (greatest quantity) (quantity_within quantity _))
+
+rates_within : (row : Data) (items : List Data) → All (λ value. value ≤ 1000000000000000) (map (amount_or_zero (quantity_of row)) items)
+rates_within row items =
+    elim (cases_Bool (is_of_host row)) [
+      | inl host ↦ rw host (amounts_within Speed items)
+      | inr other ↦ rw other (amounts_within Bandwidth items)
+    ]
+
+record AreDates (dates : List ℕ) : Type 0 where
+  some : 1 ≤ length dates
+  few : length dates ≤ 1024
+  rising : IsStrictlyIncreasing dates
+
+dates_kept : (items : List Data) → dates_kinds items ≡ [] → AreDates (map (amount_or_zero Time) items)
+unfolding dates_kinds
+dates_kept items empty =
+    let rising = not_false _ (unbroken _ _ (empty_left _ _ empty)) in
+    let n = length-map items (amount_or_zero Time) in
+    record {
+      some = omega (arith, n, some_dates items rising);
+      few = omega (arith, n, few_items (length items) (unbroken _ _ (empty_right _ _ empty)));
+      rising = dates_rise items rising;
+    }
+
+-- ---- one item for each date, and its gap
+same_count : (m n : ℕ) (b : Bool) → (m == n && b) ≡ true → m ≡ n
+same_count m n b same = grind (arith, nat_tests)
+
+each_kept : (row : Data) (items : List Data) (fit : Bool) → each_date_kinds row items fit ≡ [] → length items ≡ length (items_at (codes "dates") row)
+unfolding each_date_kinds
+each_kept row items fit empty = same_count _ _ _ (not_false _ (unbroken _ _ (empty_left _ _ empty)))
+
+gap_kept : (o : Option (List ℕ)) → ((text : List ℕ) → o ≡ Some text → (n : ℕ) × (time_value text ≡ Some n) × (1 ≤ n)) → IfSome (option_and_then time_value o) (λ gap. (1 ≤ gap) × (gap ≤ 1000000000000000000))
+gap_kept None kept = tt
+gap_kept (Some text) kept = let there = kept text refl in rw there.1 (there.2, time_within text there.0 there.1)
+
+-- What tables of profiles share: a row with so many items, one for each date.
+turns_kept : (names : Known) (counts : Counts) (number : ℕ) (row : Data) (of : Profiled) (count : ℕ) → IsProfiled counts of → count ≡ length (items_at (codes "dates") row)
+    → key_kinds names number row (key word.Dates Required rule.DateList) ≡ [] → key_kinds names number row (key word.Loop Optional rule.PositiveTimeText) ≡ []
+    → HasDates counts of (amounts_at Time (codes "dates") row) count (option_and_then time_value (text_at (codes "loop") row))
+turns_kept names counts number row of count exists each dates_fine loop_fine =
+    let items = items_at (codes "dates") row in
+    let dates = dates_kept items (required_items names number row word.Dates rule.DateList refl dates_fine) in
+    record {
+      exists = exists;
+      some = dates.some;
+      few = dates.few;
+      each = omega (arith, each, length-map items (amount_or_zero Time));
+      rising = dates.rising;
+      soon = amounts_within Time items;
+      wide = gap_kept (text_at (codes "loop") row) (λ text there. positive_there (time_value text) (optional_text names number row word.Loop rule.PositiveTimeText refl loop_fine text there));
+    }
+
+pub profile_kept : (names : Known) (counts : Counts) → IsCounted names counts → (number : ℕ) (row : Data) → KeysKept names number row (keys_of Profile) → IsProfileRow counts (profile_row names row)
+unfolding profile_row
+profile_kept names counts counted number row kept =
+    let values = items_at (codes "values") row in
+    let of = subject_by names row (text_at (codes "host") row) in
+    let rules : AreOfSubjects names number row names.profiles rule.ProfiledHost rule.ProfiledLink = record { host_text = refl; link_text = refl; hosts = λ name. refl; links = λ name. refl } in
+    let exists = of_kept names counts counted number row names.profiles rule.ProfiledHost rule.ProfiledLink rules kept.0 kept.1.0 in
+    let each = each_kept row values _ (required_items names number row word.Values rule.ValueList refl kept.1.1.1.0) in
+    record {
+      dates = turns_kept names counts number row of (length (amounts_at (quantity_of row) (codes "values") row)) exists (length-map values (amount_or_zero (quantity_of row)) ∙ each) kept.1.1.0 kept.1.1.1.1.0;
+      values = rates_within row values;
+    }
+
+pub state_profile_kept : (names : Known) (counts : Counts) → IsCounted names counts → (number : ℕ) (row : Data) → KeysKept names number row (keys_of StateProfile)
+    → IsStateProfileRow counts (state_profile_row names row)
+unfolding state_profile_row
+state_profile_kept names counts counted number row kept =
+    let states = items_at (codes "states") row in
+    let of = subject_by names row (text_at (codes "host") row) in
+    let rules : AreOfSubjects names number row names.state_profiles rule.SwitchedHost rule.SwitchedLink = record { host_text = refl; link_text = refl; hosts = λ name. refl; links = λ name. refl } in
+    let exists = of_kept names counts counted number row names.state_profiles rule.SwitchedHost rule.SwitchedLink rules kept.0 kept.1.0 in
+    let each = each_kept row states _ (required_items names number row word.States rule.StateList refl kept.1.1.1.0) in
+    turns_kept names counts number row of (length (states_at (codes "states") row)) exists (length-map states (λ item. unwrap_or (state_in item) false) ∙ each) kept.1.1.0 kept.1.1.1.1.0

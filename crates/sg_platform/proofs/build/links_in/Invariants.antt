@@ -1,8 +1,0 @@
-use Rattle.std.proofs.Common.{◌≡◌, map, take}
-use Rattle.sg_platform.specs.Build.{link_of}
-use Rattle.sg_rules.specs.kept.NamesView.{names_view}
-use Rattle.toml.specs.View.{view}
-use Rattle.sg_platform.proofs.build.links_in.Given as goal
-
-abbrev pub invariant-loop-item : goal.invariant-loop-item
-invariant-loop-item l = l.made.items ≡ map (link_of (names_view l.names)) (map view (take l.item-index l.items))

@@ -1,0 +1,9 @@
+pub mod Earliest
+pub mod Ahead
+pub mod Dates
+pub mod Next
+pub mod Promises
+pub mod Rising
+pub mod RowsOfDate
+pub mod Stepping
+pub mod Turns

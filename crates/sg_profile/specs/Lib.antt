@@ -1,0 +1,4 @@
+pub mod Profiles
+pub mod Ahead
+pub mod Laws
+pub mod kept

@@ -1,0 +1,171 @@
+-- Which entries of profiles come, and when. Dates and gaps are in nanoseconds.
+use Rattle.std.specs.Prelude.{◌≡◌, ℕ, ◌+◌, ◌-◌, ◌*◌, ◌==◌, ◌≤◌, ◌<◌, ◌^◌, Bool, false, min, Option, None, Some, IfSome, option_map, if◌then◌else◌, List, [], ◌∷◌, ◌++◌, length, map, replicate, slice_get, slice_index, slice_index_or, slice_set}
+use Rattle.std.specs.List.{All}
+use Rattle.std.specs.List.Sorted.{IsStrictlyIncreasing}
+use Rattle.sg_rows.specs.Platform.{Platform}
+use Rattle.sg_rows.specs.declared.rows.Profiled.{Profiled}
+use Rattle.sg_rows.specs.declared.rows.Profiled.TheVariants.{Host, Link}
+use Rattle.sg_rows.specs.declared.rows.ProfileRow.{ProfileRow}
+use Rattle.sg_rows.specs.declared.rows.StateProfileRow.{StateProfileRow}
+use Rattle.sg_profile.specs.declared.entry.Entry.{Entry}
+use Rattle.sg_profile.specs.declared.entry.Entry.TheVariants.{Speed, Bandwidth, HostOn, LinkOn}
+use Rattle.sg_profile.specs.declared.profile.Profile.{Profile}
+use Rattle.sg_profile.specs.declared.turn.Turn.{Turn}
+
+abbrev pub entry_by : Profiled → ℕ → Entry
+entry_by (Host host) value = Speed host value
+entry_by (Link link) value = Bandwidth link value
+
+abbrev pub profile_of : ProfileRow → Profile
+profile_of row = record { dates = row.dates; entries = map (entry_by row.of) row.values; gap = row.gap }
+
+abbrev pub state_entry_by : Profiled → Bool → Entry
+state_entry_by (Host host) on = HostOn host on
+state_entry_by (Link link) on = LinkOn link on
+
+abbrev pub state_profile_of : StateProfileRow → Profile
+state_profile_of row = record { dates = row.dates; entries = map (state_entry_by row.of) row.states; gap = row.gap }
+
+abbrev pub profiles_of : List ProfileRow → List StateProfileRow → List Profile
+profiles_of rows states = map profile_of rows ++ map state_profile_of states
+
+-- those of speeds and bandwidths, and behind them those of states
+abbrev pub profiles_in : Platform → List Profile
+profiles_in platform = profiles_of platform.profiles platform.state_profiles
+
+-- ---- what a platform promises
+-- 1 to 1,024 dates that rise, and an entry for each
+pub record IsSchedule (profile : Profile) : Type 0 where
+  pub some : 1 ≤ length profile.dates
+  pub few : length profile.dates ≤ 1024
+  pub each : length profile.entries ≡ length profile.dates
+  pub rising : IsStrictlyIncreasing profile.dates
+  pub dates : All (λ date. date ≤ 10 ^ 18) profile.dates
+  pub gap : IfSome profile.gap (λ gap. (1 ≤ gap) × (gap ≤ 10 ^ 18))
+
+-- its host or link exists among so many, and its speed or bandwidth is up to 10^15 a second
+abbrev pub IsEntry : ℕ → ℕ → Entry → Type 0
+IsEntry hosts links (Speed host value) = (host.0 < hosts) × (value ≤ 10 ^ 15)
+IsEntry hosts links (Bandwidth link value) = (link.0 < links) × (value ≤ 10 ^ 15)
+IsEntry hosts links (HostOn host on) = host.0 < hosts
+IsEntry hosts links (LinkOn link on) = link.0 < links
+
+pub record IsProfile (hosts links : ℕ) (profile : Profile) : Type 0 where
+  pub schedule : IsSchedule profile
+  pub entries : All (IsEntry hosts links) profile.entries
+
+abbrev pub AreProfiles : ℕ → ℕ → List Profile → Type 0
+AreProfiles hosts links profiles = All (IsProfile hosts links) profiles
+
+-- ---- one profile
+abbrev pub first_turn : Turn
+first_turn = record { number = 0; entry = 0 }
+
+abbrev pub time_by : Option ℕ → List ℕ → ℕ
+time_by None dates = 0
+time_by (Some gap) dates = slice_index dates (length dates - 1) + gap
+
+-- how long a turn takes, where another one follows
+abbrev pub turn_time : Profile → ℕ
+turn_time profile = time_by profile.gap profile.dates
+
+-- the date of the next entry; none: none is left
+abbrev pub date_of : Profile → Turn → Option ℕ
+date_of profile turn =
+    option_map (λ date. turn.number * turn_time profile + date) (slice_get profile.dates turn.entry)
+
+-- after the last entry the next turn begins, where there is one
+abbrev pub turn_over : Option ℕ → Turn → Turn
+turn_over None turn = record turn { entry = turn.entry + 1 }
+turn_over (Some gap) turn = record { number = turn.number + 1; entry = 0 }
+
+-- past the next entry
+abbrev pub turn_after : Profile → Turn → Turn
+turn_after profile turn =
+    if turn.entry + 1 == length profile.dates then turn_over profile.gap turn
+    else record turn { entry = turn.entry + 1 }
+
+-- ---- all of them, by rows from 0 on
+-- The profiles, and how far each is.
+pub record Timetable : Type 0 where
+  pub profiles : List Profile
+  pub turns : List Turn
+
+abbrev pub first_turns : List Profile → List Turn
+first_turns profiles = replicate (length profiles) first_turn
+
+abbrev pub first_table : List Profile → Timetable
+first_table profiles = record { profiles = profiles; turns = first_turns profiles }
+
+-- the date of the next entry of each row
+unfoldable pub dates_of : List Profile → List Turn → List (Option ℕ)
+dates_of [] turns = []
+dates_of (profile ∷ profiles) [] = []
+dates_of (profile ∷ profiles) (turn ∷ turns) = date_of profile turn ∷ dates_of profiles turns
+
+abbrev pub earlier_of : ℕ → Option ℕ → ℕ
+earlier_of date None = date
+earlier_of date (Some other) = min date other
+
+-- the earliest of these dates
+unfoldable pub earliest : List (Option ℕ) → Option ℕ
+earliest [] = None
+earliest (None ∷ dates) = earliest dates
+earliest (Some date ∷ dates) = Some (earlier_of date (earliest dates))
+
+abbrev pub next_date : List Profile → List Turn → Option ℕ
+next_date profiles turns = earliest (dates_of profiles turns)
+
+abbrev pub is_at : ℕ → Option ℕ → Bool
+is_at date None = false
+is_at date (Some other) = other == date
+
+-- from this row on, those that have this date
+unfoldable pub rows_from : ℕ → ℕ → List (Option ℕ) → List ℕ
+rows_from row date [] = []
+rows_from row date (its ∷ dates) =
+    if is_at date its then row ∷ rows_from (row + 1) date dates else rows_from (row + 1) date dates
+
+-- the rows whose next entry is of this date, in order
+abbrev pub rows_at : ℕ → List Profile → List Turn → List ℕ
+rows_at date profiles turns = rows_from 0 date (dates_of profiles turns)
+
+abbrev pub row_by : Option ℕ → List Profile → List Turn → ℕ
+row_by None profiles turns = 0
+row_by (Some date) profiles turns = slice_index (rows_at date profiles turns) 0
+
+-- the row of the next entry: the first of those of its date
+abbrev pub next_row : List Profile → List Turn → ℕ
+next_row profiles turns = row_by (next_date profiles turns) profiles turns
+
+abbrev pub no_profile : Profile
+no_profile = record { dates = []; entries = []; gap = None }
+
+abbrev pub profile_at : List Profile → ℕ → Profile
+profile_at profiles row = slice_index_or profiles row no_profile
+
+abbrev pub turn_at : List Turn → ℕ → Turn
+turn_at turns row = slice_index_or turns row first_turn
+
+-- the next entry of a row
+abbrev pub entry_at : List Profile → List Turn → ℕ → Option Entry
+entry_at profiles turns row =
+    slice_get (profile_at profiles row).entries (turn_at turns row).entry
+
+-- a row is past its next entry
+abbrev pub stepped : List Profile → ℕ → List Turn → List Turn
+stepped profiles row turns =
+    slice_set turns row (turn_after (profile_at profiles row) (turn_at turns row))
+
+-- The next entry is this one: of the earliest date, and there of the first row.
+pub record IsNextEntry (table : Timetable) (date : ℕ) (entry : Entry) : Type 0 where
+  pub date_is : next_date table.profiles table.turns ≡ Some date
+  pub rest : List ℕ
+  pub first : rows_at date table.profiles table.turns ≡ next_row table.profiles table.turns ∷ rest
+  pub entry_is : entry_at table.profiles table.turns (next_row table.profiles table.turns) ≡ Some entry
+
+-- the row of the next entry is past it
+abbrev pub past_next : Timetable → Timetable
+past_next table = record table {
+  turns = stepped table.profiles (next_row table.profiles table.turns) table.turns;
+}

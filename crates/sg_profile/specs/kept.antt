@@ -1,0 +1,2 @@
+-- How `Profiles` keeps its rows.
+pub mod Slots

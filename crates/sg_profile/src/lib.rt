@@ -1,0 +1,21 @@
+//! How the speeds of hosts and the bandwidths of links change while a run goes on, and when they go on or off: which
+//! entries come, and when.
+#![tactic(auto)]
+
+mod entry;
+mod laws;
+mod profile;
+mod profiles;
+mod slots;
+mod turn;
+
+pub use entry::{Entries, Entry};
+pub use laws::{
+    entries_are_ahead, entries_exist, entries_rise, platforms_promise, rows_are_left, turns_follow,
+};
+pub use profile::Profile;
+pub use profiles::Profiles;
+pub use turn::Turn;
+
+#[cfg(test)]
+mod tests;

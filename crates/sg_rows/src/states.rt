@@ -1,0 +1,34 @@
+//! Lists of states.
+ghost use Rattle.std.specs.Prelude.{◌≡◌};
+
+use std::marker::Model;
+
+/// A list of states, on (`true`) or off, which contracts see as that list.
+#[derive(Debug, Drop)]
+pub struct States {
+    states: Vec<bool>,
+}
+
+impl Model for States {
+    ghost use Rattle.std.specs.Prelude.{Bool, List};
+
+    ghost Value = { List Bool };
+
+    ghost view = { λ s. s.states.items };
+}
+
+impl States {
+    /// These states. It takes no memory.
+    pub fn from_vec(states: Vec<bool>) -> States
+        ensures { result ≡ states.items }
+    {
+        States { states }
+    }
+
+    /// The states.
+    pub fn as_slice(&self) -> &[bool]
+        ensures { result.now ≡ self.now }
+    {
+        self.states.as_slice()
+    }
+}

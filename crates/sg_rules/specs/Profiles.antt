@@ -1,0 +1,83 @@
+-- Profiles: when the speed of a host, the bandwidth of a link or the state of one of them changes, and what it is from
+-- then on.
+use Rattle.std.specs.Prelude.{ℕ, ◌==◌, Bool, true, false, not, ◌&&◌, nat_lt, List, [], ◌∷◌, ◌++◌, if◌then◌else◌, Option, Some, None, is_some, length, map, option_and_then, codes}
+use Rattle.std.specs.List.{list_all}
+use Rattle.std.specs.Map.{lookup}
+use Rattle.std.specs.Str.{bytes_eq}
+use Rattle.sg_rules.specs.Arguments.{text_of}
+use Rattle.sg_rules.specs.Units.{quantity_value}
+use Rattle.sg_rules.specs.declared.units.Quantity.{Quantity}
+use Rattle.sg_rules.specs.declared.units.Quantity.TheVariants.{Time, Speed, Bandwidth}
+use Rattle.sg_tree.specs.Faults.{kind_if}
+use Rattle.sg_tree.specs.Names.{Finds, names_from}
+use Rattle.sg_tree.specs.Tree.{items_or_none}
+use Rattle.sg_tree.specs.declared.fault.Kind.{Kind}
+use Rattle.sg_tree.specs.declared.fault.Kind.TheVariants.{BadValue, Limit}
+use Rattle.toml.specs.Data.{Data, get, as_array}
+
+-- the hosts and links that a table has profiles of, under the rows in which each stands first
+pub record Subjects : Type 0 where
+  pub hosts : Finds
+  pub links : Finds
+
+abbrev pub subjects_of : List Data → Subjects
+subjects_of rows = record {
+  hosts = λ q. lookup (bytes_eq q) (names_from (codes "host") 0 rows);
+  links = λ q. lookup (bytes_eq q) (names_from (codes "link") 0 rows);
+}
+
+abbrev pub no_subjects : Subjects
+no_subjects = record { hosts = λ q. None; links = λ q. None }
+
+-- the row names a host
+abbrev pub is_of_host : Data → Bool
+is_of_host row = is_some (get (codes "host") row)
+
+-- what the values of a row are
+abbrev pub quantity_of : Data → Quantity
+quantity_of row = if is_of_host row then Speed else Bandwidth
+
+-- the items of the array at a key
+abbrev pub items_at : List ℕ → Data → List Data
+items_at key row = items_or_none (option_and_then as_array (get key row))
+
+-- the amount that an item gives
+abbrev pub amount_in : Quantity → Data → Option ℕ
+amount_in quantity item = quantity_value quantity (text_of item)
+
+-- the state that a text gives: whether it is on
+abbrev pub state_of : List ℕ → Option Bool
+state_of text =
+    if bytes_eq text (codes "on") then Some true else if bytes_eq text (codes "off") then Some false else None
+
+-- the state that an item gives
+abbrev pub state_in : Data → Option Bool
+state_in item = state_of (text_of item)
+
+abbrev pub is_later : Option ℕ → Option ℕ → Bool
+is_later None next = false
+is_later (Some date) None = false
+is_later (Some date) (Some next) = nat_lt date next
+
+-- one date or more, and each is later than the one before
+abbrev pub are_rising : List (Option ℕ) → Bool
+are_rising [] = false
+are_rising (date ∷ []) = is_some date
+are_rising (date ∷ (next ∷ dates)) = is_later date next && are_rising (next ∷ dates)
+
+-- the dates: up to 1,024 times that rise
+unfoldable pub dates_kinds : List Data → List Kind
+dates_kinds items = kind_if (not (are_rising (map (amount_in Time) items))) BadValue ++ kind_if (nat_lt 1024 (length items)) Limit
+
+-- one item for each date, and each fit
+unfoldable pub each_date_kinds : Data → List Data → Bool → List Kind
+each_date_kinds row items fit =
+    kind_if (not (length items == length (items_at (codes "dates") row) && fit)) BadValue ++ kind_if (nat_lt 1024 (length items)) Limit
+
+-- the values
+abbrev pub values_kinds : Data → List Data → List Kind
+values_kinds row items = each_date_kinds row items (list_all (λ item. is_some (amount_in (quantity_of row) item)) items)
+
+-- the states
+abbrev pub states_kinds : Data → List Data → List Kind
+states_kinds row items = each_date_kinds row items (list_all (λ item. is_some (state_in item)) items)

@@ -1,0 +1,181 @@
+//! Profiles: when the speed of a host, the bandwidth of a link or the state of one of them changes, and what it is from
+//! then on.
+ghost use Rattle.std.specs.Prelude.{◌≡◌, ℕ, List, IfOk, None, is_some, map};
+ghost use Rattle.std.specs.HashMap.{get_by_text};
+ghost use Rattle.std.specs.List.{list_all};
+ghost use Rattle.sg_tree.specs.Along.{first};
+ghost use Rattle.sg_rules.specs.Profiles.{amount_in, are_rising, dates_kinds, each_date_kinds, is_of_host, items_at, quantity_of, state_in, states_kinds, subjects_of, values_kinds};
+ghost use Rattle.sg_rules.specs.declared.units.Quantity.TheVariants.{Time};
+ghost use Rattle.toml.specs.View.{view};
+
+use crate::arguments::text_of;
+use crate::units::Quantity;
+use indexmap::IndexMap;
+use sg_base::Memory;
+use sg_tree::{Kind, names_at};
+use std::alloc::Global;
+use toml::Value;
+
+/// The hosts and links that a table has profiles of, under the rows in which each stands first.
+#[derive(Drop)]
+pub struct Subjects {
+    pub hosts: IndexMap<String, u32>,
+    pub links: IndexMap<String, u32>,
+}
+
+impl Subjects {
+    /// Nothing.
+    pub fn none(alloc: Global) -> Subjects
+        ensures hosts { (q : List ℕ) → get_by_text result.hosts q ≡ None }
+        ensures links { (q : List ℕ) → get_by_text result.links q ≡ None }
+    {
+        Subjects {
+            hosts: IndexMap::new(alloc),
+            links: IndexMap::new(alloc),
+        }
+    }
+
+    /// Those of the rows of a table.
+    pub fn of_rows(alloc: Global, rows: &[Value]) -> Result<Subjects, Memory>
+        ensures hosts { IfOk result
+            (λ made. (q : List ℕ)
+            → get_by_text made.hosts q ≡ (subjects_of (map view rows.now)).hosts q) }
+        ensures links { IfOk result
+            (λ made. (q : List ℕ)
+            → get_by_text made.links q ≡ (subjects_of (map view rows.now)).links q) }
+    {
+        let hosts = names_at(alloc, "host", rows)?;
+        let links = names_at(alloc, "link", rows)?;
+        Ok(Subjects { hosts, links })
+    }
+}
+
+/// Whether the row of a profile names a host.
+pub fn is_of_host(row: &Value) -> bool
+    ensures { result ≡ is_of_host (view row.now) }
+{
+    row.get("host").is_some()
+}
+
+/// What the values of a profile are.
+pub fn quantity_of(row: &Value) -> Quantity
+    ensures { result ≡ quantity_of (view row.now) }
+{
+    if is_of_host(row) {
+        Quantity::Speed
+    } else {
+        Quantity::Bandwidth
+    }
+}
+
+/// The items of the array at a key of a row: none where it is absent or no array.
+#[tactic(auto, using(sg_tree::proofs::TreeLemmas::list_of_items))]
+pub fn items_at<'a>(row: &'a Value, key: &str) -> &'a [Value]
+    ensures { map view result.now ≡ items_at key.now (view row.now) }
+{
+    match row.get(key) {
+        Some(value) => match value.as_array() {
+            Some(items) => items.as_slice(),
+            None => &[],
+        },
+        None => &[],
+    }
+}
+
+/// The amount that an item gives.
+pub fn amount_in(quantity: Quantity, item: &Value) -> Option<u64>
+    ensures { result ≡ amount_in quantity (view item.now) }
+{
+    quantity.value(text_of(item).as_bytes())
+}
+
+/// The state that an item gives: whether it is on.
+pub fn state_in(item: &Value) -> Option<bool>
+    ensures { result ≡ state_in (view item.now) }
+{
+    match text_of(item) {
+        "on" => Some(true),
+        "off" => Some(false),
+        _ => None,
+    }
+}
+
+/// Whether the items are one date or more, each later than the one before.
+fn are_rising(items: &[Value]) -> bool
+    ensures { result ≡ are_rising (map (amount_in Time) (map view items.now)) }
+{
+    let mut last: Option<u64> = None;
+    for item in items {
+        match (last, amount_in(Quantity::Time, item)) {
+            (_, None) => return false,
+            (Some(last), Some(date)) if date <= last => return false,
+            (_, Some(date)) => last = Some(date),
+        }
+    }
+    last.is_some()
+}
+
+/// What is wrong with the dates of a profile.
+#[tactic(auto, unfolding(crate::specs::Profiles::dates_kinds))]
+pub fn dates_fault(items: &[Value]) -> Option<Kind>
+    ensures { result ≡ first (dates_kinds (map view items.now)) }
+{
+    if !are_rising(items) {
+        Some(Kind::BadValue)
+    } else if items.len() > 1024 {
+        Some(Kind::Limit)
+    } else {
+        None
+    }
+}
+
+fn are_amounts(quantity: Quantity, items: &[Value]) -> bool
+    ensures { result
+        ≡ list_all (λ item. is_some (amount_in quantity item)) (map view items.now) }
+{
+    for item in items {
+        if amount_in(quantity, item).is_none() {
+            return false;
+        }
+    }
+    true
+}
+
+fn are_states(items: &[Value]) -> bool
+    ensures { result ≡ list_all (λ item. is_some (state_in item)) (map view items.now) }
+{
+    for item in items {
+        if state_in(item).is_none() {
+            return false;
+        }
+    }
+    true
+}
+
+/// What is wrong with the items of a row of which there is one for each date, where they fit their key.
+#[tactic(auto, unfolding(crate::specs::Profiles::each_date_kinds))]
+fn each_date_fault(row: &Value, items: &[Value], fit: bool) -> Option<Kind>
+    ensures { result ≡ first (each_date_kinds (view row.now) (map view items.now) fit) }
+{
+    if items.len() != items_at(row, "dates").len() || !fit {
+        Some(Kind::BadValue)
+    } else if items.len() > 1024 {
+        Some(Kind::Limit)
+    } else {
+        None
+    }
+}
+
+/// What is wrong with the values of a profile.
+pub fn values_fault(row: &Value, items: &[Value]) -> Option<Kind>
+    ensures { result ≡ first (values_kinds (view row.now) (map view items.now)) }
+{
+    each_date_fault(row, items, are_amounts(quantity_of(row), items))
+}
+
+/// What is wrong with the states of a profile.
+pub fn states_fault(row: &Value, items: &[Value]) -> Option<Kind>
+    ensures { result ≡ first (states_kinds (view row.now) (map view items.now)) }
+{
+    each_date_fault(row, items, are_states(items))
+}
