@@ -9,10 +9,10 @@ NAMES = ["h1", "h2", "h3", "r1", "z", "in", "l1", "l2", "l2_UP", "l2_DOWN", "p0"
          "n" * 60, "\u00e9"]
 WORDS = ["Full", "Star", "full", "Dijkstra", "SHARED", "FATPIPE", "SPLITDUPLEX", "shared", "replay", "master", "worker", "Replay"]
 VALUES = [1, 0, -1, 1024, 1025, 10**9, 10**9 + 1, True, False, 1.5, [], {}, ["l1"], ["l2_UP", "l1"], ["l1"] * 65, ["nobody"], [1],
-          [["l1"]], ["1"], ["0", "1h"], ["1", "0.5"], ["1Mf", "2kf"], ["5MBps"], ["1"] * 1025, ["on"], ["off", "on"], ["off", "no"], ["on"] * 1025, ["1", "1", "1", "w"], ["1", "x", "1", "w"], ["1", "1", "1", "p0"], {"id": "x"}]
+          [["l1"]], ["1"], ["0", "1h"], ["1", "0.5"], ["1Mf", "2kf"], ["5MBps"], ["1"] * 1025, ["on"], ["off", "on"], ["off", "no"], ["on"] * 1025, [1, 2, 3], [3, 2, 1], [1, 2], [0, 0, 10**9 + 1], [1, "2", 3], ["1", "1", "1", "w"], ["1", "x", "1", "w"], ["1", "1", "1", "p0"], {"id": "x"}]
 KEYS = ["id", "zone", "speed", "core", "cores", "parent", "routing", "latency", "links", "symmetrical", "gateway", "gw_src", "down",
         "name", "host", "function", "argument", "capacity", "Id", "latency_factor", "bandwidth_factor", "window",
-        "link", "dates", "values", "loop", "states"]
+        "link", "dates", "values", "loop", "states", "power", "power_off", "start"]
 TABLES = ["zone", "host", "router", "link", "route", "zone_route", "spoke", "network", "actor", "mutex", "semaphore", "hosts", "profile", "profiles", "state_profile"]
 
 
@@ -40,6 +40,8 @@ def platform(rng):
     if rng.random() < 0.3:
         tables["state_profile"] = [{"host": "h2", "dates": ["0", "1"], "states": ["on", "off"]},
                                    {"link": "l1", "dates": ["1us", "2us"], "states": ["off", "on"], "loop": "1ms"}]
+    if rng.random() < 0.3:
+        tables["host"][0].update(power=[100, 120, 200], power_off=5)
     if tables["host"][2]["zone"] == "z":
         tables["route"] = tables.get("route", []) + [{"src": "h1", "dst": "h3", "links": ["l1"], "symmetrical": True}]
         tables["zone_route"].append({"src": "h3", "dst": "in", "gw_dst": "r1", "links": ["l1"]})
@@ -65,12 +67,13 @@ def script(rng):
             ["p0 compute 1e6", "p1 sleep 1ms"], ["p0 send p1 10", "p1 recv p0"], ["p2 isend p0 5", "p0 irecv p2 5", "p0 wait", "p2 wait"],
             ["p1 lock m", "p1 yield", "p1 unlock m"], ["p2 acquire s", "p2 release s"], ["p0 barrier", "p1 barrier", "p2\tbarrier\r"],
             ["p2 compute 1e6 3", "p0 isend p1 10 1kBps", "p1 recv p0"],
+            ["p0 suspend p1", "p1 compute 10", "p0 resume p1"], ["p0 create p1", "p2 join p2", "p1 kill p2"],
             [f"p{rank} {collective}" for collective in [rng.choice(COLLECTIVES)] for rank in range(3)]])
     if rng.random() < 0.5:
         lines.insert(rng.randint(0, len(lines)), rng.choice([
             "p0 jump", "nobody wait", "p0", "p0 compute", "p0 compute 1 1", "p0 compute 1 0", "p0 compute 1 1 1", "p0 compute " + rng.choice(NUMBERS), "p0 sleep " + rng.choice(
                 NUMBERS), "p1 send " + rng.choice(NAMES) + " 1", "p1 lock " + rng.choice(NAMES), "p1 acquire " + rng.choice(NAMES),
-            "p0 compute 1 # x", "p1 reduce 1", "p0 alltoall x", "p0 recv p1 x", "p0 wait\x00", "p0 w\u00e4it", "#" * 4097, "p0 wait" + " " * 4089 + "\r", "\ufeff", "\r\r",
+            "p0 compute 1 # x", "p0 kill " + rng.choice(NAMES), "p0 create", "p0 join p1 p2", "p1 reduce 1", "p0 alltoall x", "p0 recv p1 x", "p0 wait\x00", "p0 w\u00e4it", "#" * 4097, "p0 wait" + " " * 4089 + "\r", "\ufeff", "\r\r",
             "p0 wait " + rng.choice(NAMES)]))
     return "\n".join(lines) + rng.choice(["", "\n"])
 

@@ -100,6 +100,17 @@ class Charts(unittest.TestCase):
         self.assertAlmostEqual(float(bar.get("width")) / float(whole.get("width")), 1.5, 2)
         self.assertEqual(len([rect for rect in svg.iter(SVG + "rect") if rect.get("class") == "mark"]), 1)
 
+    def test_other_actors(self):
+        """A join that takes time is waiting, a create is a mark; who is suspended at the end is drawn as blocked; energy isn't drawn."""
+        text = ("[h1:a:(1) 0.000000000] create b 0.000000000\n[h2:b:(2) 1.000000000] compute 5 1.000000000\n"
+                "[h1:a:(1) 1.000000000] join b 1.000000000\n[h1:a:(1) 1.000000000] suspend c 0.000000000\n"
+                "deadlock at 3.000000000\nsuspended [h2:c:(3)]\nenergy h1 20.000000000000\n")
+        svg = chart(text)
+        join, = [rect for rect in svg.iter(SVG + "rect") if rect.get("class") == "kind-join"]
+        self.assertIn("[h1:a:(1) 1.000000000] join b 1.000000000", tips(join))
+        end, = [rect for rect in svg.iter(SVG + "rect") if rect.get("class") == "kind-blocked"]
+        self.assertIn("suspended [h2:c:(3)]", tips(end))
+
     def test_a_part_of_the_time(self):
         svg = chart(example("master_worker"), "--from", "1", "--to", "2.5", "--width", "800", "--title", "<part>")
         self.assertEqual(svg.get("width"), "800")

@@ -42,6 +42,13 @@ class Tables(unittest.TestCase):
                          ["recv", "b", "1.000000000", "2.000000000", "blocked"])
         self.assertEqual([end[key] for key in ("line", "end", "outcome")], [None, "3.000000000", "deadlock at 3.000000000"])
 
+    def test_suspended(self):
+        text = "[h1:a:(1) 1.000000000] suspend b 0.000000000\ndeadlock at 3.000000000\nsuspended [h2:b:(2)]\nenergy h1 1.000000000000\n"
+        suspend, last, end = [json.loads(line) for line in tool("totable", "--json", "--endings", given=text.encode()).stdout.splitlines()]
+        self.assertEqual([suspend[key] for key in ("action", "other", "outcome")], ["suspend", "b", "done"])
+        self.assertEqual([last[key] for key in ("action", "actor", "end", "outcome")], [None, "b", "3.000000000", "suspended"])
+        self.assertEqual(end["outcome"], "deadlock at 3.000000000")
+
     def test_when_both_sides_were_there(self):
         rows = list(csv.DictReader(io.StringIO(tool("totable", given=example("ring").encode()).stdout.decode())))
         self.assertEqual([row["met"] for row in rows if row["action"] == "recv"], ["1.000000000", "1.000000000", "1.000000000"])

@@ -13,7 +13,8 @@ BAD = [
     (GOOD + GOOD.replace("h1", "h2"), "line 2: actor 1 was a on h1 before"), ("blocked [h1:a:(1)] wait\n", "line 1"),
     (GOOD + "Simulation time 1.000000000\n" + GOOD, "line 3: no line of a trace can follow its end"),
     (GOOD + "Simulation time 0.500000000\n", "line 2: the run ends before its last action"),
-    (GOOD + "deadlock at 1.000000000\nblocked [h1:a:(1)] jump\n", "line 3"), (GOOD.replace("h1", "h\u00e9"), "line 1"),
+    (GOOD + "deadlock at 1.000000000\nblocked [h1:a:(1)] jump\n", "line 3"), (GOOD + "energy h1 1.000000000000\n", "line 2"),
+    (GOOD + "Simulation time 1.000000000\nenergy h1 1.0\n", "line 3"), ("suspended [h1:a:(1)]\n", "line 1"), (GOOD.replace("h1", "h\u00e9"), "line 1"),
     ("\0\xff\n", "line 1"), ("2 actors, 30 events\n", "line 1"), (GOOD * 2, "line 2: it began before")]
 
 LATENCY, BYTE = 1_000, 1_000     # nanoseconds, and nanoseconds a byte: 1 MBps

@@ -1,9 +1,10 @@
 -- A serial is drawn.
-use Rattle.std.proofs.Common.{◌≡◌, ℕ, ◌+◌, cond, None, [], ◌∷◌, ◌++◌, refl, ap, ◌∙◌, arith}
+use Rattle.std.proofs.Common.{◌≡◌, ℕ, ◌+◌, false, cond, None, [], ◌∷◌, ◌++◌, map, refl, ap, ap₂, ◌∙◌, arith}
+use Rattle.std.proofs.lemmas.List.{map-append}
 use Rattle.sg_activity.specs.Slots.{passes, serials}
 use Rattle.sg_activity.specs.Underway.{drawn}
 use Rattle.sg_activity.specs.Doing.{drawn_in}
-use Rattle.sg_activity.specs.kept.State.{State, task_of, is_now, is_so, told_at, told_by, under_of, doing_of}
+use Rattle.sg_activity.specs.kept.State.{State, task_of, is_now, is_so, told_at, told_by, began_at, began_by, under_of, doing_of}
 use Rattle.sg_activity.specs.kept.Sound.{IsKept}
 use Rattle.sg_activity.proofs.Listing.{listed_more}
 use Rattle.sg_activity.proofs.Lookup.{told_missed}
@@ -42,8 +43,11 @@ drawn_told s room is =
     let none = fresh_serial s (s.drawn + 1) is (omega arith) in
     let tasks : told_by (task_of new) new ≡ told_by (task_of s) s ++ None ∷ [] =
     listed_more s.drawn (λ i. told_at (task_of s) s.slots (i + 1)) ∙ ap (λ o. told_by (task_of s) s ++ o ∷ []) (told_missed (task_of s) s.slots (s.drawn + 1) none) in
+    let began : began_by new ≡ began_by s ++ false ∷ [] =
+    ap (map (passes is_so)) (listed_more s.drawn (λ i. told_at (began_at s.fresh) s.slots (i + 1)) ∙ ap (λ o. told_by (began_at s.fresh) s ++ o ∷ []) (told_missed (began_at s.fresh) s.slots (s.drawn + 1) none))
+    ∙ map-append (passes is_so) (told_by (began_at s.fresh) s) (None ∷ []) in
     let due : serials is_so 1 (told_by (is_now new) new) ≡ serials is_so 1 (told_by (is_now s) s) =
     ap (serials is_so 1) (listed_more s.drawn (λ i. told_at (is_now s) s.slots (i + 1)))
     ∙ serials_push is_so 1 (told_by (is_now s) s) (told_at (is_now s) s.slots (s.drawn + 1)) (ap (passes is_so) (told_missed (is_now s) s.slots (s.drawn + 1) none)) in
     doing_same (under_of new) (drawn (under_of s)) (cond s.arrived (serials is_so 1 (told_by (is_now new) new)) []) (cond s.arrived (serials is_so 1 (told_by (is_now s) s)) []) s.settled s.settled room room
-    (ap (λ t. record (under_of s) { tasks = t }) tasks) (ap (λ l. cond s.arrived l []) due) refl refl
+    (ap₂ (λ t b. record (under_of s) { tasks = t; marks = record (under_of s).marks { began = b } }) tasks began) (ap (λ l. cond s.arrived l []) due) refl refl

@@ -1,6 +1,5 @@
 -- An activity is done.
 use Rattle.std.proofs.Common.{◌≡◌, ℕ, ◌+◌, ◌-◌, ◌<◌, false, Option, None, Some, option_to_list, List, ◌++◌, length, length-set, set, sum_by, refl, sym, ap, subst, ◌∙◌, arith}
-use Rattle.sg_base.specs.MarkSet.{is_in}
 use Rattle.sg_heap.specs.Agenda.{Key}
 use Rattle.sg_lazy.specs.Lazily.{Lazily}
 use Rattle.sg_activity.specs.declared.kept.Kept.{Kept}
@@ -27,8 +26,8 @@ pub record Goes (kept : Kept) (lazy : Lazily) (key : ℕ) (live : Live) : Type 0
   pub use_room : lazy.use_room ≡ kept.lazy.use_room
   pub long : length lazy.slots ≡ length kept.lazy.slots
 
-module _ (kept : Kept) (lazy : Lazily) (lives : Pool) (agenda : List (Option Key)) (key : ℕ) (live : Live) (sound : IsSound kept) (at : slot_at kept.lives.slots key ≡ Some live) (stale : is_in key kept.fresh.members ≡ false) (goes : Goes kept lazy key live)
-    (slots : lives.slots ≡ set kept.lives.slots key None) (room : lives.room ≡ kept.lives.room + 1) (keys : agenda ≡ set kept.agenda key None) where
+module _ (kept : Kept) (lazy : Lazily) (lives : Pool) (agenda : List (Option Key)) (key : ℕ) (live : Live) (sound : IsSound kept) (at : slot_at kept.lives.slots key ≡ Some live) (goes : Goes kept lazy key live)
+    (slots : lives.slots ≡ set kept.lives.slots key None) (room : lives.room ≡ kept.lives.room) (keys : agenda ≡ set kept.agenda key None) where
   abbrev s : State
   s = state_of kept
 
@@ -37,12 +36,12 @@ module _ (kept : Kept) (lazy : Lazily) (lives : Pool) (agenda : List (Option Key
       let within = there_within kept.lives.slots key live at in
       let keys_in : key < length kept.agenda = omega (arith, within, sound.room.agenda_long) in
       let new : State = ended_state s key lazy.slots lazy.ended in
-      let turns : Turns s new key live.serial None = end_turns s key live lazy.slots lazy.ended sound.are at stale within keys_in goes.went in
+      let turns : Turns s new key live.serial None = end_turns s key live lazy.slots lazy.ended sound.are at within keys_in goes.went in
       let state_is = state_same s s.drawn false lives.slots (set s.slots key None) s.ways s.ways agenda (set s.keys key None) lazy.slots lazy.slots s.by_flow s.by_flow s.fresh s.fresh lazy.ended lazy.ended lazy.resources kept.lazy.resources slots refl keys refl refl refl refl goes.resources in
       record {
         slot = None;
         turns = subst (λ st. Turns s st key live.serial None) (sym state_is) turns;
-        under = ap under_of state_is ∙ end_under s key live lazy.slots lazy.ended sound.are at stale goes.ended turns;
+        under = ap under_of state_is ∙ end_under s key live lazy.slots lazy.ended sound.are at goes.ended turns;
         drawn = refl;
         sound = record {
           are = subst IsKept (sym state_is) (turned s new key live.serial None sound.are turns);
@@ -64,8 +63,8 @@ module _ (kept : Kept) (lazy : Lazily) (lives : Pool) (agenda : List (Option Key
       }
 
 -- the same, of what the two branches left
-pub ends_from : (kept mid : Kept) (lazy : Lazily) (lives : Pool) (agenda : List (Option Key)) (key : ℕ) (live : Live) → IsSound kept → slot_at kept.lives.slots key ≡ Some live → is_in key kept.fresh.members ≡ false → Goes kept lazy key live → mid ≡ record kept { lazy = lazy } →
-    lives.slots ≡ set mid.lives.slots key None → lives.room ≡ mid.lives.room + 1 → agenda ≡ set mid.agenda key None → Ends kept (record mid { lives = lives; agenda = agenda; settled = false; flows = mid.flows - flows_ahead live.kind }) key live None
-ends_from kept mid lazy lives agenda key live sound at stale goes e slots room keys =
+pub ends_from : (kept mid : Kept) (lazy : Lazily) (lives : Pool) (agenda : List (Option Key)) (key : ℕ) (live : Live) → IsSound kept → slot_at kept.lives.slots key ≡ Some live → Goes kept lazy key live → mid ≡ record kept { lazy = lazy } →
+    lives.slots ≡ set mid.lives.slots key None → lives.room ≡ mid.lives.room → agenda ≡ set mid.agenda key None → Ends kept (record mid { lives = lives; agenda = agenda; settled = false; flows = mid.flows - flows_ahead live.kind }) key live None
+ends_from kept mid lazy lives agenda key live sound at goes e slots room keys =
     subst (λ (m : Kept). Ends kept (record m { lives = lives; agenda = agenda; settled = false; flows = m.flows - flows_ahead live.kind }) key live None) (sym e)
-    (ends kept lazy lives agenda key live sound at stale goes (slots ∙ ap (λ (m : Kept). set m.lives.slots key None) e) (room ∙ ap (λ (m : Kept). m.lives.room + 1) e) (keys ∙ ap (λ (m : Kept). set m.agenda key None) e))
+    (ends kept lazy lives agenda key live sound at goes (slots ∙ ap (λ (m : Kept). set m.lives.slots key None) e) (room ∙ ap (λ (m : Kept). m.lives.room) e) (keys ∙ ap (λ (m : Kept). set m.agenda key None) e))

@@ -1,7 +1,7 @@
 -- At first nothing is under way.
-use Rattle.std.proofs.Common.{◌≡◌, ℕ, suc, Bool, true, false, true≢false, Option, None, Some, All, List, [], ◌∷◌, length, map, arith, refl, sym, ap, ap₂, ◌∙◌}
-use Rattle.sg_base.specs.declared.ids.LinkId.{LinkId}
+use Rattle.std.proofs.Common.{◌≡◌, ℕ, suc, Bool, true, false, IsTrue, true≢false, subst, Option, None, Some, All, List, [], ◌∷◌, length, map, replicate, arith, refl, sym, ap, ap₂, ◌∙◌}
 use Rattle.sg_base.specs.MarkSet.{is_in}
+use Rattle.sg_base.specs.declared.ids.LinkId.{LinkId}
 use Rattle.sg_heap.specs.Agenda.{Key, key_at}
 use Rattle.sg_maxmin.specs.Fill.{Flow}
 use Rattle.sg_lazy.specs.RunningFlow.{RunningFlow, running_at}
@@ -12,7 +12,8 @@ use Rattle.sg_activity.specs.Doing.{idle_on}
 use Rattle.sg_activity.specs.Links.{Switches, all_on, machines}
 use Rattle.sg_activity.specs.Slots.{listed}
 use Rattle.sg_activity.specs.kept.Pool.{slot_at}
-use Rattle.sg_activity.specs.kept.State.{State, serial_at, doing_of}
+use Rattle.sg_activity.specs.kept.Metered.{metered_in}
+use Rattle.sg_activity.specs.kept.State.{State, doing_of}
 use Rattle.sg_activity.specs.kept.Sound.{IsKept}
 
 none_is : {X : Type 0} {o : Option X} {x : X} → o ≡ None → o ≡ Some x → ⊥
@@ -24,18 +25,17 @@ first_kept s slots keys runs fresh = record {
   idle = λ key none. ap (λ l. key_at l key) keys;
   apart = λ i j one other a b e. absurd (none_is (ap (λ l. slot_at l i) slots) a);
   back = λ id running e. absurd (none_is (ap (λ l. running_at l id) runs) e);
-  fresh = λ key marked. absurd (true≢false (sym marked ∙ ap (is_in key) fresh));
+  fresh = λ key is. absurd (true≢false (sym (subst (λ (f : List ℕ). IsTrue (is_in key f)) fresh is)));
   none_fresh = λ set. fresh;
   rates = λ set id running e. absurd (none_is (ap (λ l. running_at l id) runs) e);
 }
 
-pub first_told : (hosts : List HostCap) (links : List LinkCap) (slots : List (Option Live)) (ways : List (List LinkId)) (keys : List (Option Key)) (runs : List (Option RunningFlow)) (by_flow fresh : List ℕ) (ended : List Flow) (resources : List ℕ) (on : Switches) → fresh ≡ [] → ended ≡ [] → resources ≡ [] → on ≡ all_on (machines hosts links) →
-    doing_of (record { capacities = machines hosts links; on = on; date = 0; drawn = 0; slots = slots; ways = ways; keys = keys; runs = runs; by_flow = by_flow; fresh = fresh; ended = ended; resources = resources; settled = false; arrived = false }) 0 ≡ idle_on hosts links
+pub first_told : (hosts : List HostCap) (links : List LinkCap) (slots : List (Option Live)) (ways : List (List LinkId)) (keys : List (Option Key)) (runs : List (Option RunningFlow)) (by_flow fresh : List ℕ) (ended : List Flow) (resources : List ℕ) (on : Switches) (energy : List ℕ) → ended ≡ [] → resources ≡ [] → on ≡ all_on (machines hosts links) → energy ≡ replicate (length hosts) 0 →
+    metered_in energy (doing_of (record { capacities = machines hosts links; on = on; date = 0; drawn = 0; slots = slots; ways = ways; keys = keys; runs = runs; by_flow = by_flow; fresh = fresh; ended = ended; resources = resources; settled = false; arrived = false }) 0) ≡ idle_on hosts links
 unfolding listed
-first_told hosts links slots ways keys runs by_flow fresh ended resources on none gone same all =
-    ap₂ (λ b e. record { under = record { date = 0; capacities = machines hosts links; on = on; tasks = []; marks = record { began = b; ended = e; resources = resources } }; due = []; settled = false; room = 0 }) (ap (map (serial_at slots)) none) gone
-    ∙ ap (λ r. record { under = record { date = 0; capacities = machines hosts links; on = on; tasks = []; marks = record { began = []; ended = []; resources = r } }; due = []; settled = false; room = 0 }) same
-    ∙ ap (λ o. record { under = record { date = 0; capacities = machines hosts links; on = o; tasks = []; marks = record { began = []; ended = []; resources = [] } }; due = []; settled = false; room = 0 }) all
+first_told hosts links slots ways keys runs by_flow fresh ended resources on energy gone same all used =
+    ap₂ (λ e r. record { under = record { date = 0; capacities = machines hosts links; on = on; tasks = []; marks = record { began = []; ended = e; resources = r }; energy = energy }; due = []; settled = false; room = 0 }) gone same
+    ∙ ap₂ (λ o n. record { under = record { date = 0; capacities = machines hosts links; on = o; tasks = []; marks = record { began = []; ended = []; resources = [] }; energy = n }; due = []; settled = false; room = 0 }) all used
 
 -- all that are on
 pub all_true : {X : Type 0} (on : List Bool) (xs : List X) → length on ≡ length xs → All (λ b. b ≡ true) on → on ≡ map (λ _. true) xs

@@ -8,15 +8,15 @@ use Rattle.sg_activity.specs.Slots.{listed, passes, serials, is_at}
 use Rattle.sg_activity.specs.Task.{Task}
 use Rattle.sg_activity.specs.Underway.{rate, wait, wait_in, next_in, due_in, passed, later}
 use Rattle.sg_activity.specs.Doing.{later_in, IsNext, IsUpTo}
-use Rattle.sg_activity.specs.kept.Stamps.{left_at, due_of}
-use Rattle.sg_activity.specs.kept.Pool.{slot_at}
-use Rattle.sg_activity.specs.kept.State.{State, task_of, date_of, dated, is_dated, is_now, is_so, told_at, told_by, under_of, doing_of}
+use Rattle.sg_activity.specs.kept.Stamps.{left_at}
+use Rattle.sg_activity.specs.kept.Pool.{IsMissing, slot_at}
+use Rattle.sg_activity.specs.kept.State.{State, task_of, date_of, dated, due_at, is_dated, is_now, is_so, told_at, told_by, under_of, doing_of}
 use Rattle.sg_activity.specs.kept.Sound.{IsKept}
 use Rattle.sg_activity.proofs.Listing.{eq_cases, some_same, length-listed, at_listed, past_listed, same_listed, serials_alike, soonest_none, soonest_is, up_to_each}
-use Rattle.sg_activity.proofs.Lookup.{Sought, IsMissing, sought, told_found, told_missed, told_from}
+use Rattle.sg_activity.proofs.Lookup.{Sought, sought, told_found, told_missed, told_from}
 use Rattle.sg_activity.proofs.Pairing.{there_within}
 use Rattle.sg_activity.proofs.Rates.{rate_told, wait_told, task_there}
-use Rattle.sg_activity.proofs.Stamps.{IsWait, is_wait, left_steps_lem, due_stays_lem}
+use Rattle.sg_activity.proofs.Stamps.{IsWait, is_wait, left_steps_lem, due_stays_by, wait_by_some}
 use Rattle.sg_activity.proofs.Told.{doing_same}
 
 less_or : (i n : ℕ) → (i < n) ⊎ (n ≤ i)
@@ -57,10 +57,10 @@ module _ (s : State) (is : IsKept s) (set : IsTrue s.settled) where
   dated_all : (key : ℕ) (live : Live) → slot_at s.slots key ≡ Some live → key_at s.keys key ≡ date_of live
   dated_all key live at = (is.each key live at).dated ∙ ap (λ l. dated l key live) (is.none_fresh set)
 
-  due_now : (key : ℕ) (live : Live) → slot_at s.slots key ≡ Some live → due_of live.stamp live.kept live.rate ≡ option_map (λ span. s.date + span) (wait_in (under_of s) (task_of s key live))
+  due_now : (key : ℕ) (live : Live) → slot_at s.slots key ≡ Some live → due_at live ≡ option_map (λ span. s.date + span) (wait_in (under_of s) (task_of s key live))
   due_now key live at =
       let h = is.each key live at in
-      sym (due_stays_lem live.kept live.rate live.stamp s.date h.stamped h.in_time)
+      due_stays_by live.kind live.kept live.rate live.stamp s.date h.stamped h.in_time
       ∙ ap (option_map (λ span. s.date + span)) (sym (wait_told s is set key live at))
 
   key_now : (key : ℕ) (live : Live) → slot_at s.slots key ≡ Some live → key_at s.keys key ≡ option_map (λ due. record { date = due; serial = live.serial }) (option_map (λ span. s.date + span) (wait_in (under_of s) (task_of s key live)))
@@ -105,7 +105,7 @@ module _ (s : State) (is : IsKept s) (set : IsTrue s.settled) where
       let w = spans live.serial (wait_in (under_of s) (task_of s slot live)) key (sym (key_now slot live l.1) ∙ least.there) in
       let span : w.0 ≡ key.date - s.date = omega (arith, w.2) in
       let back : live.serial - 1 + 1 ≡ live.serial = omega (arith, h.from) in
-      let small : w.0 ≤ left_at live.kept live.rate live.stamp s.date = wait_small live.rate (left_at live.kept live.rate live.stamp s.date) w.0 (sym (wait_told s is set slot live l.1) ∙ w.1) in
+      let small : w.0 ≤ left_at live.kept live.rate live.stamp s.date = wait_small live.rate (left_at live.kept live.rate live.stamp s.date) w.0 (wait_by_some live.kind (wait live.rate (left_at live.kept live.rate live.stamp s.date)) w.0 (sym (wait_told s is set slot live l.1) ∙ w.1)) in
       record {
         from = omega (arith, w.2);
         in_time = soonest_is (wait_in (under_of s)) (under_of s).tasks (live.serial - 1) w.0 (task_of s slot live) (task_there s is slot live l.1) w.1
@@ -180,12 +180,12 @@ module _ (s : State) (is : IsKept s) (set : IsTrue s.settled) where
             eqb_no : (a b : ℕ) → a ≢ b → (a == b) ≡ false
             eqb_no a b ne = grind arith
 
-    due_at : (i : ℕ) → (i < s.drawn) ⊎ (s.drawn ≤ i) →
+    due_there : (i : ℕ) → (i < s.drawn) ⊎ (s.drawn ≤ i) →
         passes is_so (get_or (told_by (is_now (record s { date = date; arrived = true })) (record s { date = date; arrived = true })) i None) ≡ passes (λ t. is_at (wait_in (under_of s) t) span) (get_or (under_of s).tasks i None)
-    due_at i (inr more) =
+    due_there i (inr more) =
         ap (passes is_so) (past_listed s.drawn (λ j. told_at (is_now (record s { date = date; arrived = true })) s.slots (j + 1)) i None more)
         ∙ sym (ap (passes (λ t. is_at (wait_in (under_of s) t) span)) (past_listed s.drawn (λ j. told_at (task_of s) s.slots (j + 1)) i None more))
-    due_at i (inl less) =
+    due_there i (inl less) =
         let new = record s { date = date; arrived = true } in
         ap (passes is_so) (at_listed s.drawn (λ j. told_at (is_now new) s.slots (j + 1)) i None less)
         ∙ at_serial (sought s.slots (i + 1))
@@ -201,6 +201,7 @@ module _ (s : State) (is : IsKept s) (set : IsTrue s.settled) where
             ∙ sym (ap (passes (λ t. is_at (wait_in (under_of s) t) span)) (told_missed (task_of s) s.slots (i + 1) none))
 
     pub gone_told : (room : ℕ) → doing_of (record s { date = date; arrived = true }) room ≡ later_in (date - s.date) (doing_of s room)
+    unfolding listed
     gone_told room =
         let new = record s { date = date; arrived = true } in
         let u = under_of s in
@@ -210,5 +211,5 @@ module _ (s : State) (is : IsKept s) (set : IsTrue s.settled) where
         let when : date ≡ s.date + (date - s.date) = omega (arith, from) in
         doing_same (under_of new) (later (date - s.date) u) (serials is_so 1 (told_by (is_now new) new)) (due_in (date - s.date) u) s.settled s.settled room room
         (ap₂ (λ d t. record u { date = d; tasks = t }) when tasks)
-        (serials_alike is_so (λ t. is_at (wait_in u t) span) 1 (told_by (is_now new) new) u.tasks (length-listed s.drawn (λ j. told_at (is_now new) s.slots (j + 1)) ∙ sym (length-listed s.drawn (λ j. told_at (task_of s) s.slots (j + 1)))) (λ i. due_at i (less_or i s.drawn)))
+        (serials_alike is_so (λ t. is_at (wait_in u t) span) 1 (told_by (is_now new) new) u.tasks (length-listed s.drawn (λ j. told_at (is_now new) s.slots (j + 1)) ∙ sym (length-listed s.drawn (λ j. told_at (task_of s) s.slots (j + 1)))) (λ i. due_there i (less_or i s.drawn)))
         refl refl

@@ -1,5 +1,5 @@
 -- There is more room, and all else is as it was.
-use Rattle.std.proofs.Common.{◌≡◌, ℕ, suc, ◌+◌, ◌*◌, ◌≤◌, cond, Option, None, Some, option_map, List, [], ◌∷◌, map, length, sum_by, slice_index, IsSome, refl, sym, ap, ap₂, subst, ◌∙◌, arith}
+use Rattle.std.proofs.Common.{◌≡◌, ℕ, suc, ◌+◌, ◌*◌, ◌≤◌, cond, Option, None, Some, option_map, List, [], ◌∷◌, map, length, sum_by, slice_index, refl, sym, ap, ap₂, subst, ◌∙◌, arith}
 use Rattle.std.specs.List.{cons_option}
 use Rattle.sg_base.specs.declared.ids.LinkId.{LinkId}
 use Rattle.sg_heap.specs.Agenda.{Key, key_at}
@@ -10,14 +10,14 @@ use Rattle.std.proofs.lemmas.List.Sums.{sum_by-cons}
 use Rattle.sg_activity.specs.declared.kept.Kept.{Kept}
 use Rattle.sg_activity.specs.Links.{capacities_of, machines}
 use Rattle.sg_activity.specs.kept.Grows.{Grows}
-use Rattle.sg_activity.specs.Slots.{serials}
+use Rattle.sg_activity.specs.Slots.{passes, serials}
 use Rattle.sg_activity.specs.kept.Pool.{slot_at}
-use Rattle.sg_activity.specs.kept.State.{State, state_of, links_at, task_from, task_of, is_now, is_dated, is_so, serial_in, serial_at, told_at, told_by, under_of, doing_of}
+use Rattle.sg_activity.specs.kept.State.{State, state_of, links_at, task_from, task_of, is_now, is_dated, is_so, told_at, told_by, began_at, began_by, under_of, doing_of}
 use Rattle.sg_activity.specs.kept.Sound.{AreApart, IsKept, IsSound, slot_ahead}
 use Rattle.sg_activity.proofs.Listing.{same_listed}
 use Rattle.sg_activity.proofs.Lookup.{told_alike}
 use Rattle.sg_activity.proofs.Told.{doing_same, made_same}
-use Rattle.sg_activity.proofs.Turned.{held_still, map_in}
+use Rattle.sg_activity.proofs.Turned.{held_still}
 
 none_in : (runs : List (Option RunningFlow)) → ((id : ℕ) → running_at runs id ≡ None) → flows_in runs ≡ []
 none_in [] h = refl
@@ -32,7 +32,7 @@ flows_same (o ∷ old) (n ∷ new) h = ap₂ (λ x l. cons_option (option_map (�
 
 module _ (s : State) (slots : List (Option Live)) (ways : List (List LinkId)) (keys : List (Option Key)) (runs : List (Option RunningFlow)) (by_flow : List ℕ) (is : IsKept s)
     (same_slots : (k : ℕ) → slot_at slots k ≡ slot_at s.slots k) (same_links : (k : ℕ) → links_at ways k ≡ links_at s.ways k) (same_keys : (k : ℕ) → key_at keys k ≡ key_at s.keys k) (same_runs : (id : ℕ) → running_at runs id ≡ running_at s.runs id) (same_flows : (id : ℕ) → slice_index by_flow id ≡ slice_index s.by_flow id)
-    (longer : length s.by_flow ≤ length by_flow) where
+    (longer : length s.by_flow ≤ length by_flow) (more_slots : length s.slots ≤ length slots) where
   abbrev pub grown : State
   grown = record s { slots = slots; ways = ways; keys = keys; runs = runs; by_flow = by_flow }
 
@@ -47,7 +47,7 @@ module _ (s : State) (slots : List (Option Live)) (ways : List (List LinkId)) (k
     back = λ id r e.
         let of = is.back id r (sym (same_runs id) ∙ e) in
         record { live = of.live; there = ap (slot_at slots) (same_flows id) ∙ same_slots (slice_index s.by_flow id) ∙ of.there; full = of.full; is = of.is };
-    fresh = λ k marked. subst (λ o. IsSome o) (sym (same_slots k)) (is.fresh k marked);
+    fresh = λ k marked. omega (arith, is.fresh k marked, more_slots);
     none_fresh = is.none_fresh;
     rates = λ set id r e. is.rates set id r (sym (same_runs id) ∙ e) ∙ ap (λ l. share_of (capacities_of s.capacities) l r.flow) (sym (flows_same s.runs runs same_runs));
   }
@@ -59,9 +59,9 @@ module _ (s : State) (slots : List (Option Live)) (ways : List (List LinkId)) (k
   pub grown_told : (room : ℕ) → doing_of grown room ≡ doing_of s room
   grown_told room =
       doing_same (under_of grown) (under_of s) (cond s.arrived (serials is_so 1 (told_by (is_now grown) grown)) []) (cond s.arrived (serials is_so 1 (told_by (is_now s) s)) []) s.settled s.settled room room
-      (made_same s.date s.date s.capacities s.capacities s.on s.on (told_by (task_of grown) grown) (told_by (task_of s) s) (map (serial_at slots) s.fresh) (map (serial_at s.slots) s.fresh) s.ended s.ended s.resources s.resources refl refl refl
+      (made_same s.date s.date s.capacities s.capacities s.on s.on (told_by (task_of grown) grown) (told_by (task_of s) s) (began_by grown) (began_by s) s.ended s.ended s.resources s.resources refl refl refl
       (tell_same (task_of s) (task_of grown) (λ k live. ap (λ l. task_from s.date l live) (same_links k)))
-      (map_in (serial_at slots) (serial_at s.slots) s.fresh (λ k _. ap serial_in (same_slots k))) refl refl)
+      (ap (map (passes is_so)) (tell_same (began_at s.fresh) (began_at s.fresh) (λ k live. refl))) refl refl)
       (ap (λ l. cond s.arrived (serials is_so 1 l) []) (tell_same (is_now s) (is_now grown) (λ k live. ap (is_dated s.date) (same_keys k)))) refl refl
 
 no_ahead : (slots : List (Option Live)) → ((k : ℕ) → slot_at slots k ≡ None) → sum_by slot_ahead slots ≡ 0
@@ -78,7 +78,7 @@ module _ (kept new : Kept) (room flows : ℕ) (sound : IsSound kept) (g : Grows 
   abbrev s : State
   s = state_of kept
 
-  state_is : state_of (record new { room = room; flows = flows }) ≡ grown s new.lives.slots new.ways.items new.agenda new.lazy.slots new.by_flow.items sound.are g.slots g.links g.keys g.runs g.by_flow g.longer
+  state_is : state_of (record new { room = room; flows = flows }) ≡ grown s new.lives.slots new.ways.items new.agenda new.lazy.slots new.by_flow.items sound.are g.slots g.links g.keys g.runs g.by_flow g.longer g.slots_long
   state_is =
       ap (λ (k : Kept). record (state_of k) { slots = new.lives.slots; ways = new.ways.items; keys = new.agenda; runs = new.lazy.slots; by_flow = new.by_flow.items; fresh = new.fresh.members; ended = new.lazy.ended; resources = new.lazy.resources }) g.rest
       ∙ ap₂ (λ f e. record s { slots = new.lives.slots; ways = new.ways.items; keys = new.agenda; runs = new.lazy.slots; by_flow = new.by_flow.items; fresh = f; ended = e; resources = new.lazy.resources }) g.fresh g.ended
@@ -86,7 +86,7 @@ module _ (kept new : Kept) (room flows : ℕ) (sound : IsSound kept) (g : Grows 
 
   pub sound_grown : flows ≡ room + sum_by slot_ahead kept.lives.slots → flows ≤ new.lazy.flow_room → 64 * flows ≤ new.lazy.use_room → room ≤ new.lives.room → IsSound (record new { room = room; flows = flows })
   sound_grown count flow_room use_room keys_free = record {
-    are = subst IsKept (sym state_is) (grown_kept s new.lives.slots new.ways.items new.agenda new.lazy.slots new.by_flow.items sound.are g.slots g.links g.keys g.runs g.by_flow g.longer);
+    are = subst IsKept (sym state_is) (grown_kept s new.lives.slots new.ways.items new.agenda new.lazy.slots new.by_flow.items sound.are g.slots g.links g.keys g.runs g.by_flow g.longer g.slots_long);
     room = record {
       capacities = g.capacities ∙ sound.room.capacities ∙ sym (ap (λ (k : Kept). capacities_of (machines k.hosts.items k.links.items)) g.rest);
       few = omega (arith, sound.room.few, ap (λ (k : Kept). k.drawn) g.rest);
@@ -103,4 +103,4 @@ module _ (kept new : Kept) (room flows : ℕ) (sound : IsSound kept) (g : Grows 
   }
 
   pub grown_doing : (n : ℕ) → doing_of (state_of (record new { room = room; flows = flows })) n ≡ doing_of s n
-  grown_doing n = ap (λ st. doing_of st n) state_is ∙ grown_told s new.lives.slots new.ways.items new.agenda new.lazy.slots new.by_flow.items sound.are g.slots g.links g.keys g.runs g.by_flow g.longer n
+  grown_doing n = ap (λ st. doing_of st n) state_is ∙ grown_told s new.lives.slots new.ways.items new.agenda new.lazy.slots new.by_flow.items sound.are g.slots g.links g.keys g.runs g.by_flow g.longer g.slots_long n

@@ -10,6 +10,7 @@ pub mod Told
 pub mod Pairing
 pub mod Works
 pub mod Rates
+pub mod Loads
 pub mod Going
 pub mod Due
 pub mod Settled
@@ -17,6 +18,8 @@ pub mod Starts
 pub mod Renewed
 pub mod Turning
 pub mod Pooled
+pub mod Found
+pub mod Swapped
 pub mod Runs
 pub mod Drawn
 pub mod Roomy
@@ -30,5 +33,10 @@ pub mod Bounds
 pub mod Reset
 pub mod Hitting
 pub mod Struck
+pub mod Holding
 pub mod Switched
 pub mod Tested
+pub mod Metering
+pub mod Loaded
+pub mod Summed
+pub mod Elsewhere

@@ -1,7 +1,7 @@
 -- The activity of a serial.
 use Rattle.std.proofs.Common.{◌≡◌, ◌≢◌, ℕ, zero, suc, ◌+◌, ◌⊎◌, inl, inr, cond, eq-eqb, ne_eqb, Option, None, Some, option_map, option_and_then, List, [], ◌∷◌, refl, sym, ap, ◌∙◌, arith}
 use Rattle.sg_activity.specs.declared.lives.Live.{Live}
-use Rattle.sg_activity.specs.kept.Pool.{slot_at}
+use Rattle.sg_activity.specs.kept.Pool.{slot_at, IsMissing}
 use Rattle.sg_activity.specs.kept.State.{key_from, told_at}
 use Rattle.sg_activity.specs.kept.Sound.{AreApart}
 use Rattle.sg_activity.proofs.Listing.{some_same, eq_cases}
@@ -34,9 +34,6 @@ pub record Sought (slots : List (Option Live)) (serial : ℕ) : Type 0 where
   pub live : Live
   pub at : slot_at slots key ≡ Some live
   pub is : live.serial ≡ serial
-
-abbrev pub IsMissing : List (Option Live) → ℕ → Type 0
-IsMissing slots serial = (k : ℕ) (live : Live) → slot_at slots k ≡ Some live → live.serial ≢ serial
 
 none_more : (x : Live) (rest : List (Option Live)) (serial : ℕ) → x.serial ≢ serial → IsMissing rest serial → IsMissing (Some x ∷ rest) serial
 none_more x rest serial not none zero live at is = not (ap (λ (l : Live). l.serial) (some_same at) ∙ is)

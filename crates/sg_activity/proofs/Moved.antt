@@ -166,7 +166,7 @@ module _ (c new : Capacities) (resource : ℕ) (moved : IsMoved c new resource) 
 -- ---- a speed
 pub speed_moved : (c : Capacities) (host speed : ℕ) → IsMoved c (at_speed host speed c) host
 speed_moved c host speed = record {
-  hosts = length-set c.hosts host (record { speed = speed; cores = (host_at c.hosts host).cores });
+  hosts = length-set c.hosts host (record (host_at c.hosts host) { speed = speed });
   links = refl;
   fatpipes = λ link. refl;
   bounds = bounds;
@@ -177,7 +177,7 @@ speed_moved c host speed = record {
 
     bounds : (place : Place) → is_rebound_at c (host ∷ []) place ≡ false → bound_at (at_speed host speed c) place ≡ bound_at c place
     bounds nowhere e = refl
-    bounds (on_host k) e = ap (λ (h : HostCap). Some h.speed) (get_or-set_other c.hosts host k (record { speed = speed; cores = (host_at c.hosts host).cores }) (record { speed = 0; cores = 0 }) (away k e))
+    bounds (on_host k) e = ap (λ (h : HostCap). Some h.speed) (get_or-set_other c.hosts host k (record (host_at c.hosts host) { speed = speed }) (record { speed = 0; cores = 0; power = None }) (away k e))
     bounds (over way) e = refl
 
 set_offer : (hosts : List HostCap) (rest : List ℕ) (host : ℕ) (cap : HostCap) → host < length hosts → set (offers_of hosts ++ rest) host (offer_of cap) ≡ offers_of (set hosts host cap) ++ rest
@@ -186,7 +186,7 @@ set_offer (h ∷ hosts) rest zero cap within = refl
 set_offer (h ∷ hosts) rest (suc host) cap within = ap (λ l. offer_of h ∷ l) (set_offer hosts rest host cap (omega (arith, within)))
 
 pub speed_capacities : (c : Capacities) (host speed : ℕ) → host < length c.hosts → set (capacities_of c) host (speed * (host_at c.hosts host).cores) ≡ capacities_of (at_speed host speed c)
-speed_capacities c host speed within = set_offer c.hosts (bandwidths_of c.links) host (record { speed = speed; cores = (host_at c.hosts host).cores }) within
+speed_capacities c host speed within = set_offer c.hosts (bandwidths_of c.links) host (record (host_at c.hosts host) { speed = speed }) within
 
 -- ---- a bandwidth
 module _ (c : Capacities) (number bandwidth : ℕ) (within : number < length c.links) where

@@ -1,10 +1,11 @@
 -- A key is given, and given back.
-use Rattle.std.proofs.Common.{◌≡◌, ◌≢◌, ℕ, zero, suc, ◌+◌, ◌<◌, inl, inr, Option, None, Some, is_some, count_by, cond, List, [], ◌∷◌, ◌++◌, length, get_or, set, length-set, get_or-set_same, get_or-set_other, IsSome, refl, sym, ap, subst, ◌∙◌, arith}
+use Rattle.std.proofs.Common.{◌≡◌, ◌≢◌, ℕ, zero, suc, ◌+◌, ◌<◌, inl, inr, Bool, true, false, Option, None, Some, is_some, count_by, cond, List, [], ◌∷◌, ◌++◌, length, get_or, set, length-set, get_or-set_same, get_or-set_other, IsSome, refl, sym, ap, subst, ◌∙◌, arith}
 use Rattle.std.proofs.lemmas.List.{get_or_append_left, length-append}
 use Rattle.std.proofs.Math.Seq.{get_or-append_seam}
 use Rattle.std.proofs.lemmas.List.Sums.{sum_by-cons, sum_by-set}
 use Rattle.sg_activity.specs.declared.lives.Live.{Live}
-use Rattle.sg_activity.specs.kept.Pool.{slot_at, IsPool}
+use Rattle.sg_activity.specs.kept.Pool.{slot_at, goes_on, IsPool}
+use Rattle.sg_activity.specs.Slots.{passes}
 use Rattle.sg_activity.proofs.Listing.{eq_cases}
 use Rattle.sg_activity.proofs.Pairing.{there_within}
 use Rattle.sg_activity.proofs.Turned.{not_there}
@@ -55,18 +56,41 @@ given_back slots free key capacity is within there =
       fits = omega (arith, is.fits, length-set slots key None);
     }
 
--- whether none is under way
-pub none_counts : (slots : List (Option Live)) → count_by is_some slots ≡ 0 → (k : ℕ) → slot_at slots k ≡ None
-none_counts [] e k = refl
-none_counts (None ∷ slots) e zero = refl
-none_counts (None ∷ slots) e (suc k) = none_counts slots (omega (arith, e, sum_by-cons (λ (o : Option Live). cond (is_some o) 1 0) None slots)) k
-none_counts (Some x ∷ slots) e k = absurd (omega (arith, e, sum_by-cons (λ (o : Option Live). cond (is_some o) 1 0) (Some x) slots))
+-- an activity takes the place of another
+pub replaced : (slots : List (Option Live)) (free : List ℕ) (key : ℕ) (live : Live) (capacity : ℕ) → IsPool slots free capacity → key < length slots → IsSome (slot_at slots key) → IsPool (set slots key (Some live)) free capacity
+replaced slots free key live capacity is within there =
+    let other : (k d : ℕ) → k < length free → get_or free k d ≢ key = (λ k d h q. not_there (slot_at slots key) there (ap (slot_at slots) (sym q) ∙ is.idle k d h)) in
+    record {
+      idle = λ k d h. get_or-set_other slots key (get_or free k d) (Some live) None (other k d h) ∙ is.idle k d h;
+      below = λ k d h. omega (arith, is.below k d h, length-set slots key (Some live));
+      once = is.once;
+      counted = omega (arith, is.counted, sum_by-set (λ o. cond (is_some o) 1 0) slots key (Some live) None within, some_part (slot_at slots key) there, length-set slots key (Some live));
+      fits = omega (arith, is.fits, length-set slots key (Some live));
+    }
 
-pub some_counts : (slots : List (Option Live)) (k : ℕ) (live : Live) → slot_at slots k ≡ Some live → 0 < count_by is_some slots
-some_counts [] k live e = absurd (cc e)
-some_counts (None ∷ slots) zero live e = absurd (cc e)
-some_counts (None ∷ slots) (suc k) live e = omega (arith, some_counts slots k live e, sum_by-cons (λ (o : Option Live). cond (is_some o) 1 0) None slots)
-some_counts (Some x ∷ slots) k live e = omega (arith, sum_by-cons (λ (o : Option Live). cond (is_some o) 1 0) (Some x) slots)
+-- whether none goes on
+pub none_counts : (slots : List (Option Live)) → count_by (passes goes_on) slots ≡ 0 → (k : ℕ) → passes goes_on (slot_at slots k) ≡ false
+none_counts [] e k = refl
+none_counts (o ∷ slots) e zero = first (passes goes_on o) (omega (arith, e, sum_by-cons (λ (o : Option Live). cond (passes goes_on o) 1 0) o slots))
+  where
+    first : (b : Bool) → ◌≡◌ {A = ℕ} (cond b 1 0) 0 → b ≡ false
+    first true e = absurd (omega (arith, e))
+    first false e = refl
+none_counts (o ∷ slots) e (suc k) = none_counts slots (omega (arith, e, sum_by-cons (λ (o : Option Live). cond (passes goes_on o) 1 0) o slots)) k
+
+pub some_counts : (slots : List (Option Live)) → 0 < count_by (passes goes_on) slots → (k : ℕ) × (live : Live) × (slot_at slots k ≡ Some live) × (goes_on live ≡ true)
+some_counts [] h = absurd (omega (arith, h))
+some_counts (None ∷ slots) h = let r = some_counts slots (omega (arith, h, sum_by-cons (λ (o : Option Live). cond (passes goes_on o) 1 0) None slots)) in (suc r.0, r.1, r.2, r.3)
+some_counts (Some live ∷ slots) h = go (goes_on live) refl (omega (arith, h, sum_by-cons (λ (o : Option Live). cond (passes goes_on o) 1 0) (Some live) slots)) (some_counts slots)
+  where
+    go : (b : Bool) → goes_on live ≡ b → 0 < cond b 1 0 + count_by (passes goes_on) slots → (0 < count_by (passes goes_on) slots → (k : ℕ) × (its : Live) × (slot_at slots k ≡ Some its) × (goes_on its ≡ true)) →
+        (k : ℕ) × (its : Live) × (slot_at (Some live ∷ slots) k ≡ Some its) × (goes_on its ≡ true)
+    go true e h more = (0, live, refl, e)
+    go false e h more = let r = more (omega (arith, h)) in (suc r.0, r.1, r.2, r.3)
+
+-- another takes the place of one
+pub counts_set : (slots : List (Option Live)) (key : ℕ) (slot : Option Live) → key < length slots → count_by (passes goes_on) (set slots key slot) + cond (passes goes_on (slot_at slots key)) 1 0 ≡ count_by (passes goes_on) slots + cond (passes goes_on slot) 1 0
+counts_set slots key slot within = sum_by-set (λ o. cond (passes goes_on o) 1 0) slots key slot None within
 
 pub within_there : (slots : List (Option Live)) (key : ℕ) → IsSome (slot_at slots key) → key < length slots
 within_there slots key there = go (slot_at slots key) refl there

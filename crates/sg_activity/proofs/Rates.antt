@@ -3,6 +3,7 @@ use Rattle.std.proofs.Common.{◌≡◌, ◌≢◌, ℕ, zero, suc, ◌+◌, ◌
 use Rattle.std.specs.List.{cons_option}
 use Rattle.std.specs.Prelude.{Contains}
 use Rattle.std.proofs.lemmas.Option.{cond_some}
+use Rattle.std.proofs.Math.ListN.{get_or-map}
 use Rattle.sg_base.specs.MarkSet.{is_in}
 use Rattle.sg_maxmin.specs.Fill.{Flow, share_of}
 use Rattle.sg_maxmin.specs.Laws.{HaveLimits, HaveSameSums}
@@ -12,50 +13,23 @@ use Rattle.sg_maxmin.proofs.Shares.{shares_same_lem}
 use Rattle.sg_maxmin.proofs.Held.{is_held_lem}
 use Rattle.sg_lazy.specs.RunningFlow.{RunningFlow, running_at, running_flows, flows_in}
 use Rattle.sg_lazy.specs.Work.{work}
-use Rattle.sg_activity.specs.declared.kinds.PhaseKind.{PhaseKind}
-use Rattle.sg_activity.specs.declared.kinds.PhaseKind.TheVariants as phase
 use Rattle.sg_activity.specs.declared.lives.Live.{Live}
 use Rattle.sg_activity.specs.Links.{Capacities, capacities_of}
 use Rattle.sg_activity.specs.Slots.{passes}
 use Rattle.sg_activity.specs.Task.{Task, takes_share, pace, wait_by, flow_in, flow_of, flows, task_at}
 use Rattle.sg_activity.specs.Underway.{is_rebound, rate, wait, wait_in, running_under, runnings, work_of}
 use Rattle.sg_activity.specs.kept.Stamps.{left_at}
-use Rattle.sg_activity.specs.kept.Pool.{slot_at}
-use Rattle.sg_activity.specs.kept.State.{State, task_of, asked_by, serial_in, serial_at, told_at, under_of}
+use Rattle.sg_activity.specs.kept.Pool.{slot_at, IsMissing}
+use Rattle.sg_activity.specs.kept.State.{State, task_of, asked_by, serial_in, serial_at, is_so, told_at, told_by, began_at, under_of}
 use Rattle.sg_activity.specs.kept.Sound.{AreApart, IsFlowOf, IsKept, run_of}
-use Rattle.sg_activity.proofs.Listing.{eq_cases, some_same, length-listed, at_listed, past_listed}
-use Rattle.sg_activity.proofs.Lookup.{Sought, told_found, told_from}
+use Rattle.sg_activity.proofs.Listing.{some_same, length-listed, at_listed, past_listed}
+use Rattle.sg_activity.proofs.Lookup.{Sought, told_found, told_from, told_missed}
 use Rattle.sg_activity.proofs.Pairing.{part, paired_sums, there_within, sum_by-there, sum_alike}
 use Rattle.sg_activity.proofs.Told.{task_told}
-use Rattle.sg_activity.proofs.Turned.{not_there}
 use Rattle.sg_activity.proofs.Works.{SameRunning, work_same}
 
--- ---- marks by key and by serial
-eqb_yes : (a b : ℕ) → a ≡ b → (a == b) ≡ true
-eqb_yes a b e = grind arith
-
-eqb_no : (a b : ℕ) → a ≢ b → (a == b) ≡ false
-eqb_no a b ne = grind arith
-
-in_serials : (slots : List (Option Live)) (key : ℕ) (live : Live) (marks : List ℕ) → AreApart slots → slot_at slots key ≡ Some live → ((k : ℕ) → IsTrue (is_in k marks) → IsSome (slot_at slots k)) → is_in live.serial (map (serial_at slots) marks) ≡ is_in key marks
-in_serials slots key live [] apart at there = refl
-in_serials slots key live (k ∷ marks) apart at there =
-    ap₂ (λ a b. a || b) (head (slot_at slots k) refl) (in_serials slots key live marks apart at (λ j i. there j (later j k marks i)))
-  where
-    later : (j k : ℕ) (marks : List ℕ) → is_in j marks ≡ true → is_in j (k ∷ marks) ≡ true
-    later j k marks i = grind arith
-
-    first : (k : ℕ) (marks : List ℕ) → is_in k (k ∷ marks) ≡ true
-    first k marks = grind arith
-
-    head : (o : Option Live) → slot_at slots k ≡ o → (serial_in (slot_at slots k) == live.serial) ≡ (k == key)
-    head None e = absurd (not_there (slot_at slots k) (there k (first k marks)) e)
-    head (Some other) e = elim (eq_cases k key) [
-      | inl h ↦
-          let same : other ≡ live = some_same (sym e ∙ ap (slot_at slots) h ∙ at) in
-          eqb_yes (serial_in (slot_at slots k)) live.serial (ap serial_in e ∙ ap (λ (l : Live). l.serial) same) ∙ sym (eqb_yes k key h)
-      | inr ne ↦ eqb_no (serial_in (slot_at slots k)) live.serial (λ s. ne (apart k key other live e at (sym (ap serial_in e) ∙ s))) ∙ sym (eqb_no k key ne)
-    ]
+less_or : (i n : ℕ) → (i < n) ⊎ (n ≤ i)
+less_or i n = grind arith
 
 filled_flow : (c : Capacities) (t : Task) → IsTrue (takes_share t.kind) → flow_in c (Some t) ≡ Some (flow_of c t)
 filled_flow c t full = ap (λ b. cond b (Some (flow_of c t)) None) full
@@ -67,14 +41,31 @@ module _ (s : State) (is : IsKept s) where
       let h = is.each key live at in
       task_told s live.serial h.from h.to ∙ told_found (task_of s) s.slots live.serial key live is.apart at refl
 
+  -- nothing stands under a serial that is that of none
+  pub task_missed : (serial : ℕ) → 0 < serial → IsMissing s.slots serial → task_at (under_of s).tasks serial ≡ None
+  task_missed serial from none = elim (less_or (serial - 1) s.drawn) [
+    | inl less ↦
+        let back : serial - 1 + 1 ≡ serial = omega (arith, from) in
+        at_listed s.drawn (λ i. told_at (task_of s) s.slots (i + 1)) (serial - 1) None less ∙ ap (told_at (task_of s) s.slots) back ∙ told_missed (task_of s) s.slots serial none
+    | inr more ↦ past_listed s.drawn (λ i. told_at (task_of s) s.slots (i + 1)) (serial - 1) None more
+  ]
+
+  -- whether it began stands there too
+  began_there : (key : ℕ) (live : Live) → slot_at s.slots key ≡ Some live → get_or (under_of s).marks.began (live.serial - 1) false ≡ is_in key s.fresh
+  began_there key live at =
+      let h = is.each key live at in
+      let back : live.serial - 1 + 1 ≡ live.serial = omega (arith, h.from) in
+      get_or-map (passes is_so) (told_by (began_at s.fresh) s) (live.serial - 1) None
+      ∙ ap (passes is_so) (at_listed s.drawn (λ i. told_at (began_at s.fresh) s.slots (i + 1)) (live.serial - 1) None (omega (arith, h.from, h.to)) ∙ ap (told_at (began_at s.fresh) s.slots) back ∙ told_found (began_at s.fresh) s.slots live.serial key live is.apart at refl)
+
   pub drawn_told : length (under_of s).tasks ≡ s.drawn
   drawn_told = length-listed s.drawn (λ i. told_at (task_of s) s.slots (i + 1))
 
   running_there : (key : ℕ) (live : Live) → slot_at s.slots key ≡ Some live → IsTrue (takes_share live.kind) →
-      running_under (under_of s) live.serial ≡ Some (record { flow = asked_by s key live; rate = 0; began = false; marked = is_in live.serial (under_of s).marks.began || is_rebound (under_of s) (task_of s key live) })
+      running_under (under_of s) live.serial ≡ Some (record { flow = asked_by s key live; rate = 0; began = false; marked = get_or (under_of s).marks.began (live.serial - 1) false || is_rebound (under_of s) (task_of s key live) })
   running_there key live at full =
-      ap (λ o. option_map (λ flow. record { flow = flow; rate = 0; began = false; marked = is_in live.serial (under_of s).marks.began || passes (is_rebound (under_of s)) o }) (flow_in s.capacities o)) (task_there key live at)
-      ∙ ap (option_map (λ flow. record { flow = flow; rate = 0; began = false; marked = is_in live.serial (under_of s).marks.began || is_rebound (under_of s) (task_of s key live) })) (filled_flow s.capacities (task_of s key live) full)
+      ap (λ o. option_map (λ flow. record { flow = flow; rate = 0; began = false; marked = get_or (under_of s).marks.began (live.serial - 1) false || passes (is_rebound (under_of s)) o }) (flow_in s.capacities o)) (task_there key live at)
+      ∙ ap (option_map (λ flow. record { flow = flow; rate = 0; began = false; marked = get_or (under_of s).marks.began (live.serial - 1) false || is_rebound (under_of s) (task_of s key live) })) (filled_flow s.capacities (task_of s key live) full)
 
   running_place : (i : ℕ) → i < s.drawn → get_or (runnings (under_of s)) i None ≡ running_under (under_of s) (i + 1)
   running_place i less = at_listed (length (under_of s).tasks) (λ j. running_under (under_of s) (j + 1)) i None (omega (arith, less, drawn_told))
@@ -95,10 +86,10 @@ module _ (s : State) (is : IsKept s) where
       let key = slice_index s.by_flow id in
       let h = is.each key of.live of.there in
       let back : place id + 1 ≡ of.live.serial = omega (arith, place_is id of, h.from) in (
-        record { flow = asked_by s key of.live; rate = 0; began = false; marked = is_in of.live.serial (under_of s).marks.began || is_rebound (under_of s) (task_of s key of.live) },
+        record { flow = asked_by s key of.live; rate = 0; began = false; marked = get_or (under_of s).marks.began (of.live.serial - 1) false || is_rebound (under_of s) (task_of s key of.live) },
         running_place (place id) (omega (arith, back, h.to)) ∙ ap (running_under (under_of s)) back ∙ running_there key of.live of.there of.full,
         ap (λ (r : RunningFlow). amount r.flow r.marked) (run_is id of running e)
-            ∙ ap (λ b. amount (asked_by s key of.live) (b || is_rebound (under_of s) (task_of s key of.live))) (sym (in_serials s.slots key of.live s.fresh is.apart of.there is.fresh)),
+            ∙ ap (λ b. amount (asked_by s key of.live) (b || is_rebound (under_of s) (task_of s key of.live))) (sym (began_there key of.live of.there)),
       )
 
   own : (i j : ℕ) (one other : RunningFlow) → running_at s.runs i ≡ Some one → running_at s.runs j ≡ Some other → place i ≡ place j → i ≡ j
@@ -123,7 +114,7 @@ module _ (s : State) (is : IsKept s) where
   -- the activity of a serial that runs
   runs_under : (serial : ℕ) (r : RunningFlow) → 0 < serial → serial ≤ s.drawn → running_under (under_of s) serial ≡ Some r → (f : Sought s.slots serial) × IsTrue (takes_share f.live.kind)
   runs_under serial r from to e =
-      let t = some_flow (is_in serial (under_of s).marks.began || passes (is_rebound (under_of s)) (task_at (under_of s).tasks serial)) (task_at (under_of s).tasks serial) r e in
+      let t = some_flow (get_or (under_of s).marks.began (serial - 1) false || passes (is_rebound (under_of s)) (task_at (under_of s).tasks serial)) (task_at (under_of s).tasks serial) r e in
       let f = told_from (task_of s) s.slots serial t.0 is.apart (sym (task_told s serial from to) ∙ t.1) in
       (f.0, ap (λ (u : Task). takes_share u.kind) f.1 ∙ t.2)
 
@@ -171,16 +162,13 @@ module _ (s : State) (is : IsKept s) where
       ∙ sum_alike (part g) (λ t. part h (flow_in s.capacities t)) (runnings (under_of s)) tasks None None (length-listed (length tasks) (λ k. running_under (under_of s) (k + 1))) (λ i. alike i (less_or i (length tasks)))
       ∙ sym (sum_by-there h (flow_in s.capacities) tasks)
     where
-      less_or : (i n : ℕ) → (i < n) ⊎ (n ≤ i)
-      less_or i n = grind arith
-
       back : (i : ℕ) → i + 1 - 1 ≡ i
       back i = omega arith
 
       alike : (i : ℕ) → (i < length (under_of s).tasks) ⊎ (length (under_of s).tasks ≤ i) → part (λ (r : RunningFlow). h r.flow) (get_or (runnings (under_of s)) i None) ≡ part h (flow_in s.capacities (get_or (under_of s).tasks i None))
       alike i (inl less) =
           ap (part (λ (r : RunningFlow). h r.flow)) (at_listed (length (under_of s).tasks) (λ j. running_under (under_of s) (j + 1)) i None less)
-          ∙ made_parts h (is_in (i + 1) (under_of s).marks.began || passes (is_rebound (under_of s)) (task_at (under_of s).tasks (i + 1))) (flow_in s.capacities (task_at (under_of s).tasks (i + 1)))
+          ∙ made_parts h (get_or (under_of s).marks.began (i + 1 - 1) false || passes (is_rebound (under_of s)) (task_at (under_of s).tasks (i + 1))) (flow_in s.capacities (task_at (under_of s).tasks (i + 1)))
           ∙ ap (λ n. part h (flow_in s.capacities (get_or (under_of s).tasks n None))) (back i)
       alike i (inr more) =
           ap (part (λ (r : RunningFlow). h r.flow)) (past_listed (length (under_of s).tasks) (λ j. running_under (under_of s) (j + 1)) i None more)
@@ -201,7 +189,7 @@ module _ (s : State) (is : IsKept s) where
     | inr j ↦ let r = flow_from c tasks f j in (suc r.0, r.1, r.2, r.3, r.4)
   ]
 
-  limits : HaveLimits (flows s.capacities (under_of s).tasks)
+  pub limits : HaveLimits (flows s.capacities (under_of s).tasks)
   limits f there =
       let r = flow_from s.capacities (under_of s).tasks f (In-from_contains (flows s.capacities (under_of s).tasks) f there) in
       let less : r.0 < s.drawn = omega (arith, there_within (under_of s).tasks r.0 r.1 r.2, drawn_told) in
@@ -231,13 +219,5 @@ module _ (s : State) (is : IsKept s) where
           (subst (λ l. Contains l (asked_by s key live)) (mapped_held s.runs) (is_held_lem (map (option_map (λ (r : RunningFlow). r.flow)) s.runs) live.flow (asked_by s key live) (mapped_there s.runs live.flow (run_of s key live) has.runs))))
       cases false empty = sym ((is.each key live at).paced empty)
 
-  wait_by_same : (kind : PhaseKind) (time : Option ℕ) → wait_by kind time ≡ time
-  wait_by_same phase.Latency time = refl
-  wait_by_same phase.Flow time = refl
-  wait_by_same phase.Exec time = refl
-  wait_by_same phase.Timer time = refl
-
-  pub wait_told : IsTrue s.settled → (key : ℕ) (live : Live) → slot_at s.slots key ≡ Some live → wait_in (under_of s) (task_of s key live) ≡ wait live.rate (left_at live.kept live.rate live.stamp s.date)
-  wait_told set key live at =
-      wait_by_same live.kind (wait (rate (under_of s) (task_of s key live)) (left_at live.kept live.rate live.stamp s.date))
-      ∙ ap (λ r. wait r (left_at live.kept live.rate live.stamp s.date)) (rate_told set key live at)
+  pub wait_told : IsTrue s.settled → (key : ℕ) (live : Live) → slot_at s.slots key ≡ Some live → wait_in (under_of s) (task_of s key live) ≡ wait_by live.kind (wait live.rate (left_at live.kept live.rate live.stamp s.date))
+  wait_told set key live at = ap (λ r. wait_by live.kind (wait r (left_at live.kept live.rate live.stamp s.date))) (rate_told set key live at)

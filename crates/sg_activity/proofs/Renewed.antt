@@ -10,29 +10,16 @@ use Rattle.sg_activity.specs.Task.{takes_share}
 use Rattle.sg_activity.specs.kept.Pool.{slot_at}
 use Rattle.sg_activity.specs.kept.Stamps.{left_at}
 use Rattle.sg_activity.specs.kept.Renewal.{IsKeyed, rate_in, is_among, restamped, is_renewed, date_in}
-use Rattle.sg_activity.proofs.Listing.{eq_cases, bool_cases, some_same}
+use Rattle.sg_activity.proofs.Listing.{eq_cases, some_same}
 use Rattle.sg_activity.proofs.Pairing.{there_within}
 use Rattle.sg_activity.proofs.Starts.{set_here, set_there}
-use Rattle.sg_activity.proofs.Told.{in_more, in_last, new_mark}
+use Rattle.sg_activity.proofs.Told.{in_more, in_last, mark_self, mark_other}
 
 pub take_self : (xs : List ℕ) (k : ℕ) → k < length xs → is_in (get_or xs k 0) (take (k + 1) xs) ≡ true
 take_self xs k h = ap (is_in (get_or xs k 0)) (take_more xs k 0 h) ∙ in_last (get_or xs k 0) (take k xs)
 
 pub take_other : (id : ℕ) (xs : List ℕ) (k : ℕ) → k < length xs → id ≢ get_or xs k 0 → is_in id (take (k + 1) xs) ≡ is_in id (take k xs)
 take_other id xs k h ne = ap (is_in id) (take_more xs k 0 h) ∙ in_more (get_or xs k 0) id (take k xs) ne
-
--- ---- sets
-pub mark_self : (number : ℕ) (xs : List ℕ) → is_in number (with_mark number xs) ≡ true
-mark_self number xs = elim (bool_cases (is_in number xs)) [
-  | inl e ↦ (let same : with_mark number xs ≡ xs = rw e refl in ap (is_in number) same ∙ e)
-  | inr e ↦ ap (is_in number) (new_mark number xs e) ∙ in_last number xs
-]
-
-pub mark_other : (number k : ℕ) (xs : List ℕ) → k ≢ number → is_in k (with_mark number xs) ≡ is_in k xs
-mark_other number k xs ne = elim (bool_cases (is_in number xs)) [
-  | inl e ↦ (let same : with_mark number xs ≡ xs = rw e refl in ap (is_in k) same)
-  | inr e ↦ ap (is_in k) (new_mark number xs e) ∙ in_more number k xs ne
-]
 
 -- ---- restamped
 abbrev stamped_at : List (Option RunningFlow) → ℕ → Live → Live

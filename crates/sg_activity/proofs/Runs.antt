@@ -1,43 +1,29 @@
 -- Whether something is under way.
-use Rattle.std.proofs.Common.{◌≡◌, ℕ, zero, suc, ◌+◌, ◌-◌, ◌==◌, ◌<◌, ◌≤◌, ◌⊎◌, inl, inr, true, false, not, cond, ◌||◌, is_some, count_by, Option, None, Some, List, [], ◌∷◌, get_or, refl, sym, ap, ◌∙◌, arith}
+use Rattle.std.proofs.Common.{◌≡◌, ℕ, zero, suc, ◌+◌, ◌-◌, ◌==◌, ◌<◌, ◌≤◌, ◌⊎◌, inl, inr, Bool, true, false, true≢false, not, ◌||◌, count_by, Option, None, Some, List, [], ◌∷◌, get_or, refl, sym, ap, ap₂, ◌∙◌, arith}
 use Rattle.std.specs.List.{list_any}
-use Rattle.std.proofs.lemmas.List.Sums.{sum_by-cons}
-use Rattle.sg_activity.specs.declared.kinds.PhaseKind.{PhaseKind}
-use Rattle.sg_activity.specs.declared.kinds.PhaseKind.TheVariants as phase
-use Rattle.sg_activity.specs.declared.lives.Live.{Live}
 use Rattle.sg_activity.specs.Slots.{passes}
-use Rattle.sg_activity.specs.Task.{Task, goes, goes_by}
+use Rattle.sg_activity.specs.Task.{Task, goes}
 use Rattle.sg_activity.specs.Underway.{is_running}
-use Rattle.sg_activity.specs.kept.Pool.{slot_at}
+use Rattle.sg_activity.specs.kept.Pool.{goes_on, slot_at}
 use Rattle.sg_activity.specs.kept.State.{State, task_of, told_at, told_by, under_of}
 use Rattle.sg_activity.specs.kept.Sound.{IsKept}
 use Rattle.sg_activity.proofs.Listing.{at_listed, past_listed}
-use Rattle.sg_activity.proofs.Lookup.{told_missed}
-use Rattle.sg_activity.proofs.Pooled.{none_counts}
+use Rattle.sg_activity.proofs.Lookup.{sought, told_found, told_missed}
+use Rattle.sg_activity.proofs.Pooled.{none_counts, some_counts}
 use Rattle.sg_activity.proofs.Rates.{task_there}
 
-goes_on : (kind : PhaseKind) → goes_by kind ≡ true
-goes_on phase.Latency = refl
-goes_on phase.Flow = refl
-goes_on phase.Exec = refl
-goes_on phase.Timer = refl
-
-any_none : (xs : List (Option Task)) → ((i : ℕ) → get_or xs i None ≡ None) → list_any (passes goes) xs ≡ false
+any_none : (xs : List (Option Task)) → ((i : ℕ) → passes goes (get_or xs i None) ≡ false) → list_any (passes goes) xs ≡ false
 any_none [] h = refl
-any_none (None ∷ xs) h = any_none xs (λ i. h (suc i))
-any_none (Some t ∷ xs) h = absurd (cc (h 0))
+any_none (x ∷ xs) h = ap₂ (λ a b. a || b) (h 0) (any_none xs (λ i. h (suc i)))
 
-any_there : (xs : List (Option Task)) (i : ℕ) (t : Task) → get_or xs i None ≡ Some t → list_any (passes goes) xs ≡ true
-any_there [] i t e = absurd (cc e)
-any_there (None ∷ xs) zero t e = absurd (cc e)
-any_there (None ∷ xs) (suc i) t e = any_there xs i t e
-any_there (Some u ∷ xs) zero t e = ap (λ b. b || list_any (passes goes) xs) (goes_on u.kind)
-any_there (Some u ∷ xs) (suc i) t e = ap (λ b. b || list_any (passes goes) xs) (goes_on u.kind)
-
-some_there : (slots : List (Option Live)) → 0 < count_by is_some slots → (k : ℕ) × (live : Live) × (slot_at slots k ≡ Some live)
-some_there [] h = absurd (omega (arith, h))
-some_there (None ∷ slots) h = let r = some_there slots (omega (arith, h, sum_by-cons (λ (o : Option Live). cond (is_some o) 1 0) None slots)) in (suc r.0, r.1, r.2)
-some_there (Some live ∷ slots) h = (0, live, refl)
+any_there : (xs : List (Option Task)) (i : ℕ) → passes goes (get_or xs i None) ≡ true → list_any (passes goes) xs ≡ true
+any_there [] i e = absurd (true≢false (sym e))
+any_there (x ∷ xs) zero e = ap (λ b. b || list_any (passes goes) xs) e
+any_there (x ∷ xs) (suc i) e = ap (λ b. passes goes x || b) (any_there xs i e) ∙ or_true (passes goes x)
+  where
+    or_true : (b : Bool) → (b || true) ≡ true
+    or_true true = refl
+    or_true false = refl
 
 zero_or : (n : ℕ) → (n ≡ 0) ⊎ (0 < n)
 zero_or n = grind arith
@@ -51,16 +37,19 @@ eqb_no n h = grind arith
 less_or : (i n : ℕ) → (i < n) ⊎ (n ≤ i)
 less_or i n = grind arith
 
-pub any_told : (s : State) → IsKept s → not (count_by is_some s.slots == 0) ≡ is_running (under_of s)
-any_told s is = elim (zero_or (count_by is_some s.slots)) [
+pub any_told : (s : State) → IsKept s → not (count_by (passes goes_on) s.slots == 0) ≡ is_running (under_of s)
+any_told s is = elim (zero_or (count_by (passes goes_on) s.slots)) [
   | inl none ↦
       let idle = none_counts s.slots none in
-      eqb_yes (count_by is_some s.slots) none
+      eqb_yes (count_by (passes goes_on) s.slots) none
       ∙ sym (any_none (told_by (task_of s) s) (λ i. elim (less_or i s.drawn) [
-        | inl less ↦ at_listed s.drawn (λ j. told_at (task_of s) s.slots (j + 1)) i None less ∙ told_missed (task_of s) s.slots (i + 1) (λ k live at. absurd (cc (sym (idle k) ∙ at)))
-        | inr more ↦ past_listed s.drawn (λ j. told_at (task_of s) s.slots (j + 1)) i None more
+        | inl less ↦ ap (passes goes) (at_listed s.drawn (λ j. told_at (task_of s) s.slots (j + 1)) i None less) ∙ elim (sought s.slots (i + 1)) [
+          | inl f ↦ ap (passes goes) (told_found (task_of s) s.slots (i + 1) f.key f.live is.apart f.at f.is) ∙ sym (ap (passes goes_on) f.at) ∙ idle f.key
+          | inr missing ↦ ap (passes goes) (told_missed (task_of s) s.slots (i + 1) missing)
+        ]
+        | inr more ↦ ap (passes goes) (past_listed s.drawn (λ j. told_at (task_of s) s.slots (j + 1)) i None more)
       ]))
   | inr some ↦
-      let r = some_there s.slots some in
-      eqb_no (count_by is_some s.slots) some ∙ sym (any_there (told_by (task_of s) s) (r.1.serial - 1) (task_of s r.0 r.1) (task_there s is r.0 r.1 r.2))
+      let r = some_counts s.slots some in
+      eqb_no (count_by (passes goes_on) s.slots) some ∙ sym (any_there (told_by (task_of s) s) (r.1.serial - 1) (ap (passes goes) (task_there s is r.0 r.1 r.2) ∙ r.3))
 ]

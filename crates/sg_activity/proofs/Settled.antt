@@ -1,5 +1,5 @@
 -- The rates are brought up to date: all stays of one mind, and what is left of each activity is told as before.
-use Rattle.std.proofs.Common.{◌≡◌, ℕ, ◌+◌, ◌-◌, ◌*◌, ◌^◌, ◌<◌, ◌≤◌, ◌⊎◌, inl, inr, Bool, true, false, cond, ◌||◌, ◌&&◌, true≢false, Option, None, Some, option_map, List, [], ◌∷◌, length, get_or, slice_index, sum_by, All, IsTrue, IsSome, refl, sym, ap, ap₂, subst, ◌∙◌, arith}
+use Rattle.std.proofs.Common.{◌≡◌, ℕ, zero, suc, map, replicate, option_and_then, ◌+◌, ◌-◌, ◌*◌, ◌^◌, ◌<◌, ◌≤◌, ◌⊎◌, inl, inr, Bool, true, false, cond, ◌||◌, ◌&&◌, true≢false, Option, None, Some, option_map, List, [], ◌∷◌, length, get_or, slice_index, sum_by, All, IsTrue, IsSome, refl, sym, ap, ap₂, subst, ◌∙◌, arith}
 use Rattle.std.specs.List.{list_any}
 use Rattle.std.specs.Option.{IfSome}
 use Rattle.sg_base.specs.declared.ids.LinkId.{LinkId}
@@ -15,16 +15,23 @@ use Rattle.sg_activity.specs.Underway.{wait, settled}
 use Rattle.sg_activity.specs.Doing.{settled_in}
 use Rattle.sg_activity.specs.kept.Stamps.{left_at, due_of}
 use Rattle.sg_activity.specs.kept.Pool.{Pool, slot_at}
-use Rattle.sg_activity.specs.kept.State.{State, links_at, task_from, task_of, asked_by, date_of, told_at, told_by, under_of, doing_of}
+use Rattle.sg_activity.specs.kept.State.{State, links_at, task_from, task_of, asked_by, date_of, is_so, key_from, told_at, told_by, began_at, began_by, under_of, doing_of}
 use Rattle.sg_activity.specs.kept.Sound.{IsHeld, AreApart, IsKept, slot_ahead, place_at, run_of}
 use Rattle.sg_activity.specs.Task.{flows_ahead}
 use Rattle.sg_activity.specs.kept.Renewal.{IsKeyed, HaveKeys, rate_in, is_among, restamped, is_renewed, AreRestamped, AreSmall, date_in, AreRenewed}
-use Rattle.sg_activity.proofs.Listing.{eq_cases, some_same, same_listed}
+use Rattle.sg_activity.proofs.Listing.{eq_cases, length-listed, some_same, same_listed}
+use Rattle.sg_activity.specs.Slots.{listed, passes}
+use Rattle.sg_activity.proofs.Stamps.{fresh_in_time}
 use Rattle.sg_activity.proofs.Lookup.{told_alike}
 use Rattle.std.proofs.lemmas.List.{get_or_default}
 use Rattle.sg_activity.proofs.Pairing.{sum_alike}
 use Rattle.sg_activity.proofs.Pooled.{within_there}
 use Rattle.sg_activity.proofs.Told.{member_at, doing_same, made_same}
+
+mapped_false : (n : ℕ) (f : ℕ → Option Bool) → ((i : ℕ) → passes is_so (f i) ≡ false) → map (passes is_so) (listed n f) ≡ replicate n false
+unfolding listed
+mapped_false zero f h = refl
+mapped_false (suc n) f h = ap₂ (λ b l. b ∷ l) (h 0) (mapped_false n (λ i. f (suc i)) (λ i. h (suc i)))
 
 -- no capacity changed, and so no bound
 never_bound : (capacities : Capacities) (links : List LinkId) → list_any (λ (link : LinkId). (link_at capacities.links link).fatpipe && false) links ≡ false
@@ -39,13 +46,6 @@ pub never_rebound : (capacities : Capacities) (place : Place) → is_rebound_at 
 never_rebound capacities nowhere = refl
 never_rebound capacities (on_host host) = refl
 never_rebound capacities (over way) = never_bound capacities way.links
-
-pub fresh_in_time : (date rate kept : ℕ) → IfSome (due_of date kept rate) (λ due. date ≤ due)
-fresh_in_time date rate kept = go (wait rate kept)
-  where
-    go : (o : Option ℕ) → IfSome (option_map (λ span. date + span) o) (λ due. date ≤ due)
-    go None = tt
-    go (Some span) = omega arith
 
 -- an activity that was there before it was restamped, and which of the two it is
 pub record WasStamped (flows : List ℕ) (runs : List (Option RunningFlow)) (date : ℕ) (slots : List (Option Live)) (key : ℕ) (live : Live) : Type 0 where
@@ -153,7 +153,7 @@ module _ (s : State) (lazy new : Lazily) (pool : Pool) (marks more : MarkSet) (k
               from = h.from;
               to = h.to;
               stamped = omega arith;
-              in_time = fresh_in_time s.date (rate_in (running_at new.slots w.old.flow)) (left_at w.old.kept w.old.rate w.old.stamp s.date);
+              in_time = fresh_in_time w.old.kind s.date (rate_in (running_at new.slots w.old.flow)) (left_at w.old.kept w.old.rate w.old.stamp s.date);
               small = omega (arith, h.small);
               few_bytes = h.few_bytes;
               weighs = h.weighs;
@@ -264,15 +264,28 @@ module _ (s : State) (lazy new : Lazily) (pool : Pool) (marks more : MarkSet) (k
       go true = ap (λ n. record (task_from s.date links live) { left = n }) (same (left_at live.kept live.rate live.stamp s.date) (rate_in (running_at new.slots live.flow)))
       go false = refl
 
+  none_began : began_by settled_state ≡ replicate (length (told_by (task_of s) s)) false
+  none_began =
+      mapped_false s.drawn (λ i. told_at (began_at []) pool.slots (i + 1)) (λ i. not_so (key_from 0 (i + 1) pool.slots))
+      ∙ ap (λ n. replicate n false) (sym (length-listed s.drawn (λ i. told_at (task_of s) s.slots (i + 1))))
+    where
+      some_so : (o : Option Live) → passes is_so (option_map (λ live. false) o) ≡ false
+      some_so None = refl
+      some_so (Some live) = refl
+
+      not_so : (o : Option ℕ) → passes is_so (option_and_then (λ key. option_map (began_at [] key) (slot_at pool.slots key)) o) ≡ false
+      not_so None = refl
+      not_so (Some key) = some_so (slot_at pool.slots key)
+
   pub settled_told : (room : ℕ) → doing_of settled_state room ≡ settled_in (doing_of s room)
   settled_told room =
       doing_same (under_of settled_state) (settled (under_of s)) [] [] true true room room
-      (made_same s.date s.date s.capacities s.capacities s.on s.on (told_by (task_of settled_state) settled_state) (told_by (task_of s) s) [] [] new.ended [] new.resources [] refl refl refl
+      (made_same s.date s.date s.capacities s.capacities s.on s.on (told_by (task_of settled_state) settled_state) (told_by (task_of s) s) (began_by settled_state) (replicate (length (told_by (task_of s) s)) false) new.ended [] new.resources [] refl refl refl
       (same_listed s.drawn (λ i. told_at (task_of settled_state) pool.slots (i + 1)) (λ i. told_at (task_of s) s.slots (i + 1)) (λ i less.
       told_alike (task_of s) (task_of settled_state) s.slots pool.slots (i + 1) is.apart apart
       (λ f. (restamped new.changed new.slots s.date f.live, there_now f.key f.live f.at, serial_stamped new.changed new.slots s.date f.live ∙ f.is, left_now (links_at s.ways f.key) f.live))
       (λ f. let w = was_at f.key f.live f.at in record { key = f.key; live = w.old; at = w.there; is = serial_was f.key f.live w ∙ f.is })))
-      refl by.none_ended by.no_resources) refl refl refl
+      none_began by.none_ended by.no_resources) refl refl refl
 
 -- ---- before
 pub keyed_flows : (s : State) (lazy new : Lazily) → IsKept s → lazy.slots ≡ s.runs → IsSettled lazy new → HaveKeys s.slots s.by_flow new s.date
@@ -322,15 +335,15 @@ renewed_there : (flows : List ℕ) (o : Option Live) → is_renewed flows o ≡ 
 renewed_there flows None e = absurd (true≢false (sym e))
 renewed_there flows (Some live) e = refl
 
--- each key that is to be dated anew has an activity
+-- each key that is to be dated anew is one
 pub marked_below : (s : State) (flows members : List ℕ) (slots : List (Option Live)) → IsKept s → ((key : ℕ) → is_in key members ≡ (is_in key s.fresh || is_renewed flows (slot_at s.slots key))) → length slots ≡ length s.slots → All (λ key. key < length slots) members
 marked_below s flows members slots is marked long k d within =
     let key = get_or members k 0 in
-    let there : IsSome (slot_at s.slots key) = elim (or_cases (is_in key s.fresh) (is_renewed flows (slot_at s.slots key)) (sym (marked key) ∙ member_at members k within)) [
+    let there : key < length s.slots = elim (or_cases (is_in key s.fresh) (is_renewed flows (slot_at s.slots key)) (sym (marked key) ∙ member_at members k within)) [
       | inl e ↦ is.fresh key e
-      | inr e ↦ renewed_there flows (slot_at s.slots key) e
+      | inr e ↦ within_there s.slots key (renewed_there flows (slot_at s.slots key) e)
     ] in
-    let less : key < length slots = omega (arith, within_there s.slots key there, long) in
+    let less : key < length slots = omega (arith, there, long) in
     subst (λ n. n < length slots) (get_or_default members k 0 d within) less
 
 ahead_same : (flows : List ℕ) (runs : List (Option RunningFlow)) (date : ℕ) (o : Option Live) → slot_ahead (option_map (restamped flows runs date) o) ≡ slot_ahead o

@@ -8,14 +8,13 @@ use Rattle.sg_maxmin.specs.Sharing.{HasLimit}
 use Rattle.sg_lazy.specs.RunningFlow.{RunningFlow, running_at}
 use Rattle.sg_activity.specs.declared.lives.Live.{Live}
 use Rattle.sg_activity.specs.Task.{takes_share, pace, is_rebound_at}
-use Rattle.sg_activity.specs.kept.Stamps.{due_of}
 use Rattle.sg_activity.specs.kept.Pool.{slot_at}
-use Rattle.sg_activity.specs.kept.State.{State, task_of, asked_by, date_of, dated, told_at}
+use Rattle.sg_activity.specs.kept.State.{State, task_of, asked_by, date_of, dated, due_at, told_at}
 use Rattle.sg_activity.specs.kept.Sound.{IsPlace, IsHeld, IsFlowOf, IsKept, place_at}
 use Rattle.sg_activity.proofs.Listing.{some_same}
 use Rattle.sg_activity.proofs.Lookup.{told_none}
 use Rattle.sg_activity.proofs.Pairing.{set_cases}
-use Rattle.sg_activity.proofs.Settled.{fresh_in_time}
+use Rattle.sg_activity.proofs.Stamps.{fresh_in_time}
 use Rattle.sg_activity.proofs.Turned.{not_there}
 
 -- a phase that begins now isn't dated yet
@@ -29,7 +28,7 @@ held_unfilled new key live empty from to stamp rate small bytes weighs placed fr
   from = from;
   to = to;
   stamped = omega (arith, stamp);
-  in_time = subst (λ n. IfSome (due_of live.stamp live.kept live.rate) (λ due. n ≤ due)) stamp (fresh_in_time live.stamp live.rate live.kept);
+  in_time = subst (λ n. IfSome (due_at live) (λ due. n ≤ due)) stamp (fresh_in_time live.kind live.stamp live.rate live.kept);
   small = small;
   few_bytes = bytes;
   weighs = weighs;
@@ -46,7 +45,7 @@ held_filled new key live full from to stamp small bytes weighs runs limit placed
   from = from;
   to = to;
   stamped = omega (arith, stamp);
-  in_time = subst (λ n. IfSome (due_of live.stamp live.kept live.rate) (λ due. n ≤ due)) stamp (fresh_in_time live.stamp live.rate live.kept);
+  in_time = subst (λ n. IfSome (due_at live) (λ due. n ≤ due)) stamp (fresh_in_time live.kind live.stamp live.rate live.kept);
   small = small;
   few_bytes = bytes;
   weighs = weighs;

@@ -1,21 +1,21 @@
 -- What is kept stands for what the definitions say, as a phase comes, as one follows another and as one goes.
 use Rattle.std.proofs.Common.{◌≡◌, ◌≢◌, ℕ, zero, suc, ◌+◌, ◌-◌, ◌==◌, ◌<◌, ◌≤◌, inl, inr, Bool, true, false, cond, ◌||◌, true≢false, is_some, Option, None, Some, option_to_list, List, [], ◌∷◌, ◌++◌, length, map, set, get_or, IsTrue, refl, sym, ap, ap₂, ◌∙◌, arith}
-use Rattle.std.proofs.lemmas.List.{map-append, append-nil}
+use Rattle.std.proofs.lemmas.List.{map-append, map-set, append-nil}
 use Rattle.std.proofs.lemmas.List.Folds.{list_any-append}
 use Rattle.sg_base.specs.MarkSet.{is_in, with_mark}
 use Rattle.sg_maxmin.specs.Fill.{Flow}
 use Rattle.sg_activity.specs.declared.lives.Live.{Live}
 use Rattle.sg_activity.specs.Links.{Capacities, Switches}
-use Rattle.sg_activity.specs.Slots.{serials}
+use Rattle.sg_activity.specs.Slots.{passes, serials}
 use Rattle.sg_activity.specs.Task.{Task, flow_in, task_at}
 use Rattle.sg_activity.specs.Underway.{Underway, started, drawn, with_task}
 use Rattle.sg_activity.specs.Doing.{Doing, started_in, begun_in}
 use Rattle.sg_activity.specs.kept.Pool.{slot_at}
-use Rattle.sg_activity.specs.kept.State.{State, task_of, is_now, is_so, serial_in, serial_at, told_at, told_by, under_of, doing_of}
+use Rattle.sg_activity.specs.kept.State.{State, task_of, is_now, is_so, told_at, told_by, began_at, began_by, under_of, doing_of}
 use Rattle.sg_activity.specs.kept.Sound.{IsKept}
 use Rattle.sg_activity.specs.kept.Turns.{Turns}
 use Rattle.sg_activity.proofs.Listing.{bool_cases, length-listed, at_listed}
-use Rattle.sg_activity.proofs.Turned.{not_there, told_here, tasks_set, tasks_pushed, due_pushed, due_stays, map_in}
+use Rattle.sg_activity.proofs.Turned.{told_here, told_gone, told_set, told_pushed, tasks_set, tasks_pushed, due_pushed, due_stays}
 
 -- ---- marks
 pub new_mark : (number : ℕ) (xs : List ℕ) → is_in number xs ≡ false → with_mark number xs ≡ xs ++ number ∷ []
@@ -52,18 +52,23 @@ member_at (x ∷ xs) (suc k) h = later (get_or xs k 0) x xs (member_at xs k (ome
     later : (y x : ℕ) (xs : List ℕ) → is_in y xs ≡ true → is_in y (x ∷ xs) ≡ true
     later y x xs i = grind arith
 
--- a key without an activity isn't marked
-pub unmarked : (s : State) (key : ℕ) → IsKept s → slot_at s.slots key ≡ None → is_in key s.fresh ≡ false
-unmarked s key is none = elim (bool_cases (is_in key s.fresh)) [
-  | inl e ↦ absurd (not_there (slot_at s.slots key) (is.fresh key e) none)
-  | inr e ↦ e
+pub mark_self : (number : ℕ) (xs : List ℕ) → is_in number (with_mark number xs) ≡ true
+mark_self number xs = elim (bool_cases (is_in number xs)) [
+  | inl e ↦ (let same : with_mark number xs ≡ xs = rw e refl in ap (is_in number) same ∙ e)
+  | inr e ↦ ap (is_in number) (new_mark number xs e) ∙ in_last number xs
+]
+
+pub mark_other : (number k : ℕ) (xs : List ℕ) → k ≢ number → is_in k (with_mark number xs) ≡ is_in k xs
+mark_other number k xs ne = elim (bool_cases (is_in number xs)) [
+  | inl e ↦ (let same : with_mark number xs ≡ xs = rw e refl in ap (is_in k) same)
+  | inr e ↦ ap (is_in k) (new_mark number xs e) ∙ in_more number k xs ne
 ]
 
 -- ---- records
-abbrev pub made : ℕ → Capacities → Switches → List (Option Task) → List ℕ → List Flow → List ℕ → Underway
-made date capacities on tasks began ended resources = record { date = date; capacities = capacities; on = on; tasks = tasks; marks = record { began = began; ended = ended; resources = resources } }
+abbrev pub made : ℕ → Capacities → Switches → List (Option Task) → List Bool → List Flow → List ℕ → Underway
+made date capacities on tasks began ended resources = record { date = date; capacities = capacities; on = on; tasks = tasks; marks = record { began = began; ended = ended; resources = resources }; energy = [] }
 
-pub made_same : (d d' : ℕ) (c c' : Capacities) (o o' : Switches) (t t' : List (Option Task)) (b b' : List ℕ) (e e' : List Flow) (f f' : List ℕ) → d ≡ d' → c ≡ c' → o ≡ o' → t ≡ t' → b ≡ b' → e ≡ e' → f ≡ f' → made d c o t b e f ≡ made d' c' o' t' b' e' f'
+pub made_same : (d d' : ℕ) (c c' : Capacities) (o o' : Switches) (t t' : List (Option Task)) (b b' : List Bool) (e e' : List Flow) (f f' : List ℕ) → d ≡ d' → c ≡ c' → o ≡ o' → t ≡ t' → b ≡ b' → e ≡ e' → f ≡ f' → made d c o t b e f ≡ made d' c' o' t' b' e' f'
 made_same d d' c c' o o' t t' b b' e e' f f' p q z r u v w =
     ap (λ x. made x c o t b e f) p ∙ ap (λ x. made d' x o t b e f) q ∙ ap (λ x. made d' c' x t b e f) z ∙ ap (λ x. made d' c' o' x b e f) r ∙ ap (λ x. made d' c' o' t' x e f) u ∙ ap (λ x. made d' c' o' t' b' x f) v ∙ ap (λ x. made d' c' o' t' b' e' x) w
 
@@ -80,46 +85,49 @@ task_told s serial from to =
     at_listed s.drawn (λ i. told_at (task_of s) s.slots (i + 1)) (serial - 1) None (omega (arith, from, to)) ∙ ap (told_at (task_of s) s.slots) back
 
 module _ (s new : State) (key serial : ℕ) (slot : Option Live) (is : IsKept s) (by : Turns s new key serial slot) where
-  serials_elsewhere : (k : ℕ) → k ≢ key → serial_at new.slots k ≡ serial_at s.slots k
-  serials_elsewhere k ne = ap serial_in (by.others k ne)
+  -- by serial what began
+  pub began_set : new.drawn ≡ s.drawn → 0 < serial → serial ≤ s.drawn → began_by new ≡ set (began_by s) (serial - 1) (passes is_so (told_at (began_at new.fresh) new.slots serial))
+  began_set drawn from to =
+      ap (map (passes is_so)) (told_set s new key serial slot is by (began_at s.fresh) (began_at new.fresh) drawn from to (λ k live ne at. by.fresh k ne))
+      ∙ map-set (passes is_so) (told_by (began_at s.fresh) s) (serial - 1) (told_at (began_at new.fresh) new.slots serial)
 
-  not_marked : is_in key s.fresh ≡ false → (k : ℕ) → IsTrue (is_in k s.fresh) → k ≢ key
-  not_marked not k there e = true≢false (sym there ∙ ap (λ n. is_in n s.fresh) e ∙ not)
+  began_pushed : new.drawn ≡ s.drawn + 1 → serial ≡ s.drawn + 1 → began_by new ≡ began_by s ++ passes is_so (told_at (began_at new.fresh) new.slots serial) ∷ []
+  began_pushed drawn is_next =
+      ap (map (passes is_so)) (told_pushed s new key serial slot is by (began_at s.fresh) (began_at new.fresh) drawn is_next (λ k live ne at. by.fresh k ne))
+      ∙ map-append (passes is_so) (told_by (began_at s.fresh) s) (told_at (began_at new.fresh) new.slots serial ∷ [])
 
-  pub began_same : is_in key s.fresh ≡ false → new.fresh ≡ s.fresh → map (serial_at new.slots) new.fresh ≡ map (serial_at s.slots) s.fresh
-  began_same not same = ap (map (serial_at new.slots)) same ∙ map_in (serial_at new.slots) (serial_at s.slots) s.fresh (λ k there. serials_elsewhere k (not_marked not k there))
+  pub began_here : (live : Live) → slot ≡ Some live → is_in key new.fresh ≡ true → passes is_so (told_at (began_at new.fresh) new.slots serial) ≡ true
+  began_here live e fresh = ap (passes is_so) (told_here s new key serial slot is by (began_at new.fresh) live e) ∙ fresh
 
-  pub began_more : (live : Live) → slot ≡ Some live → is_in key s.fresh ≡ false → new.fresh ≡ s.fresh ++ key ∷ [] → map (serial_at new.slots) new.fresh ≡ map (serial_at s.slots) s.fresh ++ serial ∷ []
-  began_more live e not more =
-      ap (map (serial_at new.slots)) more ∙ map-append (serial_at new.slots) s.fresh (key ∷ [])
-      ∙ ap₂ (λ l n. l ++ n ∷ []) (map_in (serial_at new.slots) (serial_at s.slots) s.fresh (λ k there. serials_elsewhere k (not_marked not k there))) (ap serial_in (by.here ∙ e) ∙ by.is live e)
+  pub began_gone : slot ≡ None → passes is_so (told_at (began_at new.fresh) new.slots serial) ≡ false
+  began_gone e = ap (passes is_so) (told_gone s new key serial slot is by (began_at new.fresh) e)
 
   -- the next serial begins
-  pub started_told : (live : Live) (room : ℕ) → slot ≡ Some live → new.drawn ≡ s.drawn + 1 → serial ≡ s.drawn + 1 → slot_at s.slots key ≡ None → new.fresh ≡ s.fresh ++ key ∷ [] → new.ended ≡ s.ended →
-      doing_of new (room - 1) ≡ started_in (task_of new key live) (doing_of s room)
-  started_told live room e drawn is_next none fresh ended =
-      let count : s.drawn + 1 ≡ length (told_by (task_of s) s) + 1 = ap (λ n. n + 1) (sym (length-listed s.drawn (λ i. told_at (task_of s) s.slots (i + 1)))) in
+  pub started_told : (live : Live) (room : ℕ) → slot ≡ Some live → new.drawn ≡ s.drawn + 1 → serial ≡ s.drawn + 1 → is_in key new.fresh ≡ true → new.ended ≡ s.ended → doing_of new (room - 1) ≡ started_in (task_of new key live) (doing_of s room)
+  started_told live room e drawn is_next fresh ended =
       let under : under_of new ≡ started (task_of new key live) (under_of s) =
-      made_same new.date s.date new.capacities s.capacities new.on s.on (told_by (task_of new) new) (told_by (task_of s) s ++ Some (task_of new key live) ∷ []) (map (serial_at new.slots) new.fresh) (map (serial_at s.slots) s.fresh ++ (length (told_by (task_of s) s) + 1) ∷ []) new.ended s.ended new.resources s.resources by.date by.capacities by.on
+      made_same new.date s.date new.capacities s.capacities new.on s.on (told_by (task_of new) new) (told_by (task_of s) s ++ Some (task_of new key live) ∷ []) (began_by new) (began_by s ++ true ∷ []) new.ended s.ended new.resources s.resources by.date by.capacities by.on
       (tasks_pushed s new key serial slot is by drawn is_next ∙ ap (λ o. told_by (task_of s) s ++ o ∷ []) (told_here s new key serial slot is by (task_of new) live e))
-      (began_more live e (unmarked s key is none) fresh ∙ ap (λ n. map (serial_at s.slots) s.fresh ++ n ∷ []) (is_next ∙ count)) ended by.resources in
+      (began_pushed drawn is_next ∙ ap (λ b. began_by s ++ b ∷ []) (began_here live e fresh)) ended by.resources in
       doing_same (under_of new) (started (task_of new key live) (under_of s)) (cond new.arrived (serials is_so 1 (told_by (is_now new) new)) []) (cond s.arrived (serials is_so 1 (told_by (is_now s) s)) []) new.settled false (room - 1) (room - 1) under
       (ap₂ (λ b l. cond b l []) by.arrived (due_pushed s new key serial slot is by drawn is_next)) by.unsettled refl
 
   -- under a serial that was drawn another phase is under way, or none
-  pub under_set : (x : Option Task) → new.drawn ≡ s.drawn → 0 < serial → serial ≤ s.drawn → told_at (task_of new) new.slots serial ≡ x →
-      map (serial_at new.slots) new.fresh ≡ cond (is_some x) (map (serial_at s.slots) s.fresh ++ serial ∷ []) (map (serial_at s.slots) s.fresh) →
+  pub under_set : (x : Option Task) → new.drawn ≡ s.drawn → 0 < serial → serial ≤ s.drawn → told_at (task_of new) new.slots serial ≡ x → (is_some (told_at (task_of s) s.slots serial) || is_some x) ≡ true → passes is_so (told_at (began_at new.fresh) new.slots serial) ≡ is_some x →
       new.ended ≡ s.ended ++ option_to_list (flow_in s.capacities (told_at (task_of s) s.slots serial)) → under_of new ≡ with_task serial x (under_of s)
-  under_set x drawn from to told began ended =
-      made_same new.date s.date new.capacities s.capacities new.on s.on (told_by (task_of new) new) (set (told_by (task_of s) s) (serial - 1) x) (map (serial_at new.slots) new.fresh) (cond (is_some x) (map (serial_at s.slots) s.fresh ++ serial ∷ []) (map (serial_at s.slots) s.fresh))
-      new.ended (s.ended ++ option_to_list (flow_in s.capacities (task_at (told_by (task_of s) s) serial))) new.resources s.resources by.date by.capacities by.on
-      (tasks_set s new key serial slot is by drawn from to ∙ ap (set (told_by (task_of s) s) (serial - 1)) told) began
+  under_set x drawn from to told some began ended =
+      let before = task_at (told_by (task_of s) s) serial in
+      made_same new.date s.date new.capacities s.capacities new.on s.on (told_by (task_of new) new) (set (told_by (task_of s) s) (serial - 1) x) (began_by new) (cond (is_some before || is_some x) (set (began_by s) (serial - 1) (is_some x)) (began_by s))
+      new.ended (s.ended ++ option_to_list (flow_in s.capacities before)) new.resources s.resources by.date by.capacities by.on
+      (tasks_set s new key serial slot is by drawn from to ∙ ap (set (told_by (task_of s) s) (serial - 1)) told)
+      (began_set drawn from to ∙ ap (set (began_by s) (serial - 1)) began
+      ∙ sym (ap (λ b. cond b (set (began_by s) (serial - 1) (is_some x)) (began_by s)) (ap (λ o. is_some o || is_some x) (task_told s serial from to) ∙ some)))
       (ended ∙ ap (λ o. s.ended ++ option_to_list (flow_in s.capacities o)) (sym (task_told s serial from to))) by.resources
 
-  pub begun_told : (live : Live) (room : ℕ) → slot ≡ Some live → new.drawn ≡ s.drawn → 0 < serial → serial ≤ s.drawn → told_at (task_of s) s.slots serial ≡ None → slot_at s.slots key ≡ None → new.fresh ≡ s.fresh ++ key ∷ [] → new.ended ≡ s.ended →
+  pub begun_told : (live : Live) (room : ℕ) → slot ≡ Some live → new.drawn ≡ s.drawn → 0 < serial → serial ≤ s.drawn → told_at (task_of s) s.slots serial ≡ None → slot_at s.slots key ≡ None → is_in key new.fresh ≡ true → new.ended ≡ s.ended →
       doing_of new (room - 1) ≡ begun_in serial (task_of new key live) (doing_of s room)
   begun_told live room e drawn from to idle none fresh ended =
       doing_same (under_of new) (with_task serial (Some (task_of new key live)) (under_of s)) (cond new.arrived (serials is_so 1 (told_by (is_now new) new)) []) (cond s.arrived (serials is_so 1 (told_by (is_now s) s)) []) new.settled false (room - 1) (room - 1)
-      (under_set (Some (task_of new key live)) drawn from to (told_here s new key serial slot is by (task_of new) live e) (began_more live e (unmarked s key is none) fresh)
+      (under_set (Some (task_of new key live)) drawn from to (told_here s new key serial slot is by (task_of new) live e) (ap (λ o. is_some o || true) idle) (began_here live e fresh)
       (ended ∙ sym (append-nil s.ended) ∙ ap (λ o. s.ended ++ option_to_list (flow_in s.capacities o)) (sym idle)))
       (ap₂ (λ b l. cond b l []) by.arrived (due_stays s new key serial slot is by drawn from to none)) by.unsettled refl

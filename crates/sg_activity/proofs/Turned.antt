@@ -9,14 +9,13 @@ use Rattle.sg_activity.specs.declared.lives.Live.{Live}
 use Rattle.sg_activity.specs.Links.{Capacities}
 use Rattle.sg_activity.specs.Slots.{listed, passes, serials}
 use Rattle.sg_activity.specs.Task.{takes_share, flow_of, is_rebound_at}
-use Rattle.sg_activity.specs.kept.Pool.{slot_at}
-use Rattle.sg_activity.specs.kept.State.{State, links_at, place_of, task_from, task_of, asked_by, date_of, is_now, is_dated, is_so, told_at, told_by}
+use Rattle.sg_activity.specs.kept.Pool.{IsMissing, slot_at}
+use Rattle.sg_activity.specs.kept.State.{State, links_at, place_of, task_from, task_of, asked_by, date_of, due_at, is_now, is_dated, is_so, told_at, told_by}
 use Rattle.sg_activity.specs.kept.Sound.{IsPlace, IsHeld, AreApart, IsKept, place_at}
 use Rattle.sg_activity.specs.kept.Turns.{Turns}
 use Rattle.std.specs.Option.{IfSome}
-use Rattle.sg_activity.specs.kept.Stamps.{due_of}
 use Rattle.sg_activity.proofs.Listing.{eq_cases, same_listed, set_listed, listed_more, at_listed}
-use Rattle.sg_activity.proofs.Lookup.{IsMissing, told_found, told_missed, told_alike}
+use Rattle.sg_activity.proofs.Lookup.{told_found, told_missed, told_alike}
 use Rattle.sg_activity.proofs.Serials.{serials_push, serials_set}
 
 pub not_there : {X : Type 0} (o : Option X) → IsSome o → o ≡ None → ⊥
@@ -39,7 +38,7 @@ held_still s new k live caps resources date drawn ways keys fresh long flows is 
       from = is.from;
       to = omega (arith, is.to, drawn);
       stamped = omega (arith, is.stamped, date);
-      in_time = subst (λ n. IfSome (due_of live.stamp live.kept live.rate) (λ due. n ≤ due)) (sym date) is.in_time;
+      in_time = subst (λ n. IfSome (due_at live) (λ due. n ≤ due)) (sym date) is.in_time;
       small = is.small;
       few_bytes = is.few_bytes;
       weighs = is.weighs;
@@ -85,8 +84,8 @@ turned s new key serial slot is by = record {
   apart = turned_apart s new key serial slot is by;
   back = by.back;
   fresh = λ k marked. elim (eq_cases k key) [
-    | inl e ↦ subst (λ o. IsSome o) (sym (ap (slot_at new.slots) e ∙ by.here)) (by.marked (sym (ap (λ n. is_in n new.fresh) e) ∙ marked))
-    | inr ne ↦ subst (λ o. IsSome o) (sym (by.others k ne)) (is.fresh k (sym (by.fresh k ne) ∙ marked))
+    | inl e ↦ omega (arith, e, by.within)
+    | inr ne ↦ omega (arith, is.fresh k (sym (by.fresh k ne) ∙ marked), by.longer)
   ];
   none_fresh = λ set. absurd (true≢false (sym set ∙ by.unsettled));
   rates = λ set. absurd (true≢false (sym set ∙ by.unsettled));
@@ -152,33 +151,24 @@ module _ (s new : State) (key serial : ℕ) (slot : Option Live) (is : IsKept s)
   pub due_pushed : new.drawn ≡ s.drawn + 1 → serial ≡ s.drawn + 1 → serials is_so 1 (told_by (is_now new) new) ≡ serials is_so 1 (told_by (is_now s) s)
   due_pushed drawn is_next = ap (serials is_so 1) (told_pushed (is_now s) (is_now new) drawn is_next now_elsewhere) ∙ serials_push is_so 1 (told_by (is_now s) s) (told_at (is_now new) new.slots serial) not_now
 
-  pub due_stays : new.drawn ≡ s.drawn → 0 < serial → serial ≤ s.drawn → slot_at s.slots key ≡ None → serials is_so 1 (told_by (is_now new) new) ≡ serials is_so 1 (told_by (is_now s) s)
-  due_stays drawn from to none =
+  -- nothing was due at the serial
+  pub due_still : new.drawn ≡ s.drawn → 0 < serial → serial ≤ s.drawn → passes is_so (told_at (is_now s) s.slots serial) ≡ false → serials is_so 1 (told_by (is_now new) new) ≡ serials is_so 1 (told_by (is_now s) s)
+  due_still drawn from to nothing =
       ap (serials is_so 1) (due_set drawn from to)
-      ∙ serials_set is_so 1 (told_by (is_now s) s) (serial - 1) (told_at (is_now new) new.slots serial) (ap (passes is_so) nothing) not_now
+      ∙ serials_set is_so 1 (told_by (is_now s) s) (serial - 1) (told_at (is_now new) new.slots serial)
+      (ap (passes is_so) (at_listed s.drawn (λ i. told_at (is_now s) s.slots (i + 1)) (serial - 1) None (omega (arith, from, to)) ∙ ap (told_at (is_now s) s.slots) back) ∙ nothing) not_now
     where
       back : serial - 1 + 1 ≡ serial
       back = omega (arith, from)
 
+  pub due_stays : new.drawn ≡ s.drawn → 0 < serial → serial ≤ s.drawn → slot_at s.slots key ≡ None → serials is_so 1 (told_by (is_now new) new) ≡ serials is_so 1 (told_by (is_now s) s)
+  due_stays drawn from to none = due_still drawn from to (ap (passes is_so) (told_missed (is_now s) s.slots serial missing))
+    where
       missing : IsMissing s.slots serial
       missing k live at e = elim (eq_cases k key) [
         | inl h ↦ cc (sym none ∙ ap (slot_at s.slots) (sym h) ∙ at)
         | inr ne ↦ by.alone k live ne at e
       ]
 
-      nothing : get_or (told_by (is_now s) s) (serial - 1) None ≡ None
-      nothing = at_listed s.drawn (λ i. told_at (is_now s) s.slots (i + 1)) (serial - 1) None (omega (arith, from, to)) ∙ ap (told_at (is_now s) s.slots) back ∙ told_missed (is_now s) s.slots serial missing
-
   pub not_now_any : passes is_so (told_at (is_now new) new.slots serial) ≡ false
   not_now_any = not_now
-
--- ---- the serials of those that began
-pub map_in : {Y : Type 0} (f g : ℕ → Y) (xs : List ℕ) → ((x : ℕ) → IsTrue (is_in x xs) → f x ≡ g x) → map f xs ≡ map g xs
-map_in f g [] h = refl
-map_in f g (x ∷ xs) h = ap₂ (λ y l. y ∷ l) (h x (head x xs)) (map_in f g xs (λ y i. h y (later y x xs i)))
-  where
-    head : (x : ℕ) (xs : List ℕ) → is_in x (x ∷ xs) ≡ true
-    head x xs = grind arith
-
-    later : (y x : ℕ) (xs : List ℕ) → is_in y xs ≡ true → is_in y (x ∷ xs) ≡ true
-    later y x xs i = grind arith

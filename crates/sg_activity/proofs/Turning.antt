@@ -1,9 +1,9 @@
 -- How starts and ends of phases change what is kept.
-use Rattle.std.proofs.Common.{◌≡◌, ◌≢◌, ℕ, ◌+◌, ◌-◌, ◌*◌, ◌^◌, ◌<◌, ◌≤◌, Bool, true, false, cond, true≢false, Option, None, Some, option_to_list, List, [], ◌∷◌, ◌++◌, length, set, length-set, get_or-set_same, slice_index, IsTrue, refl, sym, ap, ap₂, subst, ◌∙◌, arith}
+use Rattle.std.proofs.Common.{◌≡◌, ◌≢◌, ℕ, ◌+◌, ◌-◌, ◌*◌, ◌^◌, ◌<◌, ◌≤◌, ◌||◌, Bool, true, false, cond, true≢false, is_some, Option, None, Some, option_map, option_to_list, List, [], ◌∷◌, ◌++◌, length, set, length-set, get_or-set_same, slice_index, IsTrue, refl, sym, ap, ap₂, subst, ◌∙◌, arith}
 use Rattle.std.proofs.lemmas.List.{append-nil}
 use Rattle.sg_base.specs.declared.ids.LinkId.{LinkId}
 use Rattle.sg_base.specs.Limits.{IsPriority}
-use Rattle.sg_base.specs.MarkSet.{is_in}
+use Rattle.sg_base.specs.MarkSet.{is_in, with_mark}
 use Rattle.sg_heap.specs.Agenda.{Key, key_at}
 use Rattle.sg_maxmin.specs.Fill.{Flow}
 use Rattle.sg_maxmin.specs.Sharing.{HasLimit}
@@ -12,9 +12,9 @@ use Rattle.sg_activity.specs.declared.kinds.PhaseKind.{PhaseKind}
 use Rattle.sg_activity.specs.declared.kinds.PhaseKind.TheVariants as phase
 use Rattle.sg_activity.specs.declared.lives.Live.{Live}
 use Rattle.sg_activity.specs.Links.{Capacities}
-use Rattle.sg_activity.specs.Task.{Task, takes_share, pace, flow_in, flow_of, next_phase}
+use Rattle.sg_activity.specs.Task.{Task, takes_share, pace, wait_by, flow_in, flow_of, next_phase, rekinded}
 use Rattle.sg_activity.specs.Underway.{with_task}
-use Rattle.sg_activity.specs.kept.Stamps.{left_at}
+use Rattle.sg_activity.specs.kept.Stamps.{left_at, due_of}
 use Rattle.sg_activity.specs.kept.Pool.{slot_at}
 use Rattle.sg_activity.specs.kept.State.{State, links_at, place_of, task_from, task_of, asked_by, told_at, under_of}
 use Rattle.sg_activity.specs.kept.Sound.{IsPlace, IsHeld, IsFlowOf, IsKept, place_at}
@@ -23,7 +23,7 @@ use Rattle.sg_activity.specs.kept.Turns.{Turns}
 use Rattle.sg_activity.proofs.Listing.{some_same}
 use Rattle.sg_activity.proofs.Lookup.{told_found}
 use Rattle.sg_activity.proofs.Starts.{held_unfilled, held_filled, back_still, flows_came, back_came, flows_went, back_went, fresh_serial, idle_serial, own_serial, set_here, set_there}
-use Rattle.sg_activity.proofs.Told.{in_more, in_last, under_set, began_same, began_more}
+use Rattle.sg_activity.proofs.Told.{mark_self, mark_other, under_set, began_here, began_gone}
 use Rattle.sg_activity.proofs.Turned.{told_here, told_gone}
 
 pub left_fresh : (kept rate date : ℕ) → left_at kept rate date date ≡ kept
@@ -45,7 +45,7 @@ begun_state s drawn key live ways keys runs by_flow = record s {
   keys = keys;
   runs = runs;
   by_flow = by_flow;
-  fresh = s.fresh ++ key ∷ [];
+  fresh = with_mark key s.fresh;
   settled = false;
 }
 
@@ -54,6 +54,16 @@ ended_state s key runs ended = record s {
   slots = set s.slots key None;
   keys = set s.keys key None;
   runs = runs;
+  ended = ended;
+  settled = false;
+}
+
+abbrev pub held_state : State → ℕ → Live → List (Option RunningFlow) → List Flow → State
+held_state s key live runs ended = record s {
+  slots = set s.slots key (Some live);
+  keys = set s.keys key None;
+  runs = runs;
+  fresh = with_mark key s.fresh;
   ended = ended;
   settled = false;
 }
@@ -86,19 +96,20 @@ flow_turns s drawn key live keys is b full rate idle id_in by_in limit placed = 
   drawn = b.more;
   unsettled = refl;
   arrived = refl;
+  longer = omega (arith, length-set s.slots key (Some live));
+  within = omega (arith, b.key_in, length-set s.slots key (Some live));
   here = here;
   others = others;
   ways = λ k ne. refl;
   keys = b.others;
   no_key = b.no_key;
-  fresh = λ k ne. in_more key k s.fresh ne;
-  marked = λ _. refl;
+  fresh = λ k ne. mark_other key k s.fresh ne;
   by_flow_long = omega (arith, length-set s.by_flow live.flow key);
   flows = λ k other ne at filled. flows_came s key live.flow is run idle k other at filled;
   back = back_came s key live.flow is new run live idle b.unfilled by_in refl refl others here full refl;
   holds = λ l e. subst (IsHeld new key) (some_same e) (held_filled new key live full b.from b.to b.stamp b.small b.bytes b.weighs
       (set_here s.runs live.flow (Some run) id_in ∙ ap (λ r. Some (record { flow = asked; rate = r; began = true; marked = true })) (sym rate)) limit placed (omega (arith, by_in, length-set s.by_flow live.flow key))
-      (get_or-set_same s.by_flow live.flow key 0 by_in) (in_last key s.fresh) b.no_key);
+      (get_or-set_same s.by_flow live.flow key 0 by_in) (mark_self key s.fresh) b.no_key);
   was = b.was;
   is = λ l e. ap (λ (x : Live). x.serial) (sym (some_same e));
   alone = b.alone;
@@ -130,17 +141,18 @@ time_turns s drawn key live ways is b free empty rate ways_same placed = record 
   drawn = b.more;
   unsettled = refl;
   arrived = refl;
+  longer = omega (arith, length-set s.slots key (Some live));
+  within = omega (arith, b.key_in, length-set s.slots key (Some live));
   here = set_here s.slots key (Some live) b.key_in;
   others = others;
   ways = ways_same;
   keys = b.others;
   no_key = b.no_key;
-  fresh = λ k ne. in_more key k s.fresh ne;
-  marked = λ _. refl;
+  fresh = λ k ne. mark_other key k s.fresh ne;
   by_flow_long = omega arith;
   flows = λ k other ne at filled. (refl, refl);
   back = λ id r e. back_still s new key id (λ old at. absurd (nothing_there (slot_at s.slots key) free old at)) others refl (is.back id r e);
-  holds = λ l e. subst (IsHeld new key) (some_same e) (held_unfilled new key live empty b.from b.to b.stamp rate b.small b.bytes b.weighs placed (in_last key s.fresh) b.no_key);
+  holds = λ l e. subst (IsHeld new key) (some_same e) (held_unfilled new key live empty b.from b.to b.stamp rate b.small b.bytes b.weighs placed (mark_self key s.fresh) b.no_key);
   was = b.was;
   is = λ l e. ap (λ (x : Live). x.serial) (sym (some_same e));
   alone = b.alone;
@@ -158,8 +170,8 @@ pub data Went (s : State) (live : Live) (runs : List (Option RunningFlow)) : Typ
   without : takes_share live.kind ≡ false → runs ≡ s.runs → Went s live runs
 
 -- an activity is done
-pub end_turns : (s : State) (key : ℕ) (live : Live) (runs : List (Option RunningFlow)) (ended : List Flow) → IsKept s → slot_at s.slots key ≡ Some live → is_in key s.fresh ≡ false → key < length s.slots → key < length s.keys → Went s live runs → Turns s (ended_state s key runs ended) key live.serial None
-end_turns s key live runs ended is at stale key_in keys_in went = record {
+pub end_turns : (s : State) (key : ℕ) (live : Live) (runs : List (Option RunningFlow)) (ended : List Flow) → IsKept s → slot_at s.slots key ≡ Some live → key < length s.slots → key < length s.keys → Went s live runs → Turns s (ended_state s key runs ended) key live.serial None
+end_turns s key live runs ended is at key_in keys_in went = record {
   capacities = refl;
   resources = refl;
   on = refl;
@@ -167,13 +179,14 @@ end_turns s key live runs ended is at stale key_in keys_in went = record {
   drawn = omega arith;
   unsettled = refl;
   arrived = refl;
+  longer = omega (arith, length-set s.slots key None);
+  within = omega (arith, key_in, length-set s.slots key None);
   here = set_here s.slots key None key_in;
   others = others;
   ways = λ k ne. refl;
   keys = λ k ne. set_there s.keys key k None ne;
   no_key = set_here s.keys key None keys_in;
   fresh = λ k ne. refl;
-  marked = λ e. absurd (true≢false (sym e ∙ stale));
   by_flow_long = omega arith;
   flows = λ k other ne at' filled. flows went k other ne at' filled;
   back = λ id r e. back went id r e;
@@ -200,12 +213,14 @@ latency_next phase.Latency task e = refl
 latency_next phase.Flow task e = absurd (cc e)
 latency_next phase.Exec task e = absurd (cc e)
 latency_next phase.Timer task e = absurd (cc e)
+latency_next phase.Kept task e = absurd (cc e)
 
 pub last_next : (kind : PhaseKind) (task : Task) → flows_ahead kind ≡ 0 → next_phase kind task ≡ None
 last_next phase.Latency task none = absurd (omega (arith, none))
 last_next phase.Flow task none = refl
 last_next phase.Exec task none = refl
 last_next phase.Timer task none = refl
+last_next phase.Kept task none = refl
 
 unfilled_flow : (c : Capacities) (t : Task) → takes_share t.kind ≡ false → flow_in c (Some t) ≡ None
 unfilled_flow c t empty = ap (λ b. cond b (Some (flow_of c t)) None) empty
@@ -213,37 +228,108 @@ unfilled_flow c t empty = ap (λ b. cond b (Some (flow_of c t)) None) empty
 filled_flow : (c : Capacities) (t : Task) → IsTrue (takes_share t.kind) → flow_in c (Some t) ≡ Some (flow_of c t)
 filled_flow c t full = ap (λ b. cond b (Some (flow_of c t)) None) full
 
--- after a latency the bytes flow
-pub flow_under : (s : State) (key : ℕ) (old live : Live) (keys : List (Option Key)) (runs : List (Option RunningFlow)) (by_flow : List ℕ) → IsKept s → slot_at s.slots key ≡ Some old → old.kind ≡ phase.Latency → is_in key s.fresh ≡ false →
-    live ≡ record old { kind = phase.Flow; kept = old.bytes * 1000000000; stamp = s.date; rate = 0; flow = live.flow } →
-    Turns s (begun_state s s.drawn key live s.ways keys runs by_flow) key live.serial (Some live) → under_of (begun_state s s.drawn key live s.ways keys runs by_flow) ≡ with_task old.serial (next_phase old.kind (task_of s key old)) (under_of s)
-flow_under s key old live keys runs by_flow is at latency stale live_is by =
+-- a phase takes the place of one that took no share
+again_under : (s : State) (key : ℕ) (old live : Live) (keys : List (Option Key)) (runs : List (Option RunningFlow)) (by_flow : List ℕ) → IsKept s → slot_at s.slots key ≡ Some old → takes_share old.kind ≡ false → live.serial ≡ old.serial →
+    Turns s (begun_state s s.drawn key live s.ways keys runs by_flow) key live.serial (Some live) → under_of (begun_state s s.drawn key live s.ways keys runs by_flow) ≡ with_task old.serial (Some (task_from s.date (links_at s.ways key) live)) (under_of s)
+again_under s key old live keys runs by_flow is at empty serial by =
     let new = begun_state s s.drawn key live s.ways keys runs by_flow in
     let h = is.each key old at in
-    let serial : live.serial ≡ old.serial = ap (λ (l : Live). l.serial) live_is in
-    let place : task_from s.date (links_at s.ways key) (record old { kind = phase.Flow; kept = old.bytes * 1000000000; stamp = s.date; rate = 0; flow = live.flow }) ≡ record (task_of s key old) { kind = phase.Flow; left = old.bytes * 1000000000 } =
-    ap₂ (λ n p. record { kind = phase.Flow; left = n; place = p; weight = old.weight; bound = old.bound; bytes = old.bytes }) (left_fresh (old.bytes * 1000000000) 0 s.date) (ap (λ k. place_of k old.host old.peer (links_at s.ways key)) (sym latency)) in
-    let next : Some (task_of new key live) ≡ next_phase old.kind (task_of s key old) = ap Some (ap (task_from s.date (links_at s.ways key)) live_is ∙ place) ∙ sym (latency_next old.kind (task_of s key old) latency) in
     let before : told_at (task_of s) s.slots live.serial ≡ Some (task_of s key old) = told_found (task_of s) s.slots live.serial key old is.apart at (sym serial) in
     under_set s new key live.serial (Some live) is by (Some (task_of new key live)) refl (omega (arith, h.from, serial)) (omega (arith, h.to, serial)) (told_here s new key live.serial (Some live) is by (task_of new) live refl)
-    (began_more s new key live.serial (Some live) is by live refl stale refl)
-    (sym (append-nil s.ended) ∙ ap (λ o. s.ended ++ option_to_list o) (sym (ap (flow_in s.capacities) before ∙ unfilled_flow s.capacities (task_of s key old) (ap takes_share latency))))
-    ∙ ap₂ (λ n o. with_task n o (under_of s)) serial next
+    (ap (λ o. is_some o || true) before) (began_here s new key live.serial (Some live) is by live refl (mark_self key s.fresh))
+    (sym (append-nil s.ended) ∙ ap (λ o. s.ended ++ option_to_list o) (sym (ap (flow_in s.capacities) before ∙ unfilled_flow s.capacities (task_of s key old) empty)))
+    ∙ ap (λ n. with_task n (Some (task_of new key live)) (under_of s)) serial
+
+-- after a latency the bytes flow
+pub flow_under : (s : State) (key : ℕ) (old live : Live) (keys : List (Option Key)) (runs : List (Option RunningFlow)) (by_flow : List ℕ) → IsKept s → slot_at s.slots key ≡ Some old → old.kind ≡ phase.Latency →
+    live ≡ record old { kind = phase.Flow; kept = old.bytes * 1000000000; stamp = s.date; rate = 0; flow = live.flow } →
+    Turns s (begun_state s s.drawn key live s.ways keys runs by_flow) key live.serial (Some live) → under_of (begun_state s s.drawn key live s.ways keys runs by_flow) ≡ with_task old.serial (next_phase old.kind (task_of s key old)) (under_of s)
+flow_under s key old live keys runs by_flow is at latency live_is by =
+    let place : task_from s.date (links_at s.ways key) (record old { kind = phase.Flow; kept = old.bytes * 1000000000; stamp = s.date; rate = 0; flow = live.flow }) ≡ record (task_of s key old) { kind = phase.Flow; left = old.bytes * 1000000000 } =
+    ap₂ (λ n p. record { kind = phase.Flow; left = n; place = p; weight = old.weight; bound = old.bound; bytes = old.bytes }) (left_fresh (old.bytes * 1000000000) 0 s.date) (ap (λ k. place_of k old.host old.peer (links_at s.ways key)) (sym latency)) in
+    let next : Some (task_from s.date (links_at s.ways key) live) ≡ next_phase old.kind (task_of s key old) = ap Some (ap (task_from s.date (links_at s.ways key)) live_is ∙ place) ∙ sym (latency_next old.kind (task_of s key old) latency) in
+    again_under s key old live keys runs by_flow is at (ap takes_share latency) (ap (λ (l : Live). l.serial) live_is) by
+    ∙ ap (λ o. with_task old.serial o (under_of s)) next
+
+left_kept : (kept rate stamp now : ℕ) → rate ≡ 0 → left_at kept rate stamp now ≡ kept
+left_kept kept rate stamp now e = ap (λ r. kept - r * (now - stamp)) e ∙ none (now - stamp)
+  where
+    none : (n : ℕ) → kept - 0 * n ≡ kept
+    none n = omega arith
+
+-- an execution that is held goes on
+pub resumed_under : (s : State) (key : ℕ) (old live : Live) (runs : List (Option RunningFlow)) (by_flow : List ℕ) → IsKept s → slot_at s.slots key ≡ Some old → old.kind ≡ phase.Kept →
+    live ≡ record old { kind = phase.Exec; stamp = s.date; rate = 0; flow = live.flow } →
+    Turns s (begun_state s s.drawn key live s.ways s.keys runs by_flow) key live.serial (Some live) → under_of (begun_state s s.drawn key live s.ways s.keys runs by_flow) ≡ with_task old.serial (Some (rekinded phase.Exec (task_of s key old))) (under_of s)
+resumed_under s key old live runs by_flow is at kept live_is by =
+    let stopped : old.rate ≡ 0 = (is.each key old at).paced (ap takes_share kept) ∙ ap pace kept in
+    let place : task_from s.date (links_at s.ways key) (record old { kind = phase.Exec; stamp = s.date; rate = 0; flow = live.flow }) ≡ rekinded phase.Exec (task_of s key old) =
+    ap₂ (λ n p. record { kind = phase.Exec; left = n; place = p; weight = old.weight; bound = old.bound; bytes = old.bytes }) (left_fresh old.kept 0 s.date ∙ sym (left_kept old.kept old.rate old.stamp s.date stopped)) (ap (λ k. place_of k old.host old.peer (links_at s.ways key)) (sym kept)) in
+    again_under s key old live s.keys runs by_flow is at (ap takes_share kept) (ap (λ (l : Live). l.serial) live_is) by
+    ∙ ap (λ t. with_task old.serial (Some t) (under_of s)) (ap (task_from s.date (links_at s.ways key)) live_is ∙ place)
 
 -- the activity is done, or given up
-pub end_under : (s : State) (key : ℕ) (live : Live) (runs : List (Option RunningFlow)) (ended : List Flow) → IsKept s → slot_at s.slots key ≡ Some live → is_in key s.fresh ≡ false →
+pub end_under : (s : State) (key : ℕ) (live : Live) (runs : List (Option RunningFlow)) (ended : List Flow) → IsKept s → slot_at s.slots key ≡ Some live →
     ended ≡ s.ended ++ option_to_list (flow_in s.capacities (Some (task_of s key live))) → Turns s (ended_state s key runs ended) key live.serial None → under_of (ended_state s key runs ended) ≡ with_task live.serial None (under_of s)
-end_under s key live runs ended is at stale ended_is by =
+end_under s key live runs ended is at ended_is by =
     let new = ended_state s key runs ended in
     let h = is.each key live at in
-    under_set s new key live.serial None is by None refl h.from h.to (told_gone s new key live.serial None is by (task_of new) refl) (began_same s new key live.serial None is by stale refl)
-    (ended_is ∙ ap (λ o. s.ended ++ option_to_list (flow_in s.capacities o)) (sym (told_found (task_of s) s.slots live.serial key live is.apart at refl)))
+    let before = told_found (task_of s) s.slots live.serial key live is.apart at refl in
+    under_set s new key live.serial None is by None refl h.from h.to (told_gone s new key live.serial None is by (task_of new) refl) (ap (λ o. is_some o || false) before) (began_gone s new key live.serial None is by refl)
+    (ended_is ∙ ap (λ o. s.ended ++ option_to_list (flow_in s.capacities o)) (sym before))
 
 pub ended_filled : (s : State) (key : ℕ) (live : Live) → IsTrue (takes_share live.kind) → s.ended ++ asked_by s key live ∷ [] ≡ s.ended ++ option_to_list (flow_in s.capacities (Some (task_of s key live)))
 ended_filled s key live full = ap (λ o. s.ended ++ option_to_list o) (sym (filled_flow s.capacities (task_of s key live) full))
 
 pub ended_unfilled : (s : State) (key : ℕ) (live : Live) → takes_share live.kind ≡ false → s.ended ≡ s.ended ++ option_to_list (flow_in s.capacities (Some (task_of s key live)))
 ended_unfilled s key live empty = sym (append-nil s.ended) ∙ ap (λ o. s.ended ++ option_to_list o) (sym (unfilled_flow s.capacities (task_of s key live) empty))
+
+-- ---- an execution is held
+pub held_turns : (s : State) (key : ℕ) (old live : Live) (ended : List Flow) → IsKept s → slot_at s.slots key ≡ Some old → IsTrue (takes_share old.kind) → key < length s.slots → key < length s.keys → live.serial ≡ old.serial →
+    IsHeld (held_state s key live (set s.runs old.flow None) ended) key live → Turns s (held_state s key live (set s.runs old.flow None) ended) key live.serial (Some live)
+held_turns s key old live ended is at full key_in keys_in serial held = record {
+  capacities = refl;
+  resources = refl;
+  on = refl;
+  date = refl;
+  drawn = omega arith;
+  unsettled = refl;
+  arrived = refl;
+  longer = omega (arith, length-set s.slots key (Some live));
+  within = omega (arith, key_in, length-set s.slots key (Some live));
+  here = set_here s.slots key (Some live) key_in;
+  others = others;
+  ways = λ k ne. refl;
+  keys = λ k ne. set_there s.keys key k None ne;
+  no_key = set_here s.keys key None keys_in;
+  fresh = λ k ne. mark_other key k s.fresh ne;
+  by_flow_long = omega arith;
+  flows = λ k other ne at' filled. (flows_went s key old.flow is old at full refl k other ne at' filled, refl);
+  back = back_went s key old.flow is (held_state s key live (set s.runs old.flow None) ended) old at full refl refl refl others;
+  holds = λ l e. subst (IsHeld (held_state s key live (set s.runs old.flow None) ended) key) (some_same e) held;
+  was = λ other e. ap (λ (x : Live). x.serial) (some_same (sym e ∙ at)) ∙ sym serial;
+  is = λ l e. ap (λ (x : Live). x.serial) (sym (some_same e));
+  alone = λ k other ne at' e. own_serial s key old is at k other ne at' (e ∙ serial);
+}
+  where
+    others : (k : ℕ) → k ≢ key → slot_at (set s.slots key (Some live)) k ≡ slot_at s.slots k
+    others k ne = set_there s.slots key k (Some live) ne
+
+pub held_under : (s : State) (key : ℕ) (old live : Live) (runs : List (Option RunningFlow)) (ended : List Flow) → IsKept s → slot_at s.slots key ≡ Some old → old.kind ≡ phase.Exec →
+    live ≡ record old { kind = phase.Kept; kept = left_at old.kept old.rate old.stamp s.date; stamp = s.date; rate = 0 } →
+    ended ≡ s.ended ++ option_to_list (flow_in s.capacities (Some (task_of s key old))) → Turns s (held_state s key live runs ended) key live.serial (Some live) →
+    under_of (held_state s key live runs ended) ≡ with_task old.serial (Some (rekinded phase.Kept (task_of s key old))) (under_of s)
+held_under s key old live runs ended is at exec live_is ended_is by =
+    let new = held_state s key live runs ended in
+    let h = is.each key old at in
+    let serial : live.serial ≡ old.serial = ap (λ (l : Live). l.serial) live_is in
+    let before : told_at (task_of s) s.slots live.serial ≡ Some (task_of s key old) = told_found (task_of s) s.slots live.serial key old is.apart at (sym serial) in
+    let place : task_from s.date (links_at s.ways key) (record old { kind = phase.Kept; kept = left_at old.kept old.rate old.stamp s.date; stamp = s.date; rate = 0 }) ≡ rekinded phase.Kept (task_of s key old) =
+    ap₂ (λ n p. record { kind = phase.Kept; left = n; place = p; weight = old.weight; bound = old.bound; bytes = old.bytes }) (left_fresh (left_at old.kept old.rate old.stamp s.date) 0 s.date) (ap (λ k. place_of k old.host old.peer (links_at s.ways key)) (sym exec)) in
+    under_set s new key live.serial (Some live) is by (Some (task_of new key live)) refl (omega (arith, h.from, serial)) (omega (arith, h.to, serial)) (told_here s new key live.serial (Some live) is by (task_of new) live refl)
+    (ap (λ o. is_some o || true) before) (began_here s new key live.serial (Some live) is by live refl (mark_self key s.fresh))
+    (ended_is ∙ ap (λ o. s.ended ++ option_to_list (flow_in s.capacities o)) (sym before))
+    ∙ ap₂ (λ n t. with_task n (Some t) (under_of s)) serial (ap (task_from s.date (links_at s.ways key)) live_is ∙ place)
 
 -- ---- what begins
 -- the next serial begins
@@ -302,6 +388,37 @@ flow_begins s key old live is at latency within keys_in serial stamp kept bytes 
       alone = λ k other ne at' e. own_serial s key old is at k other ne at' (e ∙ serial);
       no_key = set_here s.keys key None keys_in;
       others = λ k ne. set_there s.keys key k None ne;
+    }
+
+-- one that is held is never due
+pub undated_kept : (s : State) (key : ℕ) (live : Live) → IsKept s → slot_at s.slots key ≡ Some live → live.kind ≡ phase.Kept → key_at s.keys key ≡ None
+undated_kept s key live is at held = (is.each key live at).dated ∙ undue (is_in key s.fresh) live.kind held
+  where
+    key_by : PhaseKind → Option Key
+    key_by kind = option_map (λ due. record { date = due; serial = live.serial }) (wait_by kind (due_of live.stamp live.kept live.rate))
+
+    undue : (b : Bool) (kind : PhaseKind) → kind ≡ phase.Kept → cond b None (key_by kind) ≡ None
+    undue true kind e = refl
+    undue false kind e = ap key_by e
+
+-- one that is held goes on
+pub resumed_begins : (s : State) (key : ℕ) (old live : Live) → IsKept s → slot_at s.slots key ≡ Some old → old.kind ≡ phase.Kept → key < length s.slots → live.serial ≡ old.serial → live.stamp ≡ s.date → live.kept ≡ old.kept → live.bytes ≡ old.bytes → live.weight ≡ old.weight → Begins s s.drawn key live s.keys
+resumed_begins s key old live is at held within serial stamp kept bytes weight =
+    let h = is.each key old at in
+    record {
+      key_in = within;
+      from = omega (arith, h.from, serial);
+      to = omega (arith, h.to, serial);
+      more = omega arith;
+      stamp = stamp;
+      small = omega (arith, kept, h.small);
+      bytes = omega (arith, bytes, h.few_bytes);
+      weighs = subst IsPriority (sym weight) h.weighs;
+      unfilled = λ other at'. ap (λ (l : Live). takes_share l.kind) (some_same (sym at' ∙ at)) ∙ ap takes_share held;
+      was = λ other at'. ap (λ (l : Live). l.serial) (some_same (sym at' ∙ at)) ∙ sym serial;
+      alone = λ k other ne at' e. own_serial s key old is at k other ne at' (e ∙ serial);
+      no_key = undated_kept s key old is at held;
+      others = λ k ne. refl;
     }
 
 -- ---- states whose parts are the same

@@ -8,7 +8,7 @@ use Rattle.sg_activity.specs.declared.kinds.Phase.{Phase}
 use Rattle.sg_activity.specs.declared.kinds.Transfer.{Transfer}
 use Rattle.sg_activity.specs.Links.{machines}
 use Rattle.sg_activity.specs.Task.{Task, Way, is_cut, task_at}
-use Rattle.sg_activity.specs.Underway.{Underway, next_in, due_in, later, drawn, started, begun, ended, settled, given_up, hits, nothing_on}
+use Rattle.sg_activity.specs.Underway.{Underway, next_in, due_in, later, drawn, started, begun, ended, settled, given_up, held, gone_on, hits, nothing_on}
 
 -- What is under way, the serials that are due and not ended yet, whether the rates are up to date, and room for so many starts.
 pub record Doing : Type 0 where
@@ -86,13 +86,21 @@ gave_up serial doing = record doing {
   settled = false;
 }
 
-abbrev pub gave_up_first : List ℕ → Doing → Doing
-gave_up_first [] doing = doing
-gave_up_first (serial ∷ rest) doing = gave_up serial doing
+-- the execution of this serial is held, and isn't due any more
+abbrev pub held_in : ℕ → Doing → Doing
+held_in serial doing = record doing {
+  under = held serial doing.under;
+  due = without serial doing.due;
+  settled = false;
+}
 
--- the first of those that use something that is off is given up
-abbrev pub gave_up_in : Doing → Doing
-gave_up_in doing = gave_up_first (hits doing.under) doing
+-- the one that is held goes on
+abbrev pub went_on_in : ℕ → Doing → Doing
+went_on_in serial doing = record doing {
+  under = gone_on serial doing.under;
+  settled = false;
+  room = doing.room - 1;
+}
 
 -- this serial is the first of those that use something that is off
 pub record IsHit (doing : Doing) (serial : ℕ) : Type 0 where

@@ -2,6 +2,8 @@ pub mod Slots
 pub mod Hosts
 pub mod Links
 pub mod Task
+pub mod Power
 pub mod Underway
 pub mod Doing
+pub mod Laws
 pub mod kept

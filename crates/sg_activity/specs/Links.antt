@@ -70,7 +70,7 @@ shared_of hosts links route =
 abbrev pub at_speed : ℕ → ℕ → Capacities → Capacities
 at_speed host speed capacities = record capacities {
   hosts = slice_set capacities.hosts host
-      (record { speed = speed; cores = (host_at capacities.hosts host).cores });
+      (record (host_at capacities.hosts host) { speed = speed });
 }
 
 -- the same, but for the bandwidth of a link

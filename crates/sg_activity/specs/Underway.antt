@@ -1,35 +1,40 @@
 -- The part of the world that `Activities` keeps: when its phases are due, and how it changes.
-use Rattle.std.specs.Prelude.{ℕ, ◌+◌, ◌-◌, ◌*◌, ◌==◌, ◌++◌, ◌||◌, Bool, false, Option, None, Some, is_some, option_map, option_to_list, if◌then◌else◌, List, [], ◌∷◌, filter_map, length, map, slice_set}
+use Rattle.std.specs.Prelude.{ℕ, ◌+◌, ◌-◌, ◌*◌, ◌==◌, ◌++◌, ◌||◌, Bool, true, false, Option, None, Some, is_some, option_map, option_to_list, if◌then◌else◌, List, [], ◌∷◌, filter_map, length, map, replicate, slice_index_or, slice_set}
 use Rattle.std.specs.Int.{div_ceil}
 use Rattle.std.specs.List.{list_any}
-use Rattle.sg_base.specs.MarkSet.{is_in, with_mark}
+use Rattle.sg_base.specs.MarkSet.{with_mark}
 use Rattle.sg_maxmin.specs.Fill.{Flow, share_of}
 use Rattle.sg_lazy.specs.RunningFlow.{RunningFlow}
 use Rattle.sg_lazy.specs.Work.{work}
 use Rattle.sg_activity.specs.Links.{Capacities, Switches, all_on, capacities_of, at_speed, at_bandwidth}
 use Rattle.sg_activity.specs.Slots.{soonest, passes, serials, is_at, listed}
-use Rattle.sg_activity.specs.Task.{Task, is_filled, pace, wait_by, goes, flow_in, flow_of, flows, is_hit, is_rebound_at, phase_after, task_at}
+use Rattle.sg_activity.specs.declared.kinds.PhaseKind.{PhaseKind}
+use Rattle.sg_activity.specs.declared.kinds.PhaseKind.TheVariants as phase
+use Rattle.sg_activity.specs.Power.{load_by, power_of}
+use Rattle.sg_activity.specs.Task.{Task, is_filled, pace, wait_by, goes, flow_in, flow_of, flows, is_hit, is_rebound_at, phase_after, task_at, is_exec, is_held, of_kind, rekinded}
 
--- What changed since the rates were brought up to date: the serials of the phases that began, what those asked for that ended, and the numbers of the resources whose capacity changed.
+-- What changed since the rates were brought up to date: by serial whether the phase that is under way began, what those asked for that ended, and the numbers of the resources whose capacity changed.
 pub record Marks : Type 0 where
-  pub began : List ℕ
+  pub began : List Bool
   pub ended : List Flow
   pub resources : List ℕ
 
-abbrev pub no_marks : Marks
-no_marks = record { began = []; ended = []; resources = [] }
+-- nothing changed, of so many serials
+abbrev pub no_marks : ℕ → Marks
+no_marks drawn = record { began = replicate drawn false; ended = []; resources = [] }
 
 -- the capacity of this resource changed too
 abbrev pub noted : ℕ → Marks → Marks
 noted resource marks = record marks { resources = with_mark resource marks.resources }
 
--- The date, the hosts and links as they are now and which of them are on, by serial from 1 on the phase that is under way, or nothing, and what changed since the rates were brought up to date.
+-- The date, the hosts and links as they are now and which of them are on, by serial from 1 on the phase that is under way, or nothing, what changed since the rates were brought up to date, and by host the energy that it used, in milliwatt-nanoseconds.
 pub record Underway : Type 0 where
   pub date : ℕ
   pub capacities : Capacities
   pub on : Switches
   pub tasks : List (Option Task)
   pub marks : Marks
+  pub energy : List ℕ
 
 -- at first
 abbrev pub nothing_on : Capacities → Underway
@@ -38,7 +43,8 @@ nothing_on capacities = record {
   capacities = capacities;
   on = all_on capacities;
   tasks = [];
-  marks = no_marks;
+  marks = no_marks 0;
+  energy = replicate (length capacities.hosts) 0;
 }
 
 -- whether something is under way
@@ -57,7 +63,7 @@ running_under under serial =
       flow = flow;
       rate = 0;
       began = false;
-      marked = is_in serial under.marks.began || passes (is_rebound under) (task_at under.tasks serial);
+      marked = slice_index_or under.marks.began (serial - 1) false || passes (is_rebound under) (task_at under.tasks serial);
     }) (flow_in under.capacities (task_at under.tasks serial))
 
 -- all that runs and takes shares, by serial
@@ -98,18 +104,34 @@ due_in span under = serials (λ task. is_at (wait_in under task) span) 1 under.t
 abbrev pub passed : Underway → ℕ → Task → Task
 passed under span task = record task { left = task.left - rate under task * span }
 
--- so many nanoseconds later every amount has fallen
+-- ---- energy
+-- the sum of the rates of the executions of a host that take shares of it; none: there is none
+abbrev pub load : Underway → ℕ → Option ℕ
+load under host = load_by (rate under) host under.tasks
+
+-- the power of a host, in milliwatts
+abbrev pub power_at : Underway → ℕ → ℕ
+power_at under host = power_of under.capacities under.on host (load under host)
+
+-- the energy of a host, so many nanoseconds later
+abbrev pub used_later : ℕ → Underway → ℕ → ℕ
+used_later span under host = slice_index_or under.energy host 0 + power_at under host * span
+
+-- so many nanoseconds later every amount has fallen, and every host has used what its power is
 abbrev pub later : ℕ → Underway → Underway
 later span under = record under {
   date = under.date + span;
   tasks = map (option_map (passed under span)) under.tasks;
+  energy = listed (length under.energy) (used_later span under);
 }
 
 -- ---- how the activities change
 -- what changed, once a phase of this serial makes way for another
 abbrev pub marked : Capacities → ℕ → Option Task → Option Task → Marks → Marks
 marked capacities serial before after marks = record {
-  began = if is_some after then marks.began ++ serial ∷ [] else marks.began;
+  began =
+      if is_some before || is_some after then slice_set marks.began (serial - 1) (is_some after)
+      else marks.began;
   ended = marks.ended ++ option_to_list (flow_in capacities before);
   resources = marks.resources;
 }
@@ -123,13 +145,16 @@ with_task serial task under = record under {
 
 -- the next serial is drawn, and nothing is under way there yet
 abbrev pub drawn : Underway → Underway
-drawn under = record under { tasks = under.tasks ++ None ∷ [] }
+drawn under = record under {
+  tasks = under.tasks ++ None ∷ [];
+  marks = record under.marks { began = under.marks.began ++ false ∷ [] };
+}
 
 -- the next serial is of this phase
 abbrev pub started : Task → Underway → Underway
 started task under = record under {
   tasks = under.tasks ++ Some task ∷ [];
-  marks = record under.marks { began = under.marks.began ++ (length under.tasks + 1) ∷ [] };
+  marks = record under.marks { began = under.marks.began ++ true ∷ [] };
 }
 
 -- the activity of this serial, which was drawn before, begins with this phase
@@ -142,7 +167,7 @@ ended serial under = with_task serial (phase_after (task_at under.tasks serial))
 
 -- the rates are brought up to date
 abbrev pub settled : Underway → Underway
-settled under = record under { marks = no_marks }
+settled under = record under { marks = no_marks (length under.tasks) }
 
 -- a host gets this speed
 abbrev pub with_speed : ℕ → ℕ → Underway → Underway
@@ -178,3 +203,25 @@ with_link_on link on under = record under {
 -- the activity of this serial is given up
 abbrev pub given_up : ℕ → Underway → Underway
 given_up serial under = with_task serial None under
+
+-- ---- executions that are held
+-- whether an execution is under way there, and goes on
+abbrev pub is_computing : Underway → ℕ → Bool
+is_computing under serial = passes (of_kind is_exec) (task_at under.tasks serial)
+
+-- whether an execution is held there
+abbrev pub is_kept : Underway → ℕ → Bool
+is_kept under serial = passes (of_kind is_held) (task_at under.tasks serial)
+
+-- what is under way there is a phase of this kind from now on
+abbrev pub turned : PhaseKind → ℕ → Underway → Underway
+turned kind serial under =
+    with_task serial (option_map (rekinded kind) (task_at under.tasks serial)) under
+
+-- The execution of this serial is held: it keeps what is left of it.
+abbrev pub held : ℕ → Underway → Underway
+held serial under = turned phase.Kept serial under
+
+-- the one that is held goes on
+abbrev pub gone_on : ℕ → Underway → Underway
+gone_on serial under = turned phase.Exec serial under

@@ -5,6 +5,7 @@ pub mod State
 pub mod Sound
 pub mod Index
 pub mod Hits
+pub mod Metered
 pub mod Whole
 pub mod Bounds
 pub mod Renewal

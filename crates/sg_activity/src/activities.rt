@@ -1,25 +1,28 @@
 //! Activities under way.
 
-ghost use Rattle.std.specs.Prelude.{◌≡◌, ◌≢◌, ◌+◌, ◌-◌, ◌*◌, ◌<◌, ◌≤◌, ◌^◌, ◌++◌, false, true, None, Some, IsTrue, IfOk, OnOk, OnErr, All, AllPairs, MatchOption, [], ◌∷◌, length, map};
+ghost use Rattle.std.specs.Prelude.{◌≡◌, ◌≢◌, ◌+◌, ◌-◌, ◌*◌, ◌<◌, ◌≤◌, ◌^◌, ◌++◌, false, true, None, Some, IsSome, IsTrue, IfOk, OnOk, OnErr, All, AllPairs, MatchOption, [], ◌∷◌, length, map, slice_index_or};
 ghost use Rattle.sg_base.specs.declared.ids.LinkId.{LinkId};
 ghost use Rattle.sg_base.specs.Limits.{IsAmount, IsPriority, IsTime};
 ghost use Rattle.sg_activity.specs.Hosts.{IsHost, offers_of};
 ghost use Rattle.sg_activity.specs.Links.{IsLink, bandwidths_of, is_off};
 ghost use Rattle.sg_activity.specs.Task.{comm_of, exec_of, is_cut as is_cut_spec, task_at, timer_of};
-ghost use Rattle.sg_activity.specs.Underway.{hits, is_running, next_in, with_bandwidth, with_host_on, with_link_on, with_speed, work_of};
-ghost use Rattle.sg_activity.specs.Doing.{idle_on, started_in, drawn_in, begun_in, settled_in, later_in, ended_in, gave_up_in, set_in, switched_in, way_of, IsDue, IsHit, IsNext, IsTransfer, IsUpTo};
+ghost use Rattle.sg_activity.specs.Underway.{hits, is_computing as is_computing_spec, is_kept as is_kept_spec, is_running, load as load_spec, next_in, with_bandwidth, with_host_on, with_link_on, with_speed, work_of};
+ghost use Rattle.sg_activity.specs.Doing.{idle_on, started_in, drawn_in, begun_in, settled_in, later_in, ended_in, gave_up, held_in, went_on_in, set_in, switched_in, way_of, IsDue, IsHit, IsNext, IsTransfer, IsUpTo};
 
+use crate::beginning::first_parts;
 use crate::capacities::{set_bandwidth, set_speed};
 use crate::index::Index;
 use crate::kept::Kept;
 use crate::kinds::{HostCap, LinkCap, Phase, PhaseKind, Transfer};
-use crate::lives::{Live, Lives};
-use crate::phases::{end_phase, first_due, leave};
+use crate::lives::{Live, Lives, is_exec, is_held};
+use crate::phases::{end_phase, first_due, go_on, hold, leave};
+use crate::power::{first_meter, load, note, set_powers};
 use crate::renewal::{renew, restamp};
 use crate::room::grow;
 use crate::routes::things_of;
 use crate::switches::{is_way_cut, set_host_on, set_link_on};
 use sg_base::{LinkId, Marks, Memory, PointId, Serial, Steps};
+use sg_energy::Meter;
 use sg_heap::Agenda;
 use sg_lazy::Lazy;
 use std::alloc::Global;
@@ -39,6 +42,10 @@ use std::sync::ledger::Ledger;
 /// What is left of an execution or a flow is in unit-nanoseconds: one of so many flops or bytes needs 10^9 times as
 /// many, and each nanosecond takes as much as the rate.
 ///
+/// An execution can be held: it keeps what is left of it, takes no share and is never due, until it goes on.
+///
+/// Each host with power uses energy as time passes, at the power that its load gives.
+///
 /// A pass is `settle`, `next_date`, `advance_to`, and then `due` and `finish` for each phase that is due.
 #[derive(Drop)]
 pub struct Activities {
@@ -47,61 +54,24 @@ pub struct Activities {
     index: Index,
     // by key the serials of the activities that use something that is off
     hits: Agenda,
+    // what each host used, and the power that it had last
+    meter: Meter,
+    // the hosts whose power may be another since the meter was told it
+    touched: Marks,
 }
 
 impl Model for Activities {
     ghost use Rattle.sg_activity.specs.Doing.{Doing};
+    ghost use Rattle.sg_activity.specs.kept.Metered.{energies, metered_in};
     ghost use Rattle.sg_activity.specs.kept.State.{doing_of, state_of};
     ghost use Rattle.sg_activity.specs.kept.Whole.{IsWhole};
 
     ghost Value = { Doing };
 
-    ghost view = { λ s. doing_of (state_of s.kept) s.kept.room };
+    ghost view = { λ s. metered_in (energies s.kept.date s.meter)
+        (doing_of (state_of s.kept) s.kept.room) };
 
-    ghost invariant = { λ s. IsWhole s.kept s.index s.hits };
-}
-
-// What each host offers in all.
-fn offers(alloc: Global, hosts: &[HostCap]) -> Result<Vec<u64>, Memory>
-    requires hosts { All IsHost hosts.now }
-    ensures { IfOk result (λ offers. offers.items ≡ offers_of hosts.now) }
-{
-    let mut offers = Vec::new(alloc);
-    for host in hosts {
-        match offers.push(host.speed * u64::from(host.cores)) {
-            Ok(()) => {}
-            Err(_) => return Err(Memory),
-        }
-    }
-    Ok(offers)
-}
-
-// Puts the bandwidths of the links behind.
-fn add_bandwidths(capacities: &mut Vec<u64>, links: &[LinkCap]) -> Result<(), Memory>
-    ensures { OnOk result (capacities.new.items ≡ capacities.old.items ++ bandwidths_of links.now) }
-{
-    for link in links {
-        match capacities.push(link.bandwidth) {
-            Ok(()) => {}
-            Err(_) => return Err(Memory),
-        }
-    }
-    Ok(())
-}
-
-// So many that are on.
-fn all_on(alloc: Global, n: usize) -> Result<Vec<bool>, Memory>
-    ensures long { IfOk result (λ on. length on.items ≡ n) }
-    ensures on { IfOk result (λ on. All (λ b. b ≡ true) on.items) }
-{
-    let mut on = Vec::new(alloc);
-    for _number in 0..n {
-        match on.push(true) {
-            Ok(()) => {}
-            Err(_) => return Err(Memory),
-        }
-    }
-    Ok(on)
+    ghost invariant = { λ s. IsWhole s.kept s.index s.hits s.meter s.touched };
 }
 
 impl Activities {
@@ -111,29 +81,14 @@ impl Activities {
         requires links { All IsLink links.now }
         ensures { IfOk result (λ doing. doing ≡ idle_on hosts.now links.now) }
     {
-        let mut capacities = offers(alloc, hosts)?;
-        add_bandwidths(&mut capacities, links)?;
+        let (meter, touched) = first_meter(alloc, hosts.len())?;
+        let parts = first_parts(alloc, hosts, links)?;
         Ok(Activities {
-            kept: Kept {
-                hosts: Vec::from_slice(alloc, hosts)?,
-                links: Vec::from_slice(alloc, links)?,
-                hosts_on: all_on(alloc, hosts.len())?,
-                links_on: all_on(alloc, links.len())?,
-                lazy: Lazy::new(alloc, &capacities)?,
-                lives: Lives::new(alloc),
-                ways: Vec::new(alloc),
-                agenda: Agenda::new(alloc)?,
-                by_flow: Vec::new(alloc),
-                fresh: Marks::new(alloc),
-                drawn: 0,
-                date: 0,
-                settled: false,
-                arrived: false,
-                room: 0,
-                flows: 0,
-            },
-            index: Index::new(alloc, capacities.len() + hosts.len())?,
-            hits: Agenda::new(alloc)?,
+            kept: parts.kept,
+            index: parts.index,
+            hits: parts.hits,
+            meter,
+            touched,
         })
     }
 
@@ -199,6 +154,7 @@ impl Activities {
         self.kept.settled = false;
         self.kept.room -= 1;
         self.kept.flows -= 1;
+        self.touched.insert(host);
         serial
     }
 
@@ -281,6 +237,7 @@ impl Activities {
         ensures { self.new ≡ set_in (with_speed host.0 speed) self.old }
     {
         set_speed(&mut self.kept, &self.index, host.0 as usize, speed);
+        self.touched.insert(host.0 as usize);
     }
 
     /// Gives a link this bandwidth, from now on. How fast the flows over it go is brought up to date by `settle`.
@@ -324,6 +281,7 @@ impl Activities {
             host.0 as usize,
             on,
         );
+        self.touched.insert(host.0 as usize);
     }
 
     /// Puts a link on or off. What uses it goes on as it does, until it is given up.
@@ -342,7 +300,8 @@ impl Activities {
 
     /// The least serial of an activity that uses a host or a link that is off.
     pub fn hit(&self) -> Option<Serial>
-        ensures { MatchOption result (hits self.now.under ≡ []) (λ serial. IsHit self.now serial.0) }
+        ensures { MatchOption result (hits self.now.under ≡ [])
+            (λ serial. IsHit self.now serial.0) }
     {
         match self.hits.least() {
             Some((_, _, serial)) => Some(serial),
@@ -350,19 +309,66 @@ impl Activities {
         }
     }
 
-    /// Gives up the activity that `hit` tells. None may have begun since the rates were brought up to date.
-    pub fn give_up(&mut self)
-        requires hit { hits self.old.under ≢ [] }
-        requires stale { self.old.under.marks.began ≡ [] }
-        ensures { self.new ≡ gave_up_in self.old }
+    /// Gives up the activity of a serial.
+    pub fn give_up(&mut self, serial: Serial)
+        requires from { 0 < serial.0 }
+        requires under_way { IsSome (task_at self.old.under.tasks serial.0) }
+        ensures { self.new ≡ gave_up serial.0 self.old }
     {
-        let Some((key, _, _)) = self.hits.least() else {
+        let Some((key, live)) = self.kept.lives.find(serial) else {
             unreachable!()
         };
-        let Some(live) = self.kept.lives.get(key) else {
-            unreachable!()
-        };
+        note(&mut self.touched, &live);
         leave(&mut self.kept, &mut self.index, &mut self.hits, key, live);
+    }
+
+    /// Whether an execution is under way under a serial, and goes on.
+    pub fn is_computing(&self, serial: Serial) -> bool
+        requires { 0 < serial.0 }
+        ensures { result ≡ is_computing_spec self.now.under serial.0 }
+    {
+        match self.kept.lives.find(serial) {
+            Some((_, live)) => is_exec(live.kind),
+            None => false,
+        }
+    }
+
+    /// Whether an execution is held under a serial.
+    pub fn is_kept(&self, serial: Serial) -> bool
+        requires { 0 < serial.0 }
+        ensures { result ≡ is_kept_spec self.now.under serial.0 }
+    {
+        match self.kept.lives.find(serial) {
+            Some((_, live)) => is_held(live.kind),
+            None => false,
+        }
+    }
+
+    /// Holds an execution: it keeps what is left of it, and gets nothing of its host until it goes on.
+    pub fn hold(&mut self, serial: Serial)
+        requires from { 0 < serial.0 }
+        requires computes { IsTrue (is_computing_spec self.old.under serial.0) }
+        ensures { self.new ≡ held_in serial.0 self.old }
+    {
+        let Some((key, live)) = self.kept.lives.find(serial) else {
+            unreachable!()
+        };
+        note(&mut self.touched, &live);
+        hold(&mut self.kept, key, live);
+    }
+
+    /// An execution that is held goes on, with what was left of it.
+    pub fn go_on(&mut self, serial: Serial)
+        requires from { 0 < serial.0 }
+        requires held { IsTrue (is_kept_spec self.old.under serial.0) }
+        requires room { 0 < self.old.room }
+        ensures { self.new ≡ went_on_in serial.0 self.old }
+    {
+        let Some((key, live)) = self.kept.lives.find(serial) else {
+            unreachable!()
+        };
+        self.touched.insert(live.host);
+        go_on(&mut self.kept, key, live);
     }
 
     /// The serial that is drawn next.
@@ -414,11 +420,11 @@ impl Activities {
         self.kept.date
     }
 
-    /// Whether something is under way.
+    /// Whether something goes on: an execution that is held doesn't.
     pub fn running(&self) -> bool
         ensures { result ≡ is_running self.now.under }
     {
-        !self.kept.lives.is_empty()
+        !self.kept.lives.is_idle()
     }
 
     /// The date at which the next phase is due: now where nothing is left of it, and else once its rate has taken what
@@ -443,6 +449,7 @@ impl Activities {
         requires small { date < 10 ^ 34 }
         ensures { self.new ≡ later_in (date - self.old.under.date) self.old }
     {
+        set_powers(&self.kept, &self.index, &mut self.meter, &mut self.touched);
         self.kept.date = date;
         self.kept.arrived = true;
     }
@@ -468,6 +475,26 @@ impl Activities {
         let Some((key, live)) = first_due(&self.kept) else {
             unreachable!()
         };
+        note(&mut self.touched, &live);
         end_phase(&mut self.kept, &mut self.index, &mut self.hits, key, live);
+    }
+
+    /// What the executions of a host that go on get together, as flops a second; `None` where there is none.
+    pub fn load(&self, host: PointId) -> Option<u64>
+        requires settled { IsTrue self.now.settled }
+        requires host { host.0 < length self.now.under.capacities.hosts }
+        ensures { result ≡ load_spec self.now.under host.0 }
+    {
+        load(&self.kept, &self.index, host.0 as usize)
+    }
+
+    /// The energy that a host used: whole joules, and the milliwatt-nanoseconds below a joule.
+    pub fn energy(&self, host: PointId) -> (u128, u64)
+        requires { host.0 < length self.now.under.capacities.hosts }
+        ensures energy { result.0 * 10 ^ 12 + result.1
+            ≡ slice_index_or self.now.under.energy host.0 0 }
+        ensures rest { result.1 < 10 ^ 12 }
+    {
+        self.meter.energy(host, self.kept.date)
     }
 }

@@ -27,7 +27,9 @@ fn bound_now(kept: &Kept, key: usize, live: &Live) -> Option<u64>
     ensures { result ≡ (asked_by (state_of kept.now) key live.now).bound }
 {
     match live.kind {
-        PhaseKind::Exec => tighter(Some(kept.hosts[live.host].speed), live.bound),
+        PhaseKind::Exec | PhaseKind::Kept => {
+            tighter(Some(kept.hosts[live.host].speed), live.bound)
+        }
         PhaseKind::Latency | PhaseKind::Flow => {
             tighter(bound_of(&kept.links, kept.ways[key].route()), live.bound)
         }
@@ -84,9 +86,9 @@ pub(crate) fn set_speed(kept: &mut Kept, index: &Index, host: usize, speed: u64)
         (at_speed host speed (state_of kept.old).capacities) host }
 {
     index.is_both_ways();
-    let cores = kept.hosts[host].cores;
-    kept.hosts[host] = HostCap { speed, cores };
-    kept.lazy.set_capacity(host, speed * u64::from(cores));
+    let cap = kept.hosts[host];
+    kept.hosts[host] = HostCap { speed, ..cap };
+    kept.lazy.set_capacity(host, speed * u64::from(cap.cores));
     update_bounds::<Brand>(kept, index, host, Blank::new(1));
     kept.settled = false;
 }

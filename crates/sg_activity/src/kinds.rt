@@ -12,6 +12,8 @@ pub enum PhaseKind {
     Exec,
     /// It lets a time pass.
     Timer,
+    /// It is held as it computes: it keeps what is left of it, and gets nothing until it goes on.
+    Kept,
 }
 
 /// A phase that is due.
@@ -21,12 +23,22 @@ pub struct Phase {
     pub kind: PhaseKind,
 }
 
+/// What a host takes, in milliwatts: without an execution, at the least load, at full load, and where it is off.
+#[derive(Clone, Copy, Debug, PartialEq, Eq)]
+pub struct Power {
+    pub idle: u64,
+    pub epsilon: u64,
+    pub all: u64,
+    pub off: u64,
+}
+
 /// What a host offers: so many flops a second on each of its cores. Executions get together at most what all
-/// the cores offer, and one execution at most what one core offers.
+/// the cores offer, and one execution at most what one core offers. Its energy is counted where its power is known.
 #[derive(Clone, Copy, Debug, PartialEq, Eq)]
 pub struct HostCap {
     pub speed: u64,
     pub cores: u32,
+    pub power: Option<Power>,
 }
 
 /// What a link offers, in bytes a second: the flows over a link get together at most its bandwidth, and on a FATPIPE

@@ -2,12 +2,15 @@
 #![tactic(auto)]
 
 mod activities;
+mod beginning;
 mod capacities;
 mod index;
 mod kept;
 mod kinds;
+mod laws;
 mod lives;
 mod phases;
+mod power;
 mod renewal;
 mod room;
 mod routes;
@@ -20,4 +23,5 @@ mod tests_changes;
 mod tests_scale;
 
 pub use activities::Activities;
-pub use kinds::{HostCap, LinkCap, Phase, PhaseKind, Transfer};
+pub use kinds::{HostCap, LinkCap, Phase, PhaseKind, Power, Transfer};
+pub use laws::{load_fits, load_is_its_own};

@@ -1,13 +1,15 @@
 //! The activities under way, by key.
 
-ghost use Rattle.std.specs.Prelude.{◌≡◌, ◌<◌, ◌≤◌, ◌+◌, ◌-◌, ◌==◌, None, Some, IsSome, OnOk, [], is_some, count_by, length, slice_set};
-ghost use Rattle.sg_activity.specs.Task.{takes_share as takes_share_spec};
-ghost use Rattle.sg_activity.specs.kept.Pool.{SameSlots, slot_at};
+ghost use Rattle.std.specs.Prelude.{◌≡◌, ◌<◌, ◌≤◌, ◌+◌, ◌-◌, ◌==◌, None, Some, IfSome, IsSome, MatchOption, OnOk, [], if◌then◌else◌, count_by, length, slice_set};
+ghost use Rattle.sg_activity.specs.Slots.{passes};
+ghost use Rattle.sg_activity.specs.Task.{goes_by, is_exec as is_exec_spec, is_held as is_held_spec, takes_share as takes_share_spec};
+ghost use Rattle.sg_activity.specs.kept.Pool.{IsFound, IsMissing, SameSlots, goes_on, slot_at};
 ghost use Rattle.sg_activity.specs.Task.{flows_ahead as flows_ahead_spec};
 
 use crate::kinds::PhaseKind;
-use sg_base::Memory;
+use sg_base::{Memory, Serial};
 use std::alloc::Global;
+use std::collections::HashMap;
 use std::marker::Model;
 
 /// An activity under way, as it was at a stamp.
@@ -41,7 +43,7 @@ pub(crate) fn takes_share(kind: PhaseKind) -> bool
 {
     match kind {
         PhaseKind::Flow | PhaseKind::Exec => true,
-        PhaseKind::Latency | PhaseKind::Timer => false,
+        PhaseKind::Latency | PhaseKind::Timer | PhaseKind::Kept => false,
     }
 }
 
@@ -51,7 +53,37 @@ pub(crate) fn flows_ahead(kind: PhaseKind) -> usize
 {
     match kind {
         PhaseKind::Latency => 1,
-        PhaseKind::Flow | PhaseKind::Exec | PhaseKind::Timer => 0,
+        PhaseKind::Flow | PhaseKind::Exec | PhaseKind::Timer | PhaseKind::Kept => 0,
+    }
+}
+
+/// Whether it is an execution that goes on.
+pub(crate) fn is_exec(kind: PhaseKind) -> bool
+    ensures { result ≡ is_exec_spec kind }
+{
+    match kind {
+        PhaseKind::Exec => true,
+        PhaseKind::Latency | PhaseKind::Flow | PhaseKind::Timer | PhaseKind::Kept => false,
+    }
+}
+
+/// Whether it is an execution that is held.
+pub(crate) fn is_held(kind: PhaseKind) -> bool
+    ensures { result ≡ is_held_spec kind }
+{
+    match kind {
+        PhaseKind::Kept => true,
+        PhaseKind::Latency | PhaseKind::Flow | PhaseKind::Exec | PhaseKind::Timer => false,
+    }
+}
+
+// 1 where a phase of this kind goes on, and else 0.
+fn going_by(kind: PhaseKind) -> usize
+    ensures { result ≡ (if goes_by kind then 1 else 0) }
+{
+    match kind {
+        PhaseKind::Latency | PhaseKind::Flow | PhaseKind::Exec | PhaseKind::Timer => 1,
+        PhaseKind::Kept => 0,
     }
 }
 
@@ -62,6 +94,12 @@ pub(crate) struct Lives {
     slots: Vec<Option<Live>>,
     // the keys without an activity; the last one is given next
     free: Vec<usize>,
+    // by serial the key of its activity
+    by_serial: HashMap<u64, usize>,
+    // how many go on
+    going: usize,
+    // room for so many more
+    room: usize,
 }
 
 impl Model for Lives {
@@ -69,12 +107,18 @@ impl Model for Lives {
 
     ghost Value = { Pool };
 
-    ghost use Rattle.std.specs.Prelude.{length, vec_capacity};
-    ghost use Rattle.sg_activity.specs.kept.Pool.{IsPool};
+    ghost use Rattle.std.specs.Prelude.{length, nat_eq, vec_capacity};
+    ghost use Rattle.std.specs.HashMap as hash;
+    ghost use Rattle.sg_activity.specs.kept.Pool.{IsLives};
 
-    ghost view = { λ s. record { slots = s.slots.items; room = length s.free.items } };
+    ghost view = { λ s. record {
+      slots = s.slots.items;
+      free = length s.free.items;
+      room = s.room;
+    } };
 
-    ghost invariant = { λ s. IsPool s.slots.items s.free.items (vec_capacity s.free) };
+    ghost invariant = { λ s. IsLives s.slots.items s.free.items (vec_capacity s.free)
+        (hash.get nat_eq s.by_serial) (hash.spare s.by_serial) s.going s.room };
 }
 
 impl Lives {
@@ -86,6 +130,9 @@ impl Lives {
         Lives {
             slots: Vec::new(alloc),
             free: Vec::new(alloc),
+            by_serial: HashMap::new(alloc),
+            going: 0,
+            room: 0,
         }
     }
 
@@ -96,11 +143,11 @@ impl Lives {
         self.slots.len()
     }
 
-    /// Whether no activity is under way.
-    pub(crate) fn is_empty(&self) -> bool
-        ensures { result ≡ (count_by is_some self.now.slots == 0) }
+    /// Whether no activity goes on.
+    pub(crate) fn is_idle(&self) -> bool
+        ensures { result ≡ (count_by (passes goes_on) self.now.slots == 0) }
     {
-        self.free.len() == self.slots.len()
+        self.going == 0
     }
 
     /// The activity under a key.
@@ -111,9 +158,24 @@ impl Lives {
         self.slots[key]
     }
 
-    /// Puts an activity under a free key, and answers the key.
+    /// The activity of a serial, and its key.
+    pub(crate) fn find(&self, serial: Serial) -> Option<(usize, Live)>
+        ensures { MatchOption result (IsMissing self.now.slots serial.0)
+            (λ found. IsFound self.now.slots serial.0 found.0 found.1) }
+    {
+        let Some(key) = self.by_serial.get(&serial.0).copied() else {
+            return None;
+        };
+        let Some(live) = self.slots[key] else {
+            unreachable!()
+        };
+        Some((key, live))
+    }
+
+    /// Puts an activity under a free key, and answers the key. No other is of its serial.
     pub(crate) fn put(&mut self, live: Live) -> usize
-        requires { 0 < self.old.room }
+        requires room { 0 < self.old.room }
+        requires apart { IsMissing self.old.slots live.serial }
         ensures free { slot_at self.old.slots result ≡ None }
         ensures in_range { result < length self.old.slots }
         ensures slots { self.new.slots ≡ slice_set self.old.slots result (Some live) }
@@ -122,35 +184,52 @@ impl Lives {
         let Some(key) = self.free.pop() else {
             unreachable!()
         };
+        match self.by_serial.insert(live.serial, key) {
+            Ok(_) => {}
+            Err(_) => unreachable!(),
+        }
         self.slots[key] = Some(live);
+        self.going += going_by(live.kind);
+        self.room -= 1;
         key
     }
 
-    /// Puts an activity in place of the one under a key.
+    /// Puts an activity of the same serial in place of the one under a key.
     pub(crate) fn set(&mut self, key: usize, live: Live)
-        requires { IsSome (slot_at self.old.slots key) }
+        requires there { IsSome (slot_at self.old.slots key) }
+        requires same { IfSome (slot_at self.old.slots key) (λ old. old.serial ≡ live.serial) }
         ensures slots { self.new.slots ≡ slice_set self.old.slots key (Some live) }
         ensures room { self.new.room ≡ self.old.room }
     {
+        let Some(old) = self.slots[key] else {
+            unreachable!()
+        };
         self.slots[key] = Some(live);
+        self.going = self.going - going_by(old.kind) + going_by(live.kind);
     }
 
     /// Takes away the activity under a key, which is then free.
     pub(crate) fn remove(&mut self, key: usize)
         requires { IsSome (slot_at self.old.slots key) }
         ensures slots { self.new.slots ≡ slice_set self.old.slots key None }
-        ensures room { self.new.room ≡ self.old.room + 1 }
+        ensures room { self.new.room ≡ self.old.room }
     {
+        let Some(old) = self.slots[key] else {
+            unreachable!()
+        };
+        self.by_serial.remove(&old.serial);
         self.slots[key] = None;
         self.free.push_reserved(key);
+        self.going -= going_by(old.kind);
     }
 
     // One key more.
     fn grow(&mut self) -> Result<(), Memory>
         ensures same { SameSlots self.old.slots self.new.slots }
+        ensures longer { length self.old.slots ≤ length self.new.slots }
         ensures few { length self.new.slots ≤ length self.old.slots + 1 }
-        ensures grows { self.old.room ≤ self.new.room }
-        ensures room { OnOk result (self.new.room ≡ self.old.room + 1) }
+        ensures room { self.new.room ≡ self.old.room }
+        ensures free { OnOk result (self.new.free ≡ self.old.free + 1) }
     {
         let key = self.slots.len();
         self.free.reserve(key + 1 - self.free.len())?;
@@ -162,9 +241,10 @@ impl Lives {
         Ok(())
     }
 
-    /// Makes so many keys free.
+    /// Makes room for so many more.
     pub(crate) fn reserve(&mut self, n: usize) -> Result<(), Memory>
         ensures same { SameSlots self.old.slots self.new.slots }
+        ensures longer { length self.old.slots ≤ length self.new.slots }
         ensures few { length self.new.slots ≤ length self.old.slots + n }
         ensures grows { self.old.room ≤ self.new.room }
         ensures room { OnOk result (n ≤ self.new.room) }
@@ -172,6 +252,8 @@ impl Lives {
         for _key in self.free.len()..n {
             self.grow()?;
         }
+        self.by_serial.reserve(n)?;
+        self.room = self.room.max(n);
         Ok(())
     }
 }

@@ -1,15 +1,14 @@
-//! Phases that are due, and their ends.
+//! Phases that are due, and their ends, and executions that are held.
 
-ghost use Rattle.std.specs.Prelude.{◌≡◌, ◌<◌, false, List, MatchOption, None, Option, Some};
+ghost use Rattle.std.specs.Prelude.{◌≡◌, ◌<◌, List, MatchOption, None, Option, Some};
 ghost use Rattle.sg_activity.specs.declared.kinds.PhaseKind.TheVariants as phase;
-ghost use Rattle.sg_base.specs.MarkSet.{is_in};
 ghost use Rattle.sg_activity.specs.kept.Pool.{slot_at};
 ghost use Rattle.sg_activity.specs.kept.State.{state_of, task_of};
-ghost use Rattle.sg_activity.specs.Task.{next_phase};
+ghost use Rattle.sg_activity.specs.Task.{next_phase, rekinded};
 ghost use Rattle.sg_heap.specs.Agenda.{Key};
 ghost use Rattle.sg_activity.specs.kept.Hits.{AreHit};
 ghost use Rattle.sg_activity.specs.kept.Sound.{IsSound};
-ghost use Rattle.sg_activity.specs.kept.Ends.{Ends, IsFirst, IsIdle};
+ghost use Rattle.sg_activity.specs.kept.Ends.{Ends, GoesOn, IsFirst, IsIdle};
 ghost use Rattle.sg_activity.specs.kept.Index.{Indexed};
 ghost use Rattle.sg_activity.specs.kept.Whole.{IsUsed};
 
@@ -17,6 +16,7 @@ use crate::index::Index;
 use crate::kept::Kept;
 use crate::kinds::PhaseKind;
 use crate::lives::{Live, flows_ahead, takes_share};
+use crate::renewal::left_at;
 use crate::routes::{bound_of, tighter, uses_of};
 use sg_heap::Agenda;
 
@@ -44,7 +44,6 @@ pub(crate) fn first_due(kept: &Kept) -> Option<(usize, Live)>
 fn begin_flow(kept: &mut Kept, key: usize, live: Live)
     requires kind { live.kind ≡ phase.Latency }
     requires at { slot_at kept.old.lives.slots key ≡ Some live }
-    requires stale { is_in key kept.old.fresh.members ≡ false }
     requires sound { IsSound kept.old }
     ensures ends { Ends kept.old kept.new key live
         (next_phase live.kind (task_of (state_of kept.old) key live)) }
@@ -76,7 +75,6 @@ fn begin_flow(kept: &mut Kept, key: usize, live: Live)
 /// The activity is done, or given up: its flow ends, it uses nothing, and its key is free.
 pub(crate) fn leave(kept: &mut Kept, index: &mut Index, hits: &mut Agenda, key: usize, live: Live)
     requires at { slot_at kept.old.lives.slots key ≡ Some live }
-    requires stale { is_in key kept.old.fresh.members ≡ false }
     requires sound { IsSound kept.old }
     requires used { IsUsed kept.old index.old }
     requires hit { AreHit kept.old hits.old }
@@ -104,7 +102,6 @@ pub(crate) fn end_phase(
     live: Live,
 )
     requires at { slot_at kept.old.lives.slots key ≡ Some live }
-    requires stale { is_in key kept.old.fresh.members ≡ false }
     requires sound { IsSound kept.old }
     requires used { IsUsed kept.old index.old }
     requires hit { AreHit kept.old hits.old }
@@ -115,8 +112,63 @@ pub(crate) fn end_phase(
 {
     match live.kind {
         PhaseKind::Latency => begin_flow(kept, key, live),
-        PhaseKind::Flow | PhaseKind::Exec | PhaseKind::Timer => {
+        PhaseKind::Flow | PhaseKind::Exec | PhaseKind::Timer | PhaseKind::Kept => {
             leave(kept, index, hits, key, live);
         }
     }
+}
+
+/// Holds an execution: its flow ends, and it keeps what is left of it.
+pub(crate) fn hold(kept: &mut Kept, key: usize, live: Live)
+    requires kind { live.kind ≡ phase.Exec }
+    requires at { slot_at kept.old.lives.slots key ≡ Some live }
+    requires sound { IsSound kept.old }
+    ensures ends { Ends kept.old kept.new key live
+        (Some (rekinded phase.Kept (task_of (state_of kept.old) key live))) }
+    ensures used { (index : Indexed) → IsUsed kept.old index → IsUsed kept.new index }
+    ensures hit { (hits : List (Option Key)) → AreHit kept.old hits → AreHit kept.new hits }
+{
+    kept.lazy.end(live.flow);
+    kept.lives.set(
+        key,
+        Live {
+            kind: PhaseKind::Kept,
+            kept: left_at(&live, kept.date),
+            stamp: kept.date,
+            rate: 0,
+            ..live
+        },
+    );
+    kept.agenda.clear(key);
+    kept.fresh.insert(key);
+    kept.settled = false;
+}
+
+/// An execution that is held goes on: its flow begins, with what was left of it.
+pub(crate) fn go_on(kept: &mut Kept, key: usize, live: Live)
+    requires kind { live.kind ≡ phase.Kept }
+    requires at { slot_at kept.old.lives.slots key ≡ Some live }
+    requires room { 0 < kept.old.room }
+    requires sound { IsSound kept.old }
+    ensures goes_on { GoesOn kept.old kept.new key live }
+    ensures used { (index : Indexed) → IsUsed kept.old index → IsUsed kept.new index }
+    ensures hit { (hits : List (Option Key)) → AreHit kept.old hits → AreHit kept.new hits }
+{
+    let bound = tighter(Some(kept.hosts[live.host].speed), live.bound);
+    let flow = kept.lazy.start(&[live.host], live.weight, bound);
+    kept.lives.set(
+        key,
+        Live {
+            kind: PhaseKind::Exec,
+            stamp: kept.date,
+            rate: 0,
+            flow,
+            ..live
+        },
+    );
+    kept.by_flow[flow] = key;
+    kept.fresh.insert(key);
+    kept.settled = false;
+    kept.room -= 1;
+    kept.flows -= 1;
 }

@@ -5,8 +5,9 @@ ghost use Rattle.std.specs.Int.{div_ceil};
 ghost use Rattle.sg_activity.specs.Underway.{wait as wait_spec};
 ghost use Rattle.sg_activity.specs.kept.Stamps.{due_of as due_of_spec, left_at as left_at_spec};
 ghost use Rattle.sg_activity.specs.kept.Renewal.{AreRestamped, AreRenewed, AreSmall, HaveKeys};
-ghost use Rattle.sg_activity.specs.kept.State.{date_of};
+ghost use Rattle.sg_activity.specs.kept.State.{date_of, due_at};
 
+use crate::kinds::PhaseKind;
 use crate::lives::{Live, Lives};
 use sg_base::{Marks, Serial};
 use sg_heap::Agenda;
@@ -38,7 +39,7 @@ fn wait(rate: u64, left: u128) -> Option<u128>
 }
 
 // When nothing is left of an activity.
-fn due_of(live: &Live) -> Option<u128>
+fn spent_at(live: &Live) -> Option<u128>
     requires amount { live.now.kept ≤ 10 ^ 24 }
     requires stamp { live.now.stamp < 10 ^ 34 }
     ensures { result ≡ due_of_spec live.now.stamp live.now.kept live.now.rate }
@@ -49,8 +50,22 @@ fn due_of(live: &Live) -> Option<u128>
     }
 }
 
-// What is left of an activity at a date.
-fn left_at(live: &Live, date: u128) -> u128
+// When a phase is over.
+fn due_of(live: &Live) -> Option<u128>
+    requires amount { live.now.kept ≤ 10 ^ 24 }
+    requires stamp { live.now.stamp < 10 ^ 34 }
+    ensures { result ≡ due_at live.now }
+{
+    match live.kind {
+        PhaseKind::Latency | PhaseKind::Flow | PhaseKind::Exec | PhaseKind::Timer => {
+            spent_at(live)
+        }
+        PhaseKind::Kept => None,
+    }
+}
+
+/// What is left of an activity at a date.
+pub(crate) fn left_at(live: &Live, date: u128) -> u128
     requires { live.now.stamp ≤ date }
     ensures { result ≡ left_at_spec live.now.kept live.now.rate live.now.stamp date }
 {

@@ -55,7 +55,7 @@ fn uses_off(kept: &Kept, key: usize, live: &Live) -> bool
         (place_at (state_of kept.now) key live.now) }
 {
     match live.kind {
-        PhaseKind::Exec => !kept.hosts_on[live.host],
+        PhaseKind::Exec | PhaseKind::Kept => !kept.hosts_on[live.host],
         PhaseKind::Latency | PhaseKind::Flow => {
             is_way_cut(kept, kept.ways[key].route(), live.host, live.peer)
         }

@@ -21,6 +21,7 @@ const MEGA: u64 = 1_000_000;
 const TEN: HostCap = HostCap {
     speed: 10,
     cores: 1,
+    power: None,
 };
 
 // Nothing is under way on this link.

@@ -24,6 +24,7 @@ const SECOND: u128 = 1_000_000_000;
 const HOST: HostCap = HostCap {
     speed: 10,
     cores: 1,
+    power: None,
 };
 
 // A FATPIPE link of a megabyte a second.
@@ -378,6 +379,7 @@ fn computes_at_the_new_speed_on_each_core(rt: HostRuntime) -> Result<(), Fail> {
     let host = HostCap {
         speed: 10,
         cores: 2,
+        power: None,
     };
     assert_eq!(rt;
         two_executions::<Brand>(rt.alloc(), Blank::new(1), host, 20, HALF, 20)?,

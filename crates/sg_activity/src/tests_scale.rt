@@ -49,6 +49,7 @@ fn hosts_of_speeds(alloc: Global) -> Result<Vec<HostCap>, Memory>
         hosts.push(HostCap {
             speed: u64::from(host) + 1,
             cores: 1,
+            power: None,
         })?;
     }
     Ok(hosts)

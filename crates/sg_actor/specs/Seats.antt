@@ -1,5 +1,6 @@
 -- What a seat shows, and what it shows after the turns of a round.
 use Rattle.std.specs.Prelude.{Bool, IsTrue, IfSome, Option, Some, None, IsSome, List, map, if◌then◌else◌}
+use Rattle.std.specs.Option.{option_and_then}
 use Rattle.sg_base.specs.declared.call.Answer.{Answer}
 use Rattle.sg_base.specs.declared.call.Call.{Call}
 use Rattle.sg_base.specs.Limits.{Extent, IsAnswer, IsCall}
@@ -13,9 +14,9 @@ pub record SeatView : Type 0 where
   pub outbox : Call
   pub ready : Bool
 
--- what a seat shows, where this tells the minds of actors
+-- what a seat shows, where this tells the minds of actors: where nobody sits there, no mind
 abbrev pub seat_view : {A : Type 0} → (A → Option Mind) → Seat A → SeatView
-seat_view mind_in seat = record { mind = mind_in seat.actor; inbox = seat.inbox; outbox = seat.outbox; ready = seat.ready }
+seat_view mind_in seat = record { mind = option_and_then mind_in seat.actor; inbox = seat.inbox; outbox = seat.outbox; ready = seat.ready }
 
 -- the same of each seat
 abbrev pub seat_views : {A : Type 0} → (A → Option Mind) → List (Seat A) → List SeatView
@@ -30,7 +31,7 @@ with_turn seat (Some mind) = let t = turn mind seat.inbox in record seat { mind 
 abbrev pub after : SeatView → SeatView
 after seat = if seat.ready then with_turn seat seat.mind else seat
 
--- one that is ready isn't blank
+-- one that is ready has an actor that isn't blank
 abbrev pub CanTurn : SeatView → Type 0
 CanTurn seat = IsTrue seat.ready → IsSome seat.mind
 

@@ -32,6 +32,11 @@ fn action_call(me: ActorId, action: Action) -> Call
         Action::Acquire(semaphore) => Call::Acquire(semaphore),
         Action::Release(semaphore) => Call::Release(semaphore),
         Action::Barrier => Call::Barrier,
+        Action::Create(actor) => Call::Create(actor),
+        Action::Join(actor) => Call::Join(actor),
+        Action::Kill(actor) => Call::Kill(actor),
+        Action::Suspend(actor) => Call::Suspend(actor),
+        Action::Resume(actor) => Call::Resume(actor),
         Action::Yield => Call::Yield,
     }
 }

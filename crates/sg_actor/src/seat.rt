@@ -5,7 +5,8 @@ use sg_base::{Answer, Call};
 /// Where an actor sits from round to round.
 #[derive(Drop)]
 pub struct Seat<A = Box<dyn Actor + Send>> {
-    pub actor: A,
+    /// None while nobody sits there.
+    pub actor: Option<A>,
     /// The answer for its next turn.
     pub inbox: Answer,
     /// The call of its last turn.

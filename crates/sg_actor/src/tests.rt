@@ -1,5 +1,5 @@
 //! Turns of contexts, and rounds of boxed ones beside actors of the tests' own.
-ghost use Rattle.std.specs.Prelude.{◌≡◌, ◌<◌, All, IsSome, IsTrue};
+ghost use Rattle.std.specs.Prelude.{◌≡◌, ◌<◌, All, IsSome, IsTrue, None, false};
 ghost use Rattle.sg_actor.specs.Seats.{CanTurn, seat_views, seat_view};
 ghost use Rattle.sg_actor.specs.Roles.{CanCast};
 
@@ -78,17 +78,23 @@ fn turns_of_a_worker(rt: HostRuntime) -> Result<(), Fail> {
 
 #[test]
 fn turns_of_a_replay(rt: HostRuntime) -> Result<(), Fail> {
-    let there = BoxId::Pair(ME, ActorId(2));
-    let back = BoxId::Pair(ActorId(2), ME);
+    let other = ActorId(2);
+    let there = BoxId::Pair(ME, other);
+    let back = BoxId::Pair(other, ME);
     let turns = [
         (Answer::Start, Call::Ask),
         (
-            Answer::Act(Action::Send(ActorId(2), 7, 9)),
+            Answer::Act(Action::Send(other, 7, 9)),
             Call::Send(there, 7, Msg::Empty, 9),
         ),
         (Answer::Done, Call::Ask),
-        (Answer::Act(Action::Recv(ActorId(2))), Call::Recv(back)),
+        (Answer::Act(Action::Recv(other)), Call::Recv(back)),
         (Answer::Got(Msg::Empty), Call::Ask),
+        (Answer::Act(Action::Create(other)), Call::Create(other)),
+        (Answer::Act(Action::Join(other)), Call::Join(other)),
+        (Answer::Act(Action::Kill(other)), Call::Kill(other)),
+        (Answer::Act(Action::Suspend(other)), Call::Suspend(other)),
+        (Answer::Act(Action::Resume(other)), Call::Resume(other)),
         (Answer::NoMore, Call::Exit),
         (Answer::Act(Action::Wait), Call::Exit),
     ];
@@ -202,10 +208,27 @@ fn seat(rt: &impl Abort, actor: Box<dyn Actor + Send>, ready: bool) -> Seat
 {
     assert!(rt; !actor.is_blank());
     Seat {
-        actor,
+        actor: Some(actor),
         inbox: Answer::Start,
         outbox: Call::Yield,
         ready,
+    }
+}
+
+// The same where nobody sits there yet.
+fn empty() -> Seat
+    ensures { seat_view (λ b. mind b) result ≡ record {
+      mind = None;
+      inbox = Answer.Start;
+      outbox = Call.Yield;
+      ready = false;
+    } }
+{
+    Seat {
+        actor: None,
+        inbox: Answer::Start,
+        outbox: Call::Yield,
+        ready: false,
     }
 }
 
@@ -232,11 +255,19 @@ fn only_ready_seats_take_a_turn(rt: HostRuntime) -> Result<(), Fail> {
         seat(&rt, Box::new(alloc, plain(alloc)?)?, true),
         seat(&rt, Box::new(alloc, counting(alloc, &turns)?)?, false),
         seat(&rt, Box::new(alloc, plain(alloc)?)?, false),
+        empty(),
         seat(&rt, Box::new(alloc, counting(alloc, &turns)?)?, true),
         seat(&rt, Box::new(alloc, counting(alloc, &turns)?)?, true),
     ];
     run_round(&rt, &mut seats, 3);
-    let want = [Call::Ask, Call::Yield, Call::Yield, Call::Ask, Call::Ask];
+    let want = [
+        Call::Ask,
+        Call::Yield,
+        Call::Yield,
+        Call::Yield,
+        Call::Ask,
+        Call::Ask,
+    ];
     for (seat, want) in seats.iter().zip(want) {
         assert_eq!(rt; seat.outbox, want);
     }
@@ -260,7 +291,10 @@ fn are_cast(seats: &[Seat]) -> bool
 fn is_cast(seat: &Seat) -> bool
     ensures { IsTrue result → CanTurn (seat_view (λ b. mind b) seat.now) }
 {
-    !seat.actor.is_blank()
+    match &seat.actor {
+        Some(actor) => !actor.is_blank(),
+        None => false,
+    }
 }
 
 // How many actors meet all that are ready, in a round on so many threads.
@@ -286,7 +320,7 @@ fn met<R: Abort + Threads + Sync>(
         );
         meeter.cast(&Role::Replay(ME))?;
         seats.push(Seat {
-            actor: Box::new(alloc, meeter)?,
+            actor: Some(Box::new(alloc, meeter)?),
             inbox: Answer::Start,
             outbox: Call::Yield,
             ready: *is_ready,

@@ -106,7 +106,11 @@ fn run_seat<A: Actor>(seat: &mut Seat<A>)
     requires { CanTurn (seat_view A.mind seat.old) }
     ensures { seat_view A.mind seat.new ≡ after (seat_view A.mind seat.old) }
 {
-    if seat.ready {
-        seat.outbox = seat.actor.turn(seat.inbox);
+    if !seat.ready {
+        return;
+    }
+    match &mut seat.actor {
+        Some(actor) => seat.outbox = actor.turn(seat.inbox),
+        None => unreachable!(),
     }
 }

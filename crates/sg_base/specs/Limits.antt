@@ -73,6 +73,11 @@ IsAction extent (action.Unlock mutex) = IsMutexIn extent mutex
 IsAction extent (action.Acquire semaphore) = IsSemaphoreIn extent semaphore
 IsAction extent (action.Release semaphore) = IsSemaphoreIn extent semaphore
 IsAction extent action.Barrier = ⊤
+IsAction extent (action.Create actor) = IsActorIn extent actor
+IsAction extent (action.Join actor) = IsActorIn extent actor
+IsAction extent (action.Kill actor) = IsActorIn extent actor
+IsAction extent (action.Suspend actor) = IsActorIn extent actor
+IsAction extent (action.Resume actor) = IsActorIn extent actor
 IsAction extent action.Yield = ⊤
 
 abbrev pub IsAnswer : Extent → Answer → Type 0
@@ -100,6 +105,11 @@ IsCall extent (call.Unlock mutex) = IsMutexIn extent mutex
 IsCall extent (call.Acquire semaphore) = IsSemaphoreIn extent semaphore
 IsCall extent (call.Release semaphore) = IsSemaphoreIn extent semaphore
 IsCall extent call.Barrier = ⊤
+IsCall extent (call.Create actor) = IsActorIn extent actor
+IsCall extent (call.Join actor) = IsActorIn extent actor
+IsCall extent (call.Kill actor) = IsActorIn extent actor
+IsCall extent (call.Suspend actor) = IsActorIn extent actor
+IsCall extent (call.Resume actor) = IsActorIn extent actor
 IsCall extent call.Yield = ⊤
 IsCall extent call.Exit = ⊤
 

@@ -41,6 +41,11 @@ call_of me (action.Unlock mutex) = call.Unlock mutex
 call_of me (action.Acquire semaphore) = call.Acquire semaphore
 call_of me (action.Release semaphore) = call.Release semaphore
 call_of me action.Barrier = call.Barrier
+call_of me (action.Create actor) = call.Create actor
+call_of me (action.Join actor) = call.Join actor
+call_of me (action.Kill actor) = call.Kill actor
+call_of me (action.Suspend actor) = call.Suspend actor
+call_of me (action.Resume actor) = call.Resume actor
 call_of me action.Yield = call.Yield
 
 -- an actor that replays does the line that it was given, ends when there is none, and else asks for the next

@@ -32,6 +32,16 @@ pub enum Call {
     Release(u32),
     /// To wait at the barrier until all members have arrived.
     Barrier,
+    /// To let an actor begin that has not started.
+    Create(ActorId),
+    /// To wait until an actor has ended.
+    Join(ActorId),
+    /// To end an actor.
+    Kill(ActorId),
+    /// To let an actor take no turns until it is resumed.
+    Suspend(ActorId),
+    /// To let a suspended actor take turns again.
+    Resume(ActorId),
     /// To let the others take their turns.
     Yield,
     /// To end.
@@ -66,6 +76,11 @@ pub enum Action {
     Acquire(u32),
     Release(u32),
     Barrier,
+    Create(ActorId),
+    Join(ActorId),
+    Kill(ActorId),
+    Suspend(ActorId),
+    Resume(ActorId),
     Yield,
 }
 

@@ -43,6 +43,11 @@ const TEXTS: &str = "\
 1 1 4 bad arguments | actor = [{name = 'p', host = 'h', function = 'worker', argument = ['']}]
 1 1 4 bad arguments | actor = [{name = 'm', host = 'h', function = 'master'}]
 1 1 4 bad arguments | actor = [{name = 'm', host = 'h', function = 'master', argument = []}]
+1 1 4 bad arguments | actor = [{name = 'p', host = 'h', function = 'replay', start = 0, argument = ['1']}]
+1 1 5 wrong type | actor = [{name = 'p', host = 'h', function = 'replay', start = 'false'}]
+1 1 5 wrong type | actor = [{name = 'p', host = 'h', function = 'replay', start = 0}]
+1 1 5 wrong type | actor = [{name = 'p', host = 'h', function = 'replay', argument = [], start = [true]}]
+2 0 0 wrong type | mutex = 1 | actor = [{name = 'p', host = 'h', function = 'replay', start = false}]
 2 0 0 wrong type | mutex = {}
 2 1 0 wrong type | mutex = ['m']
 2 1 0 unknown name | mutex = [{id = 'm', name = 'm'}]
@@ -115,22 +120,24 @@ fine | '1000000000.9', '1000000000000000.9', '0.5', 'w'
 1 3 4 bad arguments | '1', '1', '1', 'w', 'v', 'w'
 ";
 
-/// What is read of actors, a master with its workers in the order of its arguments, of mutexes and of semaphores.
+/// What is read of actors, which begin with the run or later, a master with its workers in the order of its
+/// arguments, of mutexes and of semaphores.
 const ROWS: &str = "\
 p 0 Replay;w 1 Worker;m 0 20 1000000000 3000000 [ActorId(4), ActorId(2)];v 0 Worker; | actor = [{name = 'p', host = 'h', function = 'replay'}, {name = 'w', host = 'g', function = 'worker'}, {name = 'm', host = 'h', function = 'master', argument = ['20', '1e9', '3e6', 'v', 'w']}, {name = 'v', host = 'h', function = 'worker', argument = []}]
+p 0 Replay later;w 0 Worker later;q 1 Replay;m 1 2 3 4 [ActorId(2)] later; | actor = [{name = 'p', host = 'h', function = 'replay', start = false}, {start = false, name = 'w', host = 'h', function = 'worker'}, {name = 'q', host = 'g', function = 'replay', start = true}, {name = 'm', host = 'g', function = 'master', start = false, argument = ['2', '3', '4', 'w']}]
 p0 0 Replay;p1 1 Replay;mutex m1;mutex m2;semaphore s1 3; | actor = [{name = 'p0', host = 'h', function = 'replay'}, {name = 'p1', host = 'g', function = 'replay'}] | mutex = [{id = 'm1'}, {id = 'm2'}] | semaphore = [{id = 's1', capacity = 3}]
 ";
 
-/// Whom or what the name in the last line names above it: an actor that replays, a mutex, a semaphore.
+/// Whom or what the name in the last line names above it: an actor, one that replays, a mutex, a semaphore.
 const FOUND: &str = "\
 around | actor = [{name = 'p0', host = 'h', function = 'replay'}, {name = 'p1', host = 'g', function = 'replay'}, {name = 'w', host = 'g', function = 'worker'}, {name = 'm', host = 'g', function = 'master', argument = ['1', '1', '1', 'w']}] | mutex = [{id = 'm1'}, {id = 'm2'}] | semaphore = [{id = 's1', capacity = 3}] | $
-Some(ActorId(1)) None None | p0
-Some(ActorId(2)) None None | p1
-None None None | nobody
-None Some(1) None | m2
-None None Some(0) | s1
-None None None | w
-None None None | m
+Some(ActorId(1)) Some(ActorId(1)) None None | p0
+Some(ActorId(2)) Some(ActorId(2)) None None | p1
+None None None None | nobody
+None None Some(1) None | m2
+None None None Some(0) | s1
+Some(ActorId(3)) None None None | w
+Some(ActorId(4)) None None None | m
 ";
 
 /// What is told of a deployment text.
@@ -161,10 +168,12 @@ fn described(alloc: Global, function: &Function) -> Result<String, AllocError> {
     }
 }
 
-/// Adds an actor, where it is and what it does.
+/// Adds an actor, where it is, what it does, and whether it begins later.
 fn push_actor(alloc: Global, rows: &mut String, actor: &ActorRow) -> Result<(), AllocError> {
     let function = described(alloc, &actor.function)?;
-    let row = format!(in alloc; "{} {} {function};", actor.name.as_str(), actor.host.0)?;
+    let (name, host) = (actor.name.as_str(), actor.host.0);
+    let later = if actor.start { "" } else { " later" };
+    let row = format!(in alloc; "{name} {host} {function}{later};")?;
     rows.push_str(row.as_str())
 }
 
@@ -207,10 +216,11 @@ fn rows(alloc: Global, text: &str) -> Result<String, Fail> {
 fn found(alloc: Global, text: &str) -> Result<String, Fail> {
     let (text, name) = text.rsplit_once("\n").unwrap_or((text, ""));
     let deployment = deployment_of(alloc, text)?;
-    let actor = deployment.replay_actor(name.as_bytes());
+    let actor = deployment.actor(name.as_bytes());
+    let replay = deployment.replay_actor(name.as_bytes());
     let mutex = deployment.mutex_named(name.as_bytes());
     let semaphore = deployment.semaphore_named(name.as_bytes());
-    Ok(format!(in alloc; "{actor:?} {mutex:?} {semaphore:?}")?)
+    Ok(format!(in alloc; "{actor:?} {replay:?} {mutex:?} {semaphore:?}")?)
 }
 
 #[test]
@@ -231,6 +241,7 @@ fn names_are_found(rt: HostRuntime) -> Result<(), Fail> {
 #[test]
 fn bytes_that_are_no_text_name_nobody(rt: HostRuntime) -> Result<(), Fail> {
     let deployment = deployment_of(rt.alloc(), "")?;
+    assert_eq!(rt; deployment.actor(b"\xff"), None);
     assert_eq!(rt; deployment.replay_actor(b"\xff"), None);
     Ok(())
 }

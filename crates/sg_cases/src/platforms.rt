@@ -69,6 +69,28 @@ const TABLES: &str = "\
 2 1 4 bad value | host = [{id = 'h', zone = 'z', speed = '1', core = 1025}]
 2 1 4 bad value | host = [{id = 'h', zone = 'z', speed = '1', core = -1}]
 2 1 4 bad value | host = [{id = 'h', zone = 'z', speed = '1', core = 9223372036854775807}]
+2 1 5 wrong type | host = [{id = 'h', zone = 'z', speed = '1', power = 1}]
+2 1 5 wrong type | host = [{id = 'h', zone = 'z', speed = '1', power = '1'}]
+2 1 5 wrong type | host = [{id = 'h', zone = 'z', speed = '1', power = {idle = 1}}]
+2 1 5 wrong type | host = [{id = 'h', zone = 'z', speed = '1', power = [1, 2.0, 3]}]
+2 1 5 wrong type | host = [{id = 'h', zone = 'z', speed = '1', power = [1, '2', 3]}]
+2 1 5 wrong type | host = [{id = 'h', zone = 'z', speed = '1', power = [1, 2, 3, true]}]
+2 1 5 bad value | host = [{id = 'h', zone = 'z', speed = '1', power = []}]
+2 1 5 bad value | host = [{id = 'h', zone = 'z', speed = '1', power = [1, 2]}]
+2 1 5 bad value | host = [{id = 'h', zone = 'z', speed = '1', power = [1, 2, 3, 4]}]
+2 1 5 bad value | host = [{id = 'h', zone = 'z', speed = '1', power = [1, 3, 2]}]
+2 1 5 bad value | host = [{id = 'h', zone = 'z', speed = '1', power = [-1, 0, 0]}]
+2 1 5 bad value | host = [{id = 'h', zone = 'z', speed = '1', power = [1000000001, 0, 0]}]
+2 1 5 bad value | host = [{id = 'h', zone = 'z', speed = '1', power = [0, -1, 0]}]
+2 1 5 bad value | host = [{id = 'h', zone = 'z', speed = '1', power = [0, 0, 1000000001]}]
+2 1 5 bad value | host = [{id = 'h', zone = 'z', speed = '1', power = [0, 1000000001, 1000000001]}]
+2 1 5 wrong type | host = [{id = 'h', zone = 'z', speed = '1', power_off = -1, power = [[1]]}]
+2 1 6 wrong type | host = [{id = 'h', zone = 'z', speed = '1', power_off = 1.0}]
+2 1 6 wrong type | host = [{id = 'h', zone = 'z', speed = '1', power_off = [1]}]
+2 1 6 wrong type | host = [{id = 'h', zone = 'z', speed = '1', power = [1, 2, 3], power_off = false}]
+2 1 6 bad value | host = [{id = 'h', zone = 'z', speed = '1', power_off = -1}]
+2 1 6 bad value | host = [{id = 'h', zone = 'z', speed = '1', power = [1, 2, 3], power_off = 1000000001}]
+2 1 6 bad value | host = [{id = 'h', zone = 'z', speed = '1', power_off = -9223372036854775808}]
 3 0 0 wrong type | router = true
 3 1 0 wrong type | router = [0.5]
 3 1 0 unknown name | router = [{id = 'q', zone = 'z', speed = '1'}]
@@ -387,6 +409,14 @@ h1 0 1000000000 1;h2 0 98095000 4; | zone = [{id = 'z', routing = 'Full'}] | hos
 h 0 1000000000 1;s 1000000 0;l 1250000000 59904;up [LinkId(0), LinkId(2)] down [LinkId(2), LinkId(1)]; | zone = [{id = 'z', routing = 'Star'}] | host = [{id = 'h', zone = 'z', speed = '1Gf'}] | link = [{id = 's', bandwidth = '1MBps', sharing_policy = 'SPLITDUPLEX'}, {id = 'l', bandwidth = '10Gbps', latency = '59.904us'}] | spoke = [{zone = 'z', child = 'h', up = ['s_UP', 'l']}]
 ";
 
+/// What hosts draw that is read.
+const POWERS: &str = "\
+None; | host = [{id = 'h', zone = 'z', speed = '1', power_off = 7}]
+Some(Power { idle: 95000, epsilon: 120000, all: 200000, off: 0 }); | host = [{id = 'h', zone = 'z', speed = '1', power = [95000, 120000, 200000]}]
+Some(Power { idle: 3, epsilon: 2, all: 2, off: 1000000000 });None; | host = [{id = 'h', zone = 'z', speed = '1', power_off = 1000000000, power = [3, 2, 2]}, {id = 'g', zone = 'z', speed = '1'}]
+Some(Power { idle: 1000000000, epsilon: 0, all: 1000000000, off: 0 }); | host = [{id = 'h', zone = 'z', speed = '1', power_off = 0, power = [0x3b9aca00, 0, 1_000_000_000]}]
+";
+
 /// Factors in millionths and the window that are read.
 const NETWORKS: &str = "\
 1000000 1000000 0
@@ -475,6 +505,16 @@ fn rows(alloc: Global, text: &str) -> Result<String, Fail> {
     Ok(rows)
 }
 
+/// What the hosts of a table draw, beside the others of those above.
+fn powers(alloc: Global, table: &str) -> Result<String, Fail> {
+    let platform = read_platform(alloc, beside(alloc, table)?.as_bytes())?;
+    let mut rows = String::new(alloc);
+    for host in platform.hosts() {
+        rows.push_str(format!(in alloc; "{:?};", host.power)?.as_str())?;
+    }
+    Ok(rows)
+}
+
 /// The network of a platform text.
 fn network(alloc: Global, text: &str) -> Result<String, Fail> {
     let platform = read_platform(alloc, text.as_bytes())?;
@@ -529,6 +569,11 @@ fn the_least_fault_of_a_text_is_told(rt: HostRuntime) -> Result<(), Fail> {
 #[test]
 fn rows_are_read(rt: HostRuntime) -> Result<(), Fail> {
     hold(&rt, rt.alloc(), ROWS, rows)
+}
+
+#[test]
+fn powers_are_read(rt: HostRuntime) -> Result<(), Fail> {
+    hold(&rt, rt.alloc(), POWERS, powers)
 }
 
 #[test]

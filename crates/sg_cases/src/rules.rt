@@ -1,6 +1,7 @@
 //! The first rule that a text breaks.
 use crate::cases::{fault_text, hold};
-use sg_rules::{PLATFORM, first_fault, platform_names};
+use sg_rules::{first_fault, platform_names};
+use sg_tables::PLATFORM;
 use sg_tree::{NoTree, read_tree};
 use std::alloc::Global;
 use std::test::Fail;

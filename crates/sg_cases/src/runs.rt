@@ -36,6 +36,11 @@ around | zone = [{id = 'z', routing = 'Full'}] | host = [{id = 'h1', zone = 'z',
 Deadlock 0 | budget 99 | h1 recv 2 | h2 recv 1
 Starved 0 | budget 99 | h1 send 2 1 | slow recv 1 | h1 send 4 1 | slow recv 3
 1 1000000000 1000000000, Budget 1000000000 | budget 3 | h1 compute 1000000000, compute 1
+1 0 refused, over 0 | budget 99 | h1 create 1
+2 1000000000 1000000000, 1 1000000000 1000000000, over 1000000000 | budget 99 | h1 join 2 | h2 compute 1000000000
+1 500000000 500000000, 1 500000000 0, over 500000000 | budget 99 | h1 sleep 500000000, kill 2 | h2 compute 1000000000
+1 500000000 500000000, 1 500000000 0, 3 500000000 failed, over 500000000 | budget 99 | h1 sleep 500000000, kill 2 | h1 send 3 1000000 | h2 recv 2
+1 500000000 500000000, 1 500000000 0, 1 1500000000 1000000000, 1 1500000000 0, 2 2000000000 2000000000, over 2000000000 | budget 99 | h1 sleep 500000000, suspend 2, sleep 1000000000, resume 2 | h2 compute 1000000000
 around | zone = [{id = 'z', routing = 'Full'}] | host = [{id = 'h1', zone = 'z', speed = '1Gf'}, {id = 'h2', zone = 'z', speed = '1Gf'}] | link = [{id = 'l', bandwidth = '1MBps', latency = '10ms'}] | route = [{src = 'h1', dst = 'h2', links = ['l']}] | network = [{latency_factor = '13.01', bandwidth_factor = '0.97', window = '$
 1 1161027836 1161027836, 2 1161027836 1161027836, over 1161027836 | 4194304'}] | budget 99 | h1 send 2 1000000 | h2 recv 1
 1 2130100000 2130100000, 2 2130100000 2130100000, over 2130100000 | 1'}] | budget 99 | h1 send 2 100 | h2 recv 1
@@ -102,6 +107,11 @@ fn call_of(me: ActorId, words: &str) -> Result<Call, Fail> {
         "lock" => Ok(Call::Lock(0)),
         "unlock" => Ok(Call::Unlock(0)),
         "barrier" => Ok(Call::Barrier),
+        "create" => Ok(Call::Create(ActorId(first))),
+        "join" => Ok(Call::Join(ActorId(first))),
+        "kill" => Ok(Call::Kill(ActorId(first))),
+        "suspend" => Ok(Call::Suspend(ActorId(first))),
+        "resume" => Ok(Call::Resume(ActorId(first))),
         _ => Ok(Call::Exit),
     }
 }

@@ -5,7 +5,7 @@ ghost use Rattle.sg_base.specs.Lines.{HasLine};
 ghost use Rattle.sg_rows.specs.Deployment.{IsDeployedOn, extent_of};
 ghost use Rattle.sg_trace.specs.Line.{IsDate};
 
-use sg_base::{ActorId, BoxId, Call, End, Msg, Record};
+use sg_base::{ActorId, BoxId, Call, End, Msg, PointId, Record};
 use sg_platform::{read_deployment, read_platform};
 use sg_rows::{Deployment, PlatformText};
 use sg_trace::{Last, Line, ending_line, line};
@@ -31,7 +31,7 @@ const PAIR: BoxId = BoxId::Pair(ActorId(1), ActorId(2));
 const NAMED: BoxId = BoxId::Named(ActorId(3));
 
 /// An actor, its call, the bytes of it, and its line: it was over at 12.345678901 and took 59,904 ns.
-const LINES: [(u32, Call, u64, &str); 15] = [
+const LINES: [(u32, Call, u64, &str); 20] = [
     (
         1,
         Call::Compute(1_000_000_000, 7),
@@ -67,6 +67,11 @@ const LINES: [(u32, Call, u64, &str); 15] = [
     (1, Call::Acquire(1), 0, "h1:p0:(1)|acquire s2"),
     (2, Call::Release(0), 0, "h2:p1:(2)|release s1"),
     (3, Call::Barrier, 0, "h1:p2:(3)|barrier"),
+    (1, Call::Create(ActorId(2)), 0, "h1:p0:(1)|create p1"),
+    (2, Call::Join(ActorId(1)), 0, "h2:p1:(2)|join p0"),
+    (3, Call::Kill(ActorId(3)), 0, "h1:p2:(3)|kill p2"),
+    (1, Call::Suspend(ActorId(3)), 0, "h1:p0:(1)|suspend p2"),
+    (1, Call::Resume(ActorId(2)), 0, "h1:p0:(1)|resume p1"),
 ];
 
 /// An actor, its call, how it ended without being done, its bytes, and its line.
@@ -159,6 +164,11 @@ pub fn has_line(deployment: &Deployment, what: Call) -> bool
         Call::Acquire(semaphore) | Call::Release(semaphore) => {
             (semaphore as usize) < deployment.semaphores().len()
         }
+        Call::Create(actor)
+        | Call::Join(actor)
+        | Call::Kill(actor)
+        | Call::Suspend(actor)
+        | Call::Resume(actor) => is_actor(deployment, actor),
         Call::Wait | Call::Barrier | Call::Yield => true,
     }
 }
@@ -259,6 +269,21 @@ fn hold_blocked(
     Ok(())
 }
 
+/// The lines of an actor that is suspended, and of a host's energy.
+fn hold_told(rt: &impl Abort, platform: &PlatformText, deployment: &Deployment) -> Result<(), Fail>
+    requires deployed { IsDeployedOn platform.now deployment.now }
+{
+    if !is_actor(deployment, ActorId(2)) || platform.hosts().len() < 2 {
+        return Err(Fail::new("no line"));
+    }
+    let suspended = ending_line(&Last::Suspended(ActorId(2)), platform, deployment);
+    assert_eq!(rt; suspended.as_str(), "suspended [h2:p1:(2)]\n");
+    let energy = Last::Energy(PointId(1), 640, 128_000);
+    let energy = ending_line(&energy, platform, deployment);
+    assert_eq!(rt; energy.as_str(), "energy h2 640.000000128000\n");
+    Ok(())
+}
+
 /// The last lines of runs.
 fn hold_last(rt: &impl Abort, platform: &PlatformText, deployment: &Deployment)
     requires deployed { IsDeployedOn platform.now deployment.now }
@@ -282,6 +307,7 @@ fn each_line_tells_what_was_done_and_how_a_run_ended(rt: HostRuntime) -> Result<
     hold_answered(&rt, rt.alloc(), &platform, &deployment)?;
     hold_undone(&rt, rt.alloc(), &platform, &deployment)?;
     hold_blocked(&rt, rt.alloc(), &platform, &deployment)?;
+    hold_told(&rt, &platform, &deployment)?;
     hold_last(&rt, &platform, &deployment);
     Ok(())
 }

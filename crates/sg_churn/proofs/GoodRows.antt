@@ -41,6 +41,7 @@ host_good counts seed row some few =
       speed = omega (arith, speed.1);
       some_cores = omega arith;
       cores = omega arith;
+      power = tt;
     }
 
 link_good : (seed row : ℕ) → row < 4096 → IsLinkRow (link_of seed row)

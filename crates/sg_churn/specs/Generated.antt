@@ -1,5 +1,5 @@
 -- The platform and the deployment of a churn: a load that is made from a seed, a number of actors and a number of steps.
-use Rattle.std.specs.Prelude.{ℕ, zero, suc, ◌+◌, ◌-◌, ◌*◌, ◌%◌, ◌^◌, List, [], ◌∷◌, ◌++◌, None, map, codes, decimal}
+use Rattle.std.specs.Prelude.{ℕ, zero, suc, ◌+◌, ◌-◌, ◌*◌, ◌%◌, ◌^◌, true, List, [], ◌∷◌, ◌++◌, None, map, codes, decimal}
 use Rattle.std.specs.List.{range_with_len}
 use Rattle.sg_base.specs.Draw.{drawn, next_state}
 use Rattle.sg_base.specs.declared.ids.Child.TheVariants.{Point}
@@ -39,7 +39,13 @@ abbrev pub star : ZoneRow
 star = record { id = codes "z"; parent = None; routing = Star }
 
 abbrev pub host_with : ℕ → ℕ → HostRow
-host_with row speed = record { id = name_of (codes "h") row; zone = record { 0 = 0 }; speed = speed; cores = 1 }
+host_with row speed = record {
+  id = name_of (codes "h") row;
+  zone = record { 0 = 0 };
+  speed = speed;
+  cores = 1;
+  power = None;
+}
 
 abbrev pub link_with : List ℕ → ℕ → ℕ → LinkRow
 link_with id bandwidth latency = record { id = id; bandwidth = bandwidth; latency = latency; policy = Shared }
@@ -85,6 +91,7 @@ actor_of seed actors steps row = record {
   name = name_of (codes "a") row;
   host = record { 0 = row };
   function = Churn ((seed + (row + 1)) % 2 ^ 64) (record { 0 = next_of actors row }) (record { 0 = prev_of actors row }) steps;
+  start = true;
 }
 
 unfoldable pub deployed_of_seed : ℕ → ℕ → ℕ → Deployed

@@ -28,6 +28,7 @@ fn actor_row(
             prev: ActorId(1 + (row + (actors - 1)) % actors),
             steps,
         },
+        start: true,
     })
 }
 

@@ -44,6 +44,7 @@ fn host_row(alloc: Global, row: u32, speed: u64) -> Result<HostRow, Memory>
         zone: ZONE,
         speed,
         cores: 1,
+        power: None,
     })
 }
 

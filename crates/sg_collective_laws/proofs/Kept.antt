@@ -8,7 +8,7 @@ use Rattle.sg_base.specs.declared.ids.ActorId.{ActorId}
 use Rattle.sg_collectives.specs.Members.{HasAmounts}
 use Rattle.sg_collectives.specs.declared.collective.Collective.TheVariants as collective
 use Rattle.sg_script.specs.Known.{Known}
-use Rattle.sg_script.specs.Line.{Judgement, actor_in, amount_in, amounts_of, begins_comment, computing_of, entry_by, entry_of, is_plain, line_of, mutex_in, no_words, of_words, one_word, operation_of, or_bad_amount, or_unknown_actor, receiving_of, semaphore_in, sending_of, text_of, then_go, time_in, together, two_words, with_action, without_return}
+use Rattle.sg_script.specs.Line.{Judgement, actor_in, amount_in, amounts_of, anyone_of, begins_comment, computing_of, entry_by, entry_of, is_plain, line_of, mutex_in, no_words, of_words, one_word, operation_of, or_bad_amount, or_unknown_actor, receiving_of, semaphore_in, sending_of, text_of, then_go, time_in, together, two_words, with_action, without_return}
 use Rattle.sg_script.specs.Verbs.{verb_of}
 use Rattle.sg_script.specs.Words.{words}
 use Rattle.sg_script.specs.declared.fault.LineFault.{LineFault}
@@ -16,7 +16,7 @@ use Rattle.sg_script.specs.declared.line.Entry.{Entry}
 use Rattle.sg_script.specs.declared.operation.Operation.{Operation}
 use Rattle.sg_script.specs.declared.operation.Operation.TheVariants.{Alone, Together}
 use Rattle.sg_script.specs.declared.verbs.Verb.{Verb}
-use Rattle.sg_script.specs.declared.verbs.Verb.TheVariants.{Compute, Sleep, Send, ISend, Recv, IRecv, Wait, Barrier, Yield, Lock, Unlock, Acquire, Release, Bcast, Reduce, Allreduce, Alltoall}
+use Rattle.sg_script.specs.declared.verbs.Verb.TheVariants.{Compute, Sleep, Send, ISend, Recv, IRecv, Wait, Barrier, Yield, Lock, Unlock, Acquire, Release, Create, Join, Kill, Suspend, Resume, Bcast, Reduce, Allreduce, Alltoall}
 use Rattle.sg_script.specs.declared.fault.LineFault.TheVariants as fault
 use Rattle.sg_units.specs.Amount.{amount_of, is_short, up_to, value_in_unit, value_of}
 use Rattle.sg_units.specs.Number.{Number, number_of}
@@ -121,6 +121,11 @@ operation_keeps known Lock args = named_keeps args (mutex_in known) action.Lock
 operation_keeps known Unlock args = named_keeps args (mutex_in known) action.Unlock
 operation_keeps known Acquire args = named_keeps args (semaphore_in known) action.Acquire
 operation_keeps known Release args = named_keeps args (semaphore_in known) action.Release
+operation_keeps known Create args = alone_keeps (anyone_of known args) action.Create
+operation_keeps known Join args = alone_keeps (anyone_of known args) action.Join
+operation_keeps known Kill args = alone_keeps (anyone_of known args) action.Kill
+operation_keeps known Suspend args = alone_keeps (anyone_of known args) action.Suspend
+operation_keeps known Resume args = alone_keeps (anyone_of known args) action.Resume
 operation_keeps known Bcast args = one_amount_keeps args (λ n. Together (collective.Bcast n)) (λ n small. small)
 operation_keeps known Reduce args =
     went AreSmall KeepsAmounts (amounts_of args) (λ both. together (collective.Reduce both.0 both.1)) (arguments_small args) (λ both small. small)

@@ -1,5 +1,5 @@
 -- What runs write that are the same but for the number of a bad line.
-use Rattle.std.proofs.Common.{◌≡◌, ◌∙◌, ◌++◌, ap, sym, refl, ℕ, List, Option, None, Some, option_map, unwrap_or}
+use Rattle.std.proofs.Common.{◌≡◌, ◌∙◌, ◌-◌, ◌++◌, ap, sym, refl, ℕ, List, Option, None, Some, option_map, unwrap_or}
 use Rattle.sg_edge.specs.Sources.{Source}
 use Rattle.sg_engine.specs.Output.{end_of, last_lines, trace_of, written_of}
 use Rattle.sg_engine.specs.Run.{Progress}
@@ -29,9 +29,9 @@ last_unnumbered show platform deployed budget core ended.ReadFault = refl
 last_unnumbered show platform deployed budget core ended.WriteFault = refl
 last_unnumbered show platform deployed budget core ended.Memory = refl
 
-pub written_alike : (show : Show) (platform : Platform) (deployed : Deployed) (budget : ℕ) (source other : Source) (p q : Progress) → unnumbered p ≡ unnumbered q →
-    WriteAlike (written_of show platform deployed budget source p) (written_of show platform deployed budget other q)
-written_alike show platform deployed budget source other p q e =
+pub written_alike : (show : Show) (platform : Platform) (deployed : Deployed) (budget crew : ℕ) (source other : Source) (p q : Progress) → unnumbered p ≡ unnumbered q →
+    WriteAlike (written_of show platform deployed budget crew source p) (written_of show platform deployed budget crew other q)
+written_alike show platform deployed budget crew source other p q e =
     let ends : unnumbered_end (end_of p) ≡ unnumbered_end (end_of q) =
     end_unnumbered p.ended ∙ ap (λ (r : Progress). unwrap_or r.ended ended.Budget) e ∙ sym (end_unnumbered q.ended) in
     record {
@@ -40,5 +40,6 @@ written_alike show platform deployed budget source other p q e =
           ∙ (λ i. trace_of show platform deployed q.made ++ last_lines show platform deployed budget (e i).world.core (ends i))
           ∙ ap (λ (l : List ℕ). trace_of show platform deployed q.made ++ l) (sym (last_unnumbered show platform deployed budget q.world.core (end_of q)));
       ended = ends;
+      contexts = ap (λ (r : Progress). crew - r.world.contexts) e;
       work = ap (λ (r : Progress). r.world.work) e;
     }

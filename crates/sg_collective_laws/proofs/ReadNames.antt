@@ -23,11 +23,11 @@ use Rattle.sg_rules.proofs.Kept.{KeysKept, not_false, required_text, unbroken}
 use Rattle.sg_rules.specs.Faults.{faults_of, key_faults, row_faults, row_faults_at, rows_before, table_faults}
 use Rattle.sg_rules.specs.Names.{Known, deployment_known}
 use Rattle.sg_rules.specs.Rules.{id_kinds, is_taken, key_kinds}
-use Rattle.sg_rules.specs.Tables.{deployment_tables, keys_of, table_number}
-use Rattle.sg_rules.specs.declared.tables.Key.{Key}
-use Rattle.sg_rules.specs.declared.tables.Rule.TheVariants as rule
-use Rattle.sg_rules.specs.declared.tables.Table.TheVariants.{Actor}
-use Rattle.sg_rules.specs.declared.tables.Word.TheVariants as word
+use Rattle.sg_tables.specs.Tables.{deployment_tables, keys_of, table_number}
+use Rattle.sg_tables.specs.declared.tables.Key.{Key}
+use Rattle.sg_tables.specs.declared.tables.Rule.TheVariants as rule
+use Rattle.sg_tables.specs.declared.tables.Table.TheVariants.{Actor}
+use Rattle.sg_tables.specs.declared.tables.Word.TheVariants as word
 use Rattle.sg_tree.proofs.Kept.{empty_at, empty_left, empty_right, none_empty}
 use Rattle.sg_tree.specs.Along.{along, first}
 use Rattle.sg_tree.specs.Names.{names_from, texts_at, with_number}

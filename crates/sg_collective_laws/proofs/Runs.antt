@@ -1,15 +1,18 @@
 -- Runs whose scripts answer alike.
 use Rattle.std.proofs.Common.{◌≡◌, ◌∙◌, ap, sym, refl, subst, ℕ, zero, suc, ◌+◌, ◌++◌, Bool, true, false, cond, ◌&&◌, ◌==◌, List, [], ◌∷◌, Option, None, Some, option_map, Result, Ok, Err}
+use Rattle.std.specs.Option.{option_map_or}
 use Rattle.sg_base.specs.declared.call.Action.{Action}
 use Rattle.sg_base.specs.declared.call.Call.{Call}
-use Rattle.sg_engine.specs.Run.{Answering, Progress, Scene, and_then, and_then_by, answer_step, anyone_ready, are_completed, is_ask, ask_step, at_world, calls_from, if_call, in_world, one_call, round, round_or_pass, run_from}
+use Rattle.sg_base.specs.declared.ids.ActorId.{ActorId}
+use Rattle.sg_engine.specs.Run.{Answering, Progress, Scene, and_then, and_then_by, answer_step, anyone_ready, are_completed, is_ask, ask_step, at_world, calls_from, created_by, creates, if_call, in_world, one_call, other_call, round, round_or_pass, run_from, unless_killed}
 use Rattle.sg_engine.specs.World.{World}
 use Rattle.sg_engine.specs.declared.ended.Ended.{Ended}
 use Rattle.sg_engine.specs.declared.ended.Ended.TheVariants as ended
 use Rattle.sg_activity.specs.Underway.{work_of}
 use Rattle.sg_kernel.specs.Calls.{answered}
 use Rattle.sg_kernel.specs.Passes.{pass_of}
-use Rattle.sg_kernel.specs.World.{Setup}
+use Rattle.sg_kernel.specs.World.{Setup, state_of}
+use Rattle.sg_states.specs.Actors.{is_ended}
 use Rattle.sg_script.specs.Stands.{one_more}
 use Rattle.sg_script.specs.declared.fault.ScriptFault.{ScriptFault}
 use Rattle.sg_script.specs.declared.fault.ScriptFault.TheVariants as fault
@@ -76,11 +79,22 @@ module _ (at : Scene) (one other : Answering) (alike : AnswerAlike one other) wh
       either (world.core.events == at.setup.budget) over (said one) over (said other) (same over)
       (answered_alike at.setup actor (one actor (world.asks actor)) (other actor (world.asks actor)) next (alike actor (world.asks actor)))
 
-  called : (actor : ℕ) (what : Call) (world : World) → Alike (one_call at one actor what world) (one_call at other actor what world)
-  called actor what world =
+  answered_by : (actor : ℕ) (what : Call) (world : World) → Alike (other_call at one actor what world) (other_call at other actor what world)
+  answered_by actor what world =
       let by_kernel : Progress = in_world world (answered at.roads at.setup world.core actor what) in
       either (at.script && is_ask what) (ask_step at.setup one actor world) by_kernel (ask_step at.setup other actor world) by_kernel
       (asked actor world) (same by_kernel)
+
+  called_for : (found : Option ActorId) (actor : ℕ) (what : Call) (world : World) →
+      Alike (option_map_or (λ target. creates at.firsts at.setup.budget actor target world) found (other_call at one actor what world))
+      (option_map_or (λ target. creates at.firsts at.setup.budget actor target world) found (other_call at other actor what world))
+  called_for None actor what world = answered_by actor what world
+  called_for (Some target) actor what world = same (creates at.firsts at.setup.budget actor target world)
+
+  called : (actor : ℕ) (what : Call) (world : World) → Alike (unless_killed at one actor what world) (unless_killed at other actor what world)
+  called actor what world =
+      either (is_ended (state_of world.core actor)) (at_world None world) (one_call at one actor what world) (at_world None world) (one_call at other actor what world)
+      (same (at_world None world)) (called_for (created_by what) actor what world)
 
   if_called : (actor : ℕ) (what : Option Call) (world : World) → Alike (if_call at one actor what world) (if_call at other actor what world)
   if_called actor None world = same (at_world None world)

@@ -20,8 +20,8 @@ run_expanded deployed has at first source few few' =
     (answers_expanded deployed has source few few')
 
 pub output_expanded : CollectivesWrite
-output_expanded deployed has platform script budget show source few few' =
+output_expanded deployed has platform script budget crew show source few few' =
     let at = scene_of platform deployed script budget in
-    let first = first_of platform deployed budget in
-    written_alike show platform deployed budget source (expanded_in deployed source) (run_of at first (answer_of (known_in deployed) source))
+    let first = first_of platform deployed budget crew in
+    written_alike show platform deployed budget crew source (expanded_in deployed source) (run_of at first (answer_of (known_in deployed) source))
     (run_of at first (answer_of (known_in deployed) (expanded_in deployed source))) (run_expanded deployed has at first source few few')

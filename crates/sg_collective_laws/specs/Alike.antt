@@ -29,8 +29,9 @@ unnumbered progress = record progress { ended = option_map unnumbered_end progre
 abbrev pub AnswerAlike : Answering → Answering → Type 0
 AnswerAlike one other = (actor earlier : ℕ) → unnumbered_answer (one actor earlier) ≡ unnumbered_answer (other actor earlier)
 
--- two runs write the same on Out, end alike and have the same work; on Err they tell how they ended
+-- two runs write the same on Out, end alike, take as many contexts and have the same work; on Err they tell how they ended
 pub record WriteAlike (one other : Output) : Type 0 where
   pub out : one.out ≡ other.out
   pub ended : unnumbered_end one.ended ≡ unnumbered_end other.ended
+  pub contexts : one.contexts ≡ other.contexts
   pub work : one.work ≡ other.work

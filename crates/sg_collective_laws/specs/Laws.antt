@@ -37,8 +37,8 @@ CollectivesRun = (deployed : Deployed) → HasNames deployed → (at : Scene) (f
 
 -- and writes the same on Out
 abbrev pub CollectivesWrite : Type 0
-CollectivesWrite = (deployed : Deployed) → HasNames deployed → (platform : Platform) (script : Bool) (budget : ℕ) (show : Show) →
-    ForExpanded deployed (λ source other. WriteAlike (run_output platform deployed script budget show source) (run_output platform deployed script budget show other))
+CollectivesWrite = (deployed : Deployed) → HasNames deployed → (platform : Platform) (script : Bool) (budget crew : ℕ) (show : Show) →
+    ForExpanded deployed (λ source other. WriteAlike (run_output platform deployed script budget crew show source) (run_output platform deployed script budget crew show other))
 
 -- so it is on each deployment that a text describes
 abbrev pub TextsHaveNames : Type 0

@@ -18,7 +18,7 @@ pub fn collectives_run()
     ensures { CollectivesRun }
 {}
 
-/// And it writes the same trace lines and last lines.
+/// And it writes the same trace lines and last lines, and takes as many contexts.
 pub fn collectives_write()
     ensures { CollectivesWrite }
 {}

@@ -60,7 +60,7 @@ impl Meter {
         requires host { host.0 < length self.old }
         requires power { power ≤ 10 ^ 9 }
         requires from { (meter_of self.old host.0).since ≤ date }
-        requires small { date < 10 ^ 33 }
+        requires small { date < 10 ^ 34 }
         ensures { self.new ≡ slice_set self.old host.0
             (with_power power date (meter_of self.old host.0)) }
     {
@@ -73,7 +73,7 @@ impl Meter {
     pub fn energy(&self, host: PointId, date: u128) -> (u128, u64)
         requires host { host.0 < length self.now }
         requires from { (meter_of self.now host.0).since ≤ date }
-        requires small { date < 10 ^ 33 }
+        requires small { date < 10 ^ 34 }
         ensures energy { result.0 * 10 ^ 12 + result.1 ≡ energy_at (meter_of self.now host.0) date }
         ensures rest { result.1 < 10 ^ 12 }
     {

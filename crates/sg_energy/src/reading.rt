@@ -34,7 +34,7 @@ impl Reading {
     pub(crate) fn energy(self, date: u128) -> (u128, u64)
         requires reading { IsReading self }
         requires from { self.since ≤ date }
-        requires small { date < 10 ^ 33 }
+        requires small { date < 10 ^ 34 }
         ensures energy { result.0 * 10 ^ 12 + result.1 ≡ energy_at (metered_of self) date }
         ensures rest { result.1 < 10 ^ 12 }
     {
@@ -51,7 +51,7 @@ impl Reading {
         requires reading { IsReading self }
         requires power { power ≤ 10 ^ 9 }
         requires from { self.since ≤ date }
-        requires small { date < 10 ^ 33 }
+        requires small { date < 10 ^ 34 }
         ensures metered { metered_of result ≡ with_power power date (metered_of self) }
         ensures reading { IsReading result }
     {

@@ -47,9 +47,9 @@ fn runs_cost_so_much(rt: HostRuntime) -> Result<(), Fail> {
 }
 
 // The last date, and what a gigawatt comes to until then.
-const LAST: u128 = 999_999_999_999_999_999_999_999_999_999_999;
+const LAST: u128 = 9_999_999_999_999_999_999_999_999_999_999_999;
 
-const GREATEST: (u128, u64) = (999_999_999_999_999_999_999_999_999_999, 999_000_000_000);
+const GREATEST: (u128, u64) = (9_999_999_999_999_999_999_999_999_999_999, 999_000_000_000);
 
 // What a host has used at the last date, and another one.
 fn greatest(alloc: Global) -> Result<[(u128, u64); 2], Memory> {

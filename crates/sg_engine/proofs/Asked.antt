@@ -1,13 +1,19 @@
 -- The Asks of a run never fall, and only its actors make them.
 use Rattle.std.proofs.Common.{◌≡◌, ◌≤◌, ◌<◌, ◌+◌, ◌∙◌, arith, ap, refl, ℕ, zero, suc, Bool, true, false, cond, eqb, List, [], ◌∷◌, length, Option, None, Some, Result, Ok, Err}
-use Rattle.std.specs.Prelude.{◌&&◌, ◌==◌}
+use Rattle.std.specs.Prelude.{◌&&◌, ◌-◌, ◌==◌, slice_get}
+use Rattle.std.specs.Option.{option_map_or}
+use Rattle.std.proofs.lemmas.List.{length-set}
 use Rattle.std.proofs.lemmas.Bool.Decides.{nat_tests}
 use Rattle.sg_base.specs.declared.call.Action.{Action}
 use Rattle.sg_base.specs.declared.call.Call.{Call}
+use Rattle.sg_base.specs.declared.ids.ActorId.{ActorId}
+use Rattle.sg_base.specs.Mind.{Mind}
 use Rattle.sg_activity.specs.Underway.{work_of}
 use Rattle.sg_kernel.specs.Calls.{answered}
+use Rattle.sg_kernel.specs.Lives.{created}
 use Rattle.sg_kernel.specs.Passes.{pass_of}
-use Rattle.sg_kernel.specs.World.{Setup}
+use Rattle.sg_kernel.specs.World.{Setup, state_of}
+use Rattle.sg_states.specs.Actors.{is_ended}
 use Rattle.sg_rows.specs.Deployment.{Deployed}
 use Rattle.sg_rows.specs.Platform.{Platform}
 use Rattle.sg_script.specs.Stands.{one_more}
@@ -15,11 +21,10 @@ use Rattle.sg_script.specs.declared.fault.ScriptFault.{ScriptFault}
 use Rattle.sg_script.proofs.AllNeeds.{one_more_rises}
 use Rattle.sg_engine.specs.World.{World}
 use Rattle.sg_engine.specs.Output.{first_of, scene_of}
-use Rattle.sg_engine.specs.declared.actor_call.ActorCall.{ActorCall}
 use Rattle.sg_engine.specs.declared.ended.Ended.{Ended}
 use Rattle.sg_engine.specs.declared.ended.Ended.TheVariants as ended
-use Rattle.sg_engine.specs.kept.CallList.{calls_of}
-use Rattle.sg_engine.specs.Run.{Scene, Answering, Progress, at_world, and_then, and_then_by, answer_step, anyone_ready, are_completed, ask_step, call_after, calls_from, if_call, in_world, inboxes, is_ask, mind_after, one_call, round, round_or_pass, run_from, run_of, zip_with}
+use Rattle.sg_engine.specs.Run.{Scene, Answering, Progress, at_world, and_then, and_then_by, answer_step, anyone_ready, are_completed, ask_step, call_after, calls_from, created_by, creates, if_call, if_given, in_world, inboxes, is_ask, is_given, mind_after, minds_if, one_call, other_call, round, round_or_pass, run_from, run_of, zip_with}
+use Rattle.sg_engine.proofs.Runs.{Keeps}
 use Rattle.sg_engine.proofs.Starting.{length-minds_from}
 
 -- ---- what holds of a world
@@ -35,9 +40,6 @@ by_end P (Some how) first next before after = before
 abbrev pub HasAsks : (ℕ → ℕ) → World → Type 0
 HasAsks asks world = (x : ℕ) → asks x ≤ world.asks x
 
-asks_on : (asks : ℕ → ℕ) (mid new : World) → HasAsks asks mid → HasAsks mid.asks new → HasAsks asks new
-asks_on asks mid new before after x = omega (arith, before x, after x)
-
 answer_asks : (setup : Setup) (actor : ℕ) (result : Result (Option Action) ScriptFault) (world : World) → (answer_step setup actor result world).world.asks ≡ world.asks
 answer_asks setup actor (Ok action) world = refl
 answer_asks setup actor (Err why) world = refl
@@ -49,56 +51,16 @@ ask_made setup answers actor world unused =
     ap (λ (b : Bool). (cond b (at_world (Some ended.Budget) world) (answer_step setup actor (answers actor (world.asks actor)) next)).world.asks) unused
     ∙ answer_asks setup actor (answers actor (world.asks actor)) next
 
-ask_rises : (setup : Setup) (answers : Answering) (actor : ℕ) (world : World) → HasAsks world.asks (ask_step setup answers actor world).world
-ask_rises setup answers actor world =
-    let next : World = record world { asks = one_more actor world.asks } in
-    by_test (HasAsks world.asks) (world.core.events == setup.budget) (at_world (Some ended.Budget) world) (answer_step setup actor (answers actor (world.asks actor)) next) (λ x. omega arith)
-    (λ x. omega (arith, one_more_rises actor world.asks x, ap (λ (asks : ℕ → ℕ). asks x) (answer_asks setup actor (answers actor (world.asks actor)) next)))
-
-call_rises : (at : Scene) (answers : Answering) (actor : ℕ) (what : Call) (world : World) → HasAsks world.asks (one_call at answers actor what world).world
-call_rises at answers actor what world =
-    by_test (HasAsks world.asks) (at.script && is_ask what) (ask_step at.setup answers actor world) (in_world world (answered at.roads at.setup world.core actor what)) (ask_rises at.setup answers actor world) (λ x. omega arith)
-
-option_rises : (at : Scene) (answers : Answering) (actor : ℕ) (what : Option Call) (world : World) → HasAsks world.asks (if_call at answers actor what world).world
-option_rises at answers actor None world x = omega arith
-option_rises at answers actor (Some what) world x = call_rises at answers actor what world x
-
-then_rises : (first : Progress) (next : World → Progress) (world : World) → HasAsks world.asks first.world → ((mid : World) → HasAsks mid.asks (next mid).world) → HasAsks world.asks (and_then first next).world
-then_rises first next world before after = by_end (HasAsks world.asks) first.ended first next before (asks_on world.asks first.world (next first.world).world before (after first.world))
-
-calls_rise : (at : Scene) (answers : Answering) (actor : ℕ) (calls : List (Option Call)) (world : World) → HasAsks world.asks (calls_from at answers actor calls world).world
-unfolding calls_from
-calls_rise at answers actor [] world x = omega arith
-calls_rise at answers actor (what ∷ rest) world x =
-    then_rises (if_call at answers actor what world) (calls_from at answers (actor + 1) rest) world (option_rises at answers actor what world) (λ mid. calls_rise at answers (actor + 1) rest mid) x
-
-made_rise : (at : Scene) (answers : Answering) (calls : List ActorCall) (world : World) → HasAsks world.asks (calls_of at answers calls world).world
-unfolding calls_of
-made_rise at answers [] world x = omega arith
-made_rise at answers (made ∷ rest) world x =
-    then_rises (one_call at answers made.actor.0 made.call world) (calls_of at answers rest) world (call_rises at answers made.actor.0 made.call world) (λ mid. made_rise at answers rest mid) x
-
--- what one call has asked is asked behind it
-pub calls_rise_behind : (first : Progress) (at : Scene) (answers : Answering) (calls : List ActorCall) → HasAsks first.world.asks (and_then first (calls_of at answers calls)).world
-calls_rise_behind first at answers calls = then_rises first (calls_of at answers calls) first.world (λ x. omega arith) (λ mid. made_rise at answers calls mid)
-
-round_rises : (at : Scene) (answers : Answering) (world : World) → HasAsks world.asks (round at answers world).world
-round_rises at answers world = calls_rise at answers 1 (zip_with call_after world.minds (inboxes world.core)) (record world { minds = zip_with mind_after world.minds (inboxes world.core) })
-
-pub part_rises : (at : Scene) (answers : Answering) (world : World) → HasAsks world.asks (round_or_pass at answers world).world
-part_rises at answers world =
-    by_test (HasAsks world.asks) (anyone_ready world.core) (round at answers world) (in_world (record world { work = world.work + work_of world.core.under }) (pass_of at.setup world.core)) (round_rises at answers world) (λ x. omega arith)
-
-run_rises : (n : ℕ) (at : Scene) (answers : Answering) (world : World) → HasAsks world.asks (run_from n at answers world).world
-unfolding run_from
-run_rises zero at answers world x = omega arith
-run_rises (suc n) at answers world x =
-    by_test (HasAsks world.asks) (are_completed world.core) (at_world (Some ended.Completed) world) (and_then (round_or_pass at answers world) (run_from n at answers)) (λ y. omega arith)
-    (then_rises (round_or_pass at answers world) (run_from n at answers) world (part_rises at answers world) (λ mid. run_rises n at answers mid)) x
-
--- what the first part of a run has asked is asked behind it
-pub run_rises_behind : (n : ℕ) (first : Progress) (at : Scene) (answers : Answering) → HasAsks first.world.asks (and_then first (run_from n at answers)).world
-run_rises_behind n first at answers = then_rises first (run_from n at answers) first.world (λ x. omega arith) (λ mid. run_rises n at answers mid)
+pub asks_rise : Keeps (λ old new. HasAsks old.asks new)
+asks_rise = record {
+  same = λ world x. omega arith;
+  then = λ old mid new first second x. omega (arith, first x, second x);
+  asks = λ world actor x. omega (arith, one_more_rises actor world.asks x);
+  turns = λ world minds x. omega arith;
+  begins = λ world minds n x. omega arith;
+  steps = λ world core x. omega arith;
+  works = λ world n x. omega arith;
+}
 
 -- ---- by so many actors at most
 record IsAskedBy (n : ℕ) (world : World) : Type 0 where
@@ -120,10 +82,29 @@ ask_by n setup answers actor world within by =
     by_test (IsAskedBy n) (world.core.events == setup.budget) (at_world (Some ended.Budget) world) (answer_step setup actor (answers actor (world.asks actor)) next) by
     (answer_by n setup actor (answers actor (world.asks actor)) next (record { minds = by.minds; asks = λ x past. more_by n actor x world.asks within past ∙ by.asks x past }))
 
+minds_by : (n : ℕ) (given : Bool) (firsts : List Mind) (actor : ℕ) (minds : List (Option Mind)) → length minds ≤ n → length (minds_if given firsts actor minds) ≤ n
+minds_by n true firsts actor minds few = omega (arith, length-set minds (actor - 1) (slice_get firsts (actor - 1)), few)
+minds_by n false firsts actor minds few = few
+
+creates_by : (n : ℕ) (firsts : List Mind) (budget actor : ℕ) (target : ActorId) (world : World) → IsAskedBy n world → IsAskedBy n (creates firsts budget actor target world).world
+creates_by n firsts budget actor target world by =
+    let given = is_given target world in
+    by_test (IsAskedBy n) (world.core.events == budget) (at_world (Some ended.Budget) world) (in_world (if_given given firsts target.0 world) (created given actor target world.core)) by
+    (record { minds = minds_by n given firsts target.0 world.minds by.minds; asks = by.asks })
+
+other_by : (n : ℕ) (at : Scene) (answers : Answering) (actor : ℕ) (what : Call) (world : World) → actor ≤ n → IsAskedBy n world → IsAskedBy n (other_call at answers actor what world).world
+other_by n at answers actor what world within by =
+    by_test (IsAskedBy n) (at.script && is_ask what) (ask_step at.setup answers actor world) (in_world world (answered at.roads at.setup world.core actor what)) (ask_by n at.setup answers actor world within by) (record { minds = by.minds; asks = by.asks })
+
+by_created : (n : ℕ) (o : Option ActorId) (at : Scene) (answers : Answering) (actor : ℕ) (what : Call) (world : World) → actor ≤ n → IsAskedBy n world →
+    IsAskedBy n (option_map_or (λ target. creates at.firsts at.setup.budget actor target world) o (other_call at answers actor what world)).world
+by_created n None at answers actor what world within by = other_by n at answers actor what world within by
+by_created n (Some target) at answers actor what world within by = creates_by n at.firsts at.setup.budget actor target world by
+
 call_by : (n : ℕ) (at : Scene) (answers : Answering) (actor : ℕ) (what : Option Call) (world : World) → actor ≤ n → IsAskedBy n world → IsAskedBy n (if_call at answers actor what world).world
 call_by n at answers actor None world within by = by
 call_by n at answers actor (Some what) world within by =
-    by_test (IsAskedBy n) (at.script && is_ask what) (ask_step at.setup answers actor world) (in_world world (answered at.roads at.setup world.core actor what)) (ask_by n at.setup answers actor world within by) (record { minds = by.minds; asks = by.asks })
+    by_test (IsAskedBy n) (is_ended (state_of world.core actor)) (at_world None world) (one_call at answers actor what world) by (by_created n (created_by what) at answers actor what world within by)
 
 calls_by : (n : ℕ) (at : Scene) (answers : Answering) (actor : ℕ) (calls : List (Option Call)) (world : World) → actor + length calls ≤ n + 1 → IsAskedBy n world → IsAskedBy n (calls_from at answers actor calls world).world
 unfolding calls_from
@@ -158,9 +139,9 @@ run_by (suc parts) n at answers world by =
     (by_end (IsAskedBy n) first.ended first (run_from parts at answers) here (run_by parts n at answers first.world here))
 
 -- in the run of a deployment nobody else asks
-pub only_actors : (platform : Platform) (deployed : Deployed) (script : Bool) (budget : ℕ) (answers : Answering) (x : ℕ) → length deployed.actors < x → (run_of (scene_of platform deployed script budget) (first_of platform deployed budget) answers).world.asks x ≡ 0
-only_actors platform deployed script budget answers =
-    (run_by (budget + 1) (length deployed.actors) (scene_of platform deployed script budget) answers (first_of platform deployed budget) (record {
+pub only_actors : (platform : Platform) (deployed : Deployed) (script : Bool) (budget crew : ℕ) (answers : Answering) (x : ℕ) → length deployed.actors < x → (run_of (scene_of platform deployed script budget) (first_of platform deployed budget crew) answers).world.asks x ≡ 0
+only_actors platform deployed script budget crew answers =
+    (run_by (budget + 1) (length deployed.actors) (scene_of platform deployed script budget) answers (first_of platform deployed budget crew) (record {
       minds = omega (arith, length-minds_from 1 deployed.actors);
       asks = λ x past. refl;
     })).asks

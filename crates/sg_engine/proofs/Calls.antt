@@ -1,5 +1,5 @@
 -- Calls that are answered one after another.
-use Rattle.std.proofs.Common.{◌≡◌, ◌≢◌, ◌∙◌, sym, ap, ap₂, subst, refl, ℕ, ◌+◌, ◌==◌, ◌<◌, ◌≤◌, Bool, true, false, cond, List, [], ◌++◌, length, get_or, drop, Option, None, Some, Result, Ok, append_assoc}
+use Rattle.std.proofs.Common.{◌≡◌, ◌≢◌, ◌∙◌, sym, ap, ap₂, subst, refl, ℕ, ◌+◌, ◌==◌, ◌<◌, ◌≤◌, Bool, true, false, cond, List, [], ◌++◌, length, get_or, drop, Option, None, Some, Result, Ok, append_assoc, arith}
 use Rattle.std.specs.Prelude.{option_map, MatchResult, ◌&&◌}
 use Rattle.std.proofs.lemmas.List.{append-nil, at_drop_more, at_drop_all}
 use Rattle.sg_base.specs.declared.call.Action.{Action}
@@ -27,17 +27,18 @@ use Rattle.sg_engine.specs.declared.actor_call.ActorCall.{ActorCall}
 use Rattle.sg_engine.specs.declared.ended.Ended.{Ended}
 use Rattle.sg_engine.specs.declared.ended.Ended.TheVariants as ended
 use Rattle.sg_engine.specs.kept.CallList.{calls_of}
-use Rattle.sg_engine.specs.Run.{Scene, scene, Answering, Progress, at_world, and_then, ended_by, in_world, with_front, ask_step, is_ask, answer_step, one_call}
-use Rattle.sg_engine.specs.kept.Moments.{Moment, moment, moment_of, Fits, StandsFor, IsStretch, LacksMemory, ending, script_part}
-use Rattle.sg_engine.proofs.Asked.{ask_made, calls_rise_behind}
+use Rattle.sg_engine.specs.Run.{Scene, scene, Answering, Progress, at_world, and_then, ended_by, in_world, with_front, ask_step, is_ask, answer_step, other_call, unless_killed}
+use Rattle.sg_engine.specs.kept.Moments.{Cast, Moment, moment, moment_of, Fits, StandsFor, IsStretch, LacksMemory, ending, script_part}
+use Rattle.sg_engine.proofs.Asked.{ask_made, asks_rise}
+use Rattle.sg_engine.proofs.Runs.{ask_keeps, calls_keep_behind, contexts_fall}
 use Rattle.sg_engine.proofs.Reaching.{goes_back, matched_as, reached_then, reached_as, reached_spent, rest_as, goes_on_to, ends_at, stands_as}
 
 -- ---- one call
 -- a step of the kernel, for which nothing of the script was read
-pub stepped : (names : Names) (taken : List ℕ) (minds : List (Option Mind)) (part : PartView) (kept : Kept) (old new : Known) (room : ℕ) (world : World) (step : Core → Step) (how : Option Ended) →
-    part.stage ≢ Fresh → StandsFor names taken minds (moment part kept old) world → new ≡ record (after (step old.core) old) { room = room } → how ≡ option_map ended_by (step old.core).stop →
-    IsStretch world.work names (λ answers. in_world world (step world.core)) (ending how) taken minds (moment part kept old) (moment part kept new)
-stepped names taken minds part kept old new room world step how begun stands is ends =
+pub stepped : (names : Names) (taken : List ℕ) (cast : Cast) (part : PartView) (kept : Kept) (old new : Known) (room : ℕ) (world : World) (step : Core → Step) (how : Option Ended) →
+    part.stage ≢ Fresh → StandsFor names taken cast (moment part kept old) world → new ≡ record (after (step old.core) old) { room = room } → how ≡ option_map ended_by (step old.core).stop →
+    IsStretch world.work names (λ answers. in_world world (step world.core)) (ending how) taken cast (moment part kept old) (moment part kept new)
+stepped names taken cast part kept old new room world step how begun stands is ends =
     let led : World = record world { core = (step world.core).core } in
     let core : new.core ≡ led.core = ap (λ (k : Known). k.core) is ∙ ap (λ (c : Core). (step c).core) stands.core in
     let ended : how ≡ option_map ended_by (step world.core).stop = ends ∙ ap (λ (c : Core). option_map ended_by (step c).stop) stands.core in
@@ -46,7 +47,7 @@ stepped names taken minds part kept old new room world step how begun stands is 
       reads = reads_none part begun;
       setup = ap (λ (k : Known). k.setup) is;
       world = led;
-      stands = stands_as names taken (taken ++ []) minds (moment part kept new) led (sym (append-nil taken)) (record { script = stands.script; core = core; minds = stands.minds });
+      stands = stands_as names taken (taken ++ []) cast (moment part kept new) led (sym (append-nil taken)) (record { script = stands.script; core = core; cast = stands.cast });
       work = refl;
       made = (step world.core).made;
       records = ap (λ (k : Known). k.records) is ∙ ap (λ (c : Core). old.records ++ (step c).made) stands.core;
@@ -56,15 +57,15 @@ stepped names taken minds part kept old new room world step how begun stands is 
     }
 
 -- the budget is used up: nothing happens
-pub used_up : (names : Names) (taken : List ℕ) (minds : List (Option Mind)) (part : PartView) (kept : Kept) (known : Known) (world : World) (actor : ℕ) →
-    part.stage ≢ Fresh → StandsFor names taken minds (moment part kept known) world → (known.core.events == known.setup.budget) ≡ true →
-    IsStretch world.work names (λ answers. ask_step known.setup answers actor world) (ending (Some ended.Budget)) taken minds (moment part kept known) (moment part kept known)
-used_up names taken minds part kept known world actor begun stands used = record {
+pub used_up : (names : Names) (taken : List ℕ) (cast : Cast) (part : PartView) (kept : Kept) (known : Known) (world : World) (actor : ℕ) →
+    part.stage ≢ Fresh → StandsFor names taken cast (moment part kept known) world → (known.core.events == known.setup.budget) ≡ true →
+    IsStretch world.work names (λ answers. ask_step known.setup answers actor world) (ending (Some ended.Budget)) taken cast (moment part kept known) (moment part kept known)
+used_up names taken cast part kept known world actor begun stands used = record {
   piece = [];
   reads = reads_none part begun;
   setup = refl;
   world = world;
-  stands = stands_as names taken (taken ++ []) minds (moment part kept known) world (sym (append-nil taken)) stands;
+  stands = stands_as names taken (taken ++ []) cast (moment part kept known) world (sym (append-nil taken)) stands;
   work = refl;
   made = [];
   records = sym (append-nil known.records);
@@ -74,10 +75,10 @@ used_up names taken minds part kept known world actor begun stands used = record
 }
 
 -- the script has answered an Ask
-abbrev pub asked_to : (names : Names) (taken : List ℕ) (minds : List (Option Mind)) (part part' : PartView) (kept kept' : Kept) (known : Known) (world : World) (actor : ℕ) (answer : Result (Option Action) ScriptFault) →
-    StandsFor names taken minds (moment part kept known) world → (known.core.events == known.setup.budget) ≡ false → IsAsked names taken world.asks actor answer part part' kept' →
-    IsStretch world.work names (λ answers. ask_step known.setup answers actor world) (λ answers w. answer_step known.setup actor answer w) taken minds (moment part kept known) (moment part' kept' known)
-asked_to names taken minds part part' kept kept' known world actor answer stands unused is_asked = record {
+abbrev pub asked_to : (names : Names) (taken : List ℕ) (cast : Cast) (part part' : PartView) (kept kept' : Kept) (known : Known) (world : World) (actor : ℕ) (answer : Result (Option Action) ScriptFault) →
+    StandsFor names taken cast (moment part kept known) world → (known.core.events == known.setup.budget) ≡ false → IsAsked names taken world.asks actor answer part part' kept' →
+    IsStretch world.work names (λ answers. ask_step known.setup answers actor world) (λ answers w. answer_step known.setup actor answer w) taken cast (moment part kept known) (moment part' kept' known)
+asked_to names taken cast part part' kept kept' known world actor answer stands unused is_asked = record {
   piece = is_asked.piece;
   reads = is_asked.reads;
   setup = refl;
@@ -85,7 +86,7 @@ asked_to names taken minds part part' kept kept' known world actor answer stands
   stands = record {
     script = record { stands = is_asked.stands; needed = add_up names taken is_asked.piece world.asks actor part part' is_asked.reads stands.script.needed is_asked.near };
     core = stands.core;
-    minds = stands.minds;
+    cast = stands.cast;
   };
   work = refl;
   made = [];
@@ -99,40 +100,41 @@ asked_to names taken minds part part' kept kept' known world actor answer stands
 }
 
 -- and the kernel has told it to the actor
-pub told_to : (names : Names) (taken : List ℕ) (minds : List (Option Mind)) (part part' : PartView) (kept kept' : Kept) (old new : Known) (room : ℕ) (world : World) (actor : ℕ) (action : Option Action) (how : Option Ended) →
-    StandsFor names taken minds (moment part kept old) world → (old.core.events == old.setup.budget) ≡ false → IsAsked names taken world.asks actor (Ok action) part part' kept' →
+pub told_to : (names : Names) (taken : List ℕ) (cast : Cast) (part part' : PartView) (kept kept' : Kept) (old new : Known) (room : ℕ) (world : World) (actor : ℕ) (action : Option Action) (how : Option Ended) →
+    StandsFor names taken cast (moment part kept old) world → (old.core.events == old.setup.budget) ≡ false → IsAsked names taken world.asks actor (Ok action) part part' kept' →
     new ≡ record (after (told old.setup old.core actor action) old) { room = room } → how ≡ option_map ended_by (told old.setup old.core actor action).stop →
-    IsStretch world.work names (λ answers. ask_step old.setup answers actor world) (ending how) taken minds (moment part kept old) (moment part' kept' new)
-told_to names taken minds part part' kept kept' old new room world actor action how stands unused is_asked is ends =
-    let first = asked_to names taken minds part part' kept kept' old world actor (Ok action) stands unused is_asked in
+    IsStretch world.work names (λ answers. ask_step old.setup answers actor world) (ending how) taken cast (moment part kept old) (moment part' kept' new)
+told_to names taken cast part part' kept kept' old new room world actor action how stands unused is_asked is ends =
+    let first = asked_to names taken cast part part' kept kept' old world actor (Ok action) stands unused is_asked in
     let step : Core → Step = λ c. told old.setup c actor action in
-    reached_then names (λ answers. ask_step old.setup answers actor world) (λ answers w. answer_step old.setup actor (Ok action) w) (ending how) taken minds minds (moment part kept old) (moment part' kept' old) (moment part' kept' new) first
-    (stepped names (taken ++ is_asked.piece) minds part' kept' old new room (record world { asks = one_more actor world.asks }) step how is_asked.reads.begun first.stands is ends)
+    reached_then names (λ answers. ask_step old.setup answers actor world) (λ answers w. answer_step old.setup actor (Ok action) w) (ending how) taken cast cast (moment part kept old) (moment part' kept' old) (moment part' kept' new) first
+    (stepped names (taken ++ is_asked.piece) cast part' kept' old new room (record world { asks = one_more actor world.asks }) step how is_asked.reads.begun first.stands is ends)
 
 -- or memory was wanting for it
-pub cut_asked : (names : Names) (taken : List ℕ) (minds : List (Option Mind)) (part part' : PartView) (kept kept' : Kept) (known : Known) (world : World) (actor : ℕ) →
-    StandsFor names taken minds (moment part kept known) world → (known.core.events == known.setup.budget) ≡ false → IsCut names taken world.asks actor part part' kept' →
-    LacksMemory names (λ answers. ask_step known.setup answers actor world) taken part part'
-cut_asked names taken minds part part' kept kept' known world actor stands unused cut = record {
+pub cut_asked : (names : Names) (taken : List ℕ) (cast : Cast) (part part' : PartView) (kept kept' : Kept) (known : Known) (world : World) (actor : ℕ) →
+    StandsFor names taken cast (moment part kept known) world → (known.core.events == known.setup.budget) ≡ false → IsCut names taken world.asks actor part part' kept' →
+    LacksMemory names (λ answers. ask_step known.setup answers actor world) taken cast.contexts part part'
+cut_asked names taken cast part part' kept kept' known world actor stands unused cut = record {
   piece = cut.piece;
   reads = cut.reads;
   needed = λ source goes.
       let here : (world.core.events == known.setup.budget) ≡ false = ap (λ (core : Core). core.events == known.setup.budget) (sym stands.core) ∙ unused in
       subst (λ (asks : ℕ → ℕ). IsWithinNeed names source asks (length (taken ++ cut.piece))) (sym (ask_made known.setup (answer_of names source) actor world here))
       (add_up names taken cut.piece world.asks actor part part' cut.reads stands.script.needed cut.near source goes);
+  contexts = λ source goes. omega (arith, ask_keeps contexts_fall known.setup (answer_of names source) actor world, ap (λ (c : Cast). c.contexts) stands.cast);
 }
 
 -- ---- who answers
 -- the script answers an Ask
-pub script_answers : {E : Type 0} (script : Bool) (names : Names) (roads : Roads) (setup : Setup) (actor : ℕ) (what : Call) (taken : List ℕ) (minds : List (Option Mind)) (world : World) (part part' : PartView) (reader reader' : Script) (old new : Known) (result : Result (Option Ended) E) →
+pub script_answers : {E : Type 0} (script : Bool) (names : Names) (roads : Roads) (setup : Setup) (firsts : List Mind) (actor : ℕ) (what : Call) (taken : List ℕ) (cast : Cast) (world : World) (part part' : PartView) (reader reader' : Script) (old new : Known) (result : Result (Option Ended) E) →
     (script && is_ask what) ≡ true →
-    (StandsFor names taken minds (moment part (kept_of reader) old) world → MatchResult result (λ how. IsStretch world.work names (λ answers. ask_step setup answers actor world) (ending how) taken minds (moment part (kept_of reader) old) (moment part' (kept_of reader') new)) (λ _. LacksMemory names (λ answers. ask_step setup answers actor world) taken part part')) →
-    StandsFor names taken minds (moment_of script part reader old) world →
-    MatchResult result (λ how. IsStretch world.work names (λ answers. one_call (scene roads setup script) answers actor what world) (ending how) taken minds (moment_of script part reader old) (moment_of script part' reader' new)) (λ _. LacksMemory names (λ answers. one_call (scene roads setup script) answers actor what world) taken (script_part script part) (script_part script part'))
-script_answers true names roads setup actor what taken minds world part part' reader reader' old new result is step stands =
-    matched_as world.work result names (λ answers. ask_step setup answers actor world) (λ answers. one_call (scene roads setup true) answers actor what world) taken minds _ _
+    (StandsFor names taken cast (moment part (kept_of reader) old) world → MatchResult result (λ how. IsStretch world.work names (λ answers. ask_step setup answers actor world) (ending how) taken cast (moment part (kept_of reader) old) (moment part' (kept_of reader') new)) (λ _. LacksMemory names (λ answers. ask_step setup answers actor world) taken cast.contexts part part')) →
+    StandsFor names taken cast (moment_of script part reader old) world →
+    MatchResult result (λ how. IsStretch world.work names (λ answers. other_call (scene roads setup firsts script) answers actor what world) (ending how) taken cast (moment_of script part reader old) (moment_of script part' reader' new)) (λ _. LacksMemory names (λ answers. other_call (scene roads setup firsts script) answers actor what world) taken cast.contexts (script_part script part) (script_part script part'))
+script_answers true names roads setup firsts actor what taken cast world part part' reader reader' old new result is step stands =
+    matched_as world.work result names (λ answers. ask_step setup answers actor world) (λ answers. other_call (scene roads setup firsts true) answers actor what world) taken cast _ _
     (λ answers. ap (λ (b : Bool). cond b (ask_step setup answers actor world) (in_world world (answered roads setup world.core actor what))) is) (step stands)
-script_answers false names roads setup actor what taken minds world part part' reader reader' old new result is step stands = absurd (cc is)
+script_answers false names roads setup firsts actor what taken cast world part part' reader reader' old new result is step stands = absurd (cc is)
 
 pub is_scripted : (script asks : Bool) → (script && asks) ≡ true → script ≡ true
 is_scripted true asks is = refl
@@ -155,7 +157,7 @@ not_unscripted script is isnt = absurd (let e : true ≡ false = sym is ∙ isnt
 
 -- ---- calls one after another
 calls_more : (at : Scene) (answers : Answering) (calls : List ActorCall) (i : ℕ) (d : ActorCall) (world : World) → i < length calls →
-    calls_of at answers (drop i calls) world ≡ and_then (one_call at answers (get_or calls i d).actor.0 (get_or calls i d).call world) (calls_of at answers (drop (i + 1) calls))
+    calls_of at answers (drop i calls) world ≡ and_then (unless_killed at answers (get_or calls i d).actor.0 (get_or calls i d).call world) (calls_of at answers (drop (i + 1) calls))
 unfolding calls_of
 calls_more at answers calls i d world within = at_drop_more (λ l. calls_of at answers l world) calls i d within
 
@@ -168,56 +170,65 @@ abbrev pub rest_from : Scene → List ActorCall → ℕ → Answering → World 
 rest_from at calls i answers world = calls_of at answers (drop i calls) world
 
 abbrev at_place : Scene → ActorCall → World → Answering → Progress
-at_place at made world answers = one_call at answers made.actor.0 made.call world
+at_place at made world answers = unless_killed at answers made.actor.0 made.call world
 
 -- one more call was answered, and the run goes on
-pub one_more_call : {spent : ℕ} (names : Names) (whole : Answering → Progress) (roads : Roads) (setup : Setup) (script : Bool) (calls : List ActorCall) (i : ℕ) (d : ActorCall) (taken : List ℕ) (minds : List (Option Mind)) (old mid new : Moment) → i < length calls → mid.kernel.setup ≡ setup →
-    (first : IsStretch spent names whole (rest_from (scene roads setup script) calls i) taken minds old mid) → IsStretch first.world.work names (λ answers. one_call (scene roads mid.kernel.setup script) answers (get_or calls i d).actor.0 (get_or calls i d).call first.world) (ending None) (taken ++ first.piece) minds mid new →
-    IsStretch spent names whole (rest_from (scene roads setup script) calls (i + 1)) taken minds old new
-one_more_call {spent} names whole roads setup script calls i d taken minds old mid new within same first step =
-    let here : IsStretch first.world.work names (at_place (scene roads setup script) (get_or calls i d) first.world) (ending None) (taken ++ first.piece) minds mid new =
-    subst (λ (s : Setup). IsStretch first.world.work names (at_place (scene roads s script) (get_or calls i d) first.world) (ending None) (taken ++ first.piece) minds mid new) same step in
-    reached_spent first.world.work spent names whole (rest_from (scene roads setup script) calls (i + 1)) taken minds old new first.work
-    (reached_then names whole (rest_from (scene roads setup script) calls i) (rest_from (scene roads setup script) calls (i + 1)) taken minds minds old mid new first
-    (reached_as names _ (λ answers. rest_from (scene roads setup script) calls i answers first.world) (rest_from (scene roads setup script) calls (i + 1)) (taken ++ first.piece) minds mid new (λ answers. calls_more (scene roads setup script) answers calls i d first.world within)
-    (goes_on_to names (at_place (scene roads setup script) (get_or calls i d) first.world) (rest_from (scene roads setup script) calls (i + 1)) (taken ++ first.piece) minds mid new here)))
+pub one_more_call : {spent : ℕ} (names : Names) (whole : Answering → Progress) (roads : Roads) (setup : Setup) (firsts : List Mind) (script : Bool) (calls : List ActorCall) (i : ℕ) (d : ActorCall) (taken : List ℕ) (cast cast' : Cast) (old mid new : Moment) → i < length calls → mid.kernel.setup ≡ setup →
+    (first : IsStretch spent names whole (rest_from (scene roads setup firsts script) calls i) taken cast old mid) → IsStretch first.world.work names (λ answers. unless_killed (scene roads mid.kernel.setup firsts script) answers (get_or calls i d).actor.0 (get_or calls i d).call first.world) (ending None) (taken ++ first.piece) cast' mid new →
+    IsStretch spent names whole (rest_from (scene roads setup firsts script) calls (i + 1)) taken cast' old new
+one_more_call {spent} names whole roads setup firsts script calls i d taken cast cast' old mid new within same first step =
+    let here : IsStretch first.world.work names (at_place (scene roads setup firsts script) (get_or calls i d) first.world) (ending None) (taken ++ first.piece) cast' mid new =
+    subst (λ (s : Setup). IsStretch first.world.work names (at_place (scene roads s firsts script) (get_or calls i d) first.world) (ending None) (taken ++ first.piece) cast' mid new) same step in
+    reached_spent first.world.work spent names whole (rest_from (scene roads setup firsts script) calls (i + 1)) taken cast' old new first.work
+    (reached_then names whole (rest_from (scene roads setup firsts script) calls i) (rest_from (scene roads setup firsts script) calls (i + 1)) taken cast cast' old mid new first
+    (reached_as names _ (λ answers. rest_from (scene roads setup firsts script) calls i answers first.world) (rest_from (scene roads setup firsts script) calls (i + 1)) (taken ++ first.piece) cast' mid new (λ answers. calls_more (scene roads setup firsts script) answers calls i d first.world within)
+    (goes_on_to names (at_place (scene roads setup firsts script) (get_or calls i d) first.world) (rest_from (scene roads setup firsts script) calls (i + 1)) (taken ++ first.piece) cast' mid new here)))
 
 -- one more call was answered, and the run has ended
-pub last_call : {spent : ℕ} (names : Names) (whole : Answering → Progress) (roads : Roads) (setup : Setup) (script : Bool) (calls : List ActorCall) (i : ℕ) (d : ActorCall) (how : Ended) (taken : List ℕ) (minds : List (Option Mind)) (old mid new : Moment) → i < length calls → mid.kernel.setup ≡ setup →
-    (first : IsStretch spent names whole (rest_from (scene roads setup script) calls i) taken minds old mid) → IsStretch first.world.work names (λ answers. one_call (scene roads mid.kernel.setup script) answers (get_or calls i d).actor.0 (get_or calls i d).call first.world) (ending (Some how)) (taken ++ first.piece) minds mid new →
-    IsStretch spent names whole (ending (Some how)) taken minds old new
-last_call {spent} names whole roads setup script calls i d how taken minds old mid new within same first step =
-    let here : IsStretch first.world.work names (at_place (scene roads setup script) (get_or calls i d) first.world) (ending (Some how)) (taken ++ first.piece) minds mid new =
-    subst (λ (s : Setup). IsStretch first.world.work names (at_place (scene roads s script) (get_or calls i d) first.world) (ending (Some how)) (taken ++ first.piece) minds mid new) same step in
-    reached_spent first.world.work spent names whole (ending (Some how)) taken minds old new first.work
-    (reached_then names whole (rest_from (scene roads setup script) calls i) (ending (Some how)) taken minds minds old mid new first
-    (reached_as names _ (λ answers. rest_from (scene roads setup script) calls i answers first.world) (ending (Some how)) (taken ++ first.piece) minds mid new (λ answers. calls_more (scene roads setup script) answers calls i d first.world within)
-    (ends_at names (at_place (scene roads setup script) (get_or calls i d) first.world) (rest_from (scene roads setup script) calls (i + 1)) how (taken ++ first.piece) minds mid new here)))
+pub last_call : {spent : ℕ} (names : Names) (whole : Answering → Progress) (roads : Roads) (setup : Setup) (firsts : List Mind) (script : Bool) (calls : List ActorCall) (i : ℕ) (d : ActorCall) (how : Ended) (taken : List ℕ) (cast cast' : Cast) (old mid new : Moment) → i < length calls → mid.kernel.setup ≡ setup →
+    (first : IsStretch spent names whole (rest_from (scene roads setup firsts script) calls i) taken cast old mid) → IsStretch first.world.work names (λ answers. unless_killed (scene roads mid.kernel.setup firsts script) answers (get_or calls i d).actor.0 (get_or calls i d).call first.world) (ending (Some how)) (taken ++ first.piece) cast' mid new →
+    IsStretch spent names whole (ending (Some how)) taken cast' old new
+last_call {spent} names whole roads setup firsts script calls i d how taken cast cast' old mid new within same first step =
+    let here : IsStretch first.world.work names (at_place (scene roads setup firsts script) (get_or calls i d) first.world) (ending (Some how)) (taken ++ first.piece) cast' mid new =
+    subst (λ (s : Setup). IsStretch first.world.work names (at_place (scene roads s firsts script) (get_or calls i d) first.world) (ending (Some how)) (taken ++ first.piece) cast' mid new) same step in
+    reached_spent first.world.work spent names whole (ending (Some how)) taken cast' old new first.work
+    (reached_then names whole (rest_from (scene roads setup firsts script) calls i) (ending (Some how)) taken cast cast' old mid new first
+    (reached_as names _ (λ answers. rest_from (scene roads setup firsts script) calls i answers first.world) (ending (Some how)) (taken ++ first.piece) cast' mid new (λ answers. calls_more (scene roads setup firsts script) answers calls i d first.world within)
+    (ends_at names (at_place (scene roads setup firsts script) (get_or calls i d) first.world) (rest_from (scene roads setup firsts script) calls (i + 1)) how (taken ++ first.piece) cast' mid new here)))
 
 -- no call is left
-pub all_called : {spent : ℕ} (names : Names) (whole : Answering → Progress) (at : Scene) (calls : List ActorCall) (i : ℕ) (taken : List ℕ) (minds : List (Option Mind)) (old new : Moment) → length calls ≤ i →
-    IsStretch spent names whole (rest_from at calls i) taken minds old new → IsStretch spent names whole (ending None) taken minds old new
-all_called names whole at calls i taken minds old new past reached = rest_as names whole (rest_from at calls i) (ending None) taken minds old new (λ answers world. calls_none at answers calls i world past) reached
+pub all_called : {spent : ℕ} (names : Names) (whole : Answering → Progress) (at : Scene) (calls : List ActorCall) (i : ℕ) (taken : List ℕ) (cast : Cast) (old new : Moment) → length calls ≤ i →
+    IsStretch spent names whole (rest_from at calls i) taken cast old new → IsStretch spent names whole (ending None) taken cast old new
+all_called names whole at calls i taken cast old new past reached = rest_as names whole (rest_from at calls i) (ending None) taken cast old new (λ answers world. calls_none at answers calls i world past) reached
 
 -- memory was wanting at a later call
-pub cut_later : {spent : ℕ} (names : Names) (whole : Answering → Progress) (roads : Roads) (setup : Setup) (script : Bool) (calls : List ActorCall) (i : ℕ) (d : ActorCall) (taken : List ℕ) (minds : List (Option Mind)) (old mid : Moment) (new : PartView) → i < length calls → mid.kernel.setup ≡ setup →
-    (first : IsStretch spent names whole (rest_from (scene roads setup script) calls i) taken minds old mid) → LacksMemory names (λ answers. one_call (scene roads mid.kernel.setup script) answers (get_or calls i d).actor.0 (get_or calls i d).call first.world) (taken ++ first.piece) mid.part new →
-    LacksMemory names whole taken old.part new
-cut_later names whole roads setup script calls i d taken minds old mid new within same first cut =
+pub cut_later : {spent : ℕ} (names : Names) (whole : Answering → Progress) (roads : Roads) (setup : Setup) (firsts : List Mind) (script : Bool) (calls : List ActorCall) (i : ℕ) (d : ActorCall) (taken : List ℕ) (cast : Cast) (left : ℕ) (old mid : Moment) (new : PartView) → i < length calls → mid.kernel.setup ≡ setup →
+    (first : IsStretch spent names whole (rest_from (scene roads setup firsts script) calls i) taken cast old mid) → LacksMemory names (λ answers. unless_killed (scene roads mid.kernel.setup firsts script) answers (get_or calls i d).actor.0 (get_or calls i d).call first.world) (taken ++ first.piece) left mid.part new →
+    LacksMemory names whole taken left old.part new
+cut_later names whole roads setup firsts script calls i d taken cast left old mid new within same first cut =
     let joined : (taken ++ first.piece) ++ cut.piece ≡ taken ++ (first.piece ++ cut.piece) = append_assoc taken first.piece cut.piece in
     record {
       piece = first.piece ++ cut.piece;
       reads = reads_then first.piece cut.piece old.part mid.part new first.reads cut.reads;
       needed = λ source goes.
-          let at : Scene = scene roads setup script in
+          let at : Scene = scene roads setup firsts script in
           let answers = answer_of names source in
           let there : GoesOn ((taken ++ first.piece) ++ cut.piece) new.stage source = subst (λ (t : List ℕ). GoesOn t new.stage source) (sym joined) goes in
           let call : Progress = at_place at (get_or calls i d) first.world answers in
-          let here : IsWithinNeed names source call.world.asks (length ((taken ++ first.piece) ++ cut.piece)) = subst (λ (s : Setup). IsWithinNeed names source (at_place (scene roads s script) (get_or calls i d) first.world answers).world.asks (length ((taken ++ first.piece) ++ cut.piece))) same (cut.needed source there) in
+          let here : IsWithinNeed names source call.world.asks (length ((taken ++ first.piece) ++ cut.piece)) = subst (λ (s : Setup). IsWithinNeed names source (at_place (scene roads s firsts script) (get_or calls i d) first.world answers).world.asks (length ((taken ++ first.piece) ++ cut.piece))) same (cut.needed source there) in
           let all : whole answers ≡ with_front first.made (and_then call (calls_of at answers (drop (i + 1) calls))) =
           first.is source (goes_back (taken ++ first.piece) cut.piece mid.part new source cut.reads there) ∙ ap (with_front first.made) (calls_more at answers calls i d first.world within) in
           let behind : IsWithinNeed names source (and_then call (calls_of at answers (drop (i + 1) calls))).world.asks (length ((taken ++ first.piece) ++ cut.piece)) =
-          within_more names source call.world.asks _ _ (calls_rise_behind call at answers (drop (i + 1) calls)) here in
+          within_more names source call.world.asks _ _ (calls_keep_behind asks_rise call at answers (drop (i + 1) calls)) here in
           subst (λ (t : List ℕ). IsWithinNeed names source (whole answers).world.asks (length t)) joined
           (subst (λ (p : Progress). IsWithinNeed names source p.world.asks (length ((taken ++ first.piece) ++ cut.piece))) (sym all) behind);
+      contexts = λ source goes.
+          let at : Scene = scene roads setup firsts script in
+          let answers = answer_of names source in
+          let there : GoesOn ((taken ++ first.piece) ++ cut.piece) new.stage source = subst (λ (t : List ℕ). GoesOn t new.stage source) (sym joined) goes in
+          let call : Progress = at_place at (get_or calls i d) first.world answers in
+          let here : call.world.contexts ≤ left = subst (λ (s : Setup). (at_place (scene roads s firsts script) (get_or calls i d) first.world answers).world.contexts ≤ left) same (cut.contexts source there) in
+          let all : whole answers ≡ with_front first.made (and_then call (calls_of at answers (drop (i + 1) calls))) =
+          first.is source (goes_back (taken ++ first.piece) cut.piece mid.part new source cut.reads there) ∙ ap (with_front first.made) (calls_more at answers calls i d first.world within) in
+          omega (arith, ap (λ (p : Progress). p.world.contexts) all, calls_keep_behind contexts_fall call at answers (drop (i + 1) calls), here);
     }

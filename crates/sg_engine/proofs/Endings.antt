@@ -1,5 +1,5 @@
 -- From what a run has come to, to what it has written in all.
-use Rattle.std.proofs.Common.{◌≡◌, ◌≢◌, ◌≤◌, ◌+◌, ◌∙◌, arith, ap, sym, subst, refl, ℕ, List, [], ◌++◌, length, Bool, true, false, IsTrue, Option, None, Some}
+use Rattle.std.proofs.Common.{◌≡◌, ◌≢◌, ◌≤◌, ◌+◌, ◌-◌, ◌∙◌, arith, ap, sym, subst, refl, ℕ, List, [], ◌++◌, length, Bool, true, false, IsTrue, Option, None, Some}
 use Rattle.std.proofs.lemmas.List.{append-nil}
 use Rattle.std.specs.Prelude.{MatchBool, IsSome}
 use Rattle.sg_edge.specs.declared.sinks.Stream.{Stream}
@@ -10,7 +10,7 @@ use Rattle.sg_edge.specs.Files.{PartView, before, KeepsTelling, NoneLeft, TakesU
 use Rattle.sg_edge.specs.Sources.{Source, Gives}
 use Rattle.sg_edge.specs.Sinks.{IsWritten}
 use Rattle.sg_kernel.specs.World.{Core}
-use Rattle.sg_rows.specs.Deployment.{Deployed}
+use Rattle.sg_rows.specs.Deployment.{Deployed, started_number}
 use Rattle.sg_rows.specs.Platform.{Platform}
 use Rattle.sg_script.specs.Answer.{answer_of}
 use Rattle.sg_script.specs.Known.{known_in}
@@ -22,13 +22,14 @@ use Rattle.sg_script.proofs.Whole.{given_goes_on}
 use Rattle.sg_engine.specs.declared.ended.Ended.{Ended}
 use Rattle.sg_engine.specs.declared.show.Show.{Show}
 use Rattle.sg_engine.specs.Gains.{GainsAll, GainsFronts}
-use Rattle.sg_engine.specs.RunContract.{is_cut, Ends, IsBroken}
+use Rattle.sg_engine.specs.RunContract.{is_cut, Ends, IsBroken, TakesContexts}
 use Rattle.sg_engine.specs.Output.{first_of, trace_of, last_lines, fault_line, written_of, run_output, scene_of}
 use Rattle.sg_engine.specs.kept.Moments.{AreNeededBy, script_part}
-use Rattle.sg_engine.specs.Run.{Progress, run_of}
+use Rattle.sg_engine.specs.Run.{Answering, Progress, run_of}
 use Rattle.sg_engine.specs.kept.Stretches.{CutsOff, IsOver}
 use Rattle.sg_engine.specs.kept.Writing.{Pending, pending}
 use Rattle.sg_engine.proofs.Asked.{only_actors}
+use Rattle.sg_engine.proofs.Runs.{contexts_fall, run_keeps}
 use Rattle.sg_engine.proofs.Fronts.{front_more, fronts_out, fronts_behind, all_behind}
 
 -- the source that a run's part gives goes on from what was read
@@ -41,34 +42,70 @@ ends_by : (b : Bool) (front waiting out err : List ℕ) (how result : Ended) (ol
 ends_by true front waiting out err how result old mid new wrote same ends = fronts_behind front waiting out err old mid new wrote same ends
 ends_by false front waiting out err how result old mid new wrote same ends = (ends.0, all_behind front waiting out err old mid new wrote same ends.1)
 
-pub run_ends : (start count : ℕ) (platform : Platform) (deployed : Deployed) (script : Bool) (budget : ℕ) (show : Show) (how result : Ended) (core : Core) (p0 p1 : PartView) (waiting : List ℕ) (old mid new : Stream → Option (List ℕ)) (source : Source) → Going p0 p1 source →
-    IsOver start count (known_in deployed) (trace_of show platform deployed) (run_of (scene_of platform deployed script budget) (first_of platform deployed budget)) how core p0 p1 (pending (old Out) []) (pending (mid Out) waiting) → mid Err ≡ old Err →
-    Ends (waiting ++ last_lines show platform deployed budget core how) (fault_line platform how) how result mid new → let want = run_output platform deployed script budget show source in Ends want.out want.err want.ended result old new
-run_ends start count platform deployed script budget show how result core p0 p1 waiting old mid new source going over same ends =
+pub run_ends : (start count left : ℕ) (platform : Platform) (deployed : Deployed) (script : Bool) (budget crew : ℕ) (show : Show) (how result : Ended) (core : Core) (p0 p1 : PartView) (waiting : List ℕ) (old mid new : Stream → Option (List ℕ)) (source : Source) → Going p0 p1 source →
+    IsOver start count left (known_in deployed) (trace_of show platform deployed) (run_of (scene_of platform deployed script budget) (first_of platform deployed budget crew)) how core p0 p1 (pending (old Out) []) (pending (mid Out) waiting) → mid Err ≡ old Err →
+    Ends (waiting ++ last_lines show platform deployed budget core how) (fault_line platform how) how result mid new → let want = run_output platform deployed script budget crew show source in Ends want.out want.err want.ended result old new
+run_ends start count left platform deployed script budget crew show how result core p0 p1 waiting old mid new source going over same ends =
     let trace = trace_of show platform deployed over.made in
     let last : Ends (waiting ++ last_lines show platform deployed budget over.world.core how) (fault_line platform how) how result mid new = subst (λ (c : Core). Ends (waiting ++ last_lines show platform deployed budget c how) (fault_line platform how) how result mid new) over.core_is ends in
     let all : Ends (trace ++ last_lines show platform deployed budget over.world.core how) (fault_line platform how) how result old new = ends_by (is_cut result) trace waiting (last_lines show platform deployed budget over.world.core how) (fault_line platform how) how result old mid new over.printed same last in
-    let written : Progress → Type 0 = λ p. Ends (written_of show platform deployed budget source p).out (written_of show platform deployed budget source p).err (written_of show platform deployed budget source p).ended result old new in
+    let written : Progress → Type 0 = λ p. Ends (written_of show platform deployed budget crew source p).out (written_of show platform deployed budget crew source p).err (written_of show platform deployed budget crew source p).ended result old new in
     subst written (sym (over.is source (going over.piece over.reads))) all
 
 -- the work of a run that has come to its end
-pub run_work : (start count : ℕ) (platform : Platform) (deployed : Deployed) (script : Bool) (budget : ℕ) (show : Show) (how : Ended) (core : Core) (p0 p1 : PartView) (before after : Pending) (source : Source) → Going p0 p1 source →
-    IsOver start count (known_in deployed) (trace_of show platform deployed) (run_of (scene_of platform deployed script budget) (first_of platform deployed budget)) how core p0 p1 before after →
-    count ≤ start + (run_output platform deployed script budget show source).work
-run_work start count platform deployed script budget show how core p0 p1 before after source going over =
+pub run_work : (start count left : ℕ) (platform : Platform) (deployed : Deployed) (script : Bool) (budget crew : ℕ) (show : Show) (how : Ended) (core : Core) (p0 p1 : PartView) (before after : Pending) (source : Source) → Going p0 p1 source →
+    IsOver start count left (known_in deployed) (trace_of show platform deployed) (run_of (scene_of platform deployed script budget) (first_of platform deployed budget crew)) how core p0 p1 before after →
+    count ≤ start + (run_output platform deployed script budget crew show source).work
+run_work start count left platform deployed script budget crew show how core p0 p1 before after source going over =
     let spent : Progress → Type 0 = λ p. count ≤ start + p.world.work in
     subst spent (sym (over.is source (going over.piece over.reads))) over.worked
+
+-- each actor that starts takes a context of the crew
+crew_first : (platform : Platform) (deployed : Deployed) (script : Bool) (budget crew : ℕ) (answers : Answering) → (run_of (scene_of platform deployed script budget) (first_of platform deployed budget crew) answers).world.contexts ≤ crew - started_number deployed
+crew_first platform deployed script budget crew answers = run_keeps contexts_fall (budget + 1) (scene_of platform deployed script budget) answers (first_of platform deployed budget crew)
+
+crew_most : (platform : Platform) (deployed : Deployed) (script : Bool) (budget crew : ℕ) (answers : Answering) → (run_of (scene_of platform deployed script budget) (first_of platform deployed budget crew) answers).world.contexts ≤ crew
+crew_most platform deployed script budget crew answers = omega (arith, crew_first platform deployed script budget crew answers)
+
+-- where memory was wanting for the beginning, no more were taken than that
+pub run_left_none : (platform : Platform) (deployed : Deployed) (script : Bool) (budget crew left : ℕ) (show : Show) (source : Source) → started_number deployed ≤ crew → crew ≤ left + started_number deployed → crew ≤ left + (run_output platform deployed script budget crew show source).contexts
+run_left_none platform deployed script budget crew left show source enough most =
+    omega (arith, crew_first platform deployed script budget crew (answer_of (known_in deployed) source), enough, most)
+
+left_by : (b : Bool) (crew left want : ℕ) → crew ≡ left + want → MatchBool b (crew ≤ left + want) (crew ≡ left + want)
+left_by true crew left want is = omega (arith, is)
+left_by false crew left want is = is
+
+-- the contexts of a run that has come to its end
+pub run_left : (start count left : ℕ) (platform : Platform) (deployed : Deployed) (script : Bool) (budget crew : ℕ) (show : Show) (how result : Ended) (core : Core) (p0 p1 : PartView) (before after : Pending) (source : Source) → Going p0 p1 source →
+    IsOver start count left (known_in deployed) (trace_of show platform deployed) (run_of (scene_of platform deployed script budget) (first_of platform deployed budget crew)) how core p0 p1 before after →
+    TakesContexts (run_output platform deployed script budget crew show source).contexts result crew left
+run_left start count left platform deployed script budget crew show how result core p0 p1 before after source going over =
+    let whole = run_of (scene_of platform deployed script budget) (first_of platform deployed budget crew) (answer_of (known_in deployed) source) in
+    let is : whole.world.contexts ≡ left = ap (λ (p : Progress). p.world.contexts) (over.is source (going over.piece over.reads)) ∙ sym over.contexts in
+    left_by (is_cut result) crew left (crew - whole.world.contexts) (omega (arith, is, crew_most platform deployed script budget crew (answer_of (known_in deployed) source)))
+
+-- and of one that was cut off
+left_cut : (b : Bool) (crew left want : ℕ) → b ≡ true → crew ≤ left + want → MatchBool b (crew ≤ left + want) (crew ≡ left + want)
+left_cut true crew left want is few = few
+left_cut false crew left want is few = absurd (cc is)
+
+pub run_left_cut : (left : ℕ) (platform : Platform) (deployed : Deployed) (script : Bool) (budget crew : ℕ) (show : Show) (how : Ended) (p0 p1 : PartView) (before : Pending) (after : Option (List ℕ)) (source : Source) → Going p0 p1 source → is_cut how ≡ true →
+    CutsOff (known_in deployed) (trace_of show platform deployed) (run_of (scene_of platform deployed script budget) (first_of platform deployed budget crew)) [] left p0 p1 before after → TakesContexts (run_output platform deployed script budget crew show source).contexts how crew left
+run_left_cut left platform deployed script budget crew show how p0 p1 before after source going is cut =
+    let whole = run_of (scene_of platform deployed script budget) (first_of platform deployed budget crew) (answer_of (known_in deployed) source) in
+    left_cut (is_cut how) crew left (crew - whole.world.contexts) is (omega (arith, cut.contexts source (going cut.piece cut.reads)))
 
 cut_by : (b : Bool) (out err : List ℕ) (want how : Ended) (old new : Stream → Option (List ℕ)) → b ≡ true → GainsFronts out err old new → MatchBool b (GainsFronts out err old new) ((want ≡ how) × GainsAll out err old new)
 cut_by true out err want how old new is fronts = fronts
 cut_by false out err want how old new is fronts = absurd (cc is)
 
 -- a run that was cut off
-pub run_cut : (platform : Platform) (deployed : Deployed) (script : Bool) (budget : ℕ) (show : Show) (how : Ended) (p0 p1 : PartView) (old new : Stream → Option (List ℕ)) (source : Source) → Going p0 p1 source → is_cut how ≡ true →
-    CutsOff (known_in deployed) (trace_of show platform deployed) (run_of (scene_of platform deployed script budget) (first_of platform deployed budget)) [] p0 p1 (pending (old Out) []) (new Out) → new Err ≡ old Err → let want = run_output platform deployed script budget show source in Ends want.out want.err want.ended how old new
-run_cut platform deployed script budget show how p0 p1 old new source going is cut same =
-    let want = run_output platform deployed script budget show source in
-    let made = (run_of (scene_of platform deployed script budget) (first_of platform deployed budget) (answer_of (known_in deployed) source)).made in
+pub run_cut : (left : ℕ) (platform : Platform) (deployed : Deployed) (script : Bool) (budget crew : ℕ) (show : Show) (how : Ended) (p0 p1 : PartView) (old new : Stream → Option (List ℕ)) (source : Source) → Going p0 p1 source → is_cut how ≡ true →
+    CutsOff (known_in deployed) (trace_of show platform deployed) (run_of (scene_of platform deployed script budget) (first_of platform deployed budget crew)) [] left p0 p1 (pending (old Out) []) (new Out) → new Err ≡ old Err → let want = run_output platform deployed script budget crew show source in Ends want.out want.err want.ended how old new
+run_cut left platform deployed script budget crew show how p0 p1 old new source going is cut same =
+    let want = run_output platform deployed script budget crew show source in
+    let made = (run_of (scene_of platform deployed script budget) (first_of platform deployed budget crew) (answer_of (known_in deployed) source)).made in
     let front = front_more (trace_of show platform deployed made) _ (old Out) (new Out) (cut.front source (going cut.piece cut.reads)) in
     cut_by (is_cut how) want.out want.err want.ended how old new is (fronts_out want.out want.err old new front same)
 
@@ -81,13 +118,13 @@ takes_up true piece old new bound reads same few = record { bytes = piece; left 
 takes_up false piece old new bound reads same few = takes_none bound old new (same refl)
 
 -- what a run has taken of its script is near to what it needs
-pub run_needed : (platform : Platform) (deployed : Deployed) (script : Bool) (budget : ℕ) (show : Show) (piece : List ℕ) (old new : PartView) (source : Source) → Going (script_part script old) (script_part script new) source → Reads piece (script_part script old) (script_part script new) → (script ≡ false → new ≡ old) →
-    AreNeededBy (known_in deployed) (run_of (scene_of platform deployed script budget) (first_of platform deployed budget)) piece (script_part script new).stage → TakesUpTo ((run_output platform deployed script budget show source).need + 4095) old new
-run_needed platform deployed script budget show piece old new source going reads same needed =
+pub run_needed : (platform : Platform) (deployed : Deployed) (script : Bool) (budget crew : ℕ) (show : Show) (piece : List ℕ) (old new : PartView) (source : Source) → Going (script_part script old) (script_part script new) source → Reads piece (script_part script old) (script_part script new) → (script ≡ false → new ≡ old) →
+    AreNeededBy (known_in deployed) (run_of (scene_of platform deployed script budget) (first_of platform deployed budget crew)) piece (script_part script new).stage → TakesUpTo ((run_output platform deployed script budget crew show source).need + 4095) old new
+run_needed platform deployed script budget crew show piece old new source going reads same needed =
     let names = known_in deployed in
-    let asks = (run_of (scene_of platform deployed script budget) (first_of platform deployed budget) (answer_of names source)).world.asks in
+    let asks = (run_of (scene_of platform deployed script budget) (first_of platform deployed budget crew) (answer_of names source)).world.asks in
     takes_up script piece old new (needed_by names source (length deployed.actors) asks + 4095) reads same
-    (most names source (length deployed.actors) asks (length piece) (only_actors platform deployed script budget (answer_of names source)) (needed source (going piece reads)))
+    (most names source (length deployed.actors) asks (length piece) (only_actors platform deployed script budget crew (answer_of names source)) (needed source (going piece reads)))
 
 left_told : (piece : List ℕ) (a b : Option (List ℕ)) → a ≡ before piece b → IsSome a → IsSome b
 left_told piece a None is some = subst IsSome is some

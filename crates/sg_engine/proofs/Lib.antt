@@ -1,6 +1,8 @@
 pub mod Asked
 pub mod Calls
 pub mod Castings
+pub mod Creating
+pub mod Crews
 pub mod Endings
 pub mod Files
 pub mod Fronts
@@ -12,6 +14,7 @@ pub mod Parts
 pub mod PutLines
 pub mod Queues
 pub mod Reaching
+pub mod Runs
 pub mod SeatSteps
 pub mod Simulating
 pub mod Starting

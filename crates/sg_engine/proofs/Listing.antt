@@ -9,15 +9,16 @@ use Rattle.sg_base.specs.Limits.{Extent, IsCall}
 use Rattle.sg_base.specs.Mind.{Mind}
 use Rattle.sg_base.specs.declared.call.Answer.{Answer}
 use Rattle.sg_base.specs.declared.call.Call.{Call}
+use Rattle.sg_states.specs.declared.state.Actor.{Actor}
 use Rattle.sg_states.specs.declared.state.State.{State}
-use Rattle.sg_states.specs.declared.state.State.TheVariants.{Ready, Blocked, Ended}
+use Rattle.sg_states.specs.declared.state.State.TheVariants.{Unstarted, Ready, Blocked, Ended}
 use Rattle.sg_kernel.specs.World.{Core, MayCall}
-use Rattle.sg_states.specs.Actors.{inbox_of, is_ready}
+use Rattle.sg_states.specs.Actors.{answer_in, inbox_of, is_answered, not_suspended}
 use Rattle.sg_engine.specs.World.{World}
 use Rattle.sg_engine.specs.declared.actor_call.ActorCall.{ActorCall}
 use Rattle.sg_engine.specs.declared.ended.Ended.{Ended as Ending}
 use Rattle.sg_engine.specs.kept.CallList.{with_call, call_list, calls_of}
-use Rattle.sg_engine.specs.Run.{Scene, Answering, Progress, with_front, and_then, and_then_by, one_call, if_call, calls_from, zip_with, call_after, inboxes}
+use Rattle.sg_engine.specs.Run.{Scene, Answering, Progress, with_front, and_then, and_then_by, unless_killed, if_call, calls_from, zip_with, call_after, inboxes}
 use Rattle.sg_engine.specs.kept.SeatRules.{call_in}
 
 -- ---- what isn't there is answered by nothing
@@ -30,7 +31,7 @@ listed_call : (at : Scene) (answers : Answering) (actor : ℕ) (what : Option Ca
 unfolding calls_of
 listed_call at answers actor None rest world same = same world
 listed_call at answers actor (Some what) rest world same =
-    then_same (one_call at answers actor what world).ended (one_call at answers actor what world) (calls_of at answers (call_list (actor + 1) rest)) (calls_from at answers (actor + 1) rest) same
+    then_same (unless_killed at answers actor what world).ended (unless_killed at answers actor what world) (calls_of at answers (call_list (actor + 1) rest)) (calls_from at answers (actor + 1) rest) same
 
 pub calls_listed : (at : Scene) (answers : Answering) (actor : ℕ) (calls : List (Option Call)) (world : World) → calls_of at answers (call_list actor calls) world ≡ calls_from at answers actor calls world
 unfolding calls_of calls_from call_list
@@ -75,22 +76,24 @@ listed_short actor [] = omega arith
 listed_short actor (what ∷ rest) = omega (arith, short_one actor what (call_list (actor + 1) rest), listed_short (actor + 1) rest)
 
 -- ---- who has called was ready
-some_call : (m : Option Mind) (s : State) (what : Call) → call_after m (inbox_of s) ≡ Some what → is_ready s ≡ true
-some_call m (Ready b) what e = refl
-some_call m (Blocked c w o) what e = absurd (cc e)
-some_call m Ended what e = absurd (cc e)
+some_by : (m : Option Mind) (suspended : Bool) (state : State) (what : Call) → call_after m (cond suspended None (answer_in state)) ≡ Some what → is_answered state ≡ true
+some_by m true state what e = absurd (cc e)
+some_by m false Unstarted what e = absurd (cc e)
+some_by m false (Ready b) what e = refl
+some_by m false (Blocked c w o) what e = absurd (cc e)
+some_by m false Ended what e = absurd (cc e)
 
-pub call_ready : (minds : List (Option Mind)) (states : List State) (i : ℕ) (what : Call) → get_or (zip_with call_after minds (map inbox_of states)) i None ≡ Some what → (i < length states) × IsTrue (is_ready (get_or states i Ended))
-call_ready [] states i what e = absurd (cc e)
+pub call_ready : (minds : List (Option Mind)) (actors : List Actor) (i : ℕ) (what : Call) → get_or (zip_with call_after minds (map inbox_of actors)) i None ≡ Some what → (i < length actors) × IsTrue (is_answered (get_or actors i (not_suspended Ended)).state)
+call_ready [] actors i what e = absurd (cc e)
 call_ready (m ∷ minds) [] i what e = absurd (cc e)
-call_ready (m ∷ minds) (s ∷ states) zero what e = (omega arith, some_call m s what e)
-call_ready (m ∷ minds) (s ∷ states) (suc i) what e = let r = call_ready minds states i what e in (omega (arith, r.0), r.1)
+call_ready (m ∷ minds) (s ∷ actors) zero what e = (omega arith, some_by m s.suspended s.state what e)
+call_ready (m ∷ minds) (s ∷ actors) (suc i) what e = let r = call_ready minds actors i what e in (omega (arith, r.0), r.1)
 
 pub call_may : (minds : List (Option Mind)) (core : Core) (i : ℕ) (what : Call) → get_or (zip_with call_after minds (inboxes core)) i None ≡ Some what → MayCall core (i + 1)
 call_may minds core i what e =
     let r = call_ready minds core.actors i what e in
     let back : i + 1 - 1 ≡ i = omega arith in
-    record { from = omega arith; to = omega (arith, r.0); ready = subst (λ k. IsTrue (is_ready (get_or core.actors k Ended))) (sym back) r.1 }
+    record { from = omega arith; to = omega (arith, r.0); ready = subst (λ k. IsTrue (is_answered (get_or core.actors k (not_suspended Ended)).state)) (sym back) r.1 }
 
 pub row_short : (xs : List (Option Mind)) (ys : List (Option Answer)) → length (zip_with call_after xs ys) ≤ length xs
 row_short [] ys = omega arith

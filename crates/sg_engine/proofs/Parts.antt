@@ -16,7 +16,7 @@ use Rattle.sg_script.specs.Known.{Known as Names}
 use Rattle.sg_engine.specs.declared.actor_call.ActorCall.{ActorCall}
 use Rattle.sg_engine.specs.declared.ended.Ended.{Ended}
 use Rattle.sg_engine.specs.kept.CallList.{call_list, calls_of}
-use Rattle.sg_engine.specs.kept.Moments.{LacksMemory, Moment, StandsFor, IsStretch, ending}
+use Rattle.sg_engine.specs.kept.Moments.{Cast, cast_of, LacksMemory, Moment, StandsFor, IsStretch, ending}
 use Rattle.sg_engine.specs.Run.{Scene, Answering, zip_with, mind_after, call_after, inboxes, round, calls_from}
 use Rattle.sg_engine.specs.kept.SeatRules.{mind_in, minds_of, IsSeated}
 use Rattle.sg_engine.proofs.Listing.{calls_listed, listed_may, listed_rises, listed_short, row_short}
@@ -42,24 +42,28 @@ room_for {A} {mind} {deployed} {part} {sim} mid kept same room =
     let actors : length mid.core.actors ≡ length deployed.actors = ap (λ (k : Known). length k.core.actors) same ∙ kept.fits.actors in
     let limits : extent mid.setup ≡ extent_of deployed = ap (λ (k : Known). extent k.setup) same ∙ kept.fits.extent in
     record {
-      number = kept.number ∙ sym actors;
-      seated = subst (λ (e : Extent). All (IsSeated e) (places_in mind sim)) (sym limits) kept.seated;
+      manned = record {
+        number = kept.number ∙ sym actors;
+        seated = subst (λ (e : Extent). All (IsSeated e) (places_in mind sim)) (sym limits) kept.seated;
+        blank = kept.blank;
+      };
       calls = omega (arith, kept.number, kept.calls);
       room = room;
     }
 
 -- ---- the whole of a round
-pub round_as : {E : Type 0} (result : Result (Option Ended) E) (names : Names) (at : Scene) (taken : List ℕ) (had new : List (Option Mind)) (calls : List ActorCall) (world : World) (old mid : Moment) → StandsFor names taken had old world →
-    new ≡ zip_with mind_after had (inboxes old.kernel.core) → calls ≡ call_list 1 (zip_with call_after had (inboxes old.kernel.core)) →
-    ((next : World) → StandsFor names taken new old next → MatchResult result (λ how. IsStretch next.work names (λ answers. calls_of at answers calls next) (ending how) taken new old mid) (λ _. LacksMemory names (λ answers. calls_of at answers calls next) taken old.part mid.part)) →
-    MatchResult result (λ how. IsStretch world.work names (λ answers. round at answers world) (ending how) taken new old mid) (λ _. LacksMemory names (λ answers. round at answers world) taken old.part mid.part)
-round_as result names at taken had new calls world old mid stands turned made step =
+pub round_as : {E : Type 0} (result : Result (Option Ended) E) (names : Names) (at : Scene) (taken : List ℕ) (had mid new : Cast) (calls : List ActorCall) (world : World) (old then : Moment) → StandsFor names taken had old world →
+    mid.minds ≡ zip_with mind_after had.minds (inboxes old.kernel.core) → mid.contexts ≡ had.contexts → calls ≡ call_list 1 (zip_with call_after had.minds (inboxes old.kernel.core)) →
+    ((next : World) → StandsFor names taken mid old next → MatchResult result (λ how. IsStretch next.work names (λ answers. calls_of at answers calls next) (ending how) taken new old then) (λ _. LacksMemory names (λ answers. calls_of at answers calls next) taken new.contexts old.part then.part)) →
+    MatchResult result (λ how. IsStretch world.work names (λ answers. round at answers world) (ending how) taken new old then) (λ _. LacksMemory names (λ answers. round at answers world) taken new.contexts old.part then.part)
+round_as result names at taken had mid new calls world old then stands turned left made step =
     let next : World = record world { minds = zip_with mind_after world.minds (inboxes world.core) } in
-    let minds : new ≡ next.minds = turned ∙ ap₂ (λ (m : List (Option Mind)) (core : Core). zip_with mind_after m (inboxes core)) stands.minds stands.core in
-    let are : calls ≡ call_list 1 (zip_with call_after world.minds (inboxes world.core)) = made ∙ ap₂ (λ (m : List (Option Mind)) (core : Core). call_list 1 (zip_with call_after m (inboxes core))) stands.minds stands.core in
+    let turn : Cast → Core → Cast = λ c core. record { minds = zip_with mind_after c.minds (inboxes core); contexts = c.contexts } in
+    let cast : mid ≡ cast_of next = ap₂ (λ (m : List (Option Mind)) (n : ℕ). record { minds = m; contexts = n }) turned left ∙ ap₂ turn stands.cast stands.core in
+    let are : calls ≡ call_list 1 (zip_with call_after world.minds (inboxes world.core)) = made ∙ ap₂ (λ (c : Cast) (core : Core). call_list 1 (zip_with call_after c.minds (inboxes core))) stands.cast stands.core in
     let whole : (answers : Answering) → calls_from at answers 1 (zip_with call_after world.minds (inboxes world.core)) next ≡ calls_of at answers calls next =
     λ answers. sym (ap (λ (l : List ActorCall). calls_of at answers l next) are ∙ calls_listed at answers 1 (zip_with call_after world.minds (inboxes world.core)) next) in
-    matched_as world.work result names (λ answers. calls_of at answers calls next) (λ answers. calls_from at answers 1 (zip_with call_after world.minds (inboxes world.core)) next) taken new old mid whole (step next (record { script = stands.script; core = stands.core; minds = minds }))
+    matched_as world.work result names (λ answers. calls_of at answers calls next) (λ answers. calls_from at answers 1 (zip_with call_after world.minds (inboxes world.core)) next) taken new old then whole (step next (record { script = stands.script; core = stands.core; cast = cast }))
 
 -- the same seats, where the setup is the same
 pub seated_as : (old new : Setup) (places : List SeatView) → new ≡ old → All (IsSeated (extent old)) places → All (IsSeated (extent new)) places

@@ -1,18 +1,20 @@
 -- Lines that are put one after another.
-use Rattle.std.proofs.Common.{◌≡◌, ◌∙◌, sym, ap, Result, Ok, Err, ℕ, ◌+◌, ◌-◌, ◌<◌, ◌≤◌, List, [], ◌++◌, length, get_or, drop, Option, arith, append_assoc}
+use Rattle.std.proofs.Common.{◌≡◌, ◌∙◌, sym, ap, Result, Ok, Err, ℕ, ◌+◌, ◌-◌, ◌*◌, ◌/◌, ◌%◌, ◌^◌, ◌<◌, ◌≤◌, List, [], ◌++◌, length, get_or, drop, Option, arith, append_assoc}
 use Rattle.std.proofs.lemmas.List.{append-nil, at_drop_more, at_drop_all}
 use Rattle.sg_base.specs.declared.trace_record.Record.{Record}
 use Rattle.sg_edge.specs.declared.files.Failed.{Failed}
 use Rattle.sg_edge.specs.declared.sinks.Stream.{Stream}
 use Rattle.sg_edge.specs.declared.sinks.Stream.TheVariants.{Out}
-use Rattle.sg_states.specs.declared.state.State.{State}
+use Rattle.sg_states.specs.Actors.{not_suspended}
+use Rattle.sg_states.specs.declared.state.Actor.{Actor}
 use Rattle.sg_states.specs.declared.state.State.TheVariants.{Ended}
 use Rattle.sg_rows.specs.Deployment.{Deployed}
 use Rattle.sg_rows.specs.Platform.{Platform}
+use Rattle.sg_rows.specs.declared.rows.HostRow.{HostRow}
 use Rattle.sg_trace.specs.Line.{line_of}
 use Rattle.sg_engine.specs.declared.show.Show.TheVariants.{All}
 use Rattle.sg_engine.specs.kept.Writing.{IsPut, Broke, Puts, pending}
-use Rattle.sg_engine.specs.Output.{trace_of, blocked_line, blocked_lines}
+use Rattle.sg_engine.specs.Output.{energy_last, energy_lines, line_if, stuck_last, stuck_lines, trace_of}
 use Rattle.sg_engine.proofs.Fronts.{put_on, put_as, broke_on}
 use Rattle.sg_engine.proofs.Waiting.{adds_front, adds_then, front_adds}
 
@@ -63,16 +65,30 @@ first_breaks buffer first second old new f broke = record {
 pub put_breaks_off : (whole waiting : List ℕ) (old mid new : Stream → Option (List ℕ)) (f f' : ℕ) → IsPut whole waiting old mid f → Broke waiting mid new f' → Broke whole old new f'
 put_breaks_off whole waiting old mid new f f' put broke = broke_on whole waiting [] old mid new f f' (put_as whole waiting (waiting ++ []) old mid f (sym (append-nil waiting)) put) broke
 
--- ---- the lines of blocked actors
-pub blocked_more : (platform : Platform) (deployed : Deployed) (actors : List State) (i : ℕ) → i < length actors →
-    blocked_lines platform deployed (i + 1) (drop i actors) ≡ blocked_line platform deployed (i + 1) (get_or actors (i + 1 - 1) Ended) ++ blocked_lines platform deployed (i + 1 + 1) (drop (i + 1) actors)
-blocked_more platform deployed actors i within =
+-- ---- the lines of actors that are suspended or blocked
+pub stuck_more : (platform : Platform) (deployed : Deployed) (actors : List Actor) (i : ℕ) → i < length actors →
+    stuck_lines platform deployed (i + 1) (drop i actors) ≡ line_if platform deployed (stuck_last (i + 1) (get_or actors (i + 1 - 1) (not_suspended Ended))) ++ stuck_lines platform deployed (i + 1 + 1) (drop (i + 1) actors)
+stuck_more platform deployed actors i within =
     let back : i ≡ i + 1 - 1 = omega arith in
-    at_drop_more (λ l. blocked_lines platform deployed (i + 1) l) actors i Ended within
-    ∙ ap (λ (k : ℕ). blocked_line platform deployed (i + 1) (get_or actors k Ended) ++ blocked_lines platform deployed (i + 1 + 1) (drop (i + 1) actors)) back
+    at_drop_more (λ l. stuck_lines platform deployed (i + 1) l) actors i (not_suspended Ended) within
+    ∙ ap (λ (k : ℕ). line_if platform deployed (stuck_last (i + 1) (get_or actors k (not_suspended Ended))) ++ stuck_lines platform deployed (i + 1 + 1) (drop (i + 1) actors)) back
 
-pub blocked_none : (platform : Platform) (deployed : Deployed) (actors : List State) (i : ℕ) → length actors ≤ i → blocked_lines platform deployed (i + 1) (drop i actors) ≡ []
-blocked_none platform deployed actors i past = at_drop_all (λ l. blocked_lines platform deployed (i + 1) l) actors i past
+pub stuck_none : (platform : Platform) (deployed : Deployed) (actors : List Actor) (i : ℕ) → length actors ≤ i → stuck_lines platform deployed (i + 1) (drop i actors) ≡ []
+stuck_none platform deployed actors i past = at_drop_all (λ l. stuck_lines platform deployed (i + 1) l) actors i past
+
+-- ---- the lines of energies
+pub energy_more : (platform : Platform) (deployed : Deployed) (energies : List ℕ) (rows : List HostRow) (i : ℕ) (row : HostRow) → i < length rows → row ≡ get_or rows i row →
+    energy_lines platform deployed energies i (drop i rows) ≡ line_if platform deployed (energy_last i row (get_or energies i 0)) ++ energy_lines platform deployed energies (i + 1) (drop (i + 1) rows)
+energy_more platform deployed energies rows i row within is =
+    at_drop_more (λ l. energy_lines platform deployed energies i l) rows i row within
+    ∙ ap (λ (r : HostRow). line_if platform deployed (energy_last i r (get_or energies i 0)) ++ energy_lines platform deployed energies (i + 1) (drop (i + 1) rows)) (sym is)
+
+pub energy_none : (platform : Platform) (deployed : Deployed) (energies : List ℕ) (rows : List HostRow) (i : ℕ) → length rows ≤ i → energy_lines platform deployed energies i (drop i rows) ≡ []
+energy_none platform deployed energies rows i past = at_drop_all (λ l. energy_lines platform deployed energies i l) rows i past
+
+-- what is told of an energy, by its whole joules and their rest
+pub parts_of : (whole rest energy : ℕ) → whole * 10 ^ 12 + rest ≡ energy → rest < 10 ^ 12 → (energy / 10 ^ 12 ≡ whole) × (energy % 10 ^ 12 ≡ rest)
+parts_of whole rest energy is less = (omega (arith, is, less), omega (arith, is, less))
 
 -- ---- the lines of records
 pub trace_more : (platform : Platform) (deployed : Deployed) (records : List Record) (i : ℕ) (d : Record) → i < length records →

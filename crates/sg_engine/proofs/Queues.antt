@@ -4,24 +4,24 @@ use Rattle.std.specs.Prelude.{AllPairs}
 use Rattle.std.proofs.lemmas.Bool.{cases_lt}
 use Rattle.std.proofs.lemmas.List.{get_or_default}
 use Rattle.sg_base.specs.declared.ids.ActorId.{ActorId}
-use Rattle.sg_states.specs.declared.state.State.{State}
+use Rattle.sg_states.specs.declared.state.Actor.{Actor}
 use Rattle.sg_states.specs.declared.state.State.TheVariants.{Ended}
 use Rattle.sg_states.specs.Queue.{IsQueue}
-use Rattle.sg_states.specs.Actors.{is_ready}
+use Rattle.sg_states.specs.Actors.{is_ready, not_suspended}
 
 -- the last id of the first so many
 unfoldable pub last_id : List ActorId → ℕ → ℕ
 last_id queue zero = 0
 last_id queue (suc k) = (get_or queue k (record { 0 = 0 })).0
 
-not_true : (b : Bool) → (IsTrue b → ⊥) → b ≡ false
+pub not_true : (b : Bool) → (IsTrue b → ⊥) → b ≡ false
 not_true true isnt = absurd (isnt refl)
 not_true false isnt = refl
 
 same_read : (queue : List ActorId) (k : ℕ) (d e : ActorId) → k < length queue → (get_or queue k d).0 ≡ (get_or queue k e).0
 same_read queue k d e less = ap (λ (a : ActorId). a.0) (get_or_default queue k d e less)
 
-not_early : (states : List State) (queue : List ActorId) (k m j : ℕ) (d : ActorId) → IsQueue states queue → m < k → k ≤ length queue → last_id queue k ≤ j → (get_or queue m d).0 ≡ j + 1 → ⊥
+not_early : (states : List Actor) (queue : List ActorId) (k m j : ℕ) (d : ActorId) → IsQueue states queue → m < k → k ≤ length queue → last_id queue k ≤ j → (get_or queue m d).0 ≡ j + 1 → ⊥
 unfolding last_id
 not_early states queue zero m j d is less long from id = absurd (omega (arith, less))
 not_early states queue (suc k) m j d is less long from id =
@@ -33,11 +33,11 @@ not_early states queue (suc k) m j d is less long from id =
     ]
 
 -- those behind the first so many have ids above c
-none_between : (states : List State) (queue : List ActorId) (k c j : ℕ) → IsQueue states queue → k ≤ length queue → ((m : ℕ) (d : ActorId) → k ≤ m → m < length queue → c < (get_or queue m d).0) → last_id queue k ≤ j → j < c → is_ready (get_or states j Ended) ≡ false
-none_between states queue k c j is within above from to = not_true (is_ready (get_or states j Ended)) (λ ready.
+none_between : (states : List Actor) (queue : List ActorId) (k c j : ℕ) → IsQueue states queue → k ≤ length queue → ((m : ℕ) (d : ActorId) → k ≤ m → m < length queue → c < (get_or queue m d).0) → last_id queue k ≤ j → j < c → is_ready (get_or states j (not_suspended Ended)) ≡ false
+none_between states queue k c j is within above from to = not_true (is_ready (get_or states j (not_suspended Ended))) (λ ready.
     let back : j + 1 - 1 ≡ j = omega arith in
     let me : ActorId = record { 0 = j + 1 } in
-    let has = is.has_ready me (omega arith) (subst (λ n. IsTrue (is_ready (get_or states n Ended))) (sym back) ready) in
+    let has = is.has_ready me (omega arith) (subst (λ n. IsTrue (is_ready (get_or states n (not_suspended Ended)))) (sym back) ready) in
     let id : (get_or queue has.0 me).0 ≡ j + 1 = ap (λ (a : ActorId). a.0) has.2 in
     elim (cases_lt has.0 k) [
       | inl before ↦ not_early states queue k has.0 j me is before within from id
@@ -55,12 +55,12 @@ unfolding last_id
 last_at queue zero some = absurd (omega (arith, some))
 last_at queue (suc k) some = let back : k ≡ suc k - 1 = omega arith in ap (λ n. (get_or queue n (record { 0 = 0 })).0) back
 
-pub last_before : (states : List State) (queue : List ActorId) (k : ℕ) → IsQueue states queue → k < length queue → last_id queue k ≤ (get_or queue k (record { 0 = 0 })).0 - 1
+pub last_before : (states : List Actor) (queue : List ActorId) (k : ℕ) → IsQueue states queue → k < length queue → last_id queue k ≤ (get_or queue k (record { 0 = 0 })).0 - 1
 unfolding last_id
 last_before states queue zero is within = omega arith
 last_before states queue (suc k) is within = omega (arith, is.rises k (suc k) (record { 0 = 0 }) (omega arith) within)
 
-pub last_within : (states : List State) (queue : List ActorId) (k : ℕ) → IsQueue states queue → k ≤ length queue → last_id queue k ≤ length states
+pub last_within : (states : List Actor) (queue : List ActorId) (k : ℕ) → IsQueue states queue → k ≤ length queue → last_id queue k ≤ length states
 unfolding last_id
 last_within states queue zero is within = omega arith
 last_within states queue (suc k) is within = (is.ids k (record { 0 = 0 }) (omega (arith, within))).1
@@ -74,11 +74,11 @@ above_here queue k m d rises from le within =
     ]
 
 -- nobody before this place, and behind the one before it, is ready
-pub quiet : (states : List State) (queue : List ActorId) (k j : ℕ) → IsQueue states queue → k < length queue → last_id queue k ≤ j → j < (get_or queue k (record { 0 = 0 })).0 - 1 → is_ready (get_or states j Ended) ≡ false
+pub quiet : (states : List Actor) (queue : List ActorId) (k j : ℕ) → IsQueue states queue → k < length queue → last_id queue k ≤ j → j < (get_or queue k (record { 0 = 0 })).0 - 1 → is_ready (get_or states j (not_suspended Ended)) ≡ false
 quiet states queue k j is within from to =
     none_between states queue k ((get_or queue k (record { 0 = 0 })).0 - 1) j is (omega (arith, within)) (λ m d le less. above_here queue k m d is.rises (is.ids k (record { 0 = 0 }) within).0 le less) from to
 
 -- and nobody behind the last one
-pub quiet_end : (states : List State) (queue : List ActorId) (k j : ℕ) → IsQueue states queue → k ≤ length queue → length queue ≤ k → last_id queue k ≤ j → j < length states → is_ready (get_or states j Ended) ≡ false
+pub quiet_end : (states : List Actor) (queue : List ActorId) (k j : ℕ) → IsQueue states queue → k ≤ length queue → length queue ≤ k → last_id queue k ≤ j → j < length states → is_ready (get_or states j (not_suspended Ended)) ≡ false
 quiet_end states queue k j is within past from to =
     none_between states queue k (length states) j is within (λ m d le less. absurd (omega (arith, le, less, past))) from to

@@ -1,9 +1,8 @@
 -- Stretches of a run, one after another.
-use Rattle.std.proofs.Common.{◌≡◌, ◌∙◌, sym, ap, subst, refl, ℕ, List, [], ◌++◌, length, Option, None, Some, Result, Ok, Err, append_assoc}
+use Rattle.std.proofs.Common.{◌≡◌, ◌≤◌, ◌∙◌, sym, ap, subst, refl, ℕ, List, [], ◌++◌, length, Option, None, Some, Result, Ok, Err, append_assoc, arith}
 use Rattle.std.specs.Prelude.{MatchResult}
 use Rattle.std.proofs.lemmas.List.{append-nil}
 use Rattle.sg_base.specs.declared.trace_record.Record.{Record}
-use Rattle.sg_base.specs.Mind.{Mind}
 use Rattle.sg_edge.specs.Sources.{Source}
 use Rattle.sg_edge.specs.Files.{PartView}
 use Rattle.sg_engine.specs.World.{World}
@@ -14,7 +13,7 @@ use Rattle.sg_script.specs.Rest.{GoesOn}
 use Rattle.sg_script.proofs.Chains.{may_back, reads_then}
 use Rattle.sg_engine.specs.declared.ended.Ended.{Ended}
 use Rattle.sg_engine.specs.Run.{Answering, Progress, with_front, and_then}
-use Rattle.sg_engine.specs.kept.Moments.{AreNeededBy, LacksMemory, Moment, StandsFor, IsStretch, ending}
+use Rattle.sg_engine.specs.kept.Moments.{AreNeededBy, Cast, LacksMemory, LeavesContexts, Moment, StandsFor, IsStretch, ending}
 
 -- a source that goes on from a later moment goes on from an earlier one
 pub goes_back : (taken piece : List ℕ) (old new : PartView) (source : Source) → Reads piece old new → GoesOn (taken ++ piece) new.stage source → GoesOn taken old.stage source
@@ -27,20 +26,20 @@ goes_back taken piece old new source reads goes = record {
 pub front-front : (first second : List Record) (progress : Progress) → with_front first (with_front second progress) ≡ with_front (first ++ second) progress
 front-front first second progress = ap (λ (l : List Record). record progress { made = l }) (sym (append_assoc first second progress.made))
 
-pub stands_as : (names : Names) (taken other : List ℕ) (minds : List (Option Mind)) (now : Moment) (world : World) → taken ≡ other → StandsFor names taken minds now world → StandsFor names other minds now world
-stands_as names taken other minds now world same stands = subst (λ (t : List ℕ). StandsFor names t minds now world) same stands
+pub stands_as : (names : Names) (taken other : List ℕ) (cast : Cast) (now : Moment) (world : World) → taken ≡ other → StandsFor names taken cast now world → StandsFor names other cast now world
+stands_as names taken other cast now world same stands = subst (λ (t : List ℕ). StandsFor names t cast now world) same stands
 
 -- one stretch, and then another from where it led
-abbrev pub reached_then : {spent next : ℕ} (names : Names) (whole : Answering → Progress) (middle rest : Answering → World → Progress) (taken : List ℕ) (minds then_minds : List (Option Mind)) (old mid new : Moment) →
-    (first : IsStretch spent names whole middle taken minds old mid) → IsStretch next names (λ answers. middle answers first.world) rest (taken ++ first.piece) then_minds mid new → IsStretch next names whole rest taken then_minds old new
-reached_then names whole middle rest taken minds then_minds old mid new first second =
+abbrev pub reached_then : {spent next : ℕ} (names : Names) (whole : Answering → Progress) (middle rest : Answering → World → Progress) (taken : List ℕ) (cast then_cast : Cast) (old mid new : Moment) →
+    (first : IsStretch spent names whole middle taken cast old mid) → IsStretch next names (λ answers. middle answers first.world) rest (taken ++ first.piece) then_cast mid new → IsStretch next names whole rest taken then_cast old new
+reached_then names whole middle rest taken cast then_cast old mid new first second =
     let joined : (taken ++ first.piece) ++ second.piece ≡ taken ++ (first.piece ++ second.piece) = append_assoc taken first.piece second.piece in
     record {
       piece = first.piece ++ second.piece;
       reads = reads_then first.piece second.piece old.part mid.part new.part first.reads second.reads;
       setup = second.setup ∙ first.setup;
       world = second.world;
-      stands = stands_as names _ _ then_minds new second.world joined second.stands;
+      stands = stands_as names _ _ then_cast new second.world joined second.stands;
       work = second.work;
       made = first.made ++ second.made;
       records = second.records ∙ ap (λ (l : List Record). l ++ second.made) first.records ∙ append_assoc old.kernel.records first.made second.made;
@@ -53,9 +52,9 @@ reached_then names whole middle rest taken minds then_minds old mid new first se
     }
 
 -- the whole in other words
-abbrev pub reached_as : {spent : ℕ} (names : Names) (whole other : Answering → Progress) (rest : Answering → World → Progress) (taken : List ℕ) (minds : List (Option Mind)) (old new : Moment) →
-    ((answers : Answering) → other answers ≡ whole answers) → IsStretch spent names whole rest taken minds old new → IsStretch spent names other rest taken minds old new
-reached_as names whole other rest taken minds old new same reached = record {
+abbrev pub reached_as : {spent : ℕ} (names : Names) (whole other : Answering → Progress) (rest : Answering → World → Progress) (taken : List ℕ) (cast : Cast) (old new : Moment) →
+    ((answers : Answering) → other answers ≡ whole answers) → IsStretch spent names whole rest taken cast old new → IsStretch spent names other rest taken cast old new
+reached_as names whole other rest taken cast old new same reached = record {
   piece = reached.piece;
   reads = reached.reads;
   setup = reached.setup;
@@ -68,24 +67,25 @@ reached_as names whole other rest taken minds old new same reached = record {
 }
 
 -- so it is where memory was wanting
-lacks_as : (names : Names) (whole other : Answering → Progress) (taken : List ℕ) (old new : PartView) → ((answers : Answering) → other answers ≡ whole answers) → LacksMemory names whole taken old new → LacksMemory names other taken old new
-lacks_as names whole other taken old new same cut = record {
+lacks_as : (names : Names) (whole other : Answering → Progress) (taken : List ℕ) (left : ℕ) (old new : PartView) → ((answers : Answering) → other answers ≡ whole answers) → LacksMemory names whole taken left old new → LacksMemory names other taken left old new
+lacks_as names whole other taken left old new same cut = record {
   piece = cut.piece;
   reads = cut.reads;
   needed = λ source goes.
       let within : Progress → Type 0 = λ p. IsWithinNeed names source p.world.asks (length (taken ++ cut.piece)) in
       subst within (sym (same (answer_of names source))) (cut.needed source goes);
+  contexts = λ source goes. subst (λ (p : Progress). p.world.contexts ≤ left) (sym (same (answer_of names source))) (cut.contexts source goes);
 }
 
-pub matched_as : {E : Type 0} (spent : ℕ) (result : Result (Option Ended) E) (names : Names) (whole other : Answering → Progress) (taken : List ℕ) (minds : List (Option Mind)) (old new : Moment) → ((answers : Answering) → other answers ≡ whole answers) →
-    MatchResult result (λ how. IsStretch spent names whole (ending how) taken minds old new) (λ _. LacksMemory names whole taken old.part new.part) → MatchResult result (λ how. IsStretch spent names other (ending how) taken minds old new) (λ _. LacksMemory names other taken old.part new.part)
-matched_as spent (Ok how) names whole other taken minds old new same reached = reached_as names whole other (ending how) taken minds old new same reached
-matched_as spent (Err why) names whole other taken minds old new same cut = lacks_as names whole other taken old.part new.part same cut
+pub matched_as : {E : Type 0} (spent : ℕ) (result : Result (Option Ended) E) (names : Names) (whole other : Answering → Progress) (taken : List ℕ) (cast : Cast) (old new : Moment) → ((answers : Answering) → other answers ≡ whole answers) →
+    MatchResult result (λ how. IsStretch spent names whole (ending how) taken cast old new) (λ _. LacksMemory names whole taken cast.contexts old.part new.part) → MatchResult result (λ how. IsStretch spent names other (ending how) taken cast old new) (λ _. LacksMemory names other taken cast.contexts old.part new.part)
+matched_as spent (Ok how) names whole other taken cast old new same reached = reached_as names whole other (ending how) taken cast old new same reached
+matched_as spent (Err why) names whole other taken cast old new same cut = lacks_as names whole other taken cast.contexts old.part new.part same cut
 
 -- the rest in other words
-abbrev pub rest_as : {spent : ℕ} (names : Names) (whole : Answering → Progress) (rest other : Answering → World → Progress) (taken : List ℕ) (minds : List (Option Mind)) (old new : Moment) →
-    ((answers : Answering) (world : World) → rest answers world ≡ other answers world) → IsStretch spent names whole rest taken minds old new → IsStretch spent names whole other taken minds old new
-rest_as names whole rest other taken minds old new same reached = record {
+abbrev pub rest_as : {spent : ℕ} (names : Names) (whole : Answering → Progress) (rest other : Answering → World → Progress) (taken : List ℕ) (cast : Cast) (old new : Moment) →
+    ((answers : Answering) (world : World) → rest answers world ≡ other answers world) → IsStretch spent names whole rest taken cast old new → IsStretch spent names whole other taken cast old new
+rest_as names whole rest other taken cast old new same reached = record {
   piece = reached.piece;
   reads = reached.reads;
   setup = reached.setup;
@@ -98,9 +98,9 @@ rest_as names whole rest other taken minds old new same reached = record {
 }
 
 -- a first stretch that doesn't end the run
-abbrev pub goes_on_to : {spent : ℕ} (names : Names) (first : Answering → Progress) (next : Answering → World → Progress) (taken : List ℕ) (minds : List (Option Mind)) (old new : Moment) →
-    IsStretch spent names first (ending None) taken minds old new → IsStretch spent names (λ answers. and_then (first answers) (next answers)) next taken minds old new
-goes_on_to names first next taken minds old new reached = record {
+abbrev pub goes_on_to : {spent : ℕ} (names : Names) (first : Answering → Progress) (next : Answering → World → Progress) (taken : List ℕ) (cast : Cast) (old new : Moment) →
+    IsStretch spent names first (ending None) taken cast old new → IsStretch spent names (λ answers. and_then (first answers) (next answers)) next taken cast old new
+goes_on_to names first next taken cast old new reached = record {
   piece = reached.piece;
   reads = reached.reads;
   setup = reached.setup;
@@ -116,9 +116,9 @@ goes_on_to names first next taken minds old new reached = record {
 }
 
 -- a first stretch that ends the run
-abbrev pub ends_at : {spent : ℕ} (names : Names) (first : Answering → Progress) (next : Answering → World → Progress) (how : Ended) (taken : List ℕ) (minds : List (Option Mind)) (old new : Moment) →
-    IsStretch spent names first (ending (Some how)) taken minds old new → IsStretch spent names (λ answers. and_then (first answers) (next answers)) (ending (Some how)) taken minds old new
-ends_at names first next how taken minds old new reached = record {
+abbrev pub ends_at : {spent : ℕ} (names : Names) (first : Answering → Progress) (next : Answering → World → Progress) (how : Ended) (taken : List ℕ) (cast : Cast) (old new : Moment) →
+    IsStretch spent names first (ending (Some how)) taken cast old new → IsStretch spent names (λ answers. and_then (first answers) (next answers)) (ending (Some how)) taken cast old new
+ends_at names first next how taken cast old new reached = record {
   piece = reached.piece;
   reads = reached.reads;
   setup = reached.setup;
@@ -131,13 +131,13 @@ ends_at names first next how taken minds old new reached = record {
 }
 
 -- nothing has happened yet
-pub reached_none : (names : Names) (rest : Answering → World → Progress) (taken : List ℕ) (minds : List (Option Mind)) (now : Moment) (world : World) → Reads [] now.part now.part → StandsFor names taken minds now world → IsStretch world.work names (λ answers. rest answers world) rest taken minds now now
-reached_none names rest taken minds now world reads stands = record {
+pub reached_none : (names : Names) (rest : Answering → World → Progress) (taken : List ℕ) (cast : Cast) (now : Moment) (world : World) → Reads [] now.part now.part → StandsFor names taken cast now world → IsStretch world.work names (λ answers. rest answers world) rest taken cast now now
+reached_none names rest taken cast now world reads stands = record {
   piece = [];
   reads = reads;
   setup = refl;
   world = world;
-  stands = stands_as names _ _ minds now world (sym (append-nil taken)) stands;
+  stands = stands_as names _ _ cast now world (sym (append-nil taken)) stands;
   work = refl;
   made = [];
   records = sym (append-nil now.kernel.records);
@@ -145,11 +145,16 @@ reached_none names rest taken minds now world reads stands = record {
 }
 
 -- the work in other words
-pub reached_spent : (spent other : ℕ) (names : Names) (whole : Answering → Progress) (rest : Answering → World → Progress) (taken : List ℕ) (minds : List (Option Mind)) (old new : Moment) → spent ≡ other → IsStretch spent names whole rest taken minds old new → IsStretch other names whole rest taken minds old new
-reached_spent spent other names whole rest taken minds old new same reached = subst (λ (n : ℕ). IsStretch n names whole rest taken minds old new) same reached
+pub reached_spent : (spent other : ℕ) (names : Names) (whole : Answering → Progress) (rest : Answering → World → Progress) (taken : List ℕ) (cast : Cast) (old new : Moment) → spent ≡ other → IsStretch spent names whole rest taken cast old new → IsStretch other names whole rest taken cast old new
+reached_spent spent other names whole rest taken cast old new same reached = subst (λ (n : ℕ). IsStretch n names whole rest taken cast old new) same reached
 
 -- what was taken up to an end is needed
-pub reached_needed : {spent : ℕ} (names : Names) (whole : Answering → Progress) (how : Option Ended) (taken : List ℕ) (minds : List (Option Mind)) (old new : Moment) → (reached : IsStretch spent names whole (ending how) taken minds old new) → AreNeededBy names whole (taken ++ reached.piece) new.part.stage
-reached_needed names whole how taken minds old new reached source goes =
+pub reached_needed : {spent : ℕ} (names : Names) (whole : Answering → Progress) (how : Option Ended) (taken : List ℕ) (cast : Cast) (old new : Moment) → (reached : IsStretch spent names whole (ending how) taken cast old new) → AreNeededBy names whole (taken ++ reached.piece) new.part.stage
+reached_needed names whole how taken cast old new reached source goes =
     let within : Progress → Type 0 = λ p. IsWithinNeed names source p.world.asks (length (taken ++ reached.piece)) in
     subst within (sym (reached.is source goes)) (reached.stands.script.needed source goes)
+
+-- no fewer contexts are left then than the whole leaves
+pub reached_left : {spent : ℕ} (names : Names) (whole : Answering → Progress) (how : Option Ended) (taken : List ℕ) (cast : Cast) (old new : Moment) → (reached : IsStretch spent names whole (ending how) taken cast old new) → LeavesContexts names whole (taken ++ reached.piece) new.part.stage cast.contexts
+reached_left names whole how taken cast old new reached source goes =
+    omega (arith, ap (λ (p : Progress). p.world.contexts) (reached.is source goes), ap (λ (c : Cast). c.contexts) reached.stands.cast)

@@ -15,7 +15,7 @@ use Rattle.sg_edge.specs.Sinks.{GainsFront}
 use Rattle.sg_kernel.specs.Known.{Known}
 use Rattle.sg_base.specs.Limits.{Extent}
 use Rattle.sg_kernel.specs.World.{Setup, Core, extent}
-use Rattle.sg_states.specs.Actors.{is_ended}
+use Rattle.sg_states.specs.Actors.{is_over}
 use Rattle.sg_engine.specs.World.{World}
 use Rattle.sg_route.specs.Roads.{Roads}
 use Rattle.sg_rows.specs.Deployment.{Deployed}
@@ -30,34 +30,35 @@ use Rattle.sg_engine.specs.declared.ended.Ended.{Ended}
 use Rattle.sg_engine.specs.declared.ended.Ended.TheVariants as ended
 use Rattle.sg_engine.specs.declared.plan.Plan.{Plan}
 use Rattle.sg_engine.specs.RunContract.{is_cut}
-use Rattle.sg_engine.specs.kept.Moments.{Moment, moment, Fits, StandsFor, IsStretch, LacksMemory, ending, cuts}
+use Rattle.sg_engine.specs.kept.Moments.{Cast, Moment, moment, Fits, StandsFor, IsStretch, LacksMemory, ending, cuts}
 use Rattle.sg_engine.specs.Run.{Scene, scene, Answering, Progress, at_world, with_front, and_then, and_then_by, round_or_pass, run_from, work_behind}
 use Rattle.sg_engine.specs.declared.show.Show.{Show}
 use Rattle.sg_engine.specs.declared.show.Show.TheVariants as show
 use Rattle.sg_engine.specs.Output.{trace_of}
 use Rattle.sg_trace.specs.Line.{line_of}
 use Rattle.sg_engine.specs.declared.simulation.Simulation.{Simulation}
-use Rattle.sg_engine.specs.kept.Invariant.{places_in, IsKept, Holds, PartIs, StaysKept}
+use Rattle.sg_engine.specs.kept.Invariant.{places_in, AreBlank, IsKept, Holds, PartIs, StaysKept, TakesCrew}
 use Rattle.sg_engine.specs.kept.SeatRules.{IsSeated}
 use Rattle.sg_engine.specs.kept.Stretches.{Trace, Advances, CutsOff, IsCutOff, IsOver}
 use Rattle.sg_engine.specs.kept.Writing.{Pending, pending, Adds, AddsFront, EndsForMemory}
 use Rattle.sg_engine.proofs.Fronts.{memory_cuts, memory_front}
-use Rattle.sg_engine.proofs.Asked.{part_rises, run_rises_behind as asks_behind}
-use Rattle.sg_engine.proofs.Reaching.{goes_back, reached_needed, reached_then, reached_as, goes_on_to, ends_at}
+use Rattle.sg_engine.proofs.Asked.{asks_rise}
+use Rattle.sg_engine.proofs.Reaching.{goes_back, reached_left, reached_needed, reached_then, reached_as, goes_on_to, ends_at}
+use Rattle.sg_engine.proofs.Runs.{contexts_fall, part_keeps, run_keeps_behind}
 use Rattle.sg_engine.proofs.Waiting.{adds_front, adds_none, adds_then, front_adds, front_waits}
 use Rattle.sg_engine.proofs.Working.{run_rises_behind}
 
 -- ---- one part
 -- the records of a stretch stand behind others that were cleared since, and there is other room
-abbrev pub with_records : {spent : ℕ} (names : Names) (whole : Answering → Progress) (rest : Answering → World → Progress) (taken : List ℕ) (minds : List (Option Mind)) (part part' : PartView) (kept kept' : Kept) (old new old' new' : Known) (front : List Record) →
-    (reached : IsStretch spent names whole rest taken minds (moment part kept old) (moment part' kept' new)) → old'.records ≡ front → old'.setup ≡ old.setup → new'.core ≡ new.core → new'.setup ≡ new.setup → new'.records ≡ front ++ reached.made →
-    IsStretch spent names whole rest taken minds (moment part kept old') (moment part' kept' new')
-with_records names whole rest taken minds part part' kept kept' old new old' new' front reached before setup core setup' after = record {
+abbrev pub with_records : {spent : ℕ} (names : Names) (whole : Answering → Progress) (rest : Answering → World → Progress) (taken : List ℕ) (cast : Cast) (part part' : PartView) (kept kept' : Kept) (old new old' new' : Known) (front : List Record) →
+    (reached : IsStretch spent names whole rest taken cast (moment part kept old) (moment part' kept' new)) → old'.records ≡ front → old'.setup ≡ old.setup → new'.core ≡ new.core → new'.setup ≡ new.setup → new'.records ≡ front ++ reached.made →
+    IsStretch spent names whole rest taken cast (moment part kept old') (moment part' kept' new')
+with_records names whole rest taken cast part part' kept kept' old new old' new' front reached before setup core setup' after = record {
   piece = reached.piece;
   reads = reached.reads;
   setup = setup' ∙ reached.setup ∙ sym setup;
   world = reached.world;
-  stands = record { script = reached.stands.script; core = core ∙ reached.stands.core; minds = reached.stands.minds };
+  stands = record { script = reached.stands.script; core = core ∙ reached.stands.core; cast = reached.stands.cast };
   work = reached.work;
   made = reached.made;
   records = after ∙ ap (λ (l : List Record). l ++ reached.made) (sym before);
@@ -65,93 +66,96 @@ with_records names whole rest taken minds part part' kept kept' old new old' new
 }
 
 -- the same of a scene whose setup is the same
-pub scene_as : {spent : ℕ} (names : Names) (roads : Roads) (script : Bool) (setup setup' : Setup) (how : Option Ended) (taken : List ℕ) (minds : List (Option Mind)) (world : World) (old new : Moment) → setup' ≡ setup →
-    IsStretch spent names (λ answers. round_or_pass (scene roads setup' script) answers world) (ending how) taken minds old new → IsStretch spent names (λ answers. round_or_pass (scene roads setup script) answers world) (ending how) taken minds old new
-scene_as {spent} names roads script setup setup' how taken minds world old new same reached =
-    subst (λ (s : Setup). IsStretch spent names (λ answers. round_or_pass (scene roads s script) answers world) (ending how) taken minds old new) same reached
+pub scene_as : {spent : ℕ} (names : Names) (roads : Roads) (firsts : List Mind) (script : Bool) (setup setup' : Setup) (how : Option Ended) (taken : List ℕ) (cast : Cast) (world : World) (old new : Moment) → setup' ≡ setup →
+    IsStretch spent names (λ answers. round_or_pass (scene roads setup' firsts script) answers world) (ending how) taken cast old new → IsStretch spent names (λ answers. round_or_pass (scene roads setup firsts script) answers world) (ending how) taken cast old new
+scene_as {spent} names roads firsts script setup setup' how taken cast world old new same reached =
+    subst (λ (s : Setup). IsStretch spent names (λ answers. round_or_pass (scene roads s firsts script) answers world) (ending how) taken cast old new) same reached
 
 -- a part was made and printed
-pub advances : {spent : ℕ} (names : Names) (trace : Trace) (whole : Answering → Progress) (how : Option Ended) (taken : List ℕ) (minds : List (Option Mind)) (part part' : PartView) (kept kept' : Kept) (old mid new : Known) (before after : Pending) →
-    IsStretch spent names whole (ending how) taken minds (moment part kept mid) (moment part' kept' new) → mid.records ≡ [] → old.records ≡ [] → mid.setup ≡ old.setup → Adds (trace new.records) before after → (new' : Known) → new'.core ≡ new.core → new'.setup ≡ new.setup →
-    Advances spent names trace whole how taken minds (moment part kept old) (moment part' kept' new') before after
-advances names trace whole how taken minds part part' kept kept' old mid new before after reached none none' setup printed new' core setup' =
+pub advances : {spent : ℕ} (names : Names) (trace : Trace) (whole : Answering → Progress) (how : Option Ended) (taken : List ℕ) (cast : Cast) (part part' : PartView) (kept kept' : Kept) (old mid new : Known) (before after : Pending) →
+    IsStretch spent names whole (ending how) taken cast (moment part kept mid) (moment part' kept' new) → mid.records ≡ [] → old.records ≡ [] → mid.setup ≡ old.setup → Adds (trace new.records) before after → (new' : Known) → new'.core ≡ new.core → new'.setup ≡ new.setup →
+    Advances spent names trace whole how taken cast (moment part kept old) (moment part' kept' new') before after
+advances names trace whole how taken cast part part' kept kept' old mid new before after reached none none' setup printed new' core setup' =
     let made : new.records ≡ reached.made = reached.records ∙ ap (λ (l : List Record). l ++ reached.made) none in
     record {
       records = reached.made;
-      reached = with_records names whole (ending how) taken minds part part' kept kept' mid new old (record new' { records = reached.made }) [] reached none' (sym setup) core setup' refl;
+      reached = with_records names whole (ending how) taken cast part part' kept kept' mid new old (record new' { records = reached.made }) [] reached none' (sym setup) core setup' refl;
       printed = subst (λ (l : List Record). Adds (trace l) before after) made printed;
     }
 
 -- a write failed in the lines of a part
-pub cuts_off_at : {spent : ℕ} (names : Names) (trace : Trace) (whole : Answering → Progress) (how : Option Ended) (taken : List ℕ) (minds : List (Option Mind)) (part part' : PartView) (kept kept' : Kept) (mid new : Known) (before : Pending) (after : Option (List ℕ)) →
-    IsStretch spent names whole (ending how) taken minds (moment part kept mid) (moment part' kept' new) → mid.records ≡ [] → AddsFront (trace new.records) before after → CutsOff names trace whole taken part part' before after
-cuts_off_at names trace whole how taken minds part part' kept kept' mid new before after reached none front = record {
+pub cuts_off_at : {spent : ℕ} (names : Names) (trace : Trace) (whole : Answering → Progress) (how : Option Ended) (taken : List ℕ) (cast : Cast) (part part' : PartView) (kept kept' : Kept) (mid new : Known) (before : Pending) (after : Option (List ℕ)) →
+    IsStretch spent names whole (ending how) taken cast (moment part kept mid) (moment part' kept' new) → mid.records ≡ [] → AddsFront (trace new.records) before after → CutsOff names trace whole taken cast.contexts part part' before after
+cuts_off_at names trace whole how taken cast part part' kept kept' mid new before after reached none front = record {
   piece = reached.piece;
   reads = reached.reads;
-  needed = reached_needed names whole how taken minds (moment part kept mid) (moment part' kept' new) reached;
+  needed = reached_needed names whole how taken cast (moment part kept mid) (moment part' kept' new) reached;
+  contexts = reached_left names whole how taken cast (moment part kept mid) (moment part' kept' new) reached;
   front = λ source goes.
       let made : new.records ≡ (whole (answer_of names source)).made = reached.records ∙ ap (λ (l : List Record). l ++ reached.made) none ∙ sym (ap (λ (p : Progress). p.made) (reached.is source goes) ∙ append-nil reached.made) in
       subst (λ (l : List Record). AddsFront (trace l) before after) made front;
 }
 
 -- memory was wanting, and at most what waited was written
-pub cuts_off_by : (names : Names) (trace : Trace) (whole : Answering → Progress) (taken : List ℕ) (part part' : PartView) (before : Pending) (after : Option (List ℕ)) → LacksMemory names whole taken part part' → GainsFront before.waiting before.held after → CutsOff names trace whole taken part part' before after
-cuts_off_by names trace whole taken part part' before after cut front = record {
+pub cuts_off_by : (names : Names) (trace : Trace) (whole : Answering → Progress) (taken : List ℕ) (left : ℕ) (part part' : PartView) (before : Pending) (after : Option (List ℕ)) → LacksMemory names whole taken left part part' → GainsFront before.waiting before.held after → CutsOff names trace whole taken left part part' before after
+cuts_off_by names trace whole taken left part part' before after cut front = record {
   piece = cut.piece;
   reads = cut.reads;
   needed = cut.needed;
+  contexts = cut.contexts;
   front = λ source goes. front_waits (trace (whole (answer_of names source)).made) before after front;
 }
 
 -- before a part nothing is read
-pub lacks_room : (names : Names) (at : Scene) (taken : List ℕ) (minds : List (Option Mind)) (now : Moment) (world : World) → now.part.stage ≢ Fresh → StandsFor names taken minds now world → LacksMemory names (λ answers. round_or_pass at answers world) taken now.part now.part
-lacks_room names at taken minds now world begun stands = record {
+pub lacks_room : (names : Names) (at : Scene) (taken : List ℕ) (cast : Cast) (now : Moment) (world : World) → now.part.stage ≢ Fresh → StandsFor names taken cast now world → LacksMemory names (λ answers. round_or_pass at answers world) taken cast.contexts now.part now.part
+lacks_room names at taken cast now world begun stands = record {
   piece = [];
   reads = reads_none now.part begun;
   needed = λ source goes.
       let same : taken ++ [] ≡ taken = append-nil taken in
       let there : GoesOn taken now.part.stage source = subst (λ (t : List ℕ). GoesOn t now.part.stage source) same goes in
       subst (λ (t : List ℕ). IsWithinNeed names source (round_or_pass at (answer_of names source) world).world.asks (length t)) (sym same)
-      (within_more names source world.asks _ _ (part_rises at (answer_of names source) world) (stands.script.needed source there));
+      (within_more names source world.asks _ _ (part_keeps asks_rise at (answer_of names source) world) (stands.script.needed source there));
+  contexts = λ source goes. omega (arith, part_keeps contexts_fall at (answer_of names source) world, ap (λ (c : Cast). c.contexts) stands.cast);
 }
 
 -- memory was wanting in a scene whose setup is the same
-pub lacks_scene : (names : Names) (roads : Roads) (script : Bool) (setup setup' : Setup) (taken : List ℕ) (world : World) (old new : PartView) → setup' ≡ setup →
-    LacksMemory names (λ answers. round_or_pass (scene roads setup' script) answers world) taken old new → LacksMemory names (λ answers. round_or_pass (scene roads setup script) answers world) taken old new
-lacks_scene names roads script setup setup' taken world old new same lacks = subst (λ (s : Setup). LacksMemory names (λ answers. round_or_pass (scene roads s script) answers world) taken old new) same lacks
+pub lacks_scene : (names : Names) (roads : Roads) (firsts : List Mind) (script : Bool) (setup setup' : Setup) (taken : List ℕ) (left : ℕ) (world : World) (old new : PartView) → setup' ≡ setup →
+    LacksMemory names (λ answers. round_or_pass (scene roads setup' firsts script) answers world) taken left old new → LacksMemory names (λ answers. round_or_pass (scene roads setup firsts script) answers world) taken left old new
+lacks_scene names roads firsts script setup setup' taken left world old new same lacks = subst (λ (s : Setup). LacksMemory names (λ answers. round_or_pass (scene roads s firsts script) answers world) taken left old new) same lacks
 
 -- a part of a scene is that of the same one
-pub part_as : (spent : ℕ) (names : Names) (trace : Trace) (at at' : Scene) (how : Option Ended) (taken : List ℕ) (minds : List (Option Mind)) (world : World) (old new : Moment) (before after : Pending) → at ≡ at' →
-    PartIs spent names trace (λ answers. round_or_pass at answers world) how taken minds old new before after → PartIs spent names trace (λ answers. round_or_pass at' answers world) how taken minds old new before after
-part_as spent names trace at at' how taken minds world old new before after same part = subst (λ (s : Scene). PartIs spent names trace (λ answers. round_or_pass s answers world) how taken minds old new before after) same part
+pub part_as : (spent : ℕ) (names : Names) (trace : Trace) (at at' : Scene) (how : Option Ended) (taken : List ℕ) (cast : Cast) (world : World) (old new : Moment) (before after : Pending) → at ≡ at' →
+    PartIs spent names trace (λ answers. round_or_pass at answers world) how taken cast old new before after → PartIs spent names trace (λ answers. round_or_pass at' answers world) how taken cast old new before after
+part_as spent names trace at at' how taken cast world old new before after same part = subst (λ (s : Scene). PartIs spent names trace (λ answers. round_or_pass s answers world) how taken cast old new before after) same part
 
 -- a part that didn't cut the run off
-pub part_is : {spent : ℕ} (names : Names) (trace : Trace) (whole : Answering → Progress) (how : Option Ended) (taken : List ℕ) (minds : List (Option Mind)) (old new : Moment) (before after : Pending) → cuts how ≡ false → Advances spent names trace whole how taken minds old new before after → PartIs spent names trace whole how taken minds old new before after
-part_is names trace whole how taken minds old new before after uncut advances = rw uncut advances
+pub part_is : {spent : ℕ} (names : Names) (trace : Trace) (whole : Answering → Progress) (how : Option Ended) (taken : List ℕ) (cast : Cast) (old new : Moment) (before after : Pending) → cuts how ≡ false → Advances spent names trace whole how taken cast old new before after → PartIs spent names trace whole how taken cast old new before after
+part_is names trace whole how taken cast old new before after uncut advances = rw uncut advances
 
 -- a part that did
-pub part_cuts : (spent : ℕ) (names : Names) (trace : Trace) (whole : Answering → Progress) (how : Option Ended) (taken : List ℕ) (minds : List (Option Mind)) (old new : Moment) (before after : Pending) → cuts how ≡ true → CutsOff names trace whole taken old.part new.part before after.held → PartIs spent names trace whole how taken minds old new before after
-part_cuts spent names trace whole how taken minds old new before after is cut = rw is cut
+pub part_cuts : (spent : ℕ) (names : Names) (trace : Trace) (whole : Answering → Progress) (how : Option Ended) (taken : List ℕ) (cast : Cast) (old new : Moment) (before after : Pending) → cuts how ≡ true → CutsOff names trace whole taken cast.contexts old.part new.part before after.held → PartIs spent names trace whole how taken cast old new before after
+part_cuts spent names trace whole how taken cast old new before after is cut = rw is cut
 
 -- what it keeps
-pub part_kept : {A : Type 0} (mind : A → Option Mind) (plan : Plan) (how : Option Ended) (shows : Part → PartView) (old new : Simulation A) → cuts how ≡ false → new.kernel.setup ≡ old.kernel.setup → Holds mind plan shows new → StaysKept mind plan how shows old new
-part_kept mind plan how shows old new uncut setup kept = record { setup = setup; kept = rw uncut kept }
+pub part_kept : {A : Type 0} (mind : A → Option Mind) (plan : Plan) (how : Option Ended) (shows : Part → PartView) (old new : Simulation A) → cuts how ≡ false → TakesCrew false old new → new.kernel.setup ≡ old.kernel.setup → Holds mind plan shows new → StaysKept mind plan how shows old new
+part_kept mind plan how shows old new uncut crew setup kept = record { crew = rw uncut crew; setup = setup; kept = rw uncut kept }
 
 -- a part for which memory was wanting
-pub part_short : (spent : ℕ) (names : Names) (trace : Trace) (whole : Answering → Progress) (how : Ended) (taken : List ℕ) (minds : List (Option Mind)) (old new : Moment) (waits first left : List ℕ) (before after : Stream → Option (List ℕ)) (faults : ℕ) → LacksMemory names whole taken old.part new.part → waits ≡ first → EndsForMemory waits how before after faults →
-    PartIs spent names trace whole (Some how) taken minds old new (pending (before Out) first) (pending (after Out) left)
-part_short spent names trace whole how taken minds old new waits first left before after faults lacks same ends =
+pub part_short : (spent : ℕ) (names : Names) (trace : Trace) (whole : Answering → Progress) (how : Ended) (taken : List ℕ) (cast : Cast) (old new : Moment) (waits first left : List ℕ) (before after : Stream → Option (List ℕ)) (faults : ℕ) → LacksMemory names whole taken cast.contexts old.part new.part → waits ≡ first → EndsForMemory waits how before after faults →
+    PartIs spent names trace whole (Some how) taken cast old new (pending (before Out) first) (pending (after Out) left)
+part_short spent names trace whole how taken cast old new waits first left before after faults lacks same ends =
     let front : GainsFront first (before Out) (after Out) = subst (λ (w : List ℕ). GainsFront w (before Out) (after Out)) same (memory_front waits how before after faults ends) in
-    part_cuts spent names trace whole (Some how) taken minds old new (pending (before Out) first) (pending (after Out) left) (memory_cuts waits how before after faults ends) (cuts_off_by names trace whole taken old.part new.part (pending (before Out) first) (after Out) lacks front)
+    part_cuts spent names trace whole (Some how) taken cast old new (pending (before Out) first) (pending (after Out) left) (memory_cuts waits how before after faults ends) (cuts_off_by names trace whole taken cast.contexts old.part new.part (pending (before Out) first) (after Out) lacks front)
 
 -- behind it nothing is kept but the setup
-pub short_kept : {A : Type 0} (mind : A → Option Mind) (plan : Plan) (how : Ended) (shows : Part → PartView) (old new : Simulation A) → is_cut how ≡ true → new.kernel.setup ≡ old.kernel.setup → StaysKept mind plan (Some how) shows old new
-short_kept mind plan how shows old new cut setup = record { setup = setup; kept = rw cut tt }
+pub short_kept : {A : Type 0} (mind : A → Option Mind) (plan : Plan) (how : Ended) (shows : Part → PartView) (old new : Simulation A) → is_cut how ≡ true → TakesCrew true old new → new.kernel.setup ≡ old.kernel.setup → StaysKept mind plan (Some how) shows old new
+short_kept mind plan how shows old new cut crew setup = record { crew = rw cut crew; setup = setup; kept = rw cut tt }
 
 -- what a simulation keeps behind a part whose records are in lines and cleared
 pub kept_on : {A : Type 0} (mind : A → Option Mind) (deployed : Deployed) (part : PartView) (sim : Simulation A) (known : Known) → Fits deployed (moment part (kept_of sim.script) known) → sim.kernel ≡ record known { records = [] } → length known.setup.homes ≡ length deployed.actors →
-    All (IsSeated (extent known.setup)) (places_in mind sim) → length sim.seats.items ≡ length deployed.actors → length deployed.actors ≤ vec_capacity sim.calls → length deployed.actors ≤ 65536 → IsKept mind deployed part sim
-kept_on mind deployed part sim known fits is homes seated number calls few = record {
+    All (IsSeated (extent known.setup)) (places_in mind sim) → length sim.seats.items ≡ length deployed.actors → length deployed.actors ≤ vec_capacity sim.calls → length deployed.actors ≤ 65536 → AreBlank mind sim.crew.items → IsKept mind deployed part sim
+kept_on mind deployed part sim known fits is homes seated number calls few blank = record {
   fits = record {
     actors = ap (λ (k : Known). length k.core.actors) is ∙ fits.actors;
     queues = fits.queues;
@@ -162,17 +166,18 @@ kept_on mind deployed part sim known fits is homes seated number calls few = rec
   homes = ap (λ (k : Known). length k.setup.homes) is ∙ homes;
   number = number;
   seated = subst (λ (e : Extent). All (IsSeated e) (places_in mind sim)) fits.extent seated;
+  blank = blank;
   calls = calls;
   few = few;
   cleared = ap (λ (k : Known). k.records) is;
 }
 
 -- ---- rounds and passes one after another
-pub run_done : (n m : ℕ) (at : Scene) (answers : Answering) (world : World) → n ≡ suc m → list_all is_ended world.core.actors ≡ true → run_from n at answers world ≡ at_world (Some ended.Completed) world
+pub run_done : (n m : ℕ) (at : Scene) (answers : Answering) (world : World) → n ≡ suc m → list_all is_over world.core.actors ≡ true → run_from n at answers world ≡ at_world (Some ended.Completed) world
 unfolding run_from
 run_done n m at answers world more all = ap (λ (k : ℕ). run_from k at answers world) more ∙ ap (λ (b : Bool). cond b (at_world (Some ended.Completed) world) (and_then (round_or_pass at answers world) (run_from m at answers))) all
 
-pub run_goes : (n m : ℕ) (at : Scene) (answers : Answering) (world : World) → n ≡ suc m → list_all is_ended world.core.actors ≡ false → run_from n at answers world ≡ and_then (round_or_pass at answers world) (run_from m at answers)
+pub run_goes : (n m : ℕ) (at : Scene) (answers : Answering) (world : World) → n ≡ suc m → list_all is_over world.core.actors ≡ false → run_from n at answers world ≡ and_then (round_or_pass at answers world) (run_from m at answers)
 unfolding run_from
 run_goes n m at answers world more some = ap (λ (k : ℕ). run_from k at answers world) more ∙ ap (λ (b : Bool). cond b (at_world (Some ended.Completed) world) (and_then (round_or_pass at answers world) (run_from m at answers))) some
 
@@ -192,14 +197,15 @@ pub work_more : (start count later spent work mine its : ℕ) → count ≤ star
 work_more start count later spent work mine its worked is same more = omega arith
 
 -- the run has come to its end
-abbrev pub over_by : {spent : ℕ} (start count : ℕ) (names : Names) (trace : Trace) (whole : Answering → Progress) (how : Ended) (minds : List (Option Mind)) (p0 p1 : PartView) (q0 q1 : Kept) (k0 k1 : Known) (core : Core) (before after : Pending) →
-    (reached : IsStretch spent names whole (ending (Some how)) [] minds (moment p0 q0 k0) (moment p1 q1 k1)) → core ≡ k1.core → Adds (trace reached.made) before after → count ≤ start + spent → IsOver start count names trace whole how core p0 p1 before after
-over_by {spent} start count names trace whole how minds p0 p1 q0 q1 k0 k1 core before after reached same printed worked = record {
+abbrev pub over_by : {spent : ℕ} (start count : ℕ) (names : Names) (trace : Trace) (whole : Answering → Progress) (how : Ended) (cast : Cast) (p0 p1 : PartView) (q0 q1 : Kept) (k0 k1 : Known) (core : Core) (before after : Pending) →
+    (reached : IsStretch spent names whole (ending (Some how)) [] cast (moment p0 q0 k0) (moment p1 q1 k1)) → core ≡ k1.core → Adds (trace reached.made) before after → count ≤ start + spent → IsOver start count cast.contexts names trace whole how core p0 p1 before after
+over_by {spent} start count names trace whole how cast p0 p1 q0 q1 k0 k1 core before after reached same printed worked = record {
   piece = reached.piece;
   reads = reached.reads;
-  needed = reached_needed names whole (Some how) [] minds (moment p0 q0 k0) (moment p1 q1 k1) reached;
+  needed = reached_needed names whole (Some how) [] cast (moment p0 q0 k0) (moment p1 q1 k1) reached;
   world = reached.world;
   core_is = same ∙ reached.stands.core;
+  contexts = ap (λ (c : Cast). c.contexts) reached.stands.cast;
   worked = worked_as start spent count reached.world.work reached.work worked;
   made = reached.made;
   printed = printed;
@@ -209,11 +215,11 @@ over_by {spent} start count names trace whole how minds p0 p1 q0 q1 k0 k1 core b
 }
 
 -- all actors have ended
-pub completed : {spent : ℕ} (start count : ℕ) (names : Names) (trace : Trace) (whole : Answering → Progress) (n m : ℕ) (at : Scene) (minds : List (Option Mind)) (p0 p1 : PartView) (q0 q1 : Kept) (k0 k1 : Known) (core : Core) (before after : Pending) →
-    (reached : IsStretch spent names whole (rest_of n at) [] minds (moment p0 q0 k0) (moment p1 q1 k1)) → n ≡ suc m → core ≡ k1.core → list_all is_ended core.actors ≡ true → Adds (trace reached.made) before after → count ≤ start + spent → IsOver start count names trace whole ended.Completed core p0 p1 before after
-completed start count names trace whole n m at minds p0 p1 q0 q1 k0 k1 core before after reached more same all printed worked =
-    let all_here : list_all is_ended reached.world.core.actors ≡ true = ap (λ (c : Core). list_all is_ended c.actors) (sym (same ∙ reached.stands.core)) ∙ all in
-    over_by start count names trace whole ended.Completed minds p0 p1 q0 q1 k0 k1 core before after (record {
+pub completed : {spent : ℕ} (start count : ℕ) (names : Names) (trace : Trace) (whole : Answering → Progress) (n m : ℕ) (at : Scene) (cast : Cast) (p0 p1 : PartView) (q0 q1 : Kept) (k0 k1 : Known) (core : Core) (before after : Pending) →
+    (reached : IsStretch spent names whole (rest_of n at) [] cast (moment p0 q0 k0) (moment p1 q1 k1)) → n ≡ suc m → core ≡ k1.core → list_all is_over core.actors ≡ true → Adds (trace reached.made) before after → count ≤ start + spent → IsOver start count cast.contexts names trace whole ended.Completed core p0 p1 before after
+completed start count names trace whole n m at cast p0 p1 q0 q1 k0 k1 core before after reached more same all printed worked =
+    let all_here : list_all is_over reached.world.core.actors ≡ true = ap (λ (c : Core). list_all is_over c.actors) (sym (same ∙ reached.stands.core)) ∙ all in
+    over_by start count names trace whole ended.Completed cast p0 p1 q0 q1 k0 k1 core before after (record {
       piece = reached.piece;
       reads = reached.reads;
       setup = reached.setup;
@@ -226,10 +232,10 @@ completed start count names trace whole n m at minds p0 p1 q0 q1 k0 k1 core befo
     }) same printed worked
 
 -- no round and no pass is left
-pub used_up : {spent : ℕ} (start count : ℕ) (names : Names) (trace : Trace) (whole : Answering → Progress) (n : ℕ) (at : Scene) (minds : List (Option Mind)) (p0 p1 : PartView) (q0 q1 : Kept) (k0 k1 : Known) (core : Core) (before after : Pending) →
-    (reached : IsStretch spent names whole (rest_of n at) [] minds (moment p0 q0 k0) (moment p1 q1 k1)) → n ≡ 0 → core ≡ k1.core → Adds (trace reached.made) before after → count ≤ start + spent → IsOver start count names trace whole ended.Budget core p0 p1 before after
-used_up start count names trace whole n at minds p0 p1 q0 q1 k0 k1 core before after reached none same printed worked =
-    over_by start count names trace whole ended.Budget minds p0 p1 q0 q1 k0 k1 core before after (record {
+pub used_up : {spent : ℕ} (start count : ℕ) (names : Names) (trace : Trace) (whole : Answering → Progress) (n : ℕ) (at : Scene) (cast : Cast) (p0 p1 : PartView) (q0 q1 : Kept) (k0 k1 : Known) (core : Core) (before after : Pending) →
+    (reached : IsStretch spent names whole (rest_of n at) [] cast (moment p0 q0 k0) (moment p1 q1 k1)) → n ≡ 0 → core ≡ k1.core → Adds (trace reached.made) before after → count ≤ start + spent → IsOver start count cast.contexts names trace whole ended.Budget core p0 p1 before after
+used_up start count names trace whole n at cast p0 p1 q0 q1 k0 k1 core before after reached none same printed worked =
+    over_by start count names trace whole ended.Budget cast p0 p1 q0 q1 k0 k1 core before after (record {
       piece = reached.piece;
       reads = reached.reads;
       setup = reached.setup;
@@ -242,36 +248,36 @@ used_up start count names trace whole n at minds p0 p1 q0 q1 k0 k1 core before a
     }) same printed worked
 
 -- one part more, and the run goes on
-abbrev pub part_on : {spent next : ℕ} (names : Names) (trace : Trace) (whole : Answering → Progress) (n m : ℕ) (at : Scene) (minds minds' : List (Option Mind)) (p0 p1 p2 : PartView) (q0 q1 q2 : Kept) (k0 k1 k1' k2 : Known) (before after : Pending) →
-    (reached : IsStretch spent names whole (rest_of n at) [] minds (moment p0 q0 k0) (moment p1 q1 k1')) → n ≡ suc m → k1'.core ≡ k1.core → k1'.setup ≡ k1.setup → list_all is_ended k1.core.actors ≡ false → k0.records ≡ [] →
-    (part : Advances next names trace (λ answers. round_or_pass at answers reached.world) None reached.piece minds' (moment p1 q1 k1) (moment p2 q2 k2) before after) → k1.records ≡ [] →
-    IsStretch next names whole (rest_of m at) [] minds' (moment p0 q0 k0) (moment p2 q2 (record k2 { records = reached.made ++ part.records }))
-part_on {next} names trace whole n m at minds minds' p0 p1 p2 q0 q1 q2 k0 k1 k1' k2 before after reached more core same some first part cleared =
+abbrev pub part_on : {spent next : ℕ} (names : Names) (trace : Trace) (whole : Answering → Progress) (n m : ℕ) (at : Scene) (cast cast' : Cast) (p0 p1 p2 : PartView) (q0 q1 q2 : Kept) (k0 k1 k1' k2 : Known) (before after : Pending) →
+    (reached : IsStretch spent names whole (rest_of n at) [] cast (moment p0 q0 k0) (moment p1 q1 k1')) → n ≡ suc m → k1'.core ≡ k1.core → k1'.setup ≡ k1.setup → list_all is_over k1.core.actors ≡ false → k0.records ≡ [] →
+    (part : Advances next names trace (λ answers. round_or_pass at answers reached.world) None reached.piece cast' (moment p1 q1 k1) (moment p2 q2 k2) before after) → k1.records ≡ [] →
+    IsStretch next names whole (rest_of m at) [] cast' (moment p0 q0 k0) (moment p2 q2 (record k2 { records = reached.made ++ part.records }))
+part_on {next} names trace whole n m at cast cast' p0 p1 p2 q0 q1 q2 k0 k1 k1' k2 before after reached more core same some first part cleared =
     let made : part.records ≡ part.reached.made = part.reached.records ∙ ap (λ (l : List Record). l ++ part.reached.made) cleared in
     let here : k1'.records ≡ reached.made = reached.records ∙ ap (λ (l : List Record). l ++ reached.made) first in
-    let some_here : list_all is_ended reached.world.core.actors ≡ false = ap (λ (c : Core). list_all is_ended c.actors) (sym (sym core ∙ reached.stands.core)) ∙ some in
-    let shifted : IsStretch next names (λ answers. round_or_pass at answers reached.world) (ending None) reached.piece minds' (moment p1 q1 k1') (moment p2 q2 (record k2 { records = reached.made ++ part.records })) =
-    with_records names (λ answers. round_or_pass at answers reached.world) (ending None) reached.piece minds' p1 p2 q1 q2 k1 (record k2 { records = part.records }) k1' (record k2 { records = reached.made ++ part.records }) reached.made part.reached here same refl refl (ap (λ (l : List Record). reached.made ++ l) made) in
-    reached_then names whole (rest_of n at) (rest_of m at) [] minds minds' (moment p0 q0 k0) (moment p1 q1 k1') (moment p2 q2 (record k2 { records = reached.made ++ part.records })) reached
-    (reached_as names (λ answers. and_then (round_or_pass at answers reached.world) (rest_of m at answers)) (λ answers. rest_of n at answers reached.world) (rest_of m at) reached.piece minds' (moment p1 q1 k1') (moment p2 q2 (record k2 { records = reached.made ++ part.records }))
+    let some_here : list_all is_over reached.world.core.actors ≡ false = ap (λ (c : Core). list_all is_over c.actors) (sym (sym core ∙ reached.stands.core)) ∙ some in
+    let shifted : IsStretch next names (λ answers. round_or_pass at answers reached.world) (ending None) reached.piece cast' (moment p1 q1 k1') (moment p2 q2 (record k2 { records = reached.made ++ part.records })) =
+    with_records names (λ answers. round_or_pass at answers reached.world) (ending None) reached.piece cast' p1 p2 q1 q2 k1 (record k2 { records = part.records }) k1' (record k2 { records = reached.made ++ part.records }) reached.made part.reached here same refl refl (ap (λ (l : List Record). reached.made ++ l) made) in
+    reached_then names whole (rest_of n at) (rest_of m at) [] cast cast' (moment p0 q0 k0) (moment p1 q1 k1') (moment p2 q2 (record k2 { records = reached.made ++ part.records })) reached
+    (reached_as names (λ answers. and_then (round_or_pass at answers reached.world) (rest_of m at answers)) (λ answers. rest_of n at answers reached.world) (rest_of m at) reached.piece cast' (moment p1 q1 k1') (moment p2 q2 (record k2 { records = reached.made ++ part.records }))
     (λ answers. run_goes n m at answers reached.world more some_here)
-    (goes_on_to names (λ answers. round_or_pass at answers reached.world) (rest_of m at) reached.piece minds' (moment p1 q1 k1') (moment p2 q2 (record k2 { records = reached.made ++ part.records })) shifted))
+    (goes_on_to names (λ answers. round_or_pass at answers reached.world) (rest_of m at) reached.piece cast' (moment p1 q1 k1') (moment p2 q2 (record k2 { records = reached.made ++ part.records })) shifted))
 
 -- one part more, which has ended the run
-abbrev pub part_last : {spent next : ℕ} (names : Names) (trace : Trace) (whole : Answering → Progress) (how : Ended) (n m : ℕ) (at : Scene) (minds minds' : List (Option Mind)) (p0 p1 p2 : PartView) (q0 q1 q2 : Kept) (k0 k1 k1' k2 : Known) (before after : Pending) →
-    (reached : IsStretch spent names whole (rest_of n at) [] minds (moment p0 q0 k0) (moment p1 q1 k1')) → n ≡ suc m → k1'.core ≡ k1.core → k1'.setup ≡ k1.setup → list_all is_ended k1.core.actors ≡ false → k0.records ≡ [] →
-    (part : Advances next names trace (λ answers. round_or_pass at answers reached.world) (Some how) reached.piece minds' (moment p1 q1 k1) (moment p2 q2 k2) before after) → k1.records ≡ [] →
-    IsStretch next names whole (ending (Some how)) [] minds' (moment p0 q0 k0) (moment p2 q2 (record k2 { records = reached.made ++ part.records }))
-part_last {next} names trace whole how n m at minds minds' p0 p1 p2 q0 q1 q2 k0 k1 k1' k2 before after reached more core same some first part cleared =
+abbrev pub part_last : {spent next : ℕ} (names : Names) (trace : Trace) (whole : Answering → Progress) (how : Ended) (n m : ℕ) (at : Scene) (cast cast' : Cast) (p0 p1 p2 : PartView) (q0 q1 q2 : Kept) (k0 k1 k1' k2 : Known) (before after : Pending) →
+    (reached : IsStretch spent names whole (rest_of n at) [] cast (moment p0 q0 k0) (moment p1 q1 k1')) → n ≡ suc m → k1'.core ≡ k1.core → k1'.setup ≡ k1.setup → list_all is_over k1.core.actors ≡ false → k0.records ≡ [] →
+    (part : Advances next names trace (λ answers. round_or_pass at answers reached.world) (Some how) reached.piece cast' (moment p1 q1 k1) (moment p2 q2 k2) before after) → k1.records ≡ [] →
+    IsStretch next names whole (ending (Some how)) [] cast' (moment p0 q0 k0) (moment p2 q2 (record k2 { records = reached.made ++ part.records }))
+part_last {next} names trace whole how n m at cast cast' p0 p1 p2 q0 q1 q2 k0 k1 k1' k2 before after reached more core same some first part cleared =
     let made : part.records ≡ part.reached.made = part.reached.records ∙ ap (λ (l : List Record). l ++ part.reached.made) cleared in
     let here : k1'.records ≡ reached.made = reached.records ∙ ap (λ (l : List Record). l ++ reached.made) first in
-    let some_here : list_all is_ended reached.world.core.actors ≡ false = ap (λ (c : Core). list_all is_ended c.actors) (sym (sym core ∙ reached.stands.core)) ∙ some in
-    let shifted : IsStretch next names (λ answers. round_or_pass at answers reached.world) (ending (Some how)) reached.piece minds' (moment p1 q1 k1') (moment p2 q2 (record k2 { records = reached.made ++ part.records })) =
-    with_records names (λ answers. round_or_pass at answers reached.world) (ending (Some how)) reached.piece minds' p1 p2 q1 q2 k1 (record k2 { records = part.records }) k1' (record k2 { records = reached.made ++ part.records }) reached.made part.reached here same refl refl (ap (λ (l : List Record). reached.made ++ l) made) in
-    reached_then names whole (rest_of n at) (ending (Some how)) [] minds minds' (moment p0 q0 k0) (moment p1 q1 k1') (moment p2 q2 (record k2 { records = reached.made ++ part.records })) reached
-    (reached_as names (λ answers. and_then (round_or_pass at answers reached.world) (rest_of m at answers)) (λ answers. rest_of n at answers reached.world) (ending (Some how)) reached.piece minds' (moment p1 q1 k1') (moment p2 q2 (record k2 { records = reached.made ++ part.records }))
+    let some_here : list_all is_over reached.world.core.actors ≡ false = ap (λ (c : Core). list_all is_over c.actors) (sym (sym core ∙ reached.stands.core)) ∙ some in
+    let shifted : IsStretch next names (λ answers. round_or_pass at answers reached.world) (ending (Some how)) reached.piece cast' (moment p1 q1 k1') (moment p2 q2 (record k2 { records = reached.made ++ part.records })) =
+    with_records names (λ answers. round_or_pass at answers reached.world) (ending (Some how)) reached.piece cast' p1 p2 q1 q2 k1 (record k2 { records = part.records }) k1' (record k2 { records = reached.made ++ part.records }) reached.made part.reached here same refl refl (ap (λ (l : List Record). reached.made ++ l) made) in
+    reached_then names whole (rest_of n at) (ending (Some how)) [] cast cast' (moment p0 q0 k0) (moment p1 q1 k1') (moment p2 q2 (record k2 { records = reached.made ++ part.records })) reached
+    (reached_as names (λ answers. and_then (round_or_pass at answers reached.world) (rest_of m at answers)) (λ answers. rest_of n at answers reached.world) (ending (Some how)) reached.piece cast' (moment p1 q1 k1') (moment p2 q2 (record k2 { records = reached.made ++ part.records }))
     (λ answers. run_goes n m at answers reached.world more some_here)
-    (ends_at names (λ answers. round_or_pass at answers reached.world) (rest_of m at) how reached.piece minds' (moment p1 q1 k1') (moment p2 q2 (record k2 { records = reached.made ++ part.records })) shifted))
+    (ends_at names (λ answers. round_or_pass at answers reached.world) (rest_of m at) how reached.piece cast' (moment p1 q1 k1') (moment p2 q2 (record k2 { records = reached.made ++ part.records })) shifted))
 
 -- ---- the lines of records
 -- the trace of records and then of others
@@ -295,24 +301,31 @@ made_and_then None first next = ((next first.world).made, refl)
 made_and_then (Some how) first next = ([], sym (append-nil first.made))
 
 -- a part was cut off, and so is the run
-pub part_cut : {spent : ℕ} (names : Names) (trace : Trace) → Appends trace → (whole : Answering → Progress) (n m : ℕ) (at : Scene) (minds : List (Option Mind)) (p0 p1 p2 : PartView) (q0 q1 : Kept) (k0 k1 : Known) (start before : Pending) (after : Option (List ℕ)) →
-    (reached : IsStretch spent names whole (rest_of n at) [] minds (moment p0 q0 k0) (moment p1 q1 k1)) → n ≡ suc m → list_all is_ended k1.core.actors ≡ false → Adds (trace reached.made) start before →
-    CutsOff names trace (λ answers. round_or_pass at answers reached.world) reached.piece p1 p2 before after → CutsOff names trace whole [] p0 p2 start after
-part_cut names trace appends whole n m at minds p0 p1 p2 q0 q1 k0 k1 start before after reached more some printed cut = record {
+pub part_cut : {spent : ℕ} (names : Names) (trace : Trace) → Appends trace → (whole : Answering → Progress) (n m : ℕ) (at : Scene) (cast : Cast) (left : ℕ) (p0 p1 p2 : PartView) (q0 q1 : Kept) (k0 k1 : Known) (start before : Pending) (after : Option (List ℕ)) →
+    (reached : IsStretch spent names whole (rest_of n at) [] cast (moment p0 q0 k0) (moment p1 q1 k1)) → n ≡ suc m → list_all is_over k1.core.actors ≡ false → Adds (trace reached.made) start before →
+    CutsOff names trace (λ answers. round_or_pass at answers reached.world) reached.piece left p1 p2 before after → CutsOff names trace whole [] left p0 p2 start after
+part_cut names trace appends whole n m at cast left p0 p1 p2 q0 q1 k0 k1 start before after reached more some printed cut = record {
   piece = reached.piece ++ cut.piece;
   reads = reads_then reached.piece cut.piece p0 p1 p2 reached.reads cut.reads;
   needed = λ source goes.
       let answers = answer_of names source in
       let first = round_or_pass at answers reached.world in
-      let some_here : list_all is_ended reached.world.core.actors ≡ false = ap (λ (c : Core). list_all is_ended c.actors) (sym reached.stands.core) ∙ some in
+      let some_here : list_all is_over reached.world.core.actors ≡ false = ap (λ (c : Core). list_all is_over c.actors) (sym reached.stands.core) ∙ some in
       let all : whole answers ≡ with_front reached.made (and_then first (rest_of m at answers)) =
       reached.is source (goes_back reached.piece cut.piece p1 p2 source cut.reads goes) ∙ ap (with_front reached.made) (run_goes n m at answers reached.world more some_here) in
       subst (λ (p : Progress). IsWithinNeed names source p.world.asks (length (reached.piece ++ cut.piece))) (sym all)
-      (within_more names source first.world.asks _ _ (asks_behind m first at answers) (cut.needed source goes));
+      (within_more names source first.world.asks _ _ (run_keeps_behind asks_rise m first at answers) (cut.needed source goes));
+  contexts = λ source goes.
+      let answers = answer_of names source in
+      let first = round_or_pass at answers reached.world in
+      let some_here : list_all is_over reached.world.core.actors ≡ false = ap (λ (c : Core). list_all is_over c.actors) (sym reached.stands.core) ∙ some in
+      let all : (whole answers).world.contexts ≡ (and_then first (rest_of m at answers)).world.contexts =
+      ap (λ (p : Progress). p.world.contexts) (reached.is source (goes_back reached.piece cut.piece p1 p2 source cut.reads goes) ∙ ap (with_front reached.made) (run_goes n m at answers reached.world more some_here)) in
+      omega (arith, all, run_keeps_behind contexts_fall m first at answers, cut.contexts source goes);
   front = λ source goes.
       let answers = answer_of names source in
       let first = round_or_pass at answers reached.world in
-      let some_here : list_all is_ended reached.world.core.actors ≡ false = ap (λ (c : Core). list_all is_ended c.actors) (sym reached.stands.core) ∙ some in
+      let some_here : list_all is_over reached.world.core.actors ≡ false = ap (λ (c : Core). list_all is_over c.actors) (sym reached.stands.core) ∙ some in
       let rest = made_and_then first.ended first (rest_of m at answers) in
       let all : (whole answers).made ≡ reached.made ++ (first.made ++ rest.0) =
       ap (λ (p : Progress). p.made) (reached.is source (goes_back reached.piece cut.piece p1 p2 source cut.reads goes) ∙ ap (with_front reached.made) (run_goes n m at answers reached.world more some_here))
@@ -324,32 +337,32 @@ part_cut names trace appends whole n m at minds p0 p1 p2 q0 q1 k0 k1 start befor
 }
 
 -- a part was cut off that looked no oftener than it may
-pub cut_off : {spent : ℕ} (from later : ℕ) (names : Names) (trace : Trace) → Appends trace → (whole : Answering → Progress) (n m : ℕ) (at : Scene) (minds : List (Option Mind)) (p0 p1 p2 : PartView) (q0 q1 : Kept) (k0 k1 : Known) (start before : Pending) (after : Option (List ℕ)) →
-    (reached : IsStretch spent names whole (rest_of n at) [] minds (moment p0 q0 k0) (moment p1 q1 k1)) → n ≡ suc m → list_all is_ended k1.core.actors ≡ false → Adds (trace reached.made) start before →
-    CutsOff names trace (λ answers. round_or_pass at answers reached.world) reached.piece p1 p2 before after → later ≤ from + work_behind reached.world → IsCutOff from later names trace whole p0 p2 start after
+pub cut_off : {spent : ℕ} (from later : ℕ) (names : Names) (trace : Trace) → Appends trace → (whole : Answering → Progress) (n m : ℕ) (at : Scene) (cast : Cast) (left : ℕ) (p0 p1 p2 : PartView) (q0 q1 : Kept) (k0 k1 : Known) (start before : Pending) (after : Option (List ℕ)) →
+    (reached : IsStretch spent names whole (rest_of n at) [] cast (moment p0 q0 k0) (moment p1 q1 k1)) → n ≡ suc m → list_all is_over k1.core.actors ≡ false → Adds (trace reached.made) start before →
+    CutsOff names trace (λ answers. round_or_pass at answers reached.world) reached.piece left p1 p2 before after → later ≤ from + work_behind reached.world → IsCutOff from later left names trace whole p0 p2 start after
 unfolding part_cut
-cut_off from later names trace appends whole n m at minds p0 p1 p2 q0 q1 k0 k1 start before after reached more some printed cut worked = record {
-  cut = part_cut names trace appends whole n m at minds p0 p1 p2 q0 q1 k0 k1 start before after reached more some printed cut;
+cut_off from later names trace appends whole n m at cast left p0 p1 p2 q0 q1 k0 k1 start before after reached more some printed cut worked = record {
+  cut = part_cut names trace appends whole n m at cast left p0 p1 p2 q0 q1 k0 k1 start before after reached more some printed cut;
   worked = λ source goes.
       let answers = answer_of names source in
-      let some_here : list_all is_ended reached.world.core.actors ≡ false = ap (λ (c : Core). list_all is_ended c.actors) (sym reached.stands.core) ∙ some in
+      let some_here : list_all is_over reached.world.core.actors ≡ false = ap (λ (c : Core). list_all is_over c.actors) (sym reached.stands.core) ∙ some in
       let all : (whole answers).world.work ≡ (and_then (round_or_pass at answers reached.world) (rest_of m at answers)).world.work =
       ap (λ (p : Progress). p.world.work) (reached.is source (goes_back reached.piece cut.piece p1 p2 source cut.reads goes) ∙ ap (with_front reached.made) (run_goes n m at answers reached.world more some_here)) in
       omega (arith, all, worked, run_rises_behind m at answers reached.world);
 }
 
 -- ---- the run so far, with its trace lines
-pub record SoFar (start count : ℕ) (names : Names) (trace : Trace) (whole : Answering → Progress) (rest : Answering → World → Progress) (minds : List (Option Mind)) (p0 p1 : PartView) (q0 q1 : Kept) (k0 k1 : Known) (before after : Pending) : Type 0 where
+pub record SoFar (start count : ℕ) (names : Names) (trace : Trace) (whole : Answering → Progress) (rest : Answering → World → Progress) (cast : Cast) (p0 p1 : PartView) (q0 q1 : Kept) (k0 k1 : Known) (before after : Pending) : Type 0 where
   pub records : List Record
   pub spent : ℕ
   pub worked : count ≤ start + spent
-  pub reached : IsStretch spent names whole rest [] minds (moment p0 q0 k0) (moment p1 q1 (record k1 { records = records }))
+  pub reached : IsStretch spent names whole rest [] cast (moment p0 q0 k0) (moment p1 q1 (record k1 { records = records }))
   pub printed : Adds (trace reached.made) before after
 
 -- at the beginning
-pub far_first : (start : ℕ) (names : Names) (trace : Trace) (whole : Answering → Progress) (rest : Answering → World → Progress) (minds : List (Option Mind)) (part : PartView) (kept : Kept) (known : Known) (held : Option (List ℕ)) (waiting : List ℕ) (world : World) →
-    part.stage ≢ Fresh → StandsFor names [] minds (moment part kept known) world → ((answers : Answering) → whole answers ≡ rest answers world) → world.work ≡ 0 → trace [] ≡ [] → waiting ≡ [] → SoFar start start names trace whole rest minds part part kept kept known known (pending held []) (pending held waiting)
-far_first start names trace whole rest minds part kept known held waiting world begun stands same idle none empty = record {
+pub far_first : (start : ℕ) (names : Names) (trace : Trace) (whole : Answering → Progress) (rest : Answering → World → Progress) (cast : Cast) (part : PartView) (kept : Kept) (known : Known) (held : Option (List ℕ)) (waiting : List ℕ) (world : World) →
+    part.stage ≢ Fresh → StandsFor names [] cast (moment part kept known) world → ((answers : Answering) → whole answers ≡ rest answers world) → world.work ≡ 0 → trace [] ≡ [] → waiting ≡ [] → SoFar start start names trace whole rest cast part part kept kept known known (pending held []) (pending held waiting)
+far_first start names trace whole rest cast part kept known held waiting world begun stands same idle none empty = record {
   records = known.records;
   spent = 0;
   worked = omega arith;
@@ -374,33 +387,33 @@ far_printed trace appends so_far records made start before after same first then
     subst (λ (l : List ℕ). Adds l start after) text (adds_then (trace so_far) (trace records) start before after first then)
 
 -- one part more
-pub far_on : {next : ℕ} (from count later : ℕ) (names : Names) (trace : Trace) → Appends trace → (whole : Answering → Progress) (n m : ℕ) (at : Scene) (minds minds' : List (Option Mind)) (p0 p1 p2 : PartView) (q0 q1 q2 : Kept) (k0 k1 k2 : Known) (start before after : Pending) →
-    (far : SoFar from count names trace whole (rest_of n at) minds p0 p1 q0 q1 k0 k1 start before) → n ≡ suc m → list_all is_ended k1.core.actors ≡ false → k0.records ≡ [] → k1.records ≡ [] →
-    Advances next names trace (λ answers. round_or_pass at answers far.reached.world) None far.reached.piece minds' (moment p1 q1 k1) (moment p2 q2 k2) before after → later ≤ from + next → SoFar from later names trace whole (rest_of m at) minds' p0 p2 q0 q2 k0 k2 start after
-far_on {next} from count later names trace appends whole n m at minds minds' p0 p1 p2 q0 q1 q2 k0 k1 k2 start before after far more some first cleared part worked =
+pub far_on : {next : ℕ} (from count later : ℕ) (names : Names) (trace : Trace) → Appends trace → (whole : Answering → Progress) (n m : ℕ) (at : Scene) (cast cast' : Cast) (p0 p1 p2 : PartView) (q0 q1 q2 : Kept) (k0 k1 k2 : Known) (start before after : Pending) →
+    (far : SoFar from count names trace whole (rest_of n at) cast p0 p1 q0 q1 k0 k1 start before) → n ≡ suc m → list_all is_over k1.core.actors ≡ false → k0.records ≡ [] → k1.records ≡ [] →
+    Advances next names trace (λ answers. round_or_pass at answers far.reached.world) None far.reached.piece cast' (moment p1 q1 k1) (moment p2 q2 k2) before after → later ≤ from + next → SoFar from later names trace whole (rest_of m at) cast' p0 p2 q0 q2 k0 k2 start after
+far_on {next} from count later names trace appends whole n m at cast cast' p0 p1 p2 q0 q1 q2 k0 k1 k2 start before after far more some first cleared part worked =
     let made : part.records ≡ part.reached.made = part.reached.records ∙ ap (λ (l : List Record). l ++ part.reached.made) cleared in
     record {
       records = far.reached.made ++ part.records;
       spent = next;
       worked = worked;
-      reached = part_on names trace whole n m at minds minds' p0 p1 p2 q0 q1 q2 k0 k1 (record k1 { records = far.records }) k2 before after far.reached more refl refl some first part cleared;
+      reached = part_on names trace whole n m at cast cast' p0 p1 p2 q0 q1 q2 k0 k1 (record k1 { records = far.records }) k2 before after far.reached more refl refl some first part cleared;
       printed = far_printed trace appends far.reached.made part.records part.reached.made start before after made far.printed part.printed;
     }
 
 -- the last part
-pub far_over : {next : ℕ} (from count later : ℕ) (names : Names) (trace : Trace) → Appends trace → (whole : Answering → Progress) (how : Ended) (n m : ℕ) (at : Scene) (minds minds' : List (Option Mind)) (p0 p1 p2 : PartView) (q0 q1 q2 : Kept) (k0 k1 k2 : Known) (start before after : Pending) →
-    (far : SoFar from count names trace whole (rest_of n at) minds p0 p1 q0 q1 k0 k1 start before) → n ≡ suc m → list_all is_ended k1.core.actors ≡ false → k0.records ≡ [] → k1.records ≡ [] →
-    Advances next names trace (λ answers. round_or_pass at answers far.reached.world) (Some how) far.reached.piece minds' (moment p1 q1 k1) (moment p2 q2 k2) before after → later ≤ from + next → IsOver from later names trace whole how k2.core p0 p2 start after
-far_over from count later names trace appends whole how n m at minds minds' p0 p1 p2 q0 q1 q2 k0 k1 k2 start before after far more some first cleared part worked =
+pub far_over : {next : ℕ} (from count later : ℕ) (names : Names) (trace : Trace) → Appends trace → (whole : Answering → Progress) (how : Ended) (n m : ℕ) (at : Scene) (cast cast' : Cast) (p0 p1 p2 : PartView) (q0 q1 q2 : Kept) (k0 k1 k2 : Known) (start before after : Pending) →
+    (far : SoFar from count names trace whole (rest_of n at) cast p0 p1 q0 q1 k0 k1 start before) → n ≡ suc m → list_all is_over k1.core.actors ≡ false → k0.records ≡ [] → k1.records ≡ [] →
+    Advances next names trace (λ answers. round_or_pass at answers far.reached.world) (Some how) far.reached.piece cast' (moment p1 q1 k1) (moment p2 q2 k2) before after → later ≤ from + next → IsOver from later cast'.contexts names trace whole how k2.core p0 p2 start after
+far_over from count later names trace appends whole how n m at cast cast' p0 p1 p2 q0 q1 q2 k0 k1 k2 start before after far more some first cleared part worked =
     let made : part.records ≡ part.reached.made = part.reached.records ∙ ap (λ (l : List Record). l ++ part.reached.made) cleared in
-    over_by from later names trace whole how minds' p0 p2 q0 q2 k0 (record k2 { records = far.reached.made ++ part.records }) k2.core start after
-    (part_last names trace whole how n m at minds minds' p0 p1 p2 q0 q1 q2 k0 k1 (record k1 { records = far.records }) k2 before after far.reached more refl refl some first part cleared) refl
+    over_by from later names trace whole how cast' p0 p2 q0 q2 k0 (record k2 { records = far.reached.made ++ part.records }) k2.core start after
+    (part_last names trace whole how n m at cast cast' p0 p1 p2 q0 q1 q2 k0 k1 (record k1 { records = far.records }) k2 before after far.reached more refl refl some first part cleared) refl
     (far_printed trace appends far.reached.made part.records part.reached.made start before after made far.printed part.printed) worked
 
 -- what a part did that ended the run or cut it off
-pub far_ends : (from count later : ℕ) (names : Names) (trace : Trace) → Appends trace → (whole : Answering → Progress) (how : Ended) (b : Bool) (n m : ℕ) (at : Scene) (minds minds' : List (Option Mind)) (p0 p1 p2 : PartView) (q0 q1 q2 : Kept) (k0 k1 k2 : Known) (start before after : Pending) →
-    (far : SoFar from count names trace whole (rest_of n at) minds p0 p1 q0 q1 k0 k1 start before) → n ≡ suc m → list_all is_ended k1.core.actors ≡ false → k0.records ≡ [] → k1.records ≡ [] →
-    MatchBool b (CutsOff names trace (λ answers. round_or_pass at answers far.reached.world) far.reached.piece p1 p2 before after.held) (Advances (work_behind far.reached.world) names trace (λ answers. round_or_pass at answers far.reached.world) (Some how) far.reached.piece minds' (moment p1 q1 k1) (moment p2 q2 k2) before after) →
-    later ≤ from + work_behind far.reached.world → MatchBool b (IsCutOff from later names trace whole p0 p2 start after.held) (IsOver from later names trace whole how k2.core p0 p2 start after)
-far_ends from count later names trace appends whole how true n m at minds minds' p0 p1 p2 q0 q1 q2 k0 k1 k2 start before after far more some first cleared cut worked = cut_off from later names trace appends whole n m at minds p0 p1 p2 q0 q1 k0 (record k1 { records = far.records }) start before after.held far.reached more some far.printed cut worked
-far_ends from count later names trace appends whole how false n m at minds minds' p0 p1 p2 q0 q1 q2 k0 k1 k2 start before after far more some first cleared part worked = far_over from count later names trace appends whole how n m at minds minds' p0 p1 p2 q0 q1 q2 k0 k1 k2 start before after far more some first cleared part worked
+pub far_ends : (from count later : ℕ) (names : Names) (trace : Trace) → Appends trace → (whole : Answering → Progress) (how : Ended) (b : Bool) (n m : ℕ) (at : Scene) (cast cast' : Cast) (p0 p1 p2 : PartView) (q0 q1 q2 : Kept) (k0 k1 k2 : Known) (start before after : Pending) →
+    (far : SoFar from count names trace whole (rest_of n at) cast p0 p1 q0 q1 k0 k1 start before) → n ≡ suc m → list_all is_over k1.core.actors ≡ false → k0.records ≡ [] → k1.records ≡ [] →
+    MatchBool b (CutsOff names trace (λ answers. round_or_pass at answers far.reached.world) far.reached.piece cast'.contexts p1 p2 before after.held) (Advances (work_behind far.reached.world) names trace (λ answers. round_or_pass at answers far.reached.world) (Some how) far.reached.piece cast' (moment p1 q1 k1) (moment p2 q2 k2) before after) →
+    later ≤ from + work_behind far.reached.world → MatchBool b (IsCutOff from later cast'.contexts names trace whole p0 p2 start after.held) (IsOver from later cast'.contexts names trace whole how k2.core p0 p2 start after)
+far_ends from count later names trace appends whole how true n m at cast cast' p0 p1 p2 q0 q1 q2 k0 k1 k2 start before after far more some first cleared cut worked = cut_off from later names trace appends whole n m at cast cast'.contexts p0 p1 p2 q0 q1 k0 (record k1 { records = far.records }) start before after.held far.reached more some far.printed cut worked
+far_ends from count later names trace appends whole how false n m at cast cast' p0 p1 p2 q0 q1 q2 k0 k1 k2 start before after far more some first cleared part worked = far_over from count later names trace appends whole how n m at cast cast' p0 p1 p2 q0 q1 q2 k0 k1 k2 start before after far more some first cleared part worked

@@ -1,5 +1,6 @@
 -- Places that are taken on one by one, by those in the queue of a kernel.
-use Rattle.std.proofs.Common.{◌≡◌, ◌∙◌, sym, ap, ap₂, ℕ, ◌+◌, ◌-◌, ◌<◌, ◌≤◌, Bool, false, List, ◌++◌, length, map, set, take, drop, get_or, Option, None, refl, inl, inr, [], arith}
+use Rattle.std.proofs.Common.{◌≡◌, ◌∙◌, sym, ap, ap₂, ℕ, ◌+◌, ◌-◌, ◌<◌, ◌≤◌, Bool, true, false, cond, List, ◌++◌, length, map, set, take, drop, get_or, Option, None, refl, inl, inr, [], arith}
+use Rattle.std.specs.Prelude.{not, ◌&&◌}
 use Rattle.std.proofs.lemmas.Bool.{cases_lt}
 use Rattle.std.proofs.lemmas.List.{get_or-map, length-map}
 use Rattle.sg_base.specs.declared.ids.ActorId.{ActorId}
@@ -8,18 +9,19 @@ use Rattle.sg_base.specs.declared.call.Answer.TheVariants.{Start}
 use Rattle.sg_base.specs.declared.call.Call.{Call}
 use Rattle.sg_base.specs.declared.call.Call.TheVariants.{Ask}
 use Rattle.sg_actor.specs.Seats.{SeatView, after}
+use Rattle.sg_states.specs.declared.state.Actor.{Actor}
 use Rattle.sg_states.specs.declared.state.State.{State}
-use Rattle.sg_states.specs.declared.state.State.TheVariants.{Ready, Blocked, Ended}
+use Rattle.sg_states.specs.declared.state.State.TheVariants.{Unstarted, Ready, Blocked, Ended}
 use Rattle.sg_states.specs.Queue.{IsQueue}
-use Rattle.sg_states.specs.Actors.{inbox_of, is_ready}
+use Rattle.sg_states.specs.Actors.{answer_in, inbox_of, is_answered, is_ready, not_suspended}
 use Rattle.sg_engine.specs.declared.actor_call.ActorCall.{ActorCall}
 use Rattle.sg_engine.specs.kept.CallList.{call_list, with_call}
 use Rattle.sg_engine.specs.Run.{zip_with}
-use Rattle.sg_engine.specs.kept.SeatRules.{readiness, with_answer, call_in}
+use Rattle.sg_engine.specs.kept.SeatRules.{AreQueued, with_answer, call_in}
 use Rattle.sg_engine.proofs.Listing.{calls_next, skipped_calls, all_listed}
 use Rattle.sg_engine.proofs.Merging.{merged, merged_all, skipped, was, placed, mapped_on}
-use Rattle.sg_engine.proofs.Queues.{last_id, last_at, last_before, last_next, last_within, quiet, quiet_end}
-use Rattle.sg_engine.proofs.SeatSteps.{length-zip_with, zip_at, idle_calls, idle_stays}
+use Rattle.sg_engine.proofs.Queues.{last_id, last_at, last_before, last_next, last_within, not_true, quiet, quiet_end}
+use Rattle.sg_engine.proofs.SeatSteps.{length-zip_with, offered_at, idle_calls, idle_stays}
 
 -- the id that stands at a place of the queue
 abbrev pub id_at : List ActorId → ℕ → ℕ
@@ -30,26 +32,26 @@ abbrev pub no_place : SeatView
 no_place = record { mind = None; inbox = Start; outbox = Ask; ready = false }
 
 -- who isn't ready stays
-abbrev pub IdleStay : {X : Type 0} → List State → List X → List X → X → Type 0
-IdleStay states new old d = (j : ℕ) → j < length states → is_ready (get_or states j Ended) ≡ false → get_or new j d ≡ get_or old j d
+abbrev pub IdleStay : {X : Type 0} → List Actor → List X → List X → X → Type 0
+IdleStay states new old d = (j : ℕ) → j < length states → is_ready (get_or states j (not_suspended Ended)) ≡ false → get_or new j d ≡ get_or old j d
 
-within_states : (states : List State) (queue : List ActorId) (k j : ℕ) → IsQueue states queue → k < length queue → j < id_at queue k - 1 → j < length states
+within_states : (states : List Actor) (queue : List ActorId) (k j : ℕ) → IsQueue states queue → k < length queue → j < id_at queue k - 1 → j < length states
 within_states states queue k j is within to = omega (arith, to, (is.ids k (record { 0 = 0 }) within).1)
 
 -- between two in the queue nothing is taken on
-pub reach : {X : Type 0} (states : List State) (queue : List ActorId) (k : ℕ) (new old : List X) (d : X) → IsQueue states queue → k < length queue → length new ≡ length old → IdleStay states new old d → merged (last_id queue k) new old ≡ merged (id_at queue k - 1) new old
+pub reach : {X : Type 0} (states : List Actor) (queue : List ActorId) (k : ℕ) (new old : List X) (d : X) → IsQueue states queue → k < length queue → length new ≡ length old → IdleStay states new old d → merged (last_id queue k) new old ≡ merged (id_at queue k - 1) new old
 reach states queue k new old d is within same stay =
     skipped new old d (last_id queue k) (id_at queue k - 1) (last_before states queue k is within) same (λ j from to. stay j (within_states states queue k j is within to) (quiet states queue k j is within from to))
 
 -- what stands at the place of the next in the queue
-pub was_at : {S X : Type 0} (see : S → X) (states : List State) (queue : List ActorId) (k : ℕ) (now : List S) (new old : List X) (d : S) → IsQueue states queue → k < length queue → length old ≡ length states → length new ≡ length old → IdleStay states new old (see d) →
+pub was_at : {S X : Type 0} (see : S → X) (states : List Actor) (queue : List ActorId) (k : ℕ) (now : List S) (new old : List X) (d : S) → IsQueue states queue → k < length queue → length old ≡ length states → length new ≡ length old → IdleStay states new old (see d) →
     map see now ≡ merged (last_id queue k) new old → see (get_or now (id_at queue k - 1) d) ≡ get_or old (id_at queue k - 1) (see d)
 was_at see states queue k now new old d is within number same stay inv =
     let here = is.ids k (record { 0 = 0 }) within in
     was see now new old (id_at queue k - 1) d (omega (arith, here.0, here.1, number)) same (inv ∙ reach states queue k new old (see d) is within same stay)
 
 -- it is taken on
-pub stepped_on : {S X : Type 0} (see : S → X) (states : List State) (queue : List ActorId) (k : ℕ) (now : List S) (new old : List X) (s : S) (d : X) → IsQueue states queue → k < length queue → length old ≡ length states → length new ≡ length old → IdleStay states new old d →
+pub stepped_on : {S X : Type 0} (see : S → X) (states : List Actor) (queue : List ActorId) (k : ℕ) (now : List S) (new old : List X) (s : S) (d : X) → IsQueue states queue → k < length queue → length old ≡ length states → length new ≡ length old → IdleStay states new old d →
     map see now ≡ merged (last_id queue k) new old → see s ≡ get_or new (id_at queue k - 1) d → map see (set now (id_at queue k - 1) s) ≡ merged (last_id queue (k + 1)) new old
 stepped_on see states queue k now new old s d is within number same stay inv here =
     let ids = is.ids k (record { 0 = 0 }) within in
@@ -57,44 +59,39 @@ stepped_on see states queue k now new old s d is within number same stay inv her
     ∙ ap (λ (n : ℕ). merged n new old) (sym (last_next queue k ids.0))
 
 -- all are
-pub all_stepped : {X : Type 0} (states : List State) (queue : List ActorId) (k : ℕ) (new old : List X) (d : X) → IsQueue states queue → k ≤ length queue → length queue ≤ k → length old ≡ length states → length new ≡ length old → IdleStay states new old d → merged (last_id queue k) new old ≡ new
+pub all_stepped : {X : Type 0} (states : List Actor) (queue : List ActorId) (k : ℕ) (new old : List X) (d : X) → IsQueue states queue → k ≤ length queue → length queue ≤ k → length old ≡ length states → length new ≡ length old → IdleStay states new old d → merged (last_id queue k) new old ≡ new
 all_stepped states queue k new old d is within past number same stay =
     skipped new old d (last_id queue k) (length states) (last_within states queue k is within) same (λ j from to. stay j to (quiet_end states queue k j is within past from to))
     ∙ merged_all new old (length states) (omega (arith, number, same)) (omega (arith, number))
 
 -- ---- offers
-none_for : (state : State) → is_ready state ≡ false → inbox_of state ≡ None
-none_for (Ready answer) idle = absurd (cc idle)
-none_for (Blocked what since on) idle = refl
-none_for Ended idle = refl
+none_by : (suspended : Bool) (state : State) → (is_answered state && not suspended) ≡ false → cond suspended None (answer_in state) ≡ None
+none_by true state idle = refl
+none_by false Unstarted idle = refl
+none_by false (Ready answer) idle = absurd (cc idle)
+none_by false (Blocked what since on) idle = refl
+none_by false Ended idle = refl
 
--- what is offered at a place
-pub offered_at : (places : List SeatView) (states : List State) (j : ℕ) (d : SeatView) → length states ≡ length places → j < length states → get_or (zip_with with_answer places (map inbox_of states)) j d ≡ with_answer (get_or places j d) (inbox_of (get_or states j Ended))
-offered_at places states j d same within =
-    let long : length (map inbox_of states) ≡ length places = length-map states inbox_of ∙ same in
-    zip_at with_answer places (map inbox_of states) j d None d (omega (arith, within, same)) long
-    ∙ ap (with_answer (get_or places j d)) (get_or-map inbox_of states j Ended None within)
+none_for : (actor : Actor) → is_ready actor ≡ false → inbox_of actor ≡ None
+none_for actor idle = none_by actor.suspended actor.state idle
 
-pub offers_stay : (places : List SeatView) (states : List State) (d : SeatView) → length states ≡ length places → IdleStay states (zip_with with_answer places (map inbox_of states)) places d
-offers_stay places states d same j within idle = offered_at places states j d same within ∙ ap (with_answer (get_or places j d)) (none_for (get_or states j Ended) idle)
+pub offers_stay : (places : List SeatView) (states : List Actor) (d : SeatView) → length states ≡ length places → IdleStay states (zip_with with_answer places (map inbox_of states)) places d
+offers_stay places states d same j within idle = offered_at places states j d same within ∙ ap (with_answer (get_or places j d)) (none_for (get_or states j (not_suspended Ended)) idle)
 
-pub offers_number : (places : List SeatView) (states : List State) → length states ≡ length places → length (zip_with with_answer places (map inbox_of states)) ≡ length places
+pub offers_number : (places : List SeatView) (states : List Actor) → length states ≡ length places → length (zip_with with_answer places (map inbox_of states)) ≡ length places
 offers_number places states same = length-zip_with with_answer places (map inbox_of states) (length-map states inbox_of ∙ same)
 
 -- ---- turns and rests
-ready_at : (places : List SeatView) (states : List State) (j : ℕ) (d : SeatView) → map readiness places ≡ map is_ready states → j < length states → (get_or places j d).ready ≡ is_ready (get_or states j Ended)
-ready_at places states j d ready within =
-    let same : length places ≡ length states = sym (length-map places readiness) ∙ ap length ready ∙ length-map states is_ready in
-    sym (get_or-map readiness places j d false (omega (arith, within, same)))
-    ∙ ap (λ (l : List Bool). get_or l j false) ready
-    ∙ get_or-map is_ready states j Ended false within
+idle_at : (places : List SeatView) (states : List Actor) (j : ℕ) (d : SeatView) → AreQueued places states → length places ≡ length states → j < length states → is_ready (get_or states j (not_suspended Ended)) ≡ false → (get_or places j d).ready ≡ false
+idle_at places states j d queued same within idle =
+    not_true (get_or places j d).ready (λ ready. absurd (let e : true ≡ false = sym (queued j d (omega (arith, within, same)) ready) ∙ idle in cc e))
 
-pub mapped_stay : (f : SeatView → SeatView) → ((place : SeatView) → place.ready ≡ false → f place ≡ place) → (places : List SeatView) (states : List State) (d : SeatView) → map readiness places ≡ map is_ready states → length places ≡ length states → IdleStay states (map f places) places d
+pub mapped_stay : (f : SeatView → SeatView) → ((place : SeatView) → place.ready ≡ false → f place ≡ place) → (places : List SeatView) (states : List Actor) (d : SeatView) → AreQueued places states → length places ≡ length states → IdleStay states (map f places) places d
 mapped_stay f stays places states d ready same j within idle =
-    get_or-map f places j d d (omega (arith, within, same)) ∙ stays (get_or places j d) (ready_at places states j d ready within ∙ idle)
+    get_or-map f places j d d (omega (arith, within, same)) ∙ stays (get_or places j d) (idle_at places states j d ready same within idle)
 
 -- several take their turns in one go
-pub turned_on : (states : List State) (queue : List ActorId) (k to : ℕ) (now new old : List SeatView) (d : SeatView) → IsQueue states queue → k < to → to ≤ length queue → length old ≡ length states → map readiness old ≡ map is_ready states → IdleStay states (map after old) old d →
+pub turned_on : (states : List Actor) (queue : List ActorId) (k to : ℕ) (now new old : List SeatView) (d : SeatView) → IsQueue states queue → k < to → to ≤ length queue → length old ≡ length states → AreQueued old states → IdleStay states (map after old) old d →
     now ≡ merged (last_id queue k) (map after old) old → new ≡ take (id_at queue k - 1) now ++ (map after (drop (id_at queue k - 1) (take (id_at queue (to - 1)) now)) ++ drop (id_at queue (to - 1)) now) → new ≡ merged (last_id queue to) (map after old) old
 turned_on states queue k to now new old d is less within number ready stay inv made =
     let a = id_at queue k - 1 in
@@ -113,12 +110,12 @@ turned_on states queue k to now new old d is less within number ready stay inv m
     ∙ ap (λ (n : ℕ). merged n (map after old) old) (sym (last_at queue to (omega (arith, less))))
 
 -- ---- calls
-none_called : (places : List SeatView) (states : List State) (j : ℕ) (d : SeatView) → map readiness places ≡ map is_ready states → length places ≡ length states → j < length states → is_ready (get_or states j Ended) ≡ false → get_or (map call_in places) j None ≡ None
+none_called : (places : List SeatView) (states : List Actor) (j : ℕ) (d : SeatView) → AreQueued places states → length places ≡ length states → j < length states → is_ready (get_or states j (not_suspended Ended)) ≡ false → get_or (map call_in places) j None ≡ None
 none_called places states j d ready same within idle =
-    get_or-map call_in places j d None (omega (arith, within, same)) ∙ idle_calls (get_or places j d) (ready_at places states j d ready within ∙ idle)
+    get_or-map call_in places j d None (omega (arith, within, same)) ∙ idle_calls (get_or places j d) (idle_at places states j d ready same within idle)
 
 -- one call more
-pub called_on : (places : List SeatView) (states : List State) (queue : List ActorId) (k : ℕ) (items items' : List ActorCall) (call : Option Call) (d : SeatView) → IsQueue states queue → k < length queue → map readiness places ≡ map is_ready states → length places ≡ length states →
+pub called_on : (places : List SeatView) (states : List Actor) (queue : List ActorId) (k : ℕ) (items items' : List ActorCall) (call : Option Call) (d : SeatView) → IsQueue states queue → k < length queue → AreQueued places states → length places ≡ length states →
     items ≡ call_list 1 (take (last_id queue k) (map call_in places)) → items' ≡ items ++ with_call (id_at queue k) call [] → call ≡ call_in (get_or places (id_at queue k - 1) d) → items' ≡ call_list 1 (take (last_id queue (k + 1)) (map call_in places))
 called_on places states queue k items items' call d is within ready same before added made =
     let ids = is.ids k (record { 0 = 0 }) within in
@@ -130,15 +127,15 @@ called_on places states queue k items items' call d is within ready same before 
     ∙ ap (λ (n : ℕ). call_list 1 (take n (map call_in places))) (sym (last_next queue k ids.0))
 
 -- all calls
-pub all_called : (places : List SeatView) (states : List State) (queue : List ActorId) (k : ℕ) → IsQueue states queue → k ≤ length queue → length queue ≤ k → map readiness places ≡ map is_ready states → length places ≡ length states →
+pub all_called : (places : List SeatView) (states : List Actor) (queue : List ActorId) (k : ℕ) → IsQueue states queue → k ≤ length queue → length queue ≤ k → AreQueued places states → length places ≡ length states →
     call_list 1 (take (last_id queue k) (map call_in places)) ≡ call_list 1 (map call_in places)
 all_called places states queue k is within past ready same =
     skipped_calls 1 (map call_in places) (last_id queue k) (length states) (last_within states queue k is within) (λ j from to. none_called places states j no_place ready same to (quiet_end states queue k j is within past from to))
     ∙ all_listed (map call_in places) (length states) (omega (arith, length-map places call_in, same))
 
 -- ---- as the loops have it, where a seat is read and then written
-pub offer_next : {S : Type 0} (see : S → SeatView) (old now : List S) (states : List State) (queue : List ActorId) (k : ℕ) (r s : S) (answer : Option Answer) → IsQueue states queue → k < length queue → length old ≡ length states →
-    map see now ≡ merged (last_id queue k) (zip_with with_answer (map see old) (map inbox_of states)) (map see old) → answer ≡ inbox_of (get_or states (id_at queue k - 1) Ended) → see s ≡ with_answer (see (get_or now (id_at queue k - 1) r)) answer →
+pub offer_next : {S : Type 0} (see : S → SeatView) (old now : List S) (states : List Actor) (queue : List ActorId) (k : ℕ) (r s : S) (answer : Option Answer) → IsQueue states queue → k < length queue → length old ≡ length states →
+    map see now ≡ merged (last_id queue k) (zip_with with_answer (map see old) (map inbox_of states)) (map see old) → answer ≡ inbox_of (get_or states (id_at queue k - 1) (not_suspended Ended)) → see s ≡ with_answer (see (get_or now (id_at queue k - 1) r)) answer →
     map see (set now (id_at queue k - 1) s) ≡ merged (last_id queue (k + 1)) (zip_with with_answer (map see old) (map inbox_of states)) (map see old)
 offer_next see old now states queue k r s answer is within number inv has made =
     let places = map see old in
@@ -151,7 +148,7 @@ offer_next see old now states queue k r s answer is within number inv has made =
     stepped_on see states queue k now new places s (see r) is within long same stay inv
     (made ∙ ap₂ with_answer mine has ∙ sym (offered_at places states (id_at queue k - 1) (see r) (sym long) (omega (arith, ids.0, ids.1))))
 
-pub offers_end : {S : Type 0} (see : S → SeatView) (old now : List S) (states : List State) (queue : List ActorId) (k : ℕ) → IsQueue states queue → k ≤ length queue → length queue ≤ k → length old ≡ length states →
+pub offers_end : {S : Type 0} (see : S → SeatView) (old now : List S) (states : List Actor) (queue : List ActorId) (k : ℕ) → IsQueue states queue → k ≤ length queue → length queue ≤ k → length old ≡ length states →
     map see now ≡ merged (last_id queue k) (zip_with with_answer (map see old) (map inbox_of states)) (map see old) → map see now ≡ zip_with with_answer (map see old) (map inbox_of states)
 offers_end see old now states queue k is within past number inv =
     let places = map see old in
@@ -159,7 +156,7 @@ offers_end see old now states queue k is within past number inv =
     inv ∙ all_stepped states queue k (zip_with with_answer places (map inbox_of states)) places no_place is within past long (offers_number places states (sym long)) (offers_stay places states no_place (sym long))
 
 -- a change of each place, by which those that aren't ready stay
-pub change_next : {S : Type 0} (see : S → SeatView) (f : SeatView → SeatView) → ((place : SeatView) → place.ready ≡ false → f place ≡ place) → (old now : List S) (states : List State) (queue : List ActorId) (k : ℕ) (r s : S) → IsQueue states queue → k < length queue → length old ≡ length states → map readiness (map see old) ≡ map is_ready states →
+pub change_next : {S : Type 0} (see : S → SeatView) (f : SeatView → SeatView) → ((place : SeatView) → place.ready ≡ false → f place ≡ place) → (old now : List S) (states : List Actor) (queue : List ActorId) (k : ℕ) (r s : S) → IsQueue states queue → k < length queue → length old ≡ length states → AreQueued (map see old) states →
     map see now ≡ merged (last_id queue k) (map f (map see old)) (map see old) → see s ≡ f (see (get_or now (id_at queue k - 1) r)) → map see (set now (id_at queue k - 1) s) ≡ merged (last_id queue (k + 1)) (map f (map see old)) (map see old)
 change_next see f stays old now states queue k r s is within number ready inv made =
     let places = map see old in
@@ -171,7 +168,7 @@ change_next see f stays old now states queue k r s is within number ready inv ma
     stepped_on see states queue k now (map f places) places s (see r) is within long same stay inv
     (made ∙ ap f mine ∙ sym (get_or-map f places (id_at queue k - 1) (see r) (see r) (omega (arith, ids.0, ids.1, long))))
 
-pub changes_end : {S : Type 0} (see : S → SeatView) (f : SeatView → SeatView) → ((place : SeatView) → place.ready ≡ false → f place ≡ place) → (old now : List S) (states : List State) (queue : List ActorId) (k : ℕ) → IsQueue states queue → k ≤ length queue → length queue ≤ k → length old ≡ length states → map readiness (map see old) ≡ map is_ready states →
+pub changes_end : {S : Type 0} (see : S → SeatView) (f : SeatView → SeatView) → ((place : SeatView) → place.ready ≡ false → f place ≡ place) → (old now : List S) (states : List Actor) (queue : List ActorId) (k : ℕ) → IsQueue states queue → k ≤ length queue → length queue ≤ k → length old ≡ length states → AreQueued (map see old) states →
     map see now ≡ merged (last_id queue k) (map f (map see old)) (map see old) → map see now ≡ map f (map see old)
 changes_end see f stays old now states queue k is within past number ready inv =
     let places = map see old in
@@ -179,7 +176,7 @@ changes_end see f stays old now states queue k is within past number ready inv =
     inv ∙ all_stepped states queue k (map f places) places no_place is within past long (length-map places f) (mapped_stay f stays places states no_place ready long)
 
 -- what such a seat shows when its turn comes
-pub change_was : {S : Type 0} (see : S → SeatView) (f : SeatView → SeatView) → ((place : SeatView) → place.ready ≡ false → f place ≡ place) → (old now : List S) (states : List State) (queue : List ActorId) (k : ℕ) (r : S) → IsQueue states queue → k < length queue → length old ≡ length states → map readiness (map see old) ≡ map is_ready states →
+pub change_was : {S : Type 0} (see : S → SeatView) (f : SeatView → SeatView) → ((place : SeatView) → place.ready ≡ false → f place ≡ place) → (old now : List S) (states : List Actor) (queue : List ActorId) (k : ℕ) (r : S) → IsQueue states queue → k < length queue → length old ≡ length states → AreQueued (map see old) states →
     map see now ≡ merged (last_id queue k) (map f (map see old)) (map see old) → see (get_or now (id_at queue k - 1) r) ≡ get_or (map see old) (id_at queue k - 1) (see r)
 change_was see f stays old now states queue k r is within number ready inv =
     let places = map see old in
@@ -187,7 +184,7 @@ change_was see f stays old now states queue k r is within number ready inv =
     was_at see states queue k now (map f places) places r is within long (length-map places f) (mapped_stay f stays places states (see r) ready long) inv
 
 -- several seats in one go
-pub turns_next : {S : Type 0} (see : S → SeatView) (old now new : List S) (states : List State) (queue : List ActorId) (k to : ℕ) → IsQueue states queue → k < to → to ≤ length queue → length old ≡ length states → map readiness (map see old) ≡ map is_ready states →
+pub turns_next : {S : Type 0} (see : S → SeatView) (old now new : List S) (states : List Actor) (queue : List ActorId) (k to : ℕ) → IsQueue states queue → k < to → to ≤ length queue → length old ≡ length states → AreQueued (map see old) states →
     map see now ≡ merged (last_id queue k) (map after (map see old)) (map see old) →
     map see new ≡ take (id_at queue k - 1) (map see now) ++ (map after (drop (id_at queue k - 1) (take (id_at queue (to - 1)) (map see now))) ++ drop (id_at queue (to - 1)) (map see now)) →
     map see new ≡ merged (last_id queue to) (map after (map see old)) (map see old)

@@ -1,11 +1,9 @@
 -- Ends that don't cut a run off.
-use Rattle.std.proofs.Common.{◌≡◌, ◌∙◌, ap, sym, Bool, true, false, Option, None, Some, Result, Ok, Err}
-use Rattle.std.specs.Prelude.{IfOk}
-use Rattle.sg_base.specs.declared.memory.Memory.{Memory}
+use Rattle.std.proofs.Common.{◌≡◌, ◌∙◌, ap, sym, Bool, true, false, Option, None, Some}
 use Rattle.sg_engine.specs.declared.ended.Ended.{Ended}
 use Rattle.sg_engine.specs.declared.ended.Ended.TheVariants as ended
 use Rattle.sg_engine.specs.RunContract.{is_cut}
-use Rattle.sg_engine.specs.kept.Moments.{cuts, IsUncut}
+use Rattle.sg_engine.specs.kept.Moments.{cuts}
 
 uncut_not : (b : Bool) → b ≡ true → b ≡ false → ⊥
 uncut_not b is isnt = absurd (let e : true ≡ false = sym is ∙ isnt in cc e)
@@ -21,8 +19,3 @@ not_write how uncut is = uncut_not (is_cut how) (ap is_cut is) uncut
 
 pub not_memory : (how : Ended) → is_cut how ≡ false → how ≡ ended.Memory → ⊥
 not_memory how uncut is = uncut_not (is_cut how) (ap is_cut is) uncut
-
--- where the script was asked, memory may have been wanting
-pub uncut_asked : (script : Bool) (result : Result (Option Ended) Memory) → script ≡ true → IfOk result (λ how. cuts how ≡ false) → IsUncut script result
-uncut_asked script (Ok how) is uncut = uncut
-uncut_asked script (Err why) is uncut = is

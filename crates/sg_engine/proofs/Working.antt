@@ -1,18 +1,23 @@
 -- The work of a run never falls.
 use Rattle.std.proofs.Common.{◌≡◌, ◌≤◌, ◌+◌, ◌∙◌, arith, sym, refl, add-zero, ℕ, zero, suc, Bool, true, false, cond, List, [], ◌∷◌, Option, None, Some, Result, Ok, Err}
 use Rattle.std.specs.Prelude.{◌&&◌, ◌==◌}
+use Rattle.std.specs.Option.{option_map_or}
 use Rattle.sg_base.specs.declared.call.Action.{Action}
 use Rattle.sg_base.specs.declared.call.Call.{Call}
+use Rattle.sg_base.specs.declared.ids.ActorId.{ActorId}
+use Rattle.sg_base.specs.Mind.{Mind}
 use Rattle.sg_activity.specs.Underway.{work_of}
 use Rattle.sg_kernel.specs.Calls.{answered}
+use Rattle.sg_kernel.specs.Lives.{created}
 use Rattle.sg_kernel.specs.Passes.{pass_of}
-use Rattle.sg_kernel.specs.World.{Setup}
+use Rattle.sg_kernel.specs.World.{Setup, state_of}
+use Rattle.sg_states.specs.Actors.{is_ended}
 use Rattle.sg_script.specs.Stands.{one_more}
 use Rattle.sg_script.specs.declared.fault.ScriptFault.{ScriptFault}
 use Rattle.sg_engine.specs.World.{World}
 use Rattle.sg_engine.specs.declared.ended.Ended.{Ended}
 use Rattle.sg_engine.specs.declared.ended.Ended.TheVariants as ended
-use Rattle.sg_engine.specs.Run.{Scene, Answering, Progress, at_world, and_then, and_then_by, answer_step, anyone_ready, are_completed, ask_step, call_after, calls_from, if_call, in_world, inboxes, is_ask, mind_after, round, round_or_pass, run_from, work_behind, zip_with}
+use Rattle.sg_engine.specs.Run.{Scene, Answering, Progress, at_world, and_then, and_then_by, answer_step, anyone_ready, are_completed, ask_step, call_after, calls_from, created_by, creates, if_call, if_given, in_world, inboxes, is_ask, is_given, mind_after, one_call, other_call, round, round_or_pass, run_from, work_behind, zip_with}
 
 -- ---- calls leave the work as it is
 work_by : (b : Bool) (x y : Progress) (n : ℕ) → x.world.work ≡ n → y.world.work ≡ n → (cond b x y).world.work ≡ n
@@ -32,10 +37,24 @@ ask_work setup answers actor world =
     let next : World = record world { asks = one_more actor world.asks } in
     work_by (world.core.events == setup.budget) (at_world (Some ended.Budget) world) (answer_step setup actor (answers actor (world.asks actor)) next) world.work refl (answer_work setup actor (answers actor (world.asks actor)) next)
 
+creates_work : (firsts : List Mind) (budget actor : ℕ) (target : ActorId) (world : World) → (creates firsts budget actor target world).world.work ≡ world.work
+creates_work firsts budget actor target world =
+    let given = is_given target world in
+    work_by (world.core.events == budget) (at_world (Some ended.Budget) world) (in_world (if_given given firsts target.0 world) (created given actor target world.core)) world.work refl refl
+
+other_work : (at : Scene) (answers : Answering) (actor : ℕ) (what : Call) (world : World) → (other_call at answers actor what world).world.work ≡ world.work
+other_work at answers actor what world =
+    work_by (at.script && is_ask what) (ask_step at.setup answers actor world) (in_world world (answered at.roads at.setup world.core actor what)) world.work (ask_work at.setup answers actor world) refl
+
+created_work : (o : Option ActorId) (at : Scene) (answers : Answering) (actor : ℕ) (what : Call) (world : World) →
+    (option_map_or (λ target. creates at.firsts at.setup.budget actor target world) o (other_call at answers actor what world)).world.work ≡ world.work
+created_work None at answers actor what world = other_work at answers actor what world
+created_work (Some target) at answers actor what world = creates_work at.firsts at.setup.budget actor target world
+
 call_work : (at : Scene) (answers : Answering) (actor : ℕ) (what : Option Call) (world : World) → (if_call at answers actor what world).world.work ≡ world.work
 call_work at answers actor None world = refl
 call_work at answers actor (Some what) world =
-    work_by (at.script && is_ask what) (ask_step at.setup answers actor world) (in_world world (answered at.roads at.setup world.core actor what)) world.work (ask_work at.setup answers actor world) refl
+    work_by (is_ended (state_of world.core actor)) (at_world None world) (one_call at answers actor what world) world.work refl (created_work (created_by what) at answers actor what world)
 
 calls_work : (at : Scene) (answers : Answering) (actor : ℕ) (calls : List (Option Call)) (world : World) → (calls_from at answers actor calls world).world.work ≡ world.work
 unfolding calls_from

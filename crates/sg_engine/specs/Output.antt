@@ -1,15 +1,16 @@
 -- What a run writes, and how it ends.
-use Rattle.std.specs.Prelude.{ℕ, ◌+◌, ◌++◌, unwrap_or, Bool, Option, option_map, List, [], ◌∷◌, length, codes}
+use Rattle.std.specs.Prelude.{ℕ, ◌+◌, ◌-◌, ◌/◌, ◌%◌, ◌^◌, ◌&&◌, ◌++◌, unwrap_or, Bool, true, false, Option, Some, option_map, if◌then◌else◌, List, [], ◌∷◌, length, slice_index_or, codes}
 use Rattle.std.specs.List.{flat_map}
 use Rattle.std.specs.Option.{option_map_or}
 use Rattle.sg_base.specs.declared.trace_record.Record.{Record}
 use Rattle.sg_edge.specs.Sources.{Source}
-use Rattle.sg_states.specs.declared.state.State.{State}
+use Rattle.sg_states.specs.declared.state.Actor.{Actor}
 use Rattle.sg_kernel.specs.Start.{capacities_in, setup_of}
 use Rattle.sg_kernel.specs.World.{Core}
-use Rattle.sg_states.specs.Actors.{blocked_of}
+use Rattle.sg_states.specs.Actors.{blocked_of, is_alive}
 use Rattle.sg_rows.specs.Platform.{Platform}
-use Rattle.sg_rows.specs.Deployment.{Deployed}
+use Rattle.sg_rows.specs.Deployment.{Deployed, started_number}
+use Rattle.sg_rows.specs.declared.rows.HostRow.{HostRow}
 use Rattle.sg_route.specs.Roads.{roads_of}
 use Rattle.sg_script.specs.Answer.{answer_of}
 use Rattle.sg_script.specs.Known.{known_in}
@@ -23,21 +24,17 @@ use Rattle.sg_engine.specs.declared.ended.Ended.{Ended}
 use Rattle.sg_engine.specs.declared.ended.Ended.TheVariants as ended
 use Rattle.sg_engine.specs.declared.show.Show.{Show}
 use Rattle.sg_engine.specs.declared.show.Show.TheVariants as show
-use Rattle.sg_engine.specs.Roles.{first_minds}
+use Rattle.sg_engine.specs.Roles.{first_minds, firsts_of}
 use Rattle.sg_engine.specs.Run.{Scene, scene, Progress, first_world, run_of}
 use Rattle.sg_engine.specs.World.{World}
 
 -- What a run is of: of a platform its hosts, links, network and profiles come with its setup, and its zones and routes with its roads.
 abbrev pub scene_of : Platform → Deployed → Bool → ℕ → Scene
-scene_of platform deployed script budget = scene (roads_of platform) (setup_of platform deployed budget) script
+scene_of platform deployed script budget = scene (roads_of platform) (setup_of platform deployed budget) (firsts_of deployed) script
 
--- the world in which it begins
-abbrev pub first_of : Platform → Deployed → ℕ → World
-first_of platform deployed budget = first_world (first_minds deployed) (capacities_in platform) (setup_of platform deployed budget)
-
--- how many contexts it takes: one for each actor
-abbrev pub contexts_of : Deployed → ℕ
-contexts_of deployed = length deployed.actors
+-- the world in which it begins, with a crew of so many contexts, of which each actor that starts takes one
+abbrev pub first_of : Platform → Deployed → ℕ → ℕ → World
+first_of platform deployed budget crew = first_world (first_minds deployed) (crew - started_number deployed) (capacities_in platform) (setup_of platform deployed budget)
 
 -- a trace line for each record, where all is shown
 abbrev pub trace_of : Show → Platform → Deployed → List Record → List ℕ
@@ -49,25 +46,53 @@ abbrev pub summary_line : Show → Platform → Deployed → ℕ → List ℕ
 summary_line show.Summary platform deployed events = ending_of (last.Summary (length deployed.actors) events) platform deployed
 summary_line other platform deployed events = []
 
--- what is told of an actor for which the run can't go on
-abbrev pub blocked_last : ℕ → State → Option Last
-blocked_last actor state = option_map (λ what. last.Blocked (record { 0 = actor }) what) (blocked_of state)
+-- the line of what is told, if anything is
+abbrev pub line_if : Platform → Deployed → Option Last → List ℕ
+line_if platform deployed told = option_map_or (λ what. ending_of what platform deployed) told []
 
-abbrev pub blocked_line : Platform → Deployed → ℕ → State → List ℕ
-blocked_line platform deployed actor state = option_map_or (λ told. ending_of told platform deployed) (blocked_last actor state) []
+-- what is told of an actor for which the run can't go on: that it is suspended, or else on what it is blocked
+abbrev pub stuck_last : ℕ → Actor → Option Last
+stuck_last id actor =
+    if actor.suspended && is_alive actor.state then Some (last.Suspended (record { 0 = id }))
+    else option_map (λ what. last.Blocked (record { 0 = id }) what) (blocked_of actor.state)
 
--- a line for each actor that is blocked, in rising id from this one on
-abbrev pub blocked_lines : Platform → Deployed → ℕ → List State → List ℕ
-blocked_lines platform deployed actor [] = []
-blocked_lines platform deployed actor (state ∷ more) = blocked_line platform deployed actor state ++ blocked_lines platform deployed (actor + 1) more
+-- a line for each actor that is suspended or blocked, in rising id from this one on
+abbrev pub stuck_lines : Platform → Deployed → ℕ → List Actor → List ℕ
+stuck_lines platform deployed id [] = []
+stuck_lines platform deployed id (actor ∷ more) = line_if platform deployed (stuck_last id actor) ++ stuck_lines platform deployed (id + 1) more
+
+-- what is told of the energy that a host with power has used: whole joules, and the rest in 10^-12 J
+abbrev pub energy_last : ℕ → HostRow → ℕ → Option Last
+energy_last host row energy = option_map (λ power. last.Energy (record { 0 = host }) (energy / 10 ^ 12) (energy % 10 ^ 12)) row.power
+
+-- a line for each host with power, in declared order from this one on
+abbrev pub energy_lines : Platform → Deployed → List ℕ → ℕ → List HostRow → List ℕ
+energy_lines platform deployed energies host [] = []
+energy_lines platform deployed energies host (row ∷ rows) =
+    line_if platform deployed (energy_last host row (slice_index_or energies host 0)) ++ energy_lines platform deployed energies (host + 1) rows
+
+abbrev pub all_energy : Platform → Deployed → Core → List ℕ
+all_energy platform deployed core = energy_lines platform deployed core.under.energy 0 platform.hosts
+
+-- how the run has ended, and for whom it can't go on
+abbrev pub how_lines : Show → Platform → Deployed → ℕ → Core → Ended → List ℕ
+how_lines show platform deployed budget core ended.Completed = summary_line show platform deployed core.events ++ ending_of (last.Time core.under.date) platform deployed
+how_lines show platform deployed budget core ended.Deadlock = ending_of (last.Deadlock core.under.date) platform deployed ++ stuck_lines platform deployed 1 core.actors
+how_lines show platform deployed budget core ended.Starved = ending_of (last.Starved core.under.date) platform deployed ++ stuck_lines platform deployed 1 core.actors
+how_lines show platform deployed budget core ended.Budget = ending_of (last.Budget budget core.under.date) platform deployed
+how_lines show platform deployed budget core other = []
+
+-- the energies are told where no fault has ended the run
+abbrev pub tells_energy : Ended → Bool
+tells_energy ended.Completed = true
+tells_energy ended.Deadlock = true
+tells_energy ended.Starved = true
+tells_energy ended.Budget = true
+tells_energy other = false
 
 -- what stands on Out behind the trace lines
 abbrev pub last_lines : Show → Platform → Deployed → ℕ → Core → Ended → List ℕ
-last_lines show platform deployed budget core ended.Completed = summary_line show platform deployed core.events ++ ending_of (last.Time core.under.date) platform deployed
-last_lines show platform deployed budget core ended.Deadlock = ending_of (last.Deadlock core.under.date) platform deployed ++ blocked_lines platform deployed 1 core.actors
-last_lines show platform deployed budget core ended.Starved = ending_of (last.Starved core.under.date) platform deployed ++ blocked_lines platform deployed 1 core.actors
-last_lines show platform deployed budget core ended.Budget = ending_of (last.Budget budget core.under.date) platform deployed
-last_lines show platform deployed budget core other = []
+last_lines show platform deployed budget core how = how_lines show platform deployed budget core how ++ (if tells_energy how then all_energy platform deployed core else [])
 
 -- what stands on Err
 abbrev pub fault_line : Platform → Ended → List ℕ
@@ -77,11 +102,12 @@ fault_line platform (ended.TooLong from to) = too_long_line platform from to
 fault_line platform ended.ReadFault = codes "cannot read the script\n"
 fault_line platform other = []
 
--- What a run writes, how it ends, at how many uses its passes may look, and how many bytes of its script its Asks need.
+-- What a run writes, how it ends, how many contexts its actors take, at how many uses its passes may look, and how many bytes of its script its Asks need.
 pub record Output : Type 0 where
   pub out : List ℕ
   pub err : List ℕ
   pub ended : Ended
+  pub contexts : ℕ
   pub work : ℕ
   pub need : ℕ
 
@@ -89,16 +115,17 @@ pub record Output : Type 0 where
 abbrev pub end_of : Progress → Ended
 end_of progress = unwrap_or progress.ended ended.Budget
 
-abbrev pub written_of : Show → Platform → Deployed → ℕ → Source → Progress → Output
-written_of show platform deployed budget source progress = record {
+abbrev pub written_of : Show → Platform → Deployed → ℕ → ℕ → Source → Progress → Output
+written_of show platform deployed budget crew source progress = record {
   out = trace_of show platform deployed progress.made ++ last_lines show platform deployed budget progress.world.core (end_of progress);
   err = fault_line platform (end_of progress);
   ended = end_of progress;
+  contexts = crew - progress.world.contexts;
   work = progress.world.work;
   need = needed_by (known_in deployed) source (length deployed.actors) progress.world.asks;
 }
 
--- what a run writes and how it ends, with or without a script, by what that gives
-abbrev pub run_output : Platform → Deployed → Bool → ℕ → Show → Source → Output
-run_output platform deployed script budget show source =
-    written_of show platform deployed budget source (run_of (scene_of platform deployed script budget) (first_of platform deployed budget) (answer_of (known_in deployed) source))
+-- what a run writes and how it ends, with a crew of so many contexts, with or without a script, by what that gives
+abbrev pub run_output : Platform → Deployed → Bool → ℕ → ℕ → Show → Source → Output
+run_output platform deployed script budget crew show source =
+    written_of show platform deployed budget crew source (run_of (scene_of platform deployed script budget) (first_of platform deployed budget crew) (answer_of (known_in deployed) source))

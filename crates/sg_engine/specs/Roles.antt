@@ -1,5 +1,5 @@
 -- What actors are to be, and what they have in mind at first.
-use Rattle.std.specs.Prelude.{ℕ, ◌+◌, Option, Some, List, [], ◌∷◌}
+use Rattle.std.specs.Prelude.{ℕ, ◌+◌, Option, None, Some, if◌then◌else◌, List, [], ◌∷◌}
 use Rattle.sg_base.specs.Mind.{Mind}
 use Rattle.sg_base.specs.Turn.{actor_of}
 use Rattle.sg_actor.specs.declared.role.Role.{Role}
@@ -17,10 +17,25 @@ role_of me Worker = role.Worker (actor_of me)
 role_of me (Master tasks flops bytes workers) = role.Master tasks flops bytes workers
 role_of me (Churn seed next prev steps) = role.Churn seed steps (actor_of me) next prev
 
--- what the actors of these rows have in mind at first, where the first row is this actor's
+-- the mind with which the actor of a row begins
+abbrev pub mind_at : ℕ → ActorRow → Mind
+mind_at me row = mind_of (role_of me row.function)
+
+-- the minds with which the actors of these rows begin, where the first row is this actor's
+abbrev pub firsts_from : ℕ → List ActorRow → List Mind
+firsts_from me [] = []
+firsts_from me (row ∷ rows) = mind_at me row ∷ firsts_from (me + 1) rows
+
+abbrev pub firsts_of : Deployed → List Mind
+firsts_of deployed = firsts_from 1 deployed.actors
+
+-- what it has in mind at first: nothing yet where it doesn't start
+abbrev pub first_mind : ℕ → ActorRow → Option Mind
+first_mind me row = if row.start then Some (mind_at me row) else None
+
 abbrev pub minds_from : ℕ → List ActorRow → List (Option Mind)
 minds_from me [] = []
-minds_from me (row ∷ rows) = Some (mind_of (role_of me row.function)) ∷ minds_from (me + 1) rows
+minds_from me (row ∷ rows) = first_mind me row ∷ minds_from (me + 1) rows
 
 abbrev pub first_minds : Deployed → List (Option Mind)
 first_minds deployed = minds_from 1 deployed.actors

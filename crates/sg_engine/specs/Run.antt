@@ -1,10 +1,12 @@
 -- A run, for any number of hosts and actors: rounds until nobody is ready, then a pass, with the entries of profiles of its date, and again, until it ends.
-use Rattle.std.specs.Prelude.{ℕ, zero, suc, ◌+◌, ◌==◌, Option, None, Some, option_map, Result, Ok, Err, Bool, true, false, ◌&&◌, if◌then◌else◌, List, [], ◌∷◌, ◌++◌, map}
+use Rattle.std.specs.Prelude.{ℕ, zero, suc, ◌+◌, ◌-◌, ◌==◌, nat_lt, Option, None, Some, option_map, Result, Ok, Err, Bool, true, false, ◌&&◌, if◌then◌else◌, List, [], ◌∷◌, ◌++◌, map, slice_get, slice_set}
 use Rattle.std.specs.List.{list_any, list_all}
+use Rattle.std.specs.Option.{option_map_or}
 use Rattle.sg_base.specs.declared.call.Action.{Action}
 use Rattle.sg_base.specs.declared.call.Answer.{Answer}
 use Rattle.sg_base.specs.declared.call.Call.{Call}
 use Rattle.sg_base.specs.declared.call.Call.TheVariants as call
+use Rattle.sg_base.specs.declared.ids.ActorId.{ActorId}
 use Rattle.sg_base.specs.declared.trace_record.Record.{Record}
 use Rattle.sg_base.specs.Mind.{Mind}
 use Rattle.sg_base.specs.Turn.{turn}
@@ -12,10 +14,11 @@ use Rattle.sg_activity.specs.Links.{Capacities}
 use Rattle.sg_activity.specs.Underway.{work_of}
 use Rattle.sg_kernel.specs.declared.stop.Stop.{Stop}
 use Rattle.sg_kernel.specs.declared.stop.Stop.TheVariants as stop
-use Rattle.sg_kernel.specs.World.{Setup, Core}
-use Rattle.sg_states.specs.Actors.{inbox_of, is_ready, is_ended}
+use Rattle.sg_kernel.specs.World.{Setup, Core, state_of}
+use Rattle.sg_states.specs.Actors.{inbox_of, is_ended, is_over, is_ready, is_unstarted}
 use Rattle.sg_engine.specs.World.{World}
 use Rattle.sg_kernel.specs.Calls.{answered, told}
+use Rattle.sg_kernel.specs.Lives.{created}
 use Rattle.sg_kernel.specs.Start.{first_core}
 use Rattle.sg_kernel.specs.Steps.{Step}
 use Rattle.sg_route.specs.Roads.{Roads}
@@ -26,14 +29,15 @@ use Rattle.sg_script.specs.Stands.{one_more}
 use Rattle.sg_engine.specs.declared.ended.Ended.{Ended}
 use Rattle.sg_engine.specs.declared.ended.Ended.TheVariants as ended
 
--- what a run is of: what is simulated, the routes between hosts, and whether there is a script
+-- what a run is of: what is simulated, the routes between hosts, the mind with which each actor begins, and whether there is a script
 pub record Scene : Type 0 where
   pub setup : Setup
   pub roads : Roads
+  pub firsts : List Mind
   pub script : Bool
 
-abbrev pub scene : Roads → Setup → Bool → Scene
-scene roads setup script = record { setup = setup; roads = roads; script = script }
+abbrev pub scene : Roads → Setup → List Mind → Bool → Scene
+scene roads setup firsts script = record { setup = setup; roads = roads; firsts = firsts; script = script }
 
 -- what the script answers to an Ask of an actor that so many of its Asks came before
 abbrev pub Answering : Type 0
@@ -77,11 +81,13 @@ zip_with f (x ∷ xs) [] = []
 zip_with f (x ∷ xs) (y ∷ ys) = f x y ∷ zip_with f xs ys
 
 -- ---- what a run asks of the actors
+-- an actor is ready that has an answer and isn't suspended
 abbrev pub anyone_ready : Core → Bool
 anyone_ready core = list_any is_ready core.actors
 
+-- all have ended that began
 abbrev pub are_completed : Core → Bool
-are_completed core = list_all is_ended core.actors
+are_completed core = list_all is_over core.actors
 
 -- the answer of each actor that is ready
 abbrev pub inboxes : Core → List (Option Answer)
@@ -117,13 +123,46 @@ abbrev pub is_ask : Call → Bool
 is_ask call.Ask = true
 is_ask other = false
 
+-- the actor that a call creates
+abbrev pub created_by : Call → Option ActorId
+created_by (call.Create target) = Some target
+created_by other = None
+
+-- a create is given where its actor has never begun and a context is left
+abbrev pub is_given : ActorId → World → Bool
+is_given target world = is_unstarted (state_of world.core target.0) && nat_lt 0 world.contexts
+
+-- an actor has its first mind, if it is given its beginning
+abbrev pub minds_with : List Mind → ℕ → List (Option Mind) → List (Option Mind)
+minds_with firsts actor minds = slice_set minds (actor - 1) (slice_get firsts (actor - 1))
+
+abbrev pub minds_if : Bool → List Mind → ℕ → List (Option Mind) → List (Option Mind)
+minds_if given firsts actor minds = if given then minds_with firsts actor minds else minds
+
+-- and takes a context then
+abbrev pub if_given : Bool → List Mind → ℕ → World → World
+if_given given firsts actor world = record world { minds = minds_if given firsts actor world.minds; contexts = world.contexts - (if given then 1 else 0) }
+
+-- A create: the actor that it names begins where it is given, and the call is refused else; an event is next, so that the budget is tested first.
+abbrev pub creates : List Mind → ℕ → ℕ → ActorId → World → Progress
+creates firsts budget actor target world =
+    if world.core.events == budget then at_world (Some ended.Budget) world
+    else in_world (if_given (is_given target world) firsts target.0 world) (created (is_given target world) actor target world.core)
+
 -- where there is a script, it answers an Ask; the kernel answers any other call
+abbrev pub other_call : Scene → Answering → ℕ → Call → World → Progress
+other_call at answers actor what world = if at.script && is_ask what then ask_step at.setup answers actor world else in_world world (answered at.roads at.setup world.core actor what)
+
 abbrev pub one_call : Scene → Answering → ℕ → Call → World → Progress
-one_call at answers actor what world = if at.script && is_ask what then ask_step at.setup answers actor world else in_world world (answered at.roads at.setup world.core actor what)
+one_call at answers actor what world = option_map_or (λ target. creates at.firsts at.setup.budget actor target world) (created_by what) (other_call at answers actor what world)
+
+-- the call of an actor that was killed in this round isn't answered
+abbrev pub unless_killed : Scene → Answering → ℕ → Call → World → Progress
+unless_killed at answers actor what world = if is_ended (state_of world.core actor) then at_world None world else one_call at answers actor what world
 
 abbrev pub if_call : Scene → Answering → ℕ → Option Call → World → Progress
 if_call at answers actor None world = at_world None world
-if_call at answers actor (Some what) world = one_call at answers actor what world
+if_call at answers actor (Some what) world = unless_killed at answers actor what world
 
 -- the calls are answered in rising id, from this actor on
 unfoldable pub calls_from : Scene → Answering → ℕ → List (Option Call) → World → Progress
@@ -157,9 +196,9 @@ run_from (suc n) at answers world =
     else and_then (round_or_pass at answers world) (run_from n at answers)
 
 -- ---- the whole run
--- at first the actors have this in mind, and all are ready with the answer Start
-abbrev pub first_world : List (Option Mind) → Capacities → Setup → World
-first_world minds capacities setup = record { minds = minds; asks = λ _. 0; core = first_core capacities setup; work = 0 }
+-- at first the actors have this in mind, and those that start are ready with the answer Start; so many contexts are left
+abbrev pub first_world : List (Option Mind) → ℕ → Capacities → Setup → World
+first_world minds contexts capacities setup = record { minds = minds; asks = λ _. 0; contexts = contexts; core = first_core capacities setup; work = 0 }
 
 -- from this world on
 abbrev pub run_of : Scene → World → Answering → Progress

@@ -1,5 +1,5 @@
 -- What a whole run has done, in the words of its contract.
-use Rattle.std.specs.Prelude.{◌≡◌, ◌<◌, ◌≤◌, ◌+◌, ◌⊎◌, ℕ, Bool, true, false, IsTrue, MatchBool, List, length, All, Option, None}
+use Rattle.std.specs.Prelude.{◌≡◌, ◌≢◌, ◌<◌, ◌≤◌, ◌+◌, ◌⊎◌, ℕ, Bool, true, false, IsTrue, MatchBool, List, length, drop, All, Option, None}
 use Rattle.sg_base.specs.Mind.{Mind}
 use Rattle.sg_edge.specs.Cause.{HasCause}
 use Rattle.sg_edge.specs.Files.{PartView, Only, KeepsTelling, TakesUpTo}
@@ -14,7 +14,7 @@ use Rattle.sg_engine.specs.declared.setup.Setup.{Setup}
 use Rattle.sg_engine.specs.declared.show.Show.{Show}
 use Rattle.sg_engine.specs.Gains.{GainsAll, GainsFronts}
 use Rattle.sg_engine.specs.Output.{Output, run_output}
-use Rattle.sg_rows.specs.Deployment.{Deployed}
+use Rattle.sg_rows.specs.Deployment.{Deployed, started_number}
 
 -- a failed write or want of memory cuts the run off
 abbrev pub is_cut : Ended → Bool
@@ -34,10 +34,15 @@ IsBroken old new = (new.stage ≡ Broken) × (old.faults ≤ new.faults) × ((ol
 abbrev pub IsReadOnDemand : ℕ → (Part → PartView) → (Part → PartView) → Type 0
 IsReadOnDemand need old new = TakesUpTo (need + 4095) (old Script) (new Script)
 
--- What was written is this, and the end; the count went on by its work at most, and the script was read on demand, also
--- where the run was cut off.
-pub record IsRun (want : Output) (how : Ended) (old new : Stream → Option (List ℕ)) (start count : ℕ) (before after : Part → PartView) : Type 0 where
+-- of a crew of so many contexts so many are left: its run took all that it takes, or was cut off and took no more
+abbrev pub TakesContexts : ℕ → Ended → ℕ → ℕ → Type 0
+TakesContexts want how crew left = MatchBool (is_cut how) (crew ≤ left + want) (crew ≡ left + want)
+
+-- What was written is this, and the end, and so many contexts of the crew are left; the count went on by its work at most,
+-- and the script was read on demand, also where the run was cut off.
+pub record IsRun (want : Output) (how : Ended) (old new : Stream → Option (List ℕ)) (crew left start count : ℕ) (before after : Part → PartView) : Type 0 where
   pub ends : Ends want.out want.err want.ended how old new
+  pub contexts : TakesContexts want.contexts how crew left
   pub work : count ≤ start + want.work
   pub needed : IsReadOnDemand want.need before after
 
@@ -46,10 +51,19 @@ pub record IsRun (want : Output) (how : Ended) (old new : Stream → Option (Lis
 abbrev pub IsRunCause : Ended → ℕ → (Part → PartView) → (Part → PartView) → Type 0
 IsRunCause how faults old new = HasCause (how ≡ ended.WriteFault) (how ≡ ended.ReadFault) faults (IsBroken (old Script) (new Script))
 
--- the crew has a blank context for each actor, and maybe more
+-- the crew has a blank context for each actor that starts, and maybe more
 pub record HasContexts {A : Type 0} (mind : A → Option Mind) (crew : List A) (deployed : Deployed) : Type 0 where
   pub blank : All (λ context. mind context ≡ None) crew
-  pub enough : length deployed.actors ≤ length crew
+  pub enough : started_number deployed ≤ length crew
+
+-- Of the crew the first contexts were taken: one for each actor that starts, where memory wasn't wanting, and one at most
+-- for each actor.
+pub record TakesFirst {A : Type 0} (deployed : Deployed) (how : Ended) (old new : List A) : Type 0 where
+  pub taken : ℕ
+  pub least : how ≢ ended.Memory → started_number deployed ≤ taken
+  pub most : taken ≤ length deployed.actors
+  pub within : taken ≤ length old
+  pub left : new ≡ drop taken old
 
 -- of all files only the script's part was read, and without a script none; it keeps its name, and where it tells its
 -- bytes, it still does
@@ -70,6 +84,6 @@ pub record StandsAsBefore (old new : Setup) : Type 0 where
   pub router : new.router ≡ old.router
   pub script : new.script ≡ old.script
 
--- what the run of a setup writes and how it ends, by what the script's part gives
-abbrev pub output_of : Setup → ℕ → Show → Source → Output
-output_of setup budget show source = run_output setup.platform setup.deployment setup.script budget show source
+-- what the run of a setup writes and how it ends, with so many contexts, by what the script's part gives
+abbrev pub output_of : Setup → ℕ → ℕ → Show → Source → Output
+output_of setup budget crew show source = run_output setup.platform setup.deployment setup.script budget crew show source

@@ -1,16 +1,22 @@
 //! The answers of a round: its calls are answered in rising id.
-ghost use Rattle.std.specs.Prelude.{◌≡◌, ◌&&◌, ◌+◌, ◌<◌, ◌≤◌, IfOk, length, All, AllPairs, false};
-ghost use Rattle.sg_base.specs.Limits.{IsCall};
-ghost use Rattle.sg_edge.specs.Files.{Only};
+ghost use Rattle.std.specs.Prelude.{◌≡◌, ◌≢◌, ◌&&◌, ◌+◌, ◌<◌, ◌≤◌, IfOk, None, Ok, Some, length, All, AllPairs, false};
+ghost use Rattle.std.specs.Result.{is_err};
+ghost use Rattle.sg_base.specs.Limits.{IsActorIn, IsCall};
+ghost use Rattle.sg_edge.specs.Files.{Only, PartView};
+ghost use Rattle.sg_edge.specs.declared.files.Stage.TheVariants.{Fresh};
 ghost use Rattle.sg_kernel.specs.World.{MayCall, extent};
 ghost use Rattle.sg_kernel.specs.Roads.{AreOver};
 ghost use Rattle.sg_engine.specs.declared.actor_call.ActorCall.{ActorCall};
-ghost use Rattle.sg_engine.specs.kept.Moments.{cuts, moment_in, script_moment, call_at, calls_at, FitsIn, FitsScript, IsReadFrom, LeavesFree, LeadsCalls, UsesScript};
-ghost use Rattle.sg_engine.specs.Run.{is_ask, ask_step};
+ghost use Rattle.sg_engine.specs.kept.Invariant.{at_moment, cast_in, may_be_given, unstarted, CanCreate, FitsNow, IsManned, KeepsOthers, KeepsSeats, LeadsTo};
+ghost use Rattle.sg_engine.specs.kept.Moments.{cuts, moment_in, script_moment, call_at, calls_at, created_at, other_at, FitsIn, FitsScript, IsFree, IsReadFrom, LeavesFree, Leads, LeadsCalls, UsesScript};
+ghost use Rattle.sg_engine.specs.Run.{created_by, is_ask, ask_step};
 
 use crate::actor_call::ActorCall;
 use crate::ended::{Ended, end_of};
 use crate::plan::Plan;
+use crate::seating::seat_if;
+use crate::simulation::Simulation;
+use sg_actor::Actor;
 use sg_base::{ActorId, Call, Memory};
 use sg_edge::{Files, Part};
 use sg_kernel::Kernel;
@@ -38,6 +44,7 @@ fn answer_ask<F: Files>(
     ensures setup { kernel.new.setup ≡ kernel.old.setup }
     ensures room { kernel.old.room ≤ kernel.new.room + 1 }
     ensures free { LeavesFree actor.0 kernel.old.core kernel.new.core }
+    ensures begun { unstarted kernel.new.core ≤ unstarted kernel.old.core }
 {
     if kernel.is_used_up() {
         return Ok(Some(Ended::Budget));
@@ -60,8 +67,8 @@ fn asks_script(script: bool, call: Call) -> bool
     }
 }
 
-// Answers a call.
-fn answer_one<F: Files>(
+// Answers a call that creates nobody.
+fn answer_other<F: Files>(
     plan: &Plan<'_>,
     router: &mut Router,
     kernel: &mut Kernel,
@@ -74,7 +81,7 @@ fn answer_one<F: Files>(
     requires room { 0 < kernel.old.room }
     requires roads { AreOver kernel.old.setup.links router.old }
     requires fits { FitsIn plan.now (F.shows files.old) script.old kernel.old }
-    ensures step { LeadsCalls plan.now (call_at plan.now router.old kernel.old made) result
+    ensures step { LeadsCalls plan.now (other_at plan.now router.old kernel.old made) result
         (moment_in plan.now (F.shows files.old) script.old kernel.old)
         (moment_in plan.now (F.shows files.new) script.new kernel.new) }
     ensures fits { FitsIn plan.now (F.shows files.new) script.new kernel.new }
@@ -82,6 +89,7 @@ fn answer_one<F: Files>(
     ensures setup { kernel.new.setup ≡ kernel.old.setup }
     ensures room { kernel.old.room ≤ kernel.new.room + 1 }
     ensures free { LeavesFree made.actor.0 kernel.old.core kernel.new.core }
+    ensures begun { unstarted kernel.new.core ≤ unstarted kernel.old.core }
     ensures router { router.new ≡ router.old }
 {
     if asks_script(plan.script, made.call) {
@@ -91,32 +99,129 @@ fn answer_one<F: Files>(
     }
 }
 
-/// Answers the calls in rising id.
+// The actor that a call creates.
+fn created(call: Call) -> Option<ActorId>
+    ensures { result ≡ created_by call }
+{
+    match call {
+        Call::Create(target) => Some(target),
+        _ => None,
+    }
+}
+
+// Answers a create that is given or refused: where it is given, its actor takes a context and its seat first.
+fn create(
+    plan: &Plan<'_>,
+    sim: &mut Simulation,
+    actor: ActorId,
+    target: ActorId,
+    given: bool,
+) -> Result<Option<Ended>, Memory>
+    requires can { CanCreate (λ b. mind b) plan.now actor target sim.old }
+    requires unused { sim.old.kernel.core.events ≢ sim.old.kernel.setup.budget }
+    requires given { given ≡ may_be_given target.0 sim.old }
+    ensures step { (part : PartView) → part.stage ≢ Fresh →
+        Leads plan.now (λ world. world.work)
+        (created_at plan.now sim.old.kernel actor target) result
+        (cast_in (λ b. mind b) sim.old) (cast_in (λ b. mind b) sim.new)
+        (at_moment part sim.old) (at_moment part sim.new) }
+    ensures uncut { IfOk result (λ how. how ≡ None) }
+    ensures others { KeepsOthers (λ b. mind b) actor.0 (is_err result) sim.old sim.new }
+    ensures script { sim.new.script ≡ sim.old.script }
+{
+    let seats = sim.seats.as_mut_slice();
+    match seat_if(plan, &mut sim.crew, seats, target, given) {
+        Ok(()) => {
+            sim.kernel.create(actor, target, given);
+            Ok(None)
+        }
+        Err(Memory) => Err(Memory),
+    }
+}
+
+// Answers a create.
+fn answer_create(
+    plan: &Plan<'_>,
+    sim: &mut Simulation,
+    actor: ActorId,
+    target: ActorId,
+) -> Result<Option<Ended>, Memory>
+    requires can { CanCreate (λ b. mind b) plan.now actor target sim.old }
+    ensures step { (part : PartView) → part.stage ≢ Fresh →
+        Leads plan.now (λ world. world.work)
+        (created_at plan.now sim.old.kernel actor target) result
+        (cast_in (λ b. mind b) sim.old) (cast_in (λ b. mind b) sim.new)
+        (at_moment part sim.old) (at_moment part sim.new) }
+    ensures uncut { IfOk result (λ how. cuts how ≡ false) }
+    ensures read { result ≢ Ok (Some Ended.ReadFault) }
+    ensures others { KeepsOthers (λ b. mind b) actor.0 (is_err result) sim.old sim.new }
+    ensures script { sim.new.script ≡ sim.old.script }
+{
+    match sim.kernel.may_create(target) {
+        Ok(fresh) => {
+            let given = fresh && !sim.crew.is_empty();
+            create(plan, sim, actor, target, given)
+        }
+        Err(_) => Ok(Some(Ended::Budget)),
+    }
+}
+
+// Answers a call, but that of an actor that was killed in this round.
+fn answer_one<F: Files>(
+    plan: &Plan<'_>,
+    router: &mut Router,
+    sim: &mut Simulation,
+    files: &mut F,
+    made: ActorCall,
+) -> Result<Option<Ended>, Memory>
+    requires caller { IsFree sim.old.kernel.core made.actor.0 }
+    requires call { IsCall (extent sim.old.kernel.setup) made.call }
+    requires room { 0 < sim.old.kernel.room }
+    requires roads { AreOver sim.old.kernel.setup.links router.old }
+    requires fits { FitsNow plan.now (F.shows files.old) sim.old }
+    requires manned { IsManned (λ b. mind b) sim.old }
+    ensures step { LeadsTo (λ b. mind b) plan.now (λ world. world.work)
+        (call_at plan.now router.old sim.old.kernel made) result
+        (F.shows files.old) (F.shows files.new) sim.old sim.new }
+    ensures fits { FitsNow plan.now (F.shows files.new) sim.new }
+    ensures script { UsesScript F.shows plan.now.script result files.old files.new }
+    ensures others { KeepsOthers (λ b. mind b) made.actor.0 (is_err result) sim.old sim.new }
+    ensures router { router.new ≡ router.old }
+{
+    if !sim.kernel.alive(made.actor) {
+        return Ok(None);
+    }
+    match created(made.call) {
+        Some(target) => answer_create(plan, sim, made.actor, target),
+        None => answer_other(plan, router, &mut sim.kernel, &mut sim.script, files, made),
+    }
+}
+
+/// Answers the calls of a round in rising id.
 pub fn answer_calls<F: Files>(
     plan: &Plan<'_>,
     router: &mut Router,
-    kernel: &mut Kernel,
-    script: &mut Script,
+    sim: &mut Simulation,
     files: &mut F,
-    calls: &[ActorCall],
 ) -> Result<Option<Ended>, Memory>
-    requires callers { All (λ (made : ActorCall). MayCall kernel.old.core made.actor.0
-        × IsCall (extent kernel.old.setup) made.call) calls.now }
-    requires rises { AllPairs (λ (a b : ActorCall). a.actor.0 < b.actor.0) calls.now }
-    requires room { length calls.now ≤ kernel.old.room }
-    requires roads { AreOver kernel.old.setup.links router.old }
-    requires fits { FitsIn plan.now (F.shows files.old) script.old kernel.old }
-    ensures step { LeadsCalls plan.now (calls_at plan.now router.old kernel.old calls.now) result
-        (moment_in plan.now (F.shows files.old) script.old kernel.old)
-        (moment_in plan.now (F.shows files.new) script.new kernel.new) }
-    ensures fits { FitsIn plan.now (F.shows files.new) script.new kernel.new }
-    ensures setup { kernel.new.setup ≡ kernel.old.setup }
+    requires callers { All (λ (made : ActorCall). MayCall sim.old.kernel.core made.actor.0
+        × IsCall (extent sim.old.kernel.setup) made.call) sim.old.calls.items }
+    requires rises { AllPairs (λ (a b : ActorCall). a.actor.0 < b.actor.0) sim.old.calls.items }
+    requires room { length sim.old.calls.items ≤ sim.old.kernel.room }
+    requires roads { AreOver sim.old.kernel.setup.links router.old }
+    requires fits { FitsNow plan.now (F.shows files.old) sim.old }
+    requires manned { IsManned (λ b. mind b) sim.old }
+    ensures step { LeadsTo (λ b. mind b) plan.now (λ world. world.work)
+        (calls_at plan.now router.old sim.old.kernel sim.old.calls.items) result
+        (F.shows files.old) (F.shows files.new) sim.old sim.new }
+    ensures fits { FitsNow plan.now (F.shows files.new) sim.new }
+    ensures seats { KeepsSeats (λ b. mind b) (is_err result) sim.old sim.new }
     ensures script { UsesScript F.shows plan.now.script result files.old files.new }
     ensures router { router.new ≡ router.old }
 {
-    for place in 0..calls.len() {
-        let made = calls[place];
-        match answer_one(plan, router, kernel, script, files, made) {
+    for place in 0..sim.calls.len() {
+        let made = sim.calls.as_slice()[place];
+        match answer_one(plan, router, sim, files, made) {
             Ok(None) => {}
             Ok(Some(how)) => return Ok(Some(how)),
             Err(Memory) => return Err(Memory),

@@ -4,16 +4,15 @@ ghost use Rattle.sg_edge.specs.Cause.{HasCause};
 ghost use Rattle.sg_engine.specs.RunContract.{is_cut, Ends};
 ghost use Rattle.sg_engine.specs.kept.Writing.{Puts, Tells};
 ghost use Rattle.sg_engine.specs.kept.Invariant.{IsOfSetup};
-ghost use Rattle.sg_engine.specs.Output.{last_lines, fault_line, summary_line};
+ghost use Rattle.sg_engine.specs.Output.{fault_line, how_lines, last_lines, summary_line, tells_energy as tells_energy_spec};
 ghost use Rattle.sg_trace.specs.Ending.{ending_of};
 
 use crate::buffer::Buffer;
 use crate::ended::Ended;
 use crate::fault_lines::{no_route_line, script_fault_line, too_long_line};
 use crate::plan::Plan;
-use crate::printing::{put_last, put_stuck, put_two};
+use crate::printing::{put_energy, put_last, put_stuck, put_two};
 use crate::show::Show;
-use crate::simulation::Simulation;
 use sg_edge::{Failed, Sinks, Stream, write_all};
 use sg_kernel::Kernel;
 use sg_trace::Last;
@@ -43,8 +42,8 @@ fn put_completed<O: Sinks>(
     }
 }
 
-// Puts the last lines on Out of a run that ended so into the buffer.
-fn put_end<O: Sinks>(
+// Puts the lines of the end, but those of energies, into the buffer.
+fn put_how<O: Sinks>(
     plan: &Plan<'_>,
     kernel: &Kernel,
     how: Ended,
@@ -53,7 +52,7 @@ fn put_end<O: Sinks>(
 ) -> Result<(), Failed>
     requires of { IsOfSetup plan.now.deployment.now kernel.now }
     requires sound { O.faults out.old ≡ 0 }
-    ensures { Puts (buffer.old ++ last_lines plan.now.terms.show plan.now.platform.now
+    ensures { Puts (buffer.old ++ how_lines plan.now.terms.show plan.now.platform.now
         plan.now.deployment.now plan.now.terms.budget kernel.now.core how) buffer.new result
         (O.contents out.old) (O.contents out.new) (O.faults out.new) }
 {
@@ -69,6 +68,47 @@ fn put_end<O: Sinks>(
         | Ended::ReadFault
         | Ended::WriteFault
         | Ended::Memory => Ok(()),
+    }
+}
+
+// Whether the energies of hosts are told behind the lines of the end.
+fn tells_energy(how: Ended) -> bool
+    ensures { result ≡ tells_energy_spec how }
+{
+    match how {
+        Ended::Completed | Ended::Deadlock | Ended::Starved | Ended::Budget => true,
+        Ended::Script(_, _)
+        | Ended::NoRoute { .. }
+        | Ended::TooLong { .. }
+        | Ended::ReadFault
+        | Ended::WriteFault
+        | Ended::Memory => false,
+    }
+}
+
+// Puts the last lines on Out of a run that ended so into the buffer.
+fn put_end<O: Sinks>(
+    plan: &Plan<'_>,
+    kernel: &Kernel,
+    how: Ended,
+    buffer: &mut Buffer,
+    out: &mut O,
+) -> Result<(), Failed>
+    requires of { IsOfSetup plan.now.deployment.now kernel.now }
+    requires hosts { length plan.now.platform.now.hosts ≡ kernel.now.setup.hosts }
+    requires sound { O.faults out.old ≡ 0 }
+    ensures { Puts (buffer.old ++ last_lines plan.now.terms.show plan.now.platform.now
+        plan.now.deployment.now plan.now.terms.budget kernel.now.core how) buffer.new result
+        (O.contents out.old) (O.contents out.new) (O.faults out.new) }
+{
+    match put_how(plan, kernel, how, buffer, out) {
+        Ok(()) => {}
+        Err(Failed) => return Err(Failed),
+    }
+    if tells_energy(how) {
+        put_energy(plan, kernel, buffer, out)
+    } else {
+        Ok(())
     }
 }
 
@@ -119,22 +159,24 @@ fn print_fault<O: Sinks>(plan: &Plan<'_>, how: Ended, out: &mut O) -> Result<(),
 // byte.
 fn print_end<O: Sinks>(
     plan: &Plan<'_>,
-    sim: &mut Simulation,
+    kernel: &Kernel,
     how: Ended,
+    buffer: &mut Buffer,
     out: &mut O,
 ) -> Result<(), Failed>
-    requires of { IsOfSetup plan.now.deployment.now sim.old.kernel }
+    requires of { IsOfSetup plan.now.deployment.now kernel.now }
+    requires hosts { length plan.now.platform.now.hosts ≡ kernel.now.setup.hosts }
     requires sound { O.faults out.old ≡ 0 }
-    ensures { Tells (sim.old.buffer ++ last_lines plan.now.terms.show plan.now.platform.now
-        plan.now.deployment.now plan.now.terms.budget sim.old.kernel.core how)
+    ensures { Tells (buffer.old ++ last_lines plan.now.terms.show plan.now.platform.now
+        plan.now.deployment.now plan.now.terms.budget kernel.now.core how)
         (fault_line plan.now.platform.now how) result
         (O.contents out.old) (O.contents out.new) (O.faults out.new) }
 {
-    match put_end(plan, &sim.kernel, how, &mut sim.buffer, out) {
+    match put_end(plan, kernel, how, buffer, out) {
         Ok(()) => {}
         Err(Failed) => return Err(Failed),
     }
-    match sim.buffer.flush(out) {
+    match buffer.flush(out) {
         Ok(()) => {}
         Err(Failed) => return Err(Failed),
     }
@@ -143,19 +185,26 @@ fn print_end<O: Sinks>(
 
 /// Writes the lines that wait and what stands behind the trace lines of a run that ended so and wasn't cut off. It takes
 /// no memory, so that an end that was reached is told.
-pub fn finish<O: Sinks>(plan: &Plan<'_>, sim: &mut Simulation, how: Ended, out: &mut O) -> Ended
-    requires of { IsOfSetup plan.now.deployment.now sim.old.kernel }
+pub fn finish<O: Sinks>(
+    plan: &Plan<'_>,
+    kernel: &Kernel,
+    how: Ended,
+    buffer: &mut Buffer,
+    out: &mut O,
+) -> Ended
+    requires of { IsOfSetup plan.now.deployment.now kernel.now }
+    requires hosts { length plan.now.platform.now.hosts ≡ kernel.now.setup.hosts }
     requires how { is_cut how ≡ false }
     requires sound { O.faults out.old ≡ 0 }
-    ensures ends { Ends (sim.old.buffer ++ last_lines plan.now.terms.show plan.now.platform.now
-        plan.now.deployment.now plan.now.terms.budget sim.old.kernel.core how)
+    ensures ends { Ends (buffer.old ++ last_lines plan.now.terms.show plan.now.platform.now
+        plan.now.deployment.now plan.now.terms.budget kernel.now.core how)
         (fault_line plan.now.platform.now how) how result
         (O.contents out.old) (O.contents out.new) }
     ensures cause { HasCause (result ≡ Ended.WriteFault) (result ≡ Ended.ReadFault)
         (O.faults out.new) (how ≡ Ended.ReadFault) }
     ensures memory { result ≢ Ended.Memory }
 {
-    match print_end(plan, sim, how, out) {
+    match print_end(plan, kernel, how, buffer, out) {
         Ok(()) => how,
         Err(Failed) => Ended::WriteFault,
     }

@@ -4,6 +4,7 @@ ghost use Rattle.sg_rows.specs.Deployment.{IsDeployedOn};
 
 use crate::show::Show;
 use sg_rows::{Deployment, PlatformText};
+use std::alloc::Global;
 
 /// How a run is made: on up to so many threads at once, with so many events at most, and how much is written.
 #[derive(Clone, Copy, Debug)]
@@ -18,6 +19,8 @@ pub struct Terms {
 /// What is run, and how: a setup but its router, by which calls alone are answered, and the terms.
 #[derive(Clone, Copy)]
 pub struct Plan<'a> {
+    /// Where memory is taken.
+    pub alloc: Global,
     pub platform: &'a PlatformText,
     pub deployment: &'a Deployment,
     /// Without one each Ask is refused.

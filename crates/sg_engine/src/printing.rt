@@ -1,21 +1,23 @@
 //! The lines on Out. Each is put into the buffer.
-ghost use Rattle.std.specs.Prelude.{◌≡◌, ◌++◌};
+ghost use Rattle.std.specs.Prelude.{◌≡◌, ◌<◌, ◌++◌, length, slice_index_or, IfSome};
+ghost use Rattle.sg_states.specs.Actors.{actor_at};
 ghost use Rattle.sg_states.specs.Records.{AreRecords, IsRecord};
-ghost use Rattle.sg_kernel.specs.World.{IsActor, state_of};
+ghost use Rattle.sg_kernel.specs.World.{IsActor};
 ghost use Rattle.sg_rows.specs.Deployment.{extent_of};
 ghost use Rattle.sg_trace.specs.Ending.{IsLastOf, ending_of};
 ghost use Rattle.sg_trace.specs.Line.{line_of};
 ghost use Rattle.sg_engine.specs.kept.Writing.{Puts};
 ghost use Rattle.sg_engine.specs.kept.Invariant.{IsOfSetup};
-ghost use Rattle.sg_engine.specs.Output.{trace_of, blocked_line, blocked_lines};
+ghost use Rattle.sg_engine.specs.Output.{all_energy, energy_last, line_if, stuck_last, stuck_lines, trace_of};
 ghost use Rattle.sg_engine.specs.kept.Stretches.{trace_in};
 
 use crate::buffer::Buffer;
 use crate::plan::Plan;
 use crate::show::Show;
-use sg_base::{ActorId, Record};
+use sg_base::{ActorId, PointId, Record};
 use sg_edge::{Failed, Sinks};
 use sg_kernel::Kernel;
+use sg_rows::HostRow;
 use sg_trace::{Last, ending_line, line};
 
 // Puts the trace line of a record into the buffer.
@@ -85,7 +87,7 @@ pub fn put_last<O: Sinks>(
     buffer: &mut Buffer,
     out: &mut O,
 ) -> Result<(), Failed>
-    requires last { IsLastOf plan.now.deployment.now last }
+    requires last { IsLastOf plan.now.platform.now plan.now.deployment.now last }
     requires sound { O.faults out.old ≡ 0 }
     ensures { Puts (buffer.old ++ ending_of last plan.now.platform.now plan.now.deployment.now)
         buffer.new result
@@ -103,8 +105,8 @@ pub fn put_two<O: Sinks>(
     buffer: &mut Buffer,
     out: &mut O,
 ) -> Result<(), Failed>
-    requires first { IsLastOf plan.now.deployment.now first }
-    requires second { IsLastOf plan.now.deployment.now second }
+    requires first { IsLastOf plan.now.platform.now plan.now.deployment.now first }
+    requires second { IsLastOf plan.now.platform.now plan.now.deployment.now second }
     requires sound { O.faults out.old ≡ 0 }
     ensures { Puts (buffer.old ++ (ending_of first plan.now.platform.now plan.now.deployment.now
         ++ ending_of second plan.now.platform.now plan.now.deployment.now)) buffer.new result
@@ -117,29 +119,43 @@ pub fn put_two<O: Sinks>(
     put_last(plan, second, buffer, out)
 }
 
-// Puts the line of an actor into the buffer, if it is blocked.
-fn put_blocked<O: Sinks>(
+// What is told of an actor for which the run can't go on.
+fn stuck(plan: &Plan<'_>, kernel: &Kernel, actor: ActorId) -> Option<Last>
+    requires actor { IsActor kernel.now.core actor.0 }
+    requires of { IsOfSetup plan.now.deployment.now kernel.now }
+    ensures is { result ≡ stuck_last actor.0 (actor_at kernel.now.core.actors actor.0) }
+    ensures told { IfSome result (IsLastOf plan.now.platform.now plan.now.deployment.now) }
+{
+    if kernel.suspended(actor) && kernel.alive(actor) {
+        return Some(Last::Suspended(actor));
+    }
+    match kernel.blocked(actor) {
+        Some(call) => Some(Last::Blocked(actor, call)),
+        None => None,
+    }
+}
+
+// Puts a line into the buffer, if there is one to be told.
+fn put_if<O: Sinks>(
     plan: &Plan<'_>,
-    kernel: &Kernel,
-    actor: ActorId,
+    told: Option<Last>,
     buffer: &mut Buffer,
     out: &mut O,
 ) -> Result<(), Failed>
-    requires actor { IsActor kernel.now.core actor.0 }
-    requires of { IsOfSetup plan.now.deployment.now kernel.now }
+    requires told { IfSome told (IsLastOf plan.now.platform.now plan.now.deployment.now) }
     requires sound { O.faults out.old ≡ 0 }
-    ensures { Puts (buffer.old ++ blocked_line plan.now.platform.now plan.now.deployment.now actor.0
-        (state_of kernel.now.core actor.0)) buffer.new result
+    ensures { Puts (buffer.old ++ line_if plan.now.platform.now plan.now.deployment.now told)
+        buffer.new result
         (O.contents out.old) (O.contents out.new) (O.faults out.new) }
 {
-    match kernel.blocked(actor) {
-        Some(call) => put_last(plan, Last::Blocked(actor, call), buffer, out),
+    match told {
+        Some(last) => put_last(plan, last, buffer, out),
         None => Ok(()),
     }
 }
 
-// Puts a line for each blocked actor into the buffer, in rising id.
-fn put_all_blocked<O: Sinks>(
+// Puts a line for each actor that is suspended or blocked into the buffer, in rising id.
+fn put_all_stuck<O: Sinks>(
     plan: &Plan<'_>,
     kernel: &Kernel,
     buffer: &mut Buffer,
@@ -147,12 +163,13 @@ fn put_all_blocked<O: Sinks>(
 ) -> Result<(), Failed>
     requires of { IsOfSetup plan.now.deployment.now kernel.now }
     requires sound { O.faults out.old ≡ 0 }
-    ensures { Puts (buffer.old ++ blocked_lines plan.now.platform.now plan.now.deployment.now 1
+    ensures { Puts (buffer.old ++ stuck_lines plan.now.platform.now plan.now.deployment.now 1
         kernel.now.core.actors) buffer.new result
         (O.contents out.old) (O.contents out.new) (O.faults out.new) }
 {
     for i in 0..kernel.actors() {
-        match put_blocked(plan, kernel, ActorId(i as u32 + 1), buffer, out) {
+        let told = stuck(plan, kernel, ActorId(i as u32 + 1));
+        match put_if(plan, told, buffer, out) {
             Ok(()) => {}
             Err(Failed) => return Err(Failed),
         }
@@ -160,7 +177,7 @@ fn put_all_blocked<O: Sinks>(
     Ok(())
 }
 
-/// Puts a last line into the buffer, and behind it one for each blocked actor, in rising id.
+/// Puts a last line into the buffer, and behind it one for each actor that is suspended or blocked, in rising id.
 pub fn put_stuck<O: Sinks>(
     plan: &Plan<'_>,
     kernel: &Kernel,
@@ -168,11 +185,11 @@ pub fn put_stuck<O: Sinks>(
     buffer: &mut Buffer,
     out: &mut O,
 ) -> Result<(), Failed>
-    requires last { IsLastOf plan.now.deployment.now last }
+    requires last { IsLastOf plan.now.platform.now plan.now.deployment.now last }
     requires of { IsOfSetup plan.now.deployment.now kernel.now }
     requires sound { O.faults out.old ≡ 0 }
     ensures { Puts (buffer.old ++ (ending_of last plan.now.platform.now plan.now.deployment.now
-        ++ blocked_lines plan.now.platform.now plan.now.deployment.now 1 kernel.now.core.actors))
+        ++ stuck_lines plan.now.platform.now plan.now.deployment.now 1 kernel.now.core.actors))
         buffer.new result
         (O.contents out.old) (O.contents out.new) (O.faults out.new) }
 {
@@ -180,5 +197,45 @@ pub fn put_stuck<O: Sinks>(
         Ok(()) => {}
         Err(Failed) => return Err(Failed),
     }
-    put_all_blocked(plan, kernel, buffer, out)
+    put_all_stuck(plan, kernel, buffer, out)
+}
+
+// What is told of the energy of a host, where it has power.
+fn energy(kernel: &Kernel, host: PointId, row: &HostRow) -> Option<Last>
+    requires { host.0 < kernel.now.setup.hosts }
+    ensures { result ≡ energy_last host.0 row.now
+        (slice_index_or kernel.now.core.under.energy host.0 0) }
+{
+    match row.power {
+        Some(_) => {
+            let (joules, rest) = kernel.energy(host);
+            Some(Last::Energy(host, joules, rest))
+        }
+        None => None,
+    }
+}
+
+/// Puts a line for each host with power into the buffer, in declared order.
+pub fn put_energy<O: Sinks>(
+    plan: &Plan<'_>,
+    kernel: &Kernel,
+    buffer: &mut Buffer,
+    out: &mut O,
+) -> Result<(), Failed>
+    requires hosts { length plan.now.platform.now.hosts ≡ kernel.now.setup.hosts }
+    requires sound { O.faults out.old ≡ 0 }
+    ensures { Puts (buffer.old
+        ++ all_energy plan.now.platform.now plan.now.deployment.now kernel.now.core)
+        buffer.new result
+        (O.contents out.old) (O.contents out.new) (O.faults out.new) }
+{
+    let rows = plan.platform.hosts();
+    for (i, row) in rows.iter().enumerate() {
+        let told = energy(kernel, PointId(i as u32), row);
+        match put_if(plan, told, buffer, out) {
+            Ok(()) => {}
+            Err(Failed) => return Err(Failed),
+        }
+    }
+    Ok(())
 }

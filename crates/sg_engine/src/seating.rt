@@ -1,65 +1,95 @@
-//! The crew takes its seats.
-ghost use Rattle.std.specs.Prelude.{◌≡◌, ◌≤◌, length, take, drop, reverse, All, Some, None, IfOk, OnOk, vec_len};
-ghost use Rattle.sg_base.specs.Limits.{Extent};
+//! Actors take their seats, each in a context of the crew.
+ghost use Rattle.std.specs.Prelude.{◌≡◌, ◌<◌, ◌-◌, if◌then◌else◌, length, take, All, Some, IfOk, IsTrue, OnErr, OnOk};
+ghost use Rattle.std.specs.Option.{option_and_then};
+ghost use Rattle.sg_base.specs.Limits.{Extent, IsActorIn};
 ghost use Rattle.sg_actor.specs.Roles.{mind_of, CanCast, IsRole};
 ghost use Rattle.sg_actor.specs.Seats.{seat_view, seat_views};
 ghost use Rattle.sg_rows.specs.Deployment.{extent_of};
-ghost use Rattle.sg_engine.specs.Roles.{role_of, first_minds};
+ghost use Rattle.sg_engine.specs.Roles.{role_of, first_mind, first_minds, firsts_of};
+ghost use Rattle.sg_engine.specs.Run.{minds_if, minds_with};
 ghost use Rattle.sg_engine.specs.RunContract.{HasContexts};
+ghost use Rattle.sg_engine.specs.kept.Invariant.{AreBlank, AreSeatsOf, StartsFrom, StartsUpTo};
 ghost use Rattle.sg_engine.specs.kept.SeatRules.{mind_in, minds_of, IsSeated};
 
+use crate::plan::Plan;
 use crate::roles::role;
 use sg_actor::{Actor, Seat, roles_keep_limits};
 use sg_base::{ActorId, Answer, Call, Memory};
-use sg_rows::{Deployment, Function};
+use sg_rows::{ActorRow, Deployment, Function};
 use std::alloc::Global;
-use std::mem;
 
-// The first so many of a crew, the last of them first. The crew keeps the others.
-fn take_first(
-    crew: &mut Vec<Box<dyn Actor + Send>>,
-    n: usize,
-) -> Result<Vec<Box<dyn Actor + Send>>, Memory>
-    requires blank { All (λ b. mind b ≡ None) crew.old.items }
-    requires enough { n ≤ length crew.old.items }
-    ensures blank { IfOk result (λ taken. All (λ b. mind b ≡ None) taken.items) }
-    ensures number { IfOk result (λ taken. vec_len taken ≡ n) }
-    ensures order { IfOk result (λ taken. taken.items ≡ reverse (take n crew.old.items)) }
-    ensures rest { OnOk result (crew.new.items ≡ drop n crew.old.items) }
-{
-    let mut taken = crew.split_off(n)?;
-    mem::swap(crew, &mut taken);
-    taken.reverse();
-    Ok(taken)
-}
-
-// A seat for the actor of a row.
-fn seat(
+// The next context of a crew, its last one, cast in the role of an actor. Without memory it is lost.
+fn take_context(
     alloc: Global,
-    context: Box<dyn Actor + Send>,
+    crew: &mut Vec<Box<dyn Actor + Send>>,
     me: ActorId,
     function: &Function,
-) -> Result<Seat, Memory>
-    requires blank { mind context ≡ None }
+) -> Result<Box<dyn Actor + Send>, Memory>
+    requires some { 0 < length crew.old.items }
+    requires blank { AreBlank (λ b. mind b) crew.old.items }
     requires role { CanCast (role_of me.0 function.now) }
-    ensures mind { IfOk result (λ seat. mind_in (seat_view (λ b. mind b) seat)
+    ensures mind { IfOk result (λ context. mind context
         ≡ Some (mind_of (role_of me.0 function.now))) }
-    ensures seated { (extent : Extent) → IsRole extent (role_of me.0 function.now) →
-        IfOk result (λ seat. IsSeated extent (seat_view (λ b. mind b) seat)) }
+    ensures crew { crew.new.items ≡ take (length crew.old.items - 1) crew.old.items }
 {
-    roles_keep_limits();
+    let Some(context) = crew.pop() else {
+        unreachable!()
+    };
     let mut actor = context;
     actor.cast(&role(alloc, me, function)?)?;
+    Ok(actor)
+}
+
+// The actor of a row, where it starts.
+fn starter(
+    alloc: Global,
+    crew: &mut Vec<Box<dyn Actor + Send>>,
+    me: ActorId,
+    row: &ActorRow,
+) -> Result<Option<Box<dyn Actor + Send>>, Memory>
+    requires some { IsTrue row.now.start → 0 < length crew.old.items }
+    requires blank { AreBlank (λ b. mind b) crew.old.items }
+    requires role { CanCast (role_of me.0 row.now.function) }
+    ensures mind { IfOk result (λ actor. option_and_then (λ b. mind b) actor
+        ≡ first_mind me.0 row.now) }
+    ensures crew { crew.new.items
+        ≡ take (length crew.old.items - (if row.now.start then 1 else 0)) crew.old.items }
+{
+    if row.start {
+        Ok(Some(take_context(alloc, crew, me, &row.function)?))
+    } else {
+        Ok(None)
+    }
+}
+
+// The seat of the actor of a row.
+fn seat(
+    alloc: Global,
+    crew: &mut Vec<Box<dyn Actor + Send>>,
+    me: ActorId,
+    row: &ActorRow,
+) -> Result<Seat, Memory>
+    requires some { IsTrue row.now.start → 0 < length crew.old.items }
+    requires blank { AreBlank (λ b. mind b) crew.old.items }
+    requires role { CanCast (role_of me.0 row.now.function) }
+    ensures mind { IfOk result (λ seat. mind_in (seat_view (λ b. mind b) seat)
+        ≡ first_mind me.0 row.now) }
+    ensures seated { (extent : Extent) → IsRole extent (role_of me.0 row.now.function) →
+        IfOk result (λ seat. IsSeated extent (seat_view (λ b. mind b) seat)) }
+    ensures crew { crew.new.items
+        ≡ take (length crew.old.items - (if row.now.start then 1 else 0)) crew.old.items }
+{
+    roles_keep_limits();
     Ok(Seat {
-        actor,
+        actor: starter(alloc, crew, me, row)?,
         inbox: Answer::Start,
         outbox: Call::Ask,
         ready: false,
     })
 }
 
-/// Each actor of a deployment takes a context of the crew, the first one the first, and is cast in its role. The crew
-/// keeps those that aren't taken.
+/// There is a seat for each actor of a deployment. One that starts takes the next context of the crew, and is cast in
+/// its role.
 pub fn seat_all(
     alloc: Global,
     crew: &mut Vec<Box<dyn Actor + Send>>,
@@ -70,17 +100,64 @@ pub fn seat_all(
         ≡ first_minds deployment.now) }
     ensures seated { IfOk result (λ seats. All (IsSeated (extent_of deployment.now))
         (seat_views (λ b. mind b) seats.items)) }
-    ensures rest { OnOk result (crew.new.items
-        ≡ drop (length deployment.now.actors) crew.old.items) }
+    ensures crew { OnOk result (StartsFrom deployment.now crew.old.items crew.new.items) }
+    ensures left { OnErr result (StartsUpTo deployment.now crew.old.items crew.new.items) }
 {
     let rows = deployment.actors();
-    let mut left = take_first(crew, rows.len())?;
     let mut seats = Vec::with_capacity(alloc, rows.len())?;
     for (i, row) in rows.iter().enumerate() {
-        let Some(context) = left.pop() else {
-            unreachable!()
-        };
-        seats.push_reserved(seat(alloc, context, ActorId(i as u32 + 1), &row.function)?);
+        seats.push_reserved(seat(alloc, crew, ActorId(i as u32 + 1), row)?);
     }
     Ok(seats)
+}
+
+// An actor that begins takes the next context of the crew, and its seat. Without memory the context is lost.
+fn take_seat(
+    plan: &Plan<'_>,
+    crew: &mut Vec<Box<dyn Actor + Send>>,
+    seats: &mut [Seat],
+    actor: ActorId,
+) -> Result<(), Memory>
+    requires some { 0 < length crew.old.items }
+    requires blank { AreBlank (λ b. mind b) crew.old.items }
+    requires actor { IsActorIn (extent_of plan.now.deployment.now) actor }
+    requires seats { AreSeatsOf plan.now.deployment.now (seat_views (λ b. mind b) seats.old) }
+    ensures minds { OnOk result (minds_of (seat_views (λ b. mind b) seats.new)
+        ≡ minds_with (firsts_of plan.now.deployment.now) actor.0
+        (minds_of (seat_views (λ b. mind b) seats.old))) }
+    ensures seats { AreSeatsOf plan.now.deployment.now (seat_views (λ b. mind b) seats.new) }
+    ensures crew { crew.new.items ≡ take (length crew.old.items - 1) crew.old.items }
+{
+    roles_keep_limits();
+    let place = actor.0 as usize - 1;
+    let row = &plan.deployment.actors()[place];
+    let context = take_context(plan.alloc, crew, actor, &row.function)?;
+    seats[place].actor = Some(context);
+    Ok(())
+}
+
+/// The same, if the actor is given its beginning; else all stays as it is.
+pub fn seat_if(
+    plan: &Plan<'_>,
+    crew: &mut Vec<Box<dyn Actor + Send>>,
+    seats: &mut [Seat],
+    actor: ActorId,
+    given: bool,
+) -> Result<(), Memory>
+    requires some { IsTrue given → 0 < length crew.old.items }
+    requires blank { AreBlank (λ b. mind b) crew.old.items }
+    requires actor { IsActorIn (extent_of plan.now.deployment.now) actor }
+    requires seats { AreSeatsOf plan.now.deployment.now (seat_views (λ b. mind b) seats.old) }
+    ensures minds { OnOk result (minds_of (seat_views (λ b. mind b) seats.new)
+        ≡ minds_if given (firsts_of plan.now.deployment.now) actor.0
+        (minds_of (seat_views (λ b. mind b) seats.old))) }
+    ensures seats { AreSeatsOf plan.now.deployment.now (seat_views (λ b. mind b) seats.new) }
+    ensures crew { crew.new.items
+        ≡ take (length crew.old.items - (if given then 1 else 0)) crew.old.items }
+{
+    if given {
+        take_seat(plan, crew, seats, actor)
+    } else {
+        Ok(())
+    }
 }

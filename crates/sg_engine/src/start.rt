@@ -1,36 +1,40 @@
 //! The beginning of a run.
-ghost use Rattle.std.specs.Prelude.{◌≡◌, ◌≢◌, ◌≤◌, IfOk, length, All};
+ghost use Rattle.std.specs.Prelude.{◌≡◌, ◌≢◌, IfOk, OnErr, length};
 ghost use Rattle.sg_edge.specs.Files.{PartView};
 ghost use Rattle.sg_edge.specs.declared.files.Stage.TheVariants.{Fresh};
-ghost use Rattle.sg_rows.specs.Deployment.{extent_of};
-ghost use Rattle.sg_engine.specs.kept.Invariant.{minds_in, places_in, IsFirst};
-ghost use Rattle.sg_engine.specs.Roles.{first_minds};
-ghost use Rattle.sg_engine.specs.kept.SeatRules.{IsSeated};
+ghost use Rattle.sg_engine.specs.RunContract.{HasContexts};
+ghost use Rattle.sg_engine.specs.kept.Invariant.{IsFirst, StartsFrom, StartsUpTo};
 
 use crate::buffer::Buffer;
 use crate::plan::Plan;
+use crate::seating::seat_all;
 use crate::simulation::Simulation;
-use sg_actor::{Actor, Seat};
+use sg_actor::Actor;
 use sg_base::Memory;
 use sg_kernel::Kernel;
 use sg_script::Script;
-use std::alloc::Global;
+use std::mem;
 
-/// The simulation of a plan, in which nothing has happened yet, with these seats.
-pub fn start(alloc: Global, plan: &Plan<'_>, seats: Vec<Seat>) -> Result<Simulation, Memory>
-    ensures seats { IfOk result (λ sim. sim.seats.items ≡ seats.items) }
+/// The simulation of a plan, in which nothing has happened yet, with the whole crew: the actors that start have taken
+/// contexts from its end. Without memory the crew keeps those that aren't taken.
+pub fn start(plan: &Plan<'_>, crew: &mut Vec<Box<dyn Actor + Send>>) -> Result<Simulation, Memory>
+    requires { HasContexts (λ b. mind b) crew.old.items plan.now.deployment.now }
     ensures first { IfOk result (λ sim. (part : PartView) → part.stage ≢ Fresh →
-        minds_in (λ b. mind b) sim ≡ first_minds plan.now.deployment.now →
-        All (IsSeated (extent_of plan.now.deployment.now)) (places_in (λ b. mind b) sim) →
         IsFirst (λ b. mind b) plan.now.platform.now plan.now.deployment.now plan.now.terms.budget
-        part sim) }
+        (length crew.old.items) part sim) }
+    ensures crew { IfOk result (λ sim. StartsFrom plan.now.deployment.now crew.old.items
+        sim.crew.items) }
+    ensures left { OnErr result (StartsUpTo plan.now.deployment.now crew.old.items crew.new.items) }
 {
+    let alloc = plan.alloc;
     let actors = plan.deployment.actors().len();
+    let seats = seat_all(alloc, crew, plan.deployment)?;
     Ok(Simulation {
         script: Script::new(alloc, actors as u32)?,
         calls: Vec::with_capacity(alloc, actors)?,
         buffer: Buffer::new(alloc)?,
         kernel: Kernel::new(alloc, plan.platform, plan.deployment, plan.terms.budget)?,
         seats,
+        crew: mem::replace(crew, Vec::new(alloc)),
     })
 }

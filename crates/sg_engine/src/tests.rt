@@ -1,7 +1,8 @@
 //! Runs with small budgets, with and without a script, and with crews of every kind.
-ghost use Rattle.std.specs.Prelude.{◌≡◌, ◌≢◌, ◌<◌, IfOk, IsTrue};
+ghost use Rattle.std.specs.Prelude.{◌≡◌, ◌≢◌, ◌<◌, ◌≤◌, IfOk, IsTrue};
 ghost use Rattle.sg_edge.specs.declared.files.Stage.TheVariants.{Fresh};
 ghost use Rattle.sg_route.specs.Roads.{roads_of};
+ghost use Rattle.sg_rows.specs.Deployment.{started_number};
 
 use crate::{Ended, Setup, Show, run};
 use sg_actor::{Actor, PlainContext, Role, TapeContext, all_blank};
@@ -9,7 +10,7 @@ use sg_base::{Answer, Call, Child, Memory, PointId, Steps, ZoneId};
 use sg_edge::{Files, MemFiles, MemSinks, Part, Sinks, Stream};
 use sg_platform::{read_deployment, read_platform};
 use sg_route::Router;
-use sg_rows::PlatformText;
+use sg_rows::{Deployment, PlatformText};
 use sg_script::LineFault;
 use sg_zones::Zones;
 use std::alloc::Global;
@@ -46,7 +47,7 @@ host = 'h3'
 function = 'replay'
 ";
 
-/// Three actors.
+/// Three actors, of which the last doesn't start by itself.
 const THREE: &str = "[[actor]]
 name = 'p0'
 host = 'h1'
@@ -59,6 +60,7 @@ function = 'replay'
 name = 'p2'
 host = 'h1'
 function = 'replay'
+start = false
 ";
 
 /// A master that has one task, and its worker.
@@ -346,6 +348,16 @@ const NO_ROUTE: Ended = Ended::NoRoute {
     b: Child::Point(PointId(2)),
 };
 
+// Whether a crew of so many contexts has one for each actor.
+fn are_enough(deployment: &Deployment, contexts: usize) -> bool
+    ensures { IsTrue result → started_number deployment.now ≤ contexts }
+{
+    if contexts < deployment.actors().len() {
+        return false;
+    }
+    true
+}
+
 // A run that counts its own steps.
 fn run_counted<R: Threads + Sync + Abort, F: Files, O: Sinks, L: Ledger>(
     rt: &R,
@@ -366,7 +378,7 @@ fn run_counted<R: Threads + Sync + Abort, F: Files, O: Sinks, L: Ledger>(
     let mut steps = Steps::<L>::new(blank);
     let (threads, budget, show) = terms;
     assert!(rt; budget <= 1000 && 0 < threads);
-    assert!(rt; setup.deployment.actors().len() <= crew.len());
+    assert!(rt; are_enough(&setup.deployment, crew.len()));
     assert!(rt; all_blank(crew.as_slice()));
     run(
         rt, alloc, setup, files, crew, threads, budget, show, out, &mut steps,
@@ -436,11 +448,13 @@ fn numbered_crew(alloc: Global, sum: &Arc<AtomicU64>) -> Result<Vec<Box<dyn Acto
 }
 
 #[test]
-fn each_actor_takes_the_context_of_its_place(rt: HostRuntime) -> Result<(), Fail> {
+fn actors_take_contexts_in_their_order(rt: HostRuntime) -> Result<(), Fail> {
     let alloc = rt.alloc();
     let sum = Arc::new(alloc, AtomicU64::new(0))?;
     let mut crew = numbered_crew(alloc, &sum)?;
-    let (ended, _) = ends_with(&rt, alloc, THREE, Some(""), &mut crew, (1, 1000, Show::All))?;
+    let script = Some("p0 create p2\np0 create p2\n");
+    let terms = (1, 1000, Show::All);
+    let (ended, _) = ends_with(&rt, alloc, THREE, script, &mut crew, terms)?;
     assert_eq!(rt; ended, Ended::Completed);
     assert_eq!(rt; crew.len(), 1);
     assert_eq!(rt; sum.load(Ordering::SeqCst), 321);

@@ -1,13 +1,13 @@
 //! The turns of a round.
 ghost use Rattle.std.specs.Prelude.{◌≡◌, ◌+◌, ◌<◌, ◌≤◌, ◌++◌, [], length, map, take, drop, All, vec_capacity};
+ghost use Rattle.std.specs.Option.{is_some};
 ghost use Rattle.sg_base.specs.Limits.{IsCall};
 ghost use Rattle.sg_actor.specs.Seats.{after, CanTurn, KeepsLimits, seat_view, seat_views};
 ghost use Rattle.sg_kernel.specs.World.{extent};
-ghost use Rattle.sg_states.specs.Actors.{is_ready};
 ghost use Rattle.sg_engine.specs.declared.actor_call.ActorCall.{ActorCall};
 ghost use Rattle.sg_engine.specs.kept.CallList.{call_list, with_call};
 ghost use Rattle.sg_engine.specs.Run.{zip_with, mind_after, call_after, inboxes};
-ghost use Rattle.sg_engine.specs.kept.SeatRules.{minds_of, IsCast, IsSeated, readiness, with_answer, call_in, at_rest};
+ghost use Rattle.sg_engine.specs.kept.SeatRules.{minds_of, AreQueued, IsSeated, with_answer, call_in, at_rest};
 
 use crate::actor_call::ActorCall;
 use sg_actor::{Actor, Seat, run_round, seats_keep_limits};
@@ -15,14 +15,26 @@ use sg_base::{ActorId, Answer, Call};
 use sg_kernel::Kernel;
 use std::thread::Threads;
 
-// Puts an answer into a seat, if there is one.
+// Whether somebody sits there who has begun.
+fn has_mind<A: Actor>(seat: &Seat<A>) -> bool
+    ensures { result ≡ is_some (seat_view A.mind seat.now).mind }
+{
+    match &seat.actor {
+        Some(actor) => !actor.is_blank(),
+        None => false,
+    }
+}
+
+// Puts an answer into a seat, if there is one and the seat's actor has begun.
 fn offer_one<A: Actor>(seat: &mut Seat<A>, answer: Option<Answer>)
     ensures { seat_view A.mind seat.new ≡ with_answer (seat_view A.mind seat.old) answer }
 {
     match answer {
         Some(answer) => {
-            seat.inbox = answer;
-            seat.ready = true;
+            if has_mind(seat) {
+                seat.inbox = answer;
+                seat.ready = true;
+            }
         }
         None => {}
     }
@@ -85,9 +97,8 @@ fn turn_some<R: Threads + Sync>(rt: &R, seats: &mut [Seat], from: usize, to: usi
 fn turn_all<R: Threads + Sync>(rt: &R, kernel: &Kernel, seats: &mut [Seat], threads: u32)
     requires threads { 0 < threads }
     requires number { length seats.old ≡ length kernel.now.core.actors }
-    requires ready { map readiness (seat_views (λ b. mind b) seats.old)
-        ≡ map is_ready kernel.now.core.actors }
-    requires cast { All IsCast (seat_views (λ b. mind b) seats.old) }
+    requires queued { AreQueued (seat_views (λ b. mind b) seats.old) kernel.now.core.actors }
+    requires can { All CanTurn (seat_views (λ b. mind b) seats.old) }
     ensures { seat_views (λ b. mind b) seats.new ≡ map after (seat_views (λ b. mind b) seats.old) }
 {
     let queue = kernel.run_queue();
@@ -128,8 +139,7 @@ fn collect_one<A: Actor>(seat: &mut Seat<A>) -> Option<Call>
 // The calls that were made take the place of those before, and their actors rest.
 fn collect<A: Actor>(kernel: &Kernel, seats: &mut [Seat<A>], calls: &mut Vec<ActorCall>)
     requires number { length seats.old ≡ length kernel.now.core.actors }
-    requires ready { map readiness (seat_views A.mind seats.old)
-        ≡ map is_ready kernel.now.core.actors }
+    requires queued { AreQueued (seat_views A.mind seats.old) kernel.now.core.actors }
     requires room { length seats.old ≤ vec_capacity calls.old }
     ensures seats { seat_views A.mind seats.new ≡ map at_rest (seat_views A.mind seats.old) }
     ensures calls { calls.new.items ≡ call_list 1 (map call_in (seat_views A.mind seats.old)) }

@@ -1,10 +1,9 @@
 //! The whole run.
-ghost use Rattle.std.specs.Prelude.{◌≡◌, ◌≢◌, ◌+◌, ◌<◌, ◌≤◌, ⊤, drop, IsTrue, MatchBool};
+ghost use Rattle.std.specs.Prelude.{◌≡◌, ◌≢◌, ◌+◌, ◌<◌, ◌≤◌, ⊤, length, IsTrue, MatchBool};
 ghost use Rattle.sg_edge.specs.declared.files.Stage.TheVariants.{Fresh, Broken};
 ghost use Rattle.sg_edge.specs.Cause.{HasCause};
-ghost use Rattle.sg_engine.specs.RunContract.{is_cut as is_cut_spec, ForSources, HasContexts, IsRun, IsRunCause, StandsAsBefore, TakesScript, output_of};
-ghost use Rattle.sg_engine.specs.kept.Invariant.{Holds, IsBeginning};
-ghost use Rattle.sg_engine.specs.Output.{contexts_of};
+ghost use Rattle.sg_engine.specs.RunContract.{is_cut as is_cut_spec, ForSources, HasContexts, IsRun, IsRunCause, StandsAsBefore, TakesFirst, TakesScript, output_of};
+ghost use Rattle.sg_engine.specs.kept.Invariant.{crew_in, AreRoadsOf, Holds, IsBeginning, TakesInAll, TakesLast};
 ghost use Rattle.sg_engine.specs.kept.Moments.{script_in, ReadsScript};
 ghost use Rattle.sg_engine.specs.kept.Stretches.{HasRun, planned_output};
 
@@ -12,7 +11,6 @@ use crate::advance::advance;
 use crate::ended::Ended;
 use crate::finish::finish;
 use crate::plan::{Engine, Plan, Terms};
-use crate::seating::seat_all;
 use crate::setup::Setup;
 use crate::show::Show;
 use crate::simulation::Simulation;
@@ -22,6 +20,7 @@ use sg_base::{Memory, Steps};
 use sg_edge::{Files, Part, Sinks, Stream};
 use sg_route::Router;
 use std::alloc::Global;
+use std::mem;
 use std::sync::ledger::Ledger;
 use std::thread::Threads;
 
@@ -37,12 +36,13 @@ fn simulate<R: Threads + Sync, F: Files, O: Sinks, L: Ledger>(
     requires beginning { IsBeginning (λ b. mind b) engine.now.plan (F.shows files.old) router.old
         sim.old }
     requires sound { O.faults out.old ≡ 0 }
-    ensures run { HasRun engine.now.plan result sim.new steps.old steps.new
-        (script_in engine.now.plan (F.shows files.old))
+    ensures run { HasRun engine.now.plan (crew_in engine.now.plan sim.old) result sim.new
+        steps.old steps.new (script_in engine.now.plan (F.shows files.old))
         (script_in engine.now.plan (F.shows files.new))
         (O.contents out.old Stream.Out) (O.contents out.new Stream.Out) }
     ensures kept { MatchBool (is_cut_spec result) ⊤
         (Holds (λ b. mind b) engine.now.plan (F.shows files.new) sim.new) }
+    ensures crew { TakesInAll sim.old sim.new }
     ensures err { O.contents out.new Stream.Err ≡ O.contents out.old Stream.Err }
     ensures cause { HasCause (result ≡ Ended.WriteFault) (result ≡ Ended.ReadFault)
         (O.faults out.new) ((script_in engine.now.plan (F.shows files.new)).stage ≡ Broken) }
@@ -90,8 +90,10 @@ fn run_from<R: Threads + Sync, F: Files, O: Sinks, L: Ledger>(
         sim.old }
     requires sound { O.faults out.old ≡ 0 }
     ensures output { ForSources engine.now.plan.script (F.shows files.old) (F.shows files.new)
-        (λ source. IsRun (planned_output engine.now.plan source) result (O.contents out.old)
-        (O.contents out.new) steps.old steps.new (F.shows files.old) (F.shows files.new)) }
+        (λ source. IsRun (planned_output engine.now.plan (crew_in engine.now.plan sim.old) source)
+        result (O.contents out.old) (O.contents out.new) (crew_in engine.now.plan sim.old)
+        (length sim.new.crew.items) steps.old steps.new (F.shows files.old) (F.shows files.new)) }
+    ensures crew { TakesInAll sim.old sim.new }
     ensures cause { IsRunCause result (O.faults out.new) (F.shows files.old) (F.shows files.new) }
     ensures memory { result ≡ Ended.Memory →
         O.contents out.new Stream.Err ≡ O.contents out.old Stream.Err }
@@ -102,20 +104,57 @@ fn run_from<R: Threads + Sync, F: Files, O: Sinks, L: Ledger>(
     if is_cut(how) {
         how
     } else {
-        finish(&engine.plan, sim, how, out)
+        finish(&engine.plan, &sim.kernel, how, &mut sim.buffer, out)
+    }
+}
+
+// Runs the actors of a plan to the end of the run. They take contexts from the end of the crew.
+fn run_plan<R: Threads + Sync, F: Files, O: Sinks, L: Ledger>(
+    engine: &Engine<'_, '_, R>,
+    router: &mut Router,
+    crew: &mut Vec<Box<dyn Actor + Send>>,
+    files: &mut F,
+    out: &mut O,
+    steps: &mut Steps<L>,
+) -> Ended
+    requires begun { IsTrue engine.now.plan.script
+        → (F.shows files.old Part.Script).stage ≢ Fresh }
+    requires crew { HasContexts (λ b. mind b) crew.old.items engine.now.plan.deployment.now }
+    requires roads { AreRoadsOf engine.now.plan.platform.now router.old }
+    requires sound { O.faults out.old ≡ 0 }
+    ensures output { ForSources engine.now.plan.script (F.shows files.old) (F.shows files.new)
+        (λ source. IsRun (planned_output engine.now.plan (length crew.old.items) source) result
+        (O.contents out.old) (O.contents out.new) (length crew.old.items) (length crew.new.items)
+        steps.old steps.new (F.shows files.old) (F.shows files.new)) }
+    ensures crew { TakesLast engine.now.plan.deployment.now result crew.old.items crew.new.items }
+    ensures cause { IsRunCause result (O.faults out.new) (F.shows files.old) (F.shows files.new) }
+    ensures memory { result ≡ Ended.Memory →
+        O.contents out.new Stream.Err ≡ O.contents out.old Stream.Err }
+    ensures script { TakesScript F.shows engine.now.plan.script files.old files.new }
+    ensures router { router.new ≡ router.old }
+{
+    match start(&engine.plan, crew) {
+        Ok(mut sim) => {
+            let how = run_from(engine, router, &mut sim, files, out, steps);
+            mem::swap(crew, &mut sim.crew);
+            how
+        }
+        Err(Memory) => Ended::Memory,
     }
 }
 
 /// Runs the actors of a setup to the end of the run, and writes its lines.
 ///
-/// The i-th actor takes the i-th context of the crew, which has those that aren't taken afterwards. Each round takes its
-/// turns on up to so many threads at once; how many can't be seen in anything that is written. The script is read
-/// while the run goes on, and only as far as an actor asks for its lines. `budget` is the most events that there may
-/// be, and `steps` counts the looks at uses of hosts and links. What the setup stands for stays as it was.
+/// Each actor that starts takes a context of the crew, the first one the first, and each that is created the next; the
+/// crew has those that aren't taken afterwards. Each round takes its turns on up to so many threads at once; how many
+/// can't be seen in anything that is written. The script is read while the run goes on, and only as far as an actor asks
+/// for its lines. `budget` is the most events that there may be, and `steps` counts the looks at uses of hosts and
+/// links. What the setup stands for stays as it was.
 ///
-/// What is written, and the end, are those of the definition, for what the script's part gives, and the looks are at
-/// most as many as its passes may take. Of the script at most 4,095 bytes more are taken than the Asks of the run need.
-/// Memory is taken at the beginning, before each round, and for lines of the script, and none once the run has ended.
+/// What is written, the end, and how many contexts are taken, are those of the definition, for what the script's part
+/// gives, and the looks are at most as many as its passes may take. Of the script at most 4,095 bytes more are taken than
+/// the Asks of the run need. Memory is taken at the beginning, before each round, for actors that are created and for
+/// lines of the script, and none once the run has ended.
 pub fn run<R: Threads + Sync, F: Files, O: Sinks, L: Ledger>(
     rt: &R,
     alloc: Global,
@@ -134,10 +173,10 @@ pub fn run<R: Threads + Sync, F: Files, O: Sinks, L: Ledger>(
     requires crew { HasContexts (λ b. mind b) crew.old.items setup.old.deployment }
     requires sound { O.faults out.old ≡ 0 }
     ensures output { ForSources setup.old.script (F.shows files.old) (F.shows files.new)
-        (λ source. IsRun (output_of setup.old budget show source) result (O.contents out.old)
-        (O.contents out.new) steps.old steps.new (F.shows files.old) (F.shows files.new)) }
-    ensures crew { result ≢ Ended.Memory →
-        crew.new.items ≡ drop (contexts_of setup.old.deployment) crew.old.items }
+        (λ source. IsRun (output_of setup.old budget (length crew.old.items) show source) result
+        (O.contents out.old) (O.contents out.new) (length crew.old.items) (length crew.new.items)
+        steps.old steps.new (F.shows files.old) (F.shows files.new)) }
+    ensures crew { TakesFirst setup.old.deployment result crew.old.items crew.new.items }
     ensures cause { IsRunCause result (O.faults out.new) (F.shows files.old) (F.shows files.new) }
     ensures memory { result ≡ Ended.Memory →
         O.contents out.new Stream.Err ≡ O.contents out.old Stream.Err }
@@ -145,6 +184,7 @@ pub fn run<R: Threads + Sync, F: Files, O: Sinks, L: Ledger>(
     ensures setup { StandsAsBefore setup.old setup.new }
 {
     let plan = Plan {
+        alloc,
         platform: &setup.platform,
         deployment: &setup.deployment,
         script: setup.script,
@@ -154,16 +194,10 @@ pub fn run<R: Threads + Sync, F: Files, O: Sinks, L: Ledger>(
             show,
         },
     };
-    let seats = match seat_all(alloc, crew, plan.deployment) {
-        Ok(seats) => seats,
-        Err(Memory) => return Ended::Memory,
-    };
-    match start(alloc, &plan, seats) {
-        Ok(mut sim) => {
-            let engine = Engine { rt, plan };
-            let router = &mut setup.router;
-            run_from(&engine, router, &mut sim, files, out, steps)
-        }
-        Err(Memory) => Ended::Memory,
-    }
+    let engine = Engine { rt, plan };
+    // The next context stands last while the run goes on.
+    crew.reverse();
+    let how = run_plan(&engine, &mut setup.router, crew, files, out, steps);
+    crew.reverse();
+    how
 }

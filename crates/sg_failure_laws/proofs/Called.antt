@@ -17,7 +17,8 @@ use Rattle.sg_requests.specs.Requested.{oldest, queue_at, taken}
 use Rattle.sg_route.specs.declared.router.RouteFault.{RouteFault}
 use Rattle.sg_route.specs.Roads.{Roads}
 use Rattle.sg_route.specs.Route.{Route}
-use Rattle.sg_states.specs.Actors.{Blocking, blocking_in}
+use Rattle.sg_states.specs.declared.state.Blocking.{Blocking}
+use Rattle.sg_states.specs.Actors.{blocking_in, is_alive, is_ended, joiners}
 use Rattle.sg_states.specs.Records.{record_of}
 use Rattle.sg_sync.specs.declared.outcome.Outcome.{Outcome}
 use Rattle.sg_sync.specs.declared.outcome.Outcome.TheVariants.{GoesOn, Waits, Refused}
@@ -30,13 +31,18 @@ use Rattle.sg_kernel.specs.declared.stop.Stop.{Stop}
 use Rattle.sg_kernel.specs.declared.stop.Stop.TheVariants.{Budget}
 use Rattle.sg_kernel.specs.Answers.{answers_by, answers_side, for_receiver, is_on, side_of, with_over}
 use Rattle.sg_kernel.specs.Calls.{actor_of, answered_call, executes}
+use Rattle.sg_kernel.specs.Kills.{awaited, kill_stretches, withdrawn}
+use Rattle.sg_kernel.specs.Lives.{joins_by, leaves}
 use Rattle.sg_kernel.specs.Locks.{all_wake, caller_first, caller_gets, caller_last, wakes, wakes_from, with_objects}
 use Rattle.sg_kernel.specs.Meetings.{answer_of_over, both_fail, comer_fails, comes, comes_by, fails_with, joined, joins_over, joins_with, other_fails, posts_at, receiver_of, receives_by, route_between, sender_of, sends_by, takes_part, takes_part_failed, waits_by, waits_until}
-use Rattle.sg_kernel.specs.Steps.{Step, stops, counted, follows, and_then, each, at_once}
+use Rattle.sg_kernel.specs.Steps.{Step, stops, counted, follows, and_then, each, all_of, at_once}
 use Rattle.sg_kernel.specs.World.{Setup, Core, state_of, whose_at}
 use Rattle.sg_kernel.proofs.Each.{eq_no}
 use Rattle.sg_kernel.proofs.Ends.{answers_side_goes}
-use Rattle.sg_failure_laws.specs.Laws.{CallsTell, TellsCaller, call_fails, has_failed, is_failed, meeting_fails, only_posts, side_fails, wait_fails, way_fails}
+use Rattle.sg_failure_laws.specs.Laws.{CallsTell, TellsCaller, TellsKill, call_fails, has_failed, is_failed, kills_one, meeting_fails, only_posts, side_fails, wait_fails, way_fails}
+use Rattle.sg_failure_laws.proofs.Killed.{kill_tells}
+use Rattle.sg_failure_laws.proofs.Passed.{just}
+use Rattle.sg_failure_laws.proofs.Reached.{kill_reaches}
 
 abbrev TellsIt : Record → Type 0
 TellsIt told = (only_posts told.what || is_failed told.end) ≡ true
@@ -45,9 +51,6 @@ abbrev GoesWell : Record → Type 0
 GoesWell told = is_failed told.end ≡ false
 
 -- ---- records of steps
-just : (P : Record → Type 0) (told : Record) → P told → All P (told ∷ [])
-just P told is = All-cons P told [] is (All-nil P)
-
 cond_all : (P : Record → Type 0) (b : Bool) (one other : Step) → All P one.made → All P other.made → All P (cond b one other).made
 cond_all P true one other p q = p
 cond_all P false one other p q = q
@@ -116,25 +119,37 @@ waits_well actor core (Some on) e = until (whose_at core on.serial.0) e
     until (Posted mailbox sends side) e = All-nil GoesWell
     until (Pair sender receiver) e = All-nil GoesWell
 
-call_well : (roads : Roads) (setup : Setup) (core : Core) (actor : ℕ) (what : Call) → call_fails roads setup core actor what ≡ false → All GoesWell (answered_call roads setup core actor what).made
-call_well roads setup core actor call.Ask e = All-nil GoesWell
-call_well roads setup core actor (call.Compute n p) e =
+join_well : (ended : Bool) (actor : ℕ) (target : ActorId) (core : Core) → All GoesWell (joins_by ended actor target core).made
+join_well true actor target core = just GoesWell _ refl
+join_well false actor target core = All-nil GoesWell
+
+call_well : (roads : Roads) (setup : Setup) (core : Core) (actor : ℕ) (what : Call) → call_fails roads setup core actor what ≡ false → kills_one core what ≡ false → All GoesWell (answered_call roads setup core actor what).made
+call_well roads setup core actor call.Ask e spared = All-nil GoesWell
+call_well roads setup core actor (call.Compute n p) e spared =
     let failed = at_once actor (call.Compute n p) 0 answer.Failed (counted core) in
     let begun = executes setup actor n p (counted core) in
     subst (λ b. All GoesWell (cond b failed begun).made) (sym e) (All-nil GoesWell)
-call_well roads setup core actor (call.Sleep n) e = All-nil GoesWell
-call_well roads setup core actor (call.Send b n m r) e = comes_well roads setup (sends_by (side_of actor n m r) (call.Send b n m r) true b) core e
-call_well roads setup core actor (call.Recv b) e = comes_well roads setup (receives_by actor (call.Recv b) true b) core e
-call_well roads setup core actor (call.ISend b n m r) e = comes_well roads setup (sends_by (side_of actor n m r) (call.ISend b n m r) false b) core e
-call_well roads setup core actor (call.IRecv b) e = comes_well roads setup (receives_by actor (call.IRecv b) false b) core e
-call_well roads setup core actor call.Wait e = waits_well actor core (oldest (queue_at core.requests actor)) e
-call_well roads setup core actor (call.Lock n) e = first_well (locked (actor_of actor) n core.objects) actor (call.Lock n) (counted core)
-call_well roads setup core actor (call.Unlock n) e = first_well (unlocked (actor_of actor) n core.objects) actor (call.Unlock n) (counted core)
-call_well roads setup core actor (call.Acquire n) e = first_well (acquired (actor_of actor) n core.objects) actor (call.Acquire n) (counted core)
-call_well roads setup core actor (call.Release n) e = first_well (released n core.objects) actor (call.Release n) (counted core)
-call_well roads setup core actor call.Barrier e = last_well (arrived (actor_of actor) core.objects) actor call.Barrier (counted core)
-call_well roads setup core actor call.Yield e = just GoesWell _ refl
-call_well roads setup core actor call.Exit e = All-nil GoesWell
+call_well roads setup core actor (call.Sleep n) e spared = All-nil GoesWell
+call_well roads setup core actor (call.Send b n m r) e spared = comes_well roads setup (sends_by (side_of actor n m r) (call.Send b n m r) true b) core e
+call_well roads setup core actor (call.Recv b) e spared = comes_well roads setup (receives_by actor (call.Recv b) true b) core e
+call_well roads setup core actor (call.ISend b n m r) e spared = comes_well roads setup (sends_by (side_of actor n m r) (call.ISend b n m r) false b) core e
+call_well roads setup core actor (call.IRecv b) e spared = comes_well roads setup (receives_by actor (call.IRecv b) false b) core e
+call_well roads setup core actor call.Wait e spared = waits_well actor core (oldest (queue_at core.requests actor)) e
+call_well roads setup core actor (call.Lock n) e spared = first_well (locked (actor_of actor) n core.objects) actor (call.Lock n) (counted core)
+call_well roads setup core actor (call.Unlock n) e spared = first_well (unlocked (actor_of actor) n core.objects) actor (call.Unlock n) (counted core)
+call_well roads setup core actor (call.Acquire n) e spared = first_well (acquired (actor_of actor) n core.objects) actor (call.Acquire n) (counted core)
+call_well roads setup core actor (call.Release n) e spared = first_well (released n core.objects) actor (call.Release n) (counted core)
+call_well roads setup core actor call.Barrier e spared = last_well (arrived (actor_of actor) core.objects) actor call.Barrier (counted core)
+call_well roads setup core actor (call.Create n) e spared = just GoesWell _ refl
+call_well roads setup core actor (call.Join n) e spared = join_well (is_ended (state_of core n.0)) actor n (counted core)
+call_well roads setup core actor (call.Kill n) e spared =
+    let alive = all_of (kill_stretches actor n (awaited n core)) (withdrawn n (counted core)) in
+    let over = at_once actor (call.Kill n) 0 answer.Done (counted core) in
+    subst (λ b. All GoesWell (cond b alive over).made) (sym spared) (just GoesWell _ refl)
+call_well roads setup core actor (call.Suspend n) e spared = just GoesWell _ refl
+call_well roads setup core actor (call.Resume n) e spared = just GoesWell _ refl
+call_well roads setup core actor call.Yield e spared = just GoesWell _ refl
+call_well roads setup core actor call.Exit e spared = each_all GoesWell wakes wakes_well (joiners actor 1 (leaves actor core).actors) (leaves actor (counted core))
 
 -- ---- what fails
 or_true : (b : Bool) → (b || true) ≡ true
@@ -212,6 +227,11 @@ call_told roads setup core actor (call.Unlock n) e = absurd (cc e)
 call_told roads setup core actor (call.Acquire n) e = absurd (cc e)
 call_told roads setup core actor (call.Release n) e = absurd (cc e)
 call_told roads setup core actor call.Barrier e = absurd (cc e)
+call_told roads setup core actor (call.Create n) e = absurd (cc e)
+call_told roads setup core actor (call.Join n) e = absurd (cc e)
+call_told roads setup core actor (call.Kill n) e = absurd (cc e)
+call_told roads setup core actor (call.Suspend n) e = absurd (cc e)
+call_told roads setup core actor (call.Resume n) e = absurd (cc e)
 call_told roads setup core actor call.Yield e = absurd (cc e)
 call_told roads setup core actor call.Exit e = absurd (cc e)
 
@@ -291,6 +311,11 @@ call_own roads setup core actor (call.Unlock n) e waits = absurd (cc e)
 call_own roads setup core actor (call.Acquire n) e waits = absurd (cc e)
 call_own roads setup core actor (call.Release n) e waits = absurd (cc e)
 call_own roads setup core actor call.Barrier e waits = absurd (cc e)
+call_own roads setup core actor (call.Create n) e waits = absurd (cc e)
+call_own roads setup core actor (call.Join n) e waits = absurd (cc e)
+call_own roads setup core actor (call.Kill n) e waits = absurd (cc e)
+call_own roads setup core actor (call.Suspend n) e waits = absurd (cc e)
+call_own roads setup core actor (call.Resume n) e waits = absurd (cc e)
 call_own roads setup core actor call.Yield e waits = absurd (cc e)
 call_own roads setup core actor call.Exit e waits = absurd (cc e)
 
@@ -301,5 +326,11 @@ calls_tell roads setup core actor what =
     record {
       fails = λ e. cond_all TellsIt used (stops core [] Budget) step (All-nil TellsIt) (call_told roads setup core actor what e);
       caller = λ e waits left. subst (λ b. TellsCaller actor what (cond b (stops core [] Budget) step).made) (sym (eq_no core.events setup.budget left)) (call_own roads setup core actor what e waits);
-      goes_well = λ e. cond_all GoesWell used (stops core [] Budget) step (All-nil GoesWell) (call_well roads setup core actor what e);
+      goes_well = λ e spared. cond_all GoesWell used (stops core [] Budget) step (All-nil GoesWell) (call_well roads setup core actor what e spared);
+      kills = λ target is alive.
+          cond_all (TellsKill actor target core) used (stops core [] Budget) step (All-nil (TellsKill actor target core))
+          (subst (λ c. All (TellsKill actor target core) (answered_call roads setup core actor c).made) (sym is) (kill_tells actor target core alive));
+      reaches = λ target is alive may left other since called on side.
+          subst (λ b. TellsCaller other called (cond b (stops core [] Budget) step).made) (sym (eq_no core.events setup.budget left))
+          (subst (λ c. TellsCaller other called (answered_call roads setup core actor c).made) (sym is) (kill_reaches actor target core alive may other since called on side));
     }

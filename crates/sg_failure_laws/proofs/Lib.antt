@@ -1,3 +1,5 @@
 pub mod Passed
+pub mod Killed
+pub mod Reached
 pub mod Called
 pub mod Others

@@ -1,5 +1,5 @@
 -- Who is told a failure in a pass.
-use Rattle.std.proofs.Common.{◌≡◌, ℕ, ◌+◌, ◌-◌, ◌==◌, ◌&&◌, Bool, true, false, cond, inl, inr, Option, None, Some, List, [], ◌∷◌, length, set, get_or, refl, sym, ap, subst, ◌∙◌, arith}
+use Rattle.std.proofs.Common.{◌≡◌, ℕ, ◌+◌, ◌-◌, ◌==◌, ◌&&◌, Bool, true, false, cond, inl, inr, Option, None, Some, List, [], ◌∷◌, zero, suc, length, set, get_or, refl, sym, ap, subst, ◌∙◌, arith}
 use Rattle.std.specs.List.{All}
 use Rattle.std.proofs.lemmas.Bool.{cases_eq, cases_lt}
 use Rattle.std.proofs.lemmas.List.{get_or-set_same, get_or-set_other, get_or_past, length-set}
@@ -19,9 +19,11 @@ use Rattle.sg_profile.specs.declared.entry.Entry.{Entry}
 use Rattle.sg_profile.specs.declared.entry.Entry.TheVariants as entry
 use Rattle.sg_profile.specs.Profiles.{entry_at, rows_at}
 use Rattle.sg_rows.specs.declared.network.Network.{Network}
+use Rattle.sg_states.specs.declared.state.Actor.{Actor}
+use Rattle.sg_states.specs.declared.state.Blocking.{Blocking}
 use Rattle.sg_states.specs.declared.state.State.{State}
 use Rattle.sg_states.specs.declared.state.State.TheVariants.{Ready, Blocked, Ended}
-use Rattle.sg_states.specs.Actors.{Blocking, blocking_in}
+use Rattle.sg_states.specs.Actors.{actor_at, blocking_in, not_suspended, put_state, state_at}
 use Rattle.sg_states.specs.Records.{end_by}
 use Rattle.sg_kernel.specs.declared.owners.How.{How}
 use Rattle.sg_kernel.specs.declared.owners.How.TheVariants as how
@@ -34,6 +36,7 @@ use Rattle.sg_kernel.specs.Passes.{all_fail, applied_if, changes, core_later, en
 use Rattle.sg_kernel.specs.Steps.{Step, goes_on, stops, counted, follows, and_then, each, all_of, replied}
 use Rattle.sg_kernel.specs.World.{Setup, Core, state_of, whose_at}
 use Rattle.sg_kernel.proofs.Skips.{none_set, none_there}
+use Rattle.sg_kernel.proofs.Stated.{blocking_is}
 use Rattle.sg_failure_laws.specs.Laws.{PassesTell, TellsHow, over_by}
 
 -- ---- what steps keep
@@ -59,7 +62,10 @@ record Tidings (ways : How → Bool) (before : Core) (step : Step) : Type 0 wher
   keeps : Keeps ways before step.core
   told : All (Tells ways before step.core) step.made
 
-all_so : (P Q : Record → Type 0) → ((told : Record) → P told → Q told) → (made : List Record) → All P made → All Q made
+pub just : (P : Record → Type 0) (told : Record) → P told → All P (told ∷ [])
+just P told is = All-cons P told [] is (All-nil P)
+
+pub all_so : (P Q : Record → Type 0) → ((told : Record) → P told → Q told) → (made : List Record) → All P made → All Q made
 all_so P Q so made all k d within = so (get_or made k d) (all k d within)
 
 keeps_all : (ways : How → Bool) (core : Core) → Keeps ways core core
@@ -123,19 +129,21 @@ unfolding all_of
 two_tell ways first second core one two = both ways core (first core) (all_of (second ∷ [])) one (last_tells ways second (first core).core (two (first core).core))
 
 -- ---- one is answered
-ready_after : (actors : List State) (place other since : ℕ) (answer : Answer) (what : Call) (on : Option Await) → get_or (set actors place (Ready answer)) other Ended ≡ Blocked what since on → get_or actors other Ended ≡ Blocked what since on
-ready_after actors place other since answer what on e = elim (cases_eq other place) [
-  | inl same ↦ elim (cases_lt place (length actors)) [
-    | inl less ↦ absurd (cc (sym (get_or-set_same actors place (Ready answer) Ended less) ∙ ap (λ k. get_or (set actors place (Ready answer)) k Ended) (sym same) ∙ e))
-    | inr past ↦ absurd (cc (sym (get_or_past (set actors place (Ready answer)) other Ended (omega (arith, past, same, length-set actors place (Ready answer)))) ∙ e))
-  ]
-  | inr apart ↦ sym (get_or-set_other actors place other (Ready answer) Ended apart) ∙ e
-]
+-- what holds of the new one there and of what stands at a place holds of what stands there then
+pub set_there : {X : Type 0} (P : X → Type 0) (xs : List X) (i place : ℕ) (new d : X) → (place ≡ i → P new) → P (get_or xs place d) → P (get_or (set xs i new) place d)
+set_there P [] i place new d p q = q
+set_there P (x ∷ xs) zero zero new d p q = p refl
+set_there P (x ∷ xs) zero (suc place) new d p q = q
+set_there P (x ∷ xs) (suc i) zero new d p q = q
+set_there P (x ∷ xs) (suc i) (suc place) new d p q = set_there P xs i place new d (λ e. p (ap suc e)) q
 
-pub state_is : (state : State) (blocking : Blocking) → blocking_in state ≡ Some blocking → state ≡ Blocked blocking.what blocking.since blocking.on
-state_is (Ready answer) blocking e = absurd (cc e)
-state_is (Blocked what since on) blocking e = (let same : record { what = what; since = since; on = on } ≡ blocking = cc e in ap (λ (b : Blocking). Blocked b.what b.since b.on) same)
-state_is Ended blocking e = absurd (cc e)
+pub put_there : (P : State → Type 0) (actors : List Actor) (actor other : ℕ) (state : State) → (other - 1 ≡ actor - 1 → P state) → P (state_at actors other) → P (state_at (put_state actors actor state) other)
+put_there P actors actor other state p q =
+    set_there (λ (a : Actor). P a.state) actors (actor - 1) (other - 1) (record (actor_at actors actor) { state = state }) (not_suspended Ended) p q
+
+pub ready_after : (actors : List Actor) (actor other since : ℕ) (answer : Answer) (what : Call) (on : Option Await) → state_at (put_state actors actor (Ready answer)) other ≡ Blocked what since on → state_at actors other ≡ Blocked what since on
+ready_after actors actor other since answer what on =
+    put_there (λ state. state ≡ Blocked what since on → state_at actors other ≡ Blocked what since on) actors actor other (Ready answer) (λ same e. absurd (cc e)) (λ e. e)
 
 -- the one side of the activity of this serial
 pub record Awaits (serial : ℕ) (on : Option Await) : Type 0 where
@@ -165,6 +173,11 @@ done_tells (call.Unlock n) message ns = refl
 done_tells (call.Acquire n) message ns = refl
 done_tells (call.Release n) message ns = refl
 done_tells call.Barrier message ns = refl
+done_tells (call.Create n) message ns = refl
+done_tells (call.Join n) message ns = refl
+done_tells (call.Kill n) message ns = refl
+done_tells (call.Suspend n) message ns = refl
+done_tells (call.Resume n) message ns = refl
 done_tells call.Yield message ns = refl
 done_tells call.Exit message ns = refl
 
@@ -189,7 +202,7 @@ side_tells ways over serial side given core now = by (blocking_in (state_of core
         let answer = answer_to over blocking.what given.msg in
         let same = answer_tells over blocking.what given.msg (core.under.date - blocking.since) in
         let keeps : Keeps ways core after = record {
-          blocked = λ actor since what on is. ready_after core.actors (given.actor.0 - 1) (actor - 1) since answer what on is;
+          blocked = λ actor since what on is. ready_after core.actors given.actor.0 actor since answer what on is;
           over = λ way other among was. record { owner = was.owner; idle = was.idle };
         } in
         let is : IsOverBy over serial after = record { owner = now.is.owner; idle = now.is.idle } in
@@ -198,7 +211,7 @@ side_tells ways over serial side given core now = by (blocking_in (state_of core
           told = All-cons (Tells ways core after) _ [] (record {
             since = blocking.since;
             on = at.side;
-            blocked = state_is (state_of core given.actor.0) blocking e ∙ ap (λ o. Blocked blocking.what blocking.since o) at.is;
+            blocked = blocking_is (state_of core given.actor.0) blocking e ∙ ap (λ o. Blocked blocking.what blocking.since o) at.is;
             among = ap ways same ∙ now.among;
             over = subst (λ n. IsOverBy _ n after) (sym at.of) (subst (λ h. IsOverBy h serial after) (sym same) is);
           }) (All-nil (Tells ways core after));
@@ -381,7 +394,7 @@ same_actors : (before other after : Core) → other.actors ≡ before.actors →
 same_actors before other after same told t = record {
   since = t.since;
   on = t.on;
-  blocked = ap (λ (actors : List State). get_or actors (told.actor.0 - 1) Ended) (sym same) ∙ t.blocked;
+  blocked = ap (λ (actors : List Actor). state_at actors told.actor.0) (sym same) ∙ t.blocked;
   over = t.over;
 }
 

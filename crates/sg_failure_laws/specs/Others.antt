@@ -9,14 +9,16 @@ use Rattle.sg_base.specs.declared.ids.ActorId.{ActorId}
 use Rattle.sg_base.specs.declared.trace_record.Record.{Record}
 use Rattle.sg_activity.specs.Links.{Capacities}
 use Rattle.sg_activity.specs.Task.{Place, Task, nowhere, on_host, over, task_at}
+use Rattle.sg_requests.specs.Requested.{queue_at}
 use Rattle.sg_route.specs.Roads.{Roads}
-use Rattle.sg_states.specs.declared.state.State.{State}
+use Rattle.sg_states.specs.declared.state.Actor.{Actor}
 use Rattle.sg_states.specs.declared.state.State.TheVariants.{Blocked}
 use Rattle.sg_states.specs.Actors.{state_at}
 use Rattle.sg_kernel.specs.declared.owners.How.TheVariants as how
 use Rattle.sg_kernel.specs.declared.owners.Whose.{Whose}
 use Rattle.sg_kernel.specs.declared.owners.Whose.TheVariants.{Over, Alone}
 use Rattle.sg_kernel.specs.Calls.{answered, told}
+use Rattle.sg_kernel.specs.Lives.{created}
 use Rattle.sg_kernel.specs.Passes.{pass_of}
 use Rattle.sg_kernel.specs.Start.{first_core}
 use Rattle.sg_kernel.specs.Steps.{Step}
@@ -56,22 +58,30 @@ abbrev pub Suits : List (Option Task) → List Whose → Call → Await → Type
 Suits tasks whose (call.Sleep ns) on = IsSleep tasks whose on
 Suits tasks whose other on = may_fail other ≡ true
 
--- all actors that wait for an activity do so by a call that suits it
-pub record AreFit (actors : List State) (tasks : List (Option Task)) (whose : List Whose) : Type 0 where
+-- what an actor may wait for was made, and is no other's alone
+pub record IsOwn (whose : List Whose) (actor : ℕ) (on : Await) : Type 0 where
+  pub made : on.serial.0 - 1 < length whose
+  pub own : (owner : ActorId) → slice_index_or whose (on.serial.0 - 1) (Over how.Done) ≡ Alone owner → owner.0 - 1 ≡ actor - 1
+
+-- all actors that wait for an activity do so by a call that suits it, and that activity and what they asked for are no other's alone
+pub record AreFit (actors : List Actor) (tasks : List (Option Task)) (whose : List Whose) (requests : List (List Await)) : Type 0 where
   pub numbered : length whose ≡ length tasks
   pub waits : (actor since : ℕ) (what : Call) (on : Await) → state_at actors actor ≡ Blocked what since (Some on) → Suits tasks whose what on
+  pub own : (actor since : ℕ) (what : Call) (on : Await) → state_at actors actor ≡ Blocked what since (Some on) → IsOwn whose actor on
+  pub asked : (actor : ℕ) → All (IsOwn whose actor) (queue_at requests actor)
 
 abbrev pub IsFit : Core → Type 0
-IsFit core = AreFit core.actors core.under.tasks core.whose
+IsFit core = AreFit core.actors core.under.tasks core.whose core.requests
 
 -- it stays so, and no other call is told a failure
 pub record TellsFew (step : Step) : Type 0 where
   pub fit : IsFit step.core
   pub made : All MayTell step.made
 
--- so it is at first, with each call and with each pass
+-- so it is at first, with each call, with each actor that is created, with each Ask and with each pass
 pub record NoOtherFails : Type 0 where
   pub first : (capacities : Capacities) (setup : Setup) → IsFit (first_core capacities setup)
   pub calls : (roads : Roads) (setup : Setup) (core : Core) (actor : ℕ) (what : Call) → IsFit core → TellsFew (answered roads setup core actor what)
+  pub creates : (given : Bool) (actor : ℕ) (target : ActorId) (core : Core) → IsFit core → TellsFew (created given actor target core)
   pub asks : (setup : Setup) (core : Core) (actor : ℕ) (action : Option Action) → IsFit core → TellsFew (told setup core actor action)
   pub passes : (setup : Setup) (core : Core) → IsFit core → TellsFew (pass_of setup core)

@@ -8,7 +8,8 @@ pub fn passes_tell()
 {}
 
 /// Who is answered by a call is told a failure exactly where the caller's host is off, the communication of its oldest
-/// request has failed, or the way to the other side is cut; the caller is told so itself, if it waits.
+/// request has failed, or the way to the other side is cut; the caller is told so itself, if it waits. By a kill of an
+/// actor that is alive those are told one that were blocked on an activity that it awaited, and that wasn't over.
 pub fn calls_tell()
     ensures { CallsTell }
 {}

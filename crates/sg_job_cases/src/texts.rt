@@ -301,6 +301,45 @@ const ALONE: &str = "actor = [
 ]
 ";
 
+/// Two actors, of which the second begins when it is created.
+const LATER: &str = "actor = [
+    {name = 'p0', host = 'h1', function = 'replay'},
+    {name = 'p1', host = 'h2', function = 'replay', start = false},
+]
+";
+
+/// Three actors, of which the last begins when it is created.
+const LAST_LATER: &str = "actor = [
+    {name = 'p0', host = 'h1', function = 'replay'},
+    {name = 'p1', host = 'h2', function = 'replay'},
+    {name = 'p2', host = 'h1', function = 'replay', start = false},
+]
+";
+
+/// A host with power: 100 W idle, 120 W with hardly a load, 200 W with all of it, and 10 W off.
+const POWERED: &str = "zone = [{id = 'z', routing = 'Full'}]
+host = [{id = 'h1', zone = 'z', speed = '1Gf', power = [100000, 120000, 200000], power_off = 10000}]
+";
+
+/// The same with two cores.
+const POWERED_DUAL: &str = "zone = [{id = 'z', routing = 'Full'}]
+host = [{id = 'h1', zone = 'z', speed = '1Gf', core = 2, power = [100000, 120000, 200000]}]
+";
+
+/// The same with 10 flops a second.
+const POWERED_SLOW: &str = "zone = [{id = 'z', routing = 'Full'}]
+host = [{id = 'h1', zone = 'z', speed = '10f', power = [100000, 120000, 200000]}]
+";
+
+/// Three hosts, of which the second has no power.
+const POWERED_APART: &str = "zone = [{id = 'z', routing = 'Full'}]
+host = [
+    {id = 'h1', zone = 'z', speed = '1Gf', power = [100000, 120000, 200000]},
+    {id = 'h2', zone = 'z', speed = '1Gf'},
+    {id = 'h3', zone = 'z', speed = '1Gf', power = [1, 2, 3]},
+]
+";
+
 /// The text of this name, an empty one where it is `-`.
 pub fn text_named(name: &str) -> &'static str {
     match name {
@@ -339,6 +378,12 @@ pub fn text_named(name: &str) -> &'static str {
         "TRIANGLE" => TRIANGLE,
         "THREE_APART" => THREE_APART,
         "ALONE" => ALONE,
+        "LATER" => LATER,
+        "LAST_LATER" => LAST_LATER,
+        "POWERED" => POWERED,
+        "POWERED_DUAL" => POWERED_DUAL,
+        "POWERED_SLOW" => POWERED_SLOW,
+        "POWERED_APART" => POWERED_APART,
         _ => "",
     }
 }

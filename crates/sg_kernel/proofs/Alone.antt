@@ -1,8 +1,9 @@
 -- Calls that are sides of communications, and others.
-use Rattle.std.proofs.Common.{◌≡◌, ℕ, Bool, true, false, cond, Option, None, Some, refl, sym, ap, subst, arith}
+use Rattle.std.proofs.Common.{◌≡◌, ℕ, ◌==◌, Bool, true, false, cond, Option, None, Some, List, [], ◌∷◌, refl, sym, ap, subst, arith}
 use Rattle.sg_base.specs.declared.call.Answer.{Answer}
 use Rattle.sg_base.specs.declared.call.Call.{Call}
 use Rattle.sg_base.specs.declared.call.Call.TheVariants as call
+use Rattle.sg_base.specs.declared.ids.ActorId.{ActorId}
 use Rattle.sg_base.specs.Limits.{Extent, IsActorNumber, IsCall}
 use Rattle.sg_base.specs.declared.awaits.Await.{Await}
 use Rattle.sg_requests.specs.Requested.{oldest, queue_at, taken}
@@ -10,14 +11,21 @@ use Rattle.sg_route.specs.Roads.{Roads}
 use Rattle.sg_sync.specs.Objects.{Done, locked, unlocked, acquired, released, arrived}
 use Rattle.sg_kernel.specs.declared.meetings.Comer.{Comer}
 use Rattle.sg_activity.specs.Links.{is_off}
-use Rattle.sg_kernel.specs.World.{Setup, Core, host_of, whose_at}
-use Rattle.sg_kernel.specs.Steps.{Step, counted}
+use Rattle.sg_states.specs.Actors.{is_alive, is_ended, joiners}
+use Rattle.sg_kernel.specs.declared.owners.How.TheVariants as how
+use Rattle.sg_kernel.specs.declared.owners.Whose.{Whose}
+use Rattle.sg_kernel.specs.declared.owners.Whose.TheVariants.{Over, Alone, Posted, Pair}
+use Rattle.sg_kernel.specs.World.{Setup, Core, host_of, state_of, whose_at}
+use Rattle.sg_kernel.specs.Steps.{Step, all_of, counted, each}
 use Rattle.sg_kernel.specs.Answers.{side_of}
 use Rattle.sg_kernel.specs.Meetings.{comer_of, sends_by, receives_by, answer_of_over, waits_by, waits_until}
-use Rattle.sg_kernel.specs.Locks.{caller_gets, all_wake, caller_first, caller_last, with_objects}
+use Rattle.sg_kernel.specs.Locks.{caller_gets, all_wake, caller_first, caller_last, joiners_wake, with_objects}
+use Rattle.sg_kernel.specs.Lives.{joins_by, leaves}
+use Rattle.sg_kernel.specs.Kills.{awaited, gives_up, gives_up_by, kill_done, kill_stretches, kills, withdrawn}
 use Rattle.sg_kernel.specs.Calls.{answered_call, actor_of, computes}
 use Rattle.sg_kernel.specs.kept.Sound.{IsComer}
-use Rattle.sg_kernel.proofs.Each.{both_on}
+use Rattle.sg_kernel.proofs.Each.{both_on, each_on}
+use Rattle.sg_kernel.proofs.Ends.{finishes_goes}
 use Rattle.sg_kernel.proofs.Woken.{all_on, caller_goes}
 
 -- ---- a side that comes keeps to the limits
@@ -40,6 +48,11 @@ comer_limited ex actor (call.Unlock n) comer a h e = absurd (cc e)
 comer_limited ex actor (call.Acquire n) comer a h e = absurd (cc e)
 comer_limited ex actor (call.Release n) comer a h e = absurd (cc e)
 comer_limited ex actor call.Barrier comer a h e = absurd (cc e)
+comer_limited ex actor (call.Create n) comer a h e = absurd (cc e)
+comer_limited ex actor (call.Join n) comer a h e = absurd (cc e)
+comer_limited ex actor (call.Kill n) comer a h e = absurd (cc e)
+comer_limited ex actor (call.Suspend n) comer a h e = absurd (cc e)
+comer_limited ex actor (call.Resume n) comer a h e = absurd (cc e)
 comer_limited ex actor call.Yield comer a h e = absurd (cc e)
 comer_limited ex actor call.Exit comer a h e = absurd (cc e)
 
@@ -63,6 +76,11 @@ comer_actor actor (call.Unlock n) comer e = absurd (cc e)
 comer_actor actor (call.Acquire n) comer e = absurd (cc e)
 comer_actor actor (call.Release n) comer e = absurd (cc e)
 comer_actor actor call.Barrier comer e = absurd (cc e)
+comer_actor actor (call.Create n) comer e = absurd (cc e)
+comer_actor actor (call.Join n) comer e = absurd (cc e)
+comer_actor actor (call.Kill n) comer e = absurd (cc e)
+comer_actor actor (call.Suspend n) comer e = absurd (cc e)
+comer_actor actor (call.Resume n) comer e = absurd (cc e)
 comer_actor actor call.Yield comer e = absurd (cc e)
 comer_actor actor call.Exit comer e = absurd (cc e)
 
@@ -88,6 +106,49 @@ computes_goes setup actor flops priority core = cases (is_off core.under.on.host
     cases true one other e f = e
     cases false one other e f = f
 
+joins_goes : (ended : Bool) (actor : ℕ) (target : ActorId) (core : Core) → (joins_by ended actor target core).stop ≡ None
+joins_goes true actor target core = refl
+joins_goes false actor target core = refl
+
+-- ---- a kill
+pub gives_up_goes : (serial : ℕ) (core : Core) → (gives_up serial core).stop ≡ None
+gives_up_goes serial core = cases (whose_at core serial)
+  where
+    cases : (whose : Whose) → (gives_up_by whose serial core).stop ≡ None
+    cases (Over before) = refl
+    cases (Alone actor) = finishes_goes how.Failed serial core
+    cases (Posted mailbox sends side) = finishes_goes how.Failed serial core
+    cases (Pair sender receiver) = finishes_goes how.Failed serial core
+
+pub kill_done_goes : (actor : ℕ) (target : ActorId) (core : Core) → (kill_done actor target core).stop ≡ None
+kill_done_goes actor target core = cases (actor == target.0) _ _ refl refl
+  where
+    cases : (b : Bool) (one other : Step) → one.stop ≡ None → other.stop ≡ None → (cond b one other).stop ≡ None
+    cases true one other e f = e
+    cases false one other e f = f
+
+-- one stretch after another
+all_two : (first : Core → Step) (rest : List (Core → Step)) (core : Core) → (first core).stop ≡ None → ((c : Core) → (all_of rest c).stop ≡ None) → (all_of (first ∷ rest) core).stop ≡ None
+unfolding all_of
+all_two first rest core one more = both_on (first core) (all_of rest) one more
+
+all_none : (core : Core) → (all_of [] core).stop ≡ None
+unfolding all_of
+all_none core = refl
+
+pub kill_stretches_go : (actor : ℕ) (target : ActorId) (serials : List ℕ) (core : Core) → (all_of (kill_stretches actor target serials) core).stop ≡ None
+kill_stretches_go actor target serials core =
+    all_two (kill_done actor target) (each gives_up serials ∷ joiners_wake target.0 ∷ []) core (kill_done_goes actor target core)
+    (λ c. all_two (each gives_up serials) (joiners_wake target.0 ∷ []) c (each_on gives_up gives_up_goes serials c)
+    (λ d. all_two (joiners_wake target.0) [] d (all_on (joiners target.0 1 d.actors) d) all_none))
+
+kills_goes : (actor : ℕ) (target : ActorId) (core : Core) → (kills actor target core).stop ≡ None
+kills_goes actor target core = cases (is_alive (state_of core target.0)) _ _ (kill_stretches_go actor target (awaited target core) (withdrawn target core)) refl
+  where
+    cases : (b : Bool) (one other : Step) → one.stop ≡ None → other.stop ≡ None → (cond b one other).stop ≡ None
+    cases true one other e f = e
+    cases false one other e f = f
+
 pub alone_goes : (roads : Roads) (setup : Setup) (core : Core) (actor : ℕ) (what : Call) → comer_of actor what ≡ None → (answered_call roads setup core actor what).stop ≡ None
 alone_goes roads setup core actor call.Ask e = refl
 alone_goes roads setup core actor (call.Compute n p) e = computes_goes setup actor n p (counted core)
@@ -102,5 +163,10 @@ alone_goes roads setup core actor (call.Unlock n) e = first_goes (unlocked (acto
 alone_goes roads setup core actor (call.Acquire n) e = first_goes (acquired (actor_of actor) n core.objects) actor (call.Acquire n) (counted core)
 alone_goes roads setup core actor (call.Release n) e = first_goes (released n core.objects) actor (call.Release n) (counted core)
 alone_goes roads setup core actor call.Barrier e = last_goes (arrived (actor_of actor) core.objects) actor call.Barrier (counted core)
+alone_goes roads setup core actor (call.Create n) e = refl
+alone_goes roads setup core actor (call.Join n) e = joins_goes (is_ended (state_of core n.0)) actor n (counted core)
+alone_goes roads setup core actor (call.Kill n) e = kills_goes actor n (counted core)
+alone_goes roads setup core actor (call.Suspend n) e = refl
+alone_goes roads setup core actor (call.Resume n) e = refl
 alone_goes roads setup core actor call.Yield e = refl
-alone_goes roads setup core actor call.Exit e = refl
+alone_goes roads setup core actor call.Exit e = all_on (joiners actor 1 (leaves actor core).actors) (leaves actor (counted core))

@@ -10,9 +10,10 @@ use Rattle.sg_kernel.specs.declared.owners.Whose.{Whose}
 use Rattle.sg_kernel.specs.declared.owners.Whose.TheVariants.{Over, Alone, Posted, Pair}
 use Rattle.sg_kernel.specs.declared.stop.Stop.TheVariants.{Budget}
 use Rattle.sg_kernel.specs.World.{Setup, Core, state_of, whose_at}
-use Rattle.sg_states.specs.Actors.{Blocking, blocking_in}
+use Rattle.sg_states.specs.declared.state.Blocking.{Blocking}
+use Rattle.sg_states.specs.Actors.{blocking_in}
 use Rattle.sg_kernel.specs.Steps.{Step, stops, counted}
-use Rattle.sg_kernel.specs.Answers.{answers, answers_by, answers_side, bare_side, for_receiver, is_on, with_over}
+use Rattle.sg_kernel.specs.Answers.{answers, answers_by, answers_side, bare_side, finishes, for_receiver, is_on, with_over}
 use Rattle.sg_kernel.specs.Passes.{ends_in, ends_one, ends_by, ends, fails, fails_one}
 use Rattle.sg_kernel.specs.Known.{Known, after}
 use Rattle.sg_kernel.proofs.Each.{eq_no, eq_yes, then_after, both_on, still, still_stops, still_next, still_used_up}
@@ -43,6 +44,10 @@ answers_goes over serial (Posted mailbox sends side) core = refl
 answers_goes over serial (Pair sender receiver) core =
     both_on (answers_side over serial party.Sender sender core) (answers_side over serial party.Receiver (for_receiver sender receiver)) (answers_side_goes over serial party.Sender sender core)
     (answers_side_goes over serial party.Receiver (for_receiver sender receiver))
+
+-- an activity is over
+pub finishes_goes : (over : How) (serial : ℕ) (core : Core) → (finishes over serial core).stop ≡ None
+finishes_goes over serial core = answers_goes over serial (whose_at core serial) (with_over over serial core)
 
 ends_goes_in : (serial : ℕ) (after : Option Task) (core : Core) → (ends_in serial after core).stop ≡ None
 ends_goes_in serial None core = answers_goes how.Done serial (whose_at core serial) (with_over how.Done serial core)

@@ -1,6 +1,7 @@
 -- An entry of a profile comes.
 use Rattle.std.proofs.Common.{◌≡◌, ◌≢◌, ℕ, ◌+◌, ◌<◌, ◌++◌, cond, None, List, [], length, drop, get_or, refl, sym, ap, subst, ◌∙◌, append-nil, arith}
 use Rattle.std.specs.List.{All}
+use Rattle.std.specs.Prelude.{is_some}
 use Rattle.std.proofs.lemmas.List.{length-set}
 use Rattle.sg_base.specs.declared.ids.PointId.{PointId}
 use Rattle.sg_activity.specs.Doing.{Doing}
@@ -36,16 +37,15 @@ change_used setup row core used =
 -- the hosts and links, of which there are as many
 pub record KeepsPhases (old new : Underway) : Type 0 where
   pub date : new.date ≡ old.date
-  pub began : new.marks.began ≡ old.marks.began
   pub tasks : new.tasks ≡ old.tasks
   pub hosts : length new.capacities.hosts ≡ length old.capacities.hosts
   pub links : length new.capacities.links ≡ length old.capacities.links
 
 applied_keeps : (network : Network) (entry : Entry) (under : Underway) → KeepsPhases under (applied network entry under)
-applied_keeps network (Speed host speed) under = record { date = refl; began = refl; tasks = refl; hosts = length-set under.capacities.hosts host.0 _; links = refl }
-applied_keeps network (Bandwidth link bandwidth) under = record { date = refl; began = refl; tasks = refl; hosts = refl; links = length-set under.capacities.links link.0 _ }
-applied_keeps network (HostOn host on) under = record { date = refl; began = refl; tasks = refl; hosts = refl; links = refl }
-applied_keeps network (LinkOn link on) under = record { date = refl; began = refl; tasks = refl; hosts = refl; links = refl }
+applied_keeps network (Speed host speed) under = record { date = refl; tasks = refl; hosts = length-set under.capacities.hosts host.0 _; links = refl }
+applied_keeps network (Bandwidth link bandwidth) under = record { date = refl; tasks = refl; hosts = refl; links = length-set under.capacities.links link.0 _ }
+applied_keeps network (HostOn host on) under = record { date = refl; tasks = refl; hosts = refl; links = refl }
+applied_keeps network (LinkOn link on) under = record { date = refl; tasks = refl; hosts = refl; links = refl }
 
 pub set_keeps : (network : Network) (entry : Entry) (old new : Doing) → IsApplied network entry old new → KeepsPhases old.under new.under
 set_keeps network entry old new set = subst (KeepsPhases old.under) (sym set.under) (applied_keeps network entry old.under)
@@ -120,7 +120,9 @@ entered_passing fields doing profiles entry due set gone go was =
       meeting = record {
         posts = was.meeting.posts;
         idle = λ place posted. ap (λ tasks. get_or tasks place None) keeps.tasks ∙ was.meeting.idle place posted;
+        busy = λ place some. ap (λ tasks. is_some (get_or tasks place None)) keeps.tasks ∙ was.meeting.busy place some;
         asked = was.meeting.asked;
+        awaited = was.meeting.awaited;
       };
       held = record {
         owners = held.owners;

@@ -26,7 +26,7 @@ failed_owner fields serial whose is hit passing =
     subst (IsOwner (extent (setup_in fields))) (sym is) (passing.limited (serial - 1) (Over how.Done) (omega (arith, hit.from, hit.to, passing.sound.numbered)))
 
 -- ---- an event is counted
-sound_counted : (fields : Fields) → fields.events ≢ fields.budget → IsSound fields → IsSound (record fields { events = fields.events + 1 })
+pub sound_counted : (fields : Fields) → fields.events ≢ fields.budget → IsSound fields → IsSound (record fields { events = fields.events + 1 })
 sound_counted fields go was = record {
   numbered = was.numbered;
   few = omega (arith, was.few);
@@ -42,7 +42,7 @@ sound_counted fields go was = record {
   network_kept = was.network_kept;
 }
 
-held_counted : (fields : Fields) → AreHeld fields → AreHeld (record fields { events = fields.events + 1 })
+pub held_counted : (fields : Fields) → AreHeld fields → AreHeld (record fields { events = fields.events + 1 })
 held_counted fields was = record {
   owners = was.owners;
   counts = was.counts;
@@ -75,7 +75,7 @@ failed_passing fields serial whose doing hit owned gone go was =
       };
       timely = subst (IsTimelyAt fields) (sym (ap (λ (d : Doing). d.under.date) gone)) was.timely;
       limited = subst (All (IsOwner e)) (sym owners) (All-set (IsOwner e) fields.whose.whose (serial - 1) (Over how.Failed) tt was.limited);
-      meeting = meeting_gone counted whose doing how.Failed (serial - 1) hit.task hit.at owners tasks (record { posts = m.posts; idle = m.idle; asked = m.asked });
+      meeting = meeting_gone counted whose doing how.Failed (serial - 1) hit.task hit.at owners tasks (record { posts = m.posts; idle = m.idle; busy = m.busy; asked = m.asked; awaited = m.awaited });
       held = held_with counted doing whose fields.boxes (held_counted fields was.held);
       passing = was.passing;
       small = omega (arith, was.small, ap (λ (d : Doing). d.under.date) gone);

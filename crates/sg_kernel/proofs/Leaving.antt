@@ -1,6 +1,6 @@
 -- What is due, as entries come and activities fail.
 use Rattle.std.proofs.Common.{◌≡◌, ℕ, ◌-◌, ◌==◌, ◌&&◌, not, Bool, true, false, true≢false, cond, None, List, [], ◌∷◌, filter, set, get_or, refl, sym, ap, ◌∙◌, arith}
-use Rattle.sg_activity.specs.Doing.{Doing, IsHit, gave_up, gave_up_first, gave_up_in}
+use Rattle.sg_activity.specs.Doing.{Doing, gave_up}
 use Rattle.sg_activity.specs.Task.{task_at}
 use Rattle.sg_kernel.specs.declared.fields.Fields.{Fields}
 use Rattle.sg_kernel.specs.kept.Coming.{LeavesDue}
@@ -19,10 +19,9 @@ filter_filter p q (x ∷ xs) = by (p x) (filter_filter p q xs)
     by false more = more
 
 -- where nothing fails
-pub leaves_same : (old new : Fields) → new.doing.under.date ≡ old.doing.under.date → new.doing.under.marks.began ≡ old.doing.under.marks.began → new.doing.under.tasks ≡ old.doing.under.tasks → new.doing.due ≡ old.doing.due → LeavesDue old new
-leaves_same old new date began tasks due = record {
+pub leaves_same : (old new : Fields) → new.doing.under.date ≡ old.doing.under.date → new.doing.under.tasks ≡ old.doing.under.tasks → new.doing.due ≡ old.doing.due → LeavesDue old new
+leaves_same old new date tasks due = record {
   date = date;
-  began = began;
   idle = λ serial none. ap (λ l. task_at l serial) tasks ∙ none;
   test = λ serial. true;
   due = due ∙ sym (filter_all old.doing.due);
@@ -33,7 +32,6 @@ leaves_same old new date began tasks due = record {
 pub leaves_both : (old mid new : Fields) → LeavesDue old mid → LeavesDue mid new → LeavesDue old new
 leaves_both old mid new one two = record {
   date = two.date ∙ one.date;
-  began = two.began ∙ one.began;
   idle = λ serial none. two.idle serial (one.idle serial none);
   test = λ serial. one.test serial && two.test serial;
   due = two.due ∙ ap (filter two.test) one.due ∙ filter_filter one.test two.test old.doing.due;
@@ -45,13 +43,9 @@ leaves_both old mid new one two = record {
     gone serial false is e = two.idle serial (one.gone serial is)
 
 -- ---- the first that is hit is given up
-pub given_up_is : (old new : Doing) (serial : ℕ) → IsHit old serial → new ≡ gave_up_in old → new ≡ gave_up serial old
-given_up_is old new serial hit is = is ∙ ap (λ l. gave_up_first l old) hit.first
-
 pub leaves_given : (old new : Fields) (serial : ℕ) → new.doing ≡ gave_up serial old.doing → LeavesDue old new
 leaves_given old new serial is = record {
   date = ap (λ (d : Doing). d.under.date) is;
-  began = ap (λ (d : Doing). d.under.marks.began) is;
   idle = λ other none. tasks other ∙ none_set old.doing.under.tasks (serial - 1) (other - 1) none;
   test = λ other. not (other == serial);
   due = ap (λ (d : Doing). d.due) is;

@@ -20,8 +20,11 @@ pub mod Postings
 pub mod PostsKept
 pub mod Rooms
 pub mod Skips
+pub mod Suspending
 pub mod Tables
 pub mod Timely
 pub mod Unmet
 pub mod Waiting
 pub mod Woken
+pub mod Stated
+pub mod Killed

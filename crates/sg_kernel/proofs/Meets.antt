@@ -1,9 +1,9 @@
 -- What holds of mailboxes, activities and requests, as sides come and actors wait.
 use Rattle.std.proofs.Common.{◌≡◌, ◌≢◌, ℕ, zero, suc, ◌+◌, ◌-◌, ◌<◌, ◌≤◌, ◌⊎◌, inl, inr, Bool, true, false, true≢false, IsTrue, Option, None, Some, List, [], ◌∷◌, ◌++◌, length, set, get_or, refl, sym, ap, ap₂, subst, ◌∙◌, arith}
-use Rattle.std.specs.Prelude.{option_to_list}
+use Rattle.std.specs.Prelude.{option_to_list, is_some, IsSome}
 use Rattle.std.specs.List.{find, All}
-use Rattle.std.proofs.lemmas.Bool.{cases_eq}
-use Rattle.std.proofs.lemmas.List.{append-nil, get_or-set_same, get_or-set_other}
+use Rattle.std.proofs.lemmas.Bool.{cases_eq, cases_lt}
+use Rattle.std.proofs.lemmas.List.{append-nil, get_or-set_same, get_or-set_other, get_or_past, length-set}
 use Rattle.std.proofs.lemmas.List.Elements.{All-nil, All-head, All-tail, All-set, All-push, All-weaker}
 use Rattle.sg_base.specs.declared.ids.BoxId.{BoxId}
 use Rattle.sg_base.specs.declared.ids.Serial.{Serial}
@@ -14,6 +14,7 @@ use Rattle.sg_mailbox.specs.declared.sides.Post.{Post}
 use Rattle.sg_mailbox.specs.Posts.{Posts, box_eq, is_other, without, waiting, meets, arrives, arrives_by}
 use Rattle.sg_base.specs.declared.awaits.Await.{Await}
 use Rattle.sg_requests.specs.Requested.{queue_at, oldest, rest_of, queued, taken}
+use Rattle.sg_kernel.specs.declared.owners.How.{How}
 use Rattle.sg_kernel.specs.declared.owners.How.TheVariants as how
 use Rattle.sg_kernel.specs.declared.owners.Whose.{Whose}
 use Rattle.sg_kernel.specs.declared.owners.Whose.TheVariants.{Over, Posted}
@@ -31,7 +32,7 @@ made_more n m queues le are = All-weaker (λ (queue : List Await). All (IsMade n
     one : (on : Await) → IsMade n on → IsMade m on
     one on is = record { from = is.from; to = omega (arith, is.to, le) }
 
-made_at : (n : ℕ) (queues : List (List Await)) (i : ℕ) → AreMade n queues → All (IsMade n) (get_or queues i [])
+pub made_at : (n : ℕ) (queues : List (List Await)) (i : ℕ) → AreMade n queues → All (IsMade n) (get_or queues i [])
 made_at n [] i are = All-nil (IsMade n)
 made_at n (queue ∷ queues) zero are = All-head (λ (queue : List Await). All (IsMade n) queue) queue queues are
 made_at n (queue ∷ queues) (suc i) are = made_at n queues i (All-tail (λ (queue : List Await). All (IsMade n) queue) queue queues are)
@@ -95,6 +96,56 @@ idle_over whose tasks i w none old = λ place e. cases place (cases_eq place i) 
     cases : (place : ℕ) → (place ≡ i) ⊎ (place ≢ i) → IsTrue (is_idle (get_or (set whose i w) place (Over how.Done))) → get_or tasks place None ≡ None
     cases place (inl is) e = ap (λ k. get_or tasks k None) is ∙ none
     cases place (inr away) e = old place (sym (ap is_idle (get_or-set_other whose i place w (Over how.Done) away)) ∙ e)
+
+-- ---- of all else something is under way
+abbrev pub AreBusy : List Whose → List (Option Task) → Type 0
+AreBusy whose tasks = (place : ℕ) → is_idle (get_or whose place (Over how.Done)) ≡ false → IsSome (get_or tasks place None)
+
+pub busy_more : (whose : List Whose) (tasks : List (Option Task)) (w : Whose) (t : Option Task) → length whose ≡ length tasks → (is_idle w ≡ false → IsSome t) → AreBusy whose tasks → AreBusy (whose ++ w ∷ []) (tasks ++ t ∷ [])
+busy_more whose tasks w t same new old = λ place e. elim (pushed_at whose w (Over how.Done) place) [
+  | inl k ↦ kept place k e (pushed_at tasks t None place)
+  | inr r ↦ ap is_some (at_end tasks t None place (omega (arith, r.0, same))) ∙ new (sym (ap is_idle r.1) ∙ e)
+]
+  where
+    kept : (place : ℕ) → get_or (whose ++ w ∷ []) place (Over how.Done) ≡ get_or whose place (Over how.Done) → is_idle (get_or (whose ++ w ∷ []) place (Over how.Done)) ≡ false → (get_or (tasks ++ t ∷ []) place None ≡ get_or tasks place None) ⊎ ((place ≡ length tasks) × (get_or (tasks ++ t ∷ []) place None ≡ t)) → IsSome (get_or (tasks ++ t ∷ []) place None)
+    kept place k e (inl l) = ap is_some l ∙ old place (sym (ap is_idle k) ∙ e)
+    kept place k e (inr r) = ap is_some r.1 ∙ new (sym (ap is_idle (at_end whose w (Over how.Done) place (omega (arith, r.0, same)))) ∙ e)
+
+pub busy_put : (whose : List Whose) (tasks : List (Option Task)) (i : ℕ) (w : Whose) (t : Task) → i < length tasks → AreBusy whose tasks → AreBusy (set whose i w) (set tasks i (Some t))
+busy_put whose tasks i w t within old = λ place e. cases place (cases_eq place i) e
+  where
+    cases : (place : ℕ) → (place ≡ i) ⊎ (place ≢ i) → is_idle (get_or (set whose i w) place (Over how.Done)) ≡ false → IsSome (get_or (set tasks i (Some t)) place None)
+    cases place (inl is) e = ap is_some (ap (λ k. get_or (set tasks i (Some t)) k None) is ∙ get_or-set_same tasks i (Some t) None within)
+    cases place (inr away) e = ap is_some (get_or-set_other tasks i place (Some t) None away) ∙ old place (sym (ap is_idle (get_or-set_other whose i place w (Over how.Done) away)) ∙ e)
+
+-- one phase follows another
+pub busy_set : (whose : List Whose) (tasks : List (Option Task)) (i : ℕ) (t : Task) → i < length tasks → AreBusy whose tasks → AreBusy whose (set tasks i (Some t))
+busy_set whose tasks i t within old = λ place e. cases place (cases_eq place i) e
+  where
+    cases : (place : ℕ) → (place ≡ i) ⊎ (place ≢ i) → is_idle (get_or whose place (Over how.Done)) ≡ false → IsSome (get_or (set tasks i (Some t)) place None)
+    cases place (inl is) e = ap is_some (ap (λ k. get_or (set tasks i (Some t)) k None) is ∙ get_or-set_same tasks i (Some t) None within)
+    cases place (inr away) e = ap is_some (get_or-set_other tasks i place (Some t) None away) ∙ old place e
+
+-- one is over
+pub over_idle : (whose : List Whose) (i : ℕ) (over : How) → is_idle (get_or (set whose i (Over over)) i (Over how.Done)) ≡ true
+over_idle whose i over = elim (cases_lt i (length whose)) [
+  | inl within ↦ ap is_idle (get_or-set_same whose i (Over over) (Over how.Done) within)
+  | inr past ↦ ap is_idle (get_or_past (set whose i (Over over)) i (Over how.Done) (omega (arith, past, length-set whose i (Over over))))
+]
+
+pub busy_over : (whose : List Whose) (tasks : List (Option Task)) (i : ℕ) (over : How) → AreBusy whose tasks → AreBusy (set whose i (Over over)) tasks
+busy_over whose tasks i over old = λ place e. cases place (cases_eq place i) e
+  where
+    cases : (place : ℕ) → (place ≡ i) ⊎ (place ≢ i) → is_idle (get_or (set whose i (Over over)) place (Over how.Done)) ≡ false → IsSome (get_or tasks place None)
+    cases place (inl is) e = absurd (true≢false (sym (ap (λ k. is_idle (get_or (set whose i (Over over)) k (Over how.Done))) is ∙ over_idle whose i over) ∙ e))
+    cases place (inr away) e = old place (sym (ap is_idle (get_or-set_other whose i place (Over over) (Over how.Done) away)) ∙ e)
+
+pub busy_gone : (whose : List Whose) (tasks : List (Option Task)) (i : ℕ) (over : How) → AreBusy whose tasks → AreBusy (set whose i (Over over)) (set tasks i None)
+busy_gone whose tasks i over old = λ place e. cases place (cases_eq place i) e
+  where
+    cases : (place : ℕ) → (place ≡ i) ⊎ (place ≢ i) → is_idle (get_or (set whose i (Over over)) place (Over how.Done)) ≡ false → IsSome (get_or (set tasks i None) place None)
+    cases place (inl is) e = absurd (true≢false (sym (ap (λ k. is_idle (get_or (set whose i (Over over)) k (Over how.Done))) is ∙ over_idle whose i over) ∙ e))
+    cases place (inr away) e = ap is_some (get_or-set_other tasks i place None None away) ∙ old place (sym (ap is_idle (get_or-set_other whose i place (Over over) (Over how.Done) away)) ∙ e)
 
 -- ---- the mailboxes tell who is posted
 abbrev pub AreTold : Posts → List Whose → Type 0

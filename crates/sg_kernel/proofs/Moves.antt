@@ -1,24 +1,26 @@
 -- What is kept, as one actor's state changes, and as a call is counted.
-use Rattle.std.proofs.Common.{◌≡◌, ◌≢◌, ℕ, ◌+◌, ◌-◌, ◌<◌, ◌≤◌, false, true, true≢false, IsTrue, List, [], ◌∷◌, length, get_or, inl, inr, refl, sym, ap, ◌∙◌, arith}
+use Rattle.std.proofs.Common.{◌≡◌, ◌≢◌, ℕ, ◌+◌, ◌-◌, ◌<◌, ◌≤◌, false, true, true≢false, IsTrue, List, [], ◌∷◌, length, inl, inr, refl, sym, subst, ap, ◌∙◌, arith}
 use Rattle.std.proofs.lemmas.Bool.{cases_eq}
-use Rattle.std.proofs.lemmas.List.{length-set, get_or-set_same, get_or-set_other}
+use Rattle.std.proofs.lemmas.List.{length-set}
 use Rattle.sg_base.specs.declared.call.Answer.{Answer}
 use Rattle.sg_base.specs.declared.call.Call.{Call}
 use Rattle.sg_base.specs.declared.ids.ActorId.{ActorId}
 use Rattle.sg_base.specs.Limits.{IsActorNumber}
 use Rattle.sg_states.specs.declared.state.State.{State}
-use Rattle.sg_states.specs.declared.state.State.TheVariants.{Ready, Blocked, Ended}
-use Rattle.sg_states.specs.Actors.{is_held, is_ready, put_state, state_at, IsActor, MayCall}
+use Rattle.sg_states.specs.declared.state.State.TheVariants.{Unstarted, Ready, Blocked, Ended}
+use Rattle.sg_states.specs.declared.state.Actor.{Actor}
+use Rattle.sg_states.specs.Actors.{actor_at, blocking_in, is_answered, put_state, state_at, IsActor, MayCall}
 use Rattle.sg_states.specs.States.{ActorStates, CanCall, by_call, with_reply}
 use Rattle.sg_sync.specs.Objects.{Objects, waiting}
 use Rattle.sg_sync.specs.Queues.{times}
 use Rattle.sg_sync.proofs.Counts.{one_other, one_same, times_cons}
 use Rattle.sg_kernel.specs.declared.fields.Fields.{Fields}
 use Rattle.sg_kernel.specs.World.{extent}
-use Rattle.sg_kernel.specs.kept.Sound.{setup_in, AreHeld, AreMeeting, HasRoom, IsSound}
+use Rattle.sg_kernel.specs.kept.Sound.{is_queued, setup_in, AreHeld, AreMeeting, AwaitsMade, HasRoom, IsSound}
 use Rattle.sg_kernel.specs.kept.Waking.{AreWaking, LeavesCallers}
 use Rattle.sg_kernel.specs.kept.Whole.{CanStep, IsPassing, IsSteady, IsWhole, IsWholeFor, KeepsWhole}
 use Rattle.sg_kernel.proofs.Limits.{homes_counted}
+use Rattle.sg_kernel.proofs.Stated.{awaiting_state, state_other, state_same, AreAwaiting}
 use Rattle.sg_kernel.proofs.Waiting.{others_held, still_held}
 
 -- the state of one actor changes, and nothing else but records and room
@@ -38,7 +40,11 @@ moves_replied old new actor what since bytes answer date is = record { extent = 
 
 -- there are as many actors
 pub moves_long : (old new : ActorStates) (actor : ℕ) (state : State) → Moves old new actor state → length new.actors ≡ length old.actors
-moves_long old new actor state moves = ap length moves.actors ∙ length-set old.actors (actor - 1) state
+moves_long old new actor state moves = ap length moves.actors ∙ length-set old.actors (actor - 1) (record (actor_at old.actors actor) { state = state })
+
+-- the state of an actor is blocked on nothing, or on an activity that was made
+abbrev pub IsFree : Fields → State → Type 0
+IsFree fields state = AwaitsMade (length fields.whose.whose) (blocking_in state)
 
 -- ---- what is kept of it
 pub sound_moved : (fields : Fields) (states : ActorStates) (actor : ℕ) (state : State) → Moves fields.states states actor state → IsSound fields → IsSound (record fields { states = states })
@@ -62,29 +68,36 @@ sound_moved fields states actor state moves was =
 pub roomy_less : (fields : Fields) (states : ActorStates) (room less : ℕ) → less ≤ room → HasRoom room fields → HasRoom less (record fields { states = states })
 roomy_less fields states room less le was = record { starts = omega (arith, le, was.starts); owners = omega (arith, le, was.owners); mailboxes = omega (arith, le, was.mailboxes); requests = omega (arith, le, was.requests) }
 
-pub meeting_moved : (fields : Fields) (states : ActorStates) → AreMeeting fields → AreMeeting (record fields { states = states })
-meeting_moved fields states was = record { posts = was.posts; idle = was.idle; asked = was.asked }
+pub meeting_moved : (fields : Fields) (states : ActorStates) (actor : ℕ) (state : State) → IsFree fields state → Moves fields.states states actor state → AreMeeting fields → AreMeeting (record fields { states = states })
+meeting_moved fields states actor state free moves was = record {
+  posts = was.posts;
+  idle = was.idle;
+  busy = was.busy;
+  asked = was.asked;
+  awaited = subst (AreAwaiting (length fields.whose.whose)) (sym moves.actors) (awaiting_state (length fields.whose.whose) fields.states.actors actor state free was.awaited);
+}
 
--- one that isn't held may do anything
-pub held_moved : (fields : Fields) (states : ActorStates) (actor : ActorId) (state : State) → 0 < actor.0 → is_held (state_at fields.states.actors actor.0) ≡ false → Moves fields.states states actor.0 state → AreHeld fields → AreHeld (record fields { states = states })
+-- one that waits at no object may do anything
+pub held_moved : (fields : Fields) (states : ActorStates) (actor : ActorId) (state : State) → 0 < actor.0 → is_queued (state_at fields.states.actors actor.0) ≡ false → Moves fields.states states actor.0 state → AreHeld fields → AreHeld (record fields { states = states })
 held_moved fields states actor state from isnt moves was = record {
   owners = was.owners;
   counts = was.counts;
   actors = was.actors ∙ sym (moves_long fields.states states actor.0 state moves);
   few = was.few;
   once = was.once;
-  held = λ b some. let old = was.held b some in (old.0, ap (λ (xs : List State). is_held (get_or xs (b.0 - 1) Ended)) moves.actors ∙ others_held fields.states.actors actor b state from old.0.0 isnt old.1);
+  held = λ b some. let old = was.held b some in (old.0, ap (λ (xs : List Actor). is_queued (state_at xs b.0)) moves.actors ∙ others_held fields.states.actors actor b state from old.0.0 isnt old.1);
   locking = was.locking;
   acquiring = was.acquiring;
 }
 
-pub ready_unheld : (s : State) → IsTrue (is_ready s) → is_held s ≡ false
+pub ready_unheld : (s : State) → IsTrue (is_answered s) → is_queued s ≡ false
+ready_unheld Unstarted e = absurd (true≢false (sym e))
 ready_unheld (Ready a) e = refl
 ready_unheld (Blocked what since on) e = absurd (true≢false (sym e))
 ready_unheld Ended e = absurd (true≢false (sym e))
 
-pub whole_moved : (fields : Fields) (room : ℕ) (states : ActorStates) (actor : ActorId) (state : State) → CanCall fields.states actor.0 → Moves fields.states states actor.0 state → states.room ≤ room → IsWholeFor room fields → IsWhole (record fields { states = states })
-whole_moved fields room states actor state able moves le was =
+pub whole_moved : (fields : Fields) (room : ℕ) (states : ActorStates) (actor : ActorId) (state : State) → CanCall fields.states actor.0 → IsFree fields state → Moves fields.states states actor.0 state → states.room ≤ room → IsWholeFor room fields → IsWhole (record fields { states = states })
+whole_moved fields room states actor state able free moves le was =
     let isnt = ready_unheld (state_at fields.states.actors actor.0) able.caller.ready in
     record {
       sound = sound_moved fields states actor.0 state moves was.sound;
@@ -92,19 +105,19 @@ whole_moved fields room states actor state able moves le was =
       dated = was.dated;
       timely = was.timely;
       limited = was.limited;
-      meeting = meeting_moved fields states was.meeting;
+      meeting = meeting_moved fields states actor.0 state free moves was.meeting;
       held = held_moved fields states actor state able.caller.from isnt moves was.held;
       round = moves.passing ∙ was.round;
     }
 
-pub steady_moved : (fields : Fields) (states : ActorStates) (actor : ℕ) (state : State) → Moves fields.states states actor state → states.room ≤ fields.states.room → IsSteady fields → IsSteady (record fields { states = states })
-steady_moved fields states actor state moves le was = record {
+pub steady_moved : (fields : Fields) (states : ActorStates) (actor : ℕ) (state : State) → IsFree fields state → Moves fields.states states actor state → states.room ≤ fields.states.room → IsSteady fields → IsSteady (record fields { states = states })
+steady_moved fields states actor state free moves le was = record {
   sound = sound_moved fields states actor state moves was.sound;
   roomy = roomy_less fields states fields.states.room states.room le was.roomy;
   dated = was.dated;
   timely = was.timely;
   limited = was.limited;
-  meeting = meeting_moved fields states was.meeting;
+  meeting = meeting_moved fields states actor state free moves was.meeting;
   round = moves.passing ∙ was.round;
 }
 
@@ -133,7 +146,7 @@ whole_counted fields actor able =
       dated = omega (arith, was.dated);
       timely = was.timely;
       limited = was.limited;
-      meeting = record { posts = was.meeting.posts; idle = was.meeting.idle; asked = was.meeting.asked };
+      meeting = record { posts = was.meeting.posts; idle = was.meeting.idle; busy = was.meeting.busy; asked = was.meeting.asked; awaited = was.meeting.awaited };
       held = record {
         owners = held.owners;
         counts = held.counts;
@@ -148,9 +161,9 @@ whole_counted fields actor able =
     }
 
 -- so a call of an actor that begins nothing leaves all whole
-pub whole_called : (fields : Fields) (states : ActorStates) (actor : ActorId) (state : State) → CanStep fields actor.0 → Moves fields.states states actor.0 state → states.room ≤ fields.states.room → IsWhole (record fields { states = states; events = fields.events + 1 })
-whole_called fields states actor state able moves le =
-    whole_moved (record fields { events = fields.events + 1 }) fields.states.room states actor state able.call moves le (whole_counted fields actor.0 able)
+pub whole_called : (fields : Fields) (states : ActorStates) (actor : ActorId) (state : State) → CanStep fields actor.0 → IsFree fields state → Moves fields.states states actor.0 state → states.room ≤ fields.states.room → IsWhole (record fields { states = states; events = fields.events + 1 })
+whole_called fields states actor state able free moves le =
+    whole_moved (record fields { events = fields.events + 1 }) fields.states.room states actor state able.call free moves le (whole_counted fields actor.0 able)
 
 -- a call on an object is counted
 pub steady_called : (fields : Fields) (objects : Objects) (actor : ℕ) → CanStep fields actor → IsSteady (record fields { events = fields.events + 1; objects = objects })
@@ -176,18 +189,18 @@ steady_called fields objects actor able =
       dated = was.dated;
       timely = was.timely;
       limited = was.limited;
-      meeting = record { posts = was.meeting.posts; idle = was.meeting.idle; asked = was.meeting.asked };
+      meeting = record { posts = was.meeting.posts; idle = was.meeting.idle; busy = was.meeting.busy; asked = was.meeting.asked; awaited = was.meeting.awaited };
       round = was.round;
     }
 
 -- in a pass
-pub passing_moved : (fields : Fields) (states : ActorStates) (actor : ActorId) (state : State) → 0 < actor.0 → is_held (state_at fields.states.actors actor.0) ≡ false → Moves fields.states states actor.0 state → states.room ≤ fields.states.room → IsPassing fields → IsPassing (record fields { states = states })
-passing_moved fields states actor state from isnt moves le was = record {
+pub passing_moved : (fields : Fields) (states : ActorStates) (actor : ActorId) (state : State) → 0 < actor.0 → is_queued (state_at fields.states.actors actor.0) ≡ false → IsFree fields state → Moves fields.states states actor.0 state → states.room ≤ fields.states.room → IsPassing fields → IsPassing (record fields { states = states })
+passing_moved fields states actor state from isnt free moves le was = record {
   sound = sound_moved fields states actor.0 state moves was.sound;
   roomy = roomy_less fields states fields.states.room states.room le was.roomy;
   timely = was.timely;
   limited = was.limited;
-  meeting = meeting_moved fields states was.meeting;
+  meeting = meeting_moved fields states actor.0 state free moves was.meeting;
   held = held_moved fields states actor state from isnt moves was.held;
   passing = moves.passing ∙ was.passing;
   small = was.small;
@@ -196,7 +209,7 @@ passing_moved fields states actor state from isnt moves le was = record {
 -- ---- who waits at an object, as one actor's state changes
 waking_with : (fields : Fields) (states : ActorStates) (actor : ActorId) (state : State) (comers others : List ActorId) → Moves fields.states states actor.0 state → AreWaking fields comers others
     → (next left : List ActorId) → ((b : ActorId) → waiting fields.objects b + times b left ≤ 1)
-    → ((b : ActorId) → times b next < waiting fields.objects b + times b left → IsActorNumber (extent (setup_in fields)) b.0 × IsTrue (is_held (get_or (put_state fields.states.actors actor.0 state) (b.0 - 1) Ended)))
+    → ((b : ActorId) → times b next < waiting fields.objects b + times b left → IsActorNumber (extent (setup_in fields)) b.0 × IsTrue (is_queued (state_at (put_state fields.states.actors actor.0 state) b.0)))
     → AreWaking (record fields { states = states }) next left
 waking_with fields states actor state comers others moves was next left once held = record {
   owners = was.owners;
@@ -204,7 +217,7 @@ waking_with fields states actor state comers others moves was next left once hel
   actors = was.actors ∙ sym (moves_long fields.states states actor.0 state moves);
   few = was.few;
   once = once;
-  held = λ b some. let now = held b some in (now.0, ap (λ (xs : List State). is_held (get_or xs (b.0 - 1) Ended)) moves.actors ∙ now.1);
+  held = λ b some. let now = held b some in (now.0, ap (λ (xs : List Actor). is_queued (state_at xs b.0)) moves.actors ∙ now.1);
   locking = was.locking;
   acquiring = was.acquiring;
 }
@@ -216,12 +229,12 @@ waking_on fields states actor state others may moves was =
     waking_with fields states actor state [] others moves was [] others was.once (λ b some. let old = was.held b some in (old.0, others_held fields.states.actors actor b state may.from old.0.0 isnt old.1))
 
 -- or it waits
-pub waking_waits : (fields : Fields) (states : ActorStates) (actor : ActorId) (state : State) (others : List ActorId) → IsSound fields → MayCall fields.states.actors actor.0 → is_held state ≡ true → Moves fields.states states actor.0 state → AreWaking fields (actor ∷ []) others → AreWaking (record fields { states = states }) [] others
+pub waking_waits : (fields : Fields) (states : ActorStates) (actor : ActorId) (state : State) (others : List ActorId) → IsSound fields → MayCall fields.states.actors actor.0 → is_queued state ≡ true → Moves fields.states states actor.0 state → AreWaking fields (actor ∷ []) others → AreWaking (record fields { states = states }) [] others
 waking_waits fields states actor state others sound may held moves was =
     waking_with fields states actor state (actor ∷ []) others moves was [] others was.once (λ b some. elim (cases_eq b.0 actor.0) [
       | inl same ↦
-          let here = get_or-set_same fields.states.actors (actor.0 - 1) state Ended (omega (arith, may.from, may.to)) in
-          ((omega (arith, same, may.from), omega (arith, same, may.to, homes_counted fields sound)), ap (λ n. is_held (get_or (put_state fields.states.actors actor.0 state) (n - 1) Ended)) same ∙ ap is_held here ∙ held)
+          let here = state_same fields.states.actors actor.0 state (record { from = may.from; to = may.to }) in
+          ((omega (arith, same, may.from), omega (arith, same, may.to, homes_counted fields sound)), ap (λ n. is_queued (state_at (put_state fields.states.actors actor.0 state) n)) same ∙ ap is_queued here ∙ held)
       | inr apart ↦
           let old = was.held b (omega (arith, some, times_cons b actor [], one_other b actor (λ e. apart (sym e)))) in
           (old.0, still_held fields.states.actors actor b state may.from old.0.0 apart old.1)
@@ -238,7 +251,7 @@ waking_woken fields states actor state comers others from moves was =
     ])
 
 -- who may make a call still may, as another gets ready
-pub callers_left : (old new : ActorStates) (actor : ℕ) (state : State) → IsActor old.actors actor → is_ready state ≡ true → Moves old new actor state → new.room ≡ old.room → LeavesCallers old new
+pub callers_left : (old new : ActorStates) (actor : ℕ) (state : State) → IsActor old.actors actor → is_answered state ≡ true → Moves old new actor state → new.room ≡ old.room → LeavesCallers old new
 callers_left old new actor state is ready moves same =
     let long = moves_long old new actor state moves in
     record {
@@ -247,9 +260,9 @@ callers_left old new actor state is ready moves same =
         caller = record {
           from = may.caller.from;
           to = omega (arith, long, may.caller.to);
-          ready = ap (λ (xs : List State). is_ready (get_or xs (other - 1) Ended)) moves.actors ∙ elim (cases_eq other actor) [
-            | inl equal ↦ ap (λ n. is_ready (get_or (put_state old.actors actor state) (n - 1) Ended)) equal ∙ ap is_ready (get_or-set_same old.actors (actor - 1) state Ended (omega (arith, is.from, is.to))) ∙ ready
-            | inr apart ↦ ap is_ready (get_or-set_other old.actors (actor - 1) (other - 1) state Ended (λ e. apart (omega (arith, e, is.from, may.caller.from)))) ∙ may.caller.ready
+          ready = ap (λ (xs : List Actor). is_answered (state_at xs other)) moves.actors ∙ elim (cases_eq other actor) [
+            | inl equal ↦ ap (λ n. is_answered (state_at (put_state old.actors actor state) n)) equal ∙ ap is_answered (state_same old.actors actor state is) ∙ ready
+            | inr apart ↦ ap is_answered (state_other old.actors actor other state is.from may.caller.from apart) ∙ may.caller.ready
           ];
         };
         room = omega (arith, same, may.room);
@@ -262,17 +275,17 @@ pub can_step : (fields : Fields) (actor : ℕ) → IsWhole fields → MayCall fi
 can_step fields actor whole caller room budget = record { whole = whole; call = record { caller = caller; room = room; round = whole.round }; budget = budget }
 
 -- ---- one that waited is answered, in a pass or not
-pub whole_answered : (fields : Fields) (states : ActorStates) (actor : ActorId) (state : State) → IsActor fields.states.actors actor.0 → is_ready state ≡ true → is_held (state_at fields.states.actors actor.0) ≡ false → Moves fields.states states actor.0 state →
+pub whole_answered : (fields : Fields) (states : ActorStates) (actor : ActorId) (state : State) → IsActor fields.states.actors actor.0 → is_answered state ≡ true → is_queued (state_at fields.states.actors actor.0) ≡ false → IsFree fields state → Moves fields.states states actor.0 state →
     states.room ≡ fields.states.room → IsSound fields → KeepsWhole fields (record fields { states = states })
-whole_answered fields states actor state is ready isnt moves room sound = record {
-  passing = passing_moved fields states actor state is.from isnt moves (omega (arith, room));
+whole_answered fields states actor state is ready isnt free moves room sound = record {
+  passing = passing_moved fields states actor state is.from isnt free moves (omega (arith, room));
   whole = λ n was. record {
     sound = sound_moved fields states actor.0 state moves was.sound;
     roomy = record { starts = was.roomy.starts; owners = was.roomy.owners; mailboxes = was.roomy.mailboxes; requests = was.roomy.requests };
     dated = was.dated;
     timely = was.timely;
     limited = was.limited;
-    meeting = meeting_moved fields states was.meeting;
+    meeting = meeting_moved fields states actor.0 state free moves was.meeting;
     held = held_moved fields states actor state is.from isnt moves was.held;
     round = moves.passing ∙ was.round;
   };
@@ -280,6 +293,20 @@ whole_answered fields states actor state is ready isnt moves room sound = record
   callers = callers_left fields.states states actor.0 state is ready moves room;
   room = room;
   rest = refl;
+}
+
+-- one after another
+pub keeps_both : (old mid new : Fields) → KeepsWhole old mid → KeepsWhole mid new → KeepsWhole old new
+keeps_both old mid new one two = record {
+  passing = λ was. two.passing (one.passing was);
+  whole = λ room was. two.whole room (one.whole room was);
+  sound = two.sound;
+  callers = record {
+    actors = two.callers.actors ∙ one.callers.actors;
+    callers = λ actor may. two.callers.callers actor (one.callers.callers actor may);
+  };
+  room = two.room ∙ one.room;
+  rest = two.rest ∙ ap (λ (f : Fields). record f { states = new.states }) one.rest;
 }
 
 -- or is not blocked so

@@ -15,8 +15,8 @@ use Rattle.sg_activity.specs.declared.kinds.PhaseKind.{PhaseKind}
 use Rattle.sg_activity.specs.declared.kinds.PhaseKind.TheVariants as phase
 use Rattle.sg_activity.specs.Links.{Capacities, Switches, is_off}
 use Rattle.sg_activity.specs.Slots.{passes, serials}
-use Rattle.sg_activity.specs.Task.{Task, exec_of, is_cut, is_hit, next_phase, phase_after, task_at, timer_of}
-use Rattle.sg_activity.specs.Underway.{Underway, due_in, hits, passed}
+use Rattle.sg_activity.specs.Task.{Task, exec_of, is_cut, is_hit, next_phase, phase_after, rekinded, task_at, timer_of}
+use Rattle.sg_activity.specs.Underway.{Underway, due_in, gone_on, held, hits, is_computing, is_kept, passed, turned}
 use Rattle.sg_mailbox.specs.declared.sides.Post.{Post}
 use Rattle.sg_mailbox.specs.declared.sides.Side.{Side}
 use Rattle.sg_mailbox.specs.Posts.{meets}
@@ -25,7 +25,8 @@ use Rattle.sg_requests.specs.Requested.{oldest, queue_at, taken}
 use Rattle.sg_route.specs.declared.router.RouteFault.{RouteFault}
 use Rattle.sg_route.specs.Roads.{Roads}
 use Rattle.sg_route.specs.Route.{Route}
-use Rattle.sg_states.specs.Actors.{Blocking, blocking_in}
+use Rattle.sg_states.specs.declared.state.Blocking.{Blocking}
+use Rattle.sg_states.specs.Actors.{blocking_in, is_alive, is_ended, joiners}
 use Rattle.sg_sync.specs.declared.outcome.Outcome.{Outcome}
 use Rattle.sg_sync.specs.declared.outcome.Outcome.TheVariants.{GoesOn, Waits, Refused}
 use Rattle.sg_sync.specs.Objects.{Done, locked, unlocked, acquired, released, arrived}
@@ -33,15 +34,20 @@ use Rattle.sg_kernel.specs.declared.meetings.Comer.{Comer}
 use Rattle.sg_kernel.specs.declared.owners.How.TheVariants as how
 use Rattle.sg_kernel.specs.declared.stop.Stop.{Stop}
 use Rattle.sg_kernel.specs.declared.stop.Stop.TheVariants.{Budget}
-use Rattle.sg_kernel.specs.Answers.{answers_side, for_receiver, side_of, with_over}
-use Rattle.sg_kernel.specs.Calls.{actor_of, answer_of_ask, answered, answered_call, computes, executes, told}
+use Rattle.sg_kernel.specs.declared.owners.Whose.{Whose}
+use Rattle.sg_kernel.specs.declared.owners.Whose.TheVariants.{Over, Alone, Posted, Pair}
+use Rattle.sg_kernel.specs.Answers.{answers_side, finishes, for_receiver, side_of, with_over}
+use Rattle.sg_kernel.specs.Calls.{actor_of, answer_of_ask, answered, answered_call, computes, executes, told, with_execution}
+use Rattle.sg_kernel.specs.Lives.{created, exits, joins_by, joins_one, leaves}
+use Rattle.sg_kernel.specs.Kills.{awaited, gives_up, gives_up_by, kill_done, kill_stretches, kills, kills_alive, withdrawn}
+use Rattle.sg_kernel.specs.Suspensions.{held_by, held_if, held_on, held_to, suspended_to}
 use Rattle.sg_kernel.specs.Failures.{UsesNothingOff}
-use Rattle.sg_kernel.specs.Locks.{all_wake, caller_first, caller_gets, caller_last, wakes, wakes_from, with_objects}
+use Rattle.sg_kernel.specs.Locks.{all_wake, caller_first, caller_gets, caller_last, joiners_wake, wakes, wakes_from, with_objects}
 use Rattle.sg_kernel.specs.Meetings.{answer_of_over, both_fail, comer_fails, comes, comes_by, fails_with, joined, joins_on, joins_over, joins_with, other_fails, posts_at, receiver_of, route_between, sender_of, sends_by, receives_by, takes_part, takes_part_failed, waits, waits_by, waits_until, way_with}
 use Rattle.sg_kernel.specs.Passes.{all_fail, changes, core_later, ends, ends_by, ends_in, ends_one, enters_one, entry_stretches, fails, fails_one, next_span, pass_at, pass_of, settled, stretches}
 use Rattle.sg_kernel.specs.Start.{first_core}
 use Rattle.sg_kernel.specs.Steps.{Step, goes_on, stops, counted, follows, and_then, each, all_of, readied, at_once}
-use Rattle.sg_kernel.specs.World.{Setup, Core, host_of, state_of, whose_at}
+use Rattle.sg_kernel.specs.World.{Setup, Core, host_of, is_suspended, state_of, whose_at, with_suspended}
 use Rattle.sg_kernel.proofs.Each.{all_of-two}
 use Rattle.sg_kernel.proofs.Hits.{rest_is_hit}
 use Rattle.sg_kernel.proofs.Meets.{pushed_at}
@@ -170,6 +176,88 @@ clear_cond false one other e f = f
 kept : (core : Core) (step : Step) → IsClear core.under → step.core.under ≡ core.under → IsClear step.core.under
 kept core step clear same = subst IsClear (sym same) clear
 
+-- one phase that becomes another of the same activity stays where it is
+same_place : (on : Switches) (kind : PhaseKind) (slot : Option Task) → passes (is_hit on) (option_map (rekinded kind) slot) ≡ passes (is_hit on) slot
+same_place on kind None = refl
+same_place on kind (Some task) = refl
+
+turned_clear : (kind : PhaseKind) (serial : ℕ) (under : Underway) → IsClear under → IsClear (turned kind serial under)
+turned_clear kind serial under clear =
+    let slot = task_at under.tasks serial in
+    clear_set under.on under.tasks (serial - 1) (option_map (rekinded kind) slot) (same_place under.on kind slot ∙ clear (serial - 1)) clear
+
+held_if_clear : (suspended : Bool) (serial : ℕ) (core : Core) → IsClear core.under → IsClear (held_if suspended serial core).under
+held_if_clear true serial core clear = turned_clear phase.Kept serial core.under clear
+held_if_clear false serial core clear = clear
+
+suspended_clear : (on : Bool) (target : ActorId) (core : Core) → IsClear core.under → IsClear (suspended_to on target core).under
+suspended_clear on target core clear = alive (is_alive (state_of core target.0))
+  where
+    flagged : Core
+    flagged = with_suspended target.0 on core
+
+    chosen : (b : Bool) (one other : Underway) → IsClear one → IsClear other → IsClear (cond b one other)
+    chosen true one other e f = e
+    chosen false one other e f = f
+
+    held_clear : (on : Bool) (serial : ℕ) → IsClear (held_to on serial core.under)
+    held_clear true serial = chosen (is_computing core.under serial) (held serial core.under) core.under (turned_clear phase.Kept serial core.under clear) clear
+    held_clear false serial = chosen (is_kept core.under serial) (gone_on serial core.under) core.under (turned_clear phase.Exec serial core.under clear) clear
+
+    on_clear : (await : Option Await) → IsClear (held_on on await flagged).under
+    on_clear None = clear
+    on_clear (Some await) = held_clear on await.serial.0
+
+    by_clear : (blocking : Option Blocking) → IsClear (held_by on blocking flagged).under
+    by_clear None = clear
+    by_clear (Some blocking) = on_clear blocking.on
+
+    alive : (b : Bool) → IsClear (cond b (held_by on (blocking_in (state_of core target.0)) flagged) core).under
+    alive true = by_clear (blocking_in (state_of core target.0))
+    alive false = clear
+
+joins_leave : (ended : Bool) (actor : ℕ) (target : ActorId) (core : Core) → (joins_by ended actor target core).core.under ≡ core.under
+joins_leave true actor target core = refl
+joins_leave false actor target core = refl
+
+-- one step, and then another
+then_clear : (first : Step) (next : Core → Step) → IsClear first.core.under → ((core : Core) → IsClear core.under → IsClear (next core).core.under) → IsClear (and_then first next).core.under
+then_clear first next clear more = by first.stop
+  where
+    by : (o : Option Stop) → IsClear (follows o first (next first.core)).core.under
+    by None = more first.core clear
+    by (Some why) = clear
+
+gives_up_clear : (serial : ℕ) (core : Core) → IsClear core.under → IsClear (gives_up serial core).core.under
+gives_up_clear serial core clear = by (whose_at core serial)
+  where
+    over : IsClear (finishes how.Failed serial core).core.under
+    over = subst IsClear (sym (finishes_leaves how.Failed serial core)) (clear_set core.under.on core.under.tasks (serial - 1) None refl clear)
+
+    by : (whose : Whose) → IsClear (gives_up_by whose serial core).core.under
+    by (Over before) = clear
+    by (Alone actor) = over
+    by (Posted mailbox sends side) = over
+    by (Pair sender receiver) = over
+
+give_up_all_clear : (serials : List ℕ) (core : Core) → IsClear core.under → IsClear (each gives_up serials core).core.under
+unfolding each
+give_up_all_clear [] core clear = clear
+give_up_all_clear (serial ∷ rest) core clear = then_clear (gives_up serial core) (each gives_up rest) (gives_up_clear serial core clear) (give_up_all_clear rest)
+
+stretches_clear : (actor : ℕ) (target : ActorId) (serials : List ℕ) (core : Core) → IsClear core.under → IsClear (all_of (kill_stretches actor target serials) core).core.under
+unfolding all_of
+stretches_clear actor target serials core clear =
+    then_clear (kill_done actor target core) (all_of (each gives_up serials ∷ joiners_wake target.0 ∷ [])) (clear_cond (actor == target.0) (goes_on core []) (at_once actor (call.Kill target) 0 answer.Done core) clear clear)
+    (λ c more. then_clear (each gives_up serials c) (all_of (joiners_wake target.0 ∷ [])) (give_up_all_clear serials c more)
+    (λ d last. then_clear (joiners_wake target.0 d) (all_of []) (kept d (joiners_wake target.0 d) last (each_leaves wakes wakes_leave (joiners target.0 1 d.actors) d)) (λ e end. end)))
+
+kills_clear : (actor : ℕ) (target : ActorId) (core : Core) → IsClear core.under → IsClear (kills actor target core).core.under
+kills_clear actor target core clear =
+    clear_cond (is_alive (state_of core target.0)) (kills_alive actor target core) (at_once actor (call.Kill target) 0 answer.Done core)
+    (stretches_clear actor target (awaited target core) (withdrawn target core) clear)
+    clear
+
 computes_clear : (setup : Setup) (actor flops priority : ℕ) (core : Core) → IsClear core.under → IsClear (computes setup actor flops priority core).core.under
 computes_clear setup actor flops priority core clear = by (is_off core.under.on.hosts (host_of setup actor)) refl
   where
@@ -181,7 +269,7 @@ computes_clear setup actor flops priority core clear = by (is_off core.under.on.
 
     by : (b : Bool) → is_off core.under.on.hosts (host_of setup actor) ≡ b → IsClear (cond b failed begun).core.under
     by true off = clear
-    by false on = clear_push core.under.on core.under.tasks (Some (exec_of (host_of setup actor) flops priority)) on clear
+    by false on = held_if_clear (is_suspended core actor) (length core.under.tasks + 1) (with_execution setup actor flops priority core) (clear_push core.under.on core.under.tasks (Some (exec_of (host_of setup actor) flops priority)) on clear)
 
 joins_clear : (route : Route) (setup : Setup) (comer : Comer) (serial : Serial) (other : Side) (core : Core) → IsClear core.under → IsClear (joins_on route setup comer serial other core).core.under
 joins_clear route setup comer serial other core clear = by (is_cut core.under.on (way_with route setup comer other)) refl
@@ -224,8 +312,17 @@ call_clear roads setup core actor (call.Unlock n) clear = kept core (caller_firs
 call_clear roads setup core actor (call.Acquire n) clear = kept core (caller_first (acquired (actor_of actor) n core.objects) actor (call.Acquire n) (counted core)) clear (first_leaves (acquired (actor_of actor) n core.objects) actor (call.Acquire n) (counted core))
 call_clear roads setup core actor (call.Release n) clear = kept core (caller_first (released n core.objects) actor (call.Release n) (counted core)) clear (first_leaves (released n core.objects) actor (call.Release n) (counted core))
 call_clear roads setup core actor call.Barrier clear = kept core (caller_last (arrived (actor_of actor) core.objects) actor call.Barrier (counted core)) clear (last_leaves (arrived (actor_of actor) core.objects) actor call.Barrier (counted core))
+call_clear roads setup core actor (call.Create n) clear = clear
+call_clear roads setup core actor (call.Join n) clear = kept core (joins_one actor n (counted core)) clear (joins_leave (is_ended (state_of core n.0)) actor n (counted core))
+call_clear roads setup core actor (call.Kill n) clear = kills_clear actor n (counted core) clear
+call_clear roads setup core actor (call.Suspend n) clear = suspended_clear true n (counted core) clear
+call_clear roads setup core actor (call.Resume n) clear = suspended_clear false n (counted core) clear
 call_clear roads setup core actor call.Yield clear = clear
-call_clear roads setup core actor call.Exit clear = clear
+call_clear roads setup core actor call.Exit clear = kept core (exits actor (counted core)) clear (each_leaves wakes wakes_leave (joiners actor 1 (leaves actor core).actors) (leaves actor (counted core)))
+
+pub creates_clear : (given : Bool) (actor : ℕ) (target : ActorId) (core : Core) → UsesNothingOff core → UsesNothingOff (created given actor target core).core
+creates_clear true actor target core none = none
+creates_clear false actor target core none = none
 
 pub first_clear : (capacities : Capacities) (setup : Setup) → UsesNothingOff (first_core capacities setup)
 unfolding serials
@@ -295,6 +392,7 @@ next_clear on task next e = by task.kind e
     by phase.Flow e = absurd (cc e)
     by phase.Exec e = absurd (cc e)
     by phase.Timer e = absurd (cc e)
+    by phase.Kept e = absurd (cc e)
 
 end_clear : (setup : Setup) (serial : ℕ) (core : Core) → IsClear core.under → IsClear (ends setup serial core).core.under
 end_clear setup serial core clear = by (task_at core.under.tasks serial) refl

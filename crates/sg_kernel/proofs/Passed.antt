@@ -1,11 +1,12 @@
 -- A pass, from the activities' contracts.
 use Rattle.std.proofs.Common.{◌≡◌, ◌≢◌, ℕ, ◌-◌, ◌<◌, true, false, cond, Option, None, option_map, List, [], ◌∷◌, length, map, get_or, zero, suc, refl, Some, sym, ap, subst, ◌∙◌, arith}
+use Rattle.std.specs.Prelude.{is_some, IsSome}
 use Rattle.std.proofs.lemmas.List.{length-map}
 use Rattle.sg_activity.specs.Doing.{Doing, later_in, settled_in}
 use Rattle.sg_activity.specs.Task.{Task}
 use Rattle.sg_activity.specs.Underway.{is_running, passed}
-use Rattle.sg_states.specs.declared.state.State.{State}
-use Rattle.sg_states.specs.Actors.{is_held, state_at}
+use Rattle.sg_states.specs.declared.state.Actor.{Actor}
+use Rattle.sg_states.specs.Actors.{state_at}
 use Rattle.sg_states.specs.States.{ActorStates}
 use Rattle.sg_kernel.specs.declared.fields.Fields.{Fields}
 use Rattle.sg_kernel.specs.declared.stop.Stop.TheVariants.{Budget, Deadlock, Starved}
@@ -13,13 +14,14 @@ use Rattle.sg_kernel.specs.World.{Setup, Core}
 use Rattle.sg_kernel.specs.Steps.{stops, all_of}
 use Rattle.sg_kernel.specs.Passes.{core_later, next_span, pass_at, settled_pass, stretches}
 use Rattle.sg_kernel.specs.kept.Coming.{IsNextDate}
-use Rattle.sg_kernel.specs.kept.Sound.{known_of, AreHeld, IsSound}
+use Rattle.sg_kernel.specs.kept.Sound.{is_queued, known_of, AreHeld, AreMeeting, IsSound}
 use Rattle.sg_kernel.specs.kept.Whole.{IsPassing, IsWhole}
 use Rattle.sg_kernel.proofs.Begins.{held_with, sound_with}
 use Rattle.sg_kernel.proofs.Each.{eq_no, eq_yes}
 use Rattle.sg_kernel.proofs.Limits.{homes_counted}
-use Rattle.sg_kernel.proofs.Moves.{meeting_moved, roomy_less}
+use Rattle.sg_kernel.proofs.Moves.{roomy_less}
 use Rattle.sg_kernel.proofs.Nexts.{up_to_entries}
+use Rattle.sg_kernel.proofs.Stated.{AreAwaiting}
 use Rattle.sg_kernel.proofs.Timely.{timely_moved, IsTimelyAt}
 
 -- ---- a pass of a world whose rates are up to date
@@ -63,10 +65,13 @@ held_states fields doing states same was = record {
   actors = was.actors ∙ sym (ap length same);
   few = was.few;
   once = was.once;
-  held = λ b some. let old = was.held b some in (old.0, ap (λ (xs : List State). is_held (state_at xs b.0)) same ∙ old.1);
+  held = λ b some. let old = was.held b some in (old.0, ap (λ (xs : List Actor). is_queued (state_at xs b.0)) same ∙ old.1);
   locking = was.locking;
   acquiring = was.acquiring;
 }
+
+meeting_states : (fields : Fields) (states : ActorStates) → states.actors ≡ fields.states.actors → AreMeeting fields → AreMeeting (record fields { states = states })
+meeting_states fields states same was = record { posts = was.posts; idle = was.idle; busy = was.busy; asked = was.asked; awaited = subst (AreAwaiting (length fields.whose.whose)) (sym same) was.awaited }
 
 -- as many actors as homes, before and after
 pub actors_same : (old new : Fields) → IsSound old → IsSound new → (known_of new).setup ≡ (known_of old).setup → length new.states.actors ≡ length old.states.actors
@@ -82,7 +87,7 @@ whole_settled fields doing is was =
       dated = omega (arith, was.dated, ap (λ (d : Doing). d.under.date) is);
       timely = subst (IsTimelyAt fields) (sym (ap (λ (d : Doing). d.under.date) is)) was.timely;
       limited = was.limited;
-      meeting = record { posts = was.meeting.posts; idle = λ place posted. ap (λ ts. get_or ts place None) tasks ∙ was.meeting.idle place posted; asked = was.meeting.asked };
+      meeting = record { posts = was.meeting.posts; idle = λ place posted. ap (λ ts. get_or ts place None) tasks ∙ was.meeting.idle place posted; busy = λ place some. ap (λ ts. is_some (get_or ts place None)) tasks ∙ was.meeting.busy place some; asked = was.meeting.asked; awaited = was.meeting.awaited };
       held = held_with fields doing fields.whose fields.boxes was.held;
       round = was.round;
     }
@@ -93,6 +98,12 @@ later_none : (change : Task → Task) (tasks : List (Option Task)) (place : ℕ)
 later_none change [] place e = refl
 later_none change (task ∷ tasks) zero e = ap (option_map change) e
 later_none change (task ∷ tasks) (suc place) e = later_none change tasks place e
+
+later_some : (change : Task → Task) (tasks : List (Option Task)) (place : ℕ) → IsSome (get_or tasks place None) → IsSome (get_or (map (option_map change) tasks) place None)
+later_some change [] place e = e
+later_some change (None ∷ tasks) zero e = e
+later_some change (Some task ∷ tasks) zero e = refl
+later_some change (task ∷ tasks) (suc place) e = later_some change tasks place e
 
 sound_later : (fields : Fields) (doing : Doing) (span : ℕ) → doing ≡ later_in span fields.doing → IsSound fields → IsSound (record fields { doing = doing })
 sound_later fields doing span to was =
@@ -115,7 +126,9 @@ passing_began fields doing states date next to began go was =
       meeting = record {
         posts = was.meeting.posts;
         idle = λ place posted. ap (λ (d : Doing). get_or d.under.tasks place None) to ∙ later_none (passed fields.doing.under span) fields.doing.under.tasks place (was.meeting.idle place posted);
+        busy = λ place some. ap (λ (d : Doing). is_some (get_or d.under.tasks place None)) to ∙ later_some (passed fields.doing.under span) fields.doing.under.tasks place (was.meeting.busy place some);
         asked = was.meeting.asked;
+        awaited = subst (AreAwaiting (length fields.whose.whose)) (sym same) was.meeting.awaited;
       };
       held = held_states fields doing states same was.held;
       passing = ap (λ (s : ActorStates). s.passing) began;
@@ -133,7 +146,7 @@ whole_passed fields stopped states date next at more over passing =
       dated = omega (arith, at, next.soon, more);
       timely = passing.timely;
       limited = passing.limited;
-      meeting = meeting_moved stopped states passing.meeting;
+      meeting = meeting_states stopped states same passing.meeting;
       held = held_states stopped stopped.doing states same passing.held;
       round = ap (λ (s : ActorStates). s.passing) over;
     }

@@ -17,7 +17,8 @@ use Rattle.sg_kernel.specs.declared.owners.Whose.TheVariants.{Over, Alone, Poste
 use Rattle.sg_kernel.specs.Meetings.{posts_from}
 use Rattle.sg_kernel.specs.kept.Owners.{Owned}
 use Rattle.sg_kernel.specs.kept.Sound.{is_idle, is_posted, IsMade, AreMeeting}
-use Rattle.sg_kernel.proofs.Meets.{AreIdle, idle_more}
+use Rattle.sg_kernel.proofs.Meets.{AreBusy, AreIdle, busy_gone, busy_more, idle_more}
+use Rattle.sg_kernel.proofs.Stated.{awaiting_more, AreAwaiting}
 use Rattle.sg_kernel.proofs.Postings.{posts-push, posts_kept}
 
 posted_idle : (w : Whose) → IsTrue (is_posted w) → IsTrue (is_idle w)
@@ -63,6 +64,7 @@ last_phase task last = cases task.kind last
     cases phase.Flow isnt = refl
     cases phase.Exec isnt = refl
     cases phase.Timer isnt = refl
+    cases phase.Kept isnt = refl
 
 -- what was under way is nobody's
 pub meeting_gone : (fields : Fields) (whose : Owned) (doing : Doing) (over : How) (place : ℕ) (task : Task) → get_or fields.doing.under.tasks place None ≡ Some task → whose.whose ≡ set fields.whose.whose place (Over over) → doing.under.tasks ≡ set fields.doing.under.tasks place None → AreMeeting fields → AreMeeting (record fields { whose = whose; doing = doing })
@@ -71,7 +73,9 @@ meeting_gone fields whose doing over place task at owned gone old =
     record {
       posts = λ mailbox. old.posts mailbox ∙ sym (ap (posts_from mailbox 1) owned ∙ posts_kept mailbox place fields.whose.whose (Over over) isnt refl);
       idle = subst (λ w. AreIdle w doing.under.tasks) (sym owned) (subst (λ t. AreIdle (set fields.whose.whose place (Over over)) t) (sym gone) (idle_gone fields.whose.whose fields.doing.under.tasks place over old.idle));
+      busy = subst (λ w. AreBusy w doing.under.tasks) (sym owned) (subst (λ t. AreBusy (set fields.whose.whose place (Over over)) t) (sym gone) (busy_gone fields.whose.whose fields.doing.under.tasks place over old.busy));
       asked = subst (λ n. All (λ (queue : List Await). All (IsMade n) queue) fields.requests.queues) (sym (ap length owned ∙ length-set fields.whose.whose place (Over over))) old.asked;
+      awaited = subst (λ n. AreAwaiting n fields.states.actors) (sym (ap length owned ∙ length-set fields.whose.whose place (Over over))) old.awaited;
     }
 
 -- ---- an activity begins
@@ -82,5 +86,7 @@ meeting_more fields whose doing actor task numbered owned begun old =
     record {
       posts = λ mailbox. old.posts mailbox ∙ sym (ap (posts_from mailbox 1) owned ∙ posts-push mailbox 1 fields.whose.whose (Alone actor) ∙ append-nil (posts_from mailbox 1 fields.whose.whose));
       idle = subst (λ w. AreIdle w doing.under.tasks) (sym owned) (subst (λ t. AreIdle (fields.whose.whose ++ Alone actor ∷ []) t) (sym begun) (idle_more fields.whose.whose fields.doing.under.tasks (Alone actor) (Some task) numbered (λ e. absurd (true≢false (sym e))) old.idle));
+      busy = subst (λ w. AreBusy w doing.under.tasks) (sym owned) (subst (λ t. AreBusy (fields.whose.whose ++ Alone actor ∷ []) t) (sym begun) (busy_more fields.whose.whose fields.doing.under.tasks (Alone actor) (Some task) numbered (λ e. refl) old.busy));
       asked = λ k d within j e inside. let made = old.asked k d within j e inside in record { from = made.from; to = omega (arith, made.to, more) };
+      awaited = awaiting_more (length fields.whose.whose) (length whose.whose) fields.states.actors (omega (arith, more)) old.awaited;
     }

@@ -1,6 +1,7 @@
 -- What is kept, as there is more room.
 use Rattle.std.proofs.Common.{◌≡◌, ◌-◌, ◌<◌, ◌≤◌, List, length, get_or, None, sym, ap, subst, ◌∙◌, arith}
 use Rattle.std.specs.List.{All}
+use Rattle.std.specs.Prelude.{is_some}
 use Rattle.sg_base.specs.declared.awaits.Await.{Await}
 use Rattle.sg_base.specs.declared.ids.BoxId.{BoxId}
 use Rattle.sg_base.specs.declared.ids.PointId.{PointId}
@@ -8,9 +9,8 @@ use Rattle.sg_activity.specs.Doing.{Doing}
 use Rattle.sg_activity.specs.Underway.{Underway}
 use Rattle.sg_mailbox.specs.Posts.{Posts, waiting}
 use Rattle.sg_requests.specs.Requested.{Requested}
-use Rattle.sg_states.specs.declared.state.State.{State}
-use Rattle.sg_states.specs.declared.state.State.TheVariants.{Ended}
-use Rattle.sg_states.specs.Actors.{is_held}
+use Rattle.sg_states.specs.declared.state.Actor.{Actor}
+use Rattle.sg_states.specs.Actors.{state_at}
 use Rattle.sg_states.specs.States.{ActorStates}
 use Rattle.sg_kernel.specs.declared.fields.Fields.{Fields}
 use Rattle.sg_kernel.specs.declared.owners.How.TheVariants as how
@@ -19,8 +19,9 @@ use Rattle.sg_kernel.specs.declared.owners.Whose.TheVariants.{Over}
 use Rattle.sg_kernel.specs.World.{extent}
 use Rattle.sg_kernel.specs.Meetings.{posts_from}
 use Rattle.sg_kernel.specs.kept.Owners.{Owned}
-use Rattle.sg_kernel.specs.kept.Sound.{setup_in, is_idle, IsMade, IsOwner}
+use Rattle.sg_kernel.specs.kept.Sound.{setup_in, is_idle, is_queued, IsMade, IsOwner}
 use Rattle.sg_kernel.specs.kept.Whole.{IsWhole}
+use Rattle.sg_kernel.proofs.Stated.{AreAwaiting}
 use Rattle.sg_kernel.proofs.Timely.{IsTimelyAt}
 
 -- how much room there is, is all that changed
@@ -65,6 +66,8 @@ whole_roomier fields doing whose boxes requests states is was =
       meeting = record {
         posts = λ mailbox. is.mailboxes mailbox ∙ was.meeting.posts mailbox ∙ sym (ap (posts_from mailbox 1) is.owners);
         idle = λ place posted. ap (λ (u : Underway). get_or u.tasks place None) is.tasks ∙ was.meeting.idle place (sym (ap (λ (l : List Whose). is_idle (get_or l place (Over how.Done))) is.owners) ∙ posted);
+        busy = λ place some. ap (λ (u : Underway). is_some (get_or u.tasks place None)) is.tasks ∙ was.meeting.busy place (sym (ap (λ (l : List Whose). is_idle (get_or l place (Over how.Done))) is.owners) ∙ some);
+        awaited = subst (λ n. AreAwaiting n states.actors) (sym (ap length is.owners)) (subst (AreAwaiting (length fields.whose.whose)) (sym is.actors) was.meeting.awaited);
         asked =
             subst (λ (q : List (List Await)). All (λ (queue : List Await). All (IsMade (length whose.whose)) queue) q) (sym is.queues)
             (subst (λ (l : List Whose). All (λ (queue : List Await). All (IsMade (length l)) queue) fields.requests.queues) (sym is.owners) was.meeting.asked);
@@ -75,7 +78,7 @@ whole_roomier fields doing whose boxes requests states is was =
         actors = held.actors ∙ sym (ap length is.actors);
         few = held.few;
         once = held.once;
-        held = λ b some. let old = held.held b some in (old.0, ap (λ (xs : List State). is_held (get_or xs (b.0 - 1) Ended)) is.actors ∙ old.1);
+        held = λ b some. let old = held.held b some in (old.0, ap (λ (xs : List Actor). is_queued (state_at xs b.0)) is.actors ∙ old.1);
         locking = held.locking;
         acquiring = held.acquiring;
       };

@@ -7,7 +7,8 @@ use Rattle.sg_activity.specs.Underway.{Underway, with_task}
 use Rattle.sg_base.specs.declared.awaits.Party.{Party}
 use Rattle.sg_base.specs.declared.awaits.Party.TheVariants as party
 use Rattle.sg_mailbox.specs.declared.sides.Side.{Side}
-use Rattle.sg_states.specs.Actors.{Blocking, blocking_in}
+use Rattle.sg_states.specs.declared.state.Blocking.{Blocking}
+use Rattle.sg_states.specs.Actors.{blocking_in}
 use Rattle.sg_kernel.specs.declared.owners.How.{How}
 use Rattle.sg_kernel.specs.declared.owners.How.TheVariants as how
 use Rattle.sg_kernel.specs.declared.owners.Whose.{Whose}

@@ -1,14 +1,13 @@
 -- A communication that would begin fails in its call.
 use Rattle.std.proofs.Common.{◌≡◌, ◌≢◌, ℕ, ◌-◌, ◌≤◌, Bool, true, false, cond, None, Option, List, [], ◌∷◌, ◌++◌, length, set, zero, suc, get_or, refl, sym, ap, ap₂, subst, ◌∙◌, append-nil, arith}
 use Rattle.std.specs.List.{All}
-use Rattle.std.specs.Prelude.{option_to_list}
 use Rattle.std.proofs.lemmas.List.{length-set}
 use Rattle.std.proofs.lemmas.List.Elements.{All-set}
 use Rattle.sg_base.specs.declared.ids.BoxId.{BoxId}
 use Rattle.sg_base.specs.declared.ids.Serial.{Serial}
 use Rattle.sg_base.specs.declared.awaits.Party.TheVariants.{Sender, Receiver}
-use Rattle.sg_activity.specs.Task.{Task, flow_in, is_cut, task_at}
-use Rattle.sg_activity.specs.Underway.{Underway, with_task}
+use Rattle.sg_activity.specs.Task.{Task, is_cut, task_at}
+use Rattle.sg_activity.specs.Underway.{Underway, marked, with_task}
 use Rattle.sg_mailbox.specs.declared.sides.Side.{Side}
 use Rattle.sg_mailbox.specs.Posts.{Posts, arrives, waiting}
 use Rattle.sg_route.specs.Route.{Route}
@@ -27,8 +26,9 @@ use Rattle.sg_kernel.specs.kept.Whole.{IsWhole, IsWholeFor}
 use Rattle.sg_kernel.proofs.Begins.{held_with, sound_with}
 use Rattle.sg_kernel.proofs.Each.{both_on, then_after}
 use Rattle.sg_kernel.proofs.Ends.{answers_side_goes}
-use Rattle.sg_kernel.proofs.Meets.{AreTold, AreIdle, idle_over, made_more, told_met}
+use Rattle.sg_kernel.proofs.Meets.{AreBusy, AreTold, AreIdle, busy_over, idle_over, made_more, told_met}
 use Rattle.sg_kernel.proofs.Mets.{IsMet, takes_part_on}
+use Rattle.sg_kernel.proofs.Stated.{awaiting_more}
 
 -- ---- nothing stops it
 cond_goes : (b : Bool) (one other : Step) → one.stop ≡ None → other.stop ≡ None → (cond b one other).stop ≡ None
@@ -64,10 +64,10 @@ set_none [] place e = refl
 set_none (task ∷ tasks) zero e = ap (λ t. t ∷ tasks) (sym e)
 set_none (task ∷ tasks) (suc place) e = ap (λ l. task ∷ l) (set_none tasks place e)
 
-untouched : (under : Underway) (serial : ℕ) → task_at under.tasks serial ≡ None → with_task serial None under ≡ under
+pub untouched : (under : Underway) (serial : ℕ) → task_at under.tasks serial ≡ None → with_task serial None under ≡ under
 untouched under serial none =
-    ap₂ (λ tasks ended. record under { tasks = tasks; marks = record under.marks { ended = ended } }) (set_none under.tasks (serial - 1) none)
-    (ap (λ t. under.marks.ended ++ option_to_list (flow_in under.capacities t)) none ∙ append-nil under.marks.ended)
+    ap₂ (λ tasks marks. record under { tasks = tasks; marks = marks }) (set_none under.tasks (serial - 1) none)
+    (ap (λ t. marked under.capacities serial t None under.marks) none ∙ ap (λ ended. record under.marks { ended = ended }) (append-nil under.marks.ended))
 
 pub over_is : (fields : Fields) (serial : ℕ) (whose : Owned) → task_at fields.doing.under.tasks serial ≡ None → whose ≡ record { whose = set fields.whose.whose (serial - 1) (Over how.Failed); room = fields.whose.room - 1 } →
     record (counted (core_of fields)) { whose = whose.whose } ≡ with_over how.Failed serial (counted (core_of fields))
@@ -113,7 +113,9 @@ whole_unmet fields comer serial other next whose boxes m was owned there elsewhe
       meeting = record {
         posts = subst (AreTold boxes) (ap (λ (s : Serial). set fields.whose.whose (s.0 - 1) w) m.serial_is ∙ sym owners) told;
         idle = subst (λ l. AreIdle l fields.doing.under.tasks) (sym owners) (idle_over fields.whose.whose fields.doing.under.tasks (serial.0 - 1) w m.idle was.meeting.idle);
+        busy = subst (λ l. AreBusy l fields.doing.under.tasks) (sym owners) (busy_over fields.whose.whose fields.doing.under.tasks (serial.0 - 1) how.Failed was.meeting.busy);
         asked = made_more (length fields.whose.whose) (length whose.whose) fields.requests.queues more was.meeting.asked;
+        awaited = awaiting_more (length fields.whose.whose) (length whose.whose) fields.states.actors more was.meeting.awaited;
       };
       held = held_with fields fields.doing whose boxes was.held;
       round = was.round;

@@ -2,7 +2,7 @@
 use Rattle.std.proofs.Common.{◌≡◌, ◌≢◌, ℕ, ◌+◌, ◌-◌, ◌^◌, ◌<◌, ◌≤◌, true≢false, false, IsTrue, Option, None, Some, List, [], length, map, eqb, nat_lt, set, get_or, inl, inr, refl, sym, subst, ap, ◌∙◌, arith}
 use Rattle.std.specs.Prelude.{All, Contains}
 use Rattle.std.proofs.lemmas.Bool.{cases_Bool, cases_eq, cases_lt}
-use Rattle.std.proofs.lemmas.List.{get_or-set_other, length-set, length-map}
+use Rattle.std.proofs.lemmas.List.{length-set, length-map}
 use Rattle.std.proofs.lemmas.List.Elements.{All-set}
 use Rattle.std.proofs.lemmas.List.Sums.{get_or-le-sum_by}
 use Rattle.sg_base.specs.declared.ids.ActorId.{ActorId}
@@ -15,23 +15,24 @@ use Rattle.sg_sync.specs.Queues.{front, queue_at, times}
 use Rattle.sg_sync.proofs.Counts.{one, one_same, one_other, times_cons}
 use Rattle.sg_kernel.specs.declared.fields.Fields.{Fields}
 use Rattle.sg_states.specs.declared.state.State.{State}
-use Rattle.sg_states.specs.declared.state.State.TheVariants.{Ready, Blocked, Ended}
+use Rattle.sg_states.specs.declared.state.State.TheVariants.{Unstarted, Ready, Blocked, Ended}
 use Rattle.sg_kernel.specs.World.{IsActor, MayCall, extent, state_of}
-use Rattle.sg_states.specs.Actors.{is_ready}
-use Rattle.sg_kernel.specs.kept.Sound.{core_of, setup_in, point_number, IsSound, AreHeld}
-use Rattle.sg_states.specs.Actors.{is_held}
+use Rattle.sg_states.specs.declared.state.Actor.{Actor}
+use Rattle.sg_states.specs.Actors.{is_answered, put_state, state_at}
+use Rattle.sg_kernel.specs.kept.Sound.{core_of, is_queued, setup_in, point_number, IsSound, AreHeld}
 use Rattle.sg_kernel.specs.kept.Waking.{AreWaking}
+use Rattle.sg_kernel.proofs.Stated.{state_other}
 
 -- ---- who is blocked, and who is to go on
-pub still_held : (states : List State) (a b : ActorId) (s : State) → 0 < a.0 → 0 < b.0 → b.0 ≢ a.0 → IsTrue (is_held (get_or states (b.0 - 1) Ended)) → IsTrue (is_held (get_or (set states (a.0 - 1) s) (b.0 - 1) Ended))
-still_held states a b s some one apart held =
-    ap is_held (get_or-set_other states (a.0 - 1) (b.0 - 1) s Ended (λ e. apart (omega (arith, e, some, one)))) ∙ held
+pub still_held : (actors : List Actor) (a b : ActorId) (s : State) → 0 < a.0 → 0 < b.0 → b.0 ≢ a.0 → IsTrue (is_queued (state_at actors b.0)) → IsTrue (is_queued (state_at (put_state actors a.0 s) b.0))
+still_held actors a b s some one apart held =
+    ap is_queued (state_other actors a.0 b.0 s some one apart) ∙ held
 
--- one that isn't held gets any state
-pub others_held : (states : List State) (a b : ActorId) (s : State) → 0 < a.0 → 0 < b.0 → is_held (get_or states (a.0 - 1) Ended) ≡ false → IsTrue (is_held (get_or states (b.0 - 1) Ended)) → IsTrue (is_held (get_or (set states (a.0 - 1) s) (b.0 - 1) Ended))
-others_held states a b s some one isnt held = elim (cases_eq b.0 a.0) [
-  | inl same ↦ absurd (true≢false (sym held ∙ ap (λ k. is_held (get_or states (k - 1) Ended)) same ∙ isnt))
-  | inr apart ↦ still_held states a b s some one apart held
+-- one that waits at no object gets any state
+pub others_held : (actors : List Actor) (a b : ActorId) (s : State) → 0 < a.0 → 0 < b.0 → is_queued (state_at actors a.0) ≡ false → IsTrue (is_queued (state_at actors b.0)) → IsTrue (is_queued (state_at (put_state actors a.0 s) b.0))
+others_held actors a b s some one isnt held = elim (cases_eq b.0 a.0) [
+  | inl same ↦ absurd (true≢false (sym held ∙ ap (λ k. is_queued (state_at actors k)) same ∙ isnt))
+  | inr apart ↦ still_held actors a b s some one apart held
 ]
 
 times_some : (actor : ActorId) (queue : List ActorId) → Contains queue actor → 0 < times actor queue
@@ -157,7 +158,8 @@ caller_free fields actor may held = elim (cases_lt 0 (waiting fields.objects act
   | inr none ↦ omega (arith, none)
 ]
   where
-    never : (s : State) → IsTrue (is_ready s) → IsTrue (is_held s) → ⊥
+    never : (s : State) → IsTrue (is_answered s) → IsTrue (is_queued s) → ⊥
+    never Unstarted ready held = true≢false (sym ready)
     never (Ready a) ready held = true≢false (sym held)
     never (Blocked what since on) ready held = true≢false (sym ready)
     never Ended ready held = true≢false (sym ready)
@@ -182,7 +184,7 @@ waking_after old fields actor done may held keeps like is mutexes semaphores sta
       once = λ b. omega (arith, keeps b, once_with old.objects actor b done.outcome free (held.once b), ap (λ (o : Objects). waiting o b) is);
       held = λ b some.
           let was = held.held b (omega (arith, some, keeps b, ap (λ (o : Objects). waiting o b) is)) in
-          ((was.0.0, omega (arith, was.0.1, ap length homes)), ap (λ (xs : List State). is_held (get_or xs (b.0 - 1) Ended)) states ∙ was.1);
+          ((was.0.0, omega (arith, was.0.1, ap length homes)), ap (λ (xs : List Actor). is_queued (state_at xs b.0)) states ∙ was.1);
       locking = ap (λ (o : Objects). length o.locking) is ∙ like.locking ∙ held.locking ∙ sym mutexes;
       acquiring = ap (λ (o : Objects). length o.acquiring) is ∙ like.acquiring ∙ held.acquiring ∙ sym (ap length semaphores);
     }

@@ -2,7 +2,8 @@
 use Rattle.std.proofs.Common.{◌≡◌, ℕ, suc, ◌+◌, ◌-◌, ◌<◌, true, Option, None, Some, List, [], ◌∷◌, length, drop, get_or, refl, sym, ap, ◌∙◌, drop-cons, add-one, arith}
 use Rattle.sg_base.specs.declared.ids.ActorId.{ActorId}
 use Rattle.sg_base.specs.declared.call.Call.{Call}
-use Rattle.sg_states.specs.Actors.{Blocking, blocking_in}
+use Rattle.sg_states.specs.declared.state.Blocking.{Blocking}
+use Rattle.sg_states.specs.Actors.{blocking_in}
 use Rattle.sg_sync.specs.declared.outcome.Outcome.{Outcome}
 use Rattle.sg_sync.specs.declared.outcome.Outcome.TheVariants.{GoesOn, Waits, Refused}
 use Rattle.sg_kernel.specs.World.{Core, state_of}
@@ -15,7 +16,7 @@ wakes_on : (blocking : Option Blocking) (actor : ActorId) (core : Core) → (wak
 wakes_on None actor core = refl
 wakes_on (Some blocking) actor core = refl
 
-wakes_goes : (actor : ActorId) (core : Core) → (wakes actor core).stop ≡ None
+pub wakes_goes : (actor : ActorId) (core : Core) → (wakes actor core).stop ≡ None
 wakes_goes actor core = wakes_on (blocking_in (state_of core actor.0)) actor core
 
 pub wake_none : (known : Known) → after (all_wake [] known.core) known ≡ known

@@ -13,13 +13,15 @@ use Rattle.sg_base.specs.declared.awaits.Await.{Await}
 use Rattle.sg_base.specs.declared.awaits.Party.TheVariants as party
 use Rattle.sg_route.specs.Roads.{Roads}
 use Rattle.sg_sync.specs.Objects.{locked, unlocked, acquired, released, arrived}
-use Rattle.sg_states.specs.declared.state.State.TheVariants.{Ended}
 use Rattle.sg_kernel.specs.declared.owners.Whose.TheVariants.{Alone}
-use Rattle.sg_kernel.specs.World.{Setup, Core, host_of, with_state}
+use Rattle.sg_kernel.specs.World.{Setup, Core, host_of, is_suspended}
 use Rattle.sg_kernel.specs.Steps.{Step, goes_on, counted, unless_used, readied, blocked_by, at_once}
 use Rattle.sg_kernel.specs.Answers.{side_of}
 use Rattle.sg_kernel.specs.Meetings.{sends_by, receives_by, comes, waits}
 use Rattle.sg_kernel.specs.Locks.{caller_first, caller_last}
+use Rattle.sg_kernel.specs.Lives.{created, exits, joins_one}
+use Rattle.sg_kernel.specs.Kills.{kills}
+use Rattle.sg_kernel.specs.Suspensions.{held_if, resumes, suspends}
 
 abbrev pub actor_of : ℕ → ActorId
 actor_of number = record { 0 = number }
@@ -39,8 +41,13 @@ abbrev pub with_execution : Setup → ℕ → ℕ → ℕ → Core → Core
 with_execution setup actor flops priority core =
     blocks_on (exec_of (host_of setup actor) flops priority) actor (call.Compute flops priority) core
 
+-- that of a suspended actor is held as soon as it begins
+abbrev pub executed : Setup → ℕ → ℕ → ℕ → Core → Core
+executed setup actor flops priority core =
+    held_if (is_suspended core actor) (length core.under.tasks + 1) (with_execution setup actor flops priority core)
+
 abbrev pub executes : Setup → ℕ → ℕ → ℕ → Core → Step
-executes setup actor flops priority core = goes_on (with_execution setup actor flops priority core) []
+executes setup actor flops priority core = goes_on (executed setup actor flops priority core) []
 
 -- on a host that is off it fails at once
 abbrev pub computes : Setup → ℕ → ℕ → ℕ → Core → Step
@@ -52,11 +59,7 @@ computes setup actor flops priority core =
 abbrev pub with_sleep : ℕ → ℕ → Core → Core
 with_sleep actor ns core = blocks_on (timer_of ns) actor (call.Sleep ns) core
 
--- it has made its last call
-abbrev pub leaves : ℕ → Core → Core
-leaves actor core = with_state actor Ended core
-
--- the answer to a call; an Ask is refused where nobody tells the actor its next line
+-- The answer to a call. An Ask is refused where nobody tells the actor its next line, and a Create where nobody gives the named actor a context.
 abbrev pub answered_call : Roads → Setup → Core → ℕ → Call → Step
 answered_call roads setup core actor call.Ask = goes_on (readied actor answer.Refused (counted core)) []
 answered_call roads setup core actor (call.Compute flops priority) = computes setup actor flops priority (counted core)
@@ -73,8 +76,13 @@ answered_call roads setup core actor (call.Unlock mutex) = caller_first (unlocke
 answered_call roads setup core actor (call.Acquire semaphore) = caller_first (acquired (actor_of actor) semaphore core.objects) actor (call.Acquire semaphore) (counted core)
 answered_call roads setup core actor (call.Release semaphore) = caller_first (released semaphore core.objects) actor (call.Release semaphore) (counted core)
 answered_call roads setup core actor call.Barrier = caller_last (arrived (actor_of actor) core.objects) actor call.Barrier (counted core)
+answered_call roads setup core actor (call.Create target) = created false actor target core
+answered_call roads setup core actor (call.Join target) = joins_one actor target (counted core)
+answered_call roads setup core actor (call.Kill target) = kills actor target (counted core)
+answered_call roads setup core actor (call.Suspend target) = suspends actor target (counted core)
+answered_call roads setup core actor (call.Resume target) = resumes actor target (counted core)
 answered_call roads setup core actor call.Yield = at_once actor call.Yield 0 answer.Done (counted core)
-answered_call roads setup core actor call.Exit = goes_on (leaves actor (counted core)) []
+answered_call roads setup core actor call.Exit = exits actor (counted core)
 
 abbrev pub answered : Roads → Setup → Core → ℕ → Call → Step
 answered roads setup core actor what = unless_used setup.budget core (answered_call roads setup core actor what)

@@ -2,11 +2,13 @@
 use Rattle.std.specs.Prelude.{◌≡◌, ℕ, ◌-◌, Bool, if◌then◌else◌, Option, List, [], ◌++◌}
 use Rattle.sg_base.specs.declared.call.Action.{Action}
 use Rattle.sg_base.specs.declared.call.Call.{Call}
+use Rattle.sg_base.specs.declared.ids.ActorId.{ActorId}
 use Rattle.sg_base.specs.declared.trace_record.Record.{Record}
 use Rattle.sg_activity.specs.Links.{Capacities}
 use Rattle.sg_route.specs.Roads.{Roads}
 use Rattle.sg_kernel.specs.World.{Setup, Core, World}
 use Rattle.sg_kernel.specs.Calls.{answered, told}
+use Rattle.sg_kernel.specs.Lives.{created}
 use Rattle.sg_kernel.specs.Passes.{pass_of}
 use Rattle.sg_kernel.specs.Start.{first_core}
 use Rattle.sg_kernel.specs.Steps.{Step}
@@ -44,8 +46,9 @@ StandsAtFirst = (capacities : Capacities) (setup : Setup) (world : World) → wo
 abbrev pub Leads : (Step → Known → Known) → (Setup → Core → Step) → Type 0
 Leads leaves step = (known : Known) (world : World) → Stands known world → Stands (leaves (step known.setup known.core) known) (led (step known.setup world.core) world)
 
--- So it is of what `answer`, `tell` and `pass` leave.
+-- So it is of what `answer`, `create`, `tell` and `pass` leave.
 pub record StepsLead : Type 0 where
   pub calls : (roads : Roads) (actor : ℕ) (what : Call) (is_answered : Bool) → Leads (after_call is_answered) (λ setup core. answered roads setup core actor what)
+  pub creates : (given : Bool) (actor : ℕ) (target : ActorId) (is_answered : Bool) → Leads (after_call is_answered) (λ setup core. created given actor target core)
   pub asks : (actor : ℕ) (action : Option Action) (is_answered : Bool) → Leads (after_call is_answered) (λ setup core. told setup core actor action)
   pub passes : Leads after pass_of

@@ -4,6 +4,9 @@ pub mod Network
 pub mod Answers
 pub mod Meetings
 pub mod Locks
+pub mod Lives
+pub mod Kills
+pub mod Suspensions
 pub mod Calls
 pub mod Passes
 pub mod Start

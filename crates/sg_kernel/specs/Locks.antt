@@ -1,4 +1,4 @@
--- How calls on mutexes, semaphores and the barrier are answered.
+-- How calls on mutexes, semaphores and the barrier are answered, and who waits for another goes on.
 use Rattle.std.specs.Prelude.{ℕ, Option, None, Some, List, []}
 use Rattle.sg_base.specs.declared.call.Answer.TheVariants as answer
 use Rattle.sg_base.specs.declared.call.Call.{Call}
@@ -7,7 +7,8 @@ use Rattle.sg_sync.specs.declared.outcome.Outcome.{Outcome}
 use Rattle.sg_sync.specs.declared.outcome.Outcome.TheVariants.{GoesOn, Waits, Refused}
 use Rattle.sg_sync.specs.Objects.{Done}
 use Rattle.sg_kernel.specs.World.{Core, state_of}
-use Rattle.sg_states.specs.Actors.{Blocking, blocking_in}
+use Rattle.sg_states.specs.declared.state.Blocking.{Blocking}
+use Rattle.sg_states.specs.Actors.{blocking_in, joiners}
 use Rattle.sg_kernel.specs.Steps.{Step, goes_on, and_then, each, blocked_by, replied, at_once}
 
 -- the one that made the call
@@ -26,6 +27,10 @@ wakes actor core = wakes_from (blocking_in (state_of core actor.0)) actor core
 
 abbrev pub all_wake : List ActorId → Core → Step
 all_wake actors core = each wakes actors core
+
+-- those that joined an actor go on, by rising id
+abbrev pub joiners_wake : ℕ → Core → Step
+joiners_wake target core = all_wake (joiners target 1 core.actors) core
 
 -- ---- what a call on an object leads to, once it is counted
 -- the caller is answered before those that go on by its call

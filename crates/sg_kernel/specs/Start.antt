@@ -1,9 +1,9 @@
 -- Where a simulation begins: from a platform and a deployment.
-use Rattle.std.specs.Prelude.{ℕ, Bool, true, false, None, List, [], ◌∷◌, ◌++◌, length, map, replicate}
+use Rattle.std.specs.Prelude.{ℕ, Bool, true, false, None, option_map, List, [], ◌∷◌, ◌++◌, length, map, replicate}
 use Rattle.std.specs.List.{count_by, flat_map}
-use Rattle.sg_base.specs.declared.call.Answer.TheVariants as answer
 use Rattle.sg_activity.specs.declared.kinds.HostCap.{HostCap}
 use Rattle.sg_activity.specs.declared.kinds.LinkCap.{LinkCap}
+use Rattle.sg_activity.specs.declared.kinds.Power.{Power}
 use Rattle.sg_activity.specs.Links.{Capacities}
 use Rattle.sg_activity.specs.Underway.{nothing_on}
 use Rattle.sg_profile.specs.Profiles.{first_turns, profiles_in}
@@ -14,18 +14,22 @@ use Rattle.sg_rows.specs.declared.rows.HostRow.{HostRow}
 use Rattle.sg_rows.specs.declared.rows.LinkRow.{LinkRow}
 use Rattle.sg_rows.specs.declared.rows.Policy.{Policy}
 use Rattle.sg_rows.specs.declared.rows.Policy.TheVariants.{Shared, Fatpipe, SplitDuplex}
+use Rattle.sg_rows.specs.declared.rows.Power as rows
 use Rattle.sg_rows.specs.declared.rows.SemaphoreRow.{SemaphoreRow}
 use Rattle.sg_rows.specs.declared.network.Network.{Network}
-use Rattle.sg_rows.specs.Deployment.{Deployed}
+use Rattle.sg_rows.specs.Deployment.{Deployed, starts}
 use Rattle.sg_rows.specs.Ends.{link_ends}
 use Rattle.sg_rows.specs.Network.{bandwidth_over}
 use Rattle.sg_rows.specs.Platform.{Platform}
 use Rattle.sg_sync.specs.Objects.{Objects}
-use Rattle.sg_states.specs.declared.state.State.TheVariants.{Ready}
+use Rattle.sg_states.specs.Actors.{first_actor}
 use Rattle.sg_kernel.specs.World.{Setup, Core}
 
+abbrev pub power_of : rows.Power → Power
+power_of power = record { idle = power.idle; epsilon = power.epsilon; all = power.all; off = power.off }
+
 abbrev pub host_cap : HostRow → HostCap
-host_cap host = record { speed = host.speed; cores = host.cores }
+host_cap host = record { speed = host.speed; cores = host.cores; power = option_map power_of host.power }
 
 abbrev pub link_cap : ℕ → Bool → LinkCap
 link_cap bandwidth fatpipe = record { bandwidth = bandwidth; fatpipe = fatpipe }
@@ -72,6 +76,7 @@ setup_of platform deployed budget = record {
   network = platform.network;
   profiles = profiles_in platform;
   homes = map home_of deployed.actors;
+  starts = map starts deployed.actors;
   mutexes = length deployed.mutexes;
   semaphores = map capacity_of deployed.semaphores;
   members = count_by replays deployed.actors;
@@ -91,12 +96,12 @@ first_objects setup = record {
   others = [];
 }
 
--- on these hosts and links nothing is under way, each profile is before its first entry, and all actors are ready with the answer Start
+-- on these hosts and links nothing is under way, each profile is before its first entry, and the actors that start now are ready with the answer Start
 abbrev pub first_core : Capacities → Setup → Core
 first_core capacities setup = record {
   under = nothing_on capacities;
   turns = first_turns setup.profiles;
-  actors = replicate (length setup.homes) (Ready answer.Start);
+  actors = map first_actor setup.starts;
   whose = [];
   requests = replicate (length setup.homes) [];
   objects = first_objects setup;

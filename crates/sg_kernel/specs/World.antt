@@ -1,5 +1,5 @@
 -- What a simulation is made of.
-use Rattle.std.specs.Prelude.{ℕ, ◌-◌, List, length, slice_index, slice_index_or}
+use Rattle.std.specs.Prelude.{ℕ, ◌-◌, Bool, List, length, slice_index, slice_index_or}
 use Rattle.sg_base.specs.declared.awaits.Await.{Await}
 use Rattle.sg_base.specs.Limits.{Extent}
 use Rattle.sg_base.specs.Mind.{Mind}
@@ -7,21 +7,23 @@ use Rattle.sg_activity.specs.Underway.{Underway}
 use Rattle.sg_profile.specs.declared.turn.Turn.{Turn}
 use Rattle.sg_profile.specs.declared.profile.Profile.{Profile}
 use Rattle.sg_rows.specs.declared.network.Network.{Network}
+use Rattle.sg_states.specs.declared.state.Actor.{Actor}
 use Rattle.sg_states.specs.declared.state.State.{State}
-use Rattle.sg_states.specs.Actors.{put_state, state_at}
+use Rattle.sg_states.specs.Actors.{actor_at, put_state, put_suspended, state_at}
 use Rattle.sg_states.specs.Actors as among
 use Rattle.sg_sync.specs.Objects.{Objects}
 use Rattle.sg_kernel.specs.declared.owners.How.TheVariants as how
 use Rattle.sg_kernel.specs.declared.owners.Whose.{Whose}
 use Rattle.sg_kernel.specs.declared.owners.Whose.TheVariants.{Over}
 
--- what stays: how many hosts and links there are, what the network does to latencies and bandwidths, the profiles of hosts and links, the host of each actor, how many mutexes there are, the capacity of each semaphore, how many members the barrier has, and how many events there may be
+-- what stays: how many hosts and links there are, what the network does to latencies and bandwidths, the profiles of hosts and links, the host of each actor, and whether it starts with the run, how many mutexes there are, the capacity of each semaphore, how many members the barrier has, and how many events there may be
 pub record Setup : Type 0 where
   pub hosts : ℕ
   pub links : ℕ
   pub network : Network
   pub profiles : List Profile
   pub homes : List ℕ
+  pub starts : List Bool
   pub mutexes : ℕ
   pub semaphores : List ℕ
   pub members : ℕ
@@ -31,11 +33,11 @@ pub record Setup : Type 0 where
 abbrev pub extent : Setup → Extent
 extent setup = record { actors = length setup.homes; mutexes = setup.mutexes; semaphores = length setup.semaphores }
 
--- The part of the world that calls and passes change: what is under way, with its date and its hosts and links as they are now; how far each profile is; what each actor does, by id from 1 on; whose each activity ever made is, by serial from 1 on; the requests of each actor, oldest first; the mutexes, the semaphores and the barrier; the count of events.
+-- The part of the world that calls and passes change: what is under way, with its date, its hosts and links as they are now and the energy of each host; how far each profile is; what each actor does, and whether it is suspended, by id from 1 on; whose each activity ever made is, by serial from 1 on; the requests of each actor, oldest first; the mutexes, the semaphores and the barrier; the count of events.
 pub record Core : Type 0 where
   pub under : Underway
   pub turns : List Turn
-  pub actors : List State
+  pub actors : List Actor
   pub whose : List Whose
   pub requests : List (List Await)
   pub objects : Objects
@@ -56,6 +58,12 @@ state_of core actor = state_at core.actors actor
 abbrev pub with_state : ℕ → State → Core → Core
 with_state actor state core = record core { actors = put_state core.actors actor state }
 
+abbrev pub is_suspended : Core → ℕ → Bool
+is_suspended core actor = (actor_at core.actors actor).suspended
+
+abbrev pub with_suspended : ℕ → Bool → Core → Core
+with_suspended actor on core = record core { actors = put_suspended core.actors actor on }
+
 -- whose the activity of a serial is
 abbrev pub whose_at : Core → ℕ → Whose
 whose_at core serial = slice_index_or core.whose (serial - 1) (Over how.Done)
@@ -64,6 +72,6 @@ whose_at core serial = slice_index_or core.whose (serial - 1) (Over how.Done)
 abbrev pub IsActor : Core → ℕ → Type 0
 IsActor core actor = among.IsActor core.actors actor
 
--- the actor exists, and neither has ended nor is blocked
+-- the actor exists, and has an answer to which its call is the next one
 abbrev pub MayCall : Core → ℕ → Type 0
 MayCall core actor = among.MayCall core.actors actor

@@ -4,3 +4,4 @@ pub mod Sound
 pub mod Coming
 pub mod Waking
 pub mod Whole
+pub mod Killing

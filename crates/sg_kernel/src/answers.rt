@@ -4,14 +4,14 @@ ghost use Rattle.std.specs.Prelude.{◌≡◌, ◌<◌, ◌^◌, if◌then◌els
 ghost use Rattle.sg_kernel.specs.Answers.{answer_of_done as answer_of_done_spec, answer_to as answer_to_spec, answers, answers_side, for_receiver, tells_bytes as tells_bytes_spec};
 ghost use Rattle.sg_kernel.specs.World.{extent};
 ghost use Rattle.sg_kernel.specs.kept.Sound.{setup_in, IsOwner, IsSide, IsSound, StepsBy};
-ghost use Rattle.sg_kernel.specs.kept.Whole.{IsPassing, KeepsWhole};
+ghost use Rattle.sg_kernel.specs.kept.Whole.{KeepsWhole};
 
 use crate::fields::Fields;
 use crate::meetings::bare_side;
 use crate::owners::{How, Whose};
 use sg_base::{Answer, Call, Msg, Party, Serial};
 use sg_mailbox::Side;
-use sg_states::State;
+use sg_states::{Blocking, State};
 
 fn tells_bytes(what: Call) -> bool
     ensures { result ≡ tells_bytes_spec what }
@@ -62,9 +62,11 @@ pub(crate) fn answer_side(fields: &mut Fields, over: How, serial: Serial, party:
             let bytes = bytes_told(what, given.bytes);
             let answer = answer_to(over, what, given.msg);
             let date = fields.doing.date();
+            let on = Some(on);
+            let blocking = Blocking { what, since, on };
             fields
                 .states
-                .reply(given.actor, what, since, bytes, answer, date);
+                .reply(given.actor, blocking, bytes, answer, date);
         }
         _ => {}
     }
@@ -83,12 +85,10 @@ pub(crate) fn for_receiver(sender: Side, receiver: Side) -> Side
 /// Answers those whose activity is over: of a communication the sender, and then the receiver.
 pub(crate) fn answer_owners(fields: &mut Fields, over: How, serial: Serial, whose: Whose)
     requires whose { IsOwner (extent (setup_in fields.old)) whose }
-    requires passing { IsPassing fields.old }
+    requires sound { IsSound fields.old }
+    requires small { fields.old.doing.under.date < 10 ^ 33 }
     ensures known { StepsBy (answers over serial.0 whose) fields.old fields.new }
-    ensures passing { IsPassing fields.new }
-    ensures doing { fields.new.doing ≡ fields.old.doing }
-    ensures profiles { fields.new.profiles ≡ fields.old.profiles }
-    ensures events { fields.new.events ≡ fields.old.events }
+    ensures keeps { KeepsWhole fields.old fields.new }
 {
     match whose {
         Whose::Alone(actor) => answer_side(fields, over, serial, Party::Alone, bare_side(actor)),

@@ -1,9 +1,8 @@
-//! Calls that begin nothing: the actor goes on, or it ends.
+//! Calls that begin nothing: the actor goes on.
 ghost use Rattle.std.specs.Prelude.{◌≡◌};
 ghost use Rattle.sg_base.specs.Limits.{IsAmount, IsAnswer};
 ghost use Rattle.sg_states.specs.Records.{IsTellable};
 ghost use Rattle.sg_kernel.specs.World.{extent};
-ghost use Rattle.sg_kernel.specs.Calls.{leaves};
 ghost use Rattle.sg_kernel.specs.Steps.{at_once, readied};
 ghost use Rattle.sg_kernel.specs.kept.Sound.{setup_in, CallsBy, CountsBy};
 ghost use Rattle.sg_kernel.specs.kept.Whole.{CanStep, IsWhole};
@@ -39,15 +38,5 @@ pub(crate) fn answer_now(
 {
     let date = fields.doing.date();
     fields.states.answer(actor, what, bytes, answer, date);
-    fields.events += 1;
-}
-
-/// The actor has made its last call.
-pub(crate) fn exit(fields: &mut Fields, actor: ActorId)
-    requires able { CanStep fields.old actor.0 }
-    ensures known { CountsBy (leaves actor.0) fields.old fields.new }
-    ensures whole { IsWhole fields.new }
-{
-    fields.states.exit(actor);
     fields.events += 1;
 }

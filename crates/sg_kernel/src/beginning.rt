@@ -14,7 +14,7 @@ ghost use Rattle.sg_kernel.specs.kept.Whole.{IsWhole};
 
 use crate::fields::Fields;
 use crate::owners::Owners;
-use crate::setup::{capacities, homes, hosts, links, members};
+use crate::setup::{capacities, homes, hosts, links, members, starts};
 use sg_activity::{Activities, HostCap, LinkCap};
 use sg_base::Memory;
 use sg_mailbox::Boxes;
@@ -67,7 +67,8 @@ pub(crate) fn first_fields(
     let mutexes = deployment.mutexes().len();
     let actors = deployment.actors().len();
     let members = members(deployment.actors());
-    let states = States::new(alloc, actors, mutexes, semaphores.len())?;
+    let starts = starts(alloc, deployment.actors())?;
+    let states = States::new(alloc, &starts, mutexes, semaphores.len())?;
     let requests = Requests::new(alloc, actors)?;
     let objects = Sync::new(alloc, actors as u32, mutexes as u32, &semaphores, members)?;
     let homes = homes(alloc, deployment.actors())?;
@@ -82,6 +83,7 @@ pub(crate) fn first_fields(
         network,
         profiles,
         homes,
+        starts,
         mutexes,
         semaphores,
         members,

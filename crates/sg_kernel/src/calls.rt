@@ -12,9 +12,13 @@ ghost use Rattle.sg_kernel.specs.Roads.{AreOver};
 ghost use Rattle.sg_kernel.specs.kept.Sound.{core_of, known_of, setup_in};
 ghost use Rattle.sg_kernel.specs.kept.Whole.{CanStep, IsWhole};
 
-use crate::at_once::{answer_now, exit, go_on};
+use crate::at_once::{answer_now, go_on};
+use crate::creating::create;
 use crate::executions::{compute, sleep};
 use crate::fields::Fields;
+use crate::holding::{resume, suspend};
+use crate::joining::{exit, join};
+use crate::killing::kill;
 use crate::locks::{acquire, arrive, lock, release, unlock};
 use crate::meetings::{come, comer_of, wait};
 use crate::stop::Stop;
@@ -42,6 +46,11 @@ fn answer_alone(fields: &mut Fields, actor: ActorId, call: Call)
         Call::Acquire(semaphore) => acquire(fields, actor, semaphore),
         Call::Release(semaphore) => release(fields, actor, semaphore),
         Call::Barrier => arrive(fields, actor),
+        Call::Create(target) => create(fields, actor, target, false),
+        Call::Join(target) => join(fields, actor, target),
+        Call::Kill(target) => kill(fields, actor, target),
+        Call::Suspend(target) => suspend(fields, actor, target),
+        Call::Resume(target) => resume(fields, actor, target),
         Call::Yield => answer_now(fields, actor, Call::Yield, 0, Answer::Done),
         Call::Exit => exit(fields, actor),
         Call::Send(..) | Call::Recv(_) | Call::ISend(..) | Call::IRecv(_) => unreachable!(),

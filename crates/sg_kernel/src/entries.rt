@@ -70,7 +70,6 @@ fn enter(fields: &mut Fields, entry: Entry)
 fn change(fields: &mut Fields, entry: Entry) -> Result<(), Stop>
     requires due { IsDueEntry fields.old entry }
     requires passing { IsPassing fields.old }
-    requires stale { fields.old.doing.under.marks.began ≡ [] }
     ensures known { StepsBy (changes (setup_in fields.old) (row_next fields.old))
         fields.old fields.new }
     ensures result { result
@@ -91,7 +90,6 @@ fn change(fields: &mut Fields, entry: Entry) -> Result<(), Stop>
 /// The entries of the date come in order of rows, as far as the budget goes.
 pub(crate) fn change_due(fields: &mut Fields) -> Result<(), Stop>
     requires passing { IsPassing fields.old }
-    requires stale { fields.old.doing.under.marks.began ≡ [] }
     ensures known { StepsBy (each (changes (setup_in fields.old)) (rows_now fields.old))
         fields.old fields.new }
     ensures result { result

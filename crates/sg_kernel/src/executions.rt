@@ -1,13 +1,15 @@
 //! Executions and sleeps begin.
-ghost use Rattle.std.specs.Prelude.{◌≡◌, ◌<◌, length};
+ghost use Rattle.std.specs.Prelude.{◌≡◌, ◌+◌, ◌<◌, IsTrue, length};
+ghost use Rattle.sg_activity.specs.Underway.{is_computing};
 ghost use Rattle.sg_base.specs.Limits.{IsAmount, IsPriority, IsTime};
 ghost use Rattle.sg_kernel.specs.World.{host_of};
-ghost use Rattle.sg_kernel.specs.Calls.{alone, computes, with_execution, with_sleep};
+ghost use Rattle.sg_kernel.specs.Calls.{alone, computes, executed, with_execution, with_sleep};
 ghost use Rattle.sg_kernel.specs.kept.Sound.{setup_in, CallsBy, CountsBy, IsHome};
 ghost use Rattle.sg_kernel.specs.kept.Whole.{CanStep, IsWhole};
 
 use crate::at_once::answer_now;
 use crate::fields::Fields;
+use crate::holding::hold_if;
 use crate::owners::Whose;
 use sg_base::{ActorId, Answer, Await, Call, Party, PointId, Serial};
 
@@ -29,12 +31,14 @@ fn home_of(fields: &Fields, actor: ActorId) -> PointId
     fields.homes[actor.index()]
 }
 
-// The actor computes on its host, which is on.
-fn execute(fields: &mut Fields, actor: ActorId, host: PointId, flops: u64, priority: u32)
+// An execution of the actor begins on its host, which is on.
+fn start(fields: &mut Fields, actor: ActorId, host: PointId, flops: u64, priority: u32) -> Serial
     requires able { CanStep fields.old actor.0 }
     requires flops { IsAmount flops }
     requires priority { IsPriority priority }
     requires home { IsHome fields.old actor.0 host }
+    ensures serial { result.0 ≡ length fields.old.doing.under.tasks + 1 }
+    ensures computing { IsTrue (is_computing fields.new.doing.under result.0) }
     ensures known { CountsBy (with_execution (setup_in fields.old) actor.0 flops priority)
         fields.old fields.new }
     ensures whole { IsWhole fields.new }
@@ -49,6 +53,21 @@ fn execute(fields: &mut Fields, actor: ActorId, host: PointId, flops: u64, prior
         Some(alone(serial)),
     );
     fields.events += 1;
+    serial
+}
+
+// The actor computes on its host, which is on. That is held as soon as it begins, where the actor is suspended.
+fn execute(fields: &mut Fields, actor: ActorId, host: PointId, flops: u64, priority: u32)
+    requires able { CanStep fields.old actor.0 }
+    requires flops { IsAmount flops }
+    requires priority { IsPriority priority }
+    requires home { IsHome fields.old actor.0 host }
+    ensures known { CountsBy (executed (setup_in fields.old) actor.0 flops priority)
+        fields.old fields.new }
+    ensures whole { IsWhole fields.new }
+{
+    let serial = start(fields, actor, host, flops, priority);
+    hold_if(fields, actor, serial);
 }
 
 /// The actor computes at a priority, unless its host is off.

@@ -18,7 +18,6 @@ use sg_base::Serial;
 // The first activity of those that use something that is off fails, and whose it was is answered.
 fn fail(fields: &mut Fields, serial: Serial)
     requires hit { IsHit fields.old.doing serial.0 }
-    requires stale { fields.old.doing.under.marks.began ≡ [] }
     requires passing { IsPassing fields.old }
     requires budget { fields.old.events ≢ fields.old.budget }
     ensures known { StepsBy (fails_one serial.0) fields.old fields.new }
@@ -29,7 +28,7 @@ fn fail(fields: &mut Fields, serial: Serial)
     ensures events { fields.new.events ≡ fields.old.events + 1 }
 {
     let whose = fields.whose.fail(serial);
-    fields.doing.give_up();
+    fields.doing.give_up(serial);
     fields.events += 1;
     answer_owners(fields, How::Failed, serial, whose);
 }
@@ -37,7 +36,6 @@ fn fail(fields: &mut Fields, serial: Serial)
 /// All that use something that is off fail, by rising serial, as far as the budget goes.
 pub(crate) fn fail_all(fields: &mut Fields) -> Result<(), Stop>
     requires passing { IsPassing fields.old }
-    requires stale { fields.old.doing.under.marks.began ≡ [] }
     ensures known { StepsBy (all_fail (setup_in fields.old)) fields.old fields.new }
     ensures result { result ≡ result_of (all_fail (setup_in fields.old) (core_of fields.old)).stop }
     ensures passing { IsPassing fields.new }

@@ -30,6 +30,8 @@ pub(crate) struct Fields {
     pub(crate) profiles: Profiles,
     /// The host of each actor.
     pub(crate) homes: Vec<PointId>,
+    /// Whether each actor starts with the run.
+    pub(crate) starts: Vec<bool>,
     /// How many mutexes there are.
     pub(crate) mutexes: usize,
     /// The capacity of each semaphore.

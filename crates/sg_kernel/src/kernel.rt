@@ -1,15 +1,17 @@
 //! The kernel.
 
-ghost use Rattle.std.specs.Prelude.{◌≡◌, ◌≢◌, [], ◌==◌, ◌+◌, ◌-◌, ◌<◌, ◌≤◌, ◌^◌, ◌++◌, false, IfOk, OnOk, IfSome, All, length, Some, None, is_ok, if◌then◌else◌};
+ghost use Rattle.std.specs.Prelude.{◌≡◌, ◌≢◌, [], ◌==◌, ◌+◌, ◌-◌, ◌*◌, ◌<◌, ◌≤◌, ◌^◌, ◌++◌, true, false, IfOk, OnOk, IfSome, IsTrue, Ok, Err, All, length, Some, None, is_ok, if◌then◌else◌, slice_index_or};
 ghost use Rattle.std.specs.List.{list_all, list_any};
 ghost use Rattle.sg_base.specs.Limits.{IsCall, IsAction, IsAnswer};
 ghost use Rattle.sg_activity.specs.Underway.{work_of};
 ghost use Rattle.sg_rows.specs.Deployment.{IsDeployedOn};
-ghost use Rattle.sg_states.specs.Actors.{blocked_of, inbox_of, is_ended, is_ready};
+ghost use Rattle.sg_states.specs.Actors.{actor_at, blocked_of, inbox_of, is_alive, is_over, is_ready, is_unstarted};
 ghost use Rattle.sg_states.specs.Queue.{IsQueue};
 ghost use Rattle.sg_states.specs.Records.{IsTellable, AreRecords};
-ghost use Rattle.sg_kernel.specs.World.{extent, state_of, IsActor, MayCall};
+ghost use Rattle.sg_kernel.specs.World.{extent, is_suspended, state_of, IsActor, MayCall};
 ghost use Rattle.sg_kernel.specs.Calls.{answered, told};
+ghost use Rattle.sg_kernel.specs.Lives.{created};
+ghost use Rattle.sg_kernel.specs.declared.stop.Stop.TheVariants as stop;
 ghost use Rattle.sg_kernel.specs.Steps.{result_of};
 ghost use Rattle.sg_kernel.specs.Start.{capacities_in, setup_of};
 ghost use Rattle.sg_kernel.specs.Roads.{AreOver};
@@ -19,12 +21,14 @@ ghost use Rattle.sg_kernel.specs.Known.{after, after_call, first_known};
 use crate::at_once::go_on;
 use crate::beginning::first_fields;
 use crate::calls::answer_call;
+use crate::creating::create;
 use crate::fields::Fields;
 use crate::passes::move_on;
 use crate::stop::Stop;
-use sg_base::{Action, ActorId, Answer, Call, Memory, Record, Steps};
+use sg_base::{Action, ActorId, Answer, Call, Memory, PointId, Record, Steps};
 use sg_route::Router;
 use sg_rows::{Deployment, PlatformText};
+use sg_states::State;
 use std::alloc::Global;
 use std::marker::Model;
 use std::sync::ledger::Ledger;
@@ -60,8 +64,8 @@ impl Model for Kernel {
 }
 
 impl Kernel {
-    /// A kernel in which nothing has happened yet: each actor is ready with the answer Start, mutexes are free, and
-    /// semaphores have their capacities. `budget` is the most events that there may be.
+    /// A kernel in which nothing has happened yet: the actors that start with the run are ready with the answer Start,
+    /// mutexes are free, and semaphores have their capacities. `budget` is the most events that there may be.
     pub fn new(
         alloc: Global,
         platform: &PlatformText,
@@ -92,7 +96,8 @@ impl Kernel {
         self.fields.states.reserve_round(n)
     }
 
-    /// Answers a call of a ready actor. An Ask is refused: `tell` is its answer where there is a script. An execution on
+    /// Answers a call of an actor that had an answer. An Ask is refused: `tell` is its answer where there is a script. So
+    /// is a Create: `create` is its answer where the named actor may be given a context. An execution on
     /// a host that is off fails at once, and so does a communication that would begin over a link that is off, or from
     /// or to such a host. `router` has the routes of the kernel's platform, and stands for the same ones afterwards.
     pub fn answer(&mut self, actor: ActorId, call: Call, router: &mut Router) -> Result<(), Stop>
@@ -129,6 +134,30 @@ impl Kernel {
         Ok(())
     }
 
+    /// Whether a create of this actor may let it begin: where it hasn't started.
+    pub fn may_create(&self, target: ActorId) -> Result<bool, Stop>
+        requires { IsActor self.now.core target.0 }
+        ensures { result ≡ (if self.now.core.events == self.now.setup.budget then Err stop.Budget
+            else Ok (is_unstarted (state_of self.now.core target.0))) }
+    {
+        if self.fields.events == self.fields.budget {
+            return Err(Stop::Budget);
+        }
+        Ok(matches!(self.fields.states.state(target), State::Unstarted))
+    }
+
+    /// Answers the Create of an actor: the named one begins where it was given a context, and else the call is refused.
+    pub fn create(&mut self, actor: ActorId, target: ActorId, given: bool)
+        requires caller { MayCall self.old.core actor.0 }
+        requires target { IsActor self.old.core target.0 }
+        requires fresh { IsTrue given → IsTrue (is_unstarted (state_of self.old.core target.0)) }
+        requires budget { self.old.core.events ≢ self.old.setup.budget }
+        requires room { 0 < self.old.room }
+        ensures { self.new ≡ after_call true (created given actor.0 target self.old.core) self.old }
+    {
+        create(&mut self.fields, actor, target, given);
+    }
+
     /// Moves the date to where the next activities are done or the next entries of profiles come. First the entries of
     /// that date come, in order of rows; after each, all that uses a host or a link that is off fails, by rising serial.
     /// Then the activities that are due end, by rising serial. Each that fails or ends answers its actor, with a record.
@@ -137,7 +166,7 @@ impl Kernel {
     /// before.
     pub fn pass<L: Ledger>(&mut self, steps: &mut Steps<L>) -> Result<(), Stop>
         requires idle { list_any is_ready self.old.core.actors ≡ false }
-        requires going { list_all is_ended self.old.core.actors ≡ false }
+        requires going { list_all is_over self.old.core.actors ≡ false }
         ensures step { self.new ≡ after (pass_of self.old.setup self.old.core) self.old }
         ensures result { result ≡ result_of (pass_of self.old.setup self.old.core).stop }
         ensures looks { steps.new ≤ steps.old + work_of self.old.core.under }
@@ -163,10 +192,10 @@ impl Kernel {
         self.fields.states.run_queue()
     }
 
-    /// The answer of a ready actor.
+    /// The answer of an actor that is ready.
     pub fn inbox(&self, actor: ActorId) -> Option<Answer>
         requires { IsActor self.now.core actor.0 }
-        ensures is { result ≡ inbox_of (state_of self.now.core actor.0) }
+        ensures is { result ≡ inbox_of (actor_at self.now.core.actors actor.0) }
         ensures limited { IfSome result (IsAnswer (extent self.now.setup)) }
     {
         self.fields.states.inbox(actor)
@@ -181,6 +210,22 @@ impl Kernel {
         self.fields.states.blocked(actor)
     }
 
+    /// Whether an actor has started and hasn't ended.
+    pub fn alive(&self, actor: ActorId) -> bool
+        requires { IsActor self.now.core actor.0 }
+        ensures { result ≡ is_alive (state_of self.now.core actor.0) }
+    {
+        self.fields.states.state(actor).is_alive()
+    }
+
+    /// Whether an actor is suspended.
+    pub fn suspended(&self, actor: ActorId) -> bool
+        requires { IsActor self.now.core actor.0 }
+        ensures { result ≡ is_suspended self.now.core actor.0 }
+    {
+        self.fields.states.suspended(actor)
+    }
+
     /// Whether an actor is ready.
     pub fn any_ready(&self) -> bool
         ensures { result ≡ list_any is_ready self.now.core.actors }
@@ -188,12 +233,12 @@ impl Kernel {
         self.fields.states.any_ready()
     }
 
-    /// Whether all actors have ended.
+    /// Whether all actors that started have ended.
     pub fn ending(&self) -> bool
-        ensures is { result ≡ list_all is_ended self.now.core.actors }
+        ensures is { result ≡ list_all is_over self.now.core.actors }
         ensures number { length self.now.core.actors ≡ length self.now.setup.homes }
     {
-        self.fields.states.all_ended()
+        self.fields.states.all_over()
     }
 
     /// Whether as many events were counted as there may be.
@@ -216,6 +261,16 @@ impl Kernel {
         ensures { result ≡ self.now.core.events }
     {
         self.fields.events
+    }
+
+    /// The energy of a host up to the date, where it has a power: whole joules, and the rest in picojoules.
+    pub fn energy(&self, host: PointId) -> (u128, u64)
+        requires { host.0 < self.now.setup.hosts }
+        ensures energy { result.0 * 10 ^ 12 + result.1
+            ≡ slice_index_or self.now.core.under.energy host.0 0 }
+        ensures rest { result.1 < 10 ^ 12 }
+    {
+        self.fields.doing.energy(host)
     }
 
     /// The records that aren't cleared, in the order in which they were made.

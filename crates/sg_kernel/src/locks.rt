@@ -1,7 +1,8 @@
 //! Calls on mutexes, semaphores and the barrier.
 
-ghost use Rattle.std.specs.Prelude.{◌≡◌, ◌<◌, [], ◌∷◌, true, Contains, List, length};
+ghost use Rattle.std.specs.Prelude.{◌≡◌, ◌<◌, [], ◌∷◌, true, Contains, List, None, length};
 ghost use Rattle.sg_base.specs.declared.ids.ActorId.{ActorId};
+ghost use Rattle.sg_states.specs.Actors.{joined_by};
 ghost use Rattle.sg_states.specs.Records.{IsTellable};
 ghost use Rattle.sg_states.specs.States.{CanCall};
 ghost use Rattle.sg_sync.specs.Laws.{comers};
@@ -15,13 +16,13 @@ ghost use Rattle.sg_kernel.specs.kept.Whole.{CanStep, IsSteady, IsWhole};
 
 use crate::fields::Fields;
 use sg_base::{ActorId, Answer, Call};
-use sg_states::State;
 use sg_sync::Outcome;
 
 // What the one that made the call gets; that takes the room of the call.
 fn answer_caller(fields: &mut Fields, outcome: Outcome, actor: ActorId, what: Call)
     requires able { CanCall fields.old.states actor.0 }
     requires what { IsTellable (extent (setup_in fields.old)) what }
+    requires object { joined_by what ≡ None }
     requires steady { IsSteady fields.old }
     ensures known { known_of fields.new ≡ after_call true
         (caller_gets outcome actor.0 what (core_of fields.old)) (known_of fields.old) }
@@ -49,11 +50,9 @@ fn wake(fields: &mut Fields, actor: ActorId)
     ensures frees { LeavesCallers fields.old.states fields.new.states }
     ensures steady { IsSteady fields.new }
 {
-    if let State::Blocked(what, since, _) = fields.states.state(actor) {
+    if let Some(blocking) = fields.states.state(actor).blocking() {
         let date = fields.doing.date();
-        fields
-            .states
-            .reply(actor, what, since, 0, Answer::Done, date);
+        fields.states.reply(actor, blocking, 0, Answer::Done, date);
     }
 }
 
@@ -78,6 +77,7 @@ fn wake_others(fields: &mut Fields)
 fn answer_first(fields: &mut Fields, outcome: Outcome, actor: ActorId, what: Call)
     requires able { CanCall fields.old.states actor.0 }
     requires what { IsTellable (extent (setup_in fields.old)) what }
+    requires object { joined_by what ≡ None }
     requires steady { IsSteady fields.old }
     requires waking { AreWaking fields.old (comers actor outcome) fields.old.objects.others }
     ensures known { known_of fields.new ≡ after_call true
@@ -93,6 +93,7 @@ fn answer_first(fields: &mut Fields, outcome: Outcome, actor: ActorId, what: Cal
 fn answer_last(fields: &mut Fields, outcome: Outcome, actor: ActorId, what: Call)
     requires able { CanCall fields.old.states actor.0 }
     requires what { IsTellable (extent (setup_in fields.old)) what }
+    requires object { joined_by what ≡ None }
     requires steady { IsSteady fields.old }
     requires waking { AreWaking fields.old (comers actor outcome) fields.old.objects.others }
     ensures known { known_of fields.new ≡ after_call true

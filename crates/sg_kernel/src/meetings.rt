@@ -1,6 +1,6 @@
 //! Sides of communications come to mailboxes, and actors wait for their requests.
 
-ghost use Rattle.std.specs.Prelude.{◌≡◌, ◌≢◌, ◌-◌, ◌<◌, ◌≤◌, ◌^◌, AllPairs, None, Some, false, is_ok, length, true};
+ghost use Rattle.std.specs.Prelude.{◌≡◌, ◌≢◌, ◌-◌, ◌<◌, ◌≤◌, ◌^◌, AllPairs, IfSome, None, Some, false, is_ok, length, true};
 ghost use Rattle.sg_activity.specs.Task.{is_cut};
 ghost use Rattle.sg_base.specs.declared.ids.BoxId.{BoxId};
 ghost use Rattle.sg_base.specs.Limits.{IsActorIn};
@@ -13,7 +13,7 @@ ghost use Rattle.sg_kernel.specs.Answers.{bare_side, side_of};
 ghost use Rattle.sg_kernel.specs.Meetings.{answer_of_over as answer_of_over_spec, comer_fails, comer_of, fails_with, joins_on, joins_with, other_fails, party_of, point_of, posts, receiver_of, receives_by, sender_of, sends_by, stop_of, takes_part, waits as waits_spec, way_with};
 ghost use Rattle.sg_kernel.specs.Known.{after_call};
 ghost use Rattle.sg_kernel.specs.Roads.{AreOver, IsOver};
-ghost use Rattle.sg_kernel.specs.kept.Sound.{core_of, known_of, setup_in, comes_in, CallsBy, CountsBy, IsComer, IsSide, IsSound, StepsBy};
+ghost use Rattle.sg_kernel.specs.kept.Sound.{core_of, known_of, setup_in, comes_in, CallsBy, CountsBy, IsComer, IsMade, IsSide, IsSound, StepsBy};
 ghost use Rattle.sg_kernel.specs.kept.Whole.{CanStep, IsWhole, IsWholeFor, KeepsWhole};
 
 use crate::answers::{answer_side, for_receiver};
@@ -398,15 +398,17 @@ pub(crate) fn come(fields: &mut Fields, router: &mut Router, comer: Comer) -> Re
     }
 }
 
-// The actor is blocked by its call until its side of an activity is done.
-fn block(fields: &mut Fields, actor: ActorId, what: Call, on: Await)
+/// The actor is blocked by its call until its side of an activity is done, or, with none, until another's call lets it go
+/// on.
+pub(crate) fn block(fields: &mut Fields, actor: ActorId, what: Call, on: Option<Await>)
     requires able { CanStep fields.old actor.0 }
     requires what { IsTellable (extent (setup_in fields.old)) what }
-    ensures known { CountsBy (blocked_by actor.0 what (Some on)) fields.old fields.new }
+    requires made { IfSome on (IsMade (length fields.old.whose.whose)) }
+    ensures known { CountsBy (blocked_by actor.0 what on) fields.old fields.new }
     ensures whole { IsWhole fields.new }
 {
     let date = fields.doing.date();
-    fields.states.block(actor, what, date, Some(on));
+    fields.states.block(actor, what, date, on);
     fields.events += 1;
 }
 
@@ -431,7 +433,7 @@ pub(crate) fn wait(fields: &mut Fields, actor: ActorId)
         None => answer_now(fields, actor, Call::Wait, 0, Answer::Refused),
         Some(on) => match answer_of_over(fields.whose.of(on.serial)) {
             Some(answer) => answer_now(fields, actor, Call::Wait, 0, answer),
-            None => block(fields, actor, Call::Wait, on),
+            None => block(fields, actor, Call::Wait, Some(on)),
         },
     }
 }

@@ -106,7 +106,6 @@ fn end_due(fields: &mut Fields) -> Result<(), Stop>
 fn come(fields: &mut Fields) -> Result<(), Stop>
     requires passing { IsPassing fields.old }
     requires some { (rows_now fields.old ≢ []) ⊎ (fields.old.doing.due ≢ []) }
-    requires stale { fields.old.doing.under.marks.began ≡ [] }
     requires budget { fields.old.events ≢ fields.old.budget }
     ensures known { StepsBy (all_of (coming fields.old)) fields.old fields.new }
     ensures result { result ≡ result_of (all_of (coming fields.old) (core_of fields.old)).stop }
@@ -139,7 +138,6 @@ fn next_date(fields: &Fields) -> Option<u128>
 /// Moves the date to where something comes next, and lets come what does. The rates are up to date.
 pub(crate) fn move_on(fields: &mut Fields) -> Result<(), Stop>
     requires settled { IsTrue fields.old.doing.settled }
-    requires stale { fields.old.doing.under.marks.began ≡ [] }
     requires whole { IsWhole fields.old }
     requires idle { list_any is_ready fields.old.states.actors ≡ false }
     ensures known { StepsBy (settled_pass (setup_in fields.old)) fields.old fields.new }

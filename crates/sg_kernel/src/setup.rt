@@ -1,17 +1,33 @@
 //! What a platform and a deployment give to a simulation.
-ghost use Rattle.std.specs.Prelude.{◌≡◌, ◌≤◌, All, IfOk, length, map};
+ghost use Rattle.std.specs.Prelude.{◌≡◌, ◌≤◌, All, IfOk, length, map, option_map};
 ghost use Rattle.std.specs.List.{count_by};
+ghost use Rattle.sg_rows.specs.Deployment.{starts};
 ghost use Rattle.sg_rows.specs.Network.{IsNetwork};
 ghost use Rattle.sg_rows.specs.Platform.{IsLinkRow};
-ghost use Rattle.sg_kernel.specs.Start.{capacity_of, host_cap, is_replay, link_cap, link_caps, replays};
+ghost use Rattle.sg_kernel.specs.Start.{capacity_of, host_cap, is_replay, link_cap, link_caps, power_of, replays};
 
-use sg_activity::{HostCap, LinkCap};
+use sg_activity::{HostCap, LinkCap, Power};
 use sg_base::{Memory, PointId};
 use sg_rows::{ActorRow, Function, HostRow, LinkRow, Network, Policy, SemaphoreRow};
 use std::alloc::Global;
 
 /// The bandwidth of the loopback, in bytes a second.
 const LOOPBACK_BANDWIDTH: u64 = 498_000_000;
+
+// What a host draws, as its row says.
+fn power(row: &HostRow) -> Option<Power>
+    ensures { result ≡ option_map power_of row.now.power }
+{
+    match row.power {
+        Some(power) => Some(Power {
+            idle: power.idle,
+            epsilon: power.epsilon,
+            all: power.all,
+            off: power.off,
+        }),
+        None => None,
+    }
+}
 
 pub(crate) fn hosts(alloc: Global, rows: &[HostRow]) -> Result<Vec<HostCap>, Memory>
     ensures { IfOk result (λ hosts. hosts.items ≡ map host_cap rows.now) }
@@ -21,6 +37,7 @@ pub(crate) fn hosts(alloc: Global, rows: &[HostRow]) -> Result<Vec<HostCap>, Mem
         hosts.push(HostCap {
             speed: row.speed,
             cores: row.cores,
+            power: power(row),
         })?;
     }
     Ok(hosts)
@@ -67,6 +84,17 @@ pub(crate) fn homes(alloc: Global, actors: &[ActorRow]) -> Result<Vec<PointId>, 
         homes.push(actor.host)?;
     }
     Ok(homes)
+}
+
+/// Whether each actor starts with the run.
+pub(crate) fn starts(alloc: Global, actors: &[ActorRow]) -> Result<Vec<bool>, Memory>
+    ensures { IfOk result (λ starting. starting.items ≡ map starts actors.now) }
+{
+    let mut starts = Vec::new(alloc);
+    for actor in actors {
+        starts.push(actor.start)?;
+    }
+    Ok(starts)
 }
 
 /// The capacity of each semaphore.

@@ -161,7 +161,8 @@ fn set_levels(listed: &[usize], left: &[u64], waiting: &[u64], levels: &mut [u64
     requires left { All (λ c. c < length left.now) listed.now }
     requires waiting { All (λ c. c < length waiting.now) listed.now }
     requires levels { All (λ c. c < length levels.old) listed.now }
-    ensures listed { (i : ℕ) → i < length listed.now → slice_index levels.new (slice_index listed.now i)
+    ensures listed { (i : ℕ) → i < length listed.now
+        → slice_index levels.new (slice_index listed.now i)
         ≡ slice_index left.now (slice_index listed.now i)
         / slice_index waiting.now (slice_index listed.now i) }
     ensures others { (c : ℕ) → is_in c listed.now ≡ false

@@ -18,6 +18,14 @@ use sg_base::Steps;
 use sg_chains::Chains;
 use std::sync::ledger::Ledger;
 
+// What one count finds at each resource: what the fixed flows leave of it, and the weights of the unfixed ones that
+// wait for it.
+#[derive(Clone, Copy)]
+struct Counts<'a> {
+    left: &'a [u64],
+    waiting: &'a [u64],
+}
+
 // The level of a flow's bound, where it has one.
 fn level_of_bound(row: FlowRow) -> Option<u64>
     requires { 0 < row.weight }
@@ -89,23 +97,24 @@ fn take_off<L: Ledger>(
 fn least_limit<L: Ledger>(
     uses: &Chains,
     row: FlowRow,
-    left: &[u64],
-    waiting: &[u64],
+    counts: Counts<'_>,
     steps: &mut Steps<L>,
 ) -> Option<u64>
     requires chain { IsOneChain row.count uses.now.uses row.first }
     requires weighs { 0 < row.weight }
-    requires left { All (λ resource. resource < length left.now) (row_uses uses.now.uses row) }
-    requires waiting { All (λ resource. resource < length waiting.now)
+    requires left { All (λ resource. resource < length counts.left.now)
         (row_uses uses.now.uses row) }
-    ensures least { IsLeast result (row_limits left.now waiting.now uses.now.uses row) }
+    requires waiting { All (λ resource. resource < length counts.waiting.now)
+        (row_uses uses.now.uses row) }
+    ensures least { IsLeast result
+        (row_limits counts.entry.left.now counts.entry.waiting.now uses.now.uses row) }
     ensures looks { steps.new ≡ steps.old + row.count }
 {
     let mut least = level_of_bound(row);
     let mut at = row.first;
     for done in 0..row.count {
         let slot = look(uses, at, row.count - done, steps);
-        let level = level_of(left[slot.resource], waiting[slot.resource]);
+        let level = level_of(counts.left[slot.resource], counts.waiting[slot.resource]);
         least = smaller(least, level);
         at = slot.next_of_flow;
     }
@@ -193,15 +202,15 @@ fn lowest_with<L: Ledger>(
     flows: &Rows,
     uses: &Chains,
     id: usize,
-    left: &[u64],
-    waiting: &[u64],
+    counts: Counts<'_>,
     least: Option<u64>,
     steps: &mut Steps<L>,
 ) -> Option<u64>
-    requires rows { HavePlaces flows.now uses.now.uses left.now waiting.now }
+    requires rows { HavePlaces flows.now uses.now.uses counts.left.now counts.waiting.now }
     ensures least { (list : List ℕ) → IsLeast least list → IsLeast result
-        (list
-        ++ unfixed_limits (row_limits left.now waiting.now uses.now.uses) (row_at flows.now id)) }
+        (list ++ unfixed_limits
+        (row_limits counts.entry.left.now counts.entry.waiting.now uses.now.uses)
+        (row_at flows.now id)) }
     ensures most { steps.new ≤ steps.old + row_count (row_at flows.now id) }
     ensures looks { steps.old ≤ steps.new }
 {
@@ -211,7 +220,7 @@ fn lowest_with<L: Ledger>(
     if row.level.is_some() {
         return least;
     }
-    match least_limit(uses, row, left, waiting, steps) {
+    match least_limit(uses, row, counts, steps) {
         None => least,
         Some(limit) => smaller(least, limit),
     }
@@ -221,19 +230,18 @@ fn lowest_with<L: Ledger>(
 fn lowest<L: Ledger>(
     flows: &Rows,
     uses: &Chains,
-    left: &[u64],
-    waiting: &[u64],
+    counts: Counts<'_>,
     steps: &mut Steps<L>,
 ) -> Option<u64>
-    requires rows { HavePlaces flows.now uses.now.uses left.now waiting.now }
+    requires rows { HavePlaces flows.now uses.now.uses counts.left.now counts.waiting.now }
     ensures least { IsLeast result
-        (all_limits left.now waiting.now uses.now.uses flows.now) }
+        (all_limits counts.entry.left.now counts.entry.waiting.now uses.now.uses flows.now) }
     ensures most { steps.new ≤ steps.old + count_of flows.now }
     ensures looks { steps.old ≤ steps.new }
 {
     let mut least = None;
     for id in 0..flows.numbers() {
-        least = lowest_with(flows, uses, id, left, waiting, least, steps);
+        least = lowest_with(flows, uses, id, counts, least, steps);
     }
     least
 }
@@ -265,15 +273,15 @@ fn is_at<L: Ledger>(
     flows: &Rows,
     uses: &Chains,
     id: usize,
-    left: &[u64],
-    waiting: &[u64],
+    counts: Counts<'_>,
     low: u64,
     steps: &mut Steps<L>,
 ) -> bool
-    requires rows { HavePlaces flows.now uses.now.uses left.now waiting.now }
+    requires rows { HavePlaces flows.now uses.now.uses counts.left.now counts.waiting.now }
     ensures at { IsTrue result ↔ (IsSomeAnd (row_at flows.now id) (λ row.
         (row.level ≡ None)
-        × IsLeast (Some low) (row_limits left.now waiting.now uses.now.uses row))) }
+        × IsLeast (Some low)
+        (row_limits counts.entry.left.now counts.entry.waiting.now uses.now.uses row))) }
     ensures most { steps.new ≤ steps.old + row_count (row_at flows.now id) }
     ensures looks { steps.old ≤ steps.new }
 {
@@ -283,7 +291,7 @@ fn is_at<L: Ledger>(
     if row.level.is_some() {
         return false;
     }
-    match least_limit(uses, row, left, waiting, steps) {
+    match least_limit(uses, row, counts, steps) {
         None => false,
         Some(limit) => limit == low,
     }
@@ -294,20 +302,20 @@ fn fix_row<L: Ledger>(
     flows: &mut Rows,
     uses: &Chains,
     id: usize,
-    left: &[u64],
-    waiting: &[u64],
+    counts: Counts<'_>,
     low: u64,
     steps: &mut Steps<L>,
 )
-    requires rows { HavePlaces flows.old uses.now.uses left.now waiting.now }
-    ensures stepped { RowSteps low (row_limits left.now waiting.now uses.now.uses)
+    requires rows { HavePlaces flows.old uses.now.uses counts.left.now counts.waiting.now }
+    ensures stepped { RowSteps low
+        (row_limits counts.entry.left.now counts.entry.waiting.now uses.now.uses)
         (row_at flows.old id) (row_at flows.new id) }
     ensures others { (other : ℕ) → other ≢ id → row_at flows.new other ≡ row_at flows.old other }
     ensures len { length flows.new ≡ length flows.old }
     ensures most { steps.new ≤ steps.old + row_count (row_at flows.old id) }
     ensures looks { steps.old ≤ steps.new }
 {
-    if is_at(flows, uses, id, left, waiting, low, steps) {
+    if is_at(flows, uses, id, counts, low, steps) {
         set_level(flows, id, Some(low));
     }
 }
@@ -316,13 +324,13 @@ fn fix_row<L: Ledger>(
 fn fix_all<L: Ledger>(
     flows: &mut Rows,
     uses: &Chains,
-    left: &[u64],
-    waiting: &[u64],
+    counts: Counts<'_>,
     low: u64,
     steps: &mut Steps<L>,
 )
-    requires rows { HavePlaces flows.old uses.now.uses left.now waiting.now }
-    ensures all { (key : ℕ) → RowSteps low (row_limits left.now waiting.now uses.now.uses)
+    requires rows { HavePlaces flows.old uses.now.uses counts.left.now counts.waiting.now }
+    ensures all { (key : ℕ) → RowSteps low
+        (row_limits counts.entry.left.now counts.entry.waiting.now uses.now.uses)
         (row_at flows.old key) (row_at flows.new key) }
     ensures same { SameRows flows.old flows.new }
     ensures len { length flows.new ≡ length flows.old }
@@ -330,7 +338,7 @@ fn fix_all<L: Ledger>(
     ensures looks { steps.old ≤ steps.new }
 {
     for id in 0..flows.numbers() {
-        fix_row(flows, uses, id, left, waiting, low, steps);
+        fix_row(flows, uses, id, counts, low, steps);
     }
 }
 
@@ -359,10 +367,11 @@ pub(crate) fn fill<L: Ledger>(
     unfix_all(flows);
     for n in 0..flows.held() {
         count_all(flows, uses, capacities, left, waiting, steps);
-        let Some(low) = lowest(flows, uses, left, waiting, steps) else {
+        let counts = Counts { left, waiting };
+        let Some(low) = lowest(flows, uses, counts, steps) else {
             return;
         };
-        fix_all(flows, uses, left, waiting, low, steps);
+        fix_all(flows, uses, counts, low, steps);
     }
 }
 

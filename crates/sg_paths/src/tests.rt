@@ -201,7 +201,8 @@ fn drawn_route(alloc: Global, state: &mut u64) -> Result<PathRoute, Memory>
 }
 
 fn drawn_routes(alloc: Global, seed: u64) -> Result<Vec<PathRoute>, Memory>
-    ensures { IfOk result (λ routes. All (λ route. (route.from < MANY) × (route.to < MANY)) routes.items) }
+    ensures { IfOk result (λ routes.
+        All (λ route. (route.from < MANY) × (route.to < MANY)) routes.items) }
 {
     let mut state = seed;
     let mut routes = Vec::new(alloc);

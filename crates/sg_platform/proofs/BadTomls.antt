@@ -11,7 +11,7 @@ use Rattle.sg_platform.specs.declared.deployment.DeploymentFault.TheVariants as 
 use Rattle.sg_platform.specs.declared.platform.PlatformFault.TheVariants as platform
 use Rattle.sg_rules.specs.Faults.{faults_of}
 use Rattle.sg_rules.specs.Names.{Known, platform_known}
-use Rattle.sg_rules.specs.Tables.{deployment_tables, platform_tables}
+use Rattle.sg_tables.specs.Tables.{deployment_tables, platform_tables}
 use Rattle.sg_tree.specs.Along.{first}
 use Rattle.sg_tree.specs.Tree.{tree_of}
 use Rattle.sg_tree.specs.declared.fault.Fault.{Fault}

@@ -12,18 +12,18 @@ use Rattle.sg_platform.specs.Build.{actor_row}
 use Rattle.sg_rows.specs.Deployment.{IsFunction}
 use Rattle.sg_platform.specs.Functions.{amount_of, arguments_at, function_of, master_of, worker_id}
 use Rattle.sg_rows.specs.declared.rows.Function.TheVariants.{Replay, Worker}
-use Rattle.sg_rules.proofs.Greatest.{amount_within}
+use Rattle.sg_tables.proofs.Greatest.{amount_within}
 use Rattle.sg_rules.proofs.Kept.{KeysKept}
 use Rattle.sg_rules.proofs.KeptArguments.{HasWorkers, IsNumbered, arguments_fit, master_fits, tasks_within, workers_fit, workers_numbered}
 use Rattle.sg_rules.specs.Arguments.{are_for_master, are_workers, has_function, text_of, worker_numbers}
 use Rattle.sg_rules.specs.Names.{Known}
 use Rattle.sg_rules.specs.Rules.{key_kinds}
-use Rattle.sg_rules.specs.Tables.{key, keys_of}
-use Rattle.sg_rules.specs.Units.{amount_value}
-use Rattle.sg_rules.specs.declared.tables.Need.TheVariants.{Optional}
-use Rattle.sg_rules.specs.declared.tables.Rule.TheVariants.{ArgumentList}
-use Rattle.sg_rules.specs.declared.tables.Word.TheVariants.{Argument}
-use Rattle.sg_rules.specs.declared.tables.Table.TheVariants.{Actor}
+use Rattle.sg_tables.specs.Tables.{key, keys_of}
+use Rattle.sg_tables.specs.Units.{amount_value}
+use Rattle.sg_tables.specs.declared.tables.Need.TheVariants.{Optional}
+use Rattle.sg_tables.specs.declared.tables.Rule.TheVariants.{ArgumentList}
+use Rattle.sg_tables.specs.declared.tables.Word.TheVariants.{Argument}
+use Rattle.sg_tables.specs.declared.tables.Table.TheVariants.{Actor}
 use Rattle.sg_tree.specs.Names.{Finds}
 use Rattle.toml.specs.Data.{Data}
 

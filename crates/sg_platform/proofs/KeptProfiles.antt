@@ -12,21 +12,21 @@ use Rattle.sg_platform.proofs.LinkLists.{and_left, and_right}
 use Rattle.sg_platform.specs.Build.{amounts_at, link_id, profile_row, state_profile_row, states_at, subject_by}
 use Rattle.sg_rows.specs.Platform.{Counts, HasDates, IsProfileRow, IsProfiled, IsStateProfileRow}
 use Rattle.sg_rows.specs.declared.rows.Profiled.{Profiled}
-use Rattle.sg_rules.proofs.Greatest.{bandwidth_within, speed_within, time_within}
+use Rattle.sg_tables.proofs.Greatest.{bandwidth_within, speed_within, time_within}
 use Rattle.sg_rules.proofs.Kept.{KeysKept, host_there, not_false, optional_text, positive_there, required_at, required_items, some_there, unbroken}
 use Rattle.sg_rules.specs.Names.{Known}
 use Rattle.sg_rules.specs.Profiles.{Subjects, amount_in, are_rising, dates_kinds, each_date_kinds, is_later, is_of_host, items_at, quantity_of, state_in}
 use Rattle.sg_rules.specs.Rules.{host_kinds, key_kinds, kinds_at, profiled_host_kinds, profiled_link_kinds, text_kinds}
-use Rattle.sg_rules.specs.Tables.{key, keys_of, shape_of}
-use Rattle.sg_rules.specs.Units.{quantity_value, time_value}
-use Rattle.sg_rules.specs.declared.tables.Need.TheVariants.{Optional, Required, Unless}
-use Rattle.sg_rules.specs.declared.tables.Rule.{Rule}
-use Rattle.sg_rules.specs.declared.tables.Rule.TheVariants as rule
-use Rattle.sg_rules.specs.declared.tables.Shape.TheVariants.{Text}
-use Rattle.sg_rules.specs.declared.tables.Table.TheVariants.{Profile, StateProfile}
-use Rattle.sg_rules.specs.declared.tables.Word.TheVariants as word
-use Rattle.sg_rules.specs.declared.units.Quantity.{Quantity}
-use Rattle.sg_rules.specs.declared.units.Quantity.TheVariants.{Time, Speed, Bandwidth}
+use Rattle.sg_tables.specs.Tables.{key, keys_of, shape_of}
+use Rattle.sg_tables.specs.Units.{quantity_value, time_value}
+use Rattle.sg_tables.specs.declared.tables.Need.TheVariants.{Optional, Required, Unless}
+use Rattle.sg_tables.specs.declared.tables.Rule.{Rule}
+use Rattle.sg_tables.specs.declared.tables.Rule.TheVariants as rule
+use Rattle.sg_tables.specs.declared.tables.Shape.TheVariants.{Text}
+use Rattle.sg_tables.specs.declared.tables.Table.TheVariants.{Profile, StateProfile}
+use Rattle.sg_tables.specs.declared.tables.Word.TheVariants as word
+use Rattle.sg_tables.specs.declared.units.Quantity.{Quantity}
+use Rattle.sg_tables.specs.declared.units.Quantity.TheVariants.{Time, Speed, Bandwidth}
 use Rattle.sg_tree.proofs.Kept.{empty_left, empty_right}
 use Rattle.sg_tree.specs.Tree.{text_at}
 use Rattle.toml.specs.Data.{Data, as_str, get}

@@ -6,6 +6,7 @@ use Rattle.std.proofs.lemmas.Bool.Decides.{nat_tests}
 use Rattle.sg_base.specs.declared.ids.Child.TheVariants.{Point as PointChild, Zone as ZoneChild}
 use Rattle.sg_rows.proofs.EndsBelow.{way_back_kept}
 use Rattle.sg_rows.proofs.Networks.{plain_kept}
+use Rattle.sg_platform.proofs.KeptPower.{power_kept}
 use Rattle.sg_platform.proofs.LinkLists.{required_links, value_link_list}
 use Rattle.sg_platform.specs.Build.{actor_row, capacity_or_zero, child_of, core_or_one, gateway, host_row, link_row, links_at, links_or_back, mutex_row, network_of, network_row, point_id, route_row, router_row, semaphore_row, spoke_row, value_at, zone_id, zone_route_row, zone_row}
 use Rattle.sg_rows.specs.Deployment.{IsActorRow, IsSemaphoreRow}
@@ -14,18 +15,18 @@ use Rattle.sg_rows.specs.Network.{IsNetwork}
 use Rattle.sg_rows.specs.Platform.{Counts, IsChild, IsHostRow, IsLinkList, IsLinkRow, IsRouteRow, IsRouterRow, IsSpokeRow, IsZoneRouteRow, IsZoneRow}
 use Rattle.sg_rows.specs.declared.rows.ActorRow.{ActorRow}
 use Rattle.sg_rows.specs.declared.rows.LinkRow.{LinkRow}
-use Rattle.sg_rules.proofs.Greatest.{amount_within, bandwidth_within, factor_within, latency_within, speed_within}
+use Rattle.sg_tables.proofs.Greatest.{amount_within, bandwidth_within, factor_within, latency_within, speed_within}
 use Rattle.sg_rules.proofs.Kept.{KeysKept, child_end, end_there, host_there, taken_there, link_name_short, name_short, optional_text, point_there, positive_there, required_text, route_end_point, unbroken, zone_route_end_end, zone_there}
 use Rattle.sg_rules.specs.LinkNames.{is_split}
 use Rattle.sg_rules.specs.Names.{Known}
 use Rattle.sg_rules.specs.Rules.{end_kinds, key_kinds, kinds_at, refused_kinds, names_zone, point_kinds, positive_kinds, value_kinds, whole_kinds, zone_kinds}
-use Rattle.sg_rules.specs.Tables.{key, keys_of, word_text}
-use Rattle.sg_rules.specs.Units.{amount_value, bandwidth_value, factor_value, latency_value, speed_value}
-use Rattle.sg_rules.specs.declared.tables.Need.TheVariants.{Required, Optional, IfZone}
-use Rattle.sg_rules.specs.declared.tables.Rule.TheVariants as rule
-use Rattle.sg_rules.specs.declared.tables.Table.TheVariants.{Zone, Host, Router, Link, Route, ZoneRoute, Spoke, Network, Actor, Mutex, Semaphore}
-use Rattle.sg_rules.specs.declared.tables.Word.{Word}
-use Rattle.sg_rules.specs.declared.tables.Word.TheVariants as word
+use Rattle.sg_tables.specs.Tables.{key, keys_of, word_text}
+use Rattle.sg_tables.specs.Units.{amount_value, bandwidth_value, factor_value, latency_value, speed_value}
+use Rattle.sg_tables.specs.declared.tables.Need.TheVariants.{Required, Optional, IfZone}
+use Rattle.sg_tables.specs.declared.tables.Rule.TheVariants as rule
+use Rattle.sg_tables.specs.declared.tables.Table.TheVariants.{Zone, Host, Router, Link, Route, ZoneRoute, Spoke, Network, Actor, Mutex, Semaphore}
+use Rattle.sg_tables.specs.declared.tables.Word.{Word}
+use Rattle.sg_tables.specs.declared.tables.Word.TheVariants as word
 use Rattle.sg_tree.specs.Faults.{of_type}
 use Rattle.sg_tree.specs.Tree.{text_at, text_or_empty}
 use Rattle.toml.specs.Data.{Data, as_integer, as_str, get}
@@ -136,6 +137,7 @@ host_kept names counts counted number row kept =
       speed = rw (speed.1, rate.1) (speed_within speed.0 rate.0 rate.1);
       some_cores = cores.0;
       cores = cores.1;
+      power = power_kept row;
     }
 
 pub router_kept : (names : Known) (counts : Counts) → IsCounted names counts → (number : ℕ) (row : Data) → KeysKept names number row (keys_of Router) → IsRouterRow counts (router_row names row)

@@ -1,6 +1,7 @@
 pub mod BadTomls
 pub mod Deployed
 pub mod KeptFunctions
+pub mod KeptPower
 pub mod KeptRows
 pub mod KeptProfiles
 pub mod LinkLists

@@ -11,10 +11,10 @@ use Rattle.sg_rows.specs.Platform.{Counts, IsLinkList}
 use Rattle.sg_rules.proofs.Kept.{unbroken}
 use Rattle.sg_rules.specs.Names.{Known}
 use Rattle.sg_rules.specs.Rules.{is_text, is_unknown, key_kinds, kinds_at, link_list_kinds, list_kinds, value_kinds}
-use Rattle.sg_rules.specs.Tables.{key, word_text}
-use Rattle.sg_rules.specs.declared.tables.Need.TheVariants.{Required}
-use Rattle.sg_rules.specs.declared.tables.Rule.TheVariants.{LinkList}
-use Rattle.sg_rules.specs.declared.tables.Word.{Word}
+use Rattle.sg_tables.specs.Tables.{key, word_text}
+use Rattle.sg_tables.specs.declared.tables.Need.TheVariants.{Required}
+use Rattle.sg_tables.specs.declared.tables.Rule.TheVariants.{LinkList}
+use Rattle.sg_tables.specs.declared.tables.Word.{Word}
 use Rattle.sg_tree.proofs.Kept.{empty_left, empty_right}
 use Rattle.sg_tree.specs.Faults.{of_type}
 use Rattle.sg_tree.specs.Tree.{items_or_none, list_of}

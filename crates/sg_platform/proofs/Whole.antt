@@ -17,8 +17,8 @@ use Rattle.sg_rules.proofs.NumbersBelow.{known_links, known_points, links_below,
 use Rattle.sg_rules.specs.Faults.{faults_of, table_faults}
 use Rattle.sg_rules.specs.LinkNames.{is_split, link_names, names_by}
 use Rattle.sg_rules.specs.Names.{Known, platform_known}
-use Rattle.sg_rules.specs.Tables.{platform_tables}
-use Rattle.sg_rules.specs.declared.tables.Table.TheVariants.{Zone, Host, Router, Link, Route, ZoneRoute, Spoke, Network, Profile, StateProfile}
+use Rattle.sg_tables.specs.Tables.{platform_tables}
+use Rattle.sg_tables.specs.declared.tables.Table.TheVariants.{Zone, Host, Router, Link, Route, ZoneRoute, Spoke, Network, Profile, StateProfile}
 use Rattle.sg_tree.proofs.Bounds.{below_all}
 use Rattle.sg_tree.proofs.Kept.{empty_left, empty_right, none_empty}
 use Rattle.sg_tree.specs.Along.{first}

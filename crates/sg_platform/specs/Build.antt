@@ -17,6 +17,7 @@ use Rattle.sg_rows.specs.declared.rows.LinkRow.{LinkRow}
 use Rattle.sg_rows.specs.declared.rows.MutexRow.{MutexRow}
 use Rattle.sg_rows.specs.declared.rows.Policy.{Policy}
 use Rattle.sg_rows.specs.declared.rows.Policy.TheVariants.{Shared, Fatpipe, SplitDuplex}
+use Rattle.sg_rows.specs.declared.rows.Power.{Power}
 use Rattle.sg_rows.specs.declared.rows.ProfileRow.{ProfileRow}
 use Rattle.sg_rows.specs.declared.rows.Profiled.{Profiled}
 use Rattle.sg_rows.specs.declared.rows.Profiled.TheVariants.{Host as OfHost, Link as OfLink}
@@ -32,10 +33,12 @@ use Rattle.sg_rows.specs.declared.rows.ZoneRow.{ZoneRow}
 use Rattle.sg_rules.specs.Arguments.{text_of}
 use Rattle.sg_rules.specs.Pairs.{truth_or}
 use Rattle.sg_rules.specs.Names.{Known}
+use Rattle.sg_rules.specs.Power.{milliwatts, powers_in}
 use Rattle.sg_rules.specs.Profiles.{amount_in, items_at, quantity_of, state_in}
-use Rattle.sg_rules.specs.Units.{amount_value, bandwidth_value, factor_value, latency_value, speed_value, time_value}
-use Rattle.sg_rules.specs.declared.units.Quantity.{Quantity}
-use Rattle.sg_rules.specs.declared.units.Quantity.TheVariants.{Time}
+use Rattle.sg_rules.specs.declared.power.Powers.{Powers}
+use Rattle.sg_tables.specs.Units.{amount_value, bandwidth_value, factor_value, latency_value, speed_value, time_value}
+use Rattle.sg_tables.specs.declared.units.Quantity.{Quantity}
+use Rattle.sg_tables.specs.declared.units.Quantity.TheVariants.{Time}
 use Rattle.sg_tree.specs.Names.{Finds}
 use Rattle.sg_tree.specs.Tree.{text_at, text_or_empty}
 use Rattle.toml.specs.Data.{Data, get, as_integer}
@@ -63,6 +66,17 @@ core_or_one (Some (negsuc n)) = 1
 
 abbrev pub core_count : Data → ℕ
 core_count row = core_or_one (option_and_then as_integer (get (codes "core") row))
+
+-- what a host draws while it is off
+abbrev pub power_off : Data → ℕ
+power_off row = unwrap_or (option_and_then milliwatts (option_and_then as_integer (get (codes "power_off") row))) 0
+
+abbrev pub with_off : ℕ → Powers → Power
+with_off off powers = record { idle = powers.idle; epsilon = powers.epsilon; all = powers.all; off = off }
+
+-- what a host draws, where the row says it
+abbrev pub power_of : Data → Option Power
+power_of row = option_map (with_off (power_off row)) (powers_in (items_at (codes "power") row))
 
 abbrev pub link_id : Known → List ℕ → LinkId
 link_id names name = record { 0 = number_of names.links name }
@@ -138,6 +152,7 @@ host_row names row = record {
   zone = zone_id names (text_or_empty (codes "zone") row);
   speed = speed_of (text_or_empty (codes "speed") row);
   cores = core_count row;
+  power = power_of row;
 }
 
 unfoldable pub router_row : Known → Data → RouterRow
@@ -205,6 +220,7 @@ actor_row names row = record {
   name = text_or_empty (codes "name") row;
   host = point_id names (text_or_empty (codes "host") row);
   function = function_of names row;
+  start = truth_or true (get (codes "start") row);
 }
 
 unfoldable pub network_row : Data → Network

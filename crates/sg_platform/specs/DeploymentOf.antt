@@ -9,7 +9,7 @@ use Rattle.sg_platform.specs.declared.deployment.DeploymentFault.{DeploymentFaul
 use Rattle.sg_platform.specs.declared.deployment.DeploymentFault.TheVariants.{BadToml, MissingKey, WrongType, BadValue, BadName, Duplicate, Unknown, Limit, Function, Arguments}
 use Rattle.sg_rules.specs.Faults.{faults_of}
 use Rattle.sg_rules.specs.Names.{Known, deployment_known}
-use Rattle.sg_rules.specs.Tables.{deployment_tables}
+use Rattle.sg_tables.specs.Tables.{deployment_tables}
 use Rattle.sg_tree.specs.Along.{first}
 use Rattle.sg_tree.specs.Tree.{tree_of, rows_at}
 use Rattle.sg_tree.specs.declared.fault.Fault.{Fault}

@@ -6,7 +6,7 @@ use Rattle.sg_rows.specs.declared.rows.Function.TheVariants.{Replay, Worker, Mas
 use Rattle.sg_rules.specs.Arguments.{has_function, text_of}
 use Rattle.sg_rules.specs.Names.{Known}
 use Rattle.sg_rules.specs.Profiles.{items_at}
-use Rattle.sg_rules.specs.Units.{amount_value}
+use Rattle.sg_tables.specs.Units.{amount_value}
 use Rattle.toml.specs.Data.{Data}
 
 -- the arguments of a row

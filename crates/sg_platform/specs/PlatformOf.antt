@@ -8,7 +8,7 @@ use Rattle.sg_platform.specs.declared.platform.PlatformFault.TheVariants.{BadTom
 use Rattle.sg_rows.specs.declared.rows.LinkRow.{LinkRow}
 use Rattle.sg_rules.specs.Faults.{faults_of}
 use Rattle.sg_rules.specs.Names.{Known, platform_known}
-use Rattle.sg_rules.specs.Tables.{platform_tables}
+use Rattle.sg_tables.specs.Tables.{platform_tables}
 use Rattle.sg_tree.specs.Along.{first}
 use Rattle.sg_tree.specs.Tree.{tree_of, rows_at}
 use Rattle.sg_tree.specs.declared.fault.Fault.{Fault}

@@ -1,11 +1,11 @@
 //! Makes rows of a tree that has no fault.
 ghost use Rattle.std.specs.Prelude.{◌≡◌, ℕ, List, IfOk, codes, map, option_and_then, unwrap_or};
 ghost use Rattle.std.specs.HashMap.{get_by_text};
-ghost use Rattle.sg_platform.specs.Build.{actor_row, amounts_at, bandwidth_of, capacity_of, child_of, core_count, down_links, gateway, host_row, latency_of, link_id, link_of, link_row, links_at, mutex_row, network_of, network_row, number_of, point_id, policy_of, profile_row, route_row, router_row, routing_of, semaphore_row, speed_of, spoke_row, state_profile_row, states_at, subject_by, value_at, zone_id, zone_route_row, zone_row};
+ghost use Rattle.sg_platform.specs.Build.{actor_row, amounts_at, bandwidth_of, capacity_of, child_of, core_count, down_links, gateway, host_row, latency_of, link_id, link_of, link_row, links_at, mutex_row, network_of, network_row, number_of, point_id, policy_of, power_of, power_off, profile_row, route_row, router_row, routing_of, semaphore_row, speed_of, spoke_row, state_profile_row, states_at, subject_by, value_at, zone_id, zone_route_row, zone_row};
 ghost use Rattle.sg_rows.specs.declared.ends.LinkEnd.{LinkEnd};
 ghost use Rattle.sg_rules.specs.Names.{Known};
 ghost use Rattle.sg_rules.specs.Profiles.{amount_in, state_in};
-ghost use Rattle.sg_rules.specs.Units.{amount_value, factor_value, time_value};
+ghost use Rattle.sg_tables.specs.Units.{amount_value, factor_value, time_value};
 ghost use Rattle.sg_rules.specs.kept.NamesView.{names_view};
 ghost use Rattle.sg_tree.specs.Tree.{text_at};
 ghost use Rattle.toml.specs.Data.{Data};
@@ -15,13 +15,16 @@ use crate::functions::function_of;
 use indexmap::IndexMap;
 use sg_base::{Child, LinkId, Links, Memory, PointId, Text, ZoneId};
 use sg_rows::{
-    ActorRow, HostRow, LinkEnd, LinkRow, MutexRow, Network, Numbers, Policy, ProfileRow, Profiled,
-    RouteRow, RouterRow, Routing, SemaphoreRow, SpokeRow, StateProfileRow, States, ZoneRouteRow,
-    ZoneRow, way_back,
+    ActorRow, HostRow, LinkEnd, LinkRow, MutexRow, Network, Numbers, Policy, Power, ProfileRow,
+    Profiled, RouteRow, RouterRow, Routing, SemaphoreRow, SpokeRow, StateProfileRow, States,
+    ZoneRouteRow, ZoneRow, way_back,
 };
 use sg_rules::{
-    Names, Quantity, amount_in, amount_value, bandwidth_value, factor_value, is_symmetrical,
-    items_at, latency_value, quantity_of, speed_value, state_in, text_of, time_value,
+    Names, amount_in, is_symmetrical, items_at, milliwatts, powers_in, quantity_of, state_in,
+    text_of, truth_at,
+};
+use sg_tables::{
+    Quantity, amount_value, bandwidth_value, factor_value, latency_value, speed_value, time_value,
 };
 use sg_tree::{text_at, text_or_empty};
 use std::alloc::Global;
@@ -80,6 +83,35 @@ fn core_count(row: &Value) -> u32
             None => 1,
         },
         None => 1,
+    }
+}
+
+/// What a host draws while it is off, in milliwatts.
+fn power_off(row: &Value) -> u64
+    ensures { result ≡ power_off (view row.now) }
+{
+    match row.get("power_off") {
+        Some(value) => match value.as_integer() {
+            Some(number) => milliwatts(number).unwrap_or(0),
+            None => 0,
+        },
+        None => 0,
+    }
+}
+
+/// What a host draws, where the row says it.
+fn power_of(row: &Value) -> Option<Power>
+    ensures { result ≡ power_of (view row.now) }
+{
+    let off = power_off(row);
+    match powers_in(items_at(row, "power")) {
+        Some(powers) => Some(Power {
+            idle: powers.idle,
+            epsilon: powers.epsilon,
+            all: powers.all,
+            off,
+        }),
+        None => None,
     }
 }
 
@@ -336,6 +368,7 @@ impl Row for HostRow {
             zone,
             speed,
             cores,
+            power: power_of(row),
         })
     }
 }
@@ -513,6 +546,7 @@ impl Row for ActorRow {
             name,
             host,
             function,
+            start: truth_at(row, "start"),
         })
     }
 }

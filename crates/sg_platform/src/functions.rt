@@ -6,7 +6,8 @@ ghost use Rattle.toml.specs.View.{view};
 
 use sg_base::{ActorId, Ids, Memory};
 use sg_rows::Function;
-use sg_rules::{Names, amount_value, has_function, items_at, text_of};
+use sg_rules::{Names, has_function, items_at, text_of};
+use sg_tables::amount_value;
 use std::alloc::Global;
 use toml::Value;
 

@@ -13,7 +13,8 @@ use sg_rows::{
     HostRow, LinkRow, PlatformRows, PlatformText, ProfileRow, RouteRow, RouterRow, SpokeRow,
     StateProfileRow, ZoneRouteRow, ZoneRow, link_ends,
 };
-use sg_rules::{Names, PLATFORM, first_fault, platform_names};
+use sg_rules::{Names, first_fault, platform_names};
+use sg_tables::PLATFORM;
 use sg_tree::{Fault, Kind, NoTree, Place, read_tree, rows_at};
 use std::alloc::Global;
 use thiserror::Error;

@@ -1,1 +1,2 @@
 pub mod Requested
+pub mod kept

@@ -1,13 +1,15 @@
 -- The requests of actors.
-use Rattle.std.specs.Prelude.{ℕ, ◌-◌, Option, List, [], ◌∷◌, ◌++◌, slice_index_or, slice_set}
+use Rattle.std.specs.Prelude.{ℕ, ◌-◌, ◌==◌, nat_lt, Option, if◌then◌else◌, List, [], ◌∷◌, ◌++◌, map, slice_index_or, slice_set}
+use Rattle.std.specs.Option.{option_to_list}
 use Rattle.sg_base.specs.declared.awaits.Await.{Await}
 use Rattle.sg_queues.specs.Rings.{front, behind}
 
--- what each actor may wait for, by actor from 1 on, oldest first; how many requests were made in all; and room for so many more
+-- what each actor may wait for, by actor from 1 on, oldest first; how many requests were made in all; room for so many more; and the serials of what the actor awaited that was let go last
 pub record Requested : Type 0 where
   pub queues : List (List Await)
   pub asked : ℕ
   pub room : ℕ
+  pub awaited : List ℕ
 
 -- what the actor of this number may wait for
 abbrev pub queue_at : List (List Await) → ℕ → List Await
@@ -26,3 +28,25 @@ queued queues actor request = slice_set queues (actor - 1) (queue_at queues acto
 -- the oldest request of an actor is taken away
 abbrev pub taken : List (List Await) → ℕ → List (List Await)
 taken queues actor = slice_set queues (actor - 1) (rest_of (queue_at queues actor))
+
+-- ---- what an actor awaits
+-- a number enters a list in which each is larger than the one before, once
+unfoldable pub entered : ℕ → List ℕ → List ℕ
+entered n [] = n ∷ []
+entered n (m ∷ more) = if nat_lt n m then n ∷ m ∷ more else if n == m then m ∷ more else m ∷ entered n more
+
+-- by rising number, each once
+unfoldable pub rising : List ℕ → List ℕ
+rising [] = []
+rising (n ∷ more) = entered n (rising more)
+
+abbrev pub serial_of : Await → ℕ
+serial_of request = request.serial.0
+
+-- the serials of these requests, and of the activity on which the actor is blocked, if there is one
+abbrev pub awaited_with : Option Await → List Await → List ℕ
+awaited_with on queue = rising (map serial_of (option_to_list on ++ queue))
+
+-- an actor has no requests any more
+abbrev pub without_requests : List (List Await) → ℕ → List (List Await)
+without_requests queues actor = slice_set queues (actor - 1) []

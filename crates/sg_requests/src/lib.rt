@@ -2,6 +2,7 @@
 #![tactic(auto)]
 
 mod requests;
+mod serials;
 
 pub use requests::Requests;
 

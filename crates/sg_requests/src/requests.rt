@@ -1,7 +1,8 @@
 //! The requests of all actors.
 ghost use Rattle.std.specs.Prelude.{◌≡◌, ◌+◌, ◌-◌, ◌^◌, ◌<◌, ◌≤◌, [], length, replicate, IfOk, OnOk};
-ghost use Rattle.sg_requests.specs.Requested.{oldest, queue_at, queued, taken};
+ghost use Rattle.sg_requests.specs.Requested.{awaited_with, oldest, queue_at, queued, taken, without_requests};
 
+use crate::serials::{begin, empty, sort};
 use sg_base::{ActorId, Await, Memory, Party, Serial};
 use sg_queues::Queues;
 use std::alloc::Global;
@@ -15,20 +16,26 @@ const BLANK: Await = Await {
 
 /// What each actor asked for without waiting, and hasn't waited for yet: oldest first.
 ///
-/// Pushing and taking cost the same however many actors and requests there are.
+/// Pushing and taking cost the same however many actors and requests there are, and letting go as much as sorting what
+/// the actor awaited. Only `new` and `reserve` take memory.
 #[derive(Drop)]
 pub struct Requests {
     /// A queue for each actor.
     queues: Queues<Await>,
     /// How many requests were made in all.
     asked: u64,
+    /// How many of them stand in the queues.
+    standing: usize,
     /// Room for so many more.
     room: usize,
+    /// The serials of what the actor awaited that was let go last.
+    awaited: Vec<u64>,
 }
 
 impl Model for Requests {
-    ghost use Rattle.std.specs.Prelude.{◌≤◌};
+    ghost use Rattle.std.specs.Prelude.{vec_capacity};
     ghost use Rattle.sg_requests.specs.Requested.{Requested};
+    ghost use Rattle.sg_requests.specs.kept.Room.{IsRoomy};
     ghost use Rattle.sg_queues.specs.Queues.{values_of};
 
     ghost Value = { Requested };
@@ -37,9 +44,10 @@ impl Model for Requests {
       queues = values_of s.queues.queues;
       asked = s.asked;
       room = s.room;
+      awaited = s.awaited.items;
     } };
 
-    ghost invariant = { λ s. s.room ≤ s.queues.room };
+    ghost invariant = { λ s. IsRoomy s.queues s.asked s.standing s.room (vec_capacity s.awaited) };
 }
 
 // A queue for each of so many actors.
@@ -57,12 +65,14 @@ impl Requests {
     /// No request of so many actors, and no room.
     pub fn new(alloc: Global, actors: usize) -> Result<Requests, Memory>
         ensures { IfOk result (λ r. r
-            ≡ record { queues = replicate actors []; asked = 0; room = 0 }) }
+            ≡ record { queues = replicate actors []; asked = 0; room = 0; awaited = [] }) }
     {
         Ok(Requests {
             queues: queues_of(alloc, actors)?,
             asked: 0,
+            standing: 0,
             room: 0,
+            awaited: Vec::with_capacity(alloc, 1)?,
         })
     }
 
@@ -73,7 +83,12 @@ impl Requests {
         ensures kept { self.new ≡ record self.old { room = self.new.room } }
     {
         self.queues.reserve(n)?;
-        self.room = n.max(self.room);
+        let room = n.max(self.room);
+        let Some(most) = room.checked_add(self.standing + 1) else {
+            return Err(Memory);
+        };
+        self.awaited.reserve(most)?;
+        self.room = room;
         Ok(())
     }
 
@@ -86,10 +101,12 @@ impl Requests {
           queues = queued self.old.queues actor.0 request;
           asked = self.old.asked + 1;
           room = self.old.room - 1;
+          awaited = self.old.awaited;
         } }
     {
         let _ = self.queues.push_back(actor.index(), request);
         self.asked += 1;
+        self.standing += 1;
         self.room -= 1;
     }
 
@@ -99,6 +116,35 @@ impl Requests {
         ensures oldest { result ≡ oldest (queue_at self.old.queues actor.0) }
         ensures rest { self.new ≡ record self.old { queues = taken self.old.queues actor.0 } }
     {
-        self.queues.pop_front(actor.index())
+        match self.queues.pop_front(actor.index()) {
+            Some(request) => {
+                self.standing -= 1;
+                Some(request)
+            }
+            None => None,
+        }
+    }
+
+    /// Lets go all requests of an actor, which makes none any more. `awaited` tells their serials then, with that of the
+    /// activity on which the actor is blocked, if there is one.
+    pub fn let_go(&mut self, actor: ActorId, on: Option<Await>)
+        requires actor { (0 < actor.0) × (actor.0 ≤ length self.old.queues) }
+        ensures { self.new ≡ record self.old {
+          queues = without_requests self.old.queues actor.0;
+          awaited = awaited_with on (queue_at self.old.queues actor.0);
+        } }
+    {
+        begin(&mut self.awaited, on);
+        let others = self.awaited.len();
+        empty(&mut self.queues, actor.index(), &mut self.awaited);
+        self.standing -= self.awaited.len() - others;
+        sort(&mut self.awaited);
+    }
+
+    /// The serials of what the actor awaited that was let go last, by rising serial, each once.
+    pub fn awaited(&self) -> &[u64]
+        ensures { result.now ≡ self.now.awaited }
+    {
+        &self.awaited
     }
 }

@@ -1,4 +1,4 @@
-//! Requests of two actors in turn.
+//! Requests of two actors.
 use crate::Requests;
 use sg_base::{ActorId, Await, Memory, Party, Serial};
 use std::alloc::Global;
@@ -53,5 +53,32 @@ fn oldest_is_taken_first(rt: HostRuntime) -> Result<(), Fail> {
         Some(received(3)),
     ];
     assert_eq!(rt; taken, want);
+    Ok(())
+}
+
+// Whether an actor that asked for these and is blocked on that awaits those, once it is let go; and whether another
+// keeps its request.
+fn awaits(alloc: Global, asked: [u64; 3], on: Option<Await>, want: &[u64]) -> Result<bool, Memory> {
+    let mut requests = Requests::new(alloc, 2)?;
+    requests.reserve(4)?;
+    requests.push(FIRST, sent(1));
+    requests.push(SECOND, received(asked[0]));
+    requests.push(SECOND, received(asked[1]));
+    requests.push(SECOND, sent(asked[2]));
+    requests.let_go(SECOND, on);
+    let kept = requests.take(FIRST) == Some(sent(1));
+    let gone = requests.take(SECOND).is_none();
+    Ok(kept && gone && requests.awaited() == want)
+}
+
+#[test]
+fn each_is_awaited_once(rt: HostRuntime) -> Result<(), Fail> {
+    let alloc = rt.alloc();
+    let risen = awaits(alloc, [9, 2, 5], None, &[2, 5, 9])?;
+    assert!(rt; risen);
+    let blocked = awaits(alloc, [5, 2, 5], Some(received(3)), &[2, 3, 5])?;
+    assert!(rt; blocked);
+    let one = awaits(alloc, [4, 4, 4], Some(sent(4)), &[4])?;
+    assert!(rt; one);
     Ok(())
 }

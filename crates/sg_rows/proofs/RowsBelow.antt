@@ -1,7 +1,7 @@
 -- The row of a name is below the count of the rows.
 use Rattle.std.proofs.Common.{◌≡◌, ℕ, ◌+◌, ◌<◌, ◌≤◌, IfSome, List, [], ◌∷◌, length, Some, arith}
 use Rattle.std.specs.Str.{bytes_eq}
-use Rattle.sg_rows.specs.Index.{host_names, host_number, mutex_names, mutex_number, names_if_replay, replay_names, replay_number, semaphore_names, semaphore_number}
+use Rattle.sg_rows.specs.Index.{actor_names, actor_number, host_names, host_number, mutex_names, mutex_number, names_if_replay, replay_names, replay_number, semaphore_names, semaphore_number}
 use Rattle.sg_rows.specs.declared.rows.ActorRow.{ActorRow}
 use Rattle.sg_rows.specs.declared.rows.HostRow.{HostRow}
 use Rattle.sg_rows.specs.declared.rows.MutexRow.{MutexRow}
@@ -15,6 +15,14 @@ host_below hosts q =
 
 pub hosts_small : (hosts : List HostRow) (q : List ℕ) → length hosts ≤ 16384 → IfSome (host_number hosts q) (λ row. row < 4294967296)
 hosts_small hosts q few = below_all _ (length hosts) 4294967296 (omega (arith, few)) (host_below hosts q)
+
+actor_within : (actors : List ActorRow) (q : List ℕ) → IfSome (actor_number actors q) (λ row. row < length actors)
+actor_within actors q =
+    below_all _ (0 + 0 + length actors) (length actors) (omega arith)
+    (along_below (bytes_eq q) actor_names 0 (λ j actor. below_all _ (j + 1) (0 + j + 1) (omega arith) (numbered_below (bytes_eq q) j (actor.name ∷ []))) 0 actors)
+
+pub actor_below : (actors : List ActorRow) (q : List ℕ) (row : ℕ) → actor_number actors q ≡ Some row → row < length actors
+actor_below actors q row found = let within = rw found at (actor_within actors q) in within
 
 replay_within : (actors : List ActorRow) (q : List ℕ) → IfSome (replay_number actors q) (λ row. row < length actors)
 replay_within actors q =

@@ -1,9 +1,9 @@
 -- A deployment, and what holds of each one.
-use Rattle.std.specs.Prelude.{ℕ, ◌+◌, ◌<◌, ◌≤◌, ◌^◌, List, [], ◌∷◌, Option, length, option_map, ⊤}
+use Rattle.std.specs.Prelude.{ℕ, ◌+◌, ◌<◌, ◌≤◌, ◌^◌, Bool, List, [], ◌∷◌, Option, count_by, length, option_map, ⊤}
 use Rattle.std.specs.List.{All}
 use Rattle.sg_base.specs.declared.ids.ActorId.{ActorId}
 use Rattle.sg_base.specs.Limits.{Extent, IsActorIn, IsAmount}
-use Rattle.sg_rows.specs.Index.{mutex_number, replay_number, semaphore_number}
+use Rattle.sg_rows.specs.Index.{actor_number, mutex_number, replay_number, semaphore_number}
 use Rattle.sg_rows.specs.Platform.{Platform}
 use Rattle.sg_rows.specs.declared.rows.ActorRow.{ActorRow}
 use Rattle.sg_rows.specs.declared.rows.Function.{Function}
@@ -53,7 +53,19 @@ pub record IsDeployment (deployed : Deployed) : Type 0 where
 abbrev pub IsDeployedOn : Platform → Deployed → Type 0
 IsDeployedOn platform deployed = All (λ actor. actor.host.0 < length platform.hosts) deployed.actors
 
--- the actor of a name, if it replays; the first actor of the deployment has the identifier 1
+-- the actor begins with the run
+abbrev pub starts : ActorRow → Bool
+starts actor = actor.start
+
+-- how many actors begin with the run
+abbrev pub started_number : Deployed → ℕ
+started_number deployed = count_by starts deployed.actors
+
+-- the actor of a name; the first actor of the deployment has the identifier 1
+abbrev pub actor_named : Deployed → List ℕ → Option ActorId
+actor_named deployed name = option_map (λ row. record { 0 = row + 1 }) (actor_number deployed.actors name)
+
+-- the actor of a name, if it replays
 abbrev pub replay_actor_named : Deployed → List ℕ → Option ActorId
 replay_actor_named deployed name = option_map (λ row. record { 0 = row + 1 }) (replay_number deployed.actors name)
 

@@ -18,6 +18,13 @@ host_names i host = with_number i (host.id ∷ [])
 abbrev pub host_number : List HostRow → Finds
 host_number hosts name = lookup (bytes_eq name) (along host_names 0 hosts)
 
+-- the row of the first actor of a name
+abbrev pub actor_names : ℕ → ActorRow → List (List ℕ × ℕ)
+actor_names i actor = with_number i (actor.name ∷ [])
+
+abbrev pub actor_number : List ActorRow → Finds
+actor_number actors name = lookup (bytes_eq name) (along actor_names 0 actors)
+
 -- the row of the first actor of a name that replays
 abbrev pub names_if_replay : Function → List ℕ → List (List ℕ)
 names_if_replay Replay name = name ∷ []

@@ -11,6 +11,7 @@ use Rattle.sg_rows.specs.declared.network.Network.{Network}
 use Rattle.sg_rows.specs.declared.rows.HostRow.{HostRow}
 use Rattle.sg_rows.specs.declared.rows.LinkRow.{LinkRow}
 use Rattle.sg_rows.specs.declared.rows.PlatformRows.{PlatformRows}
+use Rattle.sg_rows.specs.declared.rows.Power.{Power}
 use Rattle.sg_rows.specs.declared.rows.ProfileRow.{ProfileRow}
 use Rattle.sg_rows.specs.declared.rows.Profiled.{Profiled}
 use Rattle.sg_rows.specs.declared.rows.Profiled.TheVariants.{Host, Link}
@@ -67,6 +68,14 @@ pub record IsZoneRow (counts : Counts) (zone : ZoneRow) : Type 0 where
   pub id : length zone.id ≤ 64
   pub parent : IfSome zone.parent (λ parent. parent.0 < counts.zones)
 
+-- up to 10^9 mW each; with all of its capacity a host draws no less than with nearly none
+pub record IsPower (power : Power) : Type 0 where
+  pub idle : power.idle ≤ 10 ^ 9
+  pub epsilon : power.epsilon ≤ 10 ^ 9
+  pub all : power.all ≤ 10 ^ 9
+  pub off : power.off ≤ 10 ^ 9
+  pub rising : power.epsilon ≤ power.all
+
 pub record IsHostRow (counts : Counts) (host : HostRow) : Type 0 where
   pub id : length host.id ≤ 64
   pub zone : host.zone.0 < counts.zones
@@ -74,6 +83,7 @@ pub record IsHostRow (counts : Counts) (host : HostRow) : Type 0 where
   pub speed : host.speed ≤ 1000000000000000
   pub some_cores : 1 ≤ host.cores
   pub cores : host.cores ≤ 1024
+  pub power : IfSome host.power IsPower
 
 pub record IsRouterRow (counts : Counts) (router : RouterRow) : Type 0 where
   pub id : length router.id ≤ 64

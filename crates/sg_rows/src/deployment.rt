@@ -1,9 +1,9 @@
 //! Deployments.
 ghost use Rattle.std.specs.Prelude.{◌≡◌, ◌≤◌, All, IfOk, length};
 ghost use Rattle.sg_base.specs.Limits.{IsActorIn};
-ghost use Rattle.sg_rows.specs.Deployment.{IsDeployment, deployment_of_rows, extent_of, members_among, members_of, mutex_named, replay_actor_named, semaphore_named};
+ghost use Rattle.sg_rows.specs.Deployment.{IsDeployment, actor_named, deployment_of_rows, extent_of, members_among, members_of, mutex_named, replay_actor_named, semaphore_named};
 
-use crate::index::rows_by_name;
+use crate::index::{replay_by_name, rows_by_name};
 use crate::rows::{ActorRow, Function, MutexRow, SemaphoreRow};
 use indexmap::IndexMap;
 use sg_base::{ActorId, Memory};
@@ -17,6 +17,7 @@ pub struct Deployment {
     actors: Vec<ActorRow>,
     mutexes: Vec<MutexRow>,
     semaphores: Vec<SemaphoreRow>,
+    named_actors: IndexMap<Vec<u8>, u32>,
     replay: IndexMap<Vec<u8>, u32>,
     named_mutexes: IndexMap<Vec<u8>, u32>,
     named_semaphores: IndexMap<Vec<u8>, u32>,
@@ -31,7 +32,7 @@ impl Model for Deployment {
 
     ghost view = { λ d. deployment_of_rows d.actors.items d.mutexes.items d.semaphores.items };
 
-    ghost invariant = { λ d. IsIndexed d.replay d.named_mutexes d.named_semaphores d.members
+    ghost invariant = { λ d. IsIndexed d.named_actors d.replay d.named_mutexes d.named_semaphores d.members
         (deployment_of_rows d.actors.items d.mutexes.items d.semaphores.items) };
 }
 
@@ -67,7 +68,8 @@ impl Deployment {
         ensures { IfOk result
             (λ d. d ≡ deployment_of_rows actors.items mutexes.items semaphores.items) }
     {
-        let replay = rows_by_name(alloc, actors.as_slice())?;
+        let named_actors = rows_by_name(alloc, actors.as_slice())?;
+        let replay = replay_by_name(alloc, actors.as_slice())?;
         let named_mutexes = rows_by_name(alloc, mutexes.as_slice())?;
         let named_semaphores = rows_by_name(alloc, semaphores.as_slice())?;
         let members = members_among(alloc, actors.as_slice())?;
@@ -75,6 +77,7 @@ impl Deployment {
             actors,
             mutexes,
             semaphores,
+            named_actors,
             replay,
             named_mutexes,
             named_semaphores,
@@ -118,6 +121,16 @@ impl Deployment {
         ensures { result ≡ semaphore_named self.now name.now }
     {
         self.named_semaphores.get(name).copied()
+    }
+
+    /// The actor of this name, whatever it does.
+    pub fn actor(&self, name: &[u8]) -> Option<ActorId>
+        ensures { result ≡ actor_named self.now name.now }
+    {
+        match self.named_actors.get(name) {
+            Some(row) => Some(ActorId(*row + 1)),
+            None => None,
+        }
     }
 
     /// The actor of this name, if it replays.

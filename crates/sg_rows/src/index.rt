@@ -3,7 +3,7 @@ ghost use Rattle.std.specs.Prelude.{◌≡◌, ℕ, List, ◌∷◌, [], IfOk, O
 ghost use Rattle.std.specs.HashMap.{get_by_text};
 ghost use Rattle.std.specs.Map.{lookup};
 ghost use Rattle.std.specs.Str.{bytes_eq};
-ghost use Rattle.sg_rows.specs.Index.{host_names, host_number, mutex_names, replay_names, semaphore_names};
+ghost use Rattle.sg_rows.specs.Index.{actor_names, host_names, host_number, mutex_names, replay_names, replay_number, semaphore_names};
 ghost use Rattle.sg_rows.specs.kept.Finds.{FindsAs, finds};
 ghost use Rattle.sg_tree.specs.Along.{along};
 ghost use Rattle.sg_tree.specs.Names.{Adds, or_else};
@@ -73,9 +73,8 @@ pub trait Named {
         ensures { OnOk result (Adds (names number self.now) (finds space.old) (finds space.new)) };
 }
 
-/// An actor is found by its name where it replays.
 impl Named for ActorRow {
-    ghost names = { replay_names };
+    ghost names = { actor_names };
 
     fn add(
         &self,
@@ -83,10 +82,7 @@ impl Named for ActorRow {
         space: &mut IndexMap<Vec<u8>, u32>,
         number: usize,
     ) -> Result<(), Memory> {
-        match self.function {
-            Function::Replay => add_bytes(alloc, space, self.name.as_str().as_bytes(), number),
-            _ => Ok(()),
-        }
+        add_bytes(alloc, space, self.name.as_str().as_bytes(), number)
     }
 }
 
@@ -137,5 +133,45 @@ pub fn rows_by_name<R: Named>(alloc: Global, rows: &[R]) -> Result<IndexMap<Vec<
 {
     let mut made = IndexMap::new(alloc);
     add_rows(alloc, &mut made, rows)?;
+    Ok(made)
+}
+
+/// Gives the name of an actor the number of its row, where it replays and the name has none yet.
+fn add_if_replay(
+    alloc: Global,
+    space: &mut IndexMap<Vec<u8>, u32>,
+    actor: &ActorRow,
+    number: usize,
+) -> Result<(), Memory>
+    ensures { OnOk result
+        (Adds (replay_names number actor.now) (finds space.old) (finds space.new)) }
+{
+    match actor.function {
+        Function::Replay => add_bytes(alloc, space, actor.name.as_str().as_bytes(), number),
+        _ => Ok(()),
+    }
+}
+
+/// Gives the names of actors that replay the numbers of their rows.
+fn add_replay(
+    alloc: Global,
+    space: &mut IndexMap<Vec<u8>, u32>,
+    actors: &[ActorRow],
+) -> Result<(), Memory>
+    ensures { OnOk result
+        (Adds (along replay_names 0 actors.now) (finds space.old) (finds space.new)) }
+{
+    for (i, actor) in actors.iter().enumerate() {
+        add_if_replay(alloc, space, actor, i)?;
+    }
+    Ok(())
+}
+
+/// The actors that replay by their names, with the numbers of their rows.
+pub fn replay_by_name(alloc: Global, actors: &[ActorRow]) -> Result<IndexMap<Vec<u8>, u32>, Memory>
+    ensures { IfOk result (λ made. FindsAs made (replay_number actors.now)) }
+{
+    let mut made = IndexMap::new(alloc);
+    add_replay(alloc, &mut made, actors)?;
     Ok(made)
 }

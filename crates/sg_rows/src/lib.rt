@@ -18,7 +18,8 @@ pub use network::Network;
 pub use numbers::Numbers;
 pub use platform::PlatformText;
 pub use rows::{
-    ActorRow, Function, HostRow, LinkRow, MutexRow, PlatformRows, Policy, ProfileRow, Profiled,
-    RouteRow, RouterRow, Routing, SemaphoreRow, SpokeRow, StateProfileRow, ZoneRouteRow, ZoneRow,
+    ActorRow, Function, HostRow, LinkRow, MutexRow, PlatformRows, Policy, Power, ProfileRow,
+    Profiled, RouteRow, RouterRow, Routing, SemaphoreRow, SpokeRow, StateProfileRow, ZoneRouteRow,
+    ZoneRow,
 };
 pub use states::States;

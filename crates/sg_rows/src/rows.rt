@@ -24,6 +24,19 @@ pub struct ZoneRow {
     pub routing: Routing,
 }
 
+/// What a host draws, in milliwatts.
+#[derive(Clone, Copy, Debug, PartialEq, Eq)]
+pub struct Power {
+    /// While it computes nothing.
+    pub idle: u64,
+    /// While it computes with nearly none of its capacity.
+    pub epsilon: u64,
+    /// While it computes with all of its capacity.
+    pub all: u64,
+    /// While it is off.
+    pub off: u64,
+}
+
 /// A host.
 #[derive(Debug, Drop)]
 pub struct HostRow {
@@ -32,6 +45,8 @@ pub struct HostRow {
     /// What one execution gets at most, in flops per second.
     pub speed: u64,
     pub cores: u32,
+    /// `None` where nothing is said of it.
+    pub power: Option<Power>,
 }
 
 /// A router: a point that no actor is on.
@@ -176,6 +191,8 @@ pub struct ActorRow {
     pub name: Text,
     pub host: PointId,
     pub function: Function,
+    /// Whether it begins with the run; else it begins when another actor creates it.
+    pub start: bool,
 }
 
 /// A mutex.

@@ -2,7 +2,7 @@
 use Rattle.std.proofs.Common.{◌≡◌, ℕ, ◌+◌, ◌<◌, Bool, List, ◌∷◌, map, length, drop, get_or, Option, Some, None, ap, ◌∙◌, sym}
 use Rattle.std.proofs.lemmas.List.{drop_more}
 use Rattle.sg_rules.specs.Profiles.{amount_in, are_rising}
-use Rattle.sg_rules.specs.declared.units.Quantity.TheVariants.{Time}
+use Rattle.sg_tables.specs.declared.units.Quantity.TheVariants.{Time}
 use Rattle.toml.specs.View.{view}
 use Rattle.toml.specs.declared.value.Value.{Value}
 

@@ -8,13 +8,13 @@ use Rattle.sg_rules.specs.Faults.{key_faults, row_faults, row_faults_at, rows_be
 use Rattle.sg_rules.specs.Names.{Known}
 use Rattle.sg_rules.specs.Profiles.{items_at}
 use Rattle.sg_rules.specs.Rules.{child_kinds, end_kinds, host_kinds, id_kinds, is_between, is_from, is_positive, is_text, key_kinds, kinds_at, refused_kinds, link_id_kinds, list_kinds, point_kinds, positive_kinds, route_end_kinds, text_kinds, texts_kinds, value_kinds, zone_kinds, zone_route_end_kinds}
-use Rattle.sg_rules.specs.Tables.{key, keys_of, row_limit, shape_of, table_number, table_text, word_text}
-use Rattle.sg_rules.specs.declared.tables.Key.{Key}
-use Rattle.sg_rules.specs.declared.tables.Need.TheVariants.{Required, Optional}
-use Rattle.sg_rules.specs.declared.tables.Rule.{Rule}
-use Rattle.sg_rules.specs.declared.tables.Shape.TheVariants.{Text, Texts}
-use Rattle.sg_rules.specs.declared.tables.Table.{Table}
-use Rattle.sg_rules.specs.declared.tables.Word.{Word}
+use Rattle.sg_tables.specs.Tables.{key, keys_of, row_limit, shape_of, table_number, table_text, word_text}
+use Rattle.sg_tables.specs.declared.tables.Key.{Key}
+use Rattle.sg_tables.specs.declared.tables.Need.TheVariants.{Required, Optional}
+use Rattle.sg_tables.specs.declared.tables.Rule.{Rule}
+use Rattle.sg_tables.specs.declared.tables.Shape.TheVariants.{Text, Texts}
+use Rattle.sg_tables.specs.declared.tables.Table.{Table}
+use Rattle.sg_tables.specs.declared.tables.Word.{Word}
 use Rattle.sg_tree.proofs.Kept.{all_kept, empty_at, empty_left, empty_right}
 use Rattle.sg_tree.specs.Along.{along}
 use Rattle.sg_tree.specs.Faults.{kind_if, of_type}

@@ -14,10 +14,10 @@ use Rattle.sg_rules.proofs.Repeats.{distinct}
 use Rattle.sg_rules.specs.Arguments.{are_workers, argument_kinds, has_function, is_task_count, has_repeat, are_for_master, text_of, worker_names, worker_numbers}
 use Rattle.sg_rules.specs.Names.{Known, deployment_known}
 use Rattle.sg_rules.specs.Rules.{is_text, key_kinds, kinds_at, list_kinds, value_kinds}
-use Rattle.sg_rules.specs.Tables.{key}
-use Rattle.sg_rules.specs.declared.tables.Need.TheVariants.{Optional}
-use Rattle.sg_rules.specs.declared.tables.Rule.TheVariants.{ArgumentList}
-use Rattle.sg_rules.specs.declared.tables.Word.TheVariants.{Argument}
+use Rattle.sg_tables.specs.Tables.{key}
+use Rattle.sg_tables.specs.declared.tables.Need.TheVariants.{Optional}
+use Rattle.sg_tables.specs.declared.tables.Rule.TheVariants.{ArgumentList}
+use Rattle.sg_tables.specs.declared.tables.Word.TheVariants.{Argument}
 use Rattle.sg_tree.proofs.NameLemmas.{lookup_append}
 use Rattle.sg_tree.specs.Along.{along}
 use Rattle.sg_tree.specs.Faults.{of_type}

@@ -1,5 +1,4 @@
 pub mod DateLemmas
-pub mod Greatest
 pub mod Kept
 pub mod KeptArguments
 pub mod NameLemmas

@@ -5,15 +5,16 @@ use Rattle.sg_rules.proofs.Rising.{Each, each_append}
 use Rattle.sg_rules.specs.Faults.{faults_of, key_faults, row_faults, row_faults_at, row_kinds, rows_before, table_faults, table_kinds, top_kinds}
 use Rattle.sg_rules.specs.Names.{Known}
 use Rattle.sg_rules.specs.PlatformKinds.{IsPlatformFault, PlatformKinds}
+use Rattle.sg_rules.specs.Power.{powers_kinds}
 use Rattle.sg_rules.specs.Profiles.{dates_kinds, each_date_kinds}
-use Rattle.sg_rules.specs.Rules.{child_kinds, default_kinds, end_kinds, host_kinds, id_kinds, is_text, key_kinds, kinds_at, refused_kinds, link_id_kinds, link_list_kinds, list_kinds, point_kinds, positive_kinds, profiled_host_kinds, profiled_link_kinds, route_end_kinds, shape_kinds, text_kinds, texts_kinds, value_kinds, whole_kinds, word_kinds, zone_kinds, zone_route_end_kinds}
-use Rattle.sg_rules.specs.Tables.{keys_of, platform_tables, table_number, table_text}
-use Rattle.sg_rules.specs.declared.tables.Key.{Key}
-use Rattle.sg_rules.specs.declared.tables.Rule.{Rule}
-use Rattle.sg_rules.specs.declared.tables.Rule.TheVariants as rule
-use Rattle.sg_rules.specs.declared.tables.Shape.{Shape}
-use Rattle.sg_rules.specs.declared.tables.Shape.TheVariants as shape
-use Rattle.sg_rules.specs.declared.tables.Table.{Table}
+use Rattle.sg_rules.specs.Rules.{child_kinds, default_kinds, end_kinds, host_kinds, id_kinds, is_text, is_whole, key_kinds, kinds_at, refused_kinds, link_id_kinds, link_list_kinds, list_kinds, point_kinds, positive_kinds, profiled_host_kinds, profiled_link_kinds, route_end_kinds, shape_kinds, text_kinds, texts_kinds, value_kinds, whole_kinds, whole_list_kinds, wholes_kinds, word_kinds, zone_kinds, zone_route_end_kinds}
+use Rattle.sg_tables.specs.Tables.{keys_of, platform_tables, table_number, table_text}
+use Rattle.sg_tables.specs.declared.tables.Key.{Key}
+use Rattle.sg_tables.specs.declared.tables.Rule.{Rule}
+use Rattle.sg_tables.specs.declared.tables.Rule.TheVariants as rule
+use Rattle.sg_tables.specs.declared.tables.Shape.{Shape}
+use Rattle.sg_tables.specs.declared.tables.Shape.TheVariants as shape
+use Rattle.sg_tables.specs.declared.tables.Table.{Table}
 use Rattle.sg_tree.specs.Along.{along}
 use Rattle.sg_tree.specs.Faults.{at_place, kind_if, kind_number, of_type}
 use Rattle.sg_tree.specs.Tree.{rows_at}
@@ -74,6 +75,7 @@ text_small names number row rule.AmountText text h = one _ BadValue (omega arith
 text_small names number row rule.PositiveTimeText text h = one _ BadValue (omega arith)
 text_small names number row rule.CoreCount text h = tt
 text_small names number row rule.CapacityCount text h = tt
+text_small names number row rule.Milliwatts text h = tt
 text_small names number row rule.TruthValue text h = tt
 text_small names number row rule.ProfiledHost text h = two _ _ Duplicate Unknown (omega arith) (omega arith)
 text_small names number row rule.ProfiledLink text h = three _ _ _ BadValue Duplicate Unknown (omega arith) (omega arith) (omega arith)
@@ -84,10 +86,12 @@ text_small names number row rule.DateList text h = tt
 text_small names number row rule.ValueList text h = tt
 text_small names number row rule.StateList text h = tt
 text_small names number row rule.ArgumentList text h = tt
+text_small names number row rule.PowerList text h = tt
 
 whole_small : (r : Rule) (z : ℤ) → AreSmall (whole_kinds r z)
 whole_small rule.CoreCount z = one _ BadValue (omega arith)
 whole_small rule.CapacityCount z = one _ BadValue (omega arith)
+whole_small rule.Milliwatts z = one _ BadValue (omega arith)
 whole_small _ z = tt
 
 texts_small : (names : Known) (row : Data) (r : Rule) (items : List Data) → IsPlatformRule r → AreSmall (texts_kinds names row r items)
@@ -99,19 +103,29 @@ texts_small names row rule.StateList items h = two _ _ BadValue Limit (omega ari
 texts_small names row rule.ArgumentList items h = absurd h
 texts_small names row _ items h = tt
 
+typed_or : (b : Bool) (kinds : List Kind) → AreSmall kinds → AreSmall (cond b kinds (WrongType ∷ []))
+typed_or true kinds h = h
+typed_or false kinds h = (omega arith, tt)
+
 list_small : (names : Known) (row : Data) (r : Rule) (items : List Data) → IsPlatformRule r → AreSmall (list_kinds names row r items)
 unfolding list_kinds
-list_small names row r items h = chosen (list_all is_text items) _ (texts_small names row r items h)
-  where
-    chosen : (b : Bool) (kinds : List Kind) → AreSmall kinds → AreSmall (cond b kinds (WrongType ∷ []))
-    chosen true kinds h = h
-    chosen false kinds h = (omega arith, tt)
+list_small names row r items h = typed_or (list_all is_text items) _ (texts_small names row r items h)
+
+wholes_small : (r : Rule) (items : List Data) → AreSmall (wholes_kinds r items)
+unfolding powers_kinds
+wholes_small rule.PowerList items = one _ BadValue (omega arith)
+wholes_small _ items = tt
+
+whole_list_small : (r : Rule) (items : List Data) → AreSmall (whole_list_kinds r items)
+unfolding whole_list_kinds
+whole_list_small r items = typed_or (list_all is_whole items) _ (wholes_small r items)
 
 shape_small : (s : Shape) (names : Known) (number : ℕ) (row : Data) (r : Rule) (d : Data) → IsPlatformRule r → AreSmall (shape_kinds s names number row r d)
 shape_small shape.Text names number row r d h = typed _ (as_str d) (λ text. text_small names number row r text h)
 shape_small shape.Whole names number row r d h = typed _ (as_integer d) (whole_small r)
 shape_small shape.Truth names number row r d h = typed _ (as_bool d) (λ b. tt)
 shape_small shape.Texts names number row r d h = typed _ (as_array d) (λ items. list_small names row r _ h)
+shape_small shape.Wholes names number row r d h = typed _ (as_array d) (λ items. whole_list_small r _)
 
 default_small : (names : Known) (row : Data) (r : Rule) → IsPlatformRule r → AreSmall (default_kinds names row r)
 default_small names row rule.ArgumentList h = absurd h
@@ -171,7 +185,7 @@ table_small names tree table h =
 
 keys_small : Each IsPlatformTable platform_tables
 keys_small =
-    ((tt, (tt, (tt, tt))), ((tt, (tt, (tt, (tt, tt)))), ((tt, (tt, tt)), ((tt, (tt, (tt, (tt, tt)))), ((tt, (tt, (tt, (tt, tt)))), ((tt, (tt, (tt, (tt, (tt, (tt, tt)))))), ((tt, (tt, (tt, (tt, (tt, tt))))), ((tt, (tt, (tt, tt))), ((tt, (tt, (tt, (tt, (tt, tt))))), ((tt, (tt, (tt, (tt, (tt, tt))))), tt))))))))))
+    ((tt, (tt, (tt, tt))), ((tt, (tt, (tt, (tt, (tt, (tt, tt)))))), ((tt, (tt, tt)), ((tt, (tt, (tt, (tt, tt)))), ((tt, (tt, (tt, (tt, tt)))), ((tt, (tt, (tt, (tt, (tt, (tt, tt)))))), ((tt, (tt, (tt, (tt, (tt, tt))))), ((tt, (tt, (tt, tt))), ((tt, (tt, (tt, (tt, (tt, tt))))), ((tt, (tt, (tt, (tt, (tt, tt))))), tt))))))))))
 
 pub platform_kinds : PlatformKinds
 unfolding faults_of

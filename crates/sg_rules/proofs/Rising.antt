@@ -5,15 +5,16 @@ use Rattle.sg_rules.specs.Arguments.{argument_kinds}
 use Rattle.sg_rules.specs.Faults.{faults_of, key_faults, row_faults, row_faults_at, row_kinds, rows_before, table_faults, table_kinds, top_kinds}
 use Rattle.sg_rules.specs.Names.{Known}
 use Rattle.sg_rules.specs.Rising.{FaultsRise, IsBefore, IsRising}
+use Rattle.sg_rules.specs.Power.{powers_kinds}
 use Rattle.sg_rules.specs.Profiles.{dates_kinds, each_date_kinds}
-use Rattle.sg_rules.specs.Rules.{child_kinds, default_kinds, end_kinds, host_kinds, id_kinds, is_text, key_kinds, kinds_at, refused_kinds, link_id_kinds, link_list_kinds, list_kinds, point_kinds, positive_kinds, profiled_host_kinds, profiled_link_kinds, route_end_kinds, shape_kinds, text_kinds, texts_kinds, value_kinds, whole_kinds, word_kinds, zone_kinds, zone_route_end_kinds}
-use Rattle.sg_rules.specs.Tables.{deployment_tables, keys_of, platform_tables, shape_of, table_number, table_text}
-use Rattle.sg_rules.specs.declared.tables.Key.{Key}
-use Rattle.sg_rules.specs.declared.tables.Rule.{Rule}
-use Rattle.sg_rules.specs.declared.tables.Rule.TheVariants as rule
-use Rattle.sg_rules.specs.declared.tables.Shape.{Shape}
-use Rattle.sg_rules.specs.declared.tables.Shape.TheVariants as shape
-use Rattle.sg_rules.specs.declared.tables.Table.{Table}
+use Rattle.sg_rules.specs.Rules.{child_kinds, default_kinds, end_kinds, host_kinds, id_kinds, is_text, is_whole, key_kinds, kinds_at, refused_kinds, link_id_kinds, link_list_kinds, list_kinds, point_kinds, positive_kinds, profiled_host_kinds, profiled_link_kinds, route_end_kinds, shape_kinds, text_kinds, texts_kinds, value_kinds, whole_kinds, whole_list_kinds, wholes_kinds, word_kinds, zone_kinds, zone_route_end_kinds}
+use Rattle.sg_tables.specs.Tables.{deployment_tables, keys_of, platform_tables, shape_of, table_number, table_text}
+use Rattle.sg_tables.specs.declared.tables.Key.{Key}
+use Rattle.sg_tables.specs.declared.tables.Rule.{Rule}
+use Rattle.sg_tables.specs.declared.tables.Rule.TheVariants as rule
+use Rattle.sg_tables.specs.declared.tables.Shape.{Shape}
+use Rattle.sg_tables.specs.declared.tables.Shape.TheVariants as shape
+use Rattle.sg_tables.specs.declared.tables.Table.{Table}
 use Rattle.sg_tree.specs.Along.{along}
 use Rattle.sg_tree.specs.Faults.{at_place, kind_if, kind_number, of_type}
 use Rattle.sg_tree.specs.Tree.{rows_at}
@@ -92,6 +93,7 @@ text_rise names number row rule.AmountText text = one _ BadValue
 text_rise names number row rule.PositiveTimeText text = one _ BadValue
 text_rise names number row rule.CoreCount text = tt
 text_rise names number row rule.CapacityCount text = tt
+text_rise names number row rule.Milliwatts text = tt
 text_rise names number row rule.TruthValue text = tt
 text_rise names number row rule.ProfiledHost text = two _ _ Duplicate Unknown (omega arith)
 text_rise names number row rule.ProfiledLink text = three _ _ _ BadValue Duplicate Unknown (omega arith) (omega arith)
@@ -102,10 +104,12 @@ text_rise names number row rule.DateList text = tt
 text_rise names number row rule.ValueList text = tt
 text_rise names number row rule.StateList text = tt
 text_rise names number row rule.ArgumentList text = tt
+text_rise names number row rule.PowerList text = tt
 
 whole_rise : (r : Rule) (z : ℤ) → KindsRise (whole_kinds r z)
 whole_rise rule.CoreCount z = one _ BadValue
 whole_rise rule.CapacityCount z = one _ BadValue
+whole_rise rule.Milliwatts z = one _ BadValue
 whole_rise _ z = tt
 
 texts_rise : (names : Known) (row : Data) (r : Rule) (items : List Data) → KindsRise (texts_kinds names row r items)
@@ -117,19 +121,29 @@ texts_rise names row rule.StateList items = two _ _ BadValue Limit (omega arith)
 texts_rise names row rule.ArgumentList items = one _ Arguments
 texts_rise names row _ items = tt
 
+typed_or : (b : Bool) (kinds : List Kind) → KindsRise kinds → KindsRise (cond b kinds (WrongType ∷ []))
+typed_or true kinds h = h
+typed_or false kinds h = (tt, tt)
+
 list_rise : (names : Known) (row : Data) (r : Rule) (items : List Data) → KindsRise (list_kinds names row r items)
 unfolding list_kinds
-list_rise names row r items = chosen (list_all is_text items) _ (texts_rise names row r items)
-  where
-    chosen : (b : Bool) (kinds : List Kind) → KindsRise kinds → KindsRise (cond b kinds (WrongType ∷ []))
-    chosen true kinds h = h
-    chosen false kinds h = (tt, tt)
+list_rise names row r items = typed_or (list_all is_text items) _ (texts_rise names row r items)
+
+wholes_rise : (r : Rule) (items : List Data) → KindsRise (wholes_kinds r items)
+unfolding powers_kinds
+wholes_rise rule.PowerList items = one _ BadValue
+wholes_rise _ items = tt
+
+whole_list_rise : (r : Rule) (items : List Data) → KindsRise (whole_list_kinds r items)
+unfolding whole_list_kinds
+whole_list_rise r items = typed_or (list_all is_whole items) _ (wholes_rise r items)
 
 shape_rise : (s : Shape) (names : Known) (number : ℕ) (row : Data) (r : Rule) (d : Data) → KindsRise (shape_kinds s names number row r d)
 shape_rise shape.Text names number row r d = typed _ (as_str d) (text_rise names number row r)
 shape_rise shape.Whole names number row r d = typed _ (as_integer d) (whole_rise r)
 shape_rise shape.Truth names number row r d = typed _ (as_bool d) (λ b. tt)
 shape_rise shape.Texts names number row r d = typed _ (as_array d) (λ items. list_rise names row r _)
+shape_rise shape.Wholes names number row r d = typed _ (as_array d) (λ items. whole_list_rise r _)
 
 default_rise : (names : Known) (row : Data) (r : Rule) → KindsRise (default_kinds names row r)
 unfolding argument_kinds

@@ -8,10 +8,10 @@ use Rattle.sg_tree.specs.Tree.{rows_at, items_or_none, list_of}
 use Rattle.sg_rules.specs.Names.{Known}
 use Rattle.sg_tree.specs.Along.{first, along}
 use Rattle.sg_rules.specs.Faults.{row_faults_at, table_kinds, table_faults, rows_before}
-use Rattle.sg_rules.specs.Tables.{table_text, table_number, keys_of, row_limit}
+use Rattle.sg_tables.specs.Tables.{table_text, table_number, keys_of, row_limit}
 use Rattle.sg_tree.specs.declared.fault.Kind.{Kind}
-use Rattle.sg_rules.specs.declared.tables.Table.{Table}
-use Rattle.sg_rules.specs.declared.tables.Table.TheVariants.{Zone, Host, Router, Link, Route, ZoneRoute, Spoke, Network, Profile, StateProfile, Actor, Mutex, Semaphore}
+use Rattle.sg_tables.specs.declared.tables.Table.{Table}
+use Rattle.sg_tables.specs.declared.tables.Table.TheVariants.{Zone, Host, Router, Link, Route, ZoneRoute, Spoke, Network, Profile, StateProfile, Actor, Mutex, Semaphore}
 use Rattle.sg_tree.proofs.Along.{first_append_none, first_append_some, first_at_none, first_at_some, along_map}
 use Rattle.std.proofs.lemmas.Bool.{cases_Bool}
 use Rattle.std.proofs.lemmas.Bool.Decides.{nat_tests}

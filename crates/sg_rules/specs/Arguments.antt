@@ -2,7 +2,7 @@
 use Rattle.std.specs.Prelude.{is_some, ℕ, ◌+◌, ◌==◌, Bool, false, not, ◌&&◌, ◌||◌, nat_le, List, [], ◌∷◌, if◌then◌else◌, Option, Some, None, length, map, codes, unwrap_or}
 use Rattle.std.specs.List.{list_all, list_any}
 use Rattle.std.specs.Str.{bytes_eq}
-use Rattle.sg_rules.specs.Units.{amount_value}
+use Rattle.sg_tables.specs.Units.{amount_value}
 use Rattle.sg_tree.specs.Along.{along}
 use Rattle.sg_tree.specs.Faults.{kind_if}
 use Rattle.sg_tree.specs.Names.{Finds, with_number, texts_at}

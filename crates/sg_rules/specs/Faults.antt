@@ -2,10 +2,10 @@
 use Rattle.std.specs.Prelude.{ℕ, ◌+◌, not, nat_lt, List, [], ◌++◌, Option, Some, None, length, map}
 use Rattle.sg_rules.specs.Names.{Known}
 use Rattle.sg_rules.specs.Rules.{key_kinds, key_text}
-use Rattle.sg_rules.specs.Tables.{keys_of, row_limit, table_number, table_text}
-use Rattle.sg_rules.specs.declared.tables.Key.{Key}
-use Rattle.sg_rules.specs.declared.tables.Table.{Table}
-use Rattle.sg_rules.specs.declared.tables.Table.TheVariants.{Host, Router}
+use Rattle.sg_tables.specs.Tables.{keys_of, row_limit, table_number, table_text}
+use Rattle.sg_tables.specs.declared.tables.Key.{Key}
+use Rattle.sg_tables.specs.declared.tables.Table.{Table}
+use Rattle.sg_tables.specs.declared.tables.Table.TheVariants.{Host, Router}
 use Rattle.sg_tree.specs.Along.{along}
 use Rattle.sg_tree.specs.Faults.{at_place, kind_if, of_type}
 use Rattle.sg_tree.specs.Tree.{has_only, list_of, rows_at}

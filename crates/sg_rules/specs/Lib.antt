@@ -1,7 +1,6 @@
-pub mod Tables
-pub mod Units
 pub mod Arguments
 pub mod Profiles
+pub mod Power
 pub mod LinkNames
 pub mod Pairs
 pub mod Names

@@ -5,9 +5,9 @@ use Rattle.std.specs.List.{list_all}
 use Rattle.std.specs.Map.{lookup}
 use Rattle.std.specs.Str.{bytes_eq}
 use Rattle.sg_rules.specs.Arguments.{text_of}
-use Rattle.sg_rules.specs.Units.{quantity_value}
-use Rattle.sg_rules.specs.declared.units.Quantity.{Quantity}
-use Rattle.sg_rules.specs.declared.units.Quantity.TheVariants.{Time, Speed, Bandwidth}
+use Rattle.sg_tables.specs.Units.{quantity_value}
+use Rattle.sg_tables.specs.declared.units.Quantity.{Quantity}
+use Rattle.sg_tables.specs.declared.units.Quantity.TheVariants.{Time, Speed, Bandwidth}
 use Rattle.sg_tree.specs.Faults.{kind_if}
 use Rattle.sg_tree.specs.Names.{Finds, names_from}
 use Rattle.sg_tree.specs.Tree.{items_or_none}

@@ -6,16 +6,17 @@ use Rattle.sg_rules.specs.Arguments.{argument_kinds}
 use Rattle.sg_rules.specs.LinkNames.{is_split}
 use Rattle.sg_rules.specs.Names.{Known}
 use Rattle.sg_rules.specs.Pairs.{pairs_of}
+use Rattle.sg_rules.specs.Power.{milliwatts, powers_kinds}
 use Rattle.sg_rules.specs.Profiles.{Subjects, dates_kinds, is_of_host, states_kinds, values_kinds}
-use Rattle.sg_rules.specs.Tables.{shape_of, word_text}
-use Rattle.sg_rules.specs.Units.{amount_value, bandwidth_value, factor_value, latency_value, speed_value, time_value}
-use Rattle.sg_rules.specs.declared.tables.Key.{Key}
-use Rattle.sg_rules.specs.declared.tables.Need.{Need}
-use Rattle.sg_rules.specs.declared.tables.Need.TheVariants.{Required, Optional, IfZone, Unless}
-use Rattle.sg_rules.specs.declared.tables.Rule.{Rule}
-use Rattle.sg_rules.specs.declared.tables.Rule.TheVariants.{NewPoint, NewLink, NewActor, NewMutex, NewSemaphore, ZoneName, PointName, EndName, HostName, RouteEnd, ZoneRouteEnd, SpokeChild, RoutingWord, PolicyWord, FunctionWord, SpeedText, BandwidthText, LatencyText, FactorText, PositiveFactorText, AmountText, PositiveTimeText, CoreCount, CapacityCount, TruthValue, ProfiledHost, ProfiledLink, SwitchedHost, SwitchedLink, LinkList, DateList, ValueList, StateList, ArgumentList}
-use Rattle.sg_rules.specs.declared.tables.Shape.{Shape}
-use Rattle.sg_rules.specs.declared.tables.Shape.TheVariants.{Text, Whole, Truth, Texts}
+use Rattle.sg_tables.specs.Tables.{shape_of, word_text}
+use Rattle.sg_tables.specs.Units.{amount_value, bandwidth_value, factor_value, latency_value, speed_value, time_value}
+use Rattle.sg_tables.specs.declared.tables.Key.{Key}
+use Rattle.sg_tables.specs.declared.tables.Need.{Need}
+use Rattle.sg_tables.specs.declared.tables.Need.TheVariants.{Required, Optional, IfZone, Unless}
+use Rattle.sg_tables.specs.declared.tables.Rule.{Rule}
+use Rattle.sg_tables.specs.declared.tables.Rule.TheVariants.{NewPoint, NewLink, NewActor, NewMutex, NewSemaphore, ZoneName, PointName, EndName, HostName, RouteEnd, ZoneRouteEnd, SpokeChild, RoutingWord, PolicyWord, FunctionWord, SpeedText, BandwidthText, LatencyText, FactorText, PositiveFactorText, AmountText, PositiveTimeText, CoreCount, CapacityCount, Milliwatts, TruthValue, ProfiledHost, ProfiledLink, SwitchedHost, SwitchedLink, LinkList, DateList, ValueList, StateList, ArgumentList, PowerList}
+use Rattle.sg_tables.specs.declared.tables.Shape.{Shape}
+use Rattle.sg_tables.specs.declared.tables.Shape.TheVariants.{Text, Whole, Truth, Texts, Wholes}
 use Rattle.sg_tree.specs.Faults.{kind_if, of_type}
 use Rattle.sg_tree.specs.Names.{Finds, Pair}
 use Rattle.sg_tree.specs.Spelling.{is_name, taken_by}
@@ -138,6 +139,7 @@ text_kinds names number row AmountText text = refused_kinds (amount_value text)
 text_kinds names number row PositiveTimeText text = positive_kinds (time_value text)
 text_kinds names number row CoreCount text = []
 text_kinds names number row CapacityCount text = []
+text_kinds names number row Milliwatts text = []
 text_kinds names number row TruthValue text = []
 text_kinds names number row ProfiledHost text = profiled_host_kinds names names.profiles number text
 text_kinds names number row ProfiledLink text = profiled_link_kinds names names.profiles number row text
@@ -148,6 +150,7 @@ text_kinds names number row DateList text = []
 text_kinds names number row ValueList text = []
 text_kinds names number row StateList text = []
 text_kinds names number row ArgumentList text = []
+text_kinds names number row PowerList text = []
 
 abbrev pub is_core_count : ℤ → Bool
 is_core_count (pos n) = nat_le 1 n && nat_le n 1024
@@ -161,6 +164,7 @@ is_capacity (negsuc n) = false
 abbrev pub whole_kinds : Rule → ℤ → List Kind
 whole_kinds CoreCount z = kind_if (not (is_core_count z)) BadValue
 whole_kinds CapacityCount z = kind_if (not (is_capacity z)) BadValue
+whole_kinds Milliwatts z = kind_if (is_none (milliwatts z)) BadValue
 whole_kinds _ z = []
 
 abbrev pub is_text : Data → Bool
@@ -189,12 +193,24 @@ texts_kinds names row _ items = []
 unfoldable pub list_kinds : Known → Data → Rule → List Data → List Kind
 list_kinds names row rule items = if list_all is_text items then texts_kinds names row rule items else WrongType ∷ []
 
+abbrev pub is_whole : Data → Bool
+is_whole d = is_some (as_integer d)
+
+-- what is wrong with a list of whole numbers
+abbrev pub wholes_kinds : Rule → List Data → List Kind
+wholes_kinds PowerList items = powers_kinds items
+wholes_kinds _ items = []
+
+unfoldable pub whole_list_kinds : Rule → List Data → List Kind
+whole_list_kinds rule items = if list_all is_whole items then wholes_kinds rule items else WrongType ∷ []
+
 -- what is wrong with a value, which must have the type of its rule
 abbrev pub shape_kinds : Shape → Known → ℕ → Data → Rule → Data → List Kind
 shape_kinds Text names number row rule d = of_type (text_kinds names number row rule) (as_str d)
 shape_kinds Whole names number row rule d = of_type (whole_kinds rule) (as_integer d)
 shape_kinds Truth names number row rule d = of_type (λ truth. []) (as_bool d)
 shape_kinds Texts names number row rule d = of_type (λ items. list_kinds names row rule (list_of items)) (as_array d)
+shape_kinds Wholes names number row rule d = of_type (λ items. whole_list_kinds rule (list_of items)) (as_array d)
 
 unfoldable pub value_kinds : Known → ℕ → Data → Rule → Data → List Kind
 value_kinds names number row rule d = shape_kinds (shape_of rule) names number row rule d

@@ -5,14 +5,14 @@ ghost use Rattle.std.specs.List.{list_all};
 ghost use Rattle.std.specs.Map.{lookup};
 ghost use Rattle.std.specs.Str.{bytes_eq};
 ghost use Rattle.sg_rules.specs.Arguments.{are_for_master, are_workers, argument_kinds, has_function, is_task_count, has_repeat, takes_none, text_of, worker_names, worker_numbers};
-ghost use Rattle.sg_rules.specs.Units.{amount_value};
+ghost use Rattle.sg_tables.specs.Units.{amount_value};
 ghost use Rattle.sg_tree.specs.Along.{along, first};
 ghost use Rattle.sg_tree.specs.Names.{with_number, or_else};
 ghost use Rattle.toml.specs.View.{view};
 
-use crate::units::amount_value;
 use indexmap::IndexMap;
 use sg_base::Memory;
+use sg_tables::amount_value;
 use sg_tree::{Kind, add_name, text_at, text_or_empty};
 use std::alloc::Global;
 use toml::Value;

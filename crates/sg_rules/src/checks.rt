@@ -10,21 +10,22 @@ ghost use Rattle.sg_tree.specs.Names.{Pair, pair_eq};
 ghost use Rattle.sg_tree.specs.Spelling.{is_name, is_name_byte, split_names};
 ghost use Rattle.sg_tree.specs.Tree.{text_at};
 ghost use Rattle.toml.specs.Data.{as_str};
-ghost use Rattle.sg_rules.specs.Rules.{child_kinds, default_kinds, end_kinds, functions, host_kinds, id_kinds, is_capacity, is_core_count, is_pair_taken, is_required, is_taken, is_text, is_unknown, key_kinds, refused_kinds, link_id_kinds, link_list_kinds, list_kinds, names_zone, point_kinds, policies, positive_kinds, profiled_host_kinds, profiled_link_kinds, route_end_kinds, routings, text_kinds, texts_kinds, value_kinds, whole_kinds, word_kinds, zone_kinds, zone_route_end_kinds};
+ghost use Rattle.sg_rules.specs.Rules.{child_kinds, default_kinds, end_kinds, functions, host_kinds, id_kinds, is_capacity, is_core_count, is_pair_taken, is_required, is_taken, is_text, is_unknown, is_whole, key_kinds, refused_kinds, link_id_kinds, link_list_kinds, list_kinds, names_zone, point_kinds, policies, positive_kinds, profiled_host_kinds, profiled_link_kinds, route_end_kinds, routings, text_kinds, texts_kinds, value_kinds, whole_kinds, whole_list_kinds, wholes_kinds, word_kinds, zone_kinds, zone_route_end_kinds};
 ghost use Rattle.toml.specs.View.{view};
 
 use crate::arguments::argument_fault;
 use crate::links::is_split;
 use crate::names::Names;
 use crate::pairs::{is_symmetrical, point_at};
+use crate::power::{milliwatts, powers_fault};
 use crate::profiles::{Subjects, dates_fault, is_of_host, states_fault, values_fault};
-use crate::tables::{Key, Need, Rule, Shape};
-use crate::units::{
-    amount_value, bandwidth_value, factor_value, latency_value, speed_value, time_value,
-};
 use arrayvec::ArrayString;
 use indexmap::IndexMap;
 use sg_base::Memory;
+use sg_tables::{
+    Key, Need, Rule, Shape, amount_value, bandwidth_value, factor_value, latency_value,
+    speed_value, time_value,
+};
 use sg_tree::Kind;
 use std::alloc::Global;
 use toml::Value;
@@ -352,12 +353,14 @@ fn text_fault(names: &Names, number: usize, row: &Value, rule: Rule, text: &str)
         Rule::SwitchedLink => profiled_link_fault(names, &names.state_profiles, number, row, text),
         Rule::CoreCount
         | Rule::CapacityCount
+        | Rule::Milliwatts
         | Rule::TruthValue
         | Rule::LinkList
         | Rule::DateList
         | Rule::ValueList
         | Rule::StateList
-        | Rule::ArgumentList => None,
+        | Rule::ArgumentList
+        | Rule::PowerList => None,
     }
 }
 
@@ -379,6 +382,7 @@ fn whole_fault(rule: Rule, value: i64) -> Option<Kind>
     match rule {
         Rule::CoreCount if !is_core_count(value) => Some(Kind::BadValue),
         Rule::CapacityCount if !is_capacity(value) => Some(Kind::BadValue),
+        Rule::Milliwatts if milliwatts(value).is_none() => Some(Kind::BadValue),
         _ => None,
     }
 }
@@ -472,6 +476,30 @@ fn list_fault(
     }
 }
 
+fn are_wholes(items: &[Value]) -> bool
+    ensures { result ≡ list_all is_whole (map view items.now) }
+{
+    for item in items {
+        if !item.is_integer() {
+            return false;
+        }
+    }
+    true
+}
+
+#[tactic(auto, unfolding(crate::specs::Rules::whole_list_kinds))]
+fn whole_list_fault(rule: Rule, items: &[Value]) -> Option<Kind>
+    ensures { result ≡ first (whole_list_kinds rule (map view items.now)) }
+{
+    if !are_wholes(items) {
+        return Some(Kind::WrongType);
+    }
+    match rule {
+        Rule::PowerList => powers_fault(items),
+        _ => None,
+    }
+}
+
 #[tactic(auto, unfolding(crate::specs::Rules::value_kinds), using(sg_tree::proofs::TreeLemmas::list_of_items))]
 fn value_fault(
     alloc: Global,
@@ -502,6 +530,10 @@ fn value_fault(
         Shape::Texts => match value.as_array() {
             None => Ok(Some(Kind::WrongType)),
             Some(items) => list_fault(alloc, names, row, rule, items.as_slice()),
+        },
+        Shape::Wholes => match value.as_array() {
+            None => Ok(Some(Kind::WrongType)),
+            Some(items) => Ok(whole_list_fault(rule, items.as_slice())),
         },
     }
 }

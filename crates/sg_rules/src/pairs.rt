@@ -26,17 +26,24 @@ pub fn point_at(points: &IndexMap<String, u32>, row: &Value, key: &str) -> Optio
     }
 }
 
-/// Whether a route serves the way back too.
-pub fn is_symmetrical(row: &Value) -> bool
-    ensures { result ≡ truth_or true (get (codes "symmetrical") (view row.now)) }
+/// The truth value at a key, which is true where the row doesn't have the key.
+pub fn truth_at(row: &Value, key: &str) -> bool
+    ensures { result ≡ truth_or true (get key.now (view row.now)) }
 {
-    match row.get("symmetrical") {
+    match row.get(key) {
         Some(value) => match value.as_bool() {
-            Some(both) => both,
+            Some(truth) => truth,
             None => false,
         },
         None => true,
     }
+}
+
+/// Whether a route serves the way back too.
+pub fn is_symmetrical(row: &Value) -> bool
+    ensures { result ≡ truth_or true (get (codes "symmetrical") (view row.now)) }
+{
+    truth_at(row, "symmetrical")
 }
 
 /// Gives the pairs of a route its number.

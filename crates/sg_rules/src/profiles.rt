@@ -5,13 +5,13 @@ ghost use Rattle.std.specs.HashMap.{get_by_text};
 ghost use Rattle.std.specs.List.{list_all};
 ghost use Rattle.sg_tree.specs.Along.{first};
 ghost use Rattle.sg_rules.specs.Profiles.{amount_in, are_rising, dates_kinds, each_date_kinds, is_of_host, items_at, quantity_of, state_in, states_kinds, subjects_of, values_kinds};
-ghost use Rattle.sg_rules.specs.declared.units.Quantity.TheVariants.{Time};
+ghost use Rattle.sg_tables.specs.declared.units.Quantity.TheVariants.{Time};
 ghost use Rattle.toml.specs.View.{view};
 
 use crate::arguments::text_of;
-use crate::units::Quantity;
 use indexmap::IndexMap;
 use sg_base::Memory;
+use sg_tables::Quantity;
 use sg_tree::{Kind, names_at};
 use std::alloc::Global;
 use toml::Value;

@@ -2,12 +2,12 @@
 use Rattle.std.proofs.Common.{◌≡◌, refl, true, false, cond, eqb, [], ◌∷◌, None, Some, Ok, Err}
 use Rattle.std.specs.Prelude.{codes}
 use Rattle.std.specs.Str.{bytes_eq}
-use Rattle.sg_base.specs.declared.call.Action.TheVariants.{Compute, Recv, Send}
+use Rattle.sg_base.specs.declared.call.Action.TheVariants.{Compute, Create, Recv, Send}
 use Rattle.sg_collectives.specs.Expansion.{bcast, from_children, reduce, to_children}
 use Rattle.sg_collectives.specs.Members.{actions_of as collective_actions}
 use Rattle.sg_collectives.specs.Tree.{children, lowest_bit, power_from}
 use Rattle.sg_edge.specs.Sources.{Source}
-use Rattle.sg_script.specs.declared.fault.LineFault.TheVariants.{BadAmount, UnknownAction}
+use Rattle.sg_script.specs.declared.fault.LineFault.TheVariants.{BadAmount, UnknownAction, UnknownActor}
 use Rattle.sg_script.specs.declared.fault.ScriptFault.TheVariants.{Line, Read}
 use Rattle.sg_script.specs.Answer.{answer_of}
 use Rattle.sg_script.specs.Known.{Known}
@@ -16,6 +16,7 @@ use Rattle.sg_script.specs.Needed.{need_of, needed_by}
 abbrev two : Known
 two = record {
   actor = λ name. cond (bytes_eq name (codes "p0")) (Some (record { 0 = 1 })) (cond (bytes_eq name (codes "p1")) (Some (record { 0 = 2 })) None);
+  anyone = λ name. cond (bytes_eq name (codes "w")) (Some (record { 0 = 3 })) None;
   mutex = λ name. None;
   semaphore = λ name. None;
   members = record { 0 = 1 } ∷ record { 0 = 2 } ∷ [];
@@ -64,6 +65,7 @@ cut_before = refl
 abbrev three : Known
 three = record {
   actor = λ name. cond (bytes_eq name (codes "p0")) (Some (record { 0 = 1 })) (cond (bytes_eq name (codes "p1")) (Some (record { 0 = 2 })) (cond (bytes_eq name (codes "p2")) (Some (record { 0 = 3 })) None));
+  anyone = λ name. None;
   mutex = λ name. None;
   semaphore = λ name. None;
   members = record { 0 = 1 } ∷ record { 0 = 2 } ∷ record { 0 = 3 } ∷ [];
@@ -107,3 +109,10 @@ rate = refl
 
 no_rate : answer_of two (record { bytes = codes "p0 send p1 5 7bps\n"; broken = false }) 1 0 ≡ Err (Line 1 BadAmount)
 no_rate = refl
+
+-- any actor may begin, but a message goes to one that replays
+any : answer_of two (record { bytes = codes "p0 create w\n"; broken = false }) 1 0 ≡ Ok (Some (Create (record { 0 = 3 })))
+any = refl
+
+not_any : answer_of two (record { bytes = codes "p0 recv w\n"; broken = false }) 1 0 ≡ Err (Line 1 UnknownActor)
+not_any = refl

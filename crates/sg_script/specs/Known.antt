@@ -1,12 +1,13 @@
 -- What the names of a script stand for.
 use Rattle.std.specs.Prelude.{ℕ, List, Option, length}
 use Rattle.sg_base.specs.declared.ids.ActorId.{ActorId}
-use Rattle.sg_rows.specs.Deployment.{Deployed, members_of, mutex_named, replay_actor_named, semaphore_named}
+use Rattle.sg_rows.specs.Deployment.{Deployed, actor_named, members_of, mutex_named, replay_actor_named, semaphore_named}
 
--- the replay actor of a name, and the number of the mutex, or semaphore, of a name; and who takes
--- part in collectives
+-- the replay actor of a name, the actor of a name whatever it does, and the number of the mutex, or
+-- semaphore, of a name; and who takes part in collectives
 pub record Known : Type 0 where
   pub actor : List ℕ → Option ActorId
+  pub anyone : List ℕ → Option ActorId
   pub mutex : List ℕ → Option ℕ
   pub semaphore : List ℕ → Option ℕ
   pub members : List ActorId
@@ -14,6 +15,7 @@ pub record Known : Type 0 where
 abbrev pub known_in : Deployed → Known
 known_in deployment = record {
   actor = replay_actor_named deployment;
+  anyone = actor_named deployment;
   mutex = mutex_named deployment;
   semaphore = semaphore_named deployment;
   members = members_of deployment;

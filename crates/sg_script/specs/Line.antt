@@ -15,7 +15,7 @@ use Rattle.sg_script.specs.declared.fault.LineFault.TheVariants.{TooLong, NotAsc
 use Rattle.sg_script.specs.declared.operation.Operation.{Operation}
 use Rattle.sg_script.specs.declared.operation.Operation.TheVariants.{Alone, Together}
 use Rattle.sg_script.specs.declared.verbs.Verb.{Verb}
-use Rattle.sg_script.specs.declared.verbs.Verb.TheVariants.{Compute, Sleep, Send, ISend, Recv, IRecv, Wait, Barrier, Yield, Lock, Unlock, Acquire, Release, Bcast, Reduce, Allreduce, Alltoall}
+use Rattle.sg_script.specs.declared.verbs.Verb.TheVariants.{Compute, Sleep, Send, ISend, Recv, IRecv, Wait, Barrier, Yield, Lock, Unlock, Acquire, Release, Create, Join, Kill, Suspend, Resume, Bcast, Reduce, Allreduce, Alltoall}
 use Rattle.sg_script.specs.Known.{Known}
 use Rattle.sg_script.specs.Operation.{IsOperation}
 use Rattle.sg_script.specs.Verbs.{verb_of}
@@ -62,13 +62,18 @@ amount_in text = or_bad_amount (amount_of text)
 abbrev pub time_in : List ℕ → Result ℕ LineFault
 time_in text = or_bad_amount (time_of text)
 
--- a name that no replay actor has is an unknown actor
+-- a name that no actor of the kind has is an unknown actor
 abbrev pub or_unknown_actor : Option ActorId → Result ActorId LineFault
 or_unknown_actor (Some a) = Ok a
 or_unknown_actor None = Err UnknownActor
 
+-- an actor that replays
 abbrev pub actor_in : Known → List ℕ → Result ActorId LineFault
 actor_in known name = or_unknown_actor (known.actor name)
+
+-- an actor, whatever it does
+abbrev pub anyone_in : Known → List ℕ → Result ActorId LineFault
+anyone_in known name = or_unknown_actor (known.anyone name)
 
 -- a name that no mutex, or semaphore, has is an unknown object
 abbrev pub or_unknown_object : Option ℕ → Result ℕ LineFault
@@ -116,6 +121,10 @@ abbrev pub receiving_of : Known → List (List ℕ) → Result ActorId LineFault
 receiving_of known (peer ∷ []) = actor_in known peer
 receiving_of known other = then_go (message_of known other) (λ both. Ok both.0)
 
+-- an actor, whatever it does
+abbrev pub anyone_of : Known → List (List ℕ) → Result ActorId LineFault
+anyone_of known args = then_go (one_word args) (anyone_in known)
+
 -- two amounts
 abbrev pub amounts_of : List (List ℕ) → Result (ℕ × ℕ) LineFault
 amounts_of args =
@@ -156,6 +165,11 @@ operation_of known Acquire args =
 operation_of known Release args =
     then_go (one_word args)
     (λ name. then_go (semaphore_in known name) (λ i. alone (action.Release i)))
+operation_of known Create args = then_go (anyone_of known args) (λ a. alone (action.Create a))
+operation_of known Join args = then_go (anyone_of known args) (λ a. alone (action.Join a))
+operation_of known Kill args = then_go (anyone_of known args) (λ a. alone (action.Kill a))
+operation_of known Suspend args = then_go (anyone_of known args) (λ a. alone (action.Suspend a))
+operation_of known Resume args = then_go (anyone_of known args) (λ a. alone (action.Resume a))
 operation_of known Bcast args =
     then_go (one_word args)
     (λ word. then_go (amount_in word) (λ bytes. together (collective.Bcast bytes)))

@@ -3,7 +3,7 @@ use Rattle.std.specs.Prelude.{ℕ, List, [], ◌∷◌, map, codes, bytes_eq, Op
 use Rattle.std.specs.Borrow.{Bor}
 use Rattle.std.specs.List.{find}
 use Rattle.sg_script.specs.declared.verbs.Verb.{Verb}
-use Rattle.sg_script.specs.declared.verbs.Verb.TheVariants.{Compute, Sleep, Send, ISend, Recv, IRecv, Wait, Barrier, Yield, Lock, Unlock, Acquire, Release, Bcast, Reduce, Allreduce, Alltoall}
+use Rattle.sg_script.specs.declared.verbs.Verb.TheVariants.{Compute, Sleep, Send, ISend, Recv, IRecv, Wait, Barrier, Yield, Lock, Unlock, Acquire, Release, Create, Join, Kill, Suspend, Resume, Bcast, Reduce, Allreduce, Alltoall}
 
 -- actions, each with its word
 abbrev pub VerbTable : Type 0
@@ -23,6 +23,8 @@ all_verbs = (codes "compute", Compute) ∷ (codes "sleep", Sleep)
     ∷ (codes "wait", Wait) ∷ (codes "barrier", Barrier) ∷ (codes "yield", Yield)
     ∷ (codes "lock", Lock) ∷ (codes "unlock", Unlock)
     ∷ (codes "acquire", Acquire) ∷ (codes "release", Release)
+    ∷ (codes "create", Create) ∷ (codes "join", Join) ∷ (codes "kill", Kill)
+    ∷ (codes "suspend", Suspend) ∷ (codes "resume", Resume)
     ∷ (codes "bcast", Bcast) ∷ (codes "reduce", Reduce)
     ∷ (codes "allreduce", Allreduce) ∷ (codes "alltoall", Alltoall) ∷ []
 

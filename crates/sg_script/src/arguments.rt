@@ -3,7 +3,7 @@ ghost use Rattle.std.specs.Prelude.{◌≡◌, IfOk, Ok};
 ghost use Rattle.sg_base.specs.Limits.{IsActorIn, IsAmount, IsMutexIn, IsPriority, IsRate, IsSemaphoreIn, IsTime};
 ghost use Rattle.sg_rows.specs.Deployment.{extent_of};
 ghost use Rattle.sg_script.specs.Known.{known_in};
-ghost use Rattle.sg_script.specs.Line.{actor_in, alone, amount_in, amounts_of, computing_of, message_of, mutex_in, no_words, priority_in, rate_in, receiving_of, semaphore_in, sending_of, then_go, time_in};
+ghost use Rattle.sg_script.specs.Line.{actor_in, alone, amount_in, amounts_of, anyone_in, anyone_of, computing_of, message_of, mutex_in, no_words, priority_in, rate_in, receiving_of, semaphore_in, sending_of, then_go, time_in};
 ghost use Rattle.sg_script.specs.Words.{words};
 
 use crate::fault::LineFault;
@@ -63,6 +63,18 @@ pub fn actor(name: &[u8], deployment: &Deployment) -> Result<ActorId, LineFault>
     ensures exists { IfOk result (IsActorIn (extent_of deployment.now)) }
 {
     match deployment.replay_actor(name) {
+        Some(actor) => Ok(actor),
+        None => Err(LineFault::UnknownActor),
+    }
+}
+
+/// The actor of that name, whatever it does.
+#[tactic(auto, using(crate::proofs::KnownLemmas::anyone_exists))]
+fn anyone_named(name: &[u8], deployment: &Deployment) -> Result<ActorId, LineFault>
+    ensures named { result ≡ anyone_in (known_in deployment.now) name.now }
+    ensures exists { IfOk result (IsActorIn (extent_of deployment.now)) }
+{
+    match deployment.actor(name) {
         Some(actor) => Ok(actor),
         None => Err(LineFault::UnknownActor),
     }
@@ -138,6 +150,14 @@ pub fn receiving(text: &[u8], deployment: &Deployment) -> Result<ActorId, LineFa
         return Ok(peer);
     };
     actor(name, deployment)
+}
+
+/// An actor, whatever it does.
+pub fn anyone(text: &[u8], deployment: &Deployment) -> Result<ActorId, LineFault>
+    ensures said { result ≡ anyone_of (known_in deployment.now) (words text.now) }
+    ensures exists { IfOk result (IsActorIn (extent_of deployment.now)) }
+{
+    anyone_named(one(text)?, deployment)
 }
 
 /// Two amounts.

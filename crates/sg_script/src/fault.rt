@@ -8,7 +8,8 @@ pub enum LineFault {
     TooLong,
     /// It has a byte that is neither a tab nor in 0x20 to 0x7E.
     NotAscii,
-    /// Its first word isn't a replay actor, or an argument that names another actor isn't one.
+    /// Its first word isn't a replay actor, or an argument doesn't name an actor: one that replays where the line sends
+    /// to it or receives from it.
     UnknownActor,
     /// It has no second word, or one that isn't an action.
     UnknownAction,

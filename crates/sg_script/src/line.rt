@@ -6,9 +6,10 @@ ghost use Rattle.sg_script.specs.Known.{known_in};
 ghost use Rattle.sg_script.specs.Line.{alone, entry_of, is_plain, KeepsLimits, line_of, operation_of, text_of, together, without_return};
 ghost use Rattle.sg_script.specs.Operation.{IsOperation};
 ghost use Rattle.sg_script.specs.Words.{words};
+ghost use Rattle.sg_script.specs.declared.verbs.Verb.TheVariants.{ISend, Send};
 
 use crate::arguments::{
-    actor, amount, amounts, bare, computing, mutex, receiving, semaphore, sending, time,
+    actor, amount, amounts, anyone, bare, computing, mutex, receiving, semaphore, sending, time,
 };
 use crate::fault::LineFault;
 use crate::operation::Operation;
@@ -40,6 +41,22 @@ fn together(collective: Collective) -> Result<Operation, LineFault>
     Ok(Operation::Together(collective))
 }
 
+fn send(text: &[u8], deployment: &Deployment) -> Result<Operation, LineFault>
+    ensures said { result ≡ operation_of (known_in deployment.now) Send (words text.now) }
+    ensures limits { IfOk result (IsOperation (extent_of deployment.now)) }
+{
+    let (to, bytes, rate) = sending(text, deployment)?;
+    alone(Action::Send(to, bytes, rate))
+}
+
+fn isend(text: &[u8], deployment: &Deployment) -> Result<Operation, LineFault>
+    ensures said { result ≡ operation_of (known_in deployment.now) ISend (words text.now) }
+    ensures limits { IfOk result (IsOperation (extent_of deployment.now)) }
+{
+    let (to, bytes, rate) = sending(text, deployment)?;
+    alone(Action::ISend(to, bytes, rate))
+}
+
 // What a verb asks for with the arguments that stand in this text.
 fn read_operation(verb: Verb, text: &[u8], deployment: &Deployment) -> Result<Operation, LineFault>
     ensures said { result ≡ operation_of (known_in deployment.now) verb (words text.now) }
@@ -51,14 +68,8 @@ fn read_operation(verb: Verb, text: &[u8], deployment: &Deployment) -> Result<Op
             alone(Action::Compute(flops, priority))
         }
         Verb::Sleep => alone(Action::Sleep(time(one(text)?)?)),
-        Verb::Send => {
-            let (to, bytes, rate) = sending(text, deployment)?;
-            alone(Action::Send(to, bytes, rate))
-        }
-        Verb::ISend => {
-            let (to, bytes, rate) = sending(text, deployment)?;
-            alone(Action::ISend(to, bytes, rate))
-        }
+        Verb::Send => send(text, deployment),
+        Verb::ISend => isend(text, deployment),
         Verb::Recv => alone(Action::Recv(receiving(text, deployment)?)),
         Verb::IRecv => alone(Action::IRecv(receiving(text, deployment)?)),
         Verb::Wait => bare(Action::Wait, text),
@@ -68,6 +79,11 @@ fn read_operation(verb: Verb, text: &[u8], deployment: &Deployment) -> Result<Op
         Verb::Unlock => alone(Action::Unlock(mutex(one(text)?, deployment)?)),
         Verb::Acquire => alone(Action::Acquire(semaphore(one(text)?, deployment)?)),
         Verb::Release => alone(Action::Release(semaphore(one(text)?, deployment)?)),
+        Verb::Create => alone(Action::Create(anyone(text, deployment)?)),
+        Verb::Join => alone(Action::Join(anyone(text, deployment)?)),
+        Verb::Kill => alone(Action::Kill(anyone(text, deployment)?)),
+        Verb::Suspend => alone(Action::Suspend(anyone(text, deployment)?)),
+        Verb::Resume => alone(Action::Resume(anyone(text, deployment)?)),
         Verb::Bcast => {
             let bytes = amount(one(text)?)?;
             together(Collective::Bcast { bytes })

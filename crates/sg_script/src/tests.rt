@@ -20,7 +20,8 @@ host = [{id = 'h1', zone = 'z', speed = '1Gf'}]
 ";
 
 const OBJECTS: &str =
-    "actor = [{name = 'p0', host = 'h1', function = 'replay'}, {name = 'p1', host = 'h1', function = 'replay'}]
+    "actor = [{name = 'p0', host = 'h1', function = 'replay'}, {name = 'p1', host = 'h1', function = 'replay'},
+    {name = 'w', host = 'h1', function = 'worker'}]
 mutex = [{id = 'm'}, {id = 'both'}]
 semaphore = [{id = 'both', capacity = 1}, {id = 's', capacity = 0}]
 ";
@@ -35,7 +36,7 @@ fn deployed(alloc: Global, objects: &str) -> Result<Deployment, Fail> {
     Ok(read_deployment(alloc, objects.as_bytes(), &platform)?)
 }
 
-// The replay actors p0 and p1, and what they may lock and acquire.
+// The replay actors p0 and p1, what they may lock and acquire, and a worker.
 fn two_actors(alloc: Global) -> Result<Deployment, Fail> {
     deployed(alloc, OBJECTS)
 }
@@ -126,7 +127,7 @@ const P0: ActorId = ActorId(1);
 const P1: ActorId = ActorId(2);
 
 /// What p1 may ask for by itself.
-const ACTIONS: [(&str, Action); 21] = [
+const ACTIONS: [(&str, Action); 26] = [
     ("compute 1e6", Action::Compute(1_000_000, 1)),
     ("sleep 59.904us", Action::Sleep(59_904)),
     ("sleep 1.5", Action::Sleep(1_500_000_000)),
@@ -146,6 +147,11 @@ const ACTIONS: [(&str, Action); 21] = [
     ("unlock both", Action::Unlock(1)),
     ("acquire both", Action::Acquire(0)),
     ("release s", Action::Release(1)),
+    ("create w", Action::Create(ActorId(3))),
+    ("join p0", Action::Join(ActorId(1))),
+    ("kill p1 ", Action::Kill(ActorId(2))),
+    ("suspend w", Action::Suspend(ActorId(3))),
+    ("resume\tw", Action::Resume(ActorId(3))),
     ("compute 0.9", Action::Compute(0, 1)),
     ("compute 1e6 1e3", Action::Compute(1_000_000, 1_000)),
     ("compute 5 1", Action::Compute(5, 1)),
@@ -176,9 +182,10 @@ const COLLECTIVES: [(&str, Collective); 4] = [
 ];
 
 /// Bad lines, and what is told of each: their arguments are counted first, and judged from left to right.
-const FAULTS: [(&str, LineFault); 61] = [
+const FAULTS: [(&str, LineFault); 71] = [
     ("p compute 1", LineFault::UnknownActor),
     ("m compute 1", LineFault::UnknownActor),
+    ("w compute 1", LineFault::UnknownActor),
     ("p0", LineFault::UnknownAction),
     ("p0 Compute 1", LineFault::UnknownAction),
     ("p0 waits", LineFault::UnknownAction),
@@ -202,6 +209,7 @@ const FAULTS: [(&str, LineFault); 61] = [
     ("p0 send nobody", LineFault::ArgumentCount),
     ("p0 send m 1", LineFault::UnknownActor),
     ("p0 send nobody x", LineFault::UnknownActor),
+    ("p0 send w 1", LineFault::UnknownActor),
     ("p0 send p1 x", LineFault::BadAmount),
     ("p0 isend", LineFault::ArgumentCount),
     ("p0 isend m x", LineFault::UnknownActor),
@@ -226,6 +234,14 @@ const FAULTS: [(&str, LineFault); 61] = [
     ("p0 acquire m", LineFault::UnknownObject),
     ("p0 acquire nothing at", LineFault::ArgumentCount),
     ("p0 release m", LineFault::UnknownObject),
+    ("p0 create", LineFault::ArgumentCount),
+    ("p0 create W", LineFault::UnknownActor),
+    ("p0 join p1 w", LineFault::ArgumentCount),
+    ("p0 join m", LineFault::UnknownActor),
+    ("p0 kill", LineFault::ArgumentCount),
+    ("p0 kill 3", LineFault::UnknownActor),
+    ("p0 Suspend w", LineFault::UnknownAction),
+    ("p0 resume nobody x", LineFault::ArgumentCount),
     ("p0 bcast", LineFault::ArgumentCount),
     ("p0 bcast 1 2", LineFault::ArgumentCount),
     ("p0 bcast x", LineFault::BadAmount),

@@ -18,6 +18,11 @@ pub enum Verb {
     Unlock,
     Acquire,
     Release,
+    Create,
+    Join,
+    Kill,
+    Suspend,
+    Resume,
     Bcast,
     Reduce,
     Allreduce,
@@ -27,7 +32,7 @@ pub enum Verb {
 /// An action and its word.
 type VerbRow = (&'static [u8], Verb);
 
-const VERBS: [VerbRow; 17] = [
+const VERBS: [VerbRow; 22] = [
     (b"compute", Verb::Compute),
     (b"sleep", Verb::Sleep),
     (b"send", Verb::Send),
@@ -41,6 +46,11 @@ const VERBS: [VerbRow; 17] = [
     (b"unlock", Verb::Unlock),
     (b"acquire", Verb::Acquire),
     (b"release", Verb::Release),
+    (b"create", Verb::Create),
+    (b"join", Verb::Join),
+    (b"kill", Verb::Kill),
+    (b"suspend", Verb::Suspend),
+    (b"resume", Verb::Resume),
     (b"bcast", Verb::Bcast),
     (b"reduce", Verb::Reduce),
     (b"allreduce", Verb::Allreduce),

@@ -1,10 +1,8 @@
 -- Counts of the elements that pass a test.
-use Rattle.std.proofs.Common.{◌≡◌, ℕ, suc, ◌+◌, ◌-◌, ◌≤◌, ◌==◌, Bool, true, false, true≢false, cond, get_or, IsTrue, ◌&&◌, ◌||◌, nat_lt, List, [], ◌∷◌, length, count_by, refl, sym, ap, ◌∙◌, arith}
+use Rattle.std.proofs.Common.{◌≡◌, ℕ, zero, suc, ◌+◌, ◌*◌, ◌<◌, ◌≤◌, ◌==◌, Bool, true, false, cond, get_or, set, replicate, ◌&&◌, ◌||◌, nat_lt, List, [], ◌∷◌, length, count_by, refl, ap, ◌∙◌, arith}
 use Rattle.std.specs.List.{list_all, list_any}
-use Rattle.std.proofs.lemmas.List.Sums.{sum_by-cons, get_or-le-sum_by}
-use Rattle.sg_states.specs.declared.state.State.{State}
-use Rattle.sg_states.specs.declared.state.State.TheVariants.{Ready, Blocked, Ended}
-use Rattle.sg_states.specs.Actors.{is_ended, is_blocked, is_ready, MayCall}
+use Rattle.std.proofs.lemmas.List.Folds.{sum_by-replicate}
+use Rattle.std.proofs.lemmas.List.Sums.{sum_by-cons, sum_by-set, get_or-le-sum_by}
 
 pub count-cons : {X : Type 0} (p : X → Bool) (x : X) (xs : List X) → count_by p (x ∷ xs) ≡ cond (p x) 1 0 + count_by p xs
 count-cons p x xs = sum_by-cons (λ y. cond (p y) 1 0) x xs
@@ -44,14 +42,25 @@ count_any p (x ∷ xs) = cases (p x) (count-cons p x xs) (count_any p xs)
         let same : count_by p (x ∷ xs) ≡ count_by p xs = omega (arith, e) in
         ap (nat_lt 0) same ∙ h
 
--- who was ready is neither ended nor blocked
-pub ready_counts : (s : State) → IsTrue (is_ready s) → (◌≡◌ {A = ℕ} (cond (is_ended s) 1 0) 0) × (◌≡◌ {A = ℕ} (cond (is_blocked s) 1 0) 0)
-ready_counts (Ready a) e = (refl, refl)
-ready_counts (Blocked c w o) e = absurd (true≢false (sym e))
-ready_counts Ended e = absurd (true≢false (sym e))
+-- not all are counted, where one doesn't pass
+pub counted_less : {X : Type 0} (p : X → Bool) (xs : List X) (i : ℕ) (d : X) → i < length xs → p (get_or xs i d) ≡ false → count_by p xs < length xs
+counted_less p [] i d within isnt = absurd (omega (arith, within))
+counted_less p (x ∷ xs) zero d within isnt = let none : ◌≡◌ {A = ℕ} (cond (p x) 1 0) 0 = ap (λ b. cond b 1 0) isnt in omega (arith, count-cons p x xs, none, count_le p xs)
+counted_less p (x ∷ xs) (suc i) d within isnt = cases (p x) (count-cons p x xs) (counted_less p xs i d (omega (arith, within)) isnt)
+  where
+    cases : (b : Bool) → count_by p (x ∷ xs) ≡ cond b 1 0 + count_by p xs → count_by p xs < length xs → count_by p (x ∷ xs) < suc (length xs)
+    cases true e h = omega (arith, e, h)
+    cases false e h = omega (arith, e, h)
 
--- where an actor is ready, there is one
-pub some_ready : (states : List State) (actor : ℕ) → MayCall states actor → 1 ≤ count_by is_ready states
-some_ready states actor caller =
-    let one : ◌≡◌ {A = ℕ} (cond (is_ready (get_or states (actor - 1) Ended)) 1 0) 1 = ap (λ b. cond b 1 0) caller.ready in
-    omega (arith, one, get_or-le-sum_by (λ x. cond (is_ready x) 1 0) states (actor - 1) Ended (omega (arith, caller.from, caller.to)))
+-- one is counted, where one passes
+pub counted_one : {X : Type 0} (p : X → Bool) (xs : List X) (i : ℕ) (d : X) → i < length xs → p (get_or xs i d) ≡ true → 1 ≤ count_by p xs
+counted_one p xs i d within is =
+    let one : ◌≡◌ {A = ℕ} (cond (p (get_or xs i d)) 1 0) 1 = ap (λ b. cond b 1 0) is in
+    omega (arith, one, get_or-le-sum_by (λ x. cond (p x) 1 0) xs i d within)
+
+-- as one element becomes another
+pub count_set : {X : Type 0} (p : X → Bool) (xs : List X) (i : ℕ) (y d : X) → i < length xs → count_by p (set xs i y) + cond (p (get_or xs i d)) 1 0 ≡ count_by p xs + cond (p y) 1 0
+count_set p xs i y d within = sum_by-set (λ x. cond (p x) 1 0) xs i y d within
+
+pub count_replicate : {X : Type 0} (p : X → Bool) (n : ℕ) (x : X) → count_by p (replicate n x) ≡ n * cond (p x) 1 0
+count_replicate p n x = sum_by-replicate (λ y. cond (p y) 1 0) n x

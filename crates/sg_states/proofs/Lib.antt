@@ -1,5 +1,11 @@
 pub mod Counts
+pub mod Sorted
+pub mod Places
 pub mod Joins
 pub mod Queues
+pub mod Waits
+pub mod Joining
+pub mod Standings
+pub mod Begins
 pub mod MadeRecords
 pub mod Keeping

@@ -1,18 +1,18 @@
 -- Who is to take a turn.
 use Rattle.std.specs.Prelude.{ℕ, ◌<◌, ◌≤◌, List, length, All, AllPairs, Contains, IsTrue, Bool}
 use Rattle.sg_base.specs.declared.ids.ActorId.{ActorId}
-use Rattle.sg_states.specs.declared.state.State.{State}
-use Rattle.sg_states.specs.Actors.{is_ready, state_at}
+use Rattle.sg_states.specs.declared.state.Actor.{Actor}
+use Rattle.sg_states.specs.Actors.{actor_at, is_ready}
 
--- whether the actor of this id is ready
-abbrev pub is_ready_in : List State → ℕ → Bool
-is_ready_in actors id = is_ready (state_at actors id)
+-- whether the actor of this id is to take a turn
+abbrev pub is_ready_in : List Actor → ℕ → Bool
+is_ready_in actors id = is_ready (actor_at actors id)
 
-abbrev pub IsIdOf : List State → ActorId → Type 0
+abbrev pub IsIdOf : List Actor → ActorId → Type 0
 IsIdOf actors actor = (0 < actor.0) × (actor.0 ≤ length actors)
 
--- Actors in rising order of their ids, among them each one that is ready.
-pub record IsQueue (actors : List State) (queue : List ActorId) : Type 0 where
+-- Actors in rising order of their ids, among them each one that is to take a turn.
+pub record IsQueue (actors : List Actor) (queue : List ActorId) : Type 0 where
   pub rises : AllPairs (λ a b. a.0 < b.0) queue
   pub ids : All (IsIdOf actors) queue
   pub has_ready : (actor : ActorId) → 0 < actor.0 → IsTrue (is_ready_in actors actor.0) → Contains queue actor

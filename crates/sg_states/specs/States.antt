@@ -1,18 +1,19 @@
 -- What contracts see of `States`, and how it changes.
-use Rattle.std.specs.Prelude.{◌≡◌, ℕ, ◌-◌, ◌<◌, Bool, false, List, [], ◌∷◌, ◌++◌}
+use Rattle.std.specs.Prelude.{◌≡◌, ℕ, ◌-◌, ◌<◌, Bool, false, IsTrue, List, [], ◌∷◌, ◌++◌}
 use Rattle.sg_base.specs.declared.call.Answer.{Answer}
 use Rattle.sg_base.specs.declared.call.Call.{Call}
 use Rattle.sg_base.specs.declared.trace_record.Record.{Record}
 use Rattle.sg_base.specs.Limits.{Extent, IsAnswer}
+use Rattle.sg_states.specs.declared.state.Actor.{Actor}
 use Rattle.sg_states.specs.declared.state.State.{State}
-use Rattle.sg_states.specs.declared.state.State.TheVariants.{Ready, Blocked, Ended}
-use Rattle.sg_states.specs.Actors.{put_state, MayCall}
+use Rattle.sg_states.specs.declared.state.State.TheVariants.{Unstarted, Ready, Blocked, Ended}
+use Rattle.sg_states.specs.Actors.{is_alive, put_state, put_suspended, state_at, IsActor, MayCall}
 use Rattle.sg_states.specs.Records.{record_of, IsTellable}
 
 -- what calls may name; what each actor does; the records that aren't cleared; room for so many calls; and whether a pass goes on
 pub record ActorStates : Type 0 where
   pub extent : Extent
-  pub actors : List State
+  pub actors : List Actor
   pub records : List Record
   pub room : ℕ
   pub passing : Bool
@@ -23,11 +24,21 @@ pub record CanCall (states : ActorStates) (actor : ℕ) : Type 0 where
   pub room : 0 < states.room
   pub round : states.passing ≡ false
 
+-- another may kill, suspend or resume the actor: it is alive, and no pass goes on
+pub record IsAlive (states : ActorStates) (actor : ℕ) : Type 0 where
+  pub is : IsActor states.actors actor
+  pub alive : IsTrue (is_alive (state_at states.actors actor))
+  pub round : states.passing ≡ false
+
 -- the actor does that from now on
 abbrev pub with_state : ℕ → State → ActorStates → ActorStates
 with_state actor state states = record states { actors = put_state states.actors actor state }
 
--- the same by a call, which takes its room
+-- the actor is suspended from now on, or isn't any more
+abbrev pub with_suspended : ℕ → Bool → ActorStates → ActorStates
+with_suspended actor on states = record states { actors = put_suspended states.actors actor on }
+
+-- it does that by a call, which takes its room
 abbrev pub by_call : ℕ → State → ActorStates → ActorStates
 by_call actor state states = record (with_state actor state states) { room = states.room - 1 }
 
@@ -38,6 +49,7 @@ with_reply actor what since bytes answer date states =
 
 -- what the state of an actor says keeps to the limits
 abbrev pub KeepsLimits : Extent → State → Type 0
+KeepsLimits extent Unstarted = Unit {0}
 KeepsLimits extent (Ready answer) = IsAnswer extent answer
 KeepsLimits extent (Blocked what since on) = IsTellable extent what
 KeepsLimits extent Ended = Unit {0}

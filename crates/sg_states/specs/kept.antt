@@ -1,3 +1,5 @@
 -- How states are kept.
 pub mod Places
+pub mod Waiting
+pub mod Standing
 pub mod Fields

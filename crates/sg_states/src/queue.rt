@@ -1,50 +1,32 @@
 //! Who is to take a turn.
-ghost use Rattle.std.specs.Prelude.{◌≡◌, ◌-◌, ◌<◌, ◌≤◌, AllPairs, Contains, IfOk, List, MatchOption, false, true, length, filter, replicate, slice_index_or, slice_set, vec_len, vec_capacity};
+ghost use Rattle.std.specs.Prelude.{◌≡◌, ◌-◌, ◌<◌, ◌≤◌, AllPairs, Contains, IsTrue, List, MatchOption, false, true, length, filter, slice_set, vec_len, vec_capacity};
 ghost use Rattle.std.specs.List.Sorted.{IsNonDecreasingBy, IsPermutation};
 ghost use Rattle.sg_base.specs.declared.ids.ActorId.{ActorId};
-ghost use Rattle.sg_base.specs.declared.call.Answer.TheVariants as answer;
-ghost use Rattle.sg_states.specs.declared.state.State.{State};
-ghost use Rattle.sg_states.specs.declared.state.State.TheVariants.{Ready};
+ghost use Rattle.sg_states.specs.declared.state.Actor.{Actor};
 ghost use Rattle.sg_states.specs.Queue.{is_ready_in as is_ready_in_spec, IsIdOf, IsQueue};
-ghost use Rattle.sg_states.specs.Actors.{is_ready, put_state};
-ghost use Rattle.sg_states.specs.kept.Fields.{IsQueued};
+ghost use Rattle.sg_states.specs.Actors.{is_ready, put_actor};
+ghost use Rattle.sg_states.specs.kept.Standing.{IsQueued};
 ghost use Rattle.sg_states.specs.kept.Places.{IsPlace};
 
-use crate::state::State;
-use sg_base::{ActorId, Memory};
-use std::alloc::Global;
+use crate::state::Actor;
+use sg_base::ActorId;
 
-/// All of so many actors, each of which is ready.
-pub(crate) fn all_actors(alloc: Global, n: usize) -> Result<Vec<ActorId>, Memory>
-    ensures queue { IfOk result (λ queue. IsQueue (replicate n (Ready answer.Start)) queue.items) }
-    ensures room { IfOk result (λ queue. n ≤ vec_capacity queue) }
+fn is_ready_in(actors: &[Actor], actor: ActorId) -> bool
+    ensures { result ≡ is_ready_in_spec actors.now actor.0 }
 {
-    let mut queue = Vec::with_capacity(alloc, n)?;
-    let Ok(last) = u32::try_from(n) else {
-        return Err(Memory);
-    };
-    for i in 0..last {
-        queue.push_reserved(ActorId(i + 1));
-    }
-    Ok(queue)
-}
-
-fn is_ready_in(states: &[State], actor: ActorId) -> bool
-    ensures { result ≡ is_ready_in_spec states.now actor.0 }
-{
-    match states.get((actor.0 as usize).saturating_sub(1)) {
-        Some(State::Ready(_)) => true,
-        _ => false,
+    match actors.get((actor.0 as usize).saturating_sub(1)) {
+        Some(actor) => actor.is_ready(),
+        None => false,
     }
 }
 
 /// Lets those go that aren't ready.
-pub(crate) fn keep_ready(queue: &mut Vec<ActorId>, states: &[State])
+pub(crate) fn keep_ready(queue: &mut Vec<ActorId>, actors: &[Actor])
     ensures items { queue.new.items
-        ≡ filter (λ (actor : ActorId). is_ready_in_spec states.now actor.0) queue.old.items }
+        ≡ filter (λ (actor : ActorId). is_ready_in_spec actors.now actor.0) queue.old.items }
     ensures capacity { vec_capacity queue.new ≡ vec_capacity queue.old }
 {
-    queue.retain(|actor| is_ready_in(states, *actor));
+    queue.retain(|actor| is_ready_in(actors, *actor));
 }
 
 /// Brings them into rising order.
@@ -60,7 +42,7 @@ pub(crate) fn sort(queue: &mut Vec<ActorId>)
 fn place_of(queue: &[ActorId], actor: ActorId) -> Option<usize>
     requires { AllPairs (λ a b. a.0 < b.0) queue.now }
     ensures { MatchOption result (Contains queue.now actor)
-        (λ place. IsPlace queue.now actor place × ¬ Contains queue.now actor) }
+        (λ place. IsPlace (λ a. a.0) queue.now actor.0 place × ¬ Contains queue.now actor) }
 {
     let place = queue.partition_point(|other| other.0 < actor.0);
     if place < queue.len() && queue[place].0 == actor.0 {
@@ -73,9 +55,9 @@ fn place_of(queue: &[ActorId], actor: ActorId) -> Option<usize>
 fn join_in_order(queue: &mut Vec<ActorId>, actor: ActorId)
     requires rises { AllPairs (λ a b. a.0 < b.0) queue.old.items }
     requires room { ¬ Contains queue.old.items actor → vec_len queue.old < vec_capacity queue.old }
-    ensures queue { (states : List State) (state : State) → IsIdOf states actor
-        → IsQueue states queue.old.items
-        → IsQueue (slice_set states (actor.0 - 1) state) queue.new.items }
+    ensures queue { (actors : List Actor) (next : Actor) → IsIdOf actors actor
+        → IsQueue actors queue.old.items
+        → IsQueue (put_actor actors actor.0 next) queue.new.items }
     ensures capacity { vec_capacity queue.new ≡ vec_capacity queue.old }
 {
     if let Some(place) = place_of(queue, actor) {
@@ -86,19 +68,39 @@ fn join_in_order(queue: &mut Vec<ActorId>, actor: ActorId)
     }
 }
 
-/// One that isn't ready is to take a turn.
-pub(crate) fn join(queue: &mut Vec<ActorId>, states: &[State], passing: bool, actor: ActorId)
-    requires actor { IsIdOf states.now actor }
-    requires idle { is_ready_in_spec states.now actor.0 ≡ false }
-    requires queued { IsQueued passing states.now queue.old.items }
-    requires room { length states.now ≤ vec_capacity queue.old }
-    ensures queued { (state : State) → is_ready state ≡ true
-        → IsQueued passing (put_state states.now actor.0 state) queue.new.items }
+// One that isn't ready is to take a turn.
+fn join(queue: &mut Vec<ActorId>, actors: &[Actor], passing: bool, actor: ActorId)
+    requires actor { IsIdOf actors.now actor }
+    requires idle { is_ready_in_spec actors.now actor.0 ≡ false }
+    requires queued { IsQueued passing actors.now queue.old.items }
+    requires room { length actors.now ≤ vec_capacity queue.old }
+    ensures queued { (next : Actor) → is_ready next ≡ true
+        → IsQueued passing (put_actor actors.now actor.0 next) queue.new.items }
     ensures capacity { vec_capacity queue.new ≡ vec_capacity queue.old }
 {
     if passing {
         queue.push_reserved(actor)
     } else {
         join_in_order(queue, actor)
+    }
+}
+
+/// The actor becomes the next one: it joins the queue where it gets ready. In a pass it wasn't ready before.
+pub(crate) fn follow(
+    queue: &mut Vec<ActorId>,
+    actors: &[Actor],
+    passing: bool,
+    actor: ActorId,
+    next: Actor,
+)
+    requires actor { IsIdOf actors.now actor }
+    requires turn { passing ≡ true → is_ready_in_spec actors.now actor.0 ≡ false }
+    requires queued { IsQueued passing actors.now queue.old.items }
+    requires room { length actors.now ≤ vec_capacity queue.old }
+    ensures queued { IsQueued passing (put_actor actors.now actor.0 next) queue.new.items }
+    ensures capacity { vec_capacity queue.new ≡ vec_capacity queue.old }
+{
+    if next.is_ready() && !is_ready_in(actors, actor) {
+        join(queue, actors, passing, actor);
     }
 }

@@ -1,14 +1,97 @@
 //! What an actor does.
-use sg_base::{Answer, Await, Call};
+ghost use Rattle.std.specs.Prelude.{◌≡◌};
+ghost use Rattle.sg_states.specs.Actors.{blocking_in, inbox_of, is_alive, is_over, is_ready as is_ready_spec, joined_in};
+
+use sg_base::{ActorId, Answer, Await, Call};
 
 /// What an actor does.
 #[derive(Clone, Copy, Debug, PartialEq, Eq)]
 pub enum State {
+    /// It waits until another starts it.
+    Unstarted,
     /// It is to take a turn, with this answer.
     Ready(Answer),
     /// It is blocked by this call since this date: until its side of an activity is done, or, with none, until the
     /// call of another lets it go on.
     Blocked(Call, u128, Option<Await>),
-    /// It has made its last call.
+    /// It has made its last call, or another has killed it.
     Ended,
+}
+
+/// On what an actor is blocked: its call, the date of the call, and its side of an activity, if it waits for one.
+#[derive(Clone, Copy, Debug, PartialEq, Eq)]
+pub struct Blocking {
+    /// The call.
+    pub what: Call,
+    /// When it was made.
+    pub since: u128,
+    /// The side that it waits for.
+    pub on: Option<Await>,
+}
+
+/// What an actor does, and whether another has suspended it: then it takes no turn.
+#[derive(Clone, Copy, Debug, PartialEq, Eq)]
+pub struct Actor {
+    /// What it does.
+    pub state: State,
+    /// Whether it is suspended.
+    pub suspended: bool,
+}
+
+impl State {
+    /// On what it is blocked.
+    pub fn blocking(self) -> Option<Blocking>
+        ensures { result ≡ blocking_in self }
+    {
+        match self {
+            State::Blocked(what, since, on) => Some(Blocking { what, since, on }),
+            _ => None,
+        }
+    }
+
+    /// Whether it has started and hasn't ended.
+    pub fn is_alive(self) -> bool
+        ensures { result ≡ is_alive self }
+    {
+        match self {
+            State::Ready(_) | State::Blocked(..) => true,
+            State::Unstarted | State::Ended => false,
+        }
+    }
+
+    /// For whose end it waits.
+    pub(crate) fn joined(self) -> Option<ActorId>
+        ensures { result ≡ joined_in self }
+    {
+        match self {
+            State::Blocked(Call::Join(of), _, _) => Some(of),
+            _ => None,
+        }
+    }
+}
+
+impl Actor {
+    /// Whether it is to take a turn.
+    pub(crate) fn is_ready(self) -> bool
+        ensures { result ≡ is_ready_spec self }
+    {
+        matches!(self.state, State::Ready(_)) && !self.suspended
+    }
+
+    /// Whether it takes no turn again, unless another starts it.
+    pub(crate) fn is_over(self) -> bool
+        ensures { result ≡ is_over self }
+    {
+        !self.state.is_alive()
+    }
+
+    /// The answer with which it takes a turn.
+    pub(crate) fn inbox(self) -> Option<Answer>
+        ensures { result ≡ inbox_of self }
+    {
+        match self.state {
+            State::Ready(answer) if !self.suspended => Some(answer),
+            _ => None,
+        }
+    }
 }

@@ -1,40 +1,32 @@
 //! The states of all actors.
-ghost use Rattle.std.specs.Prelude.{◌≡◌, ◌-◌, ◌<◌, ◌≤◌, ◌^◌, [], false, true, All, IfOk, IfSome, IsTrue, OnOk, length, replicate};
+ghost use Rattle.std.specs.Prelude.{◌≡◌, ◌-◌, ◌<◌, ◌≤◌, ◌^◌, [], false, true, All, IfOk, IfSome, IsTrue, MatchOption, OnOk, length, map};
 ghost use Rattle.std.specs.List.{list_all, list_any};
 ghost use Rattle.sg_base.specs.declared.call.Answer.TheVariants as answer;
 ghost use Rattle.sg_base.specs.Limits.{IsAmount, IsAnswer};
-ghost use Rattle.sg_states.specs.declared.state.State.TheVariants.{Ready, Blocked, Ended};
-ghost use Rattle.sg_states.specs.Actors.{blocked_of, inbox_of, is_blocked, is_ended, is_ready, state_at, IsActor};
+ghost use Rattle.sg_states.specs.declared.state.State.TheVariants.{Unstarted, Ready, Blocked, Ended};
+ghost use Rattle.sg_states.specs.Actors.{actor_at, blocked_of, first_actor, inbox_of, is_blocked, is_over, is_ready, is_unstarted, joiners, state_at, IsActor, IsJoiner};
 ghost use Rattle.sg_states.specs.Queue.{IsQueue};
 ghost use Rattle.sg_states.specs.Records.{AreRecords, IsTellable};
-ghost use Rattle.sg_states.specs.States.{by_call, with_reply, CanCall, KeepsLimits};
+ghost use Rattle.sg_states.specs.States.{by_call, with_reply, with_state, with_suspended, CanCall, IsAlive, KeepsLimits};
 
-use crate::queue::{all_actors, join, keep_ready, sort};
+use crate::crowd::Crowd;
 use crate::records::record_of;
-use crate::state::State;
+use crate::state::{Blocking, State};
 use sg_base::{ActorId, Answer, Await, Call, Memory, Record};
 use std::alloc::Global;
 use std::marker::Model;
 
-/// What each actor does, who is to take a turn, and the records of what was answered.
+/// What each actor does, who is to take a turn, who waits for another to end, and the records of what was answered.
 ///
 /// Contracts see what calls may name, the states, the records that aren't cleared, for how many calls there is room,
 /// and whether a pass goes on. No call costs more with more actors, but for a binary search in the run queue where one
-/// wakes another, and for the sorting of that queue at the end of a pass.
+/// gets to take a turn in a round, the same among the joiners where one joins another or goes on, with the shift of
+/// those behind it, and for the sorting of the queue at the end of a pass.
 #[derive(Drop)]
 pub struct States {
-    /// What each actor does, by id from 1 on.
-    states: Vec<State>,
+    crowd: Crowd,
     /// The records that aren't cleared.
     records: Vec<Record>,
-    /// By rising id all actors that are ready, and those that have called since the round began; while a pass goes on
-    /// just the ready ones, in any order.
-    queue: Vec<ActorId>,
-    passing: bool,
-    /// How many actors are ready.
-    ready: usize,
-    /// How many actors have ended.
-    ended: usize,
     /// Room for so many calls.
     room: usize,
     actors: usize,
@@ -49,61 +41,40 @@ impl Model for States {
 
     ghost Value = { ActorStates };
 
-    ghost view = { λ s. states_of s.actors s.mutexes s.semaphores s.states.items s.records.items
-        s.room s.passing };
+    ghost view = { λ s. states_of s.actors s.mutexes s.semaphores s.crowd s.records.items s.room };
 
     ghost invariant = { λ s. IsKept
-        (states_of s.actors s.mutexes s.semaphores s.states.items s.records.items s.room s.passing)
-        s.queue.items
-        (record {
-          ready = s.ready;
-          ended = s.ended;
-          queue_room = vec_capacity s.queue;
-          made = vec_len s.records;
-          records_room = vec_capacity s.records;
-        }) };
-}
-
-// All actors are ready with the answer Start.
-fn first_states(alloc: Global, n: usize) -> Result<Vec<State>, Memory>
-    ensures { IfOk result (λ states. states.items ≡ replicate n (Ready answer.Start)) }
-{
-    let mut states = Vec::new(alloc);
-    for _i in 0..n {
-        match states.push(State::Ready(Answer::Start)) {
-            Ok(()) => {}
-            Err(_) => return Err(Memory),
-        }
-    }
-    Ok(states)
+        (states_of s.actors s.mutexes s.semaphores s.crowd s.records.items s.room)
+        (vec_len s.records)
+        (vec_capacity s.records) };
 }
 
 impl States {
-    /// So many actors, each of which is ready with the answer Start, and no room for calls. Calls may name so many
-    /// mutexes and semaphores.
+    /// The actors, of which just those are ready that start at the beginning, with the answer Start. There is no room
+    /// for calls. Calls may name so many mutexes and semaphores.
     pub fn new(
         alloc: Global,
-        actors: usize,
+        starts: &[bool],
         mutexes: usize,
         semaphores: usize,
     ) -> Result<States, Memory>
         ensures { IfOk result (λ states. states ≡ record {
-          extent = record { actors = actors; mutexes = mutexes; semaphores = semaphores };
-          actors = replicate actors (Ready answer.Start);
+          extent = record {
+            actors = length starts.now;
+            mutexes = mutexes;
+            semaphores = semaphores;
+          };
+          actors = map first_actor starts.now;
           records = [];
           room = 0;
           passing = false;
         }) }
     {
         Ok(States {
-            states: first_states(alloc, actors)?,
+            crowd: Crowd::new(alloc, starts)?,
             records: Vec::new(alloc),
-            queue: all_actors(alloc, actors)?,
-            passing: false,
-            ready: actors,
-            ended: 0,
             room: 0,
-            actors,
+            actors: starts.len(),
             mutexes,
             semaphores,
         })
@@ -118,11 +89,11 @@ impl States {
         ensures most { self.new.room ≤ n }
         ensures kept { self.new ≡ record self.old { room = self.new.room } }
     {
-        let Some(most) = n.checked_add(self.states.len()) else {
+        let Some(most) = n.checked_add(self.crowd.len()) else {
             return Err(Memory);
         };
         self.records.reserve(most)?;
-        keep_ready(&mut self.queue, &self.states);
+        self.crowd.keep_ready();
         self.room = n;
         Ok(())
     }
@@ -140,7 +111,7 @@ impl States {
         requires answer { IsAnswer self.old.extent answer }
         ensures { self.new ≡ by_call actor.0 (Ready answer) self.old }
     {
-        self.states[actor.index()] = State::Ready(answer);
+        self.crowd.put_state(actor, State::Ready(answer));
         self.room -= 1;
     }
 
@@ -150,8 +121,7 @@ impl States {
         requires what { IsTellable self.old.extent what }
         ensures { self.new ≡ by_call actor.0 (Blocked what date on) self.old }
     {
-        self.states[actor.index()] = State::Blocked(what, date, on);
-        self.ready -= 1;
+        self.crowd.put_state(actor, State::Blocked(what, date, on));
         self.room -= 1;
     }
 
@@ -160,9 +130,7 @@ impl States {
         requires able { CanCall self.old actor.0 }
         ensures { self.new ≡ by_call actor.0 Ended self.old }
     {
-        self.states[actor.index()] = State::Ended;
-        self.ready -= 1;
-        self.ended += 1;
+        self.crowd.put_state(actor, State::Ended);
         self.room -= 1;
     }
 
@@ -179,33 +147,67 @@ impl States {
     {
         self.records
             .push_reserved(record_of(actor, what, date, bytes, answer, date));
-        self.states[actor.index()] = State::Ready(answer);
+        self.crowd.put_state(actor, State::Ready(answer));
         self.room -= 1;
     }
 
-    /// The call of a blocked actor, which it made at the date `since`, is answered, with a record.
+    /// The call on which an actor is blocked is answered, with a record. One that is suspended takes its turn once it
+    /// is resumed.
     pub fn reply(
         &mut self,
         actor: ActorId,
-        what: Call,
-        since: u128,
+        blocking: Blocking,
         bytes: u64,
         answer: Answer,
         date: u128,
     )
         requires actor { IsActor self.old.actors actor.0 }
         requires blocked { IsTrue (is_blocked (state_at self.old.actors actor.0)) }
-        requires what { IsTellable self.old.extent what }
+        requires what { IsTellable self.old.extent blocking.what }
         requires bytes { IsAmount bytes }
         requires answer { IsAnswer self.old.extent answer }
         requires date { date < 10 ^ 33 }
-        ensures { self.new ≡ with_reply actor.0 what since bytes answer date self.old }
+        ensures { self.new
+            ≡ with_reply actor.0 blocking.what blocking.since bytes answer date self.old }
     {
+        let Blocking { what, since, .. } = blocking;
         self.records
             .push_reserved(record_of(actor, what, since, bytes, answer, date));
-        join(&mut self.queue, &self.states, self.passing, actor);
-        self.states[actor.index()] = State::Ready(answer);
-        self.ready += 1;
+        self.crowd.put_state(actor, State::Ready(answer));
+    }
+
+    /// Another starts the actor: it is to take a turn, with the answer Start.
+    pub fn begin(&mut self, target: ActorId)
+        requires actor { IsActor self.old.actors target.0 }
+        requires unstarted { IsTrue (is_unstarted (state_at self.old.actors target.0)) }
+        requires round { self.old.passing ≡ false }
+        ensures { self.new ≡ with_state target.0 (Ready answer.Start) self.old }
+    {
+        self.crowd.put_state(target, State::Ready(Answer::Start));
+    }
+
+    /// Another kills the actor. What it was blocked on is no longer known.
+    pub fn end(&mut self, target: ActorId)
+        requires alive { IsAlive self.old target.0 }
+        ensures { self.new ≡ with_state target.0 Ended self.old }
+    {
+        self.crowd.put_state(target, State::Ended);
+    }
+
+    /// Another suspends the actor: it takes no turn until it is resumed.
+    pub fn suspend(&mut self, target: ActorId)
+        requires alive { IsAlive self.old target.0 }
+        ensures { self.new ≡ with_suspended target.0 true self.old }
+    {
+        self.crowd.put_suspended(target, true);
+    }
+
+    /// Another resumes the actor: if it has an answer, it is to take a turn.
+    pub fn resume(&mut self, target: ActorId)
+        requires alive { IsAlive self.old target.0 }
+        ensures { self.new ≡ with_suspended target.0 false self.old }
+    {
+        self.crowd.put_suspended(target, false);
     }
 
     /// A pass begins, where nobody is ready.
@@ -213,8 +215,7 @@ impl States {
         requires idle { list_any is_ready self.old.actors ≡ false }
         ensures { self.new ≡ record self.old { passing = true } }
     {
-        self.queue.clear();
-        self.passing = true;
+        self.crowd.begin_pass();
     }
 
     /// A pass is over.
@@ -222,24 +223,31 @@ impl States {
         requires { self.old.passing ≡ true }
         ensures { self.new ≡ record self.old { passing = false } }
     {
-        sort(&mut self.queue);
-        self.passing = false;
+        self.crowd.end_pass();
     }
 
     /// How many actors there are. Their ids count from 1.
     pub fn actors(&self) -> usize
         ensures { result ≡ length self.now.actors }
     {
-        self.states.len()
+        self.crowd.len()
     }
 
-    /// Who is to take a turn: by rising id all actors that are ready, and perhaps some that have called since
+    /// Who is to take a turn: by rising id all actors that are ready, and perhaps some that were since
     /// `reserve_round`. To tell it costs nothing.
     pub fn run_queue(&self) -> &[ActorId]
         requires { self.now.passing ≡ false }
         ensures { IsQueue self.now.actors result.now }
     {
-        self.queue.as_slice()
+        self.crowd.queue()
+    }
+
+    /// Who waits first, by rising id, for the actor to end.
+    pub fn joiner(&self, target: ActorId) -> Option<ActorId>
+        ensures { MatchOption result (joiners target.0 1 self.now.actors ≡ [])
+            (λ actor. IsJoiner self.now.actors target.0 actor) }
+    {
+        self.crowd.joiner(target)
     }
 
     /// What an actor does.
@@ -248,19 +256,24 @@ impl States {
         ensures is { result ≡ state_at self.now.actors actor.0 }
         ensures limited { KeepsLimits self.now.extent result }
     {
-        self.states[actor.index()]
+        self.crowd.actor(actor).state
     }
 
-    /// The answer of a ready actor.
+    /// Whether an actor is suspended.
+    pub fn suspended(&self, actor: ActorId) -> bool
+        requires { IsActor self.now.actors actor.0 }
+        ensures { result ≡ (actor_at self.now.actors actor.0).suspended }
+    {
+        self.crowd.actor(actor).suspended
+    }
+
+    /// The answer of an actor that is to take a turn.
     pub fn inbox(&self, actor: ActorId) -> Option<Answer>
         requires { IsActor self.now.actors actor.0 }
-        ensures is { result ≡ inbox_of (state_at self.now.actors actor.0) }
+        ensures is { result ≡ inbox_of (actor_at self.now.actors actor.0) }
         ensures limited { IfSome result (IsAnswer self.now.extent) }
     {
-        match self.states[actor.index()] {
-            State::Ready(answer) => Some(answer),
-            _ => None,
-        }
+        self.crowd.actor(actor).inbox()
     }
 
     /// The call on which an actor is blocked.
@@ -269,7 +282,7 @@ impl States {
         ensures is { result ≡ blocked_of (state_at self.now.actors actor.0) }
         ensures limited { IfSome result (IsTellable self.now.extent) }
     {
-        match self.states[actor.index()] {
+        match self.crowd.actor(actor).state {
             State::Blocked(what, _, _) => Some(what),
             _ => None,
         }
@@ -279,14 +292,14 @@ impl States {
     pub fn any_ready(&self) -> bool
         ensures { result ≡ list_any is_ready self.now.actors }
     {
-        self.ready > 0
+        self.crowd.any_ready()
     }
 
-    /// Whether all actors have ended.
-    pub fn all_ended(&self) -> bool
-        ensures { result ≡ list_all is_ended self.now.actors }
+    /// Whether no actor is alive: none takes a turn again.
+    pub fn all_over(&self) -> bool
+        ensures { result ≡ list_all is_over self.now.actors }
     {
-        self.ended == self.states.len()
+        self.crowd.all_over()
     }
 
     /// The records that aren't cleared, in the order in which they were made.

@@ -48,7 +48,9 @@ impl Queues {
         requires queue { queue < length self.old.queues }
         requires actor { IsActor self.old.actors actor }
         requires free { waits actor self.old.queues ≡ 0 }
-        ensures joined { self.new ≡ record self.old { queues = joined self.old.queues queue actor } }
+        ensures joined { self.new ≡ record self.old {
+          queues = joined self.old.queues queue actor;
+        } }
         ensures few { length (queue_at self.new.queues queue)
             ≤ self.old.actors + length self.old.queues + 1 }
     {

@@ -35,9 +35,19 @@ impl Model for Sync {
 
     ghost Value = { Objects };
 
-    ghost view = { λ s. record { actors = s.arrived.actors; owners = s.owners.items; locking = s.locking.queues; counts = s.counts.items; acquiring = s.acquiring.queues; members = s.members; arrived = queue_at s.arrived.queues 0; others = s.others.items } };
+    ghost view = { λ s. record {
+      actors = s.arrived.actors;
+      owners = s.owners.items;
+      locking = s.locking.queues;
+      counts = s.counts.items;
+      acquiring = s.acquiring.queues;
+      members = s.members;
+      arrived = queue_at s.arrived.queues 0;
+      others = s.others.items;
+    } };
 
-    ghost invariant = { λ s. IsKept s.locking s.acquiring s.arrived (length s.owners.items) (length s.counts.items) (vec_capacity s.others) };
+    ghost invariant = { λ s. IsKept s.locking s.acquiring s.arrived
+        (length s.owners.items) (length s.counts.items) (vec_capacity s.others) };
 }
 
 // Notes one more that goes on.

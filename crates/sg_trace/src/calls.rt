@@ -1,15 +1,15 @@
 //! The texts of calls.
 ghost use Rattle.std.specs.Prelude.{◌≡◌, ◌≤◌, ◌++◌, codes, decimal, length};
-ghost use Rattle.sg_base.specs.Limits.{IsBoxIn, IsCall, IsMutexIn, IsSemaphoreIn};
+ghost use Rattle.sg_base.specs.Limits.{IsActorIn, IsBoxIn, IsCall, IsMutexIn, IsSemaphoreIn};
 ghost use Rattle.sg_base.specs.Lines.{HasLine};
 ghost use Rattle.sg_rows.specs.Deployment.{extent_of};
 ghost use Rattle.sg_trace.specs.Call.{brought_text, call_text, receiver_name, sender_name};
-ghost use Rattle.sg_trace.specs.Names.{mutex_id, semaphore_id};
+ghost use Rattle.sg_trace.specs.Names.{actor_name, mutex_id, semaphore_id};
 ghost use Rattle.sg_trace.specs.kept.Room.{HasRoom, GrowsBy};
 
 use crate::names::{push_actor_name, push_mutex, push_semaphore};
 use crate::pieces::{Line, push_number};
-use sg_base::{BoxId, Call};
+use sg_base::{ActorId, BoxId, Call};
 use sg_rows::Deployment;
 
 fn push_counted(line: &mut Line, word: &str, number: u64)
@@ -72,6 +72,18 @@ fn push_brought(line: &mut Line, brought: Option<u64>)
     }
 }
 
+fn push_of_actor(line: &mut Line, word: &str, deployment: &Deployment, actor: ActorId)
+    requires actor { IsActorIn (extent_of deployment.now) actor }
+    requires word { length word.now ≤ 8 }
+    requires room { HasRoom line.old 112 }
+    ensures bytes { line.new.bytes
+        ≡ line.old.bytes ++ (word.now ++ actor_name deployment.now actor) }
+    ensures len { GrowsBy line.old line.new 72 }
+{
+    line.push_str(word);
+    push_actor_name(line, deployment, actor);
+}
+
 fn push_locked(line: &mut Line, word: &str, deployment: &Deployment, mutex: u32)
     requires mutex { IsMutexIn (extent_of deployment.now) mutex }
     requires word { length word.now ≤ 8 }
@@ -119,6 +131,11 @@ pub fn push_call(line: &mut Line, deployment: &Deployment, call: Call, brought: 
         Call::Acquire(semaphore) => push_counting(line, "acquire ", deployment, semaphore),
         Call::Release(semaphore) => push_counting(line, "release ", deployment, semaphore),
         Call::Barrier => line.push_str("barrier"),
+        Call::Create(actor) => push_of_actor(line, "create ", deployment, actor),
+        Call::Join(actor) => push_of_actor(line, "join ", deployment, actor),
+        Call::Kill(actor) => push_of_actor(line, "kill ", deployment, actor),
+        Call::Suspend(actor) => push_of_actor(line, "suspend ", deployment, actor),
+        Call::Resume(actor) => push_of_actor(line, "resume ", deployment, actor),
         Call::Yield => line.push_str("yield"),
         Call::Ask | Call::Exit => unreachable!(),
     }

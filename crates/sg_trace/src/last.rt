@@ -1,5 +1,5 @@
 //! What is told at the end of a run.
-use sg_base::{ActorId, Call};
+use sg_base::{ActorId, Call, PointId};
 
 /// What a line at the end of a run tells. Dates are in nanoseconds.
 #[derive(Clone, Copy, Debug, PartialEq, Eq)]
@@ -14,6 +14,10 @@ pub enum Last {
     Budget(u64, u128),
     /// An actor that was blocked on this call.
     Blocked(ActorId, Call),
+    /// An actor that was suspended.
+    Suspended(ActorId),
     /// So many actors had so many events.
     Summary(u64, u64),
+    /// What a host consumed: whole joules, and the rest in units of 10^-12 J.
+    Energy(PointId, u128, u64),
 }

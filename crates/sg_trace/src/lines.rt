@@ -1,16 +1,18 @@
 //! The lines on standard output.
-ghost use Rattle.std.specs.Prelude.{◌≡◌, ◌≤◌, ◌++◌, length};
-ghost use Rattle.sg_rows.specs.Deployment.{IsDeployedOn};
+ghost use Rattle.std.specs.Prelude.{◌≡◌, ◌≤◌, ◌++◌, codes, length};
+ghost use Rattle.sg_base.specs.Limits.{IsActorIn};
+ghost use Rattle.sg_rows.specs.Deployment.{IsDeployedOn, extent_of};
 ghost use Rattle.sg_trace.specs.Ending.{IsLastOf, ending_of, last_text};
 ghost use Rattle.sg_trace.specs.Line.{IsDate, IsOfDeployment, line_of};
+ghost use Rattle.sg_trace.specs.Names.{actor_label};
 ghost use Rattle.sg_units.specs.Date.{date_of};
 ghost use Rattle.sg_trace.specs.kept.Room.{HasRoom, GrowsBy};
 
 use crate::calls::push_call;
 use crate::last::Last;
-use crate::names::push_actor;
-use crate::pieces::{Line, push_date, push_end, push_number};
-use sg_base::Record;
+use crate::names::{push_actor, push_host_name};
+use crate::pieces::{Line, push_date, push_end, push_energy, push_number};
+use sg_base::{ActorId, Record};
 use sg_rows::{Deployment, PlatformText};
 
 /// The line of the trace that tells a record, with its newline. It takes no memory.
@@ -43,8 +45,29 @@ fn push_dated(line: &mut Line, text: &str, date: u128)
     push_date(line, date);
 }
 
+// A text that ends in an opening bracket, the actor and the closing one.
+fn push_in_brackets(
+    line: &mut Line,
+    text: &str,
+    platform: &PlatformText,
+    deployment: &Deployment,
+    actor: ActorId,
+)
+    requires actor { IsActorIn (extent_of deployment.now) actor }
+    requires deployed { IsDeployedOn platform.now deployment.now }
+    requires text { length text.now ≤ 11 }
+    requires room { HasRoom line.old 228 }
+    ensures bytes { line.new.bytes ≡ line.old.bytes
+        ++ (text.now ++ actor_label platform.now deployment.now actor ++ codes "]") }
+    ensures len { GrowsBy line.old line.new 164 }
+{
+    line.push_str(text);
+    push_actor(line, platform, deployment, actor);
+    line.push_str("]");
+}
+
 fn push_last(line: &mut Line, last: Last, platform: &PlatformText, deployment: &Deployment)
-    requires last { IsLastOf deployment.now last }
+    requires last { IsLastOf platform.now deployment.now last }
     requires deployed { IsDeployedOn platform.now deployment.now }
     requires room { HasRoom line.old 312 }
     ensures bytes { line.new.bytes ≡ line.old.bytes ++ last_text last platform.now deployment.now }
@@ -60,10 +83,12 @@ fn push_last(line: &mut Line, last: Last, platform: &PlatformText, deployment: &
             push_dated(line, " events used at ", date);
         }
         Last::Blocked(actor, call) => {
-            line.push_str("blocked [");
-            push_actor(line, platform, deployment, actor);
-            line.push_str("] ");
+            push_in_brackets(line, "blocked [", platform, deployment, actor);
+            line.push_str(" ");
             push_call(line, deployment, call, None);
+        }
+        Last::Suspended(actor) => {
+            push_in_brackets(line, "suspended [", platform, deployment, actor);
         }
         Last::Summary(actors, events) => {
             push_number(line, actors);
@@ -71,12 +96,18 @@ fn push_last(line: &mut Line, last: Last, platform: &PlatformText, deployment: &
             push_number(line, events);
             line.push_str(" events");
         }
+        Last::Energy(host, joules, rest) => {
+            line.push_str("energy ");
+            push_host_name(line, platform, host);
+            line.push_str(" ");
+            push_energy(line, joules, rest);
+        }
     }
 }
 
 /// A line that tells how the run ended, with its newline. It takes no memory.
 pub fn ending_line(last: &Last, platform: &PlatformText, deployment: &Deployment) -> Line
-    requires last { IsLastOf deployment.now last.now }
+    requires last { IsLastOf platform.now deployment.now last.now }
     requires deployed { IsDeployedOn platform.now deployment.now }
     ensures { result.bytes ≡ ending_of last.now platform.now deployment.now }
 {

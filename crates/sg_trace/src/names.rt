@@ -18,7 +18,7 @@ fn push_name(line: &mut Line, name: &Text)
     line.push_str(name.as_str());
 }
 
-fn push_host_name(line: &mut Line, platform: &PlatformText, host: PointId)
+pub fn push_host_name(line: &mut Line, platform: &PlatformText, host: PointId)
     requires host { host.0 < length platform.now.hosts }
     requires room { HasRoom line.old 64 }
     ensures bytes { line.new.bytes ≡ line.old.bytes ++ host_name platform.now host }

@@ -133,10 +133,10 @@ home_exists p kept point there = go (split_at point.0 (length p.hosts))
 
     go : ((point.0 < length p.hosts) ⊎ (length p.hosts ≤ point.0)) → (get_or (hosts ++ routers) point.0 d).0 < length p.zones
     go (inl few) =
-        let h : HostRow = get_or p.hosts point.0 (record { id = []; zone = d; speed = 0; cores = 0 }) in
+        let h : HostRow = get_or p.hosts point.0 (record { id = []; zone = d; speed = 0; cores = 0; power = None }) in
         in_zones _ h.zone
-        (get_or_append_left hosts routers d point.0 (omega (arith, length-map p.hosts (λ row. row.zone))) ∙ get_or-map (λ row. row.zone) p.hosts point.0 (record { id = []; zone = d; speed = 0; cores = 0 }) d few)
-        (kept.hosts point.0 (record { id = []; zone = d; speed = 0; cores = 0 }) few).zone
+        (get_or_append_left hosts routers d point.0 (omega (arith, length-map p.hosts (λ row. row.zone))) ∙ get_or-map (λ row. row.zone) p.hosts point.0 (record { id = []; zone = d; speed = 0; cores = 0; power = None }) d few)
+        (kept.hosts point.0 (record { id = []; zone = d; speed = 0; cores = 0; power = None }) few).zone
     go (inr many) =
         let n = length-map p.hosts (λ row. row.zone) in
         let m = length-map p.routers (λ row. row.zone) in

@@ -1,5 +1,5 @@
 -- How the steps of the whole call come together.
-use Rattle.std.proofs.Common.{◌≡◌, ◌≢◌, ◌<◌, ◌≤◌, ◌+◌, ◌∙◌, ◌⊎◌, inl, inr, sym, ap, ap₂, subst, refl, ℕ, List, [], ◌∷◌, ◌++◌, length, get_or, drop, Bool, true, false, Option, None, Some, Result, Ok, arith, rules}
+use Rattle.std.proofs.Common.{◌≡◌, ◌≢◌, ◌<◌, ◌≤◌, ◌+◌, ◌-◌, ◌∙◌, ◌⊎◌, inl, inr, sym, ap, ap₂, subst, refl, ℕ, List, [], ◌∷◌, ◌++◌, length, get_or, drop, Bool, true, false, Option, None, Some, Result, Ok, arith, rules}
 use Rattle.std.proofs.Common as C
 use Rattle.sg_base.specs.declared.status.Status.{Status}
 use Rattle.sg_base.specs.declared.status.Status.TheVariants as S
@@ -13,19 +13,21 @@ use Rattle.sg_engine.specs.declared.ended.Ended.TheVariants as E
 use Rattle.sg_edge.specs.Cause.{HasCause}
 use Rattle.sg_edge.specs.declared.files.Stage.TheVariants.{Broken}
 use Rattle.sg_engine.specs.Gains.{GainsFronts}
-use Rattle.sg_engine.specs.RunContract.{Ends, IsBroken}
+use Rattle.sg_engine.specs.RunContract.{Ends, IsBroken, is_cut as run_cut, TakesContexts as RunTakes, TakesFirst as RunTakesFirst}
 use Rattle.sg_engine.specs.declared.show.Show.{Show}
 use Rattle.sg_engine.specs.Output.{Output, run_output}
 use Rattle.simgrid_replay.specs.declared.refusal.Refusal.{Refusal}
 use Rattle.simgrid_replay.specs.declared.refusal.Refusal.TheVariants as R
-use Rattle.simgrid_replay.specs.Outcome.{Outcome, IsWhole, Prints, is_refusal, of_run, run_on, or_refused, status_of, one_text, refusal_outcome}
-use Rattle.std.specs.Prelude.{IsErr}
+use Rattle.simgrid_replay.specs.Outcome.{Outcome, IsWhole, Prints, is_cut, is_refusal, of_run, run_on, or_refused, status_of, one_text, refusal_outcome}
+use Rattle.std.specs.Prelude.{IsErr, MatchBool}
+use Rattle.std.proofs.lemmas.List.{length-drop}
+use Rattle.simgrid_replay.specs.Contexts.{TakesContexts, TakesFirst, starts_in}
 use Rattle.sg_edge.specs.declared.files.Part.{Part}
 use Rattle.sg_edge.specs.declared.files.Part.TheVariants.{Platform, Deployment, Script}
 use Rattle.sg_words.specs.CommandLine as line
 use Rattle.sg_words.specs.CommandLine.{Asked, Request}
 use Rattle.simgrid_replay.specs.PartSources.{TextsGive, ScriptGives}
-use Rattle.simgrid_replay.specs.kept.Reading.{PlatformDecides}
+use Rattle.simgrid_replay.specs.kept.Reading.{LeavesContexts, PlatformDecides}
 use Rattle.simgrid_replay.specs.PartOrder.{IsTextBroken, SparesRest}
 use Rattle.simgrid_replay.specs.Settings.{Setting, platform_given}
 use Rattle.sg_engine.specs.declared.setup.Setup.{Setup}
@@ -135,58 +137,151 @@ run_cause how code faults old mid new is rising broke cause = record {
 pub run_prints : (run : Output) (how : Ended) (code : Status) (old new : Stream → Option (List ℕ)) → code ≡ status_of how → Ends run.out run.err run.ended how old new → Prints (of_run run) code old new
 run_prints run how code old new is ends = subst (λ (s : Status). Prints (of_run run) s old new) (sym is) (ended_prints run how old new ends)
 
-as_job : (job : Asked) (on : Setting) (script : Bool) (budget : ℕ) (show : Show) (source : Source) → script ≡ has_script job.request → budget ≡ job.budget → show ≡ show_of job.request job.quiet →
-    run_output on.platform on.deployment script budget show source ≡ run_output on.platform on.deployment (has_script job.request) job.budget (show_of job.request job.quiet) source
-as_job job on script budget show source scripted counted shown =
-    ap (λ (b : Bool). run_output on.platform on.deployment b budget show source) scripted
-    ∙ ap₂ (λ (n : ℕ) (s : Show). run_output on.platform on.deployment (has_script job.request) n s source) counted shown
+as_job : (job : Asked) (contexts : ℕ) (on : Setting) (script : Bool) (budget : ℕ) (show : Show) (source : Source) → script ≡ has_script job.request → budget ≡ job.budget → show ≡ show_of job.request job.quiet →
+    run_output on.platform on.deployment script budget contexts show source ≡ run_output on.platform on.deployment (has_script job.request) job.budget contexts (show_of job.request job.quiet) source
+as_job job contexts on script budget show source scripted counted shown =
+    ap (λ (b : Bool). run_output on.platform on.deployment b budget contexts show source) scripted
+    ∙ ap₂ (λ (n : ℕ) (s : Show). run_output on.platform on.deployment (has_script job.request) n contexts s source) counted shown
 
 -- the same on the terms of a job
-pub run_prints_on : (job : Asked) (on : Setting) (script : Bool) (budget : ℕ) (show : Show) (source : Source) (how : Ended) (code : Status) (old new : Stream → Option (List ℕ)) →
+pub run_prints_on : (job : Asked) (contexts : ℕ) (on : Setting) (script : Bool) (budget : ℕ) (show : Show) (source : Source) (how : Ended) (code : Status) (old new : Stream → Option (List ℕ)) →
     script ≡ has_script job.request → budget ≡ job.budget → show ≡ show_of job.request job.quiet → code ≡ status_of how →
-    Ends (run_output on.platform on.deployment script budget show source).out (run_output on.platform on.deployment script budget show source).err
-    (run_output on.platform on.deployment script budget show source).ended how old new →
-    Prints (run_on job source on) code old new
-run_prints_on job on script budget show source how code old new scripted counted shown is ends =
-    subst (λ (o : Output). Prints (of_run o) code old new) (as_job job on script budget show source scripted counted shown)
-    (run_prints (run_output on.platform on.deployment script budget show source) how code old new is ends)
+    Ends (run_output on.platform on.deployment script budget contexts show source).out (run_output on.platform on.deployment script budget contexts show source).err
+    (run_output on.platform on.deployment script budget contexts show source).ended how old new →
+    Prints (run_on job contexts source on) code old new
+run_prints_on job contexts on script budget show source how code old new scripted counted shown is ends =
+    subst (λ (o : Output). Prints (of_run o) code old new) (as_job job contexts on script budget show source scripted counted shown)
+    (run_prints (run_output on.platform on.deployment script budget contexts show source) how code old new is ends)
+
+-- a run is cut off as its call is
+cut_as : (how : Ended) → run_cut how ≡ is_cut (status_of how)
+cut_as E.Completed = refl
+cut_as E.Deadlock = refl
+cut_as E.Starved = refl
+cut_as E.Budget = refl
+cut_as (E.Script number kind) = refl
+cut_as (E.NoRoute from to zone a b) = refl
+cut_as (E.TooLong from to) = refl
+cut_as E.ReadFault = refl
+cut_as E.WriteFault = refl
+cut_as E.Memory = refl
+
+-- what a run leaves of the crew is what its call leaves
+pub run_leaves_on : (job : Asked) (contexts : ℕ) (on : Setting) (script : Bool) (budget : ℕ) (show : Show) (source : Source) (how : Ended) (code : Status) (crew left : ℕ) →
+    script ≡ has_script job.request → budget ≡ job.budget → show ≡ show_of job.request job.quiet → code ≡ status_of how →
+    RunTakes (run_output on.platform on.deployment script budget contexts show source).contexts how crew left →
+    LeavesContexts (run_on job contexts source on).contexts code crew left
+run_leaves_on job contexts on script budget show source how code crew left scripted counted shown is leaves =
+    subst (λ (o : Output). LeavesContexts o.contexts code crew left) (as_job job contexts on script budget show source scripted counted shown)
+    (subst (λ (cut : Bool). MatchBool cut (crew ≤ left + (run_output on.platform on.deployment script budget contexts show source).contexts) (crew ≡ left + (run_output on.platform on.deployment script budget contexts show source).contexts))
+    (cut_as how ∙ sym (ap is_cut is)) leaves)
 
 -- the same of the work
-pub run_counts_on : (job : Asked) (on : Setting) (script : Bool) (budget : ℕ) (show : Show) (source : Source) (start count : ℕ) →
+pub run_counts_on : (job : Asked) (contexts : ℕ) (on : Setting) (script : Bool) (budget : ℕ) (show : Show) (source : Source) (start count : ℕ) →
     script ≡ has_script job.request → budget ≡ job.budget → show ≡ show_of job.request job.quiet →
-    count ≤ start + (run_output on.platform on.deployment script budget show source).work → count ≤ start + (run_on job source on).work
-run_counts_on job on script budget show source start count scripted counted shown work =
-    subst (λ (o : Output). count ≤ start + o.work) (as_job job on script budget show source scripted counted shown) work
+    count ≤ start + (run_output on.platform on.deployment script budget contexts show source).work → count ≤ start + (run_on job contexts source on).work
+run_counts_on job contexts on script budget show source start count scripted counted shown work =
+    subst (λ (o : Output). count ≤ start + o.work) (as_job job contexts on script budget show source scripted counted shown) work
 
 -- and of what is taken of the script
-pub run_needs_on : (job : Asked) (on : Setting) (script : Bool) (budget : ℕ) (show : Show) (source : Source) (old mid new : PartView) →
+pub run_needs_on : (job : Asked) (contexts : ℕ) (on : Setting) (script : Bool) (budget : ℕ) (show : Show) (source : Source) (old mid new : PartView) →
     script ≡ has_script job.request → budget ≡ job.budget → show ≡ show_of job.request job.quiet → mid.left ≡ old.left →
-    TakesUpTo ((run_output on.platform on.deployment script budget show source).need + 4095) mid new → TakesUpTo ((run_on job source on).need + 4095) old new
-run_needs_on job on script budget show source old mid new scripted counted shown left takes =
-    let all : TakesUpTo ((run_on job source on).need + 4095) mid new = subst (λ (o : Output). TakesUpTo (o.need + 4095) mid new) (as_job job on script budget show source scripted counted shown) takes in
+    TakesUpTo ((run_output on.platform on.deployment script budget contexts show source).need + 4095) mid new → TakesUpTo ((run_on job contexts source on).need + 4095) old new
+run_needs_on job contexts on script budget show source old mid new scripted counted shown left takes =
+    let all : TakesUpTo ((run_on job contexts source on).need + 4095) mid new = subst (λ (o : Output). TakesUpTo (o.need + 4095) mid new) (as_job job contexts on script budget show source scripted counted shown) takes in
     record { bytes = all.bytes; left = sym left ∙ all.left; few = all.few }
 
+-- the contexts that a run takes are the call's
+pub seats_run : {A : Type 0} (on : Setting) (how : Ended) (code : Status) (old new : List A) → code ≡ status_of how → RunTakesFirst on.deployment how old new → TakesFirst (Ok on) code old new
+seats_run on how code old new is first = record {
+  taken = first.taken;
+  least = λ some. first.least (λ memory. some (is ∙ ap status_of memory));
+  most = first.most;
+  within = first.within;
+  left = first.left;
+}
+
 -- where there is no run nobody takes a context
-pub none_taken : {X A : Type 0} (count : Result X Refusal → ℕ) (given : Result X Refusal) (why : Refusal) (crew : List A) → ((r : Refusal) → count (C.Err r) ≡ 0) →
-    (◌≢◌ {A = Result X Refusal} (C.Err why) (C.Err R.Memory) → C.Err why ≡ given) → ¬ (why ≡ R.Memory) → crew ≡ drop (count given) crew
-none_taken count given why crew none known ne =
-    let same : count given ≡ 0 = ap count (sym (known (λ e. ne (cc)))) ∙ none why in
-    sym (ap (λ (n : ℕ). drop n crew) same)
+pub none_taken : {A : Type 0} (given : Result Setting Refusal) (why : Refusal) (how : Status) (crew : List A) →
+    (◌≢◌ {A = Result Setting Refusal} (C.Err why) (C.Err R.Memory) → C.Err why ≡ given) → (why ≡ R.Memory → how ≡ S.Memory) → TakesFirst given how crew crew
+none_taken given why how crew known memory = record {
+  taken = 0;
+  least = λ some. let same : starts_in given ≡ 0 = ap starts_in (sym (known (λ e. some (memory (cc))))) in omega (arith, same);
+  most = omega (arith);
+  within = omega (arith);
+  left = refl;
+}
+
+leaves_all : (cut : Bool) (want crew : ℕ) → (cut ≡ false → want ≡ 0) → MatchBool cut (crew ≤ crew + want) (crew ≡ crew + want)
+leaves_all true want crew none = omega (arith)
+leaves_all false want crew none = let is : want ≡ 0 = none refl in omega (arith, is)
+
+refusal_none : (why : Refusal) → (refusal_outcome why).contexts ≡ 0
+refusal_none (R.Platform fault) = refl
+refusal_none (R.Zones fault) = refl
+refusal_none (R.Deployment fault) = refl
+refusal_none (R.ReplayUnderRun row) = refl
+refusal_none (R.TooFewContexts actors contexts) = refl
+refusal_none R.ReadPlatform = refl
+refusal_none R.ReadDeployment = refl
+refusal_none R.Memory = refl
+
+-- and all of the crew is left
+pub refusal_leaves : (after : Result Setting Refusal → Outcome) (given : Result Setting Refusal) (why : Refusal) (how : Status) (crew : ℕ) → ((r : Refusal) → after (C.Err r) ≡ refusal_outcome r) →
+    (◌≢◌ {A = Result Setting Refusal} (C.Err why) (C.Err R.Memory) → C.Err why ≡ given) → (why ≡ R.Memory → how ≡ S.Memory) → LeavesContexts (after given).contexts how crew crew
+refusal_leaves after given why how crew is known memory =
+    leaves_all (is_cut how) (after given).contexts crew
+    (λ uncut. ap (λ (r : Result Setting Refusal). (after r).contexts) (sym (known (λ e. absurd (let cut : true ≡ false = sym (ap is_cut (memory (cc))) ∙ uncut in cc)))) ∙ ap (λ (o : Outcome). o.contexts) (is why) ∙ refusal_none why)
+
+-- as many are taken as aren't left
+left_number : {A : Type 0} (taken : ℕ) (old new : List A) → taken ≤ length old → new ≡ drop taken old → length old ≡ length new + taken
+left_number taken old new within is =
+    let rest : length new ≡ length old - taken = ap length is ∙ length-drop taken old in
+    omega (arith, rest, within)
+
+-- of the first contexts that were taken, how many
+pub takes_contexts : {A : Type 0} (given : Result Setting Refusal) (want : Outcome) (how : Status) (old new : List A) → TakesFirst given how old new →
+    LeavesContexts want.contexts how (length old) (length new) → TakesContexts want how old new
+takes_contexts given want how old new first leaves = record {
+  taken = first.taken;
+  most = few (is_cut how) leaves;
+  all = λ uncut. exact (is_cut how) uncut leaves;
+  left = first.left;
+}
+  where
+    number : length old ≡ length new + first.taken
+    number = left_number first.taken old new first.within first.left
+
+    few : (cut : Bool) → MatchBool cut (length old ≤ length new + want.contexts) (length old ≡ length new + want.contexts) → first.taken ≤ want.contexts
+    few true is = let n = number in omega (arith, n, is)
+    few false is = let n = number in omega (arith, n, is)
+
+    exact : (cut : Bool) → cut ≡ false → MatchBool cut (length old ≤ length new + want.contexts) (length old ≡ length new + want.contexts) → first.taken ≡ want.contexts
+    exact true uncut is = absurd (cc uncut)
+    exact false uncut is = let n = number in omega (arith, n, is)
 
 -- what a run comes to is what the definition says where nothing is refused
-pub setting_prints : (job : Asked) (s : Source) (given : Result Setting Refusal) (on : Setting) (code : Status) (old new : Stream → Option (List ℕ)) → given ≡ Ok on →
-    Prints (run_on job s on) code old new → Prints (or_refused job s given) code old new
-setting_prints job s given on code old new is prints = subst (λ (r : Result Setting Refusal). Prints (or_refused job s r) code old new) (sym is) prints
+pub setting_prints : (job : Asked) (contexts : ℕ) (s : Source) (given : Result Setting Refusal) (on : Setting) (code : Status) (old new : Stream → Option (List ℕ)) → given ≡ Ok on →
+    Prints (run_on job contexts s on) code old new → Prints (or_refused job contexts s given) code old new
+setting_prints job contexts s given on code old new is prints = subst (λ (r : Result Setting Refusal). Prints (or_refused job contexts s r) code old new) (sym is) prints
 
-pub setting_counts : (job : Asked) (s : Source) (given : Result Setting Refusal) (on : Setting) (start count : ℕ) → given ≡ Ok on →
-    count ≤ start + (run_on job s on).work → count ≤ start + (or_refused job s given).work
-setting_counts job s given on start count is work = subst (λ (r : Result Setting Refusal). count ≤ start + (or_refused job s r).work) (sym is) work
+pub setting_counts : (job : Asked) (contexts : ℕ) (s : Source) (given : Result Setting Refusal) (on : Setting) (start count : ℕ) → given ≡ Ok on →
+    count ≤ start + (run_on job contexts s on).work → count ≤ start + (or_refused job contexts s given).work
+setting_counts job contexts s given on start count is work = subst (λ (r : Result Setting Refusal). count ≤ start + (or_refused job contexts s r).work) (sym is) work
 
-pub setting_needs : (job : Asked) (s : Source) (given : Result Setting Refusal) (on : Setting) (old mid new : PartView) → given ≡ Ok on → mid ≡ old →
-    TakesUpTo ((run_on job s on).need + 4095) mid new → TakesUpTo ((or_refused job s given).need + 4095) old new
-setting_needs job s given on old mid new is same takes =
-    subst (λ (v : PartView). TakesUpTo ((or_refused job s given).need + 4095) v new) same
-    (subst (λ (r : Result Setting Refusal). TakesUpTo ((or_refused job s r).need + 4095) mid new) (sym is) takes)
+pub setting_needs : (job : Asked) (contexts : ℕ) (s : Source) (given : Result Setting Refusal) (on : Setting) (old mid new : PartView) → given ≡ Ok on → mid ≡ old →
+    TakesUpTo ((run_on job contexts s on).need + 4095) mid new → TakesUpTo ((or_refused job contexts s given).need + 4095) old new
+setting_needs job contexts s given on old mid new is same takes =
+    subst (λ (v : PartView). TakesUpTo ((or_refused job contexts s given).need + 4095) v new) same
+    (subst (λ (r : Result Setting Refusal). TakesUpTo ((or_refused job contexts s r).need + 4095) mid new) (sym is) takes)
+
+pub setting_leaves : (job : Asked) (contexts : ℕ) (s : Source) (given : Result Setting Refusal) (on : Setting) (how : Status) (crew left : ℕ) → given ≡ Ok on →
+    LeavesContexts (run_on job contexts s on).contexts how crew left → LeavesContexts (or_refused job contexts s given).contexts how crew left
+setting_leaves job contexts s given on how crew left is leaves = subst (λ (r : Result Setting Refusal). LeavesContexts (or_refused job contexts s r).contexts how crew left) (sym is) leaves
+
+-- what a run has taken was taken for what was given
+pub setting_seats : {A : Type 0} (given : Result Setting Refusal) (on : Setting) (how : Status) (old new : List A) → given ≡ Ok on → TakesFirst (Ok on) how old new → TakesFirst given how old new
+setting_seats given on how old new is first = subst (λ (r : Result Setting Refusal). TakesFirst r how old new) (sym is) first
 
 -- a setting that is there is no refusal
 pub not_refused : {X E : Type 0} (given : Result X E) (on : X) → given ≡ Ok on → IsErr given → ⊥

@@ -1,3 +1,4 @@
+pub mod Contexts
 pub mod Outcome
 pub mod PartOrder
 pub mod PartSources

@@ -17,17 +17,18 @@ use Rattle.sg_platform.specs.FaultWords.{platform_words, platform_place, deploym
 use Rattle.sg_tree.specs.declared.fault.Place.{Place}
 use Rattle.sg_zones.specs.FaultWords.{zone_words, zone_place}
 use Rattle.simgrid_replay.specs.RefusalLines.{refusal_line, replay_line, contexts_line}
-use Rattle.simgrid_replay.specs.Settings.{Setting, setting, contexts_in}
+use Rattle.simgrid_replay.specs.Settings.{Setting, setting}
 use Rattle.simgrid_replay.specs.Requests.{has_script, show_of}
 use Rattle.simgrid_replay.specs.declared.refusal.Refusal.{Refusal}
 use Rattle.simgrid_replay.specs.declared.refusal.Refusal.TheVariants as refusal
 
--- What is written, the status, the work: how many looks the fillings of the run may take; and the need: how many bytes of
--- the script its Asks need.
+-- What is written, the status, how many contexts the actors of the run take, the work: how many looks its fillings may
+-- take; and the need: how many bytes of the script its Asks need.
 pub record Outcome : Type 0 where
   pub out : List ℕ
   pub err : List ℕ
   pub status : Status
+  pub contexts : ℕ
   pub work : ℕ
   pub need : ℕ
 
@@ -45,8 +46,8 @@ status_of ended.Memory = status.Memory
 
 -- a text on one stream, and nothing on the other
 abbrev pub one_text : Stream → List ℕ → Status → Outcome
-one_text stream.Out text how = record { out = text; err = []; status = how; work = 0; need = 0 }
-one_text stream.Err text how = record { out = []; err = text; status = how; work = 0; need = 0 }
+one_text stream.Out text how = record { out = text; err = []; status = how; contexts = 0; work = 0; need = 0 }
+one_text stream.Err text how = record { out = []; err = text; status = how; contexts = 0; work = 0; need = 0 }
 
 -- one line on Err, that a part is refused: why, and where
 abbrev pub fault_outcome : List ℕ → List ℕ → Option Place → Status → Outcome
@@ -63,25 +64,22 @@ refusal_outcome refusal.ReadDeployment = one_text stream.Err (codes "cannot read
 refusal_outcome refusal.Memory = one_text stream.Err [] status.Memory
 
 abbrev pub of_run : Output → Outcome
-of_run run = record { out = run.out; err = run.err; status = status_of run.ended; work = run.work; need = run.need }
+of_run run = record { out = run.out; err = run.err; status = status_of run.ended; contexts = run.contexts; work = run.work; need = run.need }
 
--- the run of a setting as a job asks for it, with what its script gives
-abbrev pub run_on : Asked → Source → Setting → Outcome
-run_on job script on = of_run (run_output on.platform on.deployment (has_script job.request) job.budget (show_of job.request job.quiet) script)
+-- the run of a setting as a job asks for it, with so many contexts, with what its script gives
+abbrev pub run_on : Asked → ℕ → Source → Setting → Outcome
+run_on job contexts script on =
+    of_run (run_output on.platform on.deployment (has_script job.request) job.budget contexts (show_of job.request job.quiet) script)
 
-abbrev pub or_refused : Asked → Source → Result Setting Refusal → Outcome
-or_refused job script (Ok on) = run_on job script on
-or_refused job script (Err why) = refusal_outcome why
+abbrev pub or_refused : Asked → ℕ → Source → Result Setting Refusal → Outcome
+or_refused job contexts script (Ok on) = run_on job contexts script on
+or_refused job contexts script (Err why) = refusal_outcome why
 
 -- What a job comes to with so many contexts, by what the three parts gave: the platform, the deployment, the run; the
 -- first that ends the call decides.
 abbrev pub outcome : Asked → ℕ → Source → Source → Source → Outcome
 outcome job contexts platform deployment script =
-    or_refused job script (setting job.request contexts platform deployment)
-
--- how many contexts a job takes of so many
-abbrev pub contexts_for : Asked → ℕ → Source → Source → ℕ
-contexts_for job contexts platform deployment = contexts_in (setting job.request contexts platform deployment)
+    or_refused job contexts script (setting job.request contexts platform deployment)
 
 -- a failed write or want of memory cuts the call off
 abbrev pub is_cut : Status → Bool

@@ -12,6 +12,6 @@ refusal_line part words (Some place) =
 abbrev pub replay_line : ℕ → List ℕ
 replay_line row = codes "deployment: replay actor under run (row " ++ (decimal row ++ codes ")\n")
 
--- how many actors there are, and how many contexts for them
+-- how many actors begin with the run, and how many contexts there are for them
 abbrev pub contexts_line : ℕ → ℕ → List ℕ
 contexts_line actors contexts = codes "deployment: " ++ (decimal actors ++ (codes " actors, " ++ (decimal contexts ++ codes " contexts\n")))

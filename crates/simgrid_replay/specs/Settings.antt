@@ -2,9 +2,8 @@
 use Rattle.std.specs.Prelude.{◌+◌, ℕ, Bool, length, Option, None, Some, Result, Ok, Err, if◌then◌else◌, true, false, nat_lt, position}
 use Rattle.sg_churn.specs.Generated.{platform_of_seed, deployed_of_seed}
 use Rattle.sg_edge.specs.Sources.{Source}
-use Rattle.sg_engine.specs.Output.{contexts_of}
 use Rattle.sg_kernel.specs.Start.{replays}
-use Rattle.sg_rows.specs.Deployment.{Deployed}
+use Rattle.sg_rows.specs.Deployment.{Deployed, started_number}
 use Rattle.sg_platform.specs.DeploymentOf.{deployment_of}
 use Rattle.sg_rows.specs.Platform.{Platform}
 use Rattle.sg_platform.specs.PlatformOf.{platform_of, greatest_text}
@@ -57,9 +56,9 @@ or_replay (Some place) next = Err (refusal.ReplayUnderRun (place + 1))
 
 abbrev pub or_few_contexts : ℕ → Deployed → Result Deployed Refusal
 or_few_contexts contexts deployed =
-    if nat_lt contexts (length deployed.actors) then Err (refusal.TooFewContexts (length deployed.actors) contexts) else Ok deployed
+    if nat_lt contexts (started_number deployed) then Err (refusal.TooFewContexts (started_number deployed) contexts) else Ok deployed
 
--- without a script no actor may replay, and there must be a context for each actor
+-- without a script no actor may replay, and there must be a context for each actor that begins with the run
 abbrev pub fitting : Bool → ℕ → Deployed → Result Deployed Refusal
 fitting script contexts deployed = or_replay (if script then None else position replays deployed.actors) (or_few_contexts contexts deployed)
 
@@ -88,8 +87,3 @@ abbrev pub setting : Request → ℕ → Source → Source → Result Setting Re
 setting (line.replay p d s) contexts platform deployment = setting_given true contexts platform deployment
 setting (line.run p d) contexts platform deployment = setting_given false contexts platform deployment
 setting (line.churn seed actors steps) contexts platform deployment = churn_setting contexts seed actors steps
-
--- how many contexts the run takes, none where there is no run
-abbrev pub contexts_in : Result Setting Refusal → ℕ
-contexts_in (Ok given) = contexts_of given.deployment
-contexts_in (Err why) = 0

@@ -1,6 +1,7 @@
 //! Whether a deployment suits a run.
-ghost use Rattle.std.specs.Prelude.{◌≡◌, ◌≤◌, length, position, IfOk, IfErr};
+ghost use Rattle.std.specs.Prelude.{◌≡◌, ◌≤◌, count_by, position, IfOk, IfErr};
 ghost use Rattle.sg_kernel.specs.Start.{is_replay as is_replay_spec, replays};
+ghost use Rattle.sg_rows.specs.Deployment.{starts, started_number};
 ghost use Rattle.simgrid_replay.specs.kept.Reading.{IsOfDeployment};
 ghost use Rattle.simgrid_replay.specs.Settings.{fitting as fitting_spec, or_few_contexts};
 
@@ -20,13 +21,20 @@ fn first_replay(actors: &[ActorRow]) -> Option<usize>
     actors.iter().position(|actor| is_replay(&actor.function))
 }
 
-/// The deployment, where there is a context for each actor.
+// How many actors begin with the run.
+fn started(actors: &[ActorRow]) -> usize
+    ensures { result ≡ count_by starts actors.now }
+{
+    actors.iter().filter(|actor| actor.start).count()
+}
+
+/// The deployment, where there is a context for each actor that begins with the run.
 pub fn with_contexts(deployment: Deployment, contexts: usize) -> Result<Deployment, Refusal>
     ensures given { result ≡ or_few_contexts contexts deployment }
-    ensures same { IfOk result (λ d. (d ≡ deployment) × (length d.actors ≤ contexts)) }
+    ensures same { IfOk result (λ d. (d ≡ deployment) × (started_number d ≤ contexts)) }
     ensures refusal { IfErr result IsOfDeployment }
 {
-    let actors = deployment.actors().len();
+    let actors = started(deployment.actors());
     if contexts < actors {
         Err(Refusal::TooFewContexts(actors, contexts))
     } else {
@@ -37,7 +45,7 @@ pub fn with_contexts(deployment: Deployment, contexts: usize) -> Result<Deployme
 /// The deployment, where it suits a run with a script or without, and so many contexts.
 pub fn fitting(deployment: Deployment, script: bool, contexts: usize) -> Result<Deployment, Refusal>
     ensures given { result ≡ fitting_spec script contexts deployment }
-    ensures same { IfOk result (λ d. (d ≡ deployment) × (length d.actors ≤ contexts)) }
+    ensures same { IfOk result (λ d. (d ≡ deployment) × (started_number d ≤ contexts)) }
     ensures refusal { IfErr result IsOfDeployment }
 {
     if script {

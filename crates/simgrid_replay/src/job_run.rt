@@ -1,10 +1,10 @@
 //! The run of a job whose platform and deployment are there.
-ghost use Rattle.std.specs.Prelude.{◌≡◌, ◌≢◌, ◌<◌, ◌≤◌, length, drop, All, None, false, IsTrue};
+ghost use Rattle.std.specs.Prelude.{◌≡◌, ◌≢◌, ◌<◌, ◌≤◌, length, All, None, Ok, false, IsTrue};
 ghost use Rattle.sg_edge.specs.declared.files.Stage.TheVariants.{Fresh, Broken};
 ghost use Rattle.sg_edge.specs.Files.{Only};
 ghost use Rattle.sg_edge.specs.Sources.{Source};
-ghost use Rattle.sg_engine.specs.Output.{contexts_of};
 ghost use Rattle.sg_words.specs.Views.{job_view};
+ghost use Rattle.simgrid_replay.specs.Contexts.{TakesFirst};
 ghost use Rattle.simgrid_replay.specs.PartSources.{request_of, IsNamedBy, ScriptGives};
 ghost use Rattle.simgrid_replay.specs.kept.Reading.{BeginsScript, Broke, ComesTo, IsCallCause};
 ghost use Rattle.simgrid_replay.specs.Outcome.{is_refusal, run_on};
@@ -92,13 +92,13 @@ pub fn run_job<R: Threads + Sync, F: Files, O: Sinks, L: Ledger>(
     requires fresh { (F.shows files.old Part.Script).stage ≡ Fresh }
     requires sound { O.faults out.old ≡ 0 }
     requires blank { All (λ b. mind b ≡ None) crew.old.items }
-    ensures output { (s : Source)
-        → ScriptGives (request_of on.entry.job.now) (F.shows files.old) (F.shows files.new) s
-        → ComesTo (run_on (job_view on.entry.job.now) s (setting_in on.entry.setup)) result
-        (O.contents out.old) (O.contents out.new) steps.old steps.new
-        (F.shows files.old) (F.shows files.new) }
-    ensures crew { result ≢ Status.Memory
-        → crew.new.items ≡ drop (contexts_of on.entry.setup.deployment) crew.old.items }
+    ensures output { (s : Source) → ScriptGives (request_of on.entry.job.now) (F.shows files.old)
+        (F.shows files.new) s → ComesTo (run_on (job_view on.entry.job.now) (length crew.old.items)
+        s (setting_in on.entry.setup)) result (O.contents out.old) (O.contents out.new)
+        (length crew.old.items) (length crew.new.items) steps.old steps.new (F.shows files.old)
+        (F.shows files.new) }
+    ensures crew { TakesFirst (Ok (setting_in on.entry.setup)) result crew.old.items
+        crew.new.items }
     ensures unrefused { is_refusal result ≡ false }
     ensures cause { IsCallCause result (O.faults out.new)
         (Broke Part.Script (F.shows files.old) (F.shows files.new)) }

@@ -21,7 +21,7 @@ pub enum Refusal {
     Deployment(DeploymentFault),
     /// There is no script, and the actor of this row replays. Rows count from 1.
     ReplayUnderRun(u32),
-    /// There are so many actors, and so many contexts, which are fewer.
+    /// So many actors begin with the run, and there are so many contexts, which are fewer.
     TooFewContexts(usize, usize),
     /// The platform could not be begun or read.
     ReadPlatform,

@@ -9,8 +9,8 @@ use sg_actor::{Actor, PlainContext, TapeContext, all_blank};
 use sg_base::{Memory, Steps};
 use sg_edge::{Files, MemFiles, MemSinks, Sinks, SureFiles, SureSinks};
 use sg_job_cases::{
-    BY_HAND, COLLECTIVES, COMPUTATIONS, Case, Done, EACH_FAILURE, FAILURES, FAULTS, JOBS, Kind,
-    LIMITS, LONG, MEETINGS, OUTAGES, PROFILES, RUNS, hold, hold_failing,
+    BY_HAND, COLLECTIVES, COMPUTATIONS, Case, Done, EACH_FAILURE, ENERGY, FAILURES, FAULTS, JOBS,
+    Kind, LIMITS, LIVES, LONG, MEETINGS, OUTAGES, PROFILES, RUNS, hold, hold_failing,
 };
 use std::alloc::Global;
 use std::marker::Brand;
@@ -105,7 +105,16 @@ fn over_sure_parts<R: Threads + Sync>(rt: &R, alloc: Global, case: &Case) -> Res
 
 #[test]
 fn writes_the_lines_of_runs(rt: HostRuntime) -> Result<(), Fail> {
-    for table in [RUNS, COMPUTATIONS, BY_HAND, COLLECTIVES, PROFILES, OUTAGES] {
+    for table in [
+        RUNS,
+        COMPUTATIONS,
+        BY_HAND,
+        COLLECTIVES,
+        PROFILES,
+        OUTAGES,
+        LIVES,
+        ENERGY,
+    ] {
         hold(rt.alloc(), table, |alloc, case| done(&rt, alloc, case))?;
     }
     Ok(())

@@ -1,5 +1,5 @@
 //! The whole program as one call.
-ghost use Rattle.std.specs.Prelude.{◌≡◌, ◌≢◌, ◌⊎◌, [], length, map, drop, All, None, false, IsTrue, IsErr, string_bytes};
+ghost use Rattle.std.specs.Prelude.{◌≡◌, ◌≢◌, ◌⊎◌, [], length, map, All, None, false, IsTrue, IsErr, string_bytes};
 ghost use Rattle.sg_edge.specs.declared.files.Part.{Part};
 ghost use Rattle.sg_edge.specs.declared.files.Stage.TheVariants.{Fresh, Broken};
 ghost use Rattle.sg_edge.specs.Files.{KeepsTelling, SameFrom, SomeBroke};
@@ -10,8 +10,9 @@ ghost use Rattle.sg_words.specs.Views.{job_view};
 ghost use Rattle.sg_edge.specs.Cause.{HasCause};
 ghost use Rattle.simgrid_replay.specs.PartSources.{request_of, AskFor, IsNamedBy, PartsGive, TextsGive};
 ghost use Rattle.simgrid_replay.specs.PartOrder.{AreBounded, IsTextBroken, SparesRest};
-ghost use Rattle.simgrid_replay.specs.kept.Reading.{ComesTo, IsCallCause, IsStart, TakesContexts, TakesParts};
-ghost use Rattle.simgrid_replay.specs.Outcome.{is_refusal, outcome, contexts_for, HasOutcome, IsWhole, ReportsWords};
+ghost use Rattle.simgrid_replay.specs.kept.Reading.{ComesTo, IsCallCause, IsStart, SeatsJob, TakesParts};
+ghost use Rattle.simgrid_replay.specs.Contexts.{TakesContexts, TakesFirst};
+ghost use Rattle.simgrid_replay.specs.Outcome.{is_refusal, outcome, HasOutcome, IsWhole, ReportsWords};
 ghost use Rattle.simgrid_replay.specs.Settings.{platform_given, setting};
 ghost use Rattle.simgrid_replay.specs.Requests.{has_parts, has_script};
 
@@ -41,9 +42,9 @@ fn do_job<R: Threads + Sync, F: Files, O: Sinks, L: Ledger>(
     ensures output { (p d s : Source)
         → PartsGive (request_of job.now) (F.shows files.old) (F.shows files.new) p d s
         → ComesTo (outcome (job_view job.now) (length crew.old.items) p d s) result
-        (O.contents out.old) (O.contents out.new) steps.old steps.new
-        (F.shows files.old) (F.shows files.new) }
-    ensures crew { TakesContexts (job_view job.now) result (F.shows files.old) (F.shows files.new)
+        (O.contents out.old) (O.contents out.new) (length crew.old.items) (length crew.new.items)
+        steps.old steps.new (F.shows files.old) (F.shows files.new) }
+    ensures crew { SeatsJob (job_view job.now) result (F.shows files.old) (F.shows files.new)
         crew.old.items crew.new.items }
     ensures parts { TakesParts F.shows (request_of job.now) (length crew.old.items)
         files.old files.new }
@@ -63,9 +64,8 @@ fn do_job<R: Threads + Sync, F: Files, O: Sinks, L: Ledger>(
 /// `words` are the words of the command line, the program's name first. The platform, the deployment and the script
 /// are taken from `files` in this order, as far as the command has them, each only once the one before it was
 /// accepted; the script is read while the run goes on, and less than a piece of 4,096 bytes further than its Asks need.
-/// The actors of the deployment take the first contexts of the `crew`, and take their turns on as many threads as the
-/// words say. Lines go to `out`, and `steps` counts the looks of the fillings, which are no more than the work of the
-/// run.
+/// Each actor that begins takes the next context of the `crew`, and they take their turns on as many threads as the words
+/// say. Lines go to `out`, and `steps` counts the looks of the fillings, which are no more than the work of the run.
 pub fn simgrid<R: Threads + Sync, F: Files, O: Sinks, L: Ledger>(
     rt: &R,
     alloc: Global,
@@ -118,11 +118,18 @@ pub fn simgrid<R: Threads + Sync, F: Files, O: Sinks, L: Ledger>(
         → (part : Part) → IsNamedBy job.request part (F.shows files.new part) }
     ensures bounded { AreBounded (F.shows files.old) (F.shows files.new) }
 
-    // The actors of a run have taken the first contexts, and where there was no run nobody has.
+    // The actors of a run have taken the first contexts: each that begins with the run has one, and
+    // where there was no run nobody has.
     ensures crew { (job : Asked) → AskFor (map string_bytes words.now) job
         → (p d : Source) → TextsGive job.request (F.shows files.old) (F.shows files.new) p d
-        → result ≢ Status.Memory
-        → crew.new.items ≡ drop (contexts_for job (length crew.old.items) p d) crew.old.items }
+        → TakesFirst (setting job.request (length crew.old.items) p d) result
+        crew.old.items crew.new.items }
+
+    // They have taken as many as the definition has, and no more where the call was cut off.
+    ensures taken { (job : Asked) → AskFor (map string_bytes words.now) job
+        → (p d s : Source) → PartsGive job.request (F.shows files.old) (F.shows files.new) p d s
+        → TakesContexts (outcome job (length crew.old.items) p d s) result
+        crew.old.items crew.new.items }
 
     // Help, the version, and what is wrong with the words: no part is begun, and nobody takes a
     // context.

@@ -1,11 +1,12 @@
 -- Which phase is due first, and what its end changes.
-use Rattle.std.specs.Prelude.{◌≡◌, ℕ, ◌<◌, false, Option, Some, IsTrue}
+use Rattle.std.specs.Prelude.{◌≡◌, ℕ, ◌-◌, ◌<◌, false, Option, Some, IsTrue}
+use Rattle.sg_activity.specs.declared.kinds.PhaseKind.TheVariants as phase
 use Rattle.sg_activity.specs.declared.kept.Kept.{Kept}
 use Rattle.sg_activity.specs.declared.lives.Live.{Live}
-use Rattle.sg_activity.specs.Task.{Task}
+use Rattle.sg_activity.specs.Task.{Task, rekinded}
 use Rattle.sg_activity.specs.Underway.{with_task}
 use Rattle.sg_activity.specs.kept.Pool.{slot_at}
-use Rattle.sg_activity.specs.kept.State.{State, state_of, under_of, is_now}
+use Rattle.sg_activity.specs.kept.State.{State, state_of, task_of, under_of, is_now}
 use Rattle.sg_activity.specs.kept.Sound.{IsSound}
 use Rattle.sg_activity.specs.kept.Turns.{Turns}
 
@@ -20,7 +21,7 @@ pub record IsFirst (s : State) (key : ℕ) (live : Live) : Type 0 where
   pub now : IsTrue (is_now s key live)
   pub first : (other : ℕ) (its : Live) → slot_at s.slots other ≡ Some its → its.serial < live.serial → is_now s other its ≡ false
 
--- The phase of the activity under the key is over: this one, or none, is under way in its place, and is dated only once the rates are up to date.
+-- The phase of the activity under the key is over, or held: this one, or none, is under way in its place, and is dated only once the rates are up to date.
 pub record Ends (old new : Kept) (key : ℕ) (live : Live) (after : Option Task) : Type 0 where
   pub slot : Option Live
   pub turns : Turns (state_of old) (state_of new) key live.serial slot
@@ -28,3 +29,12 @@ pub record Ends (old new : Kept) (key : ℕ) (live : Live) (after : Option Task)
   pub drawn : new.drawn ≡ old.drawn
   pub sound : IsSound new
   pub room : new.room ≡ old.room
+
+-- The execution under the key, which was held, goes on. It takes the room of a start.
+pub record GoesOn (old new : Kept) (key : ℕ) (live : Live) : Type 0 where
+  pub slot : Option Live
+  pub turns : Turns (state_of old) (state_of new) key live.serial slot
+  pub under : under_of (state_of new) ≡ with_task live.serial (Some (rekinded phase.Exec (task_of (state_of old) key live))) (under_of (state_of old))
+  pub drawn : new.drawn ≡ old.drawn
+  pub sound : IsSound new
+  pub room : new.room ≡ old.room - 1

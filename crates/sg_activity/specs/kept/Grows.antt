@@ -9,6 +9,7 @@ use Rattle.sg_activity.specs.kept.State.{links_at}
 pub record Grows (old new : Kept) : Type 0 where
   pub rest : new ≡ record old { lazy = new.lazy; lives = new.lives; ways = new.ways; agenda = new.agenda; by_flow = new.by_flow; fresh = new.fresh }
   pub slots : (key : ℕ) → slot_at new.lives.slots key ≡ slot_at old.lives.slots key
+  pub slots_long : length old.lives.slots ≤ length new.lives.slots
   pub links : (key : ℕ) → links_at new.ways.items key ≡ links_at old.ways.items key
   pub keys : (key : ℕ) → key_at new.agenda key ≡ key_at old.agenda key
   pub runs : (id : ℕ) → running_at new.lazy.slots id ≡ running_at old.lazy.slots id

@@ -1,10 +1,13 @@
 -- What contracts see of `Lives`.
-use Rattle.std.specs.Prelude.{◌≡◌, ℕ, ◌+◌, ◌<◌, ◌≤◌, Option, None, is_some, List, All, AllPairs, ◌≢◌, length, count_by, slice_index_or}
+use Rattle.std.specs.Prelude.{◌≡◌, ◌≢◌, ℕ, ◌+◌, ◌<◌, ◌≤◌, Bool, Option, None, Some, is_some, List, All, AllPairs, length, count_by, slice_index_or}
 use Rattle.sg_activity.specs.declared.lives.Live.{Live}
+use Rattle.sg_activity.specs.Slots.{passes}
+use Rattle.sg_activity.specs.Task.{goes_by}
 
--- the activity under each key, or nothing, and how many keys are free
+-- the activity under each key, or nothing, how many keys are free, and room for so many activities more
 pub record Pool : Type 0 where
   pub slots : List (Option Live)
+  pub free : ℕ
   pub room : ℕ
 
 -- the activity under a key
@@ -15,6 +18,18 @@ slot_at slots key = slice_index_or slots key None
 abbrev pub SameSlots : List (Option Live) → List (Option Live) → Type 0
 SameSlots old new = (key : ℕ) → slot_at new key ≡ slot_at old key
 
+abbrev pub goes_on : Live → Bool
+goes_on live = goes_by live.kind
+
+-- no activity is of this serial
+abbrev pub IsMissing : List (Option Live) → ℕ → Type 0
+IsMissing slots serial = (k : ℕ) (live : Live) → slot_at slots k ≡ Some live → live.serial ≢ serial
+
+-- the activity under the key is of this serial
+pub record IsFound (slots : List (Option Live)) (serial key : ℕ) (live : Live) : Type 0 where
+  pub at : slot_at slots key ≡ Some live
+  pub is : live.serial ≡ serial
+
 -- The free keys are different keys without an activity, and all of these; there is room for each key among them.
 pub record IsPool (slots : List (Option Live)) (free : List ℕ) (capacity : ℕ) : Type 0 where
   pub idle : All (λ key. slot_at slots key ≡ None) free
@@ -22,3 +37,16 @@ pub record IsPool (slots : List (Option Live)) (free : List ℕ) (capacity : ℕ
   pub once : AllPairs (λ a b. a ≢ b) free
   pub counted : length free + count_by is_some slots ≡ length slots
   pub fits : length slots ≤ capacity
+
+-- by serial the key of its activity, and nothing else
+pub record FindsEach (slots : List (Option Live)) (find : ℕ → Option ℕ) : Type 0 where
+  pub each : (key : ℕ) (live : Live) → slot_at slots key ≡ Some live → find live.serial ≡ Some key
+  pub back : (serial key : ℕ) → find serial ≡ Some key → (live : Live) × IsFound slots serial key live
+
+-- All that `Lives` keeps is of one mind.
+pub record IsLives (slots : List (Option Live)) (free : List ℕ) (capacity : ℕ) (find : ℕ → Option ℕ) (spare going room : ℕ) : Type 0 where
+  pub pool : IsPool slots free capacity
+  pub keyed : FindsEach slots find
+  pub goes : going ≡ count_by (passes goes_on) slots
+  pub free_room : room ≤ length free
+  pub spare_room : room ≤ spare

@@ -11,9 +11,8 @@ use Rattle.sg_activity.specs.declared.kept.Kept.{Kept}
 use Rattle.sg_activity.specs.declared.lives.Live.{Live}
 use Rattle.sg_activity.specs.Links.{Capacities, capacities_of}
 use Rattle.sg_activity.specs.Task.{Place, Way, nowhere, on_host, over, flows_ahead, takes_share, pace, is_rebound_at}
-use Rattle.sg_activity.specs.kept.Stamps.{due_of}
 use Rattle.sg_activity.specs.kept.Pool.{slot_at}
-use Rattle.sg_activity.specs.kept.State.{State, state_of, links_at, place_of, asked_by, dated}
+use Rattle.sg_activity.specs.kept.State.{State, state_of, links_at, place_of, asked_by, dated, due_at}
 
 -- all different links that exist, one at least and 64 at most
 pub record IsWay (capacities : Capacities) (way : List LinkId) : Type 0 where
@@ -59,7 +58,7 @@ pub record IsHeld (s : State) (key : ℕ) (live : Live) : Type 0 where
   pub from : 0 < live.serial
   pub to : live.serial ≤ s.drawn
   pub stamped : live.stamp ≤ s.date
-  pub in_time : IfSome (due_of live.stamp live.kept live.rate) (λ due. s.date ≤ due)
+  pub in_time : IfSome (due_at live) (λ due. s.date ≤ due)
   pub small : live.kept ≤ 10 ^ 24
   pub few_bytes : live.bytes ≤ 10 ^ 15
   pub weighs : IsPriority live.weight
@@ -85,7 +84,7 @@ pub record IsKept (s : State) : Type 0 where
   pub idle : (key : ℕ) → slot_at s.slots key ≡ None → key_at s.keys key ≡ None
   pub apart : AreApart s.slots
   pub back : (id : ℕ) (running : RunningFlow) → running_at s.runs id ≡ Some running → IsFlowOf s id
-  pub fresh : (key : ℕ) → IsTrue (is_in key s.fresh) → IsSome (slot_at s.slots key)
+  pub fresh : (key : ℕ) → IsTrue (is_in key s.fresh) → key < length s.slots
   pub none_fresh : IsTrue s.settled → s.fresh ≡ []
   pub rates : IsTrue s.settled → (id : ℕ) (running : RunningFlow) → running_at s.runs id ≡ Some running →
       running.rate ≡ share_of (capacities_of s.capacities) (flows_in s.runs) running.flow

@@ -11,13 +11,13 @@ use Rattle.sg_activity.specs.declared.kinds.PhaseKind.TheVariants as phase
 use Rattle.sg_activity.specs.declared.lives.Live.{Live}
 use Rattle.sg_activity.specs.Doing.{Doing}
 use Rattle.sg_activity.specs.Links.{Capacities, Switches, machines}
-use Rattle.sg_activity.specs.Slots.{listed, serials}
-use Rattle.sg_activity.specs.Task.{Place, nowhere, on_host, over, Task, flow_of}
+use Rattle.sg_activity.specs.Slots.{listed, passes, serials}
+use Rattle.sg_activity.specs.Task.{Place, nowhere, on_host, over, Task, flow_of, wait_by}
 use Rattle.sg_activity.specs.Underway.{Underway}
 use Rattle.sg_activity.specs.kept.Stamps.{left_at, due_of}
 use Rattle.sg_activity.specs.kept.Pool.{slot_at}
 
--- What is kept: by key the activities, the links of their ways and their dates; by number the flows, and the keys of these; the keys of the phases that began since the rates were brought up to date, the flows that ended since, and the resources whose capacity changed since; and whether those whose date is now are due.
+-- What is kept: by key the activities, the links of their ways and their dates; by number the flows, and the keys of these; the keys under which phases began since the rates were brought up to date, the flows that ended since, and the resources whose capacity changed since; and whether those whose date is now are due.
 pub record State : Type 0 where
   pub capacities : Capacities
   pub on : Switches
@@ -65,6 +65,7 @@ place_of phase.Flow host peer links =
     over (record { links = links; sender = host; receiver = peer })
 place_of phase.Exec host peer links = on_host host
 place_of phase.Timer host peer links = nowhere
+place_of phase.Kept host peer links = on_host host
 
 -- the phase of an activity at a date, over these links
 abbrev pub task_from : ℕ → List LinkId → Live → Task
@@ -85,9 +86,13 @@ task_of s key live = task_from s.date (links_at s.ways key) live
 abbrev pub asked_by : State → ℕ → Live → Flow
 asked_by s key live = flow_of s.capacities (task_of s key live)
 
--- the date of an activity in the agenda: none where it is never due
+-- the date at which an activity is due; none: never
+abbrev pub due_at : Live → Option ℕ
+due_at live = wait_by live.kind (due_of live.stamp live.kept live.rate)
+
+-- its date in the agenda
 abbrev pub date_of : Live → Option Key
-date_of live = option_map (λ due. record { date = due; serial = live.serial }) (due_of live.stamp live.kept live.rate)
+date_of live = option_map (λ due. record { date = due; serial = live.serial }) (due_at live)
 
 -- a phase that began since the rates were brought up to date has no date there yet
 abbrev pub dated : List ℕ → ℕ → Live → Option Key
@@ -100,6 +105,10 @@ is_dated date (Some key) = key.date == date
 
 abbrev pub is_now : State → ℕ → Live → Bool
 is_now s key live = is_dated s.date (key_at s.keys key)
+
+-- whether the phase under a key began since the rates were brought up to date
+abbrev pub began_at : List ℕ → ℕ → Live → Bool
+began_at fresh key live = is_in key fresh
 
 -- the serial of the activity under a key
 abbrev pub serial_in : Option Live → ℕ
@@ -127,6 +136,10 @@ told_by tell s = listed s.drawn (λ i. told_at tell s.slots (i + 1))
 abbrev pub is_so : Bool → Bool
 is_so b = b
 
+-- whether the phase under way under each serial began since the rates were brought up to date
+abbrev pub began_by : State → List Bool
+began_by s = map (passes is_so) (told_by (began_at s.fresh) s)
+
 abbrev pub under_of : State → Underway
 under_of s = record {
   date = s.date;
@@ -134,10 +147,11 @@ under_of s = record {
   on = s.on;
   tasks = told_by (task_of s) s;
   marks = record {
-    began = map (serial_at s.slots) s.fresh;
+    began = began_by s;
     ended = s.ended;
     resources = s.resources;
   };
+  energy = [];
 }
 
 -- what is kept stands for this

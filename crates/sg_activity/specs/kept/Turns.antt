@@ -1,5 +1,5 @@
 -- One activity makes way for another, or comes, or goes.
-use Rattle.std.specs.Prelude.{◌≡◌, ◌≢◌, ℕ, ◌≤◌, false, Option, None, Some, length, slice_index, IsTrue, IsSome}
+use Rattle.std.specs.Prelude.{◌≡◌, ◌≢◌, ℕ, ◌<◌, ◌≤◌, false, Option, None, Some, length, slice_index, IsTrue}
 use Rattle.sg_base.specs.MarkSet.{is_in}
 use Rattle.sg_heap.specs.Agenda.{key_at}
 use Rattle.sg_lazy.specs.RunningFlow.{RunningFlow, running_at}
@@ -18,13 +18,14 @@ pub record Turns (s new : State) (key serial : ℕ) (slot : Option Live) : Type 
   pub drawn : s.drawn ≤ new.drawn
   pub unsettled : new.settled ≡ false
   pub arrived : new.arrived ≡ s.arrived
+  pub longer : length s.slots ≤ length new.slots
+  pub within : key < length new.slots
   pub here : slot_at new.slots key ≡ slot
   pub others : (k : ℕ) → k ≢ key → slot_at new.slots k ≡ slot_at s.slots k
   pub ways : (k : ℕ) → k ≢ key → links_at new.ways k ≡ links_at s.ways k
   pub keys : (k : ℕ) → k ≢ key → key_at new.keys k ≡ key_at s.keys k
   pub no_key : key_at new.keys key ≡ None
   pub fresh : (k : ℕ) → k ≢ key → is_in k new.fresh ≡ is_in k s.fresh
-  pub marked : IsTrue (is_in key new.fresh) → IsSome slot
   pub by_flow_long : length s.by_flow ≤ length new.by_flow
   pub flows : (k : ℕ) (live : Live) → k ≢ key → slot_at s.slots k ≡ Some live → IsTrue (takes_share live.kind) →
       (running_at new.runs live.flow ≡ running_at s.runs live.flow) × (slice_index new.by_flow live.flow ≡ slice_index s.by_flow live.flow)

@@ -14,6 +14,6 @@ metered_of r = record { power = r.power; since = r.since; energy = r.joules * 10
 -- The energy is no more than the greatest power would have used all the time.
 pub record IsReading (r : Reading) : Type 0 where
   pub power : r.power ≤ 10 ^ 9
-  pub since : r.since < 10 ^ 33
+  pub since : r.since < 10 ^ 34
   pub rest : r.rest < 10 ^ 12
   pub most : (metered_of r).energy ≤ 10 ^ 9 * r.since

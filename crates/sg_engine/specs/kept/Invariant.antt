@@ -1,6 +1,10 @@
 -- What holds of a simulation between the parts of a run.
-use Rattle.std.specs.Prelude.{◌≡◌, ◌≤◌, ℕ, ⊤, List, [], length, All, Option, Some, MatchBool, false, vec_capacity}
+use Rattle.std.specs.Prelude.{◌≡◌, ◌≢◌, ◌+◌, ◌<◌, ◌≤◌, ◌&&◌, nat_lt, ℕ, ⊤, Bool, List, [], length, take, All, Option, None, Some, Result, MatchBool, true, false, vec_capacity}
+use Rattle.std.specs.List.{count_by}
+use Rattle.sg_base.specs.declared.ids.ActorId.{ActorId}
+use Rattle.sg_base.specs.Limits.{IsActorIn}
 use Rattle.sg_base.specs.Mind.{Mind}
+use Rattle.sg_base.specs.declared.memory.Memory.{Memory}
 use Rattle.sg_actor.specs.Seats.{SeatView, seat_views}
 use Rattle.sg_edge.specs.Cause.{HasCause}
 use Rattle.sg_edge.specs.Files.{PartView}
@@ -8,7 +12,7 @@ use Rattle.sg_edge.specs.declared.files.Part.{Part}
 use Rattle.sg_edge.specs.declared.files.Stage.TheVariants.{Broken}
 use Rattle.sg_edge.specs.declared.sinks.Stream.{Stream}
 use Rattle.sg_edge.specs.declared.sinks.Stream.TheVariants.{Out, Err}
-use Rattle.sg_rows.specs.Deployment.{Deployed, extent_of}
+use Rattle.sg_rows.specs.Deployment.{Deployed, extent_of, started_number}
 use Rattle.sg_rows.specs.Ends.{link_ends}
 use Rattle.sg_rows.specs.Platform.{Platform}
 use Rattle.sg_script.specs.Known.{Known as Names, known_in}
@@ -19,10 +23,12 @@ use Rattle.sg_engine.specs.declared.plan.Plan.{Plan}
 use Rattle.sg_engine.specs.declared.simulation.Simulation.{Simulation}
 use Rattle.sg_kernel.specs.Known.{Known}
 use Rattle.sg_kernel.specs.Start.{setup_of}
-use Rattle.sg_kernel.specs.World.{extent}
+use Rattle.sg_kernel.specs.World.{Core, MayCall, extent, state_of}
+use Rattle.sg_states.specs.Actors.{is_unstarted}
+use Rattle.sg_states.specs.declared.state.Actor.{Actor}
 use Rattle.sg_engine.specs.World.{World}
 use Rattle.sg_engine.specs.Output.{first_of}
-use Rattle.sg_engine.specs.kept.Moments.{Moment, moment, moment_in, names_of, part_at, script_in, cuts, Fits, StandsFor}
+use Rattle.sg_engine.specs.kept.Moments.{Cast, Moment, moment, moment_in, names_of, part_at, script_in, cuts, Fits, Leads, LeavesFree, StandsFor}
 use Rattle.sg_engine.specs.kept.SeatRules.{IsSeated, minds_of}
 use Rattle.sg_engine.specs.Run.{Answering, Progress, are_completed, work_behind}
 use Rattle.sg_engine.specs.kept.Stretches.{Trace, trace_in, Advances, CutsOff}
@@ -37,6 +43,9 @@ places_in mind sim = seat_views mind sim.seats.items
 abbrev pub minds_in : {A : Type 0} → (A → Option Mind) → Simulation A → List (Option Mind)
 minds_in mind sim = minds_of (places_in mind sim)
 
+abbrev pub cast_in : {A : Type 0} → (A → Option Mind) → Simulation A → Cast
+cast_in mind sim = record { minds = minds_in mind sim; contexts = length sim.crew.items }
+
 abbrev pub at_moment : {A : Type 0} → PartView → Simulation A → Moment
 at_moment part sim = moment part (kept_of sim.script) sim.kernel
 
@@ -44,18 +53,99 @@ at_moment part sim = moment part (kept_of sim.script) sim.kernel
 abbrev pub now_at : {A : Type 0} → Plan → (Part → PartView) → Simulation A → Moment
 now_at plan shows sim = moment_in plan shows sim.script sim.kernel
 
--- all actors are seated, and there is room for a call of each
-pub record HasRoom {A : Type 0} (mind : A → Option Mind) (sim : Simulation A) : Type 0 where
+-- the contexts that are left are blank
+abbrev pub AreBlank : {A : Type 0} → (A → Option Mind) → List A → Type 0
+AreBlank mind crew = All (λ context. mind context ≡ None) crew
+
+-- contexts were taken from the end of a crew, one for each actor that starts
+pub record StartsFrom {A : Type 0} (deployed : Deployed) (old new : List A) : Type 0 where
+  pub front : new ≡ take (length new) old
+  pub number : length new + started_number deployed ≡ length old
+
+-- the same, up to one for each
+pub record StartsUpTo {A : Type 0} (deployed : Deployed) (old new : List A) : Type 0 where
+  pub front : new ≡ take (length new) old
+  pub most : length old ≤ length new + started_number deployed
+
+-- there is a seat for each actor of a deployment
+pub record AreSeatsOf (deployed : Deployed) (places : List SeatView) : Type 0 where
+  pub number : length places ≡ length deployed.actors
+  pub seated : All (IsSeated (extent_of deployed)) places
+
+-- there is a seat for each actor, and the contexts that are left are blank
+pub record IsManned {A : Type 0} (mind : A → Option Mind) (sim : Simulation A) : Type 0 where
   pub number : length sim.seats.items ≡ length sim.kernel.core.actors
   pub seated : All (IsSeated (extent sim.kernel.setup)) (places_in mind sim)
+  pub blank : AreBlank mind sim.crew.items
+
+-- the same, and there is room for a call of each
+pub record HasRoom {A : Type 0} (mind : A → Option Mind) (sim : Simulation A) : Type 0 where
+  pub manned : IsManned mind sim
   pub calls : length sim.seats.items ≤ vec_capacity sim.calls
   pub room : length sim.seats.items ≤ sim.kernel.room
 
--- behind a round or a pass all actors are seated again, and nothing but moments and records has changed
-pub record KeepsSeats {A : Type 0} (mind : A → Option Mind) (old new : Simulation A) : Type 0 where
+-- how many actors haven't begun
+abbrev pub has_not_begun : Actor → Bool
+has_not_begun actor = is_unstarted actor.state
+
+abbrev pub unstarted : Core → ℕ
+unstarted core = count_by has_not_begun core.actors
+
+-- an actor may call that creates another: the kernel is of these actors and has room, and there is a seat for each
+pub record CanCreate {A : Type 0} (mind : A → Option Mind) (plan : Plan) (actor target : ActorId) (sim : Simulation A) : Type 0 where
+  pub caller : MayCall sim.kernel.core actor.0
+  pub target_is : IsActorIn (extent sim.kernel.setup) target
+  pub room : 0 < sim.kernel.room
+  pub number : length sim.kernel.core.actors ≡ length plan.deployment.now.actors
+  pub limits : extent sim.kernel.setup ≡ extent_of plan.deployment.now
+  pub manned : IsManned mind sim
+
+-- it is given where the other has never begun and a context is left
+abbrev pub may_be_given : {A : Type 0} → ℕ → Simulation A → Bool
+may_be_given target sim = is_unstarted (state_of sim.kernel.core target) && nat_lt 0 (length sim.crew.items)
+
+-- how many actors haven't begun where a stretch has led that wasn't cut off; behind a cut nothing is said of them
+abbrev pub still_unstarted : Bool → Core → ℕ
+still_unstarted true core = 0
+still_unstarted false core = unstarted core
+
+-- Contexts were taken from the end of the crew, each by an actor that has begun since; where the stretch was cut off, by one
+-- that could begin.
+pub record TakesCrew {A : Type 0} (cut : Bool) (old new : Simulation A) : Type 0 where
+  pub front : new.crew.items ≡ take (length new.crew.items) old.crew.items
+  pub begun : length old.crew.items + still_unstarted cut new.kernel.core ≤ length new.crew.items + unstarted old.kernel.core
+
+-- the setup is the same, and contexts were taken from the end of the crew, by actors that hadn't begun
+pub record TakesInAll {A : Type 0} (old new : Simulation A) : Type 0 where
+  pub setup : new.kernel.setup ≡ old.kernel.setup
+  pub front : new.crew.items ≡ take (length new.crew.items) old.crew.items
+  pub most : length old.crew.items ≤ length new.crew.items + unstarted old.kernel.core
+
+-- contexts were taken from the end of a crew: one for each actor that starts, where memory wasn't wanting, and one at most
+-- for each actor
+pub record TakesLast {A : Type 0} (deployed : Deployed) (how : Ended) (old new : List A) : Type 0 where
+  pub front : new ≡ take (length new) old
+  pub least : how ≢ ended.Memory → length new + started_number deployed ≤ length old
+  pub most : length old ≤ length new + length deployed.actors
+
+-- The call of this actor was answered: nobody else was blocked, and but for the kernel, the seats and the crew nothing has
+-- changed.
+pub record KeepsOthers {A : Type 0} (mind : A → Option Mind) (actor : ℕ) (cut : Bool) (old new : Simulation A) : Type 0 where
+  pub setup : new.kernel.setup ≡ old.kernel.setup
+  pub room : old.kernel.room ≤ new.kernel.room + 1
+  pub free : LeavesFree actor old.kernel.core new.kernel.core
+  pub seats : length new.seats.items ≡ length old.seats.items
+  pub manned : IsManned mind new
+  pub crew : TakesCrew cut old new
+  pub calls : new.calls ≡ old.calls
+  pub buffer : new.buffer ≡ old.buffer
+
+-- behind a round or a pass there is a seat for each actor again, and but for moments and records nothing has changed
+pub record KeepsSeats {A : Type 0} (mind : A → Option Mind) (cut : Bool) (old new : Simulation A) : Type 0 where
   pub setup : new.kernel.setup ≡ old.kernel.setup
   pub number : length new.seats.items ≡ length old.seats.items
   pub seated : All (IsSeated (extent new.kernel.setup)) (places_in mind new)
+  pub crew : TakesCrew cut old new
   pub calls : vec_capacity new.calls ≡ vec_capacity old.calls
   pub buffer : new.buffer ≡ old.buffer
 
@@ -71,31 +161,41 @@ pub record IsKept {A : Type 0} (mind : A → Option Mind) (deployed : Deployed) 
   pub homes : length sim.kernel.setup.homes ≡ length deployed.actors
   pub number : length sim.seats.items ≡ length deployed.actors
   pub seated : All (IsSeated (extent_of deployed)) (places_in mind sim)
+  pub blank : AreBlank mind sim.crew.items
   pub calls : length deployed.actors ≤ vec_capacity sim.calls
   pub few : length deployed.actors ≤ 65536
   pub cleared : sim.kernel.records ≡ []
+
+-- how a stretch leads from one simulation to another
+abbrev pub LeadsTo : {A : Type 0} → (A → Option Mind) → Plan → (World → ℕ) → (Answering → World → Progress) → Result (Option Ended) Memory → (Part → PartView) → (Part → PartView) → Simulation A → Simulation A → Type 0
+LeadsTo mind plan spends whole result shows shown old new = Leads plan spends whole result (cast_in mind old) (cast_in mind new) (now_at plan shows old) (now_at plan shown new)
 
 -- the router has the routes of the platform, over its links
 pub record AreRoadsOf (platform : Platform) (roads : Roads) : Type 0 where
   pub are : roads ≡ roads_of platform
   pub over : AreOver (length (link_ends platform.links)) roads
 
--- the simulation of a setup at its beginning, with nothing of the script taken and no line that waits
-pub record IsFirst {A : Type 0} (mind : A → Option Mind) (platform : Platform) (deployed : Deployed) (budget : ℕ) (part : PartView) (sim : Simulation A) : Type 0 where
+-- the simulation of a setup at its beginning, with a crew of so many contexts, nothing of the script taken and no line that
+-- waits
+pub record IsFirst {A : Type 0} (mind : A → Option Mind) (platform : Platform) (deployed : Deployed) (budget crew : ℕ) (part : PartView) (sim : Simulation A) : Type 0 where
   pub kept : IsKept mind deployed part sim
   pub setup : sim.kernel.setup ≡ setup_of platform deployed budget
-  pub stands : StandsFor (known_in deployed) [] (minds_in mind sim) (at_moment part sim) (first_of platform deployed budget)
+  pub stands : StandsFor (known_in deployed) [] (cast_in mind sim) (at_moment part sim) (first_of platform deployed budget crew)
   pub empty : sim.buffer ≡ []
+
+-- how many contexts the crew had before anybody started
+abbrev pub crew_in : {A : Type 0} → Plan → Simulation A → ℕ
+crew_in plan sim = length sim.crew.items + started_number plan.deployment.now
 
 -- the beginning of the run of a plan: the simulation of its setup, over the roads of its platform
 pub record IsBeginning {A : Type 0} (mind : A → Option Mind) (plan : Plan) (shows : Part → PartView) (router : Roads) (sim : Simulation A) : Type 0 where
-  pub first : IsFirst mind plan.platform.now plan.deployment.now plan.terms.budget (script_in plan shows) sim
+  pub first : IsFirst mind plan.platform.now plan.deployment.now plan.terms.budget (crew_in plan sim) (script_in plan shows) sim
   pub roads : AreRoadsOf plan.platform.now router
 
 -- what a part of a run has done
-abbrev pub PartIs : ℕ → Names → Trace → (Answering → Progress) → Option Ended → List ℕ → List (Option Mind) → Moment → Moment → Pending → Pending → Type 0
+abbrev pub PartIs : ℕ → Names → Trace → (Answering → Progress) → Option Ended → List ℕ → Cast → Moment → Moment → Pending → Pending → Type 0
 PartIs spent names trace whole how taken had old new before after =
-    MatchBool (cuts how) (CutsOff names trace whole taken old.part new.part before after.held) (Advances spent names trace whole how taken had old new before after)
+    MatchBool (cuts how) (CutsOff names trace whole taken had.contexts old.part new.part before after.held) (Advances spent names trace whole how taken had old new before after)
 
 -- so it is in the run of a plan
 abbrev pub Holds : {A : Type 0} → (A → Option Mind) → Plan → (Part → PartView) → Simulation A → Type 0
@@ -110,8 +210,9 @@ pub record CanAdvance {A : Type 0} (mind : A → Option Mind) (plan : Plan) (sho
   pub roads : AreOver sim.kernel.setup.links router
   pub going : are_completed sim.kernel.core ≡ false
 
--- behind a part that didn't cut the run off all of that holds again, of the same setup
+-- contexts were taken as they may be; behind a part that didn't cut the run off all of that holds again, of the same setup
 pub record StaysKept {A : Type 0} (mind : A → Option Mind) (plan : Plan) (how : Option Ended) (shows : Part → PartView) (old new : Simulation A) : Type 0 where
+  pub crew : TakesCrew (cuts how) old new
   pub setup : new.kernel.setup ≡ old.kernel.setup
   pub kept : MatchBool (cuts how) ⊤ (Holds mind plan shows new)
 
@@ -120,15 +221,15 @@ abbrev pub IsCaused : Plan → Option Ended → (Part → PartView) → ℕ → 
 IsCaused plan how shows faults = HasCause (how ≡ Some ended.WriteFault) (how ≡ Some ended.ReadFault) faults ((script_in plan shows).stage ≡ Broken)
 
 -- ---- with what is written
--- a moment of a run, what its actors have in mind, what the streams hold, and the lines that wait
+-- a moment of a run, its cast, what the streams hold, and the lines that wait
 pub record Snapshot : Type 0 where
   pub now : Moment
-  pub minds : List (Option Mind)
+  pub cast : Cast
   pub streams : Stream → Option (List ℕ)
   pub waiting : List ℕ
 
 abbrev pub snapshot_of : {A : Type 0} → (A → Option Mind) → Plan → (Part → PartView) → (Stream → Option (List ℕ)) → Simulation A → Snapshot
-snapshot_of mind plan shows streams sim = record { now = now_at plan shows sim; minds = minds_in mind sim; streams = streams; waiting = sim.buffer }
+snapshot_of mind plan shows streams sim = record { now = now_at plan shows sim; cast = cast_in mind sim; streams = streams; waiting = sim.buffer }
 
 abbrev pub pending_in : Snapshot → Pending
 pending_in shot = pending (shot.streams Out) shot.waiting
@@ -136,5 +237,5 @@ pending_in shot = pending (shot.streams Out) shot.waiting
 -- How a part of a run leads from one moment to another, with its lines on Out or in wait for it: of each world for which
 -- the first moment stands. Err stays.
 abbrev pub LeadsPart : Plan → Roads → Option Ended → Snapshot → Snapshot → Type 0
-LeadsPart plan roads how old new = (new.streams Err ≡ old.streams Err) × ((taken : List ℕ) (world : World) → StandsFor (names_of plan) taken old.minds old.now world →
-    PartIs (work_behind world) (names_of plan) (trace_in plan) (λ answers. part_at plan roads old.now.kernel answers world) how taken new.minds old.now new.now (pending_in old) (pending_in new))
+LeadsPart plan roads how old new = (new.streams Err ≡ old.streams Err) × ((taken : List ℕ) (world : World) → StandsFor (names_of plan) taken old.cast old.now world →
+    PartIs (work_behind world) (names_of plan) (trace_in plan) (λ answers. part_at plan roads old.now.kernel answers world) how taken new.cast old.now new.now (pending_in old) (pending_in new))

@@ -1,7 +1,8 @@
 -- How far a run has come between two moments, whatever its script may still give.
-use Rattle.std.specs.Prelude.{◌≡◌, ◌≢◌, ◌-◌, ℕ, Bool, true, false, List, [], ◌++◌, length, Option, None, Some, Result, Ok, MatchResult}
+use Rattle.std.specs.Prelude.{◌≡◌, ◌≢◌, ◌≤◌, ◌-◌, ℕ, Bool, true, false, ◌||◌, IsTrue, List, [], ◌++◌, length, Option, None, Some, Result, Ok, IfOk, MatchResult}
 use Rattle.sg_base.specs.declared.memory.Memory.{Memory}
 use Rattle.sg_base.specs.declared.trace_record.Record.{Record}
+use Rattle.sg_base.specs.declared.ids.ActorId.{ActorId}
 use Rattle.sg_base.specs.Mind.{Mind}
 use Rattle.sg_edge.specs.Files.{PartView, Only}
 use Rattle.sg_edge.specs.declared.files.Part.{Part}
@@ -10,7 +11,8 @@ use Rattle.sg_edge.specs.Sources.{Source}
 use Rattle.sg_edge.specs.declared.files.Stage.{Stage}
 use Rattle.sg_edge.specs.declared.files.Stage.TheVariants.{Fresh, Begun, Broken}
 use Rattle.sg_kernel.specs.Known.{Known}
-use Rattle.sg_kernel.specs.World.{Core, MayCall, extent}
+use Rattle.sg_kernel.specs.World.{Core, IsActor, extent, state_of}
+use Rattle.sg_states.specs.Actors.{is_answered, is_ended}
 use Rattle.sg_engine.specs.World.{World}
 use Rattle.sg_rows.specs.Deployment.{Deployed, extent_of}
 use Rattle.sg_script.specs.Answer.{answer_of}
@@ -25,7 +27,8 @@ use Rattle.sg_route.specs.Roads.{Roads}
 use Rattle.sg_engine.specs.declared.actor_call.ActorCall.{ActorCall}
 use Rattle.sg_engine.specs.declared.ended.Ended.TheVariants as ended
 use Rattle.sg_engine.specs.kept.CallList.{calls_of}
-use Rattle.sg_engine.specs.Run.{Scene, scene, Answering, Progress, at_world, with_front, one_call, round, round_or_pass}
+use Rattle.sg_engine.specs.Run.{Scene, scene, Answering, Progress, at_world, creates, with_front, other_call, unless_killed, round, round_or_pass}
+use Rattle.sg_engine.specs.Roles.{firsts_of}
 
 -- a moment of a run: what the part of the script shows, what its reader keeps, and what the kernel knows
 pub record Moment : Type 0 where
@@ -56,25 +59,38 @@ abbrev pub cuts : Option Ended → Bool
 cuts None = false
 cuts (Some how) = is_cut how
 
--- who may call may still call once another actor was answered
+-- the actor isn't blocked: it may call, or has ended
+pub record IsFree (core : Core) (actor : ℕ) : Type 0 where
+  pub is : IsActor core actor
+  pub free : IsTrue (is_answered (state_of core actor) || is_ended (state_of core actor))
+
+-- who is free still is once another actor was answered
 abbrev pub LeavesFree : ℕ → Core → Core → Type 0
-LeavesFree actor old new = (other : ℕ) → other ≢ actor → MayCall old other → MayCall new other
+LeavesFree actor old new = (other : ℕ) → other ≢ actor → IsFree old other → IsFree new other
 
 -- the script stands for what was taken and asked, and less than a piece of what was taken isn't needed
 pub record ScriptStands (names : Names) (taken : List ℕ) (stage : Stage) (asks : ℕ → ℕ) (kept : Kept) : Type 0 where
   pub stands : Stands names taken stage asks kept
   pub needed : AreNeeded names taken stage asks
 
--- with these bytes of the script taken, the moment and the minds stand for the world
-pub record StandsFor (names : Names) (taken : List ℕ) (had : List (Option Mind)) (now : Moment) (world : World) : Type 0 where
+-- what the actors have in mind that have begun, and how many contexts are left
+pub record Cast : Type 0 where
+  pub minds : List (Option Mind)
+  pub contexts : ℕ
+
+abbrev pub cast_of : World → Cast
+cast_of world = record { minds = world.minds; contexts = world.contexts }
+
+-- with these bytes of the script taken, the moment and the cast stand for the world
+pub record StandsFor (names : Names) (taken : List ℕ) (had : Cast) (now : Moment) (world : World) : Type 0 where
   pub script : ScriptStands names taken now.part.stage world.asks now.kept
   pub core : now.kernel.core ≡ world.core
-  pub minds : had ≡ world.minds
+  pub cast : had ≡ cast_of world
 
 -- From the old moment to the new one a piece of the script was taken, and records were made; for each source that
 -- goes on from there, the whole is these records and then the rest, from the world for which the new moment stands, with so
 -- much work spent.
-pub record IsStretch (spent : ℕ) (names : Names) (whole : Answering → Progress) (rest : Answering → World → Progress) (taken : List ℕ) (had : List (Option Mind)) (old new : Moment) : Type 0 where
+pub record IsStretch (spent : ℕ) (names : Names) (whole : Answering → Progress) (rest : Answering → World → Progress) (taken : List ℕ) (had : Cast) (old new : Moment) : Type 0 where
   pub piece : List ℕ
   pub reads : Reads piece old.part new.part
   pub setup : new.kernel.setup ≡ old.kernel.setup
@@ -89,11 +105,17 @@ pub record IsStretch (spent : ℕ) (names : Names) (whole : Answering → Progre
 abbrev pub AreNeededBy : Names → (Answering → Progress) → List ℕ → Stage → Type 0
 AreNeededBy names whole taken stage = (source : Source) → GoesOn taken stage source → IsWithinNeed names source (whole (answer_of names source)).world.asks (length taken)
 
--- memory was wanting: some of the script was read that the whole needs, and nothing else is told
-pub record LacksMemory (names : Names) (whole : Answering → Progress) (taken : List ℕ) (old new : PartView) : Type 0 where
+-- the whole leaves no more contexts than that, for each source that goes on from there
+abbrev pub LeavesContexts : Names → (Answering → Progress) → List ℕ → Stage → ℕ → Type 0
+LeavesContexts names whole taken stage left = (source : Source) → GoesOn taken stage source → (whole (answer_of names source)).world.contexts ≤ left
+
+-- memory was wanting: some of the script was read that the whole needs, no more contexts were taken than the whole takes,
+-- and nothing else is told
+pub record LacksMemory (names : Names) (whole : Answering → Progress) (taken : List ℕ) (left : ℕ) (old new : PartView) : Type 0 where
   pub piece : List ℕ
   pub reads : Reads piece old new
   pub needed : AreNeededBy names whole (taken ++ piece) new.stage
+  pub contexts : LeavesContexts names whole (taken ++ piece) new.stage left
 
 -- nothing is left of the stretch but how it ended
 abbrev pub ending : Option Ended → Answering → World → Progress
@@ -104,11 +126,17 @@ abbrev pub names_of : Plan → Names
 names_of plan = known_in plan.deployment.now
 
 abbrev pub scene_at : Plan → Roads → Known → Scene
-scene_at plan roads kernel = scene roads kernel.setup plan.script
+scene_at plan roads kernel = scene roads kernel.setup (firsts_of plan.deployment.now) plan.script
 
--- a call of an actor
+-- a call of an actor, in a round, and one that creates nobody; a create
 abbrev pub call_at : Plan → Roads → Known → ActorCall → Answering → World → Progress
-call_at plan roads kernel made answers world = one_call (scene_at plan roads kernel) answers made.actor.0 made.call world
+call_at plan roads kernel made answers world = unless_killed (scene_at plan roads kernel) answers made.actor.0 made.call world
+
+abbrev pub other_at : Plan → Roads → Known → ActorCall → Answering → World → Progress
+other_at plan roads kernel made answers world = other_call (scene_at plan roads kernel) answers made.actor.0 made.call world
+
+abbrev pub created_at : Plan → Known → ActorId → ActorId → Answering → World → Progress
+created_at plan kernel actor target answers world = creates (firsts_of plan.deployment.now) kernel.setup.budget actor.0 target world
 
 -- calls of several actors, a round, and a round or a pass
 abbrev pub calls_at : Plan → Roads → Known → List ActorCall → Answering → World → Progress
@@ -142,28 +170,24 @@ FitsScript plan shows reader kernel = Fits plan.deployment.now (script_moment sh
 abbrev pub IsReadFrom : Result (Option Ended) Memory → PartView → Type 0
 IsReadFrom result part = result ≡ Ok (Some ended.ReadFault) → part.stage ≡ Broken
 
--- How a stretch leads from one moment to another, with these minds in the one and those in the other: of each world for
+-- How a stretch leads from one moment to another, with this cast in the one and that in the other: of each world for
 -- which the first moment stands, with so much work spent in all. Without memory it was cut off.
-abbrev pub Leads : Plan → (World → ℕ) → (Answering → World → Progress) → Result (Option Ended) Memory → List (Option Mind) → List (Option Mind) → Moment → Moment → Type 0
+abbrev pub Leads : Plan → (World → ℕ) → (Answering → World → Progress) → Result (Option Ended) Memory → Cast → Cast → Moment → Moment → Type 0
 Leads plan spends whole result had has old new = (taken : List ℕ) (world : World) → StandsFor (names_of plan) taken had old world →
-    MatchResult result (λ how. IsStretch (spends world) (names_of plan) (λ answers. whole answers world) (ending how) taken has old new) (λ _. LacksMemory (names_of plan) (λ answers. whole answers world) taken old.part new.part)
+    MatchResult result (λ how. IsStretch (spends world) (names_of plan) (λ answers. whole answers world) (ending how) taken has old new) (λ _. LacksMemory (names_of plan) (λ answers. whole answers world) taken has.contexts old.part new.part)
 
--- the same where no turn is taken, so that the minds stay
+-- the same where the cast stays
 abbrev pub LeadsCalls : Plan → (Answering → World → Progress) → Result (Option Ended) Memory → Moment → Moment → Type 0
-LeadsCalls plan whole result old new = (minds : List (Option Mind)) → Leads plan (λ world. world.work) whole result minds minds old new
-
--- a stretch doesn't cut the run off, but for want of memory where a script is read
-abbrev pub IsUncut : Bool → Result (Option Ended) Memory → Type 0
-IsUncut script result = MatchResult result (λ how. cuts how ≡ false) (λ _. script ≡ true)
+LeadsCalls plan whole result old new = (cast : Cast) → Leads plan (λ world. world.work) whole result cast cast old new
 
 -- of all files only the script's part was read, and without a script none
 pub record ReadsScript {F : Type 0} (shows : F → Part → PartView) (script : Bool) (old new : F) : Type 0 where
   pub others : Only Script (shows old) (shows new)
   pub unscripted : script ≡ false → new ≡ old
 
--- What a stretch has to do with the script: nothing else was read, it cuts the run off only where memory is wanting for a
--- line, and a read fault is told only of a part that is broken.
+-- What a stretch has to do with the script: nothing else was read, it cuts the run off only where memory is wanting, and a
+-- read fault is told only of a part that is broken.
 pub record UsesScript {F : Type 0} (shows : F → Part → PartView) (script : Bool) (result : Result (Option Ended) Memory) (old new : F) : Type 0 where
   pub reads : ReadsScript shows script old new
-  pub uncut : IsUncut script result
+  pub uncut : IfOk result (λ how. cuts how ≡ false)
   pub cause : IsReadFrom result (script_part script (shows new Script))

@@ -1,7 +1,6 @@
 -- Stretches of a run, and what is written of them.
-use Rattle.std.specs.Prelude.{◌≡◌, ◌≤◌, ◌+◌, ℕ, MatchBool, List, [], ◌++◌, Option, Some}
+use Rattle.std.specs.Prelude.{◌≡◌, ◌≤◌, ◌+◌, ℕ, MatchBool, List, [], ◌++◌, length, Option, Some}
 use Rattle.sg_base.specs.declared.trace_record.Record.{Record}
-use Rattle.sg_base.specs.Mind.{Mind}
 use Rattle.sg_edge.specs.Files.{PartView}
 use Rattle.sg_edge.specs.Sources.{Source}
 use Rattle.sg_kernel.specs.World.{Core}
@@ -16,7 +15,7 @@ use Rattle.sg_engine.specs.declared.simulation.Simulation.{Simulation}
 use Rattle.sg_engine.specs.RunContract.{is_cut}
 use Rattle.sg_engine.specs.Output.{Output, first_of, run_output, trace_of, scene_of}
 use Rattle.sg_engine.specs.Run.{Answering, Progress, run_of}
-use Rattle.sg_engine.specs.kept.Moments.{AreNeededBy, Moment, moment, IsStretch, ending}
+use Rattle.sg_engine.specs.kept.Moments.{AreNeededBy, Cast, LeavesContexts, Moment, moment, IsStretch, ending}
 use Rattle.sg_engine.specs.kept.Writing.{Pending, pending, Adds, AddsFront}
 
 -- how records are written as lines
@@ -24,31 +23,33 @@ abbrev pub Trace : Type 0
 Trace = List Record → List ℕ
 
 -- A part of a run was made, and its trace lines wait or are written. The kernel has cleared its records since.
-pub record Advances (spent : ℕ) (names : Names) (trace : Trace) (whole : Answering → Progress) (how : Option Ended) (taken : List ℕ) (had : List (Option Mind)) (old new : Moment) (before after : Pending) : Type 0 where
+pub record Advances (spent : ℕ) (names : Names) (trace : Trace) (whole : Answering → Progress) (how : Option Ended) (taken : List ℕ) (had : Cast) (old new : Moment) (before after : Pending) : Type 0 where
   pub records : List Record
   pub reached : IsStretch spent names whole (ending how) taken had old (moment new.part new.kept (record new.kernel { records = records }))
   pub printed : Adds (trace records) before after
 
--- A part of a run was cut off, and a front of what waited and of its trace lines is written.
-pub record CutsOff (names : Names) (trace : Trace) (whole : Answering → Progress) (taken : List ℕ) (old new : PartView) (before : Pending) (after : Option (List ℕ)) : Type 0 where
+-- A part of a run was cut off with so many contexts left, and a front of what waited and of its trace lines is written.
+pub record CutsOff (names : Names) (trace : Trace) (whole : Answering → Progress) (taken : List ℕ) (left : ℕ) (old new : PartView) (before : Pending) (after : Option (List ℕ)) : Type 0 where
   pub piece : List ℕ
   pub reads : Reads piece old new
   pub needed : AreNeededBy names whole (taken ++ piece) new.stage
+  pub contexts : LeavesContexts names whole (taken ++ piece) new.stage left
   pub front : (source : Source) → GoesOn (taken ++ piece) new.stage source → AddsFront (trace (whole (answer_of names source)).made) before after
 
 -- The run was cut off, and a front of its trace lines is written; the count went on from this start by the work of the
 -- whole run at most.
-pub record IsCutOff (start count : ℕ) (names : Names) (trace : Trace) (whole : Answering → Progress) (old new : PartView) (before : Pending) (after : Option (List ℕ)) : Type 0 where
-  pub cut : CutsOff names trace whole [] old new before after
+pub record IsCutOff (start count left : ℕ) (names : Names) (trace : Trace) (whole : Answering → Progress) (old new : PartView) (before : Pending) (after : Option (List ℕ)) : Type 0 where
+  pub cut : CutsOff names trace whole [] left old new before after
   pub worked : (source : Source) → GoesOn cut.piece new.stage source → count ≤ start + (whole (answer_of names source)).world.work
 
--- The run came to this end, and all its trace lines wait or are written; the count went on from this start by the work at most.
-pub record IsOver (start count : ℕ) (names : Names) (trace : Trace) (whole : Answering → Progress) (how : Ended) (core : Core) (old new : PartView) (before after : Pending) : Type 0 where
+-- The run came to this end with so many contexts left, and all its trace lines wait or are written; the count went on from this start by the work at most.
+pub record IsOver (start count left : ℕ) (names : Names) (trace : Trace) (whole : Answering → Progress) (how : Ended) (core : Core) (old new : PartView) (before after : Pending) : Type 0 where
   pub piece : List ℕ
   pub reads : Reads piece old new
   pub needed : AreNeededBy names whole piece new.stage
   pub world : World
   pub core_is : core ≡ world.core
+  pub contexts : left ≡ world.contexts
   pub worked : count ≤ start + world.work
   pub made : List Record
   pub printed : Adds (trace made) before after
@@ -58,18 +59,18 @@ pub record IsOver (start count : ℕ) (names : Names) (trace : Trace) (whole : A
 abbrev pub trace_in : Plan → Trace
 trace_in plan = trace_of plan.terms.show plan.platform.now plan.deployment.now
 
--- the run of a plan, by its script
-abbrev pub run_by : Plan → Answering → Progress
-run_by plan answers = run_of (scene_of plan.platform.now plan.deployment.now plan.script plan.terms.budget) (first_of plan.platform.now plan.deployment.now plan.terms.budget) answers
+-- the run of a plan with a crew of so many contexts, by its script
+abbrev pub run_by : Plan → ℕ → Answering → Progress
+run_by plan crew answers = run_of (scene_of plan.platform.now plan.deployment.now plan.script plan.terms.budget) (first_of plan.platform.now plan.deployment.now plan.terms.budget crew) answers
 
--- what the run of a plan writes and how it ends, by what the script's part gives
-abbrev pub planned_output : Plan → Source → Output
-planned_output plan source = run_output plan.platform.now plan.deployment.now plan.script plan.terms.budget plan.terms.show source
+-- what it writes and how it ends, by what the script's part gives
+abbrev pub planned_output : Plan → ℕ → Source → Output
+planned_output plan crew source = run_output plan.platform.now plan.deployment.now plan.script plan.terms.budget crew plan.terms.show source
 
 -- The run was cut off behind a front of its trace lines, or this simulation has come to this end behind all of them, of
 -- which the last may wait in its buffer. None waited at the beginning.
-abbrev pub HasRun : {A : Type 0} → Plan → Ended → Simulation A → ℕ → ℕ → PartView → PartView → Option (List ℕ) → Option (List ℕ) → Type 0
-HasRun plan how sim start count old new before after =
+abbrev pub HasRun : {A : Type 0} → Plan → ℕ → Ended → Simulation A → ℕ → ℕ → PartView → PartView → Option (List ℕ) → Option (List ℕ) → Type 0
+HasRun plan crew how sim start count old new before after =
     MatchBool (is_cut how)
-    (IsCutOff start count (known_in plan.deployment.now) (trace_in plan) (run_by plan) old new (pending before []) after)
-    (IsOver start count (known_in plan.deployment.now) (trace_in plan) (run_by plan) how sim.kernel.core old new (pending before []) (pending after sim.buffer))
+    (IsCutOff start count (length sim.crew.items) (known_in plan.deployment.now) (trace_in plan) (run_by plan crew) old new (pending before []) after)
+    (IsOver start count (length sim.crew.items) (known_in plan.deployment.now) (trace_in plan) (run_by plan crew) how sim.kernel.core old new (pending before []) (pending after sim.buffer))

@@ -28,10 +28,9 @@ pub record IsApplied (network : Network) (entry : Entry) (old new : Doing) : Typ
   pub due : new.due ≡ old.due
   pub room : new.room ≡ old.room
 
--- The date stays, and nothing begins. What isn't due any more isn't under way.
+-- The date stays. What isn't due any more isn't under way.
 pub record LeavesDue (old new : Fields) : Type 0 where
   pub date : new.doing.under.date ≡ old.doing.under.date
-  pub began : new.doing.under.marks.began ≡ old.doing.under.marks.began
   pub idle : (serial : ℕ) → task_at old.doing.under.tasks serial ≡ None → task_at new.doing.under.tasks serial ≡ None
   pub test : ℕ → Bool
   pub due : new.doing.due ≡ filter test old.doing.due

@@ -1,5 +1,5 @@
 -- How the kernel keeps what it knows.
-use Rattle.std.specs.Prelude.{◌≡◌, ℕ, ◌+◌, ◌-◌, ◌*◌, ◌^◌, ◌<◌, ◌≤◌, min, Bool, true, false, IsTrue, None, List, length, map, slice_index_or, All}
+use Rattle.std.specs.Prelude.{◌≡◌, ℕ, ◌+◌, ◌-◌, ◌*◌, ◌^◌, ◌<◌, ◌≤◌, min, ◌&&◌, not, Bool, true, false, IsTrue, Option, None, Some, is_some, IfSome, IsSome, List, length, map, slice_index_or, All}
 use Rattle.sg_base.specs.declared.awaits.Await.{Await}
 use Rattle.sg_base.specs.declared.ids.ActorId.{ActorId}
 use Rattle.sg_base.specs.declared.ids.BoxId.{BoxId}
@@ -12,7 +12,9 @@ use Rattle.sg_profile.specs.Ahead.{IsAhead}
 use Rattle.sg_profile.specs.Profiles.{AreProfiles, Timetable, next_row, rows_at}
 use Rattle.sg_route.specs.Roads.{Roads}
 use Rattle.sg_rows.specs.Network.{IsNetwork}
-use Rattle.sg_states.specs.Actors.{is_held}
+use Rattle.sg_states.specs.declared.state.Blocking.{Blocking}
+use Rattle.sg_states.specs.declared.state.State.{State}
+use Rattle.sg_states.specs.Actors.{blocking_in, is_held, joined_in}
 use Rattle.sg_states.specs.Records.{IsTellable}
 use Rattle.sg_sync.specs.Objects as sync
 use Rattle.sg_kernel.specs.declared.fields.Fields.{Fields}
@@ -35,6 +37,7 @@ setup_in fields = record {
   network = fields.network;
   profiles = fields.profiles.profiles;
   homes = map point_number fields.homes.items;
+  starts = fields.starts.items;
   mutexes = fields.mutexes;
   semaphores = fields.semaphores.items;
   members = fields.members;
@@ -164,13 +167,24 @@ pub record IsMade (made : ℕ) (on : Await) : Type 0 where
   pub from : 0 < on.serial.0
   pub to : on.serial.0 ≤ made
 
--- In the mailboxes stand those communications of which one side is there. Nothing of them is under way, nor of what is over. Requests are for communications that were made.
+-- an activity on which an actor is blocked was made
+abbrev pub AwaitsMade : ℕ → Option Blocking → Type 0
+AwaitsMade made None = Unit {0}
+AwaitsMade made (Some blocking) = IfSome blocking.on (IsMade made)
+
+-- In the mailboxes stand those communications of which one side is there. Nothing of them is under way, nor of what is over, but of all else. Requests are for communications that were made, and actors are blocked on activities that were.
 pub record AreMeeting (fields : Fields) : Type 0 where
   pub posts : (mailbox : BoxId) → waiting fields.boxes mailbox ≡ posts_from mailbox 1 fields.whose.whose
   pub idle : (place : ℕ) → IsTrue (is_idle (slice_index_or fields.whose.whose place (Over how.Done))) → slice_index_or fields.doing.under.tasks place None ≡ None
+  pub busy : (place : ℕ) → is_idle (slice_index_or fields.whose.whose place (Over how.Done)) ≡ false → IsSome (slice_index_or fields.doing.under.tasks place None)
   pub asked : All (λ (queue : List Await). All (IsMade (length fields.whose.whose)) queue) fields.requests.queues
+  pub awaited : (actor : ℕ) → AwaitsMade (length fields.whose.whose) (blocking_in (state_of (core_of fields) actor))
 
 -- ---- mutexes, semaphores and the barrier
+-- whether an actor is blocked by a call that waits at an object, and not for the end of another
+abbrev pub is_queued : State → Bool
+is_queued state = is_held state && not (is_some (joined_in state))
+
 -- who waits at an object waits there once, and is an actor that is blocked so
 pub record AreHeld (fields : Fields) : Type 0 where
   pub owners : length fields.objects.owners ≡ fields.mutexes
@@ -178,6 +192,6 @@ pub record AreHeld (fields : Fields) : Type 0 where
   pub actors : fields.objects.actors ≡ length fields.states.actors
   pub few : All (λ count. count ≤ 10 ^ 9 + fields.events) fields.objects.counts
   pub once : (actor : ActorId) → sync.waiting fields.objects actor ≤ 1
-  pub held : (actor : ActorId) → 0 < sync.waiting fields.objects actor → IsActorNumber (extent (setup_in fields)) actor.0 × IsTrue (is_held (state_of (core_of fields) actor.0))
+  pub held : (actor : ActorId) → 0 < sync.waiting fields.objects actor → IsActorNumber (extent (setup_in fields)) actor.0 × IsTrue (is_queued (state_of (core_of fields) actor.0))
   pub locking : length fields.objects.locking ≡ fields.mutexes
   pub acquiring : length fields.objects.acquiring ≡ length fields.semaphores.items

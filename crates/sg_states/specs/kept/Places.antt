@@ -1,9 +1,8 @@
--- Where an actor stands in the run queue.
+-- Where a number belongs in a list in rising order.
 use Rattle.std.specs.Prelude.{ℕ, ◌<◌, ◌≤◌, List, length, slice_index_or}
-use Rattle.sg_base.specs.declared.ids.ActorId.{ActorId}
 
--- those before the place come before the actor, and those from there on don't
-pub record IsPlace (queue : List ActorId) (actor : ActorId) (place : ℕ) : Type 0 where
-  pub within : place ≤ length queue
-  pub below : (k : ℕ) (d : ActorId) → k < place → (slice_index_or queue k d).0 < actor.0
-  pub above : (k : ℕ) (d : ActorId) → place ≤ k → k < length queue → actor.0 ≤ (slice_index_or queue k d).0
+-- the keys of those before the place are smaller, and of those from there on they aren't
+pub record IsPlace {X : Type 0} (key : X → ℕ) (xs : List X) (sought : ℕ) (place : ℕ) : Type 0 where
+  pub within : place ≤ length xs
+  pub below : (k : ℕ) (d : X) → k < place → key (slice_index_or xs k d) < sought
+  pub above : (k : ℕ) (d : X) → place ≤ k → k < length xs → sought ≤ key (slice_index_or xs k d)

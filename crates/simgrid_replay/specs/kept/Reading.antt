@@ -1,5 +1,5 @@
 -- What the steps of a call do to the parts and the contexts, in the order in which they are judged.
-use Rattle.std.specs.Prelude.{◌≡◌, ◌≢◌, ◌<◌, ℕ, Bool, false, List, All, length, drop, ⊤, Option, None, Result, IsErr, IsOk, IfErr, IsTrue}
+use Rattle.std.specs.Prelude.{◌≡◌, ◌≢◌, ◌<◌, ◌≤◌, ◌+◌, ℕ, Bool, false, MatchBool, List, All, length, ⊤, Option, None, Result, IsErr, IsOk, IfErr, IsTrue}
 use Rattle.sg_base.specs.Mind.{Mind}
 use Rattle.sg_base.specs.declared.status.Status.{Status}
 use Rattle.sg_base.specs.declared.status.Status.TheVariants as status
@@ -14,7 +14,8 @@ use Rattle.sg_engine.specs.RunContract.{IsReadOnDemand}
 use Rattle.sg_words.specs.CommandLine.{Asked, Request}
 use Rattle.simgrid_replay.specs.PartOrder.{AreBounded, IsTextBroken}
 use Rattle.simgrid_replay.specs.PartSources.{IsNamedBy, TextsGive}
-use Rattle.simgrid_replay.specs.Outcome.{Outcome, HasOutcome, is_refusal, contexts_for}
+use Rattle.simgrid_replay.specs.Contexts.{TakesFirst}
+use Rattle.simgrid_replay.specs.Outcome.{Outcome, HasOutcome, is_cut, is_refusal}
 use Rattle.simgrid_replay.specs.Settings.{platform_given, setting}
 use Rattle.simgrid_replay.specs.Requests.{has_parts, has_script}
 use Rattle.simgrid_replay.specs.declared.refusal.Refusal.{Refusal}
@@ -30,9 +31,15 @@ pub record IsStart {A : Type 0} (shows : Part → PartView) (mind : A → Option
 abbrev pub IsCallCause : Status → ℕ → Type 0 → Type 0
 IsCallCause how faults broke = HasCause (how ≡ status.WriteFault) (how ≡ status.ReadFault) faults broke
 
--- What a call has come to: its outcome, with less than a piece more of the script taken than its Asks need.
-pub record ComesTo (want : Outcome) (how : Status) (old new : Stream → Option (List ℕ)) (start count : ℕ) (before after : Part → PartView) : Type 0 where
+-- of a crew of so many contexts so many are left: the call took as many as its outcome takes, or was cut off and took no more
+abbrev pub LeavesContexts : ℕ → Status → ℕ → ℕ → Type 0
+LeavesContexts want how crew left = MatchBool (is_cut how) (crew ≤ left + want) (crew ≡ left + want)
+
+-- What a call has come to: its outcome, with so many contexts of the crew left, and less than a piece more of the script
+-- taken than its Asks need.
+pub record ComesTo (want : Outcome) (how : Status) (old new : Stream → Option (List ℕ)) (crew left start count : ℕ) (before after : Part → PartView) : Type 0 where
   pub outcome : HasOutcome want how old new start count
+  pub contexts : LeavesContexts want.contexts how crew left
   pub needed : IsReadOnDemand want.need before after
 
 -- this part is broken, and its count rose
@@ -97,7 +104,7 @@ pub record BeginsScript {F : Type 0} (shows : F → Part → PartView) (request 
 
 -- What a job's call has done to the contexts: its run has taken the first of them, and where it is refused, or a part
 -- that comes before the run is broken, nobody has.
-pub record TakesContexts {A : Type 0} (job : Asked) (how : Status) (old new : Part → PartView) (had has : List A) : Type 0 where
-  pub first : (p d : Source) → TextsGive job.request old new p d → how ≢ status.Memory → has ≡ drop (contexts_for job (length had) p d) had
+pub record SeatsJob {A : Type 0} (job : Asked) (how : Status) (old new : Part → PartView) (had has : List A) : Type 0 where
+  pub first : (p d : Source) → TextsGive job.request old new p d → TakesFirst (setting job.request (length had) p d) how had has
   pub refused : IsTrue (is_refusal how) → has ≡ had
   pub broken : IsTextBroken new → has ≡ had

@@ -1,6 +1,7 @@
 -- The setup of a setting.
-use Rattle.std.specs.Prelude.{◌≡◌, ◌≢◌, ◌≤◌, ℕ, Bool, length, Result, Ok, Err}
+use Rattle.std.specs.Prelude.{◌≡◌, ◌≢◌, ◌≤◌, ℕ, Bool, Result, Ok, Err}
 use Rattle.sg_engine.specs.declared.setup.Setup.{Setup}
+use Rattle.sg_rows.specs.Deployment.{started_number}
 use Rattle.sg_words.specs.declared.job.Job.{Job}
 use Rattle.simgrid_replay.specs.PartSources.{request_of}
 use Rattle.simgrid_replay.specs.Requests.{has_script}
@@ -16,10 +17,10 @@ abbrev pub IsSetupOf : Result Setting Refusal → Result Setup Refusal → Type 
 IsSetupOf given (Ok setup) = given ≡ Ok (setting_in setup)
 IsSetupOf given (Err why) = why ≢ refusal.Memory → given ≡ Err why
 
--- a setup with a script or without, whose actors have a context each
+-- a setup with a script or without, whose actors that begin with the run have a context each
 pub record IsSetupFor (scripted : Bool) (contexts : ℕ) (setup : Setup) : Type 0 where
   pub script : setup.script ≡ scripted
-  pub seated : length setup.deployment.actors ≤ contexts
+  pub seated : started_number setup.deployment ≤ contexts
 
 -- the same of a job
 abbrev pub IsSetupOfJob : Job → ℕ → Setup → Type 0

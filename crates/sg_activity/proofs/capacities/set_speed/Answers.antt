@@ -18,19 +18,19 @@ update_bounds-requires-clause-flows c =
     let kept = c.args.kept.now in
     let s : State = state_of kept in
     let host = c.args.host in
-    let cores : c.index.result.now.cores ≡ (host_at kept.hosts.items host).cores = ap (λ (h : HostCap). h.cores) (c.index.ensures ∙ get_or_default kept.hosts.items host _ _ c.requires.host) in
+    let is : c.index-cap.result.now ≡ host_at kept.hosts.items host = c.index-cap.ensures ∙ get_or_default kept.hosts.items host _ _ c.requires.host in
     flows_reset kept _ (at_speed host c.args.speed s.capacities) host (c.args.speed * c.from.result) c.requires.sound (speed_moved s.capacities host c.args.speed) refl
-    (ap (λ n. machines (set kept.hosts.items host (record { speed = c.args.speed; cores = n })) kept.links.items) cores) c.set_capacity.ensures
-    (ap (λ n. set (capacities_of s.capacities) host (c.args.speed * n)) (c.from.ensures ∙ cores) ∙ speed_capacities s.capacities host c.args.speed c.requires.host)
+    (ap (λ (h : HostCap). machines (set kept.hosts.items host (record h { speed = c.args.speed })) kept.links.items) is) c.set_capacity.ensures
+    (ap (λ n. set (capacities_of s.capacities) host (c.args.speed * n)) (c.from.ensures ∙ ap (λ (h : HostCap). h.cores) is) ∙ speed_capacities s.capacities host c.args.speed c.requires.host)
 
 pub returns : goal.returns
 returns c =
     let kept = c.args.kept.now in
     let s : State = state_of kept in
     let host = c.args.host in
-    let cores : c.index.result.now.cores ≡ (host_at kept.hosts.items host).cores = ap (λ (h : HostCap). h.cores) (c.index.ensures ∙ get_or_default kept.hosts.items host _ _ c.requires.host) in
+    let is : c.index-cap.result.now ≡ host_at kept.hosts.items host = c.index-cap.ensures ∙ get_or_default kept.hosts.items host _ _ c.requires.host in
     resets kept _ (at_speed host c.args.speed s.capacities) host (c.args.speed * c.from.result) c.requires.sound (speed_moved s.capacities host c.args.speed) refl
-    (ap (λ n. machines (set kept.hosts.items host (record { speed = c.args.speed; cores = n })) kept.links.items) cores) c.set_capacity.ensures
-    (ap (λ n. set (capacities_of s.capacities) host (c.args.speed * n)) (c.from.ensures ∙ cores) ∙ speed_capacities s.capacities host c.args.speed c.requires.host)
+    (ap (λ (h : HostCap). machines (set kept.hosts.items host (record h { speed = c.args.speed })) kept.links.items) is) c.set_capacity.ensures
+    (ap (λ n. set (capacities_of s.capacities) host (c.args.speed * n)) (c.from.ensures ∙ ap (λ (h : HostCap). h.cores) is) ∙ speed_capacities s.capacities host c.args.speed c.requires.host)
     c.update_bounds.new.kept (users_on c.args.index.now.users host) c.update_bounds.ensures
     (λ key live at. is_user kept c.args.index.now c.requires.used c.is_both_ways.ensures host key live at ∙ host_users s.capacities host c.requires.host (place_at s key live))

@@ -1,7 +1,8 @@
-use Rattle.std.proofs.Common.{◌≡◌, ◌*◌, ◌<◌, ℕ, All, true, false, None, Some, List, [], ◌∷◌, ◌++◌, length, length-set, get_or, set, sum_by, sym, ap, ap₂, subst, ◌∙◌, refl, arith}
+use Rattle.std.proofs.Common.{◌≡◌, ◌*◌, ◌<◌, ℕ, All, true, false, is_some, None, Some, List, [], ◌∷◌, ◌++◌, length, length-set, get_or, set, sum_by, sym, ap, ap₂, subst, ◌∙◌, refl, arith}
 use Rattle.std.proofs.lemmas.List.{get_or_default}
+use Rattle.std.specs.Option.{IfSome}
 use Rattle.sg_base.specs.declared.ids.LinkId.{LinkId}
-use Rattle.sg_base.specs.MarkSet.{MarkSet}
+use Rattle.sg_base.specs.MarkSet.{MarkSet, with_mark}
 use Rattle.sg_maxmin.specs.Fill.{Flow, flow}
 use Rattle.sg_maxmin.specs.Sharing.{IsFlow}
 use Rattle.sg_lazy.specs.Lazily.{Lazily}
@@ -18,7 +19,6 @@ use Rattle.sg_activity.specs.kept.Turns.{Turns}
 use Rattle.sg_activity.proofs.Pairing.{there_within}
 use Rattle.sg_activity.proofs.Roomy.{ahead_set, ahead_counted}
 use Rattle.sg_activity.proofs.Routed.{way_is_flow}
-use Rattle.sg_activity.proofs.Told.{new_mark}
 use Rattle.sg_activity.proofs.Turned.{turned}
 use Rattle.sg_activity.proofs.Turning.{begun_state, state_same, flow_turns, flow_begins, flow_under}
 use Rattle.std.proofs.Common.{inl, inr}
@@ -80,6 +80,12 @@ start-flow-requires-clause-flow c =
     subst (λ l. IsFlow l (flow c.as_slice.result.now c.args.live.weight c.tighter-bound.result)) (sym c.requires.sound.room.capacities)
     (subst (IsFlow (capacities_of s.capacities)) (sym (ap₂ (λ u b. flow u c.args.live.weight b) uses bound)) (way_is_flow s.capacities links c.args.live.weight c.args.live.bound way weighs))
 
+pub set-requires-clause-there : goal.set-requires-clause-there
+set-requires-clause-there c = ap is_some c.requires.at
+
+pub set-requires-clause-same : goal.set-requires-clause-same
+set-requires-clause-same c = subst (λ o. IfSome o (λ (l : Live). l.serial ≡ c.args.live.serial)) (sym c.requires.at) refl
+
 pub overflow_mul-from : goal.overflow_mul-from
 overflow_mul-from c =
     let small = (c.requires.sound.are.each c.args.key c.args.live c.requires.at).few_bytes in
@@ -113,13 +119,13 @@ returns-clause-ends c =
     let new : State = begun_state s s.drawn key live s.ways (set s.keys key None) (set s.runs id (Some run)) (set s.by_flow id key) in
     let turns : Turns s new key live.serial (Some live) =
     flow_turns s s.drawn key live (set s.keys key None) sound.are (flow_begins s key old live sound.are c.requires.at c.requires.kind within keys_in refl refl refl refl refl) refl refl c.start-flow.ensures.free c.start-flow.ensures.in_range by_in (way_is_flow s.capacities links old.weight old.bound way weighs).limit (path_of kept key old sound c.requires.at c.requires.kind) in
-    let state_is = state_same s s.drawn false c.set.new.self.slots (set s.slots key (Some live)) s.ways s.ways c.clear.new.self (set s.keys key None) c.start-flow.new.self.slots (set s.runs id (Some run)) (set s.by_flow id key) (set s.by_flow id key) c.insert.new.self.members (s.fresh ++ key ∷ []) c.start-flow.new.self.ended s.ended c.start-flow.new.self.resources s.resources
-    lives refl c.clear.ensures runs refl (ap (λ (m : MarkSet). m.members) c.insert.ensures ∙ new_mark key s.fresh c.requires.stale) (ap (λ (l : Lazily). l.ended) starts) (ap (λ (l : Lazily). l.resources) starts) in
+    let state_is = state_same s s.drawn false c.set.new.self.slots (set s.slots key (Some live)) s.ways s.ways c.clear.new.self (set s.keys key None) c.start-flow.new.self.slots (set s.runs id (Some run)) (set s.by_flow id key) (set s.by_flow id key) c.insert.new.self.members (with_mark key s.fresh) c.start-flow.new.self.ended s.ended c.start-flow.new.self.resources s.resources
+    lives refl c.clear.ensures runs refl (ap (λ (m : MarkSet). m.members) c.insert.ensures) (ap (λ (l : Lazily). l.ended) starts) (ap (λ (l : Lazily). l.resources) starts) in
     let counted = ahead_counted s.slots key old within c.requires.at in
     record {
       slot = Some live;
       turns = subst (λ st. Turns s st key live.serial (Some live)) (sym state_is) turns;
-      under = ap under_of state_is ∙ flow_under s key old live (set s.keys key None) (set s.runs id (Some run)) (set s.by_flow id key) sound.are c.requires.at c.requires.kind c.requires.stale refl turns;
+      under = ap under_of state_is ∙ flow_under s key old live (set s.keys key None) (set s.runs id (Some run)) (set s.by_flow id key) sound.are c.requires.at c.requires.kind refl turns;
       drawn = refl;
       sound = record {
         are = subst IsKept (sym state_is) (turned s new key live.serial (Some live) sound.are turns);

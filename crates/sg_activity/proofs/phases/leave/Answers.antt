@@ -52,7 +52,7 @@ returns-clause-ends c =
             use_room = ap (λ (l : Lazily). l.use_room) is;
             long = ap (λ (l : Lazily). length l.slots) is ∙ length-set s.runs live.flow None;
           } in
-          subst after (sym c.flows_ahead.ensures) (ends_from kept c.if-takes_share.kept w.end.new.self c.remove.new.self c.clear-2.new.self key live sound c.requires.at c.requires.stale goes w.kept-is c.remove.ensures.slots c.remove.ensures.room c.clear-2.ensures)
+          subst after (sym c.flows_ahead.ensures) (ends_from kept c.if-takes_share.kept w.end.new.self c.remove.new.self c.clear-2.new.self key live sound c.requires.at goes w.kept-is c.remove.ensures.slots c.remove.ensures.room c.clear-2.ensures)
       | else-takes_share w ↦
           let empty : takes_share live.kind ≡ false = sym c.takes_share.ensures ∙ w.if-takes_share.false in
           let goes : Goes kept kept.lazy key live = record {
@@ -64,7 +64,7 @@ returns-clause-ends c =
             use_room = refl;
             long = refl;
           } in
-          subst after (sym c.flows_ahead.ensures) (ends_from kept c.if-takes_share.kept kept.lazy c.remove.new.self c.clear-2.new.self key live sound c.requires.at c.requires.stale goes w.kept-is c.remove.ensures.slots c.remove.ensures.room c.clear-2.ensures)
+          subst after (sym c.flows_ahead.ensures) (ends_from kept c.if-takes_share.kept kept.lazy c.remove.new.self c.clear-2.new.self key live sound c.requires.at goes w.kept-is c.remove.ensures.slots c.remove.ensures.room c.clear-2.ensures)
     ]
 
 pub leave-requires : goal.leave-requires

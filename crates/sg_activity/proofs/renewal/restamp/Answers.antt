@@ -1,4 +1,4 @@
-use Rattle.std.proofs.Common.{◌≡◌, ◌+◌, ◌<◌, ◌≤◌, ◌||◌, true, ℕ, Option, None, Some, IsSome, option_map, length, length-set, get_or, set, take, subst, sym, List, ap, ap₂, ◌∙◌}
+use Rattle.std.proofs.Common.{◌≡◌, ◌+◌, ◌<◌, ◌≤◌, ◌||◌, true, ℕ, Option, None, Some, is_some, IsSome, option_map, length, length-set, get_or, set, take, subst, sym, List, ap, ap₂, ◌∙◌}
 use Rattle.std.proofs.lemmas.List.{take_all}
 use Rattle.std.specs.Option.{IfSome}
 use Rattle.sg_base.specs.MarkSet.{MarkSet, is_in, with_mark}
@@ -45,6 +45,12 @@ at_rate-requires c =
     let at = there_before changed c.args.by_flow.now c.args.lazy.now c.args.date c.args.lives.now.slots c.loop-id.lives.slots i c.loop-id-test.true keyed c.loop-id.invariant.slots in
     let same = some_same (sym at ∙ ap (slot_at c.loop-id.lives.slots) (sym c.key_of-key.ensures) ∙ sym c.get.ensures ∙ c.in-Some.is) in
     subst (λ (l : Live). l.stamp ≤ c.args.date) same (stamp_before changed c.args.by_flow.now c.args.lazy.now c.args.date c.args.lives.now.slots c.loop-id.lives.slots i c.loop-id-test.true keyed c.loop-id.invariant.slots)
+
+pub set-requires-clause-there : goal.set-requires-clause-there
+set-requires-clause-there c = ap is_some (sym c.get.ensures ∙ c.in-Some.is)
+
+pub set-requires-clause-same : goal.set-requires-clause-same
+set-requires-clause-same c = subst (λ o. IfSome o (λ (l : Live). l.serial ≡ c.at_rate.result.serial)) (sym (sym c.get.ensures ∙ c.in-Some.is)) (sym (ap (λ (l : Live). l.serial) c.at_rate.ensures))
 
 pub loop-id-preserved : goal.loop-id-preserved
 loop-id-preserved c =

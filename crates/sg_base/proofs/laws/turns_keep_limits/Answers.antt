@@ -26,6 +26,11 @@ action_call extent me (action.Unlock id) is h = h
 action_call extent me (action.Acquire id) is h = h
 action_call extent me (action.Release id) is h = h
 action_call extent me action.Barrier is h = tt
+action_call extent me (action.Create actor) is h = h
+action_call extent me (action.Join actor) is h = h
+action_call extent me (action.Kill actor) is h = h
+action_call extent me (action.Suspend actor) is h = h
+action_call extent me (action.Resume actor) is h = h
 action_call extent me action.Yield is h = tt
 
 -- the only number is an actor's

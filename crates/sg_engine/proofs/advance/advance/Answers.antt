@@ -1,4 +1,5 @@
-use Rattle.std.proofs.Common.{◌≡◌, ◌≤◌, ◌+◌, ◌∙◌, sym, ap, arith, refl, rules, subst, ℕ, List, length, Ok, Option}
+use Rattle.std.proofs.Common.{◌≡◌, ◌≤◌, ◌+◌, ◌∙◌, sym, ap, arith, refl, rules, subst, ℕ, Bool, true, false, List, length, None, Ok, Option}
+use Rattle.std.specs.Prelude.{take}
 use Rattle.sg_base.specs.declared.trace_record.Record.{Record}
 use Rattle.sg_edge.specs.declared.files.Part.TheVariants.{Script}
 use Rattle.sg_edge.specs.declared.sinks.Stream.TheVariants.{Out}
@@ -11,12 +12,16 @@ use Rattle.sg_engine.specs.declared.ended.Ended.{Ended}
 use Rattle.sg_engine.specs.Output.{trace_of}
 use Rattle.sg_engine.specs.kept.Moments.{moment, script_part}
 use Rattle.sg_engine.specs.kept.Writing.{Adds, AddsFront, pending}
+use Rattle.sg_engine.specs.Roles.{firsts_of}
 use Rattle.sg_engine.specs.Run.{next_work, scene, round_or_pass}
 use Rattle.sg_engine.proofs.Parts.{room_for}
 use Rattle.sg_engine.proofs.Files.{script_unread}
 use Rattle.sg_engine.proofs.Fronts.{memory_cause, memory_cuts, memory_err}
 use Rattle.sg_engine.proofs.Simulating.{advances, cuts_off_at, kept_on, lacks_room, lacks_scene, part_is, part_kept, part_short, scene_as, short_kept}
+use Rattle.sg_engine.proofs.Crews.{crew_cut, crew_same, front_all}
 use Rattle.sg_engine.proofs.Uncut.{uncut_write}
+use Rattle.sg_engine.specs.declared.simulation.Simulation.{Simulation}
+use Rattle.sg_engine.specs.kept.Invariant.{still_unstarted, unstarted, TakesCrew}
 use Rattle.sg_engine.proofs.advance.advance.Goals as goal
 
 -- room for a round changes nothing of what comes next
@@ -24,6 +29,16 @@ next_as : (old new : Known) (start count : ℕ) → new ≡ record old { room = 
 next_as old new start count same worked =
     let next : next_work new.core ≡ next_work old.core = ap (λ (k : Known). next_work k.core) same in
     omega (arith, next, worked)
+
+unstarted_as : (old new : Known) → new ≡ record old { room = new.room } → unstarted new.core ≤ unstarted old.core
+unstarted_as old new same = omega (arith, ap (λ (k : Known). unstarted k.core) same)
+
+-- room for a round takes no context
+takes_as : {A : Type 0} (cut : Bool) (old new last : Simulation A) (room : Known) → room ≡ record old.kernel { room = room.room } → TakesCrew cut (record old { kernel = room }) new → last.crew.items ≡ new.crew.items → last.kernel.core ≡ new.kernel.core → TakesCrew cut old last
+takes_as cut old new last room same takes crew core = record {
+  front = crew ∙ takes.front ∙ ap (λ n. take n old.crew.items) (sym (ap length crew));
+  begun = omega (arith, takes.begun, ap length crew, ap (still_unstarted cut) core, ap (λ (k : Known). unstarted k.core) same);
+}
 
 pub round_or_pass-requires-clause-roads : goal.round_or_pass-requires-clause-roads
 round_or_pass-requires-clause-roads g c κs within =
@@ -35,7 +50,7 @@ returns-in-Err-clause-part g c = (
   memory_err _ _ _ _ _ c.end_for_memory.ensures,
   λ taken world stands.
       part_short _ _ _ _ c.end_for_memory.result taken _ _ _ c.args.sim.now.buffer c.args.sim.now.buffer c.end_for_memory.new.buffer (g.O.Sinks.contents c.args.out.now) (g.O.Sinks.contents c.end_for_memory.new.out) _
-      (lacks_room _ (scene c.args.router.now c.args.sim.now.kernel.setup c.args.engine.now.plan.script) taken _ _ world c.requires.going.kept.fits.begun stands) refl c.end_for_memory.ensures,
+      (lacks_room _ (scene c.args.router.now c.args.sim.now.kernel.setup (firsts_of c.args.engine.now.plan.deployment.now) c.args.engine.now.plan.script) taken _ _ world c.requires.going.kept.fits.begun stands) refl c.end_for_memory.ensures,
 )
 
 pub returns-in-Err-round_or_pass-clause-part : goal.returns-in-Err-round_or_pass-clause-part
@@ -44,8 +59,8 @@ returns-in-Err-round_or_pass-clause-part g c = (
   λ taken world stands.
       let core = ap (λ (k : Known). k.core) c.in-Ok.ensures.kept in
       part_short _ _ _ _ c.end_for_memory-in-Err-round_or_pass.result taken _ _ _ c.round_or_pass.new.sim.buffer c.args.sim.now.buffer c.end_for_memory-in-Err-round_or_pass.new.buffer (g.O.Sinks.contents c.args.out.now) (g.O.Sinks.contents c.end_for_memory-in-Err-round_or_pass.new.out) _
-      (lacks_scene _ c.args.router.now c.args.engine.now.plan.script c.args.sim.now.kernel.setup c.reserve_round.new.self.setup taken world _ _ (ap (λ (k : Known). k.setup) c.in-Ok.ensures.kept)
-      (c.in-Err-round_or_pass.ensures.step taken world (record { script = stands.script; core = core ∙ stands.core; minds = stands.minds }))) c.round_or_pass.ensures.seats.buffer
+      (lacks_scene _ c.args.router.now (firsts_of c.args.engine.now.plan.deployment.now) c.args.engine.now.plan.script c.args.sim.now.kernel.setup c.reserve_round.new.self.setup taken _ world _ _ (ap (λ (k : Known). k.setup) c.in-Ok.ensures.kept)
+      (c.in-Err-round_or_pass.ensures.step taken world (record { script = stands.script; core = core ∙ stands.core; cast = stands.cast }))) c.round_or_pass.ensures.seats.buffer
       c.end_for_memory-in-Err-round_or_pass.ensures,
 )
 
@@ -63,14 +78,14 @@ returns-in-Err-put_trace-clause-part g c = (
       let kept = kept_of c.args.sim.now.script in
       let kept' = kept_of c.round_or_pass.new.sim.script in
       let same : mid ≡ record old { room = mid.room } = c.in-Ok.ensures.kept in
-      let reached = c.in-Ok-round_or_pass.ensures.step taken world (record { script = stands.script; core = ap (λ (k : Known). k.core) same ∙ stands.core; minds = stands.minds }) in
+      let reached = c.in-Ok-round_or_pass.ensures.step taken world (record { script = stands.script; core = ap (λ (k : Known). k.core) same ∙ stands.core; cast = stands.cast }) in
       let before = pending (g.O.Sinks.contents c.args.out.now Out) c.args.sim.now.buffer in
       let after = g.O.Sinks.contents c.put_trace.new.out Out in
       let front : AddsFront (trace new.records) before after =
       subst (λ (b : List ℕ). AddsFront (trace new.records) (pending before.held b) after) c.round_or_pass.ensures.seats.buffer
       (subst (λ (l : List Record). AddsFront (trace l) (pending before.held c.round_or_pass.new.sim.buffer) after) c.records.ensures.are c.in-Err-put_trace.ensures.front) in
-      cuts_off_at names trace (λ answers. round_or_pass (scene c.args.router.now old.setup c.args.engine.now.plan.script) answers world) c.in-Ok-round_or_pass.how taken _ part part' kept kept' mid new before after
-      (scene_as names c.args.router.now c.args.engine.now.plan.script old.setup mid.setup c.in-Ok-round_or_pass.how taken _ world (moment part kept mid) (moment part' kept' new) (ap (λ (k : Known). k.setup) same) reached)
+      cuts_off_at names trace (λ answers. round_or_pass (scene c.args.router.now old.setup (firsts_of c.args.engine.now.plan.deployment.now) c.args.engine.now.plan.script) answers world) c.in-Ok-round_or_pass.how taken _ part part' kept kept' mid new before after
+      (scene_as names c.args.router.now (firsts_of c.args.engine.now.plan.deployment.now) c.args.engine.now.plan.script old.setup mid.setup c.in-Ok-round_or_pass.how taken _ world (moment part kept mid) (moment part' kept' new) (ap (λ (k : Known). k.setup) same) reached)
       (ap (λ (k : Known). k.records) same ∙ c.requires.going.kept.cleared) front,
 )
 
@@ -90,15 +105,15 @@ returns-clause-part g c = (
       let kept = kept_of c.args.sim.now.script in
       let kept' = kept_of c.round_or_pass.new.sim.script in
       let same : mid ≡ record old { room = mid.room } = c.in-Ok.ensures.kept in
-      let reached = c.in-Ok-round_or_pass.ensures.step taken world (record { script = stands.script; core = ap (λ (k : Known). k.core) same ∙ stands.core; minds = stands.minds }) in
+      let reached = c.in-Ok-round_or_pass.ensures.step taken world (record { script = stands.script; core = ap (λ (k : Known). k.core) same ∙ stands.core; cast = stands.cast }) in
       let before = pending (g.O.Sinks.contents c.args.out.now Out) c.args.sim.now.buffer in
       let after = pending (g.O.Sinks.contents c.put_trace.new.out Out) c.put_trace.new.buffer in
       let printed : Adds (trace new.records) before after =
       subst (λ (b : List ℕ). Adds (trace new.records) (pending before.held b) after) c.round_or_pass.ensures.seats.buffer
       (subst (λ (l : List Record). Adds (trace l) (pending before.held c.round_or_pass.new.sim.buffer) after) c.records.ensures.are c.in-Ok-put_trace.ensures.written) in
       part_is names trace _ how taken _ _ _ before after c.in-Ok-round_or_pass.ensures.script.uncut
-      (advances names trace (λ answers. round_or_pass (scene c.args.router.now old.setup c.args.engine.now.plan.script) answers world) how taken _ part part' kept kept' old mid new before after
-      (scene_as names c.args.router.now c.args.engine.now.plan.script old.setup mid.setup how taken _ world (moment part kept mid) (moment part' kept' new) (ap (λ (k : Known). k.setup) same) reached)
+      (advances names trace (λ answers. round_or_pass (scene c.args.router.now old.setup (firsts_of c.args.engine.now.plan.deployment.now) c.args.engine.now.plan.script) answers world) how taken _ part part' kept kept' old mid new before after
+      (scene_as names c.args.router.now (firsts_of c.args.engine.now.plan.deployment.now) c.args.engine.now.plan.script old.setup mid.setup how taken _ world (moment part kept mid) (moment part' kept' new) (ap (λ (k : Known). k.setup) same) reached)
       (ap (λ (k : Known). k.records) same ∙ c.requires.going.kept.cleared)
       c.requires.going.kept.cleared
       (ap (λ (k : Known). k.setup) same)
@@ -117,7 +132,7 @@ pub returns-in-Err-clause-cause : goal.returns-in-Err-clause-cause
 returns-in-Err-clause-cause g c = memory_cause _ _ _ _ _ _ c.end_for_memory.ensures
 
 pub returns-in-Err-clause-kept : goal.returns-in-Err-clause-kept
-returns-in-Err-clause-kept g c = short_kept _ _ c.end_for_memory.result _ _ _ (memory_cuts _ _ _ _ _ c.end_for_memory.ensures) (ap (λ (k : Known). k.setup) c.in-Err.ensures.kept)
+returns-in-Err-clause-kept g c = short_kept _ _ c.end_for_memory.result _ _ _ (memory_cuts _ _ _ _ _ c.end_for_memory.ensures) (crew_cut false c.args.sim.now _ (crew_same c.args.sim.now _ refl (unstarted_as c.args.sim.now.kernel c.reserve_round.new.self c.in-Err.ensures.kept))) (ap (λ (k : Known). k.setup) c.in-Err.ensures.kept)
 
 pub returns-in-Err-clause-script : goal.returns-in-Err-clause-script
 returns-in-Err-clause-script g c = script_unread g.F.Files.shows c.args.engine.now.plan.script c.args.files.now
@@ -128,13 +143,18 @@ returns-in-Err-round_or_pass-clause-cause g c = memory_cause _ _ _ _ _ _ c.end_f
 pub returns-in-Err-round_or_pass-clause-kept : goal.returns-in-Err-round_or_pass-clause-kept
 returns-in-Err-round_or_pass-clause-kept g c =
     short_kept _ _ c.end_for_memory-in-Err-round_or_pass.result _ _ _ (memory_cuts _ _ _ _ _ c.end_for_memory-in-Err-round_or_pass.ensures)
+    (takes_as true c.args.sim.now c.round_or_pass.new.sim _ c.reserve_round.new.self c.in-Ok.ensures.kept c.in-Err-round_or_pass.ensures.seats.crew refl refl)
     (c.round_or_pass.ensures.seats.setup ∙ ap (λ (k : Known). k.setup) c.in-Ok.ensures.kept)
 
 pub returns-in-Err-put_trace-clause-cause : goal.returns-in-Err-put_trace-clause-cause
 returns-in-Err-put_trace-clause-cause g c = record { write = λ is. c.in-Err-put_trace.ensures.failed; sound = λ isnt. absurd (isnt refl); read = λ is. cc is }
 
 pub returns-in-Err-put_trace-clause-kept : goal.returns-in-Err-put_trace-clause-kept
-returns-in-Err-put_trace-clause-kept g c = record { setup = c.round_or_pass.ensures.seats.setup ∙ ap (λ (k : Known). k.setup) c.in-Ok.ensures.kept; kept = tt }
+returns-in-Err-put_trace-clause-kept g c = record {
+  crew = crew_cut false c.args.sim.now _ (takes_as false c.args.sim.now c.round_or_pass.new.sim _ c.reserve_round.new.self c.in-Ok.ensures.kept c.in-Ok-round_or_pass.ensures.seats.crew refl refl);
+  setup = c.round_or_pass.ensures.seats.setup ∙ ap (λ (k : Known). k.setup) c.in-Ok.ensures.kept;
+  kept = tt;
+}
 
 pub returns-clause-cause : goal.returns-clause-cause
 returns-clause-cause g c = record {
@@ -146,12 +166,14 @@ returns-clause-cause g c = record {
 pub returns-clause-kept : goal.returns-clause-kept
 returns-clause-kept g c =
     let kept = c.requires.going.kept in
-    let seats = c.round_or_pass.ensures.seats in
+    let seats = c.in-Ok-round_or_pass.ensures.seats in
     let setup = seats.setup ∙ ap (λ (k : Known). k.setup) c.in-Ok.ensures.kept in
     let sim = record c.round_or_pass.new.sim { kernel = c.clear_records.new.self; buffer = c.put_trace.new.buffer } in
-    part_kept _ _ _ _ _ _ c.in-Ok-round_or_pass.ensures.script.uncut (ap (λ (k : Known). k.setup) c.clear_records.ensures ∙ setup)
+    part_kept _ _ _ _ _ _ c.in-Ok-round_or_pass.ensures.script.uncut
+    (takes_as false c.args.sim.now c.round_or_pass.new.sim sim c.reserve_round.new.self c.in-Ok.ensures.kept seats.crew refl (ap (λ (k : Known). k.core) c.clear_records.ensures))
+    (ap (λ (k : Known). k.setup) c.clear_records.ensures ∙ setup)
     (kept_on _ c.args.engine.now.plan.deployment.now _ sim c.round_or_pass.new.sim.kernel c.round_or_pass.ensures.fits c.clear_records.ensures (ap (λ (s : Setup). length s.homes) setup ∙ kept.homes) seats.seated
-    (seats.number ∙ kept.number) (omega (arith, seats.calls, kept.calls)) kept.few)
+    (seats.number ∙ kept.number) (omega (arith, seats.calls, kept.calls)) kept.few (front_all (λ b. (goal.Actor-dyn g (b.vtable, b.value)).mind b.value ≡ None) _ _ seats.crew.front kept.blank))
 
 pub returns-clause-steps : goal.returns-clause-steps
 returns-clause-steps g c = next_as c.args.sim.now.kernel c.reserve_round.new.self c.args.steps.now c.round_or_pass.new.steps c.in-Ok.ensures.kept c.round_or_pass.ensures.steps

@@ -1,74 +1,80 @@
-use Rattle.std.proofs.Common.{◌∙◌, ◌++◌, sym, subst, refl, arith, get_or}
+use Rattle.std.proofs.Common.{◌∙◌, ◌++◌, ◌<◌, sym, subst, refl, arith, false, get_or, length}
 use Rattle.sg_kernel.specs.Roads.{AreOver}
 use Rattle.sg_kernel.specs.World.{Setup}
 use Rattle.sg_route.specs.Roads.{Roads}
 use Rattle.sg_script.proofs.Chains.{reads_none}
+use Rattle.sg_engine.specs.Roles.{firsts_of}
 use Rattle.sg_engine.specs.Run.{scene}
+use Rattle.sg_engine.proofs.Creating.{free_may}
+use Rattle.sg_engine.proofs.Crews.{crew_same, crew_then}
 use Rattle.sg_engine.proofs.Reaching.{reached_none}
 use Rattle.sg_engine.proofs.Calls.{rest_from, one_more_call, last_call, all_called, cut_later}
-use Rattle.sg_engine.proofs.Files.{script_then}
+use Rattle.sg_engine.proofs.Files.{script_then, script_unread}
 use Rattle.sg_engine.proofs.Listing.{other_actor}
 use Rattle.sg_engine.proofs.answers.answer_calls.Goals as goal
 
 pub loop-place-init : goal.loop-place-init
 loop-place-init g c = record {
-  reached = λ minds taken world stands. reached_none _ (rest_from (scene c.args.router.now c.args.kernel.now.setup c.args.plan.now.script) c.args.calls.now 0) taken minds _ world (reads_none _ c.requires.fits.begun) stands;
+  reached = λ taken world stands. reached_none _ (rest_from (scene c.args.router.now c.args.sim.now.kernel.setup (firsts_of c.args.plan.now.deployment.now) c.args.plan.now.script) c.args.sim.now.calls.items 0) taken _ _ world (reads_none _ c.requires.fits.begun) stands;
   fits = c.requires.fits;
-  script = record { others = λ q away. refl; unscripted = λ isnt. refl };
+  script = script_unread g.F.Files.shows c.args.plan.now.script c.args.files.now;
   router = refl;
   setup = refl;
   room = omega (arith, c.requires.room);
-  callers = λ j d from below. (c.requires.callers j d below).0;
+  calls = refl;
+  buffer = refl;
+  seats = refl;
+  manned = c.requires.manned;
+  crew = crew_same c.args.sim.now c.args.sim.now refl (omega arith);
+  callers = λ j d from below. free_may c.args.sim.now.kernel.core (get_or c.args.sim.now.calls.items j d).actor.0 (c.requires.callers j d below).0;
 }
 
 pub answer_one-requires-clause-roads : goal.answer_one-requires-clause-roads
-answer_one-requires-clause-roads g c =
-    subst (λ (setup : Setup). AreOver setup.links c.loop-place.router) (sym c.loop-place.invariant.setup)
-    (subst (λ (roads : Roads). AreOver c.args.kernel.now.setup.links roads) (sym c.loop-place.invariant.router) c.requires.roads)
+answer_one-requires-clause-roads g c κs within =
+    (subst (λ (setup : Setup). AreOver setup.links c.loop-place.router) (sym c.loop-place.invariant.setup)
+    (subst (λ (roads : Roads). AreOver c.args.sim.now.kernel.setup.links roads) (sym c.loop-place.invariant.router) c.requires.roads)) κs within
 
 pub returns-in-Ok-Some-clause-step : goal.returns-in-Ok-Some-clause-step
-returns-in-Ok-Some-clause-step g c = λ minds taken world stands.
-    let first = c.loop-place.invariant.reached minds taken world stands in
-    last_call _ _ c.args.router.now c.args.kernel.now.setup c.args.plan.now.script c.args.calls.now c.loop-place.place _ c.in-Ok-Some.how taken minds _ _ _ c.loop-place-test.true c.loop-place.invariant.setup first
-    (rw (c.in-Ok-Some.field-0-is, c.loop-place.invariant.router) at (c.in-Ok-Some.ensures.step minds (taken ++ first.piece) first.world first.stands))
+returns-in-Ok-Some-clause-step g c = λ taken world stands.
+    let inv = c.loop-place.invariant in
+    let first = inv.reached taken world stands in
+    let within : c.loop-place.place < length c.args.sim.now.calls.items = omega (arith, c.loop-place-test.true, c.len-place-end.ensures) in
+    last_call _ _ c.args.router.now c.args.sim.now.kernel.setup (firsts_of c.args.plan.now.deployment.now) c.args.plan.now.script c.args.sim.now.calls.items c.loop-place.place _ c.in-Ok-Some.how taken _ _ _ _ _ within inv.setup first
+    (rw (c.in-Ok-Some.field-0-is, inv.router, c.as_slice.ensures.value, inv.calls) at (c.in-Ok-Some.ensures.step (taken ++ first.piece) first.world first.stands))
 
 pub returns-in-Err-clause-step : goal.returns-in-Err-clause-step
-returns-in-Err-clause-step g c = λ minds taken world stands.
-    let first = c.loop-place.invariant.reached minds taken world stands in
-    cut_later _ _ c.args.router.now c.args.kernel.now.setup c.args.plan.now.script c.args.calls.now c.loop-place.place _ taken minds _ _ _ c.loop-place-test.true c.loop-place.invariant.setup first
-    (rw c.loop-place.invariant.router at (c.in-Err.ensures.step minds (taken ++ first.piece) first.world first.stands))
+returns-in-Err-clause-step g c = λ taken world stands.
+    let inv = c.loop-place.invariant in
+    let first = inv.reached taken world stands in
+    let within : c.loop-place.place < length c.args.sim.now.calls.items = omega (arith, c.loop-place-test.true, c.len-place-end.ensures) in
+    cut_later _ _ c.args.router.now c.args.sim.now.kernel.setup (firsts_of c.args.plan.now.deployment.now) c.args.plan.now.script c.args.sim.now.calls.items c.loop-place.place _ taken _ _ _ _ _ within inv.setup first
+    (rw (inv.router, c.as_slice.ensures.value, inv.calls) at (c.in-Err.ensures.step (taken ++ first.piece) first.world first.stands))
 
 pub loop-place-preserved : goal.loop-place-preserved
 loop-place-preserved g c =
     let inv = c.loop-place.invariant in
+    let one = c.in-Ok-None.ensures.others in
+    let calls = c.args.sim.now.calls.items in
+    let within : c.loop-place.place < length calls = omega (arith, c.loop-place-test.true, c.len-place-end.ensures) in
+    let free = rw (c.as_slice.ensures.value, inv.calls) at one.free in
     record {
-      reached = λ minds taken world stands.
-          let first = inv.reached minds taken world stands in
-          one_more_call _ _ c.args.router.now c.args.kernel.now.setup c.args.plan.now.script c.args.calls.now c.loop-place.place _ taken minds _ _ _ c.loop-place-test.true inv.setup first
-          (rw (c.in-Ok-None.field-0-is, inv.router) at (c.in-Ok-None.ensures.step minds (taken ++ first.piece) first.world first.stands));
+      reached = λ taken world stands.
+          let first = inv.reached taken world stands in
+          one_more_call _ _ c.args.router.now c.args.sim.now.kernel.setup (firsts_of c.args.plan.now.deployment.now) c.args.plan.now.script calls c.loop-place.place _ taken _ _ _ _ _ within inv.setup first
+          (rw (c.in-Ok-None.field-0-is, inv.router, c.as_slice.ensures.value, inv.calls) at (c.in-Ok-None.ensures.step (taken ++ first.piece) first.world first.stands));
       fits = c.in-Ok-None.ensures.fits;
       script = script_then _ _ _ _ _ inv.script c.in-Ok-None.ensures.script.reads;
       router = c.in-Ok-None.ensures.router ∙ inv.router;
-      setup = c.in-Ok-None.ensures.setup ∙ inv.setup;
-      room = omega (arith, inv.room, c.in-Ok-None.ensures.room);
-      callers = λ j d from below.
-          c.in-Ok-None.ensures.free (get_or c.args.calls.now j d).actor.0 (other_actor c.args.calls.now c.loop-place.place j d _ c.requires.rises (omega (arith, from)) below)
-          (inv.callers j d (omega (arith, from)) below);
+      setup = one.setup ∙ inv.setup;
+      room = omega (arith, inv.room, one.room);
+      calls = one.calls ∙ inv.calls;
+      buffer = one.buffer ∙ inv.buffer;
+      seats = one.seats ∙ inv.seats;
+      manned = one.manned;
+      crew = crew_then false c.args.sim.now c.loop-place.sim c.answer_one.new.sim inv.crew one.crew;
+      callers = λ j d from below. free (get_or calls j d).actor.0 (other_actor calls c.loop-place.place j d _ c.requires.rises (omega (arith, from)) below) (inv.callers j d (omega (arith, from)) below);
     }
 
 pub returns-clause-step : goal.returns-clause-step
-returns-clause-step g c = λ minds taken world stands.
-    all_called _ _ (scene c.args.router.now c.args.kernel.now.setup c.args.plan.now.script) c.args.calls.now c.loop-place.place taken minds _ _ c.loop-place-test.false (c.loop-place.invariant.reached minds taken world stands)
-
-pub returns-in-Ok-Some-clause-script : goal.returns-in-Ok-Some-clause-script
-returns-in-Ok-Some-clause-script g c =
-    let one = rw c.in-Ok-Some.field-0-is at c.in-Ok-Some.ensures.script in
-    record { reads = script_then _ _ _ _ _ c.loop-place.invariant.script one.reads; uncut = one.uncut; cause = one.cause }
-
-pub returns-in-Err-clause-script : goal.returns-in-Err-clause-script
-returns-in-Err-clause-script g c =
-    let one = c.in-Err.ensures.script in
-    record { reads = script_then _ _ _ _ _ c.loop-place.invariant.script one.reads; uncut = one.uncut; cause = one.cause }
-
-pub returns-clause-script : goal.returns-clause-script
-returns-clause-script g c = record { reads = c.loop-place.invariant.script; uncut = refl; cause = λ is. cc is }
+returns-clause-step g c = λ taken world stands.
+    all_called _ _ (scene c.args.router.now c.args.sim.now.kernel.setup (firsts_of c.args.plan.now.deployment.now) c.args.plan.now.script) c.args.sim.now.calls.items c.loop-place.place taken _ _ _ (omega (arith, c.loop-place-test.false, c.len-place-end.ensures)) (c.loop-place.invariant.reached taken world stands)

@@ -1,45 +1,30 @@
-use Rattle.std.proofs.Common.{◌∙◌, refl, sym}
-use Rattle.sg_kernel.specs.Calls.{answered}
-use Rattle.sg_engine.specs.Run.{is_ask}
-use Rattle.sg_engine.proofs.Calls.{broken_scripted, fits_scripted, is_scripted, not_unscripted, script_answers, scripted_fits, stepped}
-use Rattle.sg_engine.proofs.Uncut.{uncut_asked}
-use Rattle.sg_engine.proofs.Leaving.{answered_fits, answered_free}
+use Rattle.std.proofs.Common.{◌≡◌, ◌∙◌, ap, false, None, sym, true}
+use Rattle.sg_kernel.specs.World.{Core, state_of}
+use Rattle.sg_script.proofs.Chains.{reads_none}
+use Rattle.sg_states.specs.Actors.{is_ended}
+use Rattle.sg_engine.specs.Run.{at_world}
+use Rattle.sg_engine.specs.kept.Moments.{ending}
+use Rattle.sg_engine.proofs.Creating.{as_created, as_killed, as_other, free_ended, not_ended}
+use Rattle.sg_engine.proofs.Reaching.{matched_as, reached_as, reached_none}
 use Rattle.sg_engine.proofs.answers.answer_one.Goals as goal
 
-pub answer_ask-requires-clause-fits : goal.answer_ask-requires-clause-fits
-answer_ask-requires-clause-fits g c = scripted_fits c.args.plan.now.script _ _ c.args.script.now c.args.kernel.now (is_scripted c.args.plan.now.script (is_ask c.args.made.call) (sym c.asks_script.ensures ∙ c.if-asks_script.true)) c.requires.fits
+pub returns-then-not-alive-clause-step : goal.returns-then-not-alive-clause-step
+returns-then-not-alive-clause-step g c = λ taken world stands.
+    let over : is_ended (state_of world.core c.args.made.actor.0) ≡ true =
+    ap (λ (core : Core). is_ended (state_of core c.args.made.actor.0)) (sym stands.core) ∙ free_ended (state_of c.args.sim.now.kernel.core c.args.made.actor.0) c.requires.caller.free (sym c.alive.ensures ∙ c.if-not-alive.true) in
+    reached_as _ (λ answers. at_world None world) _ (ending None) taken _ _ _ (λ answers. as_killed _ answers c.args.made.actor.0 c.args.made.call world over)
+    (reached_none _ (ending None) taken _ _ world (reads_none _ c.requires.fits.begun) stands)
 
-pub returns-then-asks_script-clause-step : goal.returns-then-asks_script-clause-step
-returns-then-asks_script-clause-step g c = λ minds taken world stands.
-    script_answers c.args.plan.now.script _ c.args.router.now c.args.kernel.now.setup c.args.made.actor.0 c.args.made.call taken minds world _ _ c.args.script.now c.answer_ask.new.script c.args.kernel.now c.answer_ask.new.kernel c.answer_ask.result (sym c.asks_script.ensures ∙ c.if-asks_script.true) (c.answer_ask.ensures.step minds taken world) stands
+pub returns-in-Some-clause-step : goal.returns-in-Some-clause-step
+returns-in-Some-clause-step g c = λ taken world stands.
+    let alive : is_ended (state_of world.core c.args.made.actor.0) ≡ false =
+    ap (λ (core : Core). is_ended (state_of core c.args.made.actor.0)) (sym stands.core) ∙ not_ended (state_of c.args.sim.now.kernel.core c.args.made.actor.0) (sym c.alive.ensures ∙ c.if-not-alive.false) in
+    matched_as world.work c.answer_create.result _ _ _ taken _ _ _ (λ answers. as_created _ answers c.args.made.actor.0 c.args.made.call c.in-Some.target world alive (sym c.created.ensures ∙ c.in-Some.is))
+    (c.answer_create.ensures.step _ c.requires.fits.begun taken world stands)
 
-pub returns-then-asks_script-clause-fits : goal.returns-then-asks_script-clause-fits
-returns-then-asks_script-clause-fits g c = fits_scripted c.args.plan.now.script _ _ c.answer_ask.new.script c.answer_ask.new.kernel (is_scripted c.args.plan.now.script (is_ask c.args.made.call) (sym c.asks_script.ensures ∙ c.if-asks_script.true)) c.answer_ask.ensures.fits
-
-pub returns-then-asks_script-clause-script : goal.returns-then-asks_script-clause-script
-returns-then-asks_script-clause-script g c =
-    let scripted = (is_scripted c.args.plan.now.script (is_ask c.args.made.call) (sym c.asks_script.ensures ∙ c.if-asks_script.true)) in
-    record {
-      reads = record { others = c.answer_ask.ensures.others; unscripted = λ isnt. not_unscripted c.args.plan.now.script scripted isnt };
-      uncut = uncut_asked c.args.plan.now.script c.answer_ask.result scripted c.answer_ask.ensures.uncut;
-      cause = λ is. broken_scripted c.args.plan.now.script _ scripted (c.answer_ask.ensures.read is);
-    }
-
-pub returns-else-asks_script-clause-script : goal.returns-else-asks_script-clause-script
-returns-else-asks_script-clause-script g c = record {
-  reads = record { others = λ q away. refl; unscripted = λ isnt. refl };
-  uncut = c.end_of.ensures.uncut;
-  cause = λ is. absurd (c.end_of.ensures.no_fault (cc is));
-}
-
-pub returns-else-asks_script-clause-step : goal.returns-else-asks_script-clause-step
-returns-else-asks_script-clause-step g c = λ minds taken world stands.
-    let old = c.args.kernel.now in
-    rw (sym c.asks_script.ensures ∙ c.if-asks_script.false)
-    (stepped _ taken minds _ _ old c.answer.new.self _ world (λ core. answered c.args.router.now old.setup core c.args.made.actor.0 c.args.made.call) c.end_of.result c.requires.fits.begun stands c.answer.ensures.step (c.end_of.ensures.is _ c.answer.ensures.result))
-
-pub returns-else-asks_script-clause-fits : goal.returns-else-asks_script-clause-fits
-returns-else-asks_script-clause-fits g c = answered_fits _ _ _ c.args.router.now c.args.kernel.now c.answer.new.self c.args.made.actor.0 c.args.made.call _ c.requires.caller.from c.answer.ensures.step c.requires.fits
-
-pub returns-else-asks_script-clause-free : goal.returns-else-asks_script-clause-free
-returns-else-asks_script-clause-free g c = answered_free c.args.router.now c.args.kernel.now c.answer.new.self c.args.made.actor.0 c.args.made.call _ c.requires.caller.from c.answer.ensures.step
+pub returns-in-None-clause-step : goal.returns-in-None-clause-step
+returns-in-None-clause-step g c = λ taken world stands.
+    let alive : is_ended (state_of world.core c.args.made.actor.0) ≡ false =
+    ap (λ (core : Core). is_ended (state_of core c.args.made.actor.0)) (sym stands.core) ∙ not_ended (state_of c.args.sim.now.kernel.core c.args.made.actor.0) (sym c.alive.ensures ∙ c.if-not-alive.false) in
+    matched_as world.work c.answer_other.result _ _ _ taken _ _ _ (λ answers. as_other _ answers c.args.made.actor.0 c.args.made.call world alive (sym c.created.ensures ∙ c.in-None.is))
+    (c.answer_other.ensures.step _ taken world stands)

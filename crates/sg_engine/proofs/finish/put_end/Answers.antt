@@ -1,10 +1,6 @@
+use Rattle.std.proofs.Common.{◌∙◌, sym}
+use Rattle.sg_engine.proofs.PutLines.{puts_then}
 use Rattle.sg_engine.proofs.finish.put_end.Goals as goal
 
-pub returns-in-Completed : goal.returns-in-Completed
-returns-in-Completed g c = rw c.in-Completed.is c.put_completed.ensures
-
-pub returns-in-Deadlock : goal.returns-in-Deadlock
-returns-in-Deadlock g c = rw (c.in-Deadlock.is, ← c.date-date.ensures.is) c.put_stuck.ensures
-
-pub returns-in-Starved : goal.returns-in-Starved
-returns-in-Starved g c = rw (c.in-Starved.is, ← c.date-date.ensures.is) c.put_stuck-in-Starved.ensures
+pub returns-then-tells_energy : goal.returns-then-tells_energy
+returns-then-tells_energy g c = rw (sym c.tells_energy.ensures ∙ c.if-tells_energy.true) (puts_then c.args.buffer.now _ _ _ _ c.put_energy.result _ _ _ _ _ c.in-Ok.ensures c.put_energy.ensures)

@@ -1,11 +1,9 @@
-use Rattle.std.proofs.Common.{◌∙◌, ap, Some}
-use Rattle.sg_actor.specs.declared.role.Role.{Role}
-use Rattle.sg_actor.specs.Roles.{mind_of}
-use Rattle.sg_engine.specs.Roles.{role_of}
-use Rattle.sg_engine.proofs.Castings.{seated_first}
+use Rattle.std.proofs.Common.{subst, sym}
+use Rattle.std.specs.Prelude.{IfSome}
+use Rattle.sg_base.specs.Mind.{IsMind}
+use Rattle.sg_engine.proofs.Castings.{first_limited, seated_first}
 use Rattle.sg_engine.proofs.seating.seat.Goals as goal
 
 pub returns-clause-seated : goal.returns-clause-seated
 returns-clause-seated g c = λ extent is.
-    let role = role_of c.args.me.0 c.args.function.now in
-    seated_first extent _ (mind_of role) (c.in_ok-cast.ensures.ok ∙ ap (λ (r : Role). Some (mind_of r)) c.in_ok-role.ensures) (c.roles_keep_limits.ensures extent role is)
+    seated_first extent _ (subst (λ o. IfSome o (IsMind extent)) (sym c.in_ok-starter.ensures.mind) (first_limited extent c.args.me.0 c.args.row.now (c.roles_keep_limits.ensures extent _ is)))

@@ -42,19 +42,19 @@ loop-actor-preserved g c =
     let states = c.args.kernel.now.core.actors in
     let places = seat_views g.A.Actor.mind c.args.seats.now in
     let long : length places ≡ length states = length-map c.args.seats.now _ ∙ c.requires.number in
-    let mine = change_was _ at_rest idle_rests c.args.seats.now c.loop-actor.seats states queue k c.index-seats-actor.result is c.loop-actor-test.true c.requires.number c.requires.ready inv.at_rest in
+    let mine = change_was _ at_rest idle_rests c.args.seats.now c.loop-actor.seats states queue k c.index-seats-actor.result is c.loop-actor-test.true c.requires.number c.requires.queued inv.at_rest in
     record {
-      at_rest = change_next _ at_rest idle_rests c.args.seats.now c.loop-actor.seats states queue k c.index-seats-actor.result c.collect_one-call.new.seat is c.loop-actor-test.true c.requires.number c.requires.ready inv.at_rest c.collect_one-call.ensures.seat;
-      calls = called_on places states queue k c.loop-actor.calls.items c.keep.new.calls.items c.collect_one-call.result _ is c.loop-actor-test.true c.requires.ready long inv.calls c.keep.ensures.items (c.collect_one-call.ensures.call ∙ ap call_in mine);
+      at_rest = change_next _ at_rest idle_rests c.args.seats.now c.loop-actor.seats states queue k c.index-seats-actor.result c.collect_one-call.new.seat is c.loop-actor-test.true c.requires.number c.requires.queued inv.at_rest c.collect_one-call.ensures.seat;
+      calls = called_on places states queue k c.loop-actor.calls.items c.keep.new.calls.items c.collect_one-call.result _ is c.loop-actor-test.true c.requires.queued long inv.calls c.keep.ensures.items (c.collect_one-call.ensures.call ∙ ap call_in mine);
       room = c.keep.ensures.room ∙ inv.room;
     }
 
 pub returns-clause-seats : goal.returns-clause-seats
 returns-clause-seats g c =
-    changes_end _ at_rest idle_rests c.args.seats.now c.loop-actor.seats c.args.kernel.now.core.actors c.run_queue-queue.result.now c.loop-actor.actor-index c.run_queue-queue.ensures c.loop-actor.auto.actor-index-end c.loop-actor-test.false c.requires.number c.requires.ready c.loop-actor.invariant.at_rest
+    changes_end _ at_rest idle_rests c.args.seats.now c.loop-actor.seats c.args.kernel.now.core.actors c.run_queue-queue.result.now c.loop-actor.actor-index c.run_queue-queue.ensures c.loop-actor.auto.actor-index-end c.loop-actor-test.false c.requires.number c.requires.queued c.loop-actor.invariant.at_rest
 
 pub returns-clause-calls : goal.returns-clause-calls
 returns-clause-calls g c =
     c.loop-actor.invariant.calls
-    ∙ all_called (seat_views g.A.Actor.mind c.args.seats.now) c.args.kernel.now.core.actors c.run_queue-queue.result.now c.loop-actor.actor-index c.run_queue-queue.ensures c.loop-actor.auto.actor-index-end c.loop-actor-test.false c.requires.ready
+    ∙ all_called (seat_views g.A.Actor.mind c.args.seats.now) c.args.kernel.now.core.actors c.run_queue-queue.result.now c.loop-actor.actor-index c.run_queue-queue.ensures c.loop-actor.auto.actor-index-end c.loop-actor-test.false c.requires.queued
     (length-map c.args.seats.now _ ∙ c.requires.number)

@@ -6,24 +6,24 @@ use Rattle.sg_kernel.specs.World.{extent}
 use Rattle.sg_engine.specs.declared.actor_call.ActorCall.{ActorCall}
 use Rattle.sg_engine.specs.kept.CallList.{call_list}
 use Rattle.sg_engine.proofs.Listing.{calls_limited}
-use Rattle.sg_engine.proofs.SeatSteps.{calls_made, cast_offered, limited_turned, minds_turned, ready_offered, ready_turned, seated_again}
+use Rattle.sg_engine.proofs.SeatSteps.{calls_made, can_offered, limited_turned, minds_turned, queued_offered, queued_turned, seated_again}
 use Rattle.sg_engine.proofs.turns.take_turns.Goals as goal
 
-pub turn_all-requires-clause-ready : goal.turn_all-requires-clause-ready
-turn_all-requires-clause-ready g c κs within = ready_offered (extent c.args.kernel.now.setup) _ _ c.args.kernel.now.core.actors c.offer.ensures.with_answer (sym c.requires.number ∙ sym (length-map c.args.seats.now _)) c.requires.seated
+pub turn_all-requires-clause-queued : goal.turn_all-requires-clause-queued
+turn_all-requires-clause-queued g c κs within = queued_offered (extent c.args.kernel.now.setup) _ _ c.args.kernel.now.core.actors c.offer.ensures.with_answer (sym c.requires.number ∙ sym (length-map c.args.seats.now _)) c.requires.seated
 
-pub turn_all-requires-clause-cast : goal.turn_all-requires-clause-cast
-turn_all-requires-clause-cast g c κs within = cast_offered (extent c.args.kernel.now.setup) _ _ _ c.offer.ensures.with_answer c.requires.seated
+pub turn_all-requires-clause-can : goal.turn_all-requires-clause-can
+turn_all-requires-clause-can g c κs within = can_offered (extent c.args.kernel.now.setup) _ _ _ c.offer.ensures.with_answer c.requires.seated
 
-pub collect-requires-clause-ready : goal.collect-requires-clause-ready
-collect-requires-clause-ready g c =
-    ready_turned _ _ c.turn_all.ensures
-    ∙ ready_offered (extent c.args.kernel.now.setup) _ _ c.args.kernel.now.core.actors c.offer.ensures.with_answer (sym c.requires.number ∙ sym (length-map c.args.seats.now _)) c.requires.seated
+pub collect-requires-clause-queued : goal.collect-requires-clause-queued
+collect-requires-clause-queued g c =
+    queued_turned _ _ c.args.kernel.now.core.actors c.turn_all.ensures
+    (queued_offered (extent c.args.kernel.now.setup) _ _ c.args.kernel.now.core.actors c.offer.ensures.with_answer (sym c.requires.number ∙ sym (length-map c.args.seats.now _)) c.requires.seated)
 
 pub returns-clause-seated : goal.returns-clause-seated
 returns-clause-seated g c =
     let extent = extent c.args.kernel.now.setup in
-    seated_again extent _ _ _ _ _ c.offer.ensures.with_answer c.turn_all.ensures c.collect.ensures.seats c.requires.seated (limited_turned extent _ _ c.turn_all.ensures (c.seats_keep_limits.ensures extent) c.offer.ensures.limited)
+    seated_again extent _ _ c.collect.ensures.seats (limited_turned extent _ _ c.turn_all.ensures (c.seats_keep_limits.ensures extent) c.offer.ensures.limited)
 
 pub returns-clause-minds : goal.returns-clause-minds
 returns-clause-minds g c = minds_turned (extent c.args.kernel.now.setup) _ _ _ _ _ c.offer.ensures.with_answer c.turn_all.ensures c.collect.ensures.seats c.requires.seated

@@ -1,12 +1,17 @@
-use Rattle.std.proofs.Common.{◌∙◌, ap, sym, arith}
+use Rattle.std.proofs.Common.{◌∙◌, ap, sym, arith, length}
+use Rattle.sg_engine.specs.kept.Invariant.{crew_in}
+use Rattle.sg_kernel.specs.World.{Setup}
 use Rattle.sg_edge.specs.declared.files.Part.TheVariants.{Script}
-use Rattle.sg_engine.proofs.Endings.{run_ends, run_cut, run_needed, run_work, is_going, goes_on_telling, keeps_name, broken_part, in_cut, in_over}
+use Rattle.sg_engine.proofs.Endings.{run_ends, run_cut, run_left, run_left_cut, run_needed, run_work, is_going, goes_on_telling, keeps_name, broken_part, in_cut, in_over}
 use Rattle.sg_engine.proofs.whole_run.run_from.Goals as goal
 
 pub finish-requires-clause-of : goal.finish-requires-clause-of
 finish-requires-clause-of g c =
     let kept = in_over _ _ (sym c.is_cut.ensures ∙ c.if-is_cut.false) c.simulate-how.ensures.kept in
     record { number = kept.fits.actors; extent = kept.fits.extent; few = omega (arith, kept.fits.actors, kept.few) }
+
+pub finish-requires-clause-hosts : goal.finish-requires-clause-hosts
+finish-requires-clause-hosts g c = sym (ap (λ (setup : Setup). setup.hosts) (c.simulate-how.ensures.crew.setup ∙ c.requires.beginning.first.setup))
 
 pub finish-requires-clause-how : goal.finish-requires-clause-how
 finish-requires-clause-how g c = sym c.is_cut.ensures ∙ c.if-is_cut.false
@@ -15,13 +20,14 @@ pub returns-then-is_cut-clause-output : goal.returns-then-is_cut-clause-output
 returns-then-is_cut-clause-output g c = λ source gives.
     let going = is_going c.args.engine.now.plan.script _ _ source (λ over. g.met.F.Files.nothing_left c.simulate-how.new.files Script over) gives in
     let cut = in_cut _ _ (sym c.is_cut.ensures ∙ c.if-is_cut.true) c.simulate-how.ensures.run in record {
-      ends = run_cut c.args.engine.now.plan.platform.now c.args.engine.now.plan.deployment.now c.args.engine.now.plan.script c.args.engine.now.plan.terms.budget c.args.engine.now.plan.terms.show c.simulate-how.result _ _ _ _ source
+      ends = run_cut (length c.simulate-how.new.sim.crew.items) c.args.engine.now.plan.platform.now c.args.engine.now.plan.deployment.now c.args.engine.now.plan.script c.args.engine.now.plan.terms.budget (crew_in c.args.engine.now.plan c.args.sim.now) c.args.engine.now.plan.terms.show c.simulate-how.result _ _ _ _ source
           going
           (sym c.is_cut.ensures ∙ c.if-is_cut.true)
           cut.cut
           c.simulate-how.ensures.err;
+      contexts = run_left_cut (length c.simulate-how.new.sim.crew.items) c.args.engine.now.plan.platform.now c.args.engine.now.plan.deployment.now c.args.engine.now.plan.script c.args.engine.now.plan.terms.budget (crew_in c.args.engine.now.plan c.args.sim.now) c.args.engine.now.plan.terms.show c.simulate-how.result _ _ _ _ source going (sym c.is_cut.ensures ∙ c.if-is_cut.true) cut.cut;
       work = cut.worked source (going cut.cut.piece cut.cut.reads);
-      needed = run_needed c.args.engine.now.plan.platform.now c.args.engine.now.plan.deployment.now c.args.engine.now.plan.script c.args.engine.now.plan.terms.budget c.args.engine.now.plan.terms.show cut.cut.piece _ _ source going cut.cut.reads
+      needed = run_needed c.args.engine.now.plan.platform.now c.args.engine.now.plan.deployment.now c.args.engine.now.plan.script c.args.engine.now.plan.terms.budget (crew_in c.args.engine.now.plan c.args.sim.now) c.args.engine.now.plan.terms.show cut.cut.piece _ _ source going cut.cut.reads
           (λ isnt. ap (λ (f : _). g.F.Files.shows f Script) (c.simulate-how.ensures.script.unscripted isnt)) cut.cut.needed;
     }
 
@@ -47,10 +53,11 @@ returns-else-is_cut-clause-output g c = λ source gives.
     let going = is_going c.args.engine.now.plan.script _ _ source (λ over. g.met.F.Files.nothing_left c.simulate-how.new.files Script over) gives in
     let over = in_over _ _ (sym c.is_cut.ensures ∙ c.if-is_cut.false) c.simulate-how.ensures.run in
     record {
-      ends = run_ends c.args.steps.now c.simulate-how.new.steps c.args.engine.now.plan.platform.now c.args.engine.now.plan.deployment.now c.args.engine.now.plan.script c.args.engine.now.plan.terms.budget c.args.engine.now.plan.terms.show c.simulate-how.result c.finish.result c.simulate-how.new.sim.kernel.core _ _ c.simulate-how.new.sim.buffer _ _ _ source
+      ends = run_ends c.args.steps.now c.simulate-how.new.steps (length c.simulate-how.new.sim.crew.items) c.args.engine.now.plan.platform.now c.args.engine.now.plan.deployment.now c.args.engine.now.plan.script c.args.engine.now.plan.terms.budget (crew_in c.args.engine.now.plan c.args.sim.now) c.args.engine.now.plan.terms.show c.simulate-how.result c.finish.result c.simulate-how.new.sim.kernel.core _ _ c.simulate-how.new.sim.buffer _ _ _ source
           going over c.simulate-how.ensures.err c.finish.ensures.ends;
-      work = run_work c.args.steps.now c.simulate-how.new.steps c.args.engine.now.plan.platform.now c.args.engine.now.plan.deployment.now c.args.engine.now.plan.script c.args.engine.now.plan.terms.budget c.args.engine.now.plan.terms.show c.simulate-how.result c.simulate-how.new.sim.kernel.core _ _ _ _ source going over;
-      needed = run_needed c.args.engine.now.plan.platform.now c.args.engine.now.plan.deployment.now c.args.engine.now.plan.script c.args.engine.now.plan.terms.budget c.args.engine.now.plan.terms.show over.piece _ _ source going over.reads
+      contexts = run_left c.args.steps.now c.simulate-how.new.steps (length c.simulate-how.new.sim.crew.items) c.args.engine.now.plan.platform.now c.args.engine.now.plan.deployment.now c.args.engine.now.plan.script c.args.engine.now.plan.terms.budget (crew_in c.args.engine.now.plan c.args.sim.now) c.args.engine.now.plan.terms.show c.simulate-how.result c.finish.result c.simulate-how.new.sim.kernel.core _ _ _ _ source going over;
+      work = run_work c.args.steps.now c.simulate-how.new.steps (length c.simulate-how.new.sim.crew.items) c.args.engine.now.plan.platform.now c.args.engine.now.plan.deployment.now c.args.engine.now.plan.script c.args.engine.now.plan.terms.budget (crew_in c.args.engine.now.plan c.args.sim.now) c.args.engine.now.plan.terms.show c.simulate-how.result c.simulate-how.new.sim.kernel.core _ _ _ _ source going over;
+      needed = run_needed c.args.engine.now.plan.platform.now c.args.engine.now.plan.deployment.now c.args.engine.now.plan.script c.args.engine.now.plan.terms.budget (crew_in c.args.engine.now.plan c.args.sim.now) c.args.engine.now.plan.terms.show over.piece _ _ source going over.reads
           (λ isnt. ap (λ (f : _). g.F.Files.shows f Script) (c.simulate-how.ensures.script.unscripted isnt)) over.needed;
     }
 

@@ -1,4 +1,4 @@
-use Rattle.std.proofs.Common.{◌≡◌, ◌≤◌, ◌∙◌, ◌+◌, ◌-◌, suc, sym, ap, ap₂, refl, arith, None, Some, [], subst}
+use Rattle.std.proofs.Common.{◌≡◌, ◌≤◌, ◌∙◌, ◌+◌, ◌-◌, suc, sym, ap, ap₂, refl, arith, false, None, Some, [], subst}
 use Rattle.sg_edge.specs.declared.files.Part.TheVariants.{Script}
 use Rattle.sg_edge.specs.declared.sinks.Stream.TheVariants.{Out}
 use Rattle.sg_kernel.specs.Roads.{AreOver}
@@ -10,10 +10,12 @@ use Rattle.sg_engine.specs.declared.ended.Ended.{Ended}
 use Rattle.sg_engine.specs.declared.ended.Ended.TheVariants as ended
 use Rattle.sg_engine.specs.RunContract.{is_cut}
 use Rattle.sg_engine.specs.kept.Moments.{script_part}
-use Rattle.sg_engine.specs.kept.Invariant.{at_moment}
+use Rattle.sg_engine.specs.kept.Invariant.{at_moment, crew_in}
 use Rattle.sg_engine.specs.kept.Writing.{pending}
 use Rattle.sg_engine.specs.Output.{first_of, trace_of, scene_of}
+use Rattle.sg_engine.specs.Roles.{firsts_of}
 use Rattle.sg_engine.specs.Run.{scene, run_of, run_from, next_work}
+use Rattle.sg_engine.proofs.Crews.{crew_all, crew_same, crew_then}
 use Rattle.sg_engine.proofs.Files.{script_then, script_unread}
 use Rattle.sg_engine.proofs.Simulating.{rest_of, far_first, far_on, far_ends, completed, part_as, trace_appends, trace_none, used_up, work_more}
 use Rattle.sg_engine.proofs.Uncut.{none_not}
@@ -23,7 +25,7 @@ pub loop-turn-init : goal.loop-turn-init
 loop-turn-init g c =
     let platform = c.args.engine.now.plan.platform.now in
     let deployed = c.args.engine.now.plan.deployment.now in
-    let origin = first_of platform deployed c.args.engine.now.plan.terms.budget in
+    let origin = first_of platform deployed c.args.engine.now.plan.terms.budget (crew_in c.args.engine.now.plan c.args.sim.now) in
     let at = scene_of platform deployed c.args.engine.now.plan.script c.args.engine.now.plan.terms.budget in
     let first = c.requires.beginning.first in
     let none : c.args.engine.now.plan.terms.budget + 1 - 0 ≡ c.args.engine.now.plan.terms.budget + 1 = omega arith in
@@ -33,6 +35,7 @@ loop-turn-init g c =
           (λ answers. sym (ap (λ n. run_from n at answers origin) none))
           refl (trace_none c.args.engine.now.plan.terms.show platform deployed) first.empty;
       kept = first.kept;
+      crew = crew_same c.args.sim.now c.args.sim.now refl (omega arith);
       router = refl;
       same = first.setup;
       err = refl;
@@ -62,7 +65,7 @@ pub returns-in-Some-clause-run : goal.returns-in-Some-clause-run
 returns-in-Some-clause-run g c =
     let platform = c.args.engine.now.plan.platform.now in
     let deployed = c.args.engine.now.plan.deployment.now in
-    let origin = first_of platform deployed c.args.engine.now.plan.terms.budget in
+    let origin = first_of platform deployed c.args.engine.now.plan.terms.budget (crew_in c.args.engine.now.plan c.args.sim.now) in
     let at = scene_of platform deployed c.args.engine.now.plan.script c.args.engine.now.plan.terms.budget in
     let names = known_in deployed in
     let trace = trace_of c.args.engine.now.plan.terms.show platform deployed in
@@ -77,9 +80,9 @@ returns-in-Some-clause-run g c =
     let before = pending (g.O.Sinks.contents c.loop-turn.out Out) c.loop-turn.sim.buffer in
     let after = pending (g.O.Sinks.contents c.advance.new.out Out) c.advance.new.sim.buffer in
     let leads = rw inv.router at c.in-Some.ensures.part in
-    let part = leads.1 far.reached.piece far.reached.world (record { script = far.reached.stands.script; core = far.reached.stands.core; minds = far.reached.stands.minds }) in
+    let part = leads.1 far.reached.piece far.reached.world (record { script = far.reached.stands.script; core = far.reached.stands.core; cast = far.reached.stands.cast }) in
     let next = far.reached.world.work + next_work far.reached.world.core in
-    let same : scene c.args.router.now c.loop-turn.sim.kernel.setup c.args.engine.now.plan.script ≡ at = ap₂ (λ (r : Roads) (t : Setup). scene r t c.args.engine.now.plan.script) c.requires.beginning.roads.are inv.same in
+    let same : scene c.args.router.now c.loop-turn.sim.kernel.setup (firsts_of deployed) c.args.engine.now.plan.script ≡ at = ap₂ (λ (r : Roads) (t : Setup). scene r t (firsts_of deployed) c.args.engine.now.plan.script) c.requires.beginning.roads.are inv.same in
     let part' = part_as next names trace _ at (Some how) far.reached.piece _ far.reached.world old new before after same part in
     let worked : c.advance.new.steps ≤ c.args.steps.now + next =
     work_more c.args.steps.now c.loop-turn.steps c.advance.new.steps far.spent far.reached.world.work (next_work c.loop-turn.sim.kernel.core) (next_work far.reached.world.core) far.worked far.reached.work
@@ -91,7 +94,7 @@ pub loop-turn-preserved : goal.loop-turn-preserved
 loop-turn-preserved g c =
     let platform = c.args.engine.now.plan.platform.now in
     let deployed = c.args.engine.now.plan.deployment.now in
-    let origin = first_of platform deployed c.args.engine.now.plan.terms.budget in
+    let origin = first_of platform deployed c.args.engine.now.plan.terms.budget (crew_in c.args.engine.now.plan c.args.sim.now) in
     let at = scene_of platform deployed c.args.engine.now.plan.script c.args.engine.now.plan.terms.budget in
     let names = known_in deployed in
     let trace = trace_of c.args.engine.now.plan.terms.show platform deployed in
@@ -105,9 +108,9 @@ loop-turn-preserved g c =
     let before = pending (g.O.Sinks.contents c.loop-turn.out Out) c.loop-turn.sim.buffer in
     let after = pending (g.O.Sinks.contents c.advance.new.out Out) c.advance.new.sim.buffer in
     let leads = rw inv.router at c.in-None.ensures.part in
-    let part = leads.1 far.reached.piece far.reached.world (record { script = far.reached.stands.script; core = far.reached.stands.core; minds = far.reached.stands.minds }) in
+    let part = leads.1 far.reached.piece far.reached.world (record { script = far.reached.stands.script; core = far.reached.stands.core; cast = far.reached.stands.cast }) in
     let next = far.reached.world.work + next_work far.reached.world.core in
-    let same : scene c.args.router.now c.loop-turn.sim.kernel.setup c.args.engine.now.plan.script ≡ at = ap₂ (λ (r : Roads) (t : Setup). scene r t c.args.engine.now.plan.script) c.requires.beginning.roads.are inv.same in
+    let same : scene c.args.router.now c.loop-turn.sim.kernel.setup (firsts_of deployed) c.args.engine.now.plan.script ≡ at = ap₂ (λ (r : Roads) (t : Setup). scene r t (firsts_of deployed) c.args.engine.now.plan.script) c.requires.beginning.roads.are inv.same in
     let part' = part_as next names trace _ at None far.reached.piece _ far.reached.world old new before after same part in
     let worked : c.advance.new.steps ≤ c.args.steps.now + next =
     work_more c.args.steps.now c.loop-turn.steps c.advance.new.steps far.spent far.reached.world.work (next_work c.loop-turn.sim.kernel.core) (next_work far.reached.world.core) far.worked far.reached.work
@@ -116,6 +119,7 @@ loop-turn-preserved g c =
       far = far_on c.args.steps.now c.loop-turn.steps c.advance.new.steps names trace (trace_appends c.args.engine.now.plan.terms.show platform deployed) (run_of at origin) n m at _ _
           _ _ _ _ _ _ c.args.sim.now.kernel c.loop-turn.sim.kernel c.advance.new.sim.kernel (pending (g.O.Sinks.contents c.args.out.now Out) []) before after far more (sym c.ending.ensures.is ∙ c.if-ending.false) c.requires.beginning.first.kept.cleared inv.kept.cleared part' worked;
       kept = c.in-None.ensures.kept.kept;
+      crew = crew_then false c.args.sim.now c.loop-turn.sim c.advance.new.sim inv.crew c.in-None.ensures.kept.crew;
       router = c.in-None.ensures.router ∙ inv.router;
       same = c.in-None.ensures.kept.setup ∙ inv.same;
       err = c.in-None.ensures.part.0 ∙ inv.err;
@@ -155,3 +159,13 @@ returns-in-Some-clause-kept g c = c.in-Some.ensures.kept.kept
 
 pub returns-in-Some-clause-err : goal.returns-in-Some-clause-err
 returns-in-Some-clause-err g c = c.in-Some.ensures.part.0 ∙ c.loop-turn.invariant.err
+
+pub returns-then-ending-clause-crew : goal.returns-then-ending-clause-crew
+returns-then-ending-clause-crew g c = crew_all false c.args.sim.now c.loop-turn.sim (c.loop-turn.invariant.same ∙ sym c.requires.beginning.first.setup) c.loop-turn.invariant.crew
+
+pub returns-in-Some-clause-crew : goal.returns-in-Some-clause-crew
+returns-in-Some-clause-crew g c =
+    crew_all (is_cut c.in-Some.how) c.args.sim.now c.advance.new.sim (c.in-Some.ensures.kept.setup ∙ c.loop-turn.invariant.same ∙ sym c.requires.beginning.first.setup) (crew_then (is_cut c.in-Some.how) c.args.sim.now c.loop-turn.sim c.advance.new.sim c.loop-turn.invariant.crew c.in-Some.ensures.kept.crew)
+
+pub returns-clause-crew : goal.returns-clause-crew
+returns-clause-crew g c = crew_all false c.args.sim.now c.loop-turn.sim (c.loop-turn.invariant.same ∙ sym c.requires.beginning.first.setup) c.loop-turn.invariant.crew

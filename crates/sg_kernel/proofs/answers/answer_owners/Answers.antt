@@ -5,6 +5,7 @@ use Rattle.sg_kernel.specs.Known.{Known, after}
 use Rattle.sg_kernel.specs.Answers.{answers, answers_side, for_receiver}
 use Rattle.sg_kernel.specs.kept.Sound.{core_of, known_of}
 use Rattle.sg_kernel.proofs.Ends.{after_both}
+use Rattle.sg_kernel.proofs.Moves.{keeps_both}
 use Rattle.sg_kernel.proofs.answers.answer_owners.Goals as goal
 
 pub returns-in-Pair-clause-known : goal.returns-in-Pair-clause-known
@@ -17,3 +18,6 @@ returns-in-Pair-clause-known c =
     ∙ ap (λ (k : Known). after (answers_side c.args.over c.args.serial.0 party.Receiver (for_receiver sender receiver) k.core) k) c.answer_side-in-Pair.ensures.known
     ∙ after_both c.args.over c.args.serial.0 sender receiver (known_of old)
     ∙ ap (λ w. after (answers c.args.over c.args.serial.0 w (core_of old)) (known_of old)) (sym c.in-Pair.is)
+
+pub returns-in-Pair-clause-keeps : goal.returns-in-Pair-clause-keeps
+returns-in-Pair-clause-keeps c = keeps_both c.args.fields.now c.answer_side-in-Pair.new.fields c.answer_side-in-Pair-2.new.fields c.answer_side-in-Pair.ensures.keeps c.answer_side-in-Pair-2.ensures.keeps

@@ -4,11 +4,12 @@ use Rattle.sg_base.specs.declared.call.Call.TheVariants as call
 use Rattle.sg_base.specs.declared.call.Msg.{Msg}
 use Rattle.sg_base.specs.Limits.{Extent, IsAmount, IsAnswer, IsMsg}
 use Rattle.sg_states.specs.declared.state.State.TheVariants.{Ready, Blocked}
-use Rattle.sg_states.specs.Actors.{is_blocked, is_held, state_at, IsActor}
+use Rattle.sg_states.specs.Actors.{is_blocked, state_at, IsActor}
 use Rattle.sg_states.specs.States.{ActorStates, KeepsLimits}
 use Rattle.sg_kernel.specs.declared.owners.How.{How}
 use Rattle.sg_kernel.specs.declared.owners.How.TheVariants as how
 use Rattle.sg_kernel.specs.Answers.{answer_of_done, answer_to}
+use Rattle.sg_kernel.specs.kept.Sound.{is_queued}
 use Rattle.sg_kernel.proofs.Limits.{homes_counted}
 use Rattle.sg_kernel.proofs.Moves.{moves_replied, whole_answered}
 use Rattle.sg_kernel.proofs.answers.answer_side.Goals as goal
@@ -27,6 +28,11 @@ done_limited ex (call.Unlock n) m h = tt
 done_limited ex (call.Acquire n) m h = tt
 done_limited ex (call.Release n) m h = tt
 done_limited ex call.Barrier m h = tt
+done_limited ex (call.Create n) m h = tt
+done_limited ex (call.Join n) m h = tt
+done_limited ex (call.Kill n) m h = tt
+done_limited ex (call.Suspend n) m h = tt
+done_limited ex (call.Resume n) m h = tt
 done_limited ex call.Yield m h = tt
 done_limited ex call.Exit m h = tt
 
@@ -74,9 +80,9 @@ returns-in-Blocked-default-default-Some-clause-keeps c =
     let answer = c.answer_to-answer.result in
     let on : inside.field-2 ≡ Some inside.on = search rules in
     let state : Blocked inside.what inside.since (Some inside.on) ≡ state_at old.states.actors given.actor.0 = sym (sym c.state.ensures.is ∙ inside.is ∙ ap (λ o. Blocked inside.what inside.since o) on) in
-    let isnt : is_held (state_at old.states.actors given.actor.0) ≡ false = ap is_held (sym state) in
+    let isnt : is_queued (state_at old.states.actors given.actor.0) ≡ false = ap is_queued (sym state) in
     let moves = moves_replied old.states new given.actor.0 inside.what inside.since c.bytes_told-bytes.result answer c.date-date.result c.reply.ensures in
     let room = ap (λ (s : ActorStates). s.room) c.reply.ensures in
     let long = homes_counted old c.requires.sound in
     let is : IsActor old.states.actors given.actor.0 = record { from = c.requires.given.actor.0; to = omega (arith, c.requires.given.actor.1, long) } in
-    whole_answered old new given.actor (Ready answer) is refl isnt moves room c.requires.sound
+    whole_answered old new given.actor (Ready answer) is refl isnt tt moves room c.requires.sound

@@ -21,4 +21,4 @@ returns-clause-whole c =
     let old = c.args.fields.now in
     let new = c.answer.new.self in
     let moves = moves_answered old.states new c.args.actor.0 c.args.what c.date-date.result c.args.bytes c.args.answer c.date-date.result c.answer.ensures in
-    whole_called old new c.args.actor (Ready c.args.answer) c.requires.able moves (omega (arith, ap (λ (s : ActorStates). s.room) c.answer.ensures))
+    whole_called old new c.args.actor (Ready c.args.answer) c.requires.able tt moves (omega (arith, ap (λ (s : ActorStates). s.room) c.answer.ensures))

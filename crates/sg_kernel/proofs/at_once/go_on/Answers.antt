@@ -12,5 +12,5 @@ pub returns-clause-whole : goal.returns-clause-whole
 returns-clause-whole c =
     let old = c.args.fields.now in
     let new = c.go_on.new.self in
-    whole_called old new c.args.actor (Ready c.args.answer) c.requires.able (moves_called old.states new c.args.actor.0 (Ready c.args.answer) c.go_on.ensures)
+    whole_called old new c.args.actor (Ready c.args.answer) c.requires.able tt (moves_called old.states new c.args.actor.0 (Ready c.args.answer) c.go_on.ensures)
     (omega (arith, ap (λ (s : ActorStates). s.room) c.go_on.ensures))

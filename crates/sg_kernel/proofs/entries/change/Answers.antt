@@ -26,10 +26,7 @@ returns-then-fields-clause-events c = record { more = omega arith; some = λ go 
 pub returns-then-fields-clause-due : goal.returns-then-fields-clause-due
 returns-then-fields-clause-due c =
     let fields = c.args.fields.now in
-    leaves_same fields fields refl refl refl refl
-
-pub fail_all-requires-clause-stale : goal.fail_all-requires-clause-stale
-fail_all-requires-clause-stale c = c.enter.ensures.due.began ∙ c.requires.stale
+    leaves_same fields fields refl refl refl
 
 pub returns-clause-known : goal.returns-clause-known
 returns-clause-known c =

@@ -13,10 +13,7 @@ use Rattle.sg_kernel.proofs.entries.change_due.Goals as goal
 pub loop-entry-init : goal.loop-entry-init
 loop-entry-init c =
     let fields = c.args.fields.now in
-    record { passing = c.requires.passing; setup = refl; known = refl; stop = refl; due = leaves_same fields fields refl refl refl refl; idle = λ none. (none, refl); events = inl (refl, refl) }
-
-pub change-requires-clause-stale : goal.change-requires-clause-stale
-change-requires-clause-stale c = c.loop-entry.invariant.due.began ∙ c.requires.stale
+    record { passing = c.requires.passing; setup = refl; known = refl; stop = refl; due = leaves_same fields fields refl refl refl; idle = λ none. (none, refl); events = inl (refl, refl) }
 
 pub loop-entry-preserved : goal.loop-entry-preserved
 loop-entry-preserved c =

@@ -30,4 +30,4 @@ pub returns-clause-due : goal.returns-clause-due
 returns-clause-due c =
     let fields = c.args.fields.now in
     let keeps = set_keeps fields.network c.args.entry fields.doing c.apply.new.doing c.apply.ensures in
-    leaves_same fields (with_entry fields c.apply.new.doing c.step.new.self) keeps.date keeps.began keeps.tasks c.apply.ensures.due
+    leaves_same fields (with_entry fields c.apply.new.doing c.step.new.self) keeps.date keeps.tasks c.apply.ensures.due

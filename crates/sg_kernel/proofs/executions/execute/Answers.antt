@@ -1,20 +1,34 @@
-use Rattle.std.proofs.Common.{◌+◌, ◌-◌, Some, ap, arith}
-use Rattle.sg_base.specs.declared.call.Call.TheVariants as call
-use Rattle.sg_states.specs.declared.state.State.TheVariants.{Blocked}
-use Rattle.sg_states.specs.States.{ActorStates}
-use Rattle.sg_kernel.proofs.Begins.{whole_begun}
-use Rattle.sg_kernel.proofs.Limits.{homes_counted}
-use Rattle.sg_kernel.proofs.Moves.{moves_called, whole_counted, whole_moved}
+use Rattle.std.proofs.Common.{◌≡◌, ℕ, ◌+◌, ◌-◌, Bool, length, ap, ap₂, ◌∙◌, arith}
+use Rattle.std.proofs.lemmas.List.{length-set}
+use Rattle.sg_states.specs.declared.state.Actor.{Actor}
+use Rattle.sg_kernel.specs.Calls.{with_execution}
+use Rattle.sg_kernel.specs.Known.{Known}
+use Rattle.sg_kernel.specs.Steps.{counted}
+use Rattle.sg_kernel.specs.Suspensions.{held_if}
+use Rattle.sg_kernel.specs.World.{is_suspended}
+use Rattle.sg_kernel.specs.kept.Sound.{core_of, known_of, setup_in}
+use Rattle.sg_kernel.proofs.Stated.{actor_same}
 use Rattle.sg_kernel.proofs.executions.execute.Goals as goal
 
-pub returns-clause-whole : goal.returns-clause-whole
-returns-clause-whole c =
+pub hold_if-requires-clause-actor : goal.hold_if-requires-clause-actor
+hold_if-requires-clause-actor c =
+    let may = c.requires.able.call.caller in
+    let long = ap (λ (k : Known). length k.core.actors) c.start-serial.ensures.known in
+    let actors = c.args.fields.now.states.actors in
+    let many : length (core_of c.start-serial.new.fields).actors ≡ length actors = long ∙ length-set actors (c.args.actor.0 - 1) _ in
+    record { from = may.from; to = omega (arith, may.to, many) }
+
+pub hold_if-requires-clause-from : goal.hold_if-requires-clause-from
+hold_if-requires-clause-from c = omega (arith, c.start-serial.ensures.serial)
+
+pub returns-clause-known : goal.returns-clause-known
+returns-clause-known c =
     let old = c.args.fields.now in
-    let able = c.requires.able in
-    let counted = record old { events = old.events + 1 } in
-    let new = c.block.new.self in
-    let state = Blocked (call.Compute c.args.flops c.args.priority) c.date-date.result (Some c.alone.result) in
-    let id = c.args.actor.0 in
-    let begun = whole_begun counted old.states.room c.args.actor _ c.start_exec-serial.new.self c.push.new.self (able.call.caller.from, omega (arith, able.call.caller.to, homes_counted old able.whole.sound)) (omega (arith, able.whole.sound.few)) c.start_exec-serial.ensures.starts c.push.ensures (whole_counted old id able) in
-    whole_moved (record counted { doing = c.start_exec-serial.new.self; whose = c.push.new.self }) (old.states.room - 1) new c.args.actor state able.call (moves_called old.states new id state c.block.ensures)
-    (omega (arith, ap (λ (s : ActorStates). s.room) c.block.ensures)) begun
+    let actor = c.args.actor.0 in
+    let may = c.requires.able.call.caller in
+    let core = with_execution (setup_in old) actor c.args.flops c.args.priority (counted (core_of old)) in
+    let begun : Known = record (known_of old) { core = core; room = old.states.room - 1 } in
+    let same : is_suspended core actor ≡ is_suspended (core_of old) actor = ap (λ (a : Actor). a.suspended) (actor_same old.states.actors actor _ (record { from = may.from; to = may.to })) in
+    c.hold_if.ensures.known
+    ∙ ap (λ (k : Known). record k { core = held_if (is_suspended k.core actor) c.start-serial.result.0 k.core }) c.start-serial.ensures.known
+    ∙ ap₂ (λ (b : Bool) (n : ℕ). record begun { core = held_if b n core }) same c.start-serial.ensures.serial

@@ -1,7 +1,12 @@
-use Rattle.std.proofs.Common.{◌+◌, ◌-◌, Some, ap, arith}
+use Rattle.std.proofs.Common.{◌≡◌, ◌+◌, ◌-◌, [], ◌∷◌, Some, ap, length, ◌∙◌, arith}
+use Rattle.std.proofs.lemmas.List.{length-append}
+use Rattle.sg_base.specs.declared.awaits.Await.{Await}
 use Rattle.sg_base.specs.declared.call.Call.TheVariants as call
 use Rattle.sg_states.specs.declared.state.State.TheVariants.{Blocked}
 use Rattle.sg_states.specs.States.{ActorStates}
+use Rattle.sg_kernel.specs.declared.owners.Whose.TheVariants.{Alone}
+use Rattle.sg_kernel.specs.kept.Owners.{Owned}
+use Rattle.sg_kernel.specs.kept.Sound.{IsMade}
 use Rattle.sg_kernel.proofs.Begins.{whole_begun}
 use Rattle.sg_kernel.proofs.Limits.{homes_counted}
 use Rattle.sg_kernel.proofs.Moves.{moves_called, whole_counted, whole_moved}
@@ -16,5 +21,8 @@ returns-clause-whole c =
     let state = Blocked (call.Sleep c.args.ns) c.date-date.result (Some c.alone.result) in
     let id = c.args.actor.0 in
     let begun = whole_begun counted old.states.room c.args.actor _ c.start_timer-serial.new.self c.push.new.self (able.call.caller.from, omega (arith, able.call.caller.to, homes_counted old able.whole.sound)) (omega (arith, able.whole.sound.few)) c.start_timer-serial.ensures.starts c.push.ensures (whole_counted old id able) in
-    whole_moved (record counted { doing = c.start_timer-serial.new.self; whose = c.push.new.self }) (old.states.room - 1) new c.args.actor state able.call (moves_called old.states new id state c.block.ensures)
+    let long = ap (λ (o : Owned). length o.whose) c.push.ensures ∙ length-append old.whose.whose (Alone c.args.actor ∷ []) in
+    let serial : c.alone.result.serial.0 ≡ c.start_timer-serial.result.0 = ap (λ (on : Await). on.serial.0) c.alone.ensures in
+    let free : IsMade (length c.push.new.self.whose) c.alone.result = record { from = omega (arith, serial, c.start_timer-serial.ensures.serial); to = omega (arith, serial, long, c.start_timer-serial.ensures.serial, able.whole.sound.numbered) } in
+    whole_moved (record counted { doing = c.start_timer-serial.new.self; whose = c.push.new.self }) (old.states.room - 1) new c.args.actor state able.call free (moves_called old.states new id state c.block.ensures)
     (omega (arith, ap (λ (s : ActorStates). s.room) c.block.ensures)) begun

@@ -1,3 +1,4 @@
+use Rattle.std.specs.Prelude.{is_some}
 use Rattle.std.proofs.Common.{◌+◌, ◌-◌, drop, get_or, set, sym, ap, ◌∙◌, arith}
 use Rattle.sg_activity.specs.Doing.{Doing}
 use Rattle.sg_activity.specs.Underway.{hits}
@@ -10,7 +11,7 @@ use Rattle.sg_kernel.specs.kept.Owners.{Owned}
 use Rattle.sg_kernel.specs.kept.Sound.{core_of, known_of}
 use Rattle.sg_kernel.proofs.Failing.{failed_owner, failed_passing, not_over}
 use Rattle.sg_kernel.proofs.Hits.{rest_is_hit}
-use Rattle.sg_kernel.proofs.Leaving.{given_up_is, leaves_given}
+use Rattle.sg_kernel.proofs.Leaving.{leaves_given}
 use Rattle.sg_kernel.proofs.failures.fail.Goals as goal
 
 pub fail-whose-requires-clause-to : goal.fail-whose-requires-clause-to
@@ -19,22 +20,32 @@ fail-whose-requires-clause-to c = omega (arith, c.requires.hit.to, c.requires.pa
 pub fail-whose-requires-clause-under_way : goal.fail-whose-requires-clause-under_way
 fail-whose-requires-clause-under_way c = not_over c.args.fields.now c.args.serial.0 c.requires.hit.task c.requires.hit.at c.requires.passing.meeting
 
-pub give_up-requires-clause-hit : goal.give_up-requires-clause-hit
-give_up-requires-clause-hit c none = cc (sym c.requires.hit.first ∙ none)
+pub give_up-requires-clause-under_way : goal.give_up-requires-clause-under_way
+give_up-requires-clause-under_way c = ap is_some c.requires.hit.at
 
 pub answer_owners-requires-clause-whose : goal.answer_owners-requires-clause-whose
 answer_owners-requires-clause-whose c = failed_owner c.args.fields.now c.args.serial.0 c.fail-whose.result c.fail-whose.ensures.was c.requires.hit c.requires.passing
 
-pub answer_owners-requires-clause-passing : goal.answer_owners-requires-clause-passing
-answer_owners-requires-clause-passing c =
+pub answer_owners-requires-clause-sound : goal.answer_owners-requires-clause-sound
+answer_owners-requires-clause-sound c =
     let old = c.args.fields.now in
-    failed_passing old c.args.serial.0 c.fail-whose.new.self c.give_up.new.self c.requires.hit c.fail-whose.ensures.is (given_up_is old.doing c.give_up.new.self c.args.serial.0 c.requires.hit c.give_up.ensures) c.requires.budget c.requires.passing
+    (failed_passing old c.args.serial.0 c.fail-whose.new.self c.give_up.new.self c.requires.hit c.fail-whose.ensures.is c.give_up.ensures c.requires.budget c.requires.passing).sound
+
+pub answer_owners-requires-clause-small : goal.answer_owners-requires-clause-small
+answer_owners-requires-clause-small c =
+    let old = c.args.fields.now in
+    (failed_passing old c.args.serial.0 c.fail-whose.new.self c.give_up.new.self c.requires.hit c.fail-whose.ensures.is c.give_up.ensures c.requires.budget c.requires.passing).small
+
+pub returns-clause-passing : goal.returns-clause-passing
+returns-clause-passing c =
+    let old = c.args.fields.now in
+    c.answer_owners.ensures.keeps.passing (failed_passing old c.args.serial.0 c.fail-whose.new.self c.give_up.new.self c.requires.hit c.fail-whose.ensures.is c.give_up.ensures c.requires.budget c.requires.passing)
 
 pub returns-clause-known : goal.returns-clause-known
 returns-clause-known c =
     let old = c.args.fields.now in
     let serial = c.args.serial.0 in
-    let gone = given_up_is old.doing c.give_up.new.self serial c.requires.hit c.give_up.ensures in
+    let gone = c.give_up.ensures in
     let mid : Owned → Doing → Fields = λ whose doing. record old { whose = whose; doing = doing; events = old.events + 1 } in
     let failed : Owned = record old.whose { whose = set old.whose.whose (serial - 1) (Over how.Failed) } in
     c.answer_owners.ensures.known
@@ -46,12 +57,12 @@ pub returns-clause-hits : goal.returns-clause-hits
 returns-clause-hits c =
     let old = c.args.fields.now in
     let hit = c.requires.hit in
-    let gone = given_up_is old.doing c.give_up.new.self c.args.serial.0 hit c.give_up.ensures in
-    ap (λ (d : Doing). hits d.under) (c.answer_owners.ensures.doing ∙ gone)
+    let gone = c.give_up.ensures in
+    ap (λ (d : Doing). hits d.under) (ap (λ (f : Fields). f.doing) c.answer_owners.ensures.keeps.rest ∙ gone)
     ∙ rest_is_hit old.doing.under c.args.serial.0 hit.rest hit.first
     ∙ sym (ap (drop 1) hit.first)
 
 pub returns-clause-due : goal.returns-clause-due
 returns-clause-due c =
     let old = c.args.fields.now in
-    leaves_given old c.answer_owners.new.fields c.args.serial.0 (c.answer_owners.ensures.doing ∙ given_up_is old.doing c.give_up.new.self c.args.serial.0 c.requires.hit c.give_up.ensures)
+    leaves_given old c.answer_owners.new.fields c.args.serial.0 (ap (λ (f : Fields). f.doing) c.answer_owners.ensures.keeps.rest ∙ c.give_up.ensures)

@@ -13,10 +13,7 @@ use Rattle.sg_kernel.proofs.failures.fail_all.Goals as goal
 pub loop-serial-init : goal.loop-serial-init
 loop-serial-init c =
     let fields = c.args.fields.now in
-    record { passing = c.requires.passing; setup = refl; known = refl; stop = refl; due = leaves_same fields fields refl refl refl refl; profiles = refl; events = omega arith }
-
-pub fail-requires-clause-stale : goal.fail-requires-clause-stale
-fail-requires-clause-stale c = c.loop-serial.invariant.due.began ∙ c.requires.stale
+    record { passing = c.requires.passing; setup = refl; known = refl; stop = refl; due = leaves_same fields fields refl refl refl; profiles = refl; events = omega arith }
 
 pub loop-serial-preserved : goal.loop-serial-preserved
 loop-serial-preserved c =

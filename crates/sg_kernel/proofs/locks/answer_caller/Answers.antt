@@ -1,4 +1,5 @@
-use Rattle.std.proofs.Common.{None, ap, refl, subst, arith}
+use Rattle.std.specs.Prelude.{is_some}
+use Rattle.std.proofs.Common.{not, None, ap, refl, subst, arith}
 use Rattle.sg_base.specs.declared.call.Answer.TheVariants as answer
 use Rattle.sg_states.specs.declared.state.State.TheVariants.{Ready, Blocked}
 use Rattle.sg_states.specs.States.{ActorStates}
@@ -40,7 +41,7 @@ returns-in-GoesOn-clause-steady c =
     let old = c.args.fields.now in
     let new = c.answer.new.self in
     let moves = moves_answered old.states new c.args.actor.0 c.args.what c.date-date.result 0 answer.Done c.date-date.result c.answer.ensures in
-    steady_moved old new c.args.actor.0 (Ready answer.Done) moves (omega (arith, ap (λ (s : ActorStates). s.room) c.answer.ensures)) c.requires.steady
+    steady_moved old new c.args.actor.0 (Ready answer.Done) tt moves (omega (arith, ap (λ (s : ActorStates). s.room) c.answer.ensures)) c.requires.steady
 
 pub returns-in-Refused-clause-waking : goal.returns-in-Refused-clause-waking
 returns-in-Refused-clause-waking c = λ others was.
@@ -54,18 +55,18 @@ returns-in-Refused-clause-steady c =
     let old = c.args.fields.now in
     let new = c.answer-in-Refused.new.self in
     let moves = moves_answered old.states new c.args.actor.0 c.args.what c.date-date.result 0 answer.Refused c.date-date.result c.answer-in-Refused.ensures in
-    steady_moved old new c.args.actor.0 (Ready answer.Refused) moves (omega (arith, ap (λ (s : ActorStates). s.room) c.answer-in-Refused.ensures)) c.requires.steady
+    steady_moved old new c.args.actor.0 (Ready answer.Refused) tt moves (omega (arith, ap (λ (s : ActorStates). s.room) c.answer-in-Refused.ensures)) c.requires.steady
 
 pub returns-in-Waits-clause-waking : goal.returns-in-Waits-clause-waking
 returns-in-Waits-clause-waking c = λ others was.
     let old = c.args.fields.now in
     let new = c.block.new.self in
     let state = Blocked c.args.what c.date-date.result None in
-    waking_waits old new c.args.actor state others c.requires.steady.sound c.requires.able.caller refl (moves_called old.states new c.args.actor.0 state c.block.ensures) (subst (λ (o : Outcome). AreWaking old (comers c.args.actor o) others) c.in-Waits.is was)
+    waking_waits old new c.args.actor state others c.requires.steady.sound c.requires.able.caller (ap (λ o. not (is_some o)) c.requires.object) (moves_called old.states new c.args.actor.0 state c.block.ensures) (subst (λ (o : Outcome). AreWaking old (comers c.args.actor o) others) c.in-Waits.is was)
 
 pub returns-in-Waits-clause-steady : goal.returns-in-Waits-clause-steady
 returns-in-Waits-clause-steady c =
     let old = c.args.fields.now in
     let new = c.block.new.self in
     let state = Blocked c.args.what c.date-date.result None in
-    steady_moved old new c.args.actor.0 state (moves_called old.states new c.args.actor.0 state c.block.ensures) (omega (arith, ap (λ (s : ActorStates). s.room) c.block.ensures)) c.requires.steady
+    steady_moved old new c.args.actor.0 state tt (moves_called old.states new c.args.actor.0 state c.block.ensures) (omega (arith, ap (λ (s : ActorStates). s.room) c.block.ensures)) c.requires.steady

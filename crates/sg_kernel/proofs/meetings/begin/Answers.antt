@@ -16,7 +16,8 @@ use Rattle.sg_kernel.specs.kept.Sound.{setup_in, IsSide, IsOwner}
 use Rattle.sg_kernel.proofs.Begins.{held_with, sound_with}
 use Rattle.sg_kernel.proofs.Timely.{IsTimelyAt}
 use Rattle.sg_kernel.proofs.Limits.{home_exists}
-use Rattle.sg_kernel.proofs.Meets.{AreIdle, AreTold, idle_put, made_more, told_met}
+use Rattle.sg_kernel.proofs.Meets.{AreBusy, AreIdle, AreTold, busy_put, idle_put, made_more, told_met}
+use Rattle.sg_kernel.proofs.Stated.{awaiting_more}
 use Rattle.sg_kernel.proofs.Mets.{is_met, sides_limited, waiting_below}
 use Rattle.sg_kernel.proofs.Moves.{whole_counted}
 use Rattle.sg_kernel.proofs.meetings.begin.Goals as goal
@@ -124,6 +125,11 @@ take_part-requires-clause-whole c =
             subst (λ (l : List Whose). AreIdle l doing.under.tasks) (sym whose)
             (subst (λ (l : List (Option Task)). AreIdle (set old.whose.whose (serial.0 - 1) w) l) (sym tasks)
             (idle_put old.whose.whose old.doing.under.tasks (serial.0 - 1) w (Some task) place refl was.meeting.idle));
+        busy =
+            subst (λ (l : List Whose). AreBusy l doing.under.tasks) (sym whose)
+            (subst (λ (l : List (Option Task)). AreBusy (set old.whose.whose (serial.0 - 1) w) l) (sym tasks)
+            (busy_put old.whose.whose old.doing.under.tasks (serial.0 - 1) w task (omega (arith, place, was.sound.numbered)) was.meeting.busy));
+        awaited = awaiting_more (length old.whose.whose) (length c.put.new.self.whose) old.states.actors more was.meeting.awaited;
         asked = made_more (length old.whose.whose) (length c.put.new.self.whose) old.requests.queues more was.meeting.asked;
       };
       held = held_with counted doing c.put.new.self c.enter.new.self was.held;

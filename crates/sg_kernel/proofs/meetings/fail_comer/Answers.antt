@@ -26,4 +26,4 @@ returns-then-comer-clause-whole c =
     let comer = c.args.comer in
     let new = c.answer.new.self in
     let moves = moves_answered old.states new comer.side.actor.0 comer.what c.date-date.result c.sender_of-bytes.result.bytes answer.Failed c.date-date.result c.answer.ensures in
-    whole_moved old (old.states.room - 1) new comer.side.actor (Ready answer.Failed) c.requires.able moves (omega (arith, ap (λ (s : ActorStates). s.room) c.answer.ensures)) c.requires.whole
+    whole_moved old (old.states.room - 1) new comer.side.actor (Ready answer.Failed) c.requires.able tt moves (omega (arith, ap (λ (s : ActorStates). s.room) c.answer.ensures)) c.requires.whole

@@ -1,4 +1,4 @@
-use Rattle.std.proofs.Common.{◌≡◌, ◌+◌, ◌≤◌, ◌++◌, ◌∷◌, [], List, None, Option, length, refl, sym, ap, subst, ◌∙◌, arith}
+use Rattle.std.proofs.Common.{◌≡◌, ◌+◌, ◌≤◌, ◌++◌, ◌∷◌, [], List, None, Option, length, true≢false, refl, sym, ap, subst, ◌∙◌, arith}
 use Rattle.std.specs.List.{All}
 use Rattle.std.proofs.lemmas.List.{length-append}
 use Rattle.std.proofs.lemmas.List.Elements.{All-push}
@@ -11,7 +11,8 @@ use Rattle.sg_kernel.specs.kept.Owners.{Owned}
 use Rattle.sg_kernel.specs.kept.Sound.{setup_in, IsOwner}
 use Rattle.sg_kernel.proofs.Begins.{held_with, sound_with}
 use Rattle.sg_kernel.proofs.Timely.{IsTimelyAt}
-use Rattle.sg_kernel.proofs.Meets.{AreIdle, AreTold, idle_more, made_more, told_posted}
+use Rattle.sg_kernel.proofs.Meets.{AreBusy, AreIdle, AreTold, busy_more, idle_more, made_more, told_posted}
+use Rattle.sg_kernel.proofs.Stated.{awaiting_more}
 use Rattle.sg_kernel.proofs.Mets.{waiting_below}
 use Rattle.sg_kernel.proofs.Moves.{whole_counted}
 use Rattle.sg_kernel.proofs.meetings.post.Goals as goal
@@ -55,6 +56,11 @@ take_part-requires-clause-whole c =
             subst (λ (l : List Whose). AreIdle l doing.under.tasks) (sym whose)
             (subst (λ (l : List (Option Task)). AreIdle (old.whose.whose ++ w ∷ []) l) (sym tasks)
             (idle_more old.whose.whose old.doing.under.tasks w None was.sound.numbered (λ e. refl) was.meeting.idle));
+        busy =
+            subst (λ (l : List Whose). AreBusy l doing.under.tasks) (sym whose)
+            (subst (λ (l : List (Option Task)). AreBusy (old.whose.whose ++ w ∷ []) l) (sym tasks)
+            (busy_more old.whose.whose old.doing.under.tasks w None was.sound.numbered (λ e. absurd (true≢false e)) was.meeting.busy));
+        awaited = awaiting_more (length old.whose.whose) (length c.push.new.self.whose) old.states.actors more was.meeting.awaited;
         asked = made_more (length old.whose.whose) (length c.push.new.self.whose) old.requests.queues more was.meeting.asked;
       };
       held = held_with counted doing c.push.new.self c.enter.new.self was.held;

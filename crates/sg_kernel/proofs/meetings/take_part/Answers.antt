@@ -30,7 +30,7 @@ returns-then-comer-clause-whole c =
     let new = c.block.new.self in
     let on : Await = record { serial = c.args.serial; party = c.party_of.result } in
     let state = Blocked comer.what c.date-date.result (Some on) in
-    whole_moved old (old.states.room - 1) new comer.side.actor state c.requires.able (moves_called old.states new comer.side.actor.0 state c.block.ensures)
+    whole_moved old (old.states.room - 1) new comer.side.actor state c.requires.able (record { from = c.requires.made.0; to = c.requires.made.1 }) (moves_called old.states new comer.side.actor.0 state c.block.ensures)
     (omega (arith, ap (λ (s : ActorStates). s.room) c.block.ensures)) c.requires.whole
 
 pub returns-else-comer-clause-whole : goal.returns-else-comer-clause-whole
@@ -66,10 +66,12 @@ returns-else-comer-clause-whole c =
       meeting = record {
         posts = was.meeting.posts;
         idle = was.meeting.idle;
+        busy = was.meeting.busy;
+        awaited = was.meeting.awaited;
         asked = subst made (sym queues) (made_queued (length old.whose.whose) old.requests.queues comer.side.actor.0 _ (record { from = c.requires.made.0; to = c.requires.made.1 }) was.meeting.asked);
       };
       held = record { owners = was.held.owners; counts = was.held.counts; actors = was.held.actors; few = was.held.few; once = was.held.once; held = was.held.held; locking = was.held.locking; acquiring = was.held.acquiring };
       round = was.round;
     } in
     let moves = moves_answered old.states new comer.side.actor.0 comer.what c.date-date.result comer.side.bytes answer.Done c.date-date.result c.answer.ensures in
-    whole_moved asking (old.states.room - 1) new comer.side.actor (Ready answer.Done) c.requires.able moves (omega (arith, ap (λ (s : ActorStates). s.room) c.answer.ensures)) asked
+    whole_moved asking (old.states.room - 1) new comer.side.actor (Ready answer.Done) c.requires.able tt moves (omega (arith, ap (λ (s : ActorStates). s.room) c.answer.ensures)) asked

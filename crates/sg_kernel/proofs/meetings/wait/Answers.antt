@@ -33,7 +33,7 @@ asking_less fields actor requests is able =
         dated = was.dated;
         timely = was.timely;
         limited = was.limited;
-        meeting = record { posts = was.meeting.posts; idle = was.meeting.idle; asked = subst (AreMade n) (sym queues) (made_taken n fields.requests.queues actor was.meeting.asked) };
+        meeting = record { posts = was.meeting.posts; idle = was.meeting.idle; busy = was.meeting.busy; awaited = was.meeting.awaited; asked = subst (AreMade n) (sym queues) (made_taken n fields.requests.queues actor was.meeting.asked) };
         held = record { owners = was.held.owners; counts = was.held.counts; actors = was.held.actors; few = was.held.few; once = was.held.once; held = was.held.held; locking = was.held.locking; acquiring = was.held.acquiring };
         round = was.round;
       };
@@ -59,3 +59,8 @@ answer_now-requires-in-Some-answer_of_over-clause-able c = asking_less c.args.fi
 
 pub block-requires-clause-able : goal.block-requires-clause-able
 block-requires-clause-able c = asking_less c.args.fields.now c.args.actor.0 c.take.new.self c.take.ensures.rest c.requires.able
+
+pub block-requires-clause-made : goal.block-requires-clause-made
+block-requires-clause-made c =
+    let old = c.args.fields.now in
+    made_oldest (length old.whose.whose) old.requests.queues c.args.actor.0 c.in-Some.on (sym c.take.ensures.oldest ∙ c.in-Some.is) c.requires.able.whole.meeting.asked

@@ -49,9 +49,6 @@ advance_to-requires-clause-small c =
 pub come-stopped-requires-clause-passing : goal.come-stopped-requires-clause-passing
 come-stopped-requires-clause-passing c = passing_began c.args.fields.now c.advance_to.new.self c.begin_pass.new.self c.in-Some.date c.in-Some.ensures c.advance_to.ensures c.begin_pass.ensures c.if-fields.false c.requires.whole
 
-pub come-stopped-requires-clause-stale : goal.come-stopped-requires-clause-stale
-come-stopped-requires-clause-stale c = ap (λ (d : Doing). d.under.marks.began) c.advance_to.ensures ∙ c.requires.stale
-
 pub come-stopped-requires-clause-some : goal.come-stopped-requires-clause-some
 come-stopped-requires-clause-some c = some_moved c.args.fields.now c.advance_to.new.self c.begin_pass.new.self c.in-Some.date c.requires.whole.timely c.in-Some.ensures c.advance_to.ensures
 

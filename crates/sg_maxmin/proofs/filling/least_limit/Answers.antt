@@ -15,8 +15,8 @@ loop-done-preserved g c =
     let slot = c.look-slot.result in
     let out = c.look-slot.ensures in
     let inv = c.loop-done.invariant in
-    let left = c.args.left.now in
-    let waiting = c.args.waiting.now in
+    let left = c.args.counts.left.now in
+    let waiting = c.args.counts.waiting.now in
     let e : c.args.row.count - (c.loop-done.done + 1) ≡ n - 1 = omega arith in
     let rest = resources (n - 1) slots slot.next_of_flow in
     let here : drop c.loop-done.done all ≡ slot.resource ∷ rest = sym inv.rest ∙ out.next.list in
@@ -36,7 +36,7 @@ returns-clause-least g c =
     let all = resources c.args.row.count c.args.uses.now.uses c.args.row.first in
     let len : length all ≡ c.args.row.count = length-resources c.requires.chain.0 c.args.row.count c.args.uses.now.uses c.args.row.first c.requires.chain.1 in
     let whole : take c.loop-done.done all ≡ all = take_whole c.loop-done.done all (omega (arith, len)) in
-    subst (λ ys. IsLeast c.loop-done.least (option_to_list (option_map (bound_level c.args.row.weight) c.args.row.bound) ++ map (λ r. get_or c.args.left.now r 0 / get_or c.args.waiting.now r 0) ys)) whole c.loop-done.invariant.least
+    subst (λ ys. IsLeast c.loop-done.least (option_to_list (option_map (bound_level c.args.row.weight) c.args.row.bound) ++ map (λ r. get_or c.args.counts.left.now r 0 / get_or c.args.counts.waiting.now r 0) ys)) whole c.loop-done.invariant.least
   where
     take_whole : (k : ℕ) (xs : List ℕ) → length xs ≤ k → take k xs ≡ xs
     take_whole k xs h = grind (arith, take_all)

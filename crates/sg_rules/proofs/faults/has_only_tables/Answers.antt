@@ -1,5 +1,5 @@
 use Rattle.std.proofs.Common.{◌∙◌, map}
-use Rattle.sg_rules.specs.Tables.{table_text}
+use Rattle.sg_tables.specs.Tables.{table_text}
 use Rattle.sg_tree.proofs.TreeLemmas.{has_only-members_view}
 use Rattle.sg_rules.proofs.faults.has_only_tables.Goals as goal
 

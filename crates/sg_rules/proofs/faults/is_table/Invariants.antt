@@ -1,7 +1,7 @@
 use Rattle.std.proofs.Common.{◌≡◌, drop, map}
 use Rattle.std.specs.List.{list_any}
 use Rattle.std.specs.Str.{bytes_eq}
-use Rattle.sg_rules.specs.Tables.{table_text}
+use Rattle.sg_tables.specs.Tables.{table_text}
 use Rattle.sg_rules.proofs.faults.is_table.Given as goal
 
 abbrev pub invariant-loop-table : goal.invariant-loop-table

@@ -1,12 +1,11 @@
-use Rattle.std.proofs.Common.{◌∙◌, ap, subst, sym, Bool, IsTrue, Option, List, ℕ}
+use Rattle.std.proofs.Common.{◌∙◌, subst, sym, Bool, IsTrue, Option, List, ℕ, length}
 use Rattle.std.specs.Prelude.{IsSome}
 use Rattle.sg_edge.specs.declared.files.Part.TheVariants.{Script}
 use Rattle.sg_words.specs.Views.{job_view}
 use Rattle.simgrid_replay.specs.PartSources.{request_of}
-use Rattle.simgrid_replay.specs.Outcome.{status_of}
 use Rattle.simgrid_replay.specs.kept.Setups.{setting_in}
 use Rattle.simgrid_replay.proofs.PartLemmas.{named_on}
-use Rattle.simgrid_replay.proofs.TopLemmas.{begun_gives, run_cause, run_counts_on, run_needs_on, run_prints_on}
+use Rattle.simgrid_replay.proofs.TopLemmas.{begun_gives, run_cause, run_counts_on, run_leaves_on, run_needs_on, run_prints_on, seats_run}
 use Rattle.simgrid_replay.proofs.job_run.run_job.Goals as goal
 
 pub run-ended-requires-clause-crew : goal.run-ended-requires-clause-crew
@@ -17,18 +16,20 @@ returns-clause-output g c = λ s gives.
     let job = job_view c.args.on.job.now in
     let on = setting_in c.args.on.setup in
     let terms = c.terms_for-terms.result in
+    let crew = length c.args.crew.now.items in
     let asked = c.terms_for-terms.ensures in
     let run = c.run-ended.ensures.output s (λ scripted. begun_gives _ _ _ s c.begin_script.ensures.left (gives (subst (λ (b : Bool). IsTrue b) c.requires.setup.script scripted))) in
     record {
       outcome = record {
-        prints = run_prints_on job on c.args.on.setup.script terms.budget terms.show s c.run-ended.result c.status.result _ _ c.requires.setup.script asked.budget asked.show c.status.ensures.is run.ends;
-        counts = run_counts_on job on c.args.on.setup.script terms.budget terms.show s _ _ c.requires.setup.script asked.budget asked.show run.work;
+        prints = run_prints_on job crew on c.args.on.setup.script terms.budget terms.show s c.run-ended.result c.status.result _ _ c.requires.setup.script asked.budget asked.show c.status.ensures.is run.ends;
+        counts = run_counts_on job crew on c.args.on.setup.script terms.budget terms.show s _ _ c.requires.setup.script asked.budget asked.show run.work;
       };
-      needed = run_needs_on job on c.args.on.setup.script terms.budget terms.show s _ _ _ c.requires.setup.script asked.budget asked.show c.begin_script.ensures.left run.needed;
+      contexts = run_leaves_on job crew on c.args.on.setup.script terms.budget terms.show s c.run-ended.result c.status.result crew (length c.run-ended.new.crew.items) c.requires.setup.script asked.budget asked.show c.status.ensures.is run.contexts;
+      needed = run_needs_on job crew on c.args.on.setup.script terms.budget terms.show s _ _ _ c.requires.setup.script asked.budget asked.show c.begin_script.ensures.left run.needed;
     }
 
 pub returns-clause-crew : goal.returns-clause-crew
-returns-clause-crew g c = λ ends. c.run-ended.ensures.crew (λ is. ends (c.status.ensures.is ∙ ap status_of is))
+returns-clause-crew g c = seats_run (setting_in c.args.on.setup) c.run-ended.result c.status.result c.args.crew.now.items c.run-ended.new.crew.items c.status.ensures.is c.run-ended.ensures.crew
 
 pub returns-clause-cause : goal.returns-clause-cause
 returns-clause-cause g c =

@@ -1,4 +1,4 @@
-use Rattle.std.proofs.Common.{◌≡◌, ◌<◌, ◌+◌, ◌∙◌, ap, sym, subst, refl, ℕ, Result, length, drop, true, false, rules, arith}
+use Rattle.std.proofs.Common.{◌≡◌, ◌<◌, ◌+◌, ◌∙◌, ap, sym, subst, refl, ℕ, length, true, false, rules, arith}
 use Rattle.sg_edge.specs.Files.{PartView, TakesUpTo}
 use Rattle.sg_platform.specs.PlatformOf.{greatest_text}
 use Rattle.sg_edge.specs.Sources.{Gives}
@@ -7,10 +7,9 @@ use Rattle.sg_words.specs.Views.{job_view}
 use Rattle.simgrid_replay.specs.PartSources.{request_of, IsNamedBy}
 use Rattle.simgrid_replay.specs.Outcome.{or_refused}
 use Rattle.simgrid_replay.specs.kept.Setups.{IsSetupFor, setting_in}
-use Rattle.simgrid_replay.specs.Settings.{Setting, contexts_in, setting}
+use Rattle.simgrid_replay.specs.Settings.{setting}
 use Rattle.simgrid_replay.specs.Requests.{has_script}
-use Rattle.simgrid_replay.specs.declared.refusal.Refusal.{Refusal}
-use Rattle.simgrid_replay.proofs.TopLemmas.{none_broken, none_taken, not_refused, partless, refusal_prints, script_after, setting_counts, setting_needs, setting_prints, telling_before, texts_before, unrefused_spares}
+use Rattle.simgrid_replay.proofs.TopLemmas.{none_broken, none_taken, not_refused, partless, refusal_leaves, refusal_prints, script_after, setting_counts, setting_leaves, setting_needs, setting_prints, setting_seats, telling_before, texts_before, unrefused_spares}
 use Rattle.simgrid_replay.proofs.PartLemmas.{named_parts, nameless_by, takes_none}
 use Rattle.simgrid_replay.proofs.whole_call.do_job.Goals as goal
 
@@ -31,10 +30,11 @@ returns-in-Ok-clause-output g c = λ p d s gives.
     let run = c.run_job.ensures.output s (script_after (request_of c.args.job.now) old mid new s c.prepare.ensures.read.unbegun gives.script) in
     record {
       outcome = record {
-        prints = setting_prints (job_view c.args.job.now) s _ (setting_in c.in-Ok.setup) c.run_job.result (g.O.Sinks.contents c.args.out.now) (g.O.Sinks.contents c.run_job.new.out) is run.outcome.prints;
-        counts = setting_counts (job_view c.args.job.now) s _ (setting_in c.in-Ok.setup) _ _ is run.outcome.counts;
+        prints = setting_prints (job_view c.args.job.now) (length c.args.crew.now.items) s _ (setting_in c.in-Ok.setup) c.run_job.result (g.O.Sinks.contents c.args.out.now) (g.O.Sinks.contents c.run_job.new.out) is run.outcome.prints;
+        counts = setting_counts (job_view c.args.job.now) (length c.args.crew.now.items) s _ (setting_in c.in-Ok.setup) _ _ is run.outcome.counts;
       };
-      needed = setting_needs (job_view c.args.job.now) s _ (setting_in c.in-Ok.setup) (old Script) (mid Script) (new Script) is c.prepare.ensures.read.unbegun run.needed;
+      contexts = setting_leaves (job_view c.args.job.now) (length c.args.crew.now.items) s _ (setting_in c.in-Ok.setup) c.run_job.result (length c.args.crew.now.items) (length c.run_job.new.crew.items) is run.contexts;
+      needed = setting_needs (job_view c.args.job.now) (length c.args.crew.now.items) s _ (setting_in c.in-Ok.setup) (old Script) (mid Script) (new Script) is c.prepare.ensures.read.unbegun run.needed;
     }
 
 pub returns-in-Err-clause-output : goal.returns-in-Err-clause-output
@@ -42,23 +42,26 @@ returns-in-Err-clause-output g c = λ p d s gives.
     let contexts : c.len.result ≡ length c.args.crew.now.items = search rules in
     record {
       outcome = record {
-        prints = refusal_prints (λ r. or_refused (job_view c.args.job.now) s r) (setting (request_of c.args.job.now) (length c.args.crew.now.items) p d)
+        prints = refusal_prints (λ r. or_refused (job_view c.args.job.now) (length c.args.crew.now.items) s r) (setting (request_of c.args.job.now) (length c.args.crew.now.items) p d)
             c.in-Err.why c.refuse.result _ _ (λ r. refl)
             (λ told. sym (ap (λ (n : ℕ). setting (request_of c.args.job.now) n p d) (sym contexts) ∙ c.in-Err.ensures.given p d gives.texts (λ e. told (cc)))) c.refuse.ensures.prints;
         counts = omega (arith);
       };
+      contexts = refusal_leaves (λ r. or_refused (job_view c.args.job.now) (length c.args.crew.now.items) s r) (setting (request_of c.args.job.now) (length c.args.crew.now.items) p d)
+          c.in-Err.why c.refuse.result (length c.args.crew.now.items) (λ r. refl)
+          (λ told. sym (ap (λ (n : ℕ). setting (request_of c.args.job.now) n p d) (sym contexts) ∙ c.in-Err.ensures.given p d gives.texts (λ e. told (cc)))) c.refuse.ensures.memory;
       needed = takes_none _ _ _ c.in-Err.ensures.read.unbegun;
     }
 
 pub returns-in-Ok-clause-crew : goal.returns-in-Ok-clause-crew
 returns-in-Ok-clause-crew g c = record {
-  first = λ p d texts ends.
+  first = λ p d texts.
       let contexts : c.len.result ≡ length c.args.crew.now.items = search rules in
       let others = c.run_job.ensures.script.others in
       let before = texts_before (request_of c.args.job.now) (g.F.Files.shows c.args.files.now) (g.F.Files.shows c.prepare.new.files) (g.F.Files.shows c.run_job.new.files) p d
       (others Platform (λ e. cc)) (others Deployment (λ e. cc)) texts in
       let is = ap (λ (n : ℕ). setting (request_of c.args.job.now) n p d) (sym contexts) ∙ c.in-Ok.ensures.given p d before in
-      c.run_job.ensures.crew ends ∙ ap (λ (r : Result Setting Refusal). drop (contexts_in r) c.args.crew.now.items) (sym is);
+      setting_seats _ (setting_in c.in-Ok.setup) c.run_job.result c.args.crew.now.items c.run_job.new.crew.items is c.run_job.ensures.crew;
   refused = λ is. absurd (let e : true ≡ false = sym is ∙ c.run_job.ensures.unrefused in cc);
   broken = none_broken (g.F.Files.shows c.prepare.new.files) (g.F.Files.shows c.run_job.new.files) (c.run_job.ensures.script.others Platform (λ e. cc)) (c.run_job.ensures.script.others Deployment (λ e. cc))
       (c.in-Ok.ensures.read.platform_whole refl) (c.in-Ok.ensures.read.deployment_whole refl);
@@ -66,10 +69,10 @@ returns-in-Ok-clause-crew g c = record {
 
 pub returns-in-Err-clause-crew : goal.returns-in-Err-clause-crew
 returns-in-Err-clause-crew g c = record {
-  first = λ p d texts ends.
+  first = λ p d texts.
       let contexts : c.len.result ≡ length c.args.crew.now.items = search rules in
-      none_taken contexts_in (setting (request_of c.args.job.now) (length c.args.crew.now.items) p d) c.in-Err.why c.args.crew.now.items (λ r. refl)
-      (λ told. sym (ap (λ (n : ℕ). setting (request_of c.args.job.now) n p d) (sym contexts) ∙ c.in-Err.ensures.given p d texts (λ e. told (cc)))) (λ is. ends (c.refuse.ensures.memory is));
+      none_taken (setting (request_of c.args.job.now) (length c.args.crew.now.items) p d) c.in-Err.why c.refuse.result c.args.crew.now.items
+      (λ told. sym (ap (λ (n : ℕ). setting (request_of c.args.job.now) n p d) (sym contexts) ∙ c.in-Err.ensures.given p d texts (λ e. told (cc)))) c.refuse.ensures.memory;
   refused = λ is. refl;
   broken = λ is. refl;
 }

@@ -1,14 +1,15 @@
-use Rattle.std.proofs.Common.{◌≡◌, inr, sym, subst, refl, length, drop, map, false, arith}
+use Rattle.std.proofs.Common.{◌≡◌, ◌∙◌, inr, sym, ap, subst, refl, length, map, true, false, arith}
 use Rattle.std.specs.Prelude.{IsErr, string_bytes}
 use Rattle.sg_engine.specs.RunContract.{IsReadOnDemand}
 use Rattle.sg_words.specs.CommandLine.{Asked, asked_of, refusals}
 use Rattle.sg_words.specs.Views.{job_view}
 use Rattle.simgrid_replay.specs.PartSources.{IsNamedBy, PartsGive, TextsGive}
-use Rattle.simgrid_replay.specs.Outcome.{HasOutcome, outcome, contexts_for}
+use Rattle.simgrid_replay.specs.Contexts.{TakesContexts, TakesFirst}
+use Rattle.simgrid_replay.specs.Outcome.{HasOutcome, is_cut, outcome}
 use Rattle.simgrid_replay.specs.Settings.{setting}
 use Rattle.simgrid_replay.specs.Requests.{has_parts, has_script}
 use Rattle.simgrid_replay.proofs.PartLemmas.{nameless_by, takes_none}
-use Rattle.simgrid_replay.proofs.TopLemmas.{completed_of, prints_nothing, whole_of}
+use Rattle.simgrid_replay.proofs.TopLemmas.{completed_of, prints_nothing, takes_contexts, whole_of}
 use Rattle.simgrid_replay.proofs.WordLemmas.{fault_is, job_is}
 use Rattle.simgrid_replay.proofs.whole_call.simgrid.Goals as goal
 
@@ -30,10 +31,19 @@ pub returns-in-Err-clause-needed : goal.returns-in-Err-clause-needed
 returns-in-Err-clause-needed g c = λ job asks p d s gives. takes_none _ _ _ refl
 
 pub returns-in-Ok-clause-crew : goal.returns-in-Ok-clause-crew
-returns-in-Ok-clause-crew g c = λ job asks p d texts ends.
+returns-in-Ok-clause-crew g c = λ job asks p d texts.
     let same : job_view c.in-Ok.job ≡ job = job_is _ _ c.read_words.result c.in-Ok.job job c.read_words.ensures c.in-Ok.is asks.job in
-    subst (λ (j : Asked). TextsGive j.request (g.F.Files.shows c.args.files.now) (g.F.Files.shows c.do_job.new.files) p d → c.do_job.new.crew.items ≡ drop (contexts_for j (length c.args.crew.now.items) p d) c.args.crew.now.items) same
-    (λ given. c.do_job.ensures.crew.first p d given ends) texts
+    subst (λ (j : Asked). TextsGive j.request (g.F.Files.shows c.args.files.now) (g.F.Files.shows c.do_job.new.files) p d → TakesFirst (setting j.request (length c.args.crew.now.items) p d) c.do_job.result c.args.crew.now.items c.do_job.new.crew.items) same
+    (λ given. c.do_job.ensures.crew.first p d given) texts
+
+pub returns-in-Ok-clause-taken : goal.returns-in-Ok-clause-taken
+returns-in-Ok-clause-taken g c = λ job asks p d s gives.
+    let same : job_view c.in-Ok.job ≡ job = job_is _ _ c.read_words.result c.in-Ok.job job c.read_words.ensures c.in-Ok.is asks.job in
+    let had = c.args.crew.now.items in
+    subst (λ (j : Asked). PartsGive j.request (g.F.Files.shows c.args.files.now) (g.F.Files.shows c.do_job.new.files) p d s →
+    TakesContexts (outcome j (length had) p d s) c.do_job.result had c.do_job.new.crew.items) same
+    (λ given. takes_contexts (setting (job_view c.in-Ok.job).request (length had) p d) (outcome (job_view c.in-Ok.job) (length had) p d s) c.do_job.result had c.do_job.new.crew.items
+    (c.do_job.ensures.crew.first p d given.texts) (c.do_job.ensures.output p d s given).contexts) gives
 
 pub returns-in-Ok-clause-refused_first : goal.returns-in-Ok-clause-refused_first
 returns-in-Ok-clause-refused_first g c = λ job asks p d texts refused.
@@ -69,8 +79,23 @@ returns-in-Err-clause-completed g c = λ job asks p d s gives sound done.
     inr (c.report_words.ensures.silent (asked_of (map string_bytes c.args.words.now)) (fault_is _ _ (asked_of (map string_bytes c.args.words.now)) c.read_words.result c.in-Err.fault c.read_words.ensures c.in-Err.is asks.accepted)).0
 
 pub returns-in-Err-clause-crew : goal.returns-in-Err-clause-crew
-returns-in-Err-clause-crew g c = λ job asks p d texts ends.
-    absurd (ends (c.report_words.ensures.silent (asked_of (map string_bytes c.args.words.now)) (fault_is _ _ (asked_of (map string_bytes c.args.words.now)) c.read_words.result c.in-Err.fault c.read_words.ensures c.in-Err.is asks.accepted)).0)
+returns-in-Err-clause-crew g c = λ job asks p d texts. record {
+  taken = 0;
+  least = λ some. absurd (some (c.report_words.ensures.silent (asked_of (map string_bytes c.args.words.now)) (fault_is _ _ (asked_of (map string_bytes c.args.words.now)) c.read_words.result c.in-Err.fault c.read_words.ensures c.in-Err.is asks.accepted)).0);
+  most = omega (arith);
+  within = omega (arith);
+  left = refl;
+}
+
+pub returns-in-Err-clause-taken : goal.returns-in-Err-clause-taken
+returns-in-Err-clause-taken g c = λ job asks p d s gives.
+    let silent = c.report_words.ensures.silent (asked_of (map string_bytes c.args.words.now)) (fault_is _ _ (asked_of (map string_bytes c.args.words.now)) c.read_words.result c.in-Err.fault c.read_words.ensures c.in-Err.is asks.accepted) in
+    record {
+      taken = 0;
+      most = omega (arith);
+      all = λ uncut. absurd (let cut : true ≡ false = sym (ap is_cut silent.0) ∙ uncut in cc);
+      left = refl;
+    }
 
 pub returns-in-Err-clause-refused : goal.returns-in-Err-clause-refused
 returns-in-Err-clause-refused g c = λ some.

@@ -1,50 +1,58 @@
-use Rattle.std.proofs.Common.{◌≡◌, None, All, [], length, refl, sym, ap, subst, ◌∙◌}
-use Rattle.sg_heap.specs.Agenda.{Key, key}
+use Rattle.std.proofs.Common.{◌≡◌, All, IsSome, refl, None, Some, arith, is_some, length, true≢false, sym, ap, subst, ◌∙◌}
 use Rattle.sg_activity.specs.Hosts.{IsHost}
 use Rattle.sg_activity.specs.Links.{Capacities}
-use Rattle.sg_activity.specs.Doing.{Doing, gave_up, gave_up_first, gave_up_in}
-use Rattle.sg_activity.specs.Underway.{hits}
+use Rattle.sg_activity.specs.Doing.{Doing, gave_up}
+use Rattle.sg_activity.specs.Task.{task_at}
 use Rattle.sg_activity.specs.kept.State.{State, state_of, doing_of}
-use Rattle.sg_activity.proofs.Struck.{gave_up_told, hits_are, none_hit, none_began, struck}
+use Rattle.sg_activity.proofs.Struck.{changed_told}
 use Rattle.sg_activity.proofs.Switched.{switches_alike}
-use Rattle.sg_activity.proofs.Listing.{some_same}
+use Rattle.sg_activity.proofs.Rates.{task_missed}
+use Rattle.sg_activity.specs.kept.Metered.{IsMetered, energies, metered_in, noted}
+use Rattle.sg_activity.specs.kept.Pool.{slot_at}
+use Rattle.sg_activity.proofs.Metering.{exec_host, metered_turned, not_noted}
 use Rattle.sg_activity.proofs.activities.Activities.give_up.Goals as goal
 
 pub unreachable-requires : goal.unreachable-requires
 unreachable-requires c =
     let s : State = state_of c.self.inside.kept in
-    c.requires.hit (subst (λ (d : Doing). hits d.under ≡ []) c.self.view_is (none_hit s c.self.invariant.sound.are c.self.inside.hits c.self.invariant.hit c.in_default.ensures.none))
+    let none = task_missed s c.self.invariant.sound.are c.args.serial.0 c.requires.from c.in_default.ensures in
+    true≢false (sym c.requires.under_way ∙ ap (λ (d : Doing). is_some (task_at d.under.tasks c.args.serial.0)) (sym c.self.view_is) ∙ ap is_some none)
 
-pub leave-requires-clause-stale : goal.leave-requires-clause-stale
-leave-requires-clause-stale c =
-    let s : State = state_of c.self.inside.kept in
-    none_began s c.in-Some.key (ap (λ (d : Doing). d.under.marks.began) c.self.view_is ∙ c.requires.stale)
+pub leave-requires-clause-at : goal.leave-requires-clause-at
+leave-requires-clause-at c = c.in-Some.ensures.at
+
+pub note-requires : goal.note-requires
+note-requires c = λ exec. omega (arith, exec_host (state_of c.self.inside.kept) c.in-Some.key c.in-Some.live c.self.invariant.sound.are c.in-Some.ensures.at exec, c.self.invariant.metered.room)
 
 pub invariant_of-self : goal.invariant_of-self
 invariant_of-self c =
     let ends = c.leave.ensures.ends in
+    let kept = c.self.inside.kept in
+    let s : State = state_of kept in
+    let key = c.in-Some.key in
+    let live = c.in-Some.live in
+    let at : slot_at kept.lives.slots key ≡ Some live = c.in-Some.ensures.at in
     record {
       sound = ends.sound;
       hosts = subst (λ (d : Capacities). All IsHost d.hosts) (sym ends.turns.capacities) c.self.invariant.hosts;
       used = c.leave.ensures.used;
       switches = switches_alike (state_of c.self.inside.kept) (state_of c.leave.new.kept) ends.turns.on (ap (λ (d : Capacities). length d.hosts) ends.turns.capacities) (ap (λ (d : Capacities). length d.links) ends.turns.capacities) c.self.invariant.switches;
       hit = c.leave.ensures.hit;
+      metered = subst (IsMetered c.leave.new.kept c.self.inside.meter) (sym c.note.ensures)
+          (metered_turned kept c.leave.new.kept c.self.inside.meter c.self.inside.touched (record c.self.inside.touched { members = noted live c.self.inside.touched.members }) key live ends.slot None c.self.invariant.metered refl c.self.invariant.sound.are ends.sound.are at ends.turns ends.under
+          (λ host out. let r = not_noted live host c.self.inside.touched.members out in (r.0, (r.1, refl))));
     }
 
 pub returns : goal.returns
 returns c =
     let kept = c.self.inside.kept in
     let s : State = state_of kept in
-    let is = c.self.invariant.sound.are in
     let new : State = state_of c.leave.new.kept in
     let ends = c.leave.ensures.ends in
-    let slot = c.in-Some.key in
-    let its : Key = key c.in-Some.field-0-1 c.in-Some.field-0-2 in
-    let found = struck s is c.self.inside.hits c.self.invariant.hit slot its c.in-Some.ensures.first in
-    let live = c.in-Some-get.live in
-    let at = sym c.get.ensures ∙ c.in-Some-get.is in
-    let serial = ap (λ (k : Key). k.serial) found.3 ∙ ap (λ l. l.serial) (some_same (sym found.1 ∙ at)) in
+    let told =
     ap (λ n. doing_of new n) ends.room
-    ∙ gave_up_told s new slot live ends.slot kept.room is at ends.turns ends.drawn ends.under
-    ∙ sym (ap (λ l. gave_up_first l (doing_of s kept.room)) (hits_are s is c.self.inside.hits c.self.invariant.hit slot its c.in-Some.ensures.first None refl) ∙ ap (λ n. gave_up n (doing_of s kept.room)) serial)
-    ∙ ap gave_up_in c.self.view_is
+    ∙ changed_told s new c.in-Some.key c.in-Some.live ends.slot None kept.room c.self.invariant.sound.are c.in-Some.ensures.at ends.turns ends.drawn ends.under
+    ∙ ap (λ n. gave_up n (doing_of s kept.room)) c.in-Some.ensures.is in
+    ap (λ date. metered_in (energies date c.self.inside.meter) (doing_of new c.leave.new.kept.room)) ends.turns.date
+    ∙ ap (metered_in (energies kept.date c.self.inside.meter)) told
+    ∙ ap (gave_up c.args.serial.0) c.self.view_is

@@ -10,7 +10,9 @@ pub returns-in-Some : goal.returns-in-Some
 returns-in-Some c =
     let kept = c.self.inside.kept in
     let s : State = state_of kept in
-    subst (λ (d : Doing). IsHit d c.in-Some.serial.0) c.self.view_is (hit_told s c.self.invariant.sound.are c.self.inside.hits c.self.invariant.hit c.in-Some.field-0-0 (key c.in-Some.field-0-1 c.in-Some.serial) c.in-Some.ensures.first kept.room)
+    let told = hit_told s c.self.invariant.sound.are c.self.inside.hits c.self.invariant.hit c.in-Some.field-0-0 (key c.in-Some.field-0-1 c.in-Some.serial) c.in-Some.ensures.first kept.room in
+    subst (λ (d : Doing). IsHit d c.in-Some.serial.0) c.self.view_is
+    (record { rest = told.rest; first = told.first; task = told.task; at = told.at; from = told.from; to = told.to })
 
 pub returns-in-None : goal.returns-in-None
 returns-in-None c =

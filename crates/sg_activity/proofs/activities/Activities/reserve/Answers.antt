@@ -3,11 +3,14 @@ use Rattle.sg_activity.specs.declared.kept.Kept.{Kept}
 use Rattle.sg_activity.specs.Doing.{Doing}
 use Rattle.sg_activity.specs.Hosts.{IsHost}
 use Rattle.sg_activity.specs.kept.Sound.{IsSound}
-use Rattle.sg_activity.specs.kept.State.{state_of}
+use Rattle.sg_activity.specs.kept.State.{doing_of, state_of}
 use Rattle.sg_activity.proofs.Grown.{sound_grown, grown_doing}
 use Rattle.sg_activity.specs.kept.Hits.{AreHit, AreSwitches}
 use Rattle.sg_activity.proofs.Hitting.{hits_grown, hits_wider, slots_enough}
 use Rattle.sg_activity.proofs.Indexing.{used_grown, used_wider}
+use Rattle.sg_activity.specs.Underway.{power_at}
+use Rattle.sg_activity.specs.kept.Metered.{energies, metered_in}
+use Rattle.sg_activity.proofs.Metering.{metered_same}
 use Rattle.sg_activity.proofs.activities.Activities.reserve.Goals as goal
 
 pub invariant_of-self : goal.invariant_of-self
@@ -21,6 +24,7 @@ invariant_of-self c =
       used = used_wider (state_of kept).capacities kept.lives.slots kept.ways.items kept.room c.self.inside.index is.used kept.lives.slots kept.ways.items kept.room c.reserve.new.self wider (λ k. refl) (λ k. refl) (omega (arith, is.used.long, wider.longer)) (omega (arith, is.used.uses_free, wider.room));
       switches = is.switches;
       hit = is.hit;
+      metered = is.metered;
     }
 
 pub invariant_of-self-in_err-reserve-2 : goal.invariant_of-self-in_err-reserve-2
@@ -34,6 +38,7 @@ invariant_of-self-in_err-reserve-2 c =
       used = used_wider (state_of kept).capacities kept.lives.slots kept.ways.items kept.room c.self.inside.index is.used kept.lives.slots kept.ways.items kept.room c.reserve.new.self wider (λ k. refl) (λ k. refl) (omega (arith, is.used.long, wider.longer)) (omega (arith, is.used.uses_free, wider.room));
       switches = is.switches;
       hit = subst (AreHit kept) (sym c.in_err-reserve-2.ensures.memory) is.hit;
+      metered = is.metered;
     }
 
 pub invariant_of-self-in_err-grow : goal.invariant_of-self-in_err-grow
@@ -51,13 +56,17 @@ invariant_of-self-in_err-grow c =
           (omega (arith, c.self.invariant.used.uses_free, wider.room, ap (λ (k : Kept). k.room) g.rest));
       switches = subst (λ (k : Kept). AreSwitches k) (sym g.rest) c.self.invariant.switches;
       hit = hits_grown kept new c.reserve-2.new.self (subst (AreHit kept) (sym c.in_ok-reserve-2.ensures.room) (hits_wider kept c.self.inside.hits c.in-Some-checked_add.keys c.self.invariant.hit)) g (omega (arith, c.grow.ensures.few, c.in-Some-checked_add.ensures, c.numbers.ensures, slots_enough c.in-Some-checked_add.keys c.self.inside.hits, ap length c.in_ok-reserve-2.ensures.room));
+      metered = metered_same kept (new) c.self.inside.meter c.self.inside.touched c.self.invariant.metered (ap (λ (k : Kept). length k.hosts.items) g.rest) (ap (λ (k : Kept). k.date) g.rest)
+          (λ host. ap (λ (d : Doing). power_at d.under host) (grown_doing kept new kept.room kept.flows is g new.room));
     }
 
 pub returns-in_err-grow-clause-kept : goal.returns-in_err-grow-clause-kept
 returns-in_err-grow-clause-kept c =
     let kept = c.self.inside.kept in
     let new = c.grow.new.kept in
-    grown_doing kept new kept.room kept.flows c.self.invariant.sound c.grow.ensures.grows new.room ∙ ap (λ (d : Doing). record d { room = new.room }) c.self.view_is
+    ap (λ date. metered_in (energies date c.self.inside.meter) (doing_of (state_of new) new.room)) (ap (λ (k : Kept). k.date) c.grow.ensures.grows.rest)
+    ∙ ap (metered_in (energies kept.date c.self.inside.meter)) (grown_doing kept new kept.room kept.flows c.self.invariant.sound c.grow.ensures.grows new.room)
+    ∙ ap (λ (d : Doing). record d { room = new.room }) c.self.view_is
 
 pub invariant_of-self-2 : goal.invariant_of-self-2
 invariant_of-self-2 c =
@@ -72,8 +81,14 @@ invariant_of-self-2 c =
           (omega (arith, c.in_ok-reserve.ensures.uses));
       switches = subst (λ (k : Kept). AreSwitches k) (sym g.rest) c.self.invariant.switches;
       hit = hits_grown kept new c.reserve-2.new.self (subst (AreHit kept) (sym c.in_ok-reserve-2.ensures.room) (hits_wider kept c.self.inside.hits c.in-Some-checked_add.keys c.self.invariant.hit)) g (omega (arith, c.grow.ensures.few, c.in-Some-checked_add.ensures, c.numbers.ensures, slots_enough c.in-Some-checked_add.keys c.self.inside.hits, ap length c.in_ok-reserve-2.ensures.room));
+      metered = metered_same kept (record new { room = c.max-n.result; flows = c.in-Some.flows }) c.self.inside.meter c.self.inside.touched c.self.invariant.metered (ap (λ (k : Kept). length k.hosts.items) g.rest) (ap (λ (k : Kept). k.date) g.rest)
+          (λ host. ap (λ (d : Doing). power_at d.under host) (grown_doing kept new kept.room kept.flows is g new.room));
     }
 
 pub returns-clause-kept : goal.returns-clause-kept
 returns-clause-kept c =
-    grown_doing c.self.inside.kept c.grow.new.kept c.max-n.result c.in-Some.flows c.self.invariant.sound c.grow.ensures.grows c.max-n.result ∙ ap (λ (d : Doing). record d { room = c.max-n.result }) c.self.view_is
+    let kept = c.self.inside.kept in
+    let new = c.grow.new.kept in
+    ap (λ date. metered_in (energies date c.self.inside.meter) (doing_of (state_of new) c.max-n.result)) (ap (λ (k : Kept). k.date) c.grow.ensures.grows.rest)
+    ∙ ap (metered_in (energies kept.date c.self.inside.meter)) (grown_doing kept new c.max-n.result c.in-Some.flows c.self.invariant.sound c.grow.ensures.grows c.max-n.result)
+    ∙ ap (λ (d : Doing). record d { room = c.max-n.result }) c.self.view_is

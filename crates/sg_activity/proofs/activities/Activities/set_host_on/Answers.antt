@@ -1,9 +1,14 @@
-use Rattle.std.proofs.Common.{All, sym, ap, ap₂, subst, ◌∙◌}
+use Rattle.std.proofs.Common.{All, length, sym, ap, ap₂, subst, ◌∙◌}
 use Rattle.sg_activity.specs.Doing.{switched_in}
 use Rattle.sg_activity.specs.Hosts.{IsHost}
 use Rattle.sg_activity.specs.Underway.{with_host_on}
 use Rattle.sg_activity.specs.kept.Index.{IsIndexed}
 use Rattle.sg_activity.specs.kept.State.{State, state_of, doing_of}
+use Rattle.sg_activity.specs.Laws.{IsSameHost}
+use Rattle.sg_activity.specs.kept.Metered.{IsMetered, energies, metered_in}
+use Rattle.sg_activity.specs.kept.State.{under_of}
+use Rattle.sg_activity.proofs.Elsewhere.{same_host_on}
+use Rattle.sg_activity.proofs.Metering.{metered_marked}
 use Rattle.sg_activity.proofs.activities.Activities.set_host_on.Goals as goal
 
 pub invariant_of-self : goal.invariant_of-self
@@ -16,7 +21,16 @@ invariant_of-self c =
       used = subst (λ (st : State). IsIndexed st.capacities st.slots st.ways c.set_host_on.new.kept.room c.self.inside.index) (sym r.state) (subst (λ n. IsIndexed s.capacities s.slots s.ways n c.self.inside.index) (sym r.room) c.self.invariant.used);
       switches = c.set_host_on.ensures.switches;
       hit = c.set_host_on.ensures.hit;
+      metered = subst (IsMetered c.set_host_on.new.kept c.self.inside.meter) (sym c.insert.ensures)
+          (metered_marked c.self.inside.kept c.set_host_on.new.kept c.self.inside.meter c.self.inside.touched c.args.host.0 c.self.invariant.metered (ap (λ (st : State). length st.capacities.hosts) r.state) (ap (λ (st : State). st.date) r.state) c.self.invariant.sound.are r.sound.are
+          (λ host ne. subst (λ u. IsSameHost (under_of s) u host) (sym (ap under_of r.state)) (same_host_on (under_of s) host c.args.host.0 c.args.on ne)));
     }
 
 pub returns : goal.returns
-returns c = let r = c.set_host_on.ensures.flips in ap₂ doing_of r.state r.room ∙ ap (switched_in (with_host_on c.args.host.0 c.args.on)) c.self.view_is
+returns c =
+    let r = c.set_host_on.ensures.flips in
+    let kept = c.self.inside.kept in
+    let meter = c.self.inside.meter in
+    ap (λ date. metered_in (energies date meter) (doing_of (state_of c.set_host_on.new.kept) c.set_host_on.new.kept.room)) (ap (λ (st : State). st.date) r.state)
+    ∙ ap (metered_in (energies kept.date meter)) (ap₂ doing_of r.state r.room)
+    ∙ ap (switched_in (with_host_on c.args.host.0 c.args.on)) c.self.view_is

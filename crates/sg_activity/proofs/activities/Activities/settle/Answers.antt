@@ -13,6 +13,11 @@ use Rattle.sg_activity.specs.kept.State.{links_at}
 use Rattle.sg_activity.specs.kept.Hits.{hit_in}
 use Rattle.sg_activity.proofs.Hitting.{hits_still, hit_stamped}
 use Rattle.sg_activity.proofs.Indexing.{used_still, used_stamped}
+use Rattle.sg_activity.specs.Laws.{IsSameHost}
+use Rattle.sg_activity.specs.kept.Metered.{energies, metered_in}
+use Rattle.sg_activity.specs.kept.State.{under_of}
+use Rattle.sg_activity.proofs.Elsewhere.{same_settled}
+use Rattle.sg_activity.proofs.Metering.{metered_kept, work_metered}
 use Rattle.sg_activity.proofs.activities.Activities.settle.Goals as goal
 
 pub restamp-requires-clause-keys : goal.restamp-requires-clause-keys
@@ -44,10 +49,14 @@ invariant_of-self g c =
     let by = c.settle.ensures.settled in
     let renewed = subst (λ l. AreRenewed s.keys c.renew.new.agenda pool.slots l) c.members.ensures.members c.renew.ensures.dates in
     let none = ap (λ (m : MarkSet). m.members) c.clear.ensures in
+    let are = subst (λ l. IsKept (record s { slots = pool.slots; keys = c.renew.new.agenda; runs = new.slots; fresh = l; ended = new.ended; resources = new.resources; settled = true; arrived = false })) (sym none)
+    (settled_kept s kept.lazy new pool kept.fresh c.restamp.new.fresh c.renew.new.agenda is.are refl is.room.capacities by refl kept.lives refl c.restamp.ensures renewed) in
+    let told =
+    ap (λ l. doing_of (record s { slots = pool.slots; keys = c.renew.new.agenda; runs = new.slots; fresh = l; ended = new.ended; resources = new.resources; settled = true; arrived = false }) kept.room) none
+    ∙ settled_told s kept.lazy new pool kept.fresh c.restamp.new.fresh c.renew.new.agenda is.are refl is.room.capacities by refl kept.lives refl c.restamp.ensures renewed kept.room in
     record {
       sound = record {
-        are = subst (λ l. IsKept (record s { slots = pool.slots; keys = c.renew.new.agenda; runs = new.slots; fresh = l; ended = new.ended; resources = new.resources; settled = true; arrived = false })) (sym none)
-            (settled_kept s kept.lazy new pool kept.fresh c.restamp.new.fresh c.renew.new.agenda is.are refl is.room.capacities by refl kept.lives refl c.restamp.ensures renewed);
+        are = are;
         room = record {
           capacities = by.capacities_kept ∙ is.room.capacities;
           few = is.room.few;
@@ -68,6 +77,8 @@ invariant_of-self g c =
           c.restamp.ensures.long (omega arith);
       switches = c.self.invariant.switches;
       hit = hits_still s.on s.slots s.ways c.self.inside.hits c.self.invariant.hit pool.slots s.ways (λ key. ap (hit_in s.on (links_at s.ways key)) (c.restamp.ensures.slots key) ∙ hit_stamped s.on (links_at s.ways key) new.changed new.slots s.date (slot_at s.slots key)) c.restamp.ensures.long;
+      metered = metered_kept kept _ c.self.inside.meter c.self.inside.touched c.self.invariant.metered refl refl is.are are
+          (λ host. subst (λ u. IsSameHost (under_of s) u host) (sym (ap (λ (d : Doing). d.under) told)) (same_settled (under_of s) host));
     }
 
 pub returns-clause-settles : goal.returns-clause-settles
@@ -80,8 +91,10 @@ returns-clause-settles g c =
     let by = c.settle.ensures.settled in
     let renewed = subst (λ l. AreRenewed s.keys c.renew.new.agenda pool.slots l) c.members.ensures.members c.renew.ensures.dates in
     let none = ap (λ (m : MarkSet). m.members) c.clear.ensures in
+    let told =
     ap (λ l. doing_of (record s { slots = pool.slots; keys = c.renew.new.agenda; runs = new.slots; fresh = l; ended = new.ended; resources = new.resources; settled = true; arrived = false }) kept.room) none
-    ∙ settled_told s kept.lazy new pool kept.fresh c.restamp.new.fresh c.renew.new.agenda is.are refl is.room.capacities by refl kept.lives refl c.restamp.ensures renewed kept.room
+    ∙ settled_told s kept.lazy new pool kept.fresh c.restamp.new.fresh c.renew.new.agenda is.are refl is.room.capacities by refl kept.lives refl c.restamp.ensures renewed kept.room in
+    ap (metered_in (energies kept.date c.self.inside.meter)) told
     ∙ ap settled_in c.self.view_is
 
 pub returns-clause-looks : goal.returns-clause-looks
@@ -89,4 +102,4 @@ returns-clause-looks g c =
     let s : State = state_of c.self.inside.kept in
     let same = work_told s c.self.invariant.sound.are in
     let view = ap (λ (d : Doing). work_of d.under) c.self.view_is in
-    omega (arith, c.settle.ensures.looks, same, view)
+    omega (arith, c.settle.ensures.looks, same, work_metered (energies c.self.inside.kept.date c.self.inside.meter) (under_of s), view)

@@ -1,5 +1,5 @@
 use Rattle.std.proofs.Common.{◌≡◌, ◌+◌, ◌-◌, ◌<◌, ◌≤◌, ◌^◌, false, None, Some, List, [], ◌∷◌, ◌++◌, All, get_or, get_or-set_same, get_or-set_other, length, length-set, set, sum_by, sym, ap, ap₂, subst, ◌∙◌, refl, arith}
-use Rattle.sg_base.specs.MarkSet.{MarkSet}
+use Rattle.sg_base.specs.MarkSet.{MarkSet, with_mark}
 use Rattle.sg_base.specs.declared.ids.LinkId.{LinkId}
 use Rattle.sg_activity.specs.declared.kinds.PhaseKind.TheVariants as phase
 use Rattle.sg_activity.specs.declared.kinds.Transfer.{Transfer}
@@ -14,10 +14,17 @@ use Rattle.sg_activity.proofs.Hitting.{hits_more}
 use Rattle.sg_activity.proofs.Indexing.{all_used, long_used, row_idle, used_turned}
 use Rattle.sg_activity.proofs.Listing.{length-listed}
 use Rattle.sg_activity.proofs.Roomy.{ahead_set}
-use Rattle.sg_activity.proofs.Starts.{set_here, set_there}
-use Rattle.sg_activity.proofs.Told.{new_mark, unmarked, begun_told, task_told}
+use Rattle.sg_activity.proofs.Starts.{idle_serial, set_here, set_there}
+use Rattle.sg_activity.proofs.Told.{mark_self, begun_told, task_told}
 use Rattle.sg_activity.proofs.Turned.{turned}
 use Rattle.sg_activity.proofs.Turning.{begun_state, state_same, time_turns, idle_begins, left_fresh}
+use Rattle.sg_activity.specs.Laws.{IsSameHost}
+use Rattle.sg_activity.specs.kept.Metered.{energies, metered_in}
+use Rattle.sg_activity.specs.kept.State.{under_of}
+use Rattle.sg_activity.specs.Power.{loads}
+use Rattle.sg_activity.specs.Slots.{passes}
+use Rattle.sg_activity.proofs.Elsewhere.{same_task}
+use Rattle.sg_activity.proofs.Metering.{metered_kept}
 use Rattle.sg_activity.proofs.activities.Activities.start_comm.Goals as goal
 
 -- what is asked, of what is kept
@@ -30,13 +37,13 @@ things_of-things-requires-clause-few c = c.requires.transfer.few
 pub things_of-things-requires-clause-exist : goal.things_of-things-requires-clause-exist
 things_of-things-requires-clause-exist c =
     let kept = c.self.inside.kept in
-    let may = given c.args.self.now (doing_of (state_of kept) kept.room) c.args.links.now c.args.transfer c.self.view_is c.requires.transfer in
+    let may = given c.args.self.now (metered_in (energies kept.date c.self.inside.meter) (doing_of (state_of kept) kept.room)) c.args.links.now c.args.transfer c.self.view_is c.requires.transfer in
     subst (λ n. All (λ (link : LinkId). link.0 < n) c.args.links.now) (sym (c.len-2.ensures ∙ kept.links.ok.0)) may.exist
 
 pub things_of-things-requires-clause-ends : goal.things_of-things-requires-clause-ends
 things_of-things-requires-clause-ends c =
     let kept = c.self.inside.kept in
-    let may = given c.args.self.now (doing_of (state_of kept) kept.room) c.args.links.now c.args.transfer c.self.view_is c.requires.transfer in
+    let may = given c.args.self.now (metered_in (energies kept.date c.self.inside.meter) (doing_of (state_of kept) kept.room)) c.args.links.now c.args.transfer c.self.view_is c.requires.transfer in
     (omega (arith, may.sender, c.len.ensures, kept.hosts.ok.0), omega (arith, may.receiver, c.len.ensures, kept.hosts.ok.0))
 
 pub things_of-things-requires-clause-fits : goal.things_of-things-requires-clause-fits
@@ -57,7 +64,7 @@ enter-requires-clause-exist c =
     let kept = c.self.inside.kept in
     let s : State = state_of kept in
     let transfer = c.args.transfer in
-    let may = given c.args.self.now (doing_of s kept.room) c.args.links.now transfer c.self.view_is c.requires.transfer in
+    let may = given c.args.self.now (metered_in (energies kept.date c.self.inside.meter) (doing_of s kept.room)) c.args.links.now transfer c.self.view_is c.requires.transfer in
     let things_are : c.as_slice.result.now ≡ used_at (length kept.hosts.items) (length kept.links.items) (over (way_of c.args.links.now transfer)) = c.as_slice.ensures.value ∙ c.things_of-things.ensures
     ∙ ap₂ (λ n m. used_at n m (over (way_of c.args.links.now transfer))) (c.len.ensures ∙ kept.hosts.ok.0) (c.len-2.ensures ∙ kept.links.ok.0) in
     subst (All (λ thing. thing < length c.self.inside.index.users)) (sym things_are)
@@ -68,6 +75,12 @@ enter-requires-clause-room c =
     let kept = c.self.inside.kept in
     let transfer = c.args.transfer in
     omega (arith, ap length (c.as_slice.ensures.value ∙ c.things_of-things.ensures), long_used c.len.result c.len-2.result (way_of c.args.links.now transfer), c.requires.transfer.few, c.self.invariant.used.uses_free, ap (λ (d : Doing). d.room) c.self.view_is, c.requires.room)
+
+pub put-key-requires-clause-apart : goal.put-key-requires-clause-apart
+put-key-requires-clause-apart c =
+    let s : State = state_of c.self.inside.kept in
+    let drawn : length c.args.self.now.under.tasks ≡ s.drawn = sym (ap (λ (d : Doing). length d.under.tasks) c.self.view_is) ∙ length-listed s.drawn (λ i. told_at (task_of s) s.slots (i + 1)) in
+    idle_serial s c.args.serial.0 c.self.invariant.sound.are (sym (task_told s c.args.serial.0 c.requires.from (omega (arith, c.requires.to, drawn))) ∙ ap (λ (d : Doing). task_at d.under.tasks c.args.serial.0) c.self.view_is ∙ c.requires.idle)
 
 pub invariant_of-self : goal.invariant_of-self
 invariant_of-self c =
@@ -81,7 +94,7 @@ invariant_of-self c =
     let free = c.put-key.ensures.free in
     let within = c.put-key.ensures.in_range in
     let to : live.serial ≤ s.drawn = omega (arith, c.requires.to, drawn) in
-    let may = given c.args.self.now (doing_of s kept.room) c.args.links.now transfer c.self.view_is c.requires.transfer in
+    let may = given c.args.self.now (metered_in (energies kept.date c.self.inside.meter) (doing_of s kept.room)) c.args.links.now transfer c.self.view_is c.requires.transfer in
     let small : live.kept ≤ 10 ^ 24 = omega (arith, may.latency) in
     let idle : told_at (task_of s) s.slots live.serial ≡ None = sym (task_told s live.serial c.requires.from to) ∙ ap (λ (d : Doing). task_at d.under.tasks live.serial) c.self.view_is ∙ c.requires.idle in
     let ways : List (List LinkId) = set s.ways key c.follow.new.self in
@@ -90,16 +103,21 @@ invariant_of-self c =
     (record { links = record { some = may.some; apart = may.apart; exist = may.exist; few = may.few }; sender = may.sender; receiver = may.receiver }) in
     let new : State = begun_state s s.drawn key live ways s.keys s.runs s.by_flow in
     let turns : Turns s new key live.serial (Some live) = time_turns s s.drawn key live ways is.are (idle_begins s key live is.are within free c.requires.from to idle refl small may.bytes (omega arith, omega arith)) free refl refl (λ k ne. get_or-set_other s.ways key k c.follow.new.self [] ne) way in
-    let state_is = state_same s s.drawn false c.put-key.new.self.slots (set s.slots key (Some live)) ways ways s.keys s.keys s.runs s.runs s.by_flow s.by_flow c.insert.new.self.members (s.fresh ++ key ∷ []) s.ended s.ended s.resources s.resources
-    c.put-key.ensures.slots refl refl refl refl (ap (λ (m : MarkSet). m.members) c.insert.ensures ∙ new_mark key s.fresh (unmarked s key is.are free)) refl refl in
+    let state_is = state_same s s.drawn false c.put-key.new.self.slots (set s.slots key (Some live)) ways ways s.keys s.keys s.runs s.runs s.by_flow s.by_flow c.insert.new.self.members (with_mark key s.fresh) s.ended s.ended s.resources s.resources
+    c.put-key.ensures.slots refl refl refl refl (ap (λ (m : MarkSet). m.members) c.insert.ensures) refl refl in
     let room = ap (λ (d : Doing). d.room) c.self.view_is in
     let things_are : c.as_slice.result.now ≡ used_at (length kept.hosts.items) (length kept.links.items) (over (way_of c.args.links.now transfer)) = c.as_slice.ensures.value ∙ c.things_of-things.ensures
     ∙ ap₂ (λ n m. used_at n m (over (way_of c.args.links.now transfer))) (c.len.ensures ∙ kept.hosts.ok.0) (c.len-2.ensures ∙ kept.links.ok.0) in
     let used_here : used_at (length kept.hosts.items) (length kept.links.items) (over (way_of c.args.links.now transfer)) ≡ used_by (length kept.hosts.items) (length kept.links.items) (links_at ways key) (Some live) = ap (λ l. used_by (length kept.hosts.items) (length kept.links.items) l (Some live)) (sym here) in
     let few : length c.as_slice.result.now ≤ 66 = omega (arith, ap length things_are, long_used (length kept.hosts.items) (length kept.links.items) (way_of c.args.links.now transfer), may.few) in
+    let are = subst IsKept (sym state_is) (turned s new key live.serial (Some live) is.are turns) in
+    let told =
+    ap (λ st. doing_of st (kept.room - 1)) state_is
+    ∙ begun_told s new key live.serial (Some live) is.are turns live kept.room refl refl c.requires.from to idle free (mark_self key s.fresh) refl
+    ∙ ap₂ (λ n l. begun_in c.args.serial.0 (record { kind = phase.Latency; left = n; place = over (record { links = l; sender = transfer.sender.0; receiver = transfer.receiver.0 }); weight = 1; bound = transfer.bound; bytes = transfer.bytes }) (doing_of s kept.room)) (left_fresh transfer.latency 1 kept.date) here in
     record {
       sound = record {
-        are = subst IsKept (sym state_is) (turned s new key live.serial (Some live) is.are turns);
+        are = are;
         room = record {
           capacities = is.room.capacities;
           few = is.room.few;
@@ -123,6 +141,8 @@ invariant_of-self c =
       switches = c.self.invariant.switches;
       hit = hits_more s.on s.slots s.ways c.self.inside.hits c.self.invariant.hit key live c.put-key.new.self.slots ways free within (ap (λ l. is_cut s.on (record { links = l; sender = transfer.sender.0; receiver = transfer.receiver.0 })) here ∙ may.on) c.put-key.ensures.slots
           (λ k ne. get_or-set_other s.ways key k c.follow.new.self [] ne);
+      metered = metered_kept kept _ c.self.inside.meter c.self.inside.touched c.self.invariant.metered refl refl is.are are
+          (λ host. subst (λ u. IsSameHost (under_of s) u host) (sym (ap (λ (d : Doing). d.under) told)) (same_task (under_of s) host c.args.serial.0 (Some (comm_of (way_of c.args.links.now transfer) transfer.latency transfer.bytes transfer.bound)) (ap (passes (loads host)) (ap (λ (d : Doing). task_at d.under.tasks c.args.serial.0) c.self.view_is ∙ c.requires.idle)) refl));
     }
 
 pub returns : goal.returns
@@ -137,7 +157,7 @@ returns c =
     let free = c.put-key.ensures.free in
     let within = c.put-key.ensures.in_range in
     let to : live.serial ≤ s.drawn = omega (arith, c.requires.to, drawn) in
-    let may = given c.args.self.now (doing_of s kept.room) c.args.links.now transfer c.self.view_is c.requires.transfer in
+    let may = given c.args.self.now (metered_in (energies kept.date c.self.inside.meter) (doing_of s kept.room)) c.args.links.now transfer c.self.view_is c.requires.transfer in
     let small : live.kept ≤ 10 ^ 24 = omega (arith, may.latency) in
     let idle : told_at (task_of s) s.slots live.serial ≡ None = sym (task_told s live.serial c.requires.from to) ∙ ap (λ (d : Doing). task_at d.under.tasks live.serial) c.self.view_is ∙ c.requires.idle in
     let ways : List (List LinkId) = set s.ways key c.follow.new.self in
@@ -146,9 +166,11 @@ returns c =
     (record { links = record { some = may.some; apart = may.apart; exist = may.exist; few = may.few }; sender = may.sender; receiver = may.receiver }) in
     let new : State = begun_state s s.drawn key live ways s.keys s.runs s.by_flow in
     let turns : Turns s new key live.serial (Some live) = time_turns s s.drawn key live ways is.are (idle_begins s key live is.are within free c.requires.from to idle refl small may.bytes (omega arith, omega arith)) free refl refl (λ k ne. get_or-set_other s.ways key k c.follow.new.self [] ne) way in
-    let state_is = state_same s s.drawn false c.put-key.new.self.slots (set s.slots key (Some live)) ways ways s.keys s.keys s.runs s.runs s.by_flow s.by_flow c.insert.new.self.members (s.fresh ++ key ∷ []) s.ended s.ended s.resources s.resources
-    c.put-key.ensures.slots refl refl refl refl (ap (λ (m : MarkSet). m.members) c.insert.ensures ∙ new_mark key s.fresh (unmarked s key is.are free)) refl refl in
+    let state_is = state_same s s.drawn false c.put-key.new.self.slots (set s.slots key (Some live)) ways ways s.keys s.keys s.runs s.runs s.by_flow s.by_flow c.insert.new.self.members (with_mark key s.fresh) s.ended s.ended s.resources s.resources
+    c.put-key.ensures.slots refl refl refl refl (ap (λ (m : MarkSet). m.members) c.insert.ensures) refl refl in
+    let told =
     ap (λ st. doing_of st (kept.room - 1)) state_is
-    ∙ begun_told s new key live.serial (Some live) is.are turns live kept.room refl refl c.requires.from to idle free refl refl
-    ∙ ap₂ (λ n l. begun_in c.args.serial.0 (record { kind = phase.Latency; left = n; place = over (record { links = l; sender = transfer.sender.0; receiver = transfer.receiver.0 }); weight = 1; bound = transfer.bound; bytes = transfer.bytes }) (doing_of s kept.room)) (left_fresh transfer.latency 1 kept.date) here
+    ∙ begun_told s new key live.serial (Some live) is.are turns live kept.room refl refl c.requires.from to idle free (mark_self key s.fresh) refl
+    ∙ ap₂ (λ n l. begun_in c.args.serial.0 (record { kind = phase.Latency; left = n; place = over (record { links = l; sender = transfer.sender.0; receiver = transfer.receiver.0 }); weight = 1; bound = transfer.bound; bytes = transfer.bytes }) (doing_of s kept.room)) (left_fresh transfer.latency 1 kept.date) here in
+    ap (metered_in (energies kept.date c.self.inside.meter)) told
     ∙ ap (begun_in c.args.serial.0 (comm_of (way_of c.args.links.now transfer) transfer.latency transfer.bytes transfer.bound)) c.self.view_is

@@ -1,5 +1,5 @@
 use Rattle.std.proofs.Common.{◌≡◌, ◌+◌, ◌-◌, ◌*◌, ◌<◌, ◌≤◌, ◌^◌, true, false, None, Some, [], ◌∷◌, ◌++◌, length, length-set, set, sum_by, sym, ap, subst, ◌∙◌, refl, arith}
-use Rattle.sg_base.specs.MarkSet.{MarkSet}
+use Rattle.sg_base.specs.MarkSet.{MarkSet, with_mark}
 use Rattle.sg_activity.specs.declared.kinds.PhaseKind.TheVariants as phase
 use Rattle.sg_activity.specs.declared.lives.Live.{Live}
 use Rattle.sg_activity.specs.declared.kinds.HostCap.{HostCap}
@@ -15,7 +15,7 @@ use Rattle.sg_activity.specs.kept.Sound.{IsKept, slot_ahead}
 use Rattle.sg_activity.specs.kept.Turns.{Turns}
 use Rattle.sg_activity.proofs.Listing.{length-listed}
 use Rattle.sg_activity.proofs.Roomy.{ahead_set}
-use Rattle.sg_activity.proofs.Told.{new_mark, unmarked, started_told}
+use Rattle.sg_activity.proofs.Told.{mark_self, started_told}
 use Rattle.sg_activity.proofs.Turned.{turned}
 use Rattle.sg_activity.proofs.Turning.{begun_state, state_same, flow_turns, new_begins, left_fresh}
 use Rattle.std.proofs.Common.{get_or}
@@ -25,7 +25,13 @@ use Rattle.sg_activity.specs.Links.{is_off}
 use Rattle.sg_activity.proofs.Hitting.{hits_more}
 use Rattle.sg_activity.proofs.Indexing.{row_idle, used_turned}
 use Rattle.sg_activity.proofs.Routed.{all_cons}
-use Rattle.sg_activity.proofs.Starts.{set_here, set_there}
+use Rattle.sg_activity.proofs.Starts.{fresh_serial, set_here, set_there}
+use Rattle.sg_activity.specs.Laws.{IsSameHost}
+use Rattle.sg_activity.specs.kept.Metered.{IsMetered, energies, metered_in}
+use Rattle.sg_activity.specs.kept.State.{under_of}
+use Rattle.sg_activity.proofs.Elsewhere.{same_started}
+use Rattle.sg_activity.proofs.Metering.{metered_marked}
+use Rattle.std.proofs.Common.{ne_eqb}
 use Rattle.sg_activity.proofs.activities.Activities.start_exec.Goals as goal
 
 pub enter-requires-clause-key : goal.enter-requires-clause-key
@@ -43,6 +49,12 @@ enter-requires-clause-exist c =
 
 pub enter-requires-clause-room : goal.enter-requires-clause-room
 enter-requires-clause-room c = omega (arith, c.self.invariant.used.uses_free, ap (λ (d : Doing). d.room) c.self.view_is, c.requires.room)
+
+pub put-key-requires-clause-apart : goal.put-key-requires-clause-apart
+put-key-requires-clause-apart c =
+    let s : State = state_of c.self.inside.kept in
+    let drawn : length c.args.self.now.under.tasks ≡ s.drawn = sym (ap (λ (d : Doing). length d.under.tasks) c.self.view_is) ∙ length-listed s.drawn (λ i. told_at (task_of s) s.slots (i + 1)) in
+    fresh_serial s c.next_serial-serial.result.0 c.self.invariant.sound.are (omega (arith, c.next_serial-serial.ensures, drawn))
 
 pub invariant_of-self : goal.invariant_of-self
 invariant_of-self c =
@@ -66,11 +78,16 @@ invariant_of-self c =
     let small : live.kept ≤ 10 ^ 24 = omega (arith, c.from.ensures, c.requires.flops) in
     let new : State = begun_state s (s.drawn + 1) key live s.ways s.keys (set s.runs id (Some run)) (set s.by_flow id key) in
     let turns : Turns s new key live.serial (Some live) = flow_turns s (s.drawn + 1) key live s.keys is.are (new_begins s key live is.are within free serial refl small (omega arith) c.requires.priority) refl refl c.start-flow.ensures.free c.start-flow.ensures.in_range by_in (record { weighs = c.requires.priority.0; bounds = λ _. refl }) there in
-    let state_is = state_same s (s.drawn + 1) false c.put-key.new.self.slots (set s.slots key (Some live)) s.ways s.ways s.keys s.keys c.start-flow.new.self.slots (set s.runs id (Some run)) (set s.by_flow id key) (set s.by_flow id key) c.insert.new.self.members (s.fresh ++ key ∷ []) c.start-flow.new.self.ended s.ended c.start-flow.new.self.resources s.resources
-    c.put-key.ensures.slots refl refl runs refl (ap (λ (m : MarkSet). m.members) c.insert.ensures ∙ new_mark key s.fresh (unmarked s key is.are free)) (ap (λ (l : Lazily). l.ended) c.start-flow.ensures.starts) (ap (λ (l : Lazily). l.resources) c.start-flow.ensures.starts) in
+    let state_is = state_same s (s.drawn + 1) false c.put-key.new.self.slots (set s.slots key (Some live)) s.ways s.ways s.keys s.keys c.start-flow.new.self.slots (set s.runs id (Some run)) (set s.by_flow id key) (set s.by_flow id key) c.insert.new.self.members (with_mark key s.fresh) c.start-flow.new.self.ended s.ended c.start-flow.new.self.resources s.resources
+    c.put-key.ensures.slots refl refl runs refl (ap (λ (m : MarkSet). m.members) c.insert.ensures) (ap (λ (l : Lazily). l.ended) c.start-flow.ensures.starts) (ap (λ (l : Lazily). l.resources) c.start-flow.ensures.starts) in
+    let are = subst IsKept (sym state_is) (turned s new key live.serial (Some live) is.are turns) in
+    let told =
+    ap (λ st. doing_of st (kept.room - 1)) state_is
+    ∙ started_told s new key live.serial (Some live) is.are turns live kept.room refl refl serial (mark_self key s.fresh) refl
+    ∙ ap (λ n. started_in (record { kind = phase.Exec; left = n; place = on_host c.args.host.0; weight = c.args.priority; bound = None; bytes = 0 }) (doing_of s kept.room)) (left_fresh (c.from.result * 1000000000) 0 kept.date ∙ ap (λ n. n * 1000000000) c.from.ensures) in
     record {
       sound = record {
-        are = subst IsKept (sym state_is) (turned s new key live.serial (Some live) is.are turns);
+        are = are;
         room = record {
           capacities = ap (λ (l : Lazily). l.capacities) c.start-flow.ensures.starts ∙ is.room.capacities;
           few = omega (arith, drawn, c.requires.few);
@@ -92,6 +109,9 @@ invariant_of-self c =
           (omega (arith, c.self.invariant.used.uses_free, c.enter.ensures.room, room, c.requires.room));
       switches = c.self.invariant.switches;
       hit = hits_more s.on s.slots s.ways c.self.inside.hits c.self.invariant.hit key live c.put-key.new.self.slots s.ways free within (subst (λ (d : Doing). is_off d.under.on.hosts c.args.host.0 ≡ false) (sym c.self.view_is) c.requires.on) c.put-key.ensures.slots (λ k ne. refl);
+      metered = subst (IsMetered _ c.self.inside.meter) (sym c.insert-2.ensures)
+          (metered_marked kept _ c.self.inside.meter c.self.inside.touched c.args.host.0 c.self.invariant.metered refl refl is.are are
+          (λ other ne. subst (λ u. IsSameHost (under_of s) u other) (sym (ap (λ (d : Doing). d.under) told)) (same_started (under_of s) other (exec_of c.args.host.0 c.args.flops c.args.priority) (ne_eqb c.args.host.0 other (λ e. ne (sym e))))));
     }
 
 pub returns-clause-starts : goal.returns-clause-starts
@@ -115,9 +135,11 @@ returns-clause-starts c =
     let small : live.kept ≤ 10 ^ 24 = omega (arith, c.from.ensures, c.requires.flops) in
     let new : State = begun_state s (s.drawn + 1) key live s.ways s.keys (set s.runs id (Some run)) (set s.by_flow id key) in
     let turns : Turns s new key live.serial (Some live) = flow_turns s (s.drawn + 1) key live s.keys is.are (new_begins s key live is.are within free serial refl small (omega arith) c.requires.priority) refl refl c.start-flow.ensures.free c.start-flow.ensures.in_range by_in (record { weighs = c.requires.priority.0; bounds = λ _. refl }) there in
-    let state_is = state_same s (s.drawn + 1) false c.put-key.new.self.slots (set s.slots key (Some live)) s.ways s.ways s.keys s.keys c.start-flow.new.self.slots (set s.runs id (Some run)) (set s.by_flow id key) (set s.by_flow id key) c.insert.new.self.members (s.fresh ++ key ∷ []) c.start-flow.new.self.ended s.ended c.start-flow.new.self.resources s.resources
-    c.put-key.ensures.slots refl refl runs refl (ap (λ (m : MarkSet). m.members) c.insert.ensures ∙ new_mark key s.fresh (unmarked s key is.are free)) (ap (λ (l : Lazily). l.ended) c.start-flow.ensures.starts) (ap (λ (l : Lazily). l.resources) c.start-flow.ensures.starts) in
+    let state_is = state_same s (s.drawn + 1) false c.put-key.new.self.slots (set s.slots key (Some live)) s.ways s.ways s.keys s.keys c.start-flow.new.self.slots (set s.runs id (Some run)) (set s.by_flow id key) (set s.by_flow id key) c.insert.new.self.members (with_mark key s.fresh) c.start-flow.new.self.ended s.ended c.start-flow.new.self.resources s.resources
+    c.put-key.ensures.slots refl refl runs refl (ap (λ (m : MarkSet). m.members) c.insert.ensures) (ap (λ (l : Lazily). l.ended) c.start-flow.ensures.starts) (ap (λ (l : Lazily). l.resources) c.start-flow.ensures.starts) in
+    let told =
     ap (λ st. doing_of st (kept.room - 1)) state_is
-    ∙ started_told s new key live.serial (Some live) is.are turns live kept.room refl refl serial free refl refl
-    ∙ ap (λ n. started_in (record { kind = phase.Exec; left = n; place = on_host c.args.host.0; weight = c.args.priority; bound = None; bytes = 0 }) (doing_of s kept.room)) (left_fresh (c.from.result * 1000000000) 0 kept.date ∙ ap (λ n. n * 1000000000) c.from.ensures)
+    ∙ started_told s new key live.serial (Some live) is.are turns live kept.room refl refl serial (mark_self key s.fresh) refl
+    ∙ ap (λ n. started_in (record { kind = phase.Exec; left = n; place = on_host c.args.host.0; weight = c.args.priority; bound = None; bytes = 0 }) (doing_of s kept.room)) (left_fresh (c.from.result * 1000000000) 0 kept.date ∙ ap (λ n. n * 1000000000) c.from.ensures) in
+    ap (metered_in (energies kept.date c.self.inside.meter)) told
     ∙ ap (started_in (exec_of c.args.host.0 c.args.flops c.args.priority)) c.self.view_is

@@ -1,5 +1,5 @@
 use Rattle.std.proofs.Common.{◌≡◌, ◌+◌, ◌-◌, ◌≤◌, ◌^◌, false, None, Some, [], ◌∷◌, ◌++◌, length, length-set, set, sum_by, sym, ap, subst, ◌∙◌, refl, arith}
-use Rattle.sg_base.specs.MarkSet.{MarkSet}
+use Rattle.sg_base.specs.MarkSet.{MarkSet, with_mark}
 use Rattle.sg_activity.specs.declared.kinds.PhaseKind.TheVariants as phase
 use Rattle.sg_activity.specs.declared.lives.Live.{Live}
 use Rattle.sg_activity.specs.Task.{timer_of, nowhere}
@@ -9,7 +9,7 @@ use Rattle.sg_activity.specs.kept.Sound.{IsKept, slot_ahead}
 use Rattle.sg_activity.specs.kept.Turns.{Turns}
 use Rattle.sg_activity.proofs.Listing.{length-listed}
 use Rattle.sg_activity.proofs.Roomy.{ahead_set}
-use Rattle.sg_activity.proofs.Told.{new_mark, unmarked, started_told}
+use Rattle.sg_activity.proofs.Told.{mark_self, started_told}
 use Rattle.sg_activity.proofs.Turned.{turned}
 use Rattle.sg_activity.proofs.Turning.{begun_state, state_same, time_turns, new_begins, left_fresh}
 use Rattle.std.proofs.Common.{inl, inr, get_or}
@@ -18,8 +18,19 @@ use Rattle.sg_activity.specs.kept.State.{links_at}
 use Rattle.sg_activity.proofs.Hitting.{hits_more}
 use Rattle.sg_activity.proofs.Indexing.{used_still}
 use Rattle.sg_activity.proofs.Listing.{eq_cases}
-use Rattle.sg_activity.proofs.Starts.{set_here, set_there}
+use Rattle.sg_activity.proofs.Starts.{fresh_serial, set_here, set_there}
+use Rattle.sg_activity.specs.Laws.{IsSameHost}
+use Rattle.sg_activity.specs.kept.Metered.{energies, metered_in}
+use Rattle.sg_activity.specs.kept.State.{under_of}
+use Rattle.sg_activity.proofs.Elsewhere.{same_started}
+use Rattle.sg_activity.proofs.Metering.{metered_kept}
 use Rattle.sg_activity.proofs.activities.Activities.start_timer.Goals as goal
+
+pub put-key-requires-clause-apart : goal.put-key-requires-clause-apart
+put-key-requires-clause-apart c =
+    let s : State = state_of c.self.inside.kept in
+    let drawn : length c.args.self.now.under.tasks ≡ s.drawn = sym (ap (λ (d : Doing). length d.under.tasks) c.self.view_is) ∙ length-listed s.drawn (λ i. told_at (task_of s) s.slots (i + 1)) in
+    fresh_serial s c.next_serial-serial.result.0 c.self.invariant.sound.are (omega (arith, c.next_serial-serial.ensures, drawn))
 
 pub invariant_of-self : goal.invariant_of-self
 invariant_of-self c =
@@ -36,11 +47,16 @@ invariant_of-self c =
     let small : live.kept ≤ 10 ^ 24 = omega (arith, c.from.ensures, c.requires.ns) in
     let new : State = begun_state s (s.drawn + 1) key live s.ways s.keys s.runs s.by_flow in
     let turns : Turns s new key live.serial (Some live) = time_turns s (s.drawn + 1) key live s.ways is.are (new_begins s key live is.are within free serial refl small (omega arith) (omega arith, omega arith)) free refl refl (λ k ne. refl) tt in
-    let state_is = state_same s (s.drawn + 1) false c.put-key.new.self.slots (set s.slots key (Some live)) s.ways s.ways s.keys s.keys s.runs s.runs s.by_flow s.by_flow c.insert.new.self.members (s.fresh ++ key ∷ []) s.ended s.ended s.resources s.resources
-    c.put-key.ensures.slots refl refl refl refl (ap (λ (m : MarkSet). m.members) c.insert.ensures ∙ new_mark key s.fresh (unmarked s key is.are free)) refl refl in
+    let state_is = state_same s (s.drawn + 1) false c.put-key.new.self.slots (set s.slots key (Some live)) s.ways s.ways s.keys s.keys s.runs s.runs s.by_flow s.by_flow c.insert.new.self.members (with_mark key s.fresh) s.ended s.ended s.resources s.resources
+    c.put-key.ensures.slots refl refl refl refl (ap (λ (m : MarkSet). m.members) c.insert.ensures) refl refl in
+    let are = subst IsKept (sym state_is) (turned s new key live.serial (Some live) is.are turns) in
+    let told =
+    ap (λ st. doing_of st (kept.room - 1)) state_is
+    ∙ started_told s new key live.serial (Some live) is.are turns live kept.room refl refl serial (mark_self key s.fresh) refl
+    ∙ ap (λ n. started_in (record { kind = phase.Timer; left = n; place = nowhere; weight = 1; bound = None; bytes = 0 }) (doing_of s kept.room)) (left_fresh c.from.result 1 kept.date ∙ c.from.ensures) in
     record {
       sound = record {
-        are = subst IsKept (sym state_is) (turned s new key live.serial (Some live) is.are turns);
+        are = are;
         room = record {
           capacities = is.room.capacities;
           few = omega (arith, drawn, c.requires.few);
@@ -65,6 +81,8 @@ invariant_of-self c =
           (ap length c.put-key.ensures.slots ∙ length-set s.slots key (Some live)) (omega arith);
       switches = c.self.invariant.switches;
       hit = hits_more s.on s.slots s.ways c.self.inside.hits c.self.invariant.hit key live c.put-key.new.self.slots s.ways free within refl c.put-key.ensures.slots (λ k ne. refl);
+      metered = metered_kept kept _ c.self.inside.meter c.self.inside.touched c.self.invariant.metered refl refl is.are are
+          (λ host. subst (λ u. IsSameHost (under_of s) u host) (sym (ap (λ (d : Doing). d.under) told)) (same_started (under_of s) host (timer_of c.args.ns) refl));
     }
 
 pub returns-clause-starts : goal.returns-clause-starts
@@ -81,9 +99,11 @@ returns-clause-starts c =
     let small : live.kept ≤ 10 ^ 24 = omega (arith, c.from.ensures, c.requires.ns) in
     let new : State = begun_state s (s.drawn + 1) key live s.ways s.keys s.runs s.by_flow in
     let turns : Turns s new key live.serial (Some live) = time_turns s (s.drawn + 1) key live s.ways is.are (new_begins s key live is.are within free serial refl small (omega arith) (omega arith, omega arith)) free refl refl (λ k ne. refl) tt in
-    let state_is = state_same s (s.drawn + 1) false c.put-key.new.self.slots (set s.slots key (Some live)) s.ways s.ways s.keys s.keys s.runs s.runs s.by_flow s.by_flow c.insert.new.self.members (s.fresh ++ key ∷ []) s.ended s.ended s.resources s.resources
-    c.put-key.ensures.slots refl refl refl refl (ap (λ (m : MarkSet). m.members) c.insert.ensures ∙ new_mark key s.fresh (unmarked s key is.are free)) refl refl in
+    let state_is = state_same s (s.drawn + 1) false c.put-key.new.self.slots (set s.slots key (Some live)) s.ways s.ways s.keys s.keys s.runs s.runs s.by_flow s.by_flow c.insert.new.self.members (with_mark key s.fresh) s.ended s.ended s.resources s.resources
+    c.put-key.ensures.slots refl refl refl refl (ap (λ (m : MarkSet). m.members) c.insert.ensures) refl refl in
+    let told =
     ap (λ st. doing_of st (kept.room - 1)) state_is
-    ∙ started_told s new key live.serial (Some live) is.are turns live kept.room refl refl serial free refl refl
-    ∙ ap (λ n. started_in (record { kind = phase.Timer; left = n; place = nowhere; weight = 1; bound = None; bytes = 0 }) (doing_of s kept.room)) (left_fresh c.from.result 1 kept.date ∙ c.from.ensures)
+    ∙ started_told s new key live.serial (Some live) is.are turns live kept.room refl refl serial (mark_self key s.fresh) refl
+    ∙ ap (λ n. started_in (record { kind = phase.Timer; left = n; place = nowhere; weight = 1; bound = None; bytes = 0 }) (doing_of s kept.room)) (left_fresh c.from.result 1 kept.date ∙ c.from.ensures) in
+    ap (metered_in (energies kept.date c.self.inside.meter)) told
     ∙ ap (started_in (timer_of c.args.ns)) c.self.view_is

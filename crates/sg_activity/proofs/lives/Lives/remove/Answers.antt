@@ -1,13 +1,31 @@
-use Rattle.std.proofs.Common.{IsSome, ◌++◌, [], ◌∷◌, None, set, subst, sym}
+use Rattle.std.proofs.Common.{◌≡◌, ◌≢◌, ◌<◌, ◌+◌, ◌++◌, [], ◌∷◌, ℕ, cond, nat_eq, IsSome, Option, None, Some, length, set, subst, sym, ap, ◌∙◌, arith}
+use Rattle.std.specs.HashMap as hash
 use Rattle.std.specs.Prelude.{vec_capacity}
-use Rattle.sg_activity.specs.kept.Pool.{Pool, IsPool, slot_at}
-use Rattle.sg_activity.proofs.Pooled.{given_back, within_there}
+use Rattle.std.proofs.lemmas.List.{get_or_default, length-append}
+use Rattle.sg_activity.specs.Slots.{passes}
+use Rattle.sg_activity.specs.kept.Pool.{Pool, IsPool, goes_on, slot_at}
+use Rattle.sg_activity.proofs.Found.{agrees, differs, found_gone}
+use Rattle.sg_activity.proofs.Pooled.{counts_set, given_back, within_there}
 use Rattle.sg_activity.proofs.lives.Lives.remove.Goals as goal
 
 pub invariant_of-self : goal.invariant_of-self
 invariant_of-self c =
     let s = c.self.inside in
-    let there = subst (λ (p : Pool). IsSome (slot_at p.slots c.args.key)) (sym c.self.view_is) c.requires in
-    let back = given_back s.slots.items s.free.items c.args.key (vec_capacity s.free) c.self.invariant (within_there s.slots.items c.args.key there) there in
-    subst (λ l. IsPool (set s.slots.items c.args.key None) l (vec_capacity c.push_reserved.new.self)) (sym c.push_reserved.ensures.items)
-    (subst (IsPool (set s.slots.items c.args.key None) (s.free.items ++ c.args.key ∷ [])) (sym c.push_reserved.ensures.capacity) back)
+    let slots = s.slots.items in
+    let key = c.args.key in
+    let old = c.in-Some.old in
+    let there = subst (λ (p : Pool). IsSome (slot_at p.slots key)) (sym c.self.view_is) c.requires in
+    let within : key < length slots = within_there slots key there in
+    let at : slot_at slots key ≡ Some old = sym (c.index.ensures ∙ get_or_default slots _ _ _ within) ∙ c.in-Some.is in
+    let back = given_back slots s.free.items key (vec_capacity s.free) c.self.invariant.pool within there in
+    let f : ℕ → Option ℕ = hash.get nat_eq s.by_serial in
+    let g : ℕ → Option ℕ = hash.get nat_eq c.remove.new.self in
+    let up = c.remove.ensures.updates in
+    record {
+      pool = subst (λ l. IsPool (set slots key None) l (vec_capacity c.push_reserved.new.self)) (sym c.push_reserved.ensures.items)
+          (subst (IsPool (set slots key None) (s.free.items ++ key ∷ [])) (sym c.push_reserved.ensures.capacity) back);
+      keyed = found_gone slots f key c.self.invariant.keyed within g old at (up.0 old.serial ∙ ap (λ b. cond b None (f old.serial)) (agrees old.serial)) (λ j ne. up.0 j ∙ ap (λ b. cond b None (f j)) (differs old.serial j ne));
+      goes = omega (arith, c.self.invariant.goes, c.going_by.ensures, counts_set slots key None within, ap {B = ℕ} (λ o. cond (passes goes_on o) 1 0) at);
+      free_room = omega (arith, c.self.invariant.free_room, ap length c.push_reserved.ensures.items, length-append s.free.items (key ∷ []));
+      spare_room = omega (arith, c.self.invariant.spare_room, c.remove.ensures.spare);
+    }

@@ -11,9 +11,6 @@ use Rattle.sg_kernel.proofs.kernel.Kernel.pass.Goals as goal
 pub move_on-requires-clause-settled : goal.move_on-requires-clause-settled
 move_on-requires-clause-settled g c = ap (λ (d : Doing). d.settled) c.settle.ensures.settles
 
-pub move_on-requires-clause-stale : goal.move_on-requires-clause-stale
-move_on-requires-clause-stale g c = ap (λ (d : Doing). d.under.marks.began) c.settle.ensures.settles
-
 pub move_on-requires-clause-whole : goal.move_on-requires-clause-whole
 move_on-requires-clause-whole g c = whole_settled c.self.inside.fields c.settle.new.self c.settle.ensures.settles c.self.invariant
 

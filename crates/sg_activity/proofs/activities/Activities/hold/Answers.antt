@@ -1,0 +1,68 @@
+use Rattle.std.proofs.Common.{◌≡◌, ◌-◌, All, Some, refl, arith, true, length, true≢false, sym, ap, subst, ◌∙◌}
+use Rattle.sg_activity.specs.declared.kinds.PhaseKind.TheVariants as phase
+use Rattle.sg_activity.specs.Hosts.{IsHost}
+use Rattle.sg_activity.specs.Links.{Capacities}
+use Rattle.sg_activity.specs.Doing.{Doing, held_in}
+use Rattle.sg_activity.specs.Task.{is_exec}
+use Rattle.sg_activity.specs.Underway.{is_computing}
+use Rattle.sg_activity.specs.kept.State.{State, state_of, doing_of}
+use Rattle.sg_activity.proofs.Holding.{exec_is, kind_found, kind_missed, held_told}
+use Rattle.sg_activity.proofs.Switched.{switches_alike}
+use Rattle.sg_activity.specs.kept.Metered.{IsMetered, energies, metered_in, noted}
+use Rattle.sg_activity.specs.kept.Pool.{slot_at}
+use Rattle.sg_activity.proofs.Metering.{exec_host, metered_turned, not_noted}
+use Rattle.sg_activity.specs.Task.{rekinded}
+use Rattle.sg_activity.specs.kept.State.{task_of}
+use Rattle.sg_activity.proofs.activities.Activities.hold.Goals as goal
+
+pub unreachable-requires : goal.unreachable-requires
+unreachable-requires c =
+    let s : State = state_of c.self.inside.kept in
+    true≢false (sym c.requires.computes ∙ ap (λ (d : Doing). is_computing d.under c.args.serial.0) (sym c.self.view_is) ∙ kind_missed s c.self.invariant.sound.are c.args.serial.0 is_exec c.requires.from c.in_default.ensures)
+
+pub hold-requires-clause-kind : goal.hold-requires-clause-kind
+hold-requires-clause-kind c =
+    let s : State = state_of c.self.inside.kept in
+    exec_is c.in-Some.live.kind (sym (kind_found s c.self.invariant.sound.are c.args.serial.0 is_exec c.in-Some.key c.in-Some.live c.in-Some.ensures) ∙ ap (λ (d : Doing). is_computing d.under c.args.serial.0) c.self.view_is ∙ c.requires.computes)
+
+pub hold-requires-clause-at : goal.hold-requires-clause-at
+hold-requires-clause-at c = c.in-Some.ensures.at
+
+pub note-requires : goal.note-requires
+note-requires c = λ exec. omega (arith, exec_host (state_of c.self.inside.kept) c.in-Some.key c.in-Some.live c.self.invariant.sound.are c.in-Some.ensures.at exec, c.self.invariant.metered.room)
+
+pub invariant_of-self : goal.invariant_of-self
+invariant_of-self c =
+    let kept = c.self.inside.kept in
+    let ends = c.hold.ensures.ends in
+    let s : State = state_of kept in
+    let key = c.in-Some.key in
+    let live = c.in-Some.live in
+    let at : slot_at kept.lives.slots key ≡ Some live = c.in-Some.ensures.at in
+    record {
+      sound = ends.sound;
+      hosts = subst (λ (d : Capacities). All IsHost d.hosts) (sym ends.turns.capacities) c.self.invariant.hosts;
+      used = c.hold.ensures.used c.self.inside.index c.self.invariant.used;
+      switches = switches_alike (state_of kept) (state_of c.hold.new.kept) ends.turns.on (ap (λ (d : Capacities). length d.hosts) ends.turns.capacities) (ap (λ (d : Capacities). length d.links) ends.turns.capacities) c.self.invariant.switches;
+      hit = c.hold.ensures.hit c.self.inside.hits c.self.invariant.hit;
+      metered = subst (IsMetered c.hold.new.kept c.self.inside.meter) (sym c.note.ensures)
+          (metered_turned kept c.hold.new.kept c.self.inside.meter c.self.inside.touched (record c.self.inside.touched { members = noted live c.self.inside.touched.members }) key live ends.slot (Some (rekinded phase.Kept (task_of s key live))) c.self.invariant.metered refl c.self.invariant.sound.are ends.sound.are at ends.turns ends.under
+          (λ host out. let r = not_noted live host c.self.inside.touched.members out in (r.0, (r.1, refl))));
+    }
+
+pub returns : goal.returns
+returns c =
+    let kept = c.self.inside.kept in
+    let s : State = state_of kept in
+    let new : State = state_of c.hold.new.kept in
+    let ends = c.hold.ensures.ends in
+    let key = c.in-Some.key in
+    let live = c.in-Some.live in
+    let is = c.self.invariant.sound.are in
+    let told =
+    ap (λ n. doing_of new n) ends.room
+    ∙ held_told s new key live ends.slot is c.in-Some.ensures.at ends.turns ends.drawn kept.room ends.under
+    ∙ ap (λ n. held_in n (doing_of s kept.room)) c.in-Some.ensures.is in
+    ap (λ date. metered_in (energies date c.self.inside.meter) (doing_of new c.hold.new.kept.room)) ends.turns.date
+    ∙ ap (metered_in (energies kept.date c.self.inside.meter)) told
+    ∙ ap (held_in c.args.serial.0) c.self.view_is

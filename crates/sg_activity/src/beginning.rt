@@ -1,0 +1,151 @@
+//! What `Activities` keeps at first.
+
+ghost use Rattle.std.specs.Prelude.{◌≡◌, ◌++◌, [], true, All, IfOk, OnOk, length};
+ghost use Rattle.sg_activity.specs.Hosts.{IsHost, offers_of};
+ghost use Rattle.sg_activity.specs.Links.{IsLink, bandwidths_of};
+ghost use Rattle.sg_activity.specs.kept.Whole.{AreIdle};
+
+use crate::index::Index;
+use crate::kept::Kept;
+use crate::kinds::{HostCap, LinkCap};
+use crate::lives::Lives;
+use sg_base::{Marks, Memory};
+use sg_heap::Agenda;
+use sg_lazy::Lazy;
+use std::alloc::Global;
+
+/// All that is kept but for the meter.
+#[derive(Drop)]
+pub(crate) struct Parts {
+    pub(crate) kept: Kept,
+    pub(crate) index: Index,
+    pub(crate) hits: Agenda,
+}
+
+// What each host offers in all.
+fn offers(alloc: Global, hosts: &[HostCap]) -> Result<Vec<u64>, Memory>
+    requires hosts { All IsHost hosts.now }
+    ensures { IfOk result (λ offers. offers.items ≡ offers_of hosts.now) }
+{
+    let mut offers = Vec::new(alloc);
+    for host in hosts {
+        match offers.push(host.speed * u64::from(host.cores)) {
+            Ok(()) => {}
+            Err(_) => return Err(Memory),
+        }
+    }
+    Ok(offers)
+}
+
+// Puts the bandwidths of the links behind.
+fn add_bandwidths(capacities: &mut Vec<u64>, links: &[LinkCap]) -> Result<(), Memory>
+    ensures { OnOk result (capacities.new.items ≡ capacities.old.items ++ bandwidths_of links.now) }
+{
+    for link in links {
+        match capacities.push(link.bandwidth) {
+            Ok(()) => {}
+            Err(_) => return Err(Memory),
+        }
+    }
+    Ok(())
+}
+
+// So many that are on.
+fn all_on(alloc: Global, n: usize) -> Result<Vec<bool>, Memory>
+    ensures long { IfOk result (λ on. length on.items ≡ n) }
+    ensures on { IfOk result (λ on. All (λ b. b ≡ true) on.items) }
+{
+    let mut on = Vec::new(alloc);
+    for _number in 0..n {
+        match on.push(true) {
+            Ok(()) => {}
+            Err(_) => return Err(Memory),
+        }
+    }
+    Ok(on)
+}
+
+// What all hosts offer, and behind it the bandwidths of the links.
+fn capacities(alloc: Global, hosts: &[HostCap], links: &[LinkCap]) -> Result<Vec<u64>, Memory>
+    requires hosts { All IsHost hosts.now }
+    ensures { IfOk result (λ capacities. capacities.items
+        ≡ offers_of hosts.now ++ bandwidths_of links.now) }
+{
+    let mut capacities = offers(alloc, hosts)?;
+    add_bandwidths(&mut capacities, links)?;
+    Ok(capacities)
+}
+
+// The hosts and links, which are on.
+#[derive(Drop)]
+struct Machines {
+    hosts: Vec<HostCap>,
+    links: Vec<LinkCap>,
+    hosts_on: Vec<bool>,
+    links_on: Vec<bool>,
+}
+
+fn own_machines(alloc: Global, hosts: &[HostCap], links: &[LinkCap]) -> Result<Machines, Memory>
+    ensures hosts { IfOk result (λ all. all.hosts.items ≡ hosts.now) }
+    ensures links { IfOk result (λ all. all.links.items ≡ links.now) }
+    ensures hosts_long { IfOk result (λ all. length all.hosts_on.items ≡ length hosts.now) }
+    ensures links_long { IfOk result (λ all. length all.links_on.items ≡ length links.now) }
+    ensures hosts_on { IfOk result (λ all. All (λ b. b ≡ true) all.hosts_on.items) }
+    ensures links_on { IfOk result (λ all. All (λ b. b ≡ true) all.links_on.items) }
+{
+    Ok(Machines {
+        hosts: Vec::from_slice(alloc, hosts)?,
+        links: Vec::from_slice(alloc, links)?,
+        hosts_on: all_on(alloc, hosts.len())?,
+        links_on: all_on(alloc, links.len())?,
+    })
+}
+
+// Two agendas with nothing in them.
+fn agendas(alloc: Global) -> Result<(Agenda, Agenda), Memory>
+    ensures first { IfOk result (λ both. both.0 ≡ []) }
+    ensures second { IfOk result (λ both. both.1 ≡ []) }
+{
+    let first = Agenda::new(alloc)?;
+    let second = Agenda::new(alloc)?;
+    Ok((first, second))
+}
+
+/// Nothing is under way on these hosts and links, and the date is 0.
+pub(crate) fn first_parts(
+    alloc: Global,
+    hosts: &[HostCap],
+    links: &[LinkCap],
+) -> Result<Parts, Memory>
+    requires hosts { All IsHost hosts.now }
+    requires links { All IsLink links.now }
+    ensures { IfOk result (λ parts. AreIdle parts.kept parts.index parts.hits hosts.now links.now) }
+{
+    let capacities = capacities(alloc, hosts, links)?;
+    let machines = own_machines(alloc, hosts, links)?;
+    let (agenda, hits) = agendas(alloc)?;
+    let index = Index::new(alloc, capacities.len() + hosts.len())?;
+    let lazy = Lazy::new(alloc, &capacities)?;
+    Ok(Parts {
+        kept: Kept {
+            hosts: machines.hosts,
+            links: machines.links,
+            hosts_on: machines.hosts_on,
+            links_on: machines.links_on,
+            lazy,
+            lives: Lives::new(alloc),
+            ways: Vec::new(alloc),
+            agenda,
+            by_flow: Vec::new(alloc),
+            fresh: Marks::new(alloc),
+            drawn: 0,
+            date: 0,
+            settled: false,
+            arrived: false,
+            room: 0,
+            flows: 0,
+        },
+        index,
+        hits,
+    })
+}

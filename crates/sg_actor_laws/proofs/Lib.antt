@@ -1,0 +1,5 @@
+pub mod Kept
+pub mod Others
+pub mod Dead
+pub mod Killed
+pub mod Created

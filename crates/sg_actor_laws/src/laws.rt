@@ -1,0 +1,27 @@
+//! Laws of actors.
+ghost use Rattle.sg_actor_laws.specs.Creates.{CreatesAreExact};
+ghost use Rattle.sg_actor_laws.specs.Dead.{AnswersStay, DeadStayDead};
+ghost use Rattle.sg_actor_laws.specs.Kills.{KillsEnd};
+
+/// An actor that has ended, also one that was killed, stays so with each call and each pass, has the requests that it
+/// had, and no record that they make is of it: it is never answered again.
+pub fn the_dead_stay_dead()
+    ensures { DeadStayDead }
+{}
+
+/// An actor that has an answer has it still after each call of another and each pass, or that call has killed it.
+pub fn answers_stay()
+    ensures { AnswersStay }
+{}
+
+/// A kill of an actor that is alive ends it within the event of the call: it waits for no mutex, semaphore or barrier
+/// and has no requests any more, it gets no answer, and it keeps the mutexes that it owns.
+pub fn kills_end()
+    ensures { KillsEnd }
+{}
+
+/// A create is refused exactly where the named actor was given no context; with one it starts, and all others stay as
+/// they are but the caller, which is answered.
+pub fn creates_are_exact()
+    ensures { CreatesAreExact }
+{}

@@ -1,0 +1,13 @@
+pub mod Over
+pub mod Awaiting
+pub mod Naming
+pub mod Answered
+pub mod Objects
+pub mod Meeting
+pub mod Called
+pub mod Reached
+pub mod RoundCalls
+pub mod Rounds
+pub mod Later
+pub mod Runs
+pub mod Killed

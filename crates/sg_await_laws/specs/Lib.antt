@@ -1,0 +1,4 @@
+pub mod Reached
+pub mod Awaits
+pub mod Runs
+pub mod InRuns

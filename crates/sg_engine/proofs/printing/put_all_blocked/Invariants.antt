@@ -1,9 +1,0 @@
-use Rattle.std.proofs.Common.{◌+◌, ◌++◌, drop}
-use Rattle.sg_engine.specs.kept.Writing.{IsPut}
-use Rattle.sg_engine.specs.Output.{blocked_lines}
-use Rattle.sg_engine.proofs.printing.put_all_blocked.Given as goal
-
-abbrev pub invariant-loop-i : goal.invariant-loop-i
-invariant-loop-i g l =
-    IsPut (l.fn.buffer ++ blocked_lines l.plan.platform.now l.plan.deployment.now 1 l.kernel.core.actors) (l.buffer ++ blocked_lines l.plan.platform.now l.plan.deployment.now (l.i + 1) (drop l.i l.kernel.core.actors))
-    (g.O.Sinks.contents l.fn.out) (g.O.Sinks.contents l.out) (g.O.Sinks.faults l.out)

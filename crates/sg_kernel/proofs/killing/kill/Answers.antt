@@ -1,0 +1,41 @@
+use Rattle.std.proofs.Common.{◌≡◌, Bool, true, false, cond, refl, sym, ap, ◌∙◌}
+use Rattle.sg_base.specs.declared.call.Answer.TheVariants as answer
+use Rattle.sg_base.specs.declared.call.Call.TheVariants as call
+use Rattle.sg_states.specs.Actors.{is_alive, state_at}
+use Rattle.sg_kernel.specs.Kills.{awaited, gives_up, kills_alive, withdrawn}
+use Rattle.sg_kernel.specs.Known.{after, after_call}
+use Rattle.sg_kernel.specs.Locks.{joiners_wake}
+use Rattle.sg_kernel.specs.Steps.{at_once, counted, each}
+use Rattle.sg_kernel.specs.kept.Sound.{core_of, known_of}
+use Rattle.sg_kernel.proofs.Killed.{kill_known, kill_told}
+use Rattle.sg_kernel.proofs.killing.kill.Goals as goal
+
+pub withdraw-requires-clause-alive : goal.withdraw-requires-clause-alive
+withdraw-requires-clause-alive c = sym (c.is_alive-alive.ensures ∙ ap is_alive c.state.ensures.is) ∙ c.if-alive.true
+
+pub answer_now-requires-clause-what : goal.answer_now-requires-clause-what
+answer_now-requires-clause-what c = kill_told c.args.fields.now c.args.target c.requires.able.whole.sound c.requires.target
+
+pub returns-then-alive-clause-known : goal.returns-then-alive-clause-known
+returns-then-alive-clause-known c =
+    let old = c.args.fields.now in
+    let mid = c.withdraw.new.fields in
+    let actor = c.args.actor.0 in
+    let target = c.args.target in
+    let core = counted (core_of old) in
+    let alive : is_alive (state_at old.states.actors target.0) ≡ true = sym (c.is_alive-alive.ensures ∙ ap is_alive c.state.ensures.is) ∙ c.if-alive.true in
+    kill_known actor target (awaited target core) (joiners_wake target.0) (withdrawn target core) (known_of old) (known_of mid) (known_of c.give_up_all.new.fields) (known_of c.wake_joiners.new.fields)
+    c.withdraw.ensures.known
+    (c.give_up_all.ensures.known ∙ ap (λ l. after (each gives_up l (core_of mid)) (known_of mid)) c.withdraw.ensures.awaited)
+    c.wake_joiners.ensures.known
+    ∙ sym (ap (λ b. after_call true (cond b (kills_alive actor target core) (at_once actor (call.Kill target) 0 answer.Done core)) (known_of old)) alive)
+
+pub returns-else-alive-clause-known : goal.returns-else-alive-clause-known
+returns-else-alive-clause-known c =
+    let old = c.args.fields.now in
+    let actor = c.args.actor.0 in
+    let target = c.args.target in
+    let core = counted (core_of old) in
+    let dead : is_alive (state_at old.states.actors target.0) ≡ false = sym (c.is_alive-alive.ensures ∙ ap is_alive c.state.ensures.is) ∙ c.if-alive.false in
+    c.answer_now.ensures.known
+    ∙ sym (ap (λ b. after_call true (cond b (kills_alive actor target core) (at_once actor (call.Kill target) 0 answer.Done core)) (known_of old)) dead)

@@ -1,0 +1,76 @@
+//! What hosts draw, in milliwatts.
+ghost use Rattle.std.specs.Prelude.{◌≡◌, map};
+ghost use Rattle.sg_rules.specs.Power.{milliwatts, milliwatts_in, powers_in, powers_kinds, powers_of};
+ghost use Rattle.sg_tree.specs.Along.{first};
+ghost use Rattle.toml.specs.View.{view};
+
+use sg_tree::Kind;
+use toml::Value;
+
+/// What a host that is on draws, in milliwatts.
+#[derive(Clone, Copy, Debug, PartialEq, Eq)]
+pub struct Powers {
+    /// While it computes nothing.
+    pub idle: u64,
+    /// While it computes with nearly none of its capacity.
+    pub epsilon: u64,
+    /// While it computes with all of its capacity.
+    pub all: u64,
+}
+
+/// The milliwatts that a number stands for: from 0 to 10^9.
+pub fn milliwatts(number: i64) -> Option<u64>
+    ensures { result ≡ milliwatts number }
+{
+    if number >= 0 && number <= 1_000_000_000 {
+        Some(number as u64)
+    } else {
+        None
+    }
+}
+
+fn milliwatts_in(item: &Value) -> Option<u64>
+    ensures { result ≡ milliwatts_in (view item.now) }
+{
+    match item.as_integer() {
+        Some(number) => milliwatts(number),
+        None => None,
+    }
+}
+
+fn powers_of(idle: Option<u64>, epsilon: Option<u64>, all: Option<u64>) -> Option<Powers>
+    ensures { result ≡ powers_of idle epsilon all }
+{
+    match (idle, epsilon, all) {
+        (Some(idle), Some(epsilon), Some(all)) if epsilon <= all => {
+            Some(Powers { idle, epsilon, all })
+        }
+        _ => None,
+    }
+}
+
+/// What three items give, of which the third is not less than the second.
+pub fn powers_in(items: &[Value]) -> Option<Powers>
+    ensures { result ≡ powers_in (map view items.now) }
+{
+    match items {
+        [idle, epsilon, all] => {
+            powers_of(
+                milliwatts_in(idle),
+                milliwatts_in(epsilon),
+                milliwatts_in(all),
+            )
+        }
+        _ => None,
+    }
+}
+
+#[tactic(auto, unfolding(crate::specs::Power::powers_kinds))]
+pub fn powers_fault(items: &[Value]) -> Option<Kind>
+    ensures { result ≡ first (powers_kinds (map view items.now)) }
+{
+    match powers_in(items) {
+        Some(_) => None,
+        None => Some(Kind::BadValue),
+    }
+}

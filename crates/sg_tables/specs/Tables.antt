@@ -1,0 +1,203 @@
+-- The tables of both texts: of each its number, its limit of rows, and its keys in order; of each key whether it is
+-- required, and what its value must be.
+use Rattle.std.specs.Prelude.{ℕ, List, [], ◌∷◌, codes}
+use Rattle.sg_tables.specs.declared.tables.Key.{Key}
+use Rattle.sg_tables.specs.declared.tables.Need.{Need}
+use Rattle.sg_tables.specs.declared.tables.Need.TheVariants.{Required, Optional, IfZone, Unless}
+use Rattle.sg_tables.specs.declared.tables.Rule.{Rule}
+use Rattle.sg_tables.specs.declared.tables.Rule.TheVariants.{NewPoint, NewLink, NewActor, NewMutex, NewSemaphore, ZoneName, PointName, EndName, HostName, RouteEnd, ZoneRouteEnd, SpokeChild, RoutingWord, PolicyWord, FunctionWord, SpeedText, BandwidthText, LatencyText, FactorText, PositiveFactorText, AmountText, PositiveTimeText, CoreCount, CapacityCount, Milliwatts, TruthValue, ProfiledHost, ProfiledLink, SwitchedHost, SwitchedLink, LinkList, DateList, ValueList, StateList, ArgumentList, PowerList}
+use Rattle.sg_tables.specs.declared.tables.Shape.{Shape}
+use Rattle.sg_tables.specs.declared.tables.Shape.TheVariants as shape
+use Rattle.sg_tables.specs.declared.tables.Table.{Table}
+use Rattle.sg_tables.specs.declared.tables.Table.TheVariants.{Zone, Host, Router, Link, Route, ZoneRoute, Spoke, Network, Profile, StateProfile, Actor, Mutex, Semaphore}
+use Rattle.sg_tables.specs.declared.tables.Word.{Word}
+use Rattle.sg_tables.specs.declared.tables.Word.TheVariants as word
+
+abbrev pub key : Word → Need → Rule → Key
+key word need rule = record { word = word; need = need; rule = rule }
+
+-- the keys of a table, in order
+abbrev pub keys_of : Table → List Key
+keys_of Zone =
+    key word.Id Required NewPoint
+    ∷ key word.Parent Optional ZoneName
+    ∷ key word.Routing Required RoutingWord
+    ∷ []
+keys_of Host =
+    key word.Id Required NewPoint
+    ∷ key word.Zone Required ZoneName
+    ∷ key word.Speed Required SpeedText
+    ∷ key word.Core Optional CoreCount
+    ∷ key word.Power Optional PowerList
+    ∷ key word.PowerOff Optional Milliwatts
+    ∷ []
+keys_of Router =
+    key word.Id Required NewPoint
+    ∷ key word.Zone Required ZoneName
+    ∷ []
+keys_of Link =
+    key word.Id Required NewLink
+    ∷ key word.Bandwidth Required BandwidthText
+    ∷ key word.Latency Optional LatencyText
+    ∷ key word.SharingPolicy Optional PolicyWord
+    ∷ []
+keys_of Route =
+    key word.Src Required PointName
+    ∷ key word.Dst Required RouteEnd
+    ∷ key word.Links Required LinkList
+    ∷ key word.Symmetrical Optional TruthValue
+    ∷ []
+keys_of ZoneRoute =
+    key word.Src Required EndName
+    ∷ key word.Dst Required ZoneRouteEnd
+    ∷ key word.GwSrc (IfZone word.Src) PointName
+    ∷ key word.GwDst (IfZone word.Dst) PointName
+    ∷ key word.Links Required LinkList
+    ∷ key word.Symmetrical Optional TruthValue
+    ∷ []
+keys_of Spoke =
+    key word.Zone Required ZoneName
+    ∷ key word.Child Required SpokeChild
+    ∷ key word.Gateway (IfZone word.Child) PointName
+    ∷ key word.Up Required LinkList
+    ∷ key word.Down Optional LinkList
+    ∷ []
+keys_of Network =
+    key word.LatencyFactor Optional FactorText
+    ∷ key word.BandwidthFactor Optional PositiveFactorText
+    ∷ key word.Window Optional AmountText
+    ∷ []
+keys_of Profile =
+    key word.Host (Unless word.Link) ProfiledHost
+    ∷ key word.Link Optional ProfiledLink
+    ∷ key word.Dates Required DateList
+    ∷ key word.Values Required ValueList
+    ∷ key word.Loop Optional PositiveTimeText
+    ∷ []
+keys_of StateProfile =
+    key word.Host (Unless word.Link) SwitchedHost
+    ∷ key word.Link Optional SwitchedLink
+    ∷ key word.Dates Required DateList
+    ∷ key word.States Required StateList
+    ∷ key word.Loop Optional PositiveTimeText
+    ∷ []
+keys_of Actor =
+    key word.Name Required NewActor
+    ∷ key word.Host Required HostName
+    ∷ key word.Function Required FunctionWord
+    ∷ key word.Argument Optional ArgumentList
+    ∷ key word.Start Optional TruthValue
+    ∷ []
+keys_of Mutex =
+    key word.Id Required NewMutex
+    ∷ []
+keys_of Semaphore =
+    key word.Id Required NewSemaphore
+    ∷ key word.Capacity Required CapacityCount
+    ∷ []
+
+abbrev pub table_text : Table → List ℕ
+table_text Zone = codes "zone"
+table_text Host = codes "host"
+table_text Router = codes "router"
+table_text Link = codes "link"
+table_text Route = codes "route"
+table_text ZoneRoute = codes "zone_route"
+table_text Spoke = codes "spoke"
+table_text Network = codes "network"
+table_text Profile = codes "profile"
+table_text StateProfile = codes "state_profile"
+table_text Actor = codes "actor"
+table_text Mutex = codes "mutex"
+table_text Semaphore = codes "semaphore"
+
+-- the number of the table in a place
+abbrev pub table_number : Table → ℕ
+table_number Zone = 1
+table_number Host = 2
+table_number Router = 3
+table_number Link = 4
+table_number Route = 5
+table_number ZoneRoute = 6
+table_number Spoke = 7
+table_number Network = 8
+table_number Profile = 9
+table_number StateProfile = 10
+table_number Actor = 1
+table_number Mutex = 2
+table_number Semaphore = 3
+
+-- how many rows it may have
+abbrev pub row_limit : Table → ℕ
+row_limit Zone = 1024
+row_limit Host = 16384
+row_limit Router = 16384
+row_limit Link = 65536
+row_limit Route = 262144
+row_limit ZoneRoute = 262144
+row_limit Spoke = 32768
+row_limit Network = 1
+row_limit Profile = 4096
+row_limit StateProfile = 4096
+row_limit Actor = 65536
+row_limit Mutex = 65536
+row_limit Semaphore = 65536
+
+-- the tables of a platform, and those of a deployment, in order
+abbrev pub platform_tables : List Table
+platform_tables = Zone ∷ Host ∷ Router ∷ Link ∷ Route ∷ ZoneRoute ∷ Spoke ∷ Network ∷ Profile ∷ StateProfile ∷ []
+
+abbrev pub deployment_tables : List Table
+deployment_tables = Actor ∷ Mutex ∷ Semaphore ∷ []
+
+-- the key as a text writes it
+abbrev pub word_text : Word → List ℕ
+word_text word.Id = codes "id"
+word_text word.Parent = codes "parent"
+word_text word.Routing = codes "routing"
+word_text word.Zone = codes "zone"
+word_text word.Speed = codes "speed"
+word_text word.Core = codes "core"
+word_text word.Bandwidth = codes "bandwidth"
+word_text word.Latency = codes "latency"
+word_text word.SharingPolicy = codes "sharing_policy"
+word_text word.Src = codes "src"
+word_text word.Dst = codes "dst"
+word_text word.Links = codes "links"
+word_text word.Symmetrical = codes "symmetrical"
+word_text word.GwSrc = codes "gw_src"
+word_text word.GwDst = codes "gw_dst"
+word_text word.Child = codes "child"
+word_text word.Gateway = codes "gateway"
+word_text word.Up = codes "up"
+word_text word.Down = codes "down"
+word_text word.Name = codes "name"
+word_text word.Host = codes "host"
+word_text word.Function = codes "function"
+word_text word.Argument = codes "argument"
+word_text word.Capacity = codes "capacity"
+word_text word.LatencyFactor = codes "latency_factor"
+word_text word.BandwidthFactor = codes "bandwidth_factor"
+word_text word.Window = codes "window"
+word_text word.Link = codes "link"
+word_text word.Dates = codes "dates"
+word_text word.Values = codes "values"
+word_text word.Loop = codes "loop"
+word_text word.States = codes "states"
+word_text word.Power = codes "power"
+word_text word.PowerOff = codes "power_off"
+word_text word.Start = codes "start"
+
+-- the type of the values that a rule is for
+abbrev pub shape_of : Rule → Shape
+shape_of CoreCount = shape.Whole
+shape_of CapacityCount = shape.Whole
+shape_of Milliwatts = shape.Whole
+shape_of TruthValue = shape.Truth
+shape_of LinkList = shape.Texts
+shape_of DateList = shape.Texts
+shape_of ValueList = shape.Texts
+shape_of StateList = shape.Texts
+shape_of ArgumentList = shape.Texts
+shape_of PowerList = shape.Wholes
+shape_of _ = shape.Text

@@ -1,0 +1,10 @@
+//! The tables and keys of a platform text and a deployment text as data, and the values that texts give with units.
+#![tactic(auto)]
+
+mod tables;
+mod units;
+
+pub use tables::{DEPLOYMENT, Key, Need, PLATFORM, Rule, Shape, Table, Word};
+pub use units::{
+    Quantity, amount_value, bandwidth_value, factor_value, latency_value, speed_value, time_value,
+};

@@ -1,0 +1,421 @@
+//! The tables of both texts, and their keys.
+ghost use Rattle.std.specs.Prelude.{◌≡◌};
+ghost use Rattle.sg_tables.specs.Tables.{keys_of, row_limit, shape_of, table_number, table_text, word_text};
+
+/// A key as a text writes it.
+#[derive(Clone, Copy, Debug, PartialEq, Eq)]
+pub enum Word {
+    Id,
+    Parent,
+    Routing,
+    Zone,
+    Speed,
+    Core,
+    Bandwidth,
+    Latency,
+    SharingPolicy,
+    Src,
+    Dst,
+    Links,
+    Symmetrical,
+    GwSrc,
+    GwDst,
+    Child,
+    Gateway,
+    Up,
+    Down,
+    Name,
+    Host,
+    Function,
+    Argument,
+    Capacity,
+    LatencyFactor,
+    BandwidthFactor,
+    Window,
+    Link,
+    Dates,
+    Values,
+    Loop,
+    States,
+    Power,
+    PowerOff,
+    Start,
+}
+
+/// Whether a row must have a key.
+#[derive(Clone, Copy, Debug, PartialEq, Eq)]
+pub enum Need {
+    Required,
+    Optional,
+    /// Required where this other key of the row names a zone.
+    IfZone(Word),
+    /// Required where the row doesn't have this other key.
+    Unless(Word),
+}
+
+/// What the value of a key must be.
+#[derive(Clone, Copy, Debug, PartialEq, Eq)]
+pub enum Rule {
+    /// A new name among zones, hosts and routers.
+    NewPoint,
+    /// A new name among links; a SPLITDUPLEX link takes three.
+    NewLink,
+    /// A new name among actors.
+    NewActor,
+    /// A new name among mutexes.
+    NewMutex,
+    /// A new name among semaphores.
+    NewSemaphore,
+    /// The name of a zone.
+    ZoneName,
+    /// The name of a host or a router.
+    PointName,
+    /// The name of a zone, a host or a router.
+    EndName,
+    /// The name of a host.
+    HostName,
+    /// The name of a point, where no earlier route row gave the pair.
+    RouteEnd,
+    /// The name of a zone or point, where no earlier zone route row gave the pair.
+    ZoneRouteEnd,
+    /// The name of a zone or point that no earlier spoke row has.
+    SpokeChild,
+    /// `Full`, `Star` or `Dijkstra`.
+    RoutingWord,
+    /// `SHARED`, `FATPIPE` or `SPLITDUPLEX`.
+    PolicyWord,
+    /// What an actor does.
+    FunctionWord,
+    /// A speed above zero.
+    SpeedText,
+    /// A bandwidth above zero.
+    BandwidthText,
+    /// A latency up to 10^15 nanoseconds.
+    LatencyText,
+    /// A factor up to 1,000.
+    FactorText,
+    /// A factor up to 1,000 that isn't zero.
+    PositiveFactorText,
+    /// Flops or bytes.
+    AmountText,
+    /// A time that isn't zero.
+    PositiveTimeText,
+    /// A whole number from 1 to 1,024.
+    CoreCount,
+    /// A whole number from 0 to 10^9.
+    CapacityCount,
+    /// Milliwatts, from 0 to 10^9.
+    Milliwatts,
+    /// `true` or `false`.
+    TruthValue,
+    /// The name of a host, where no earlier profile row has it.
+    ProfiledHost,
+    /// The name of a link, where no earlier profile row has it, nor this row a host.
+    ProfiledLink,
+    /// The name of a host, where no earlier row of states has it.
+    SwitchedHost,
+    /// The name of a link, where no earlier row of states has it, nor this row a host.
+    SwitchedLink,
+    /// The names of 1 to 64 links.
+    LinkList,
+    /// 1 to 1,024 times, each later than the one before.
+    DateList,
+    /// A speed or a bandwidth for each date.
+    ValueList,
+    /// `on` or `off` for each date.
+    StateList,
+    /// The texts that an actor is given.
+    ArgumentList,
+    /// Three numbers of milliwatts, the third not less than the second.
+    PowerList,
+}
+
+/// The type of the value of a key.
+#[derive(Clone, Copy, Debug, PartialEq, Eq)]
+pub enum Shape {
+    Text,
+    Whole,
+    Truth,
+    Texts,
+    Wholes,
+}
+
+/// A key of a table.
+#[derive(Clone, Copy, Debug, PartialEq, Eq)]
+pub struct Key {
+    pub word: Word,
+    pub need: Need,
+    pub rule: Rule,
+}
+
+/// A table of one of the texts.
+#[derive(Clone, Copy, Debug, PartialEq, Eq)]
+pub enum Table {
+    Zone,
+    Host,
+    Router,
+    Link,
+    Route,
+    ZoneRoute,
+    Spoke,
+    Network,
+    Profile,
+    StateProfile,
+    Actor,
+    Mutex,
+    Semaphore,
+}
+
+/// The tables of a platform text, in order.
+pub const PLATFORM: [Table; 10] = [
+    Table::Zone,
+    Table::Host,
+    Table::Router,
+    Table::Link,
+    Table::Route,
+    Table::ZoneRoute,
+    Table::Spoke,
+    Table::Network,
+    Table::Profile,
+    Table::StateProfile,
+];
+
+/// The tables of a deployment text, in order.
+pub const DEPLOYMENT: [Table; 3] = [Table::Actor, Table::Mutex, Table::Semaphore];
+
+impl Word {
+    /// The key as a text writes it.
+    pub fn text(self) -> &'static str
+        ensures { result.now ≡ word_text self }
+    {
+        match self {
+            Word::Id => "id",
+            Word::Parent => "parent",
+            Word::Routing => "routing",
+            Word::Zone => "zone",
+            Word::Speed => "speed",
+            Word::Core => "core",
+            Word::Bandwidth => "bandwidth",
+            Word::Latency => "latency",
+            Word::SharingPolicy => "sharing_policy",
+            Word::Src => "src",
+            Word::Dst => "dst",
+            Word::Links => "links",
+            Word::Symmetrical => "symmetrical",
+            Word::GwSrc => "gw_src",
+            Word::GwDst => "gw_dst",
+            Word::Child => "child",
+            Word::Gateway => "gateway",
+            Word::Up => "up",
+            Word::Down => "down",
+            Word::Name => "name",
+            Word::Host => "host",
+            Word::Function => "function",
+            Word::Argument => "argument",
+            Word::Capacity => "capacity",
+            Word::LatencyFactor => "latency_factor",
+            Word::BandwidthFactor => "bandwidth_factor",
+            Word::Window => "window",
+            Word::Link => "link",
+            Word::Dates => "dates",
+            Word::Values => "values",
+            Word::Loop => "loop",
+            Word::States => "states",
+            Word::Power => "power",
+            Word::PowerOff => "power_off",
+            Word::Start => "start",
+        }
+    }
+}
+
+impl Rule {
+    /// The type of the values that the rule is for.
+    pub fn shape(self) -> Shape
+        ensures { result ≡ shape_of self }
+    {
+        match self {
+            Rule::CoreCount | Rule::CapacityCount | Rule::Milliwatts => Shape::Whole,
+            Rule::TruthValue => Shape::Truth,
+            Rule::PowerList => Shape::Wholes,
+            Rule::LinkList
+            | Rule::DateList
+            | Rule::ValueList
+            | Rule::StateList
+            | Rule::ArgumentList => Shape::Texts,
+            _ => Shape::Text,
+        }
+    }
+}
+
+macro_rules! key {
+    ($word:ident, $need:ident($other:ident), $rule:ident) => {
+        Key { word: Word::$word, need: Need::$need(Word::$other), rule: Rule::$rule }
+    };
+    ($word:ident, $need:ident, $rule:ident) => {
+        Key { word: Word::$word, need: Need::$need, rule: Rule::$rule }
+    };
+}
+
+// The keys of each table, in order.
+
+const ZONE_KEYS: [Key; 3] = [
+    key!(Id, Required, NewPoint),
+    key!(Parent, Optional, ZoneName),
+    key!(Routing, Required, RoutingWord),
+];
+
+const HOST_KEYS: [Key; 6] = [
+    key!(Id, Required, NewPoint),
+    key!(Zone, Required, ZoneName),
+    key!(Speed, Required, SpeedText),
+    key!(Core, Optional, CoreCount),
+    key!(Power, Optional, PowerList),
+    key!(PowerOff, Optional, Milliwatts),
+];
+
+const ROUTER_KEYS: [Key; 2] = [key!(Id, Required, NewPoint), key!(Zone, Required, ZoneName)];
+
+const LINK_KEYS: [Key; 4] = [
+    key!(Id, Required, NewLink),
+    key!(Bandwidth, Required, BandwidthText),
+    key!(Latency, Optional, LatencyText),
+    key!(SharingPolicy, Optional, PolicyWord),
+];
+
+const ROUTE_KEYS: [Key; 4] = [
+    key!(Src, Required, PointName),
+    key!(Dst, Required, RouteEnd),
+    key!(Links, Required, LinkList),
+    key!(Symmetrical, Optional, TruthValue),
+];
+
+const ZONE_ROUTE_KEYS: [Key; 6] = [
+    key!(Src, Required, EndName),
+    key!(Dst, Required, ZoneRouteEnd),
+    key!(GwSrc, IfZone(Src), PointName),
+    key!(GwDst, IfZone(Dst), PointName),
+    key!(Links, Required, LinkList),
+    key!(Symmetrical, Optional, TruthValue),
+];
+
+const SPOKE_KEYS: [Key; 5] = [
+    key!(Zone, Required, ZoneName),
+    key!(Child, Required, SpokeChild),
+    key!(Gateway, IfZone(Child), PointName),
+    key!(Up, Required, LinkList),
+    key!(Down, Optional, LinkList),
+];
+
+const NETWORK_KEYS: [Key; 3] = [
+    key!(LatencyFactor, Optional, FactorText),
+    key!(BandwidthFactor, Optional, PositiveFactorText),
+    key!(Window, Optional, AmountText),
+];
+
+const PROFILE_KEYS: [Key; 5] = [
+    key!(Host, Unless(Link), ProfiledHost),
+    key!(Link, Optional, ProfiledLink),
+    key!(Dates, Required, DateList),
+    key!(Values, Required, ValueList),
+    key!(Loop, Optional, PositiveTimeText),
+];
+
+const STATE_PROFILE_KEYS: [Key; 5] = [
+    key!(Host, Unless(Link), SwitchedHost),
+    key!(Link, Optional, SwitchedLink),
+    key!(Dates, Required, DateList),
+    key!(States, Required, StateList),
+    key!(Loop, Optional, PositiveTimeText),
+];
+
+const ACTOR_KEYS: [Key; 5] = [
+    key!(Name, Required, NewActor),
+    key!(Host, Required, HostName),
+    key!(Function, Required, FunctionWord),
+    key!(Argument, Optional, ArgumentList),
+    key!(Start, Optional, TruthValue),
+];
+
+const MUTEX_KEYS: [Key; 1] = [key!(Id, Required, NewMutex)];
+
+const SEMAPHORE_KEYS: [Key; 2] = [
+    key!(Id, Required, NewSemaphore),
+    key!(Capacity, Required, CapacityCount),
+];
+
+impl Table {
+    /// The table as a text writes it.
+    pub fn text(self) -> &'static str
+        ensures { result.now ≡ table_text self }
+    {
+        match self {
+            Table::Zone => "zone",
+            Table::Host => "host",
+            Table::Router => "router",
+            Table::Link => "link",
+            Table::Route => "route",
+            Table::ZoneRoute => "zone_route",
+            Table::Spoke => "spoke",
+            Table::Network => "network",
+            Table::Profile => "profile",
+            Table::StateProfile => "state_profile",
+            Table::Actor => "actor",
+            Table::Mutex => "mutex",
+            Table::Semaphore => "semaphore",
+        }
+    }
+
+    /// The number of the table in a place.
+    pub fn number(self) -> u32
+        ensures { result ≡ table_number self }
+    {
+        match self {
+            Table::Zone | Table::Actor => 1,
+            Table::Host | Table::Mutex => 2,
+            Table::Router | Table::Semaphore => 3,
+            Table::Link => 4,
+            Table::Route => 5,
+            Table::ZoneRoute => 6,
+            Table::Spoke => 7,
+            Table::Network => 8,
+            Table::Profile => 9,
+            Table::StateProfile => 10,
+        }
+    }
+
+    /// How many rows it may have.
+    pub fn row_limit(self) -> usize
+        ensures { result ≡ row_limit self }
+    {
+        match self {
+            Table::Network => 1,
+            Table::Zone => 1024,
+            Table::Profile | Table::StateProfile => 4096,
+            Table::Host | Table::Router => 16384,
+            Table::Spoke => 32768,
+            Table::Link | Table::Actor | Table::Mutex | Table::Semaphore => 65536,
+            Table::Route | Table::ZoneRoute => 262144,
+        }
+    }
+
+    /// Its keys, in order.
+    pub fn keys(self) -> &'static [Key]
+        ensures { result.now ≡ keys_of self }
+    {
+        match self {
+            Table::Zone => &ZONE_KEYS,
+            Table::Host => &HOST_KEYS,
+            Table::Router => &ROUTER_KEYS,
+            Table::Link => &LINK_KEYS,
+            Table::Route => &ROUTE_KEYS,
+            Table::ZoneRoute => &ZONE_ROUTE_KEYS,
+            Table::Spoke => &SPOKE_KEYS,
+            Table::Network => &NETWORK_KEYS,
+            Table::Profile => &PROFILE_KEYS,
+            Table::StateProfile => &STATE_PROFILE_KEYS,
+            Table::Actor => &ACTOR_KEYS,
+            Table::Mutex => &MUTEX_KEYS,
+            Table::Semaphore => &SEMAPHORE_KEYS,
+        }
+    }
+}
