@@ -2,7 +2,7 @@ use Rattle.std.proofs.Common.{sym, subst}
 use Rattle.sg_route.specs.Roads.{Roads}
 use Rattle.sg_kernel.specs.Roads.{AreOver}
 use Rattle.sg_kernel.specs.World.{Setup}
-use Rattle.sg_cases.proofs.runs.run.Goals as goal
+use Rattle.sg_run_cases.proofs.runs.run.Goals as goal
 
 pub round-requires-clause-roads : goal.round-requires-clause-roads
 round-requires-clause-roads g c =

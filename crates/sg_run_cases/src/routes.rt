@@ -1,7 +1,7 @@
 //! Routes between the points of a platform text.
-use crate::cases::hold;
 use arrayvec::ArrayVec;
 use sg_base::{LinkId, PointId};
+use sg_cases::hold;
 use sg_platform::read_platform;
 use sg_route::{RouteFault, Router};
 use sg_zones::Zones;
@@ -95,5 +95,5 @@ fn route(alloc: Global, text: &str) -> Result<String, Fail> {
 
 #[test]
 fn routes_go_as_rows_declare(rt: HostRuntime) -> Result<(), Fail> {
-    hold(&rt, rt.alloc(), ROUTES, route)
+    hold(rt.alloc(), ROUTES, route)
 }

@@ -4,10 +4,10 @@ ghost use Rattle.sg_edge.specs.declared.files.Stage.TheVariants.{Fresh};
 ghost use Rattle.sg_route.specs.Roads.{roads_of};
 ghost use Rattle.sg_rows.specs.Deployment.{started_number};
 
-use crate::{Ended, Setup, Show, run};
 use sg_actor::{Actor, PlainContext, Role, TapeContext, all_blank};
 use sg_base::{Answer, Call, Child, Memory, PointId, Steps, ZoneId};
 use sg_edge::{Files, MemFiles, MemSinks, Part, Sinks, Stream};
+use sg_engine::{Ended, Setup, Show, run};
 use sg_platform::{read_deployment, read_platform};
 use sg_route::Router;
 use sg_rows::{Deployment, PlatformText};

@@ -7,9 +7,9 @@ ghost use Rattle.sg_route.specs.Roads.{roads_of};
 ghost use Rattle.sg_kernel.specs.Roads.{AreOver};
 ghost use Rattle.sg_kernel.specs.World.{MayCall, extent};
 
-use crate::cases::hold;
 use crate::traces::has_line;
 use sg_base::{ActorId, BoxId, Call, End, Msg, Record, Steps};
+use sg_cases::hold;
 use sg_kernel::{Kernel, Stop, roads_are_over};
 use sg_platform::{read_deployment, read_platform};
 use sg_route::Router;
@@ -340,5 +340,5 @@ fn told(alloc: Global, text: &str) -> Result<String, Fail> {
 
 #[test]
 fn calls_and_passes_are_recorded(rt: HostRuntime) -> Result<(), Fail> {
-    hold(&rt, rt.alloc(), RUNS, told)
+    hold(rt.alloc(), RUNS, told)
 }

@@ -1,8 +1,8 @@
 use Rattle.std.proofs.Common.{sym, subst}
 use Rattle.sg_kernel.specs.Known.{Known}
 use Rattle.sg_kernel.specs.Roads.{AreOver}
-use Rattle.sg_cases.proofs.Kernels.{extent_at_first}
-use Rattle.sg_cases.proofs.runs.on_roads.Goals as goal
+use Rattle.sg_run_cases.proofs.Kernels.{extent_at_first}
+use Rattle.sg_run_cases.proofs.runs.on_roads.Goals as goal
 
 pub told_of-requires-clause-roads : goal.told_of-requires-clause-roads
 told_of-requires-clause-roads c =
