@@ -1,7 +1,6 @@
 //! Tables of cases, and the loop that goes over one.
 use sg_tree::Place;
 use std::alloc::{AllocError, Global};
-use std::process::Abort;
 use std::test::Fail;
 
 /// Adds a number in words between the pieces of a text that this mark parts.
@@ -80,10 +79,17 @@ fn text_of(alloc: Global, around: &str, short: &str) -> Result<String, Fail> {
     Ok(text)
 }
 
+/// Why a test fails in which something else is told of a text than is wanted.
+fn failure(alloc: Global, shown: &str, want: &str, short: &str) -> Fail {
+    match format!(in alloc; "{shown} in place of {want} for {short}") {
+        Ok(text) => Fail::new(text),
+        Err(_) => Fail::new("no memory"),
+    }
+}
+
 /// Each line of the cases is `WANT | TEXT`, or `WANT` with an empty text: what is told of the text has to be what is
 /// wanted. A line `around | TEXT` gives what stands around the texts of the lines below it, each in place of its `$`.
 pub fn hold<F: Fn(Global, &str) -> Result<String, Fail>>(
-    rt: &impl Abort,
     alloc: Global,
     cases: &str,
     told: F,
@@ -98,7 +104,9 @@ pub fn hold<F: Fn(Global, &str) -> Result<String, Fail>>(
         } else {
             let text = text_of(alloc, around.as_str(), short)?;
             let shown = told(alloc, text.as_str())?;
-            assert_eq!(rt; shown.as_str(), want, "for {short}");
+            if shown.as_str() != want {
+                return Err(failure(alloc, shown.as_str(), want, short));
+            }
         }
     }
     Ok(())

@@ -225,17 +225,17 @@ fn found(alloc: Global, text: &str) -> Result<String, Fail> {
 
 #[test]
 fn each_fault_of_a_deployment_is_told_at_its_place(rt: HostRuntime) -> Result<(), Fail> {
-    hold(&rt, rt.alloc(), TEXTS, told)
+    hold(rt.alloc(), TEXTS, told)
 }
 
 #[test]
 fn rows_of_a_deployment_are_read(rt: HostRuntime) -> Result<(), Fail> {
-    hold(&rt, rt.alloc(), ROWS, rows)
+    hold(rt.alloc(), ROWS, rows)
 }
 
 #[test]
 fn names_are_found(rt: HostRuntime) -> Result<(), Fail> {
-    hold(&rt, rt.alloc(), FOUND, found)
+    hold(rt.alloc(), FOUND, found)
 }
 
 #[test]

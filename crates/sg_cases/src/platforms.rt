@@ -558,30 +558,30 @@ fn profiles(alloc: Global, table: &str) -> Result<String, Fail> {
 
 #[test]
 fn each_fault_of_a_table_is_told_at_its_place(rt: HostRuntime) -> Result<(), Fail> {
-    hold(&rt, rt.alloc(), TABLES, told_beside)
+    hold(rt.alloc(), TABLES, told_beside)
 }
 
 #[test]
 fn the_least_fault_of_a_text_is_told(rt: HostRuntime) -> Result<(), Fail> {
-    hold(&rt, rt.alloc(), TEXTS, told)
+    hold(rt.alloc(), TEXTS, told)
 }
 
 #[test]
 fn rows_are_read(rt: HostRuntime) -> Result<(), Fail> {
-    hold(&rt, rt.alloc(), ROWS, rows)
+    hold(rt.alloc(), ROWS, rows)
 }
 
 #[test]
 fn powers_are_read(rt: HostRuntime) -> Result<(), Fail> {
-    hold(&rt, rt.alloc(), POWERS, powers)
+    hold(rt.alloc(), POWERS, powers)
 }
 
 #[test]
 fn networks_are_read(rt: HostRuntime) -> Result<(), Fail> {
-    hold(&rt, rt.alloc(), NETWORKS, network)
+    hold(rt.alloc(), NETWORKS, network)
 }
 
 #[test]
 fn profiles_are_read(rt: HostRuntime) -> Result<(), Fail> {
-    hold(&rt, rt.alloc(), PROFILES, profiles)
+    hold(rt.alloc(), PROFILES, profiles)
 }

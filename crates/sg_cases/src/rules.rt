@@ -32,5 +32,5 @@ fn told(alloc: Global, text: &str) -> Result<String, Fail> {
 
 #[test]
 fn the_first_broken_rule_is_told(rt: HostRuntime) -> Result<(), Fail> {
-    hold(&rt, rt.alloc(), RULES, told)
+    hold(rt.alloc(), RULES, told)
 }

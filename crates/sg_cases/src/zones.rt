@@ -111,10 +111,10 @@ fn tree(alloc: Global, text: &str) -> Result<String, Fail> {
 
 #[test]
 fn each_fault_of_zones_is_told(rt: HostRuntime) -> Result<(), Fail> {
-    hold(&rt, rt.alloc(), FAULTS, told)
+    hold(rt.alloc(), FAULTS, told)
 }
 
 #[test]
 fn a_tree_says_where_zones_stand(rt: HostRuntime) -> Result<(), Fail> {
-    hold(&rt, rt.alloc(), TREES, tree)
+    hold(rt.alloc(), TREES, tree)
 }

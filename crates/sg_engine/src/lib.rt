@@ -28,6 +28,3 @@ pub use plan::Terms;
 pub use setup::Setup;
 pub use show::Show;
 pub use whole_run::run;
-
-#[cfg(test)]
-mod tests;

@@ -6,7 +6,7 @@ use Rattle.std.proofs.lemmas.Bool.{eq-eqb}
 use Rattle.std.proofs.lemmas.List.{length-map, length_push, get_or-map, get_or-set_same, get_or-set_other}
 use Rattle.std.proofs.lemmas.List.Elements.{All-from_get_or}
 use Rattle.std.proofs.lemmas.List.Folds.{list_any_at}
-use Rattle.sg_queues.specs.Rings.{Rings, is_in, queue_at, front, behind, without, shifted, IsApart, IsSlot}
+use Rattle.sg_queues.specs.Rings.{Rings, is_in, queue_at, front, behind, joined, left, without, IsAlone, IsApart, IsSlot}
 use Rattle.sg_queues.specs.Queues.{holds, queued, shortened, let_go, AreSlots, IsHeld}
 use Rattle.sg_queues.specs.kept.Entries.{entry, entries_of, AreKept}
 use Rattle.sg_queues.proofs.Lists.{read_grown, from_front, front_any, without_none, without_first, popped, none_of, joined_of, map_at, map_alike, left_of}
@@ -16,7 +16,7 @@ pub front_in : (queue : List ℕ) (first : ℕ) → front queue ≡ Some first �
 front_in queue first is = front_any (eqb first) queue first is (eq-eqb first first refl)
 
 -- who is idle is in no queue
-pub idle_apart : (rings : Rings) (slot : ℕ) → IsApart rings → is_in slot rings.idle ≡ true → (queue : ℕ) → is_in slot (queue_at rings.queues queue) ≡ false
+pub idle_apart : (rings : Rings) (slot : ℕ) → IsApart rings → is_in slot rings.idle ≡ true → IsAlone slot rings.queues
 idle_apart rings slot apart there queue = absent_from apart 0 (suc queue) slot there (λ e. omega (arith, e))
 
 pub in_idle : (rings : Rings) (slot : ℕ) → IsApart rings → front rings.idle ≡ Some slot → IsSlot rings.nodes rings.heads slot
@@ -62,13 +62,13 @@ module _ {T : Type 0} (blank : T) where
       (apart.slots (suc held.queue) slot there, absent_from apart (suc held.queue) 0 slot there (λ e. omega (arith, e)))
 
   -- a slot of a queue is free
-  pub freed : (values : List T) (rings new : Rings) (room slot : ℕ) → AreKept rings values room → IsHeld slot (entries_of blank values rings.queues) → IsApart new
-      → new ≡ record rings { idle = without slot rings.idle ++ slot ∷ []; queues = map (without slot) rings.queues } → AreKept new values (room + 1) × (room + 1 ≤ length values)
-  freed values rings new room slot kept held apart is =
+  pub freed : (values : List T) (rings mid new : Rings) (room slot : ℕ) → AreKept rings values room → IsHeld slot (entries_of blank values rings.queues) → IsApart new
+      → mid ≡ record rings { idle = without slot rings.idle; queues = left slot rings.queues } → new ≡ record mid { idle = mid.idle ++ slot ∷ [] } → AreKept new values (room + 1) × (room + 1 ≤ length values)
+  freed values rings mid new room slot kept held apart left_is is =
       let absent = (held_slot values rings slot kept.apart held).1 in
       let count : length new.idle ≡ room + 1 =
-      ap (λ (r : Rings). length r.idle) is ∙ length_push (without slot rings.idle) slot ∙ ap (λ l. length l + 1) (without_none (λ x. x) slot rings.idle (none_of slot rings.idle absent)) ∙ ap (λ n. n + 1) (sym kept.free) in
-      let fit : length values ≡ new.nodes = kept.values_fit ∙ sym (ap (λ (r : Rings). r.nodes) is) in
+      ap (λ (r : Rings). length r.idle) is ∙ length_push mid.idle slot ∙ ap (λ (r : Rings). length r.idle + 1) left_is ∙ ap (λ l. length l + 1) (without_none (λ x. x) slot rings.idle (none_of slot rings.idle absent)) ∙ ap (λ n. n + 1) (sym kept.free) in
+      let fit : length values ≡ new.nodes = kept.values_fit ∙ sym (ap (λ (r : Rings). r.nodes) is ∙ ap (λ (r : Rings). r.nodes) left_is) in
       let few : length new.idle ≤ new.nodes = short apart 0 in
       (record { apart = apart; values_fit = fit; free = sym count }, omega (arith, count, fit, few))
 
@@ -77,19 +77,19 @@ module _ {T : Type 0} (blank : T) where
   entries_grown values queues = ap (λ (f : ℕ → ℕ × T). map (map f) queues) (fun_ext (λ slot. ap (λ (v : T). (slot, v)) (read_grown values blank blank slot (λ is. refl))))
 
   -- a slot that is in no queue comes to one, with a value
-  pub pushed : (values : List T) (queues : List (List ℕ)) (slot queue : ℕ) (value : T) → ((q : ℕ) → is_in slot (queue_at queues q) ≡ false) → slot < length values
-      → entries_of blank (set values slot value) (shifted slot queue queues) ≡ queued (entries_of blank values queues) queue (slot, value)
+  pub pushed : (values : List T) (queues : List (List ℕ)) (slot queue : ℕ) (value : T) → IsAlone slot queues → slot < length values
+      → entries_of blank (set values slot value) (joined slot queue queues) ≡ queued (entries_of blank values queues) queue (slot, value)
   pushed values queues slot queue value absent below =
       let new : ℕ → ℕ × T = entry blank (set values slot value) in
       let others : map (map new) queues ≡ entries_of blank values queues =
       map_alike (map new) (map (entry blank values)) queues (All-from_get_or (λ (q : List ℕ). map new q ≡ map (entry blank values) q) queues [] (λ q q_below.
       map_alike new (entry blank values) (queue_at queues q) (λ k d k_below. ap (λ (v : T). (get_or (queue_at queues q) k d, v)) (get_or-set_other values slot (get_or (queue_at queues q) k d) value blank (none_of slot (queue_at queues q) (absent q) k d k_below))))) in
-      joined_of slot queues absent new queue
+      joined_of new slot queue queues
       ∙ ap (λ (l : List (List (ℕ × T))). set l queue (queue_at l queue ++ new slot ∷ [])) others
       ∙ ap (λ (v : T). queued (entries_of blank values queues) queue (slot, v)) (get_or-set_same values slot value blank below)
 
   -- a slot leaves its queue and is idle
-  pub removed : (values : List T) (queues : List (List ℕ)) (slot : ℕ) → entries_of blank values (map (without slot) queues) ≡ let_go slot (entries_of blank values queues)
+  pub removed : (values : List T) (queues : List (List ℕ)) (slot : ℕ) → entries_of blank values (left slot queues) ≡ let_go slot (entries_of blank values queues)
   removed values queues slot = left_of (entry blank values) (λ (e : ℕ × T). not (eqb e.0 slot)) queues
 
 module _ {T : Type 0} where

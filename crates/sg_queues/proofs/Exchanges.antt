@@ -23,7 +23,7 @@ three P a b node at_a at_b others = elim (cases_eq node a) [
 ]
 
 -- what the code writes into the links of one way
-pub is_exchanged : (links : List ℕ) (a b at_a at_b : ℕ) → a < length links → b < length links → at_a ≡ at links a → at_b ≡ at links b → IsExchanged links (set (set links a at_b) b at_a) a b
+is_exchanged : (links : List ℕ) (a b at_a at_b : ℕ) → a < length links → b < length links → at_a ≡ at links a → at_b ≡ at links b → IsExchanged links (set (set links a at_b) b at_a) a b
 is_exchanged links a b at_a at_b a_below b_below a_is b_is =
     let one : List ℕ = set links a at_b in
     let second : at (set one b at_a) b ≡ at links a = get_or-set_same one b at_a b (omega (arith, b_below, length-set links a at_b)) ∙ a_is in
@@ -38,7 +38,7 @@ is_exchanged links a b at_a at_b a_below b_below a_is b_is =
     }
 
 -- the links back exchange, too
-pub still_linked : {next prev next' prev' : List ℕ} {a b after_a after_b : ℕ} → AreLinked next prev → after_a ≡ at next a → after_b ≡ at next b → IsExchanged next next' a b → IsExchanged prev prev' after_b after_a → AreLinked next' prev'
+still_linked : {next prev next' prev' : List ℕ} {a b after_a after_b : ℕ} → AreLinked next prev → after_a ≡ at next a → after_b ≡ at next b → IsExchanged next next' a b → IsExchanged prev prev' after_b after_a → AreLinked next' prev'
 still_linked {next = next} {prev = prev} {next' = next'} {prev' = prev'} {a = a} {b = b} linked a_is b_is there changed =
     let back : IsExchanged prev prev' (at next b) (at next a) = rw (← a_is, ← b_is) changed in
     let forth : (node : ℕ) → at next (at prev node) ≡ node = linked.inverse.forth in
@@ -56,3 +56,12 @@ still_linked {next = next} {prev = prev} {next' = next'} {prev' = prev'} {a = a}
             ∙ back.others (at next node) (λ is. b_not (sym (home node) ∙ ap (at prev) is ∙ home b)) (λ is. a_not (sym (home node) ∙ ap (at prev) is ∙ home a)) ∙ home node);
       };
     }
+
+-- a slot, and the node that leads to this one, exchange what they lead to
+pub exchanged_before : {next prev : List ℕ} (node slot before after : ℕ) → AreLinked next prev → node < length next → slot < length next → before ≡ at prev node → after ≡ at next slot
+    → IsExchanged next (set (set next before after) slot node) before slot × AreLinked (set (set next before after) slot node) (set (set prev after before) node slot)
+exchanged_before {next = next} {prev = prev} node slot before after linked node_below slot_below before_is after_is =
+    let leads : node ≡ at next before = sym (ap (at next) before_is ∙ linked.inverse.forth node) in
+    let there = is_exchanged next before slot node after (omega (arith, before_is, within (turned linked) node (omega (arith, node_below, linked.len)), linked.len)) slot_below leads after_is in
+    let back = is_exchanged prev after node slot before (omega (arith, after_is, within linked slot slot_below, linked.len)) (omega (arith, node_below, linked.len)) (sym (ap (at prev) after_is ∙ linked.inverse.back slot)) before_is in
+    (there, still_linked linked leads after_is there back)

@@ -6,7 +6,7 @@ use Rattle.std.proofs.lemmas.Bool.{cases_eq, cases_Bool, cases_order, eq-eqb, ne
 use Rattle.std.proofs.lemmas.List.{length-append, length-map, length-set, get_or-set_same, get_or-set_other, get_or_push, get_or_append_left, get_or_past, map-set, map_push, ext_get_or}
 use Rattle.std.proofs.lemmas.List.Elements.{All-head, All-tail, All-from_get_or}
 use Rattle.std.proofs.lemmas.List.Folds.{list_any_at, map_fixed}
-use Rattle.sg_queues.specs.Rings.{is_in, queue_at, front, behind, without, shifted}
+use Rattle.sg_queues.specs.Rings.{is_in, queue_at, front, behind, joined, left, without, IsAlone}
 
 -- a list that its default makes longer reads the same
 pub read_grown : {X : Type 0} (xs : List X) (y d : X) (i : ℕ) → (i ≡ length xs → y ≡ d) → get_or (xs ++ y ∷ []) i d ≡ get_or xs i d
@@ -82,18 +82,12 @@ popped {X} number queues queue first below is once apart =
 pub none_of : (slot : ℕ) (queue : List ℕ) → is_in slot queue ≡ false → All (λ x. x ≢ slot) queue
 none_of slot queue absent k d below same = false≢true (sym absent ∙ list_any_at (eqb slot) queue k d below (eq-eqb slot (get_or queue k d) (sym same)))
 
-module _ (slot : ℕ) (queues : List (List ℕ)) (absent : (q : ℕ) → is_in slot (queue_at queues q) ≡ false) where
-  stays : (q : ℕ) → without slot (queue_at queues q) ≡ queue_at queues q
-  stays q = without_none (λ x. x) slot (queue_at queues q) (none_of slot (queue_at queues q) (absent q))
+pub left_none : (slot : ℕ) (queues : List (List ℕ)) → IsAlone slot queues → left slot queues ≡ queues
+left_none slot queues absent =
+    map_fixed (without slot) queues (All-from_get_or (λ q. without slot q ≡ q) queues [] (λ q below. without_none (λ x. x) slot (queue_at queues q) (none_of slot (queue_at queues q) (absent q))))
 
-  pub left_none : map (without slot) queues ≡ queues
-  left_none = map_fixed (without slot) queues (All-from_get_or (λ q. without slot q ≡ q) queues [] (λ q below. stays q))
-
-  -- it comes to the end of a queue
-  pub joined_new : (queue : ℕ) → shifted slot queue queues ≡ set queues queue (queue_at queues queue ++ slot ∷ [])
-  joined_new queue = ap (λ l. set l queue (without slot (queue_at queues queue) ++ slot ∷ [])) left_none ∙ ap (λ l. set queues queue (l ++ slot ∷ [])) (stays queue)
-
-  pub joined_of : {Y : Type 0} (f : ℕ → Y) (queue : ℕ) → map (map f) (shifted slot queue queues) ≡ set (map (map f) queues) queue (queue_at (map (map f) queues) queue ++ f slot ∷ [])
-  joined_of f queue =
-      ap (map (map f)) (joined_new queue) ∙ map-set (map f) queues queue (queue_at queues queue ++ slot ∷ [])
-      ∙ ap (set (map (map f) queues) queue) (map_push f (queue_at queues queue) slot ∙ ap (λ l. l ++ f slot ∷ []) (sym (map_at (map f) [] queues queue)))
+-- a slot comes to the end of a queue, and what is made of it to what is made of the queue
+pub joined_of : {Y : Type 0} (f : ℕ → Y) (slot queue : ℕ) (queues : List (List ℕ)) → map (map f) (joined slot queue queues) ≡ set (map (map f) queues) queue (queue_at (map (map f) queues) queue ++ f slot ∷ [])
+joined_of f slot queue queues =
+    map-set (map f) queues queue (queue_at queues queue ++ slot ∷ [])
+    ∙ ap (set (map (map f) queues) queue) (map_push f (queue_at queues queue) slot ∙ ap (λ l. l ++ f slot ∷ []) (sym (map_at (map f) [] queues queue)))

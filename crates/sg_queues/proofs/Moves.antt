@@ -1,13 +1,14 @@
--- What a move, and a node more, do to the rings.
-use Rattle.std.proofs.Common.{◌≡◌, ◌≢◌, ◌<◌, ◌+◌, ◌∙◌, inl, inr, sym, ap, subst, subst₂, refl, ℕ, eqb, List, [], ◌∷◌, ◌++◌, length, set, Some, arith}
+-- What becomes of the rings where a node is added, and where a slot leaves or joins.
+use Rattle.std.proofs.Common.{◌≡◌, ◌≢◌, ◌<◌, ◌+◌, ◌∙◌, inl, inr, sym, ap, subst, subst₂, refl, ℕ, true, cond, eqb, List, [], ◌∷◌, ◌++◌, length, Some, arith}
 use Rattle.std.proofs.Math.Path.{fun_ext}
-use Rattle.std.proofs.lemmas.Bool.{cases_lt, false≢true}
+use Rattle.std.proofs.lemmas.Bool.{cases_eq, cases_lt, or_parts, false≢true}
 use Rattle.std.proofs.lemmas.List.{length-map, length_push, get_or-map, get_or_append_left, get_or_push, ext_get_or}
-use Rattle.sg_queues.specs.Rings.{Rings, is_in, queue_at, front, behind, shifted, IsSlot}
-use Rattle.sg_queues.specs.kept.Links.{at, head_at, moved, Path, ring, queues_of, AreInverse, AreLinked, IsShifted, AreRings}
-use Rattle.sg_queues.proofs.Lists.{read_grown, joined_new}
-use Rattle.sg_queues.proofs.Paths.{walked}
-use Rattle.sg_queues.proofs.Rows.{moved_at, is_head, one_row, short, head_apart, new_apart, new_slot, apart_grown, apart_headed, apart_moved}
+use Rattle.std.proofs.lemmas.List.Folds.{list_any-append}
+use Rattle.sg_queues.specs.Rings.{Rings, is_in, queue_at, front, behind, joined, left, rows_of, without, IsAlone, IsSlot}
+use Rattle.sg_queues.specs.kept.Links.{at, head_at, Path, ring, queues_of, AreInverse, AreLinked, IsExchanged, AreRings}
+use Rattle.sg_queues.proofs.Lists.{map_at, read_grown}
+use Rattle.sg_queues.proofs.Paths.{put_in, stays, taken_out, walked}
+use Rattle.sg_queues.proofs.Rows.{alone_joined, alone_left, joined_at, is_head, one_row, short, head_apart, apart_grown, apart_headed, apart_joined, apart_left}
 
 -- what contracts see
 abbrev seen : ℕ → List ℕ → List (List ℕ) → Rings
@@ -21,6 +22,7 @@ pub none : AreRings [] [] [] []
 none = record {
   links = record { len = refl; inverse = record { forth = λ node. refl; back = λ node. refl } };
   paths = λ row below. absurd (omega (arith, below));
+  alone = λ slot no_head absent. refl;
   apart = record {
     count = refl;
     below = λ head is. absurd (false≢true is);
@@ -71,6 +73,7 @@ module _ {next prev heads : List ℕ} {rows : List (List ℕ)} (kept : AreRings 
   with_slot = record {
     links = links_grown;
     paths = subst (λ (f : ℕ → ℕ). (row : ℕ) → row < length heads → Path f (head_at heads row) (queue_at rows row) (head_at heads row)) (sym (at_grown next (length next) refl)) kept.paths;
+    alone = λ slot no_head absent. ap (λ f. f slot) (at_grown next (length next) refl) ∙ kept.alone slot no_head absent;
     apart = rw (length_push next (length next)) (apart_grown kept.apart);
   }
 
@@ -83,33 +86,56 @@ module _ {next prev heads : List ℕ} {rows : List (List ℕ)} (kept : AreRings 
           let last : length heads ≡ row = omega (arith, below, past, length_push heads (length next)) in
           rw (get_or_push heads (length next) 0 row last, get_or_push rows [] [] row (kept.apart.count ∙ last)) (get_or_push next (length next) (length next) (length next) refl)
     ];
+    alone = λ slot no_head absent.
+        with_slot.alone slot (or_parts (is_in slot heads) (is_in slot (length next ∷ [])) (sym (list_any-append (eqb slot) heads (length next ∷ [])) ∙ no_head)).0 (λ row. ap (is_in slot) (sym (read_grown rows [] [] row (λ is. refl))) ∙ absent row);
     apart = rw (length_push next (length next)) (apart_headed kept.apart);
   }
+
+  pub with_node : {next' prev' : List ℕ} → next' ≡ next ++ length next ∷ [] → prev' ≡ prev ++ length next ∷ [] → AreRings next' prev' heads rows
+  with_node next_is prev_is = rw (next_is, prev_is) with_slot
 
   pub with_head : {next' prev' heads' : List ℕ} → next' ≡ next ++ length next ∷ [] → prev' ≡ prev ++ length next ∷ [] → heads' ≡ heads ++ length next ∷ [] → AreRings next' prev' heads' (rows ++ [] ∷ [])
   with_head next_is prev_is heads_is = rw (next_is, prev_is, heads_is) with_queue
 
-  pub with_move : {next' prev' : List ℕ} (slot row head : ℕ) → IsSlot (length next) heads slot → row < length heads → head ≡ head_at heads row → AreLinked next' prev' → IsShifted next next' slot head → AreRings next' prev' heads (shifted slot row rows)
-  with_move {next' = next'} slot row head slot_is below head_is links moves =
+  pub with_left : {next' prev' : List ℕ} (slot : ℕ) → IsSlot (length next) heads slot → AreLinked next' prev' → IsExchanged next next' (at prev slot) slot → AreRings next' prev' heads (left slot rows)
+  with_left {next' = next'} slot slot_is links ex = record {
+    links = links;
+    paths = λ r below.
+        let from : ℕ = head_at heads r in
+        let apart : from ≢ slot = λ same. false≢true (sym slot_is.moves ∙ ap (λ h. is_in h heads) (sym same) ∙ is_head heads r below) in
+        subst (λ (l : List ℕ). Path (at next') from l from) (sym (map_at (without slot) [] rows r)) (taken_out kept.links slot ex from (queue_at rows r) from apart apart (kept.paths r below));
+    alone = λ node no_head absent. elim (cases_eq node slot) [
+      | inl is ↦ ap (at next') is ∙ ex.at_b ∙ kept.links.inverse.forth slot ∙ sym is
+      | inr other ↦
+          let was : at next node ≡ node = kept.alone node no_head (alone_left node slot rows other absent) in
+          stays kept.links slot slot node ex (λ leads. other (sym was ∙ leads)) other ∙ was
+    ];
+    apart = rw ex.len (apart_left kept.apart slot);
+  }
+
+  pub with_joined : {next' prev' : List ℕ} (slot row head : ℕ) → IsSlot (length next) heads slot → IsAlone slot rows → row < length heads → head ≡ head_at heads row → AreLinked next' prev' → IsExchanged next next' (at prev head) slot
+      → AreRings next' prev' heads (joined slot row rows)
+  with_joined {next' = next'} slot row head slot_is alone below head_is links ex =
       let in_rows : row < length rows = omega (arith, below, kept.apart.count) in
+      let is : is_in head heads ≡ true = ap (λ h. is_in h heads) head_is ∙ is_head heads row below in
       record {
         links = links;
         paths = λ r r_below.
             let from : ℕ = head_at heads r in
             subst (λ (l : List ℕ). Path (at next') from l from)
-            (ap (λ b. moved slot b (queue_at rows r)) (ap (eqb from) head_is ∙ one_row heads r row kept.apart.distinct r_below below) ∙ sym (moved_at slot row rows r in_rows))
-            (moves.paths from (queue_at rows r) (λ same. false≢true (sym slot_is.moves ∙ ap (λ h. is_in h heads) (sym same) ∙ is_head heads r r_below))
-            (head_apart kept.apart r head (ap (λ h. is_in h heads) head_is ∙ is_head heads row below)) (kept.paths r r_below));
-        apart = rw moves.len (apart_moved kept.apart slot row slot_is in_rows);
+            (ap (λ b. queue_at rows r ++ cond b (slot ∷ []) []) (ap (eqb from) head_is ∙ one_row heads r row kept.apart.distinct r_below below) ∙ sym (joined_at slot row rows r in_rows))
+            (put_in kept.links slot head ex (kept.alone slot slot_is.moves alone) from (queue_at rows r) from (λ same. false≢true (sym slot_is.moves ∙ ap (λ h. is_in h heads) (sym same) ∙ is_head heads r r_below))
+            (alone r) (head_apart kept.apart r head is) (kept.paths r r_below));
+        alone = λ node no_head absent.
+            let old = alone_joined node slot row rows in_rows absent in
+            let was : at next node ≡ node = kept.alone node no_head old.1 in
+            stays kept.links head slot node ex (λ leads. false≢true (sym no_head ∙ ap (λ h. is_in h heads) (sym was ∙ leads) ∙ is)) old.0 ∙ was;
+        apart = rw ex.len (apart_joined kept.apart slot row slot_is alone in_rows);
       }
-
--- a slot more comes to the end of a row
-pub slot_added : {next prev heads : List ℕ} {rows : List (List ℕ)} {mid next' prev' : List ℕ} (slot row head : ℕ) → AreRings next prev heads rows → row < length heads → head ≡ head_at heads row
-    → mid ≡ next ++ length next ∷ [] → slot ≡ length next → AreLinked next' prev' → IsShifted mid next' slot head → AreRings next' prev' heads (set rows row (queue_at rows row ++ length next ∷ []))
-slot_added {next = next} {heads = heads} {rows = rows} {next' = next'} {prev' = prev'} slot row head kept below head_is mid_is slot_is links moves =
-    subst (AreRings next' prev' heads) (joined_new (length next) rows (new_apart kept.apart) row)
-    (with_move (with_slot kept) (length next) row head (rw (length_push next (length next)) (new_slot kept.apart)) below head_is links (rw (mid_is, slot_is) at moves))
 
 -- the number of a queue has its head
 pub head_below : (next heads : List ℕ) (now : Rings) (queue : ℕ) → seen (length next) (0 ∷ heads) (queues_of next (0 ∷ heads)) ≡ now → queue < length now.queues → queue < length heads
 head_below next heads now queue is below = omega (arith, below, ap (λ (r : Rings). length r.queues) is, length-map heads (ring next))
+
+pub alone_as : {now then : Rings} (slot : ℕ) → now ≡ then → IsAlone slot (rows_of then) → IsAlone slot (rows_of now)
+alone_as slot is = subst (λ (r : Rings). IsAlone slot (rows_of r)) (sym is)

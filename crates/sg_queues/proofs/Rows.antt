@@ -1,7 +1,7 @@
--- What a move does to the rows of slots.
-use Rattle.std.proofs.Common.{◌≡◌, ◌≢◌, ◌<◌, ◌≤◌, ◌+◌, ◌∙◌, ◌⊎◌, inl, inr, sym, ap, refl, ℕ, Bool, true, false, not, eqb, List, [], ◌∷◌, ◌++◌, length, arith}
-use Rattle.std.specs.Prelude.{AllPairs, map}
-use Rattle.std.proofs.lemmas.Bool.{cases_eq, cases_order, eq-eqb, ne_eqb, eqb-true, eqb-false, not-true, or_cases, and_parts, false≢true, false_from_ne_true}
+-- What becomes of the rows of slots where one leaves or joins.
+use Rattle.std.proofs.Common.{◌≡◌, ◌≢◌, ◌<◌, ◌≤◌, ◌+◌, ◌∙◌, ◌⊎◌, inl, inr, sym, ap, refl, ℕ, Bool, true, false, not, ◌&&◌, ◌||◌, cond, eqb, List, [], ◌∷◌, ◌++◌, length, arith}
+use Rattle.std.specs.Prelude.{AllPairs}
+use Rattle.std.proofs.lemmas.Bool.{cases_eq, cases_order, eq-eqb, ne_eqb, eqb-true, eqb-false, or_cases, or_parts, and_parts, false≢true, false_from_ne_true}
 use Rattle.std.proofs.lemmas.Bool.Decides.{Decides-eqb}
 use Rattle.std.proofs.lemmas.List.{append-nil, length-map, length-set, length_push, get_or-set_same, get_or-set_other}
 use Rattle.std.proofs.lemmas.List.Kept.{AllPairs-filter}
@@ -9,10 +9,10 @@ use Rattle.std.proofs.lemmas.List.Quantifiers.{all_pairs_push}
 use Rattle.std.proofs.lemmas.List.Folds.{list_any-append, list_any_at}
 use Rattle.std.proofs.lemmas.Map.Made.{IsDistinct-from_AllPairs}
 use Rattle.std.proofs.lemmas.Map.Steps.{length-le_from_distinct_below}
-use Rattle.sg_queues.specs.Rings.{is_in, queue_at, without, shifted, IsSlot, AreApart}
-use Rattle.sg_queues.specs.kept.Links.{moved, head_at}
+use Rattle.sg_queues.specs.Rings.{is_in, queue_at, joined, left, without, IsAlone, IsSlot, AreApart}
+use Rattle.sg_queues.specs.kept.Links.{head_at}
 use Rattle.sg_queues.proofs.Lists.{read_grown, map_at, none_of}
-use Rattle.sg_queues.proofs.Paths.{in_without, without_it}
+use Rattle.sg_queues.proofs.Paths.{in_without}
 
 -- who is in a list that grew
 in_push : (node n : ℕ) (nodes : List ℕ) → is_in node (nodes ++ n ∷ []) ≡ true → (node ≡ n) ⊎ (is_in node nodes ≡ true)
@@ -21,28 +21,40 @@ in_push node n nodes is = elim (or_cases (is_in node nodes) (is_in node (n ∷ [
   | inr new ↦ elim (or_cases (eqb node n) false new) [ inl same ↦ inl (eqb-true node n same) | inr never ↦ absurd (false≢true never) ]
 ]
 
-stayed : (node slot : ℕ) (row : List ℕ) → is_in node (without slot row) ≡ true → (node ≢ slot) × (is_in node row ≡ true)
-stayed node slot row is =
-    let both = and_parts (not (eqb node slot)) (is_in node row) (sym (in_without node slot row) ∙ is) in
-    (eqb-false node slot (not-true (eqb node slot) both.0), both.1)
+-- who is in a row where a slot has left, or come to its end
+in_left : (node slot row : ℕ) (rows : List (List ℕ)) → is_in node (queue_at (left slot rows) row) ≡ (not (eqb node slot) && is_in node (queue_at rows row))
+in_left node slot row rows = ap (is_in node) (map_at (without slot) [] rows row) ∙ in_without node slot (queue_at rows row)
 
--- who is in a row after a move: the slot, where it joins, and the others
-in_moved : (node slot : ℕ) (joins : Bool) (row : List ℕ) → is_in node (moved slot joins row) ≡ true → ((node ≡ slot) × (joins ≡ true)) ⊎ ((node ≢ slot) × (is_in node row ≡ true))
-in_moved node slot false row is = inr (stayed node slot row (ap (is_in node) (sym (append-nil (without slot row))) ∙ is))
-in_moved node slot true row is = elim (in_push node slot (without slot row) is) [ inl new ↦ inl (new, refl) | inr there ↦ inr (stayed node slot row there) ]
+pub left_alone : (slot : ℕ) (rows : List (List ℕ)) → IsAlone slot (left slot rows)
+left_alone slot rows row = in_left slot slot row rows ∙ ap (λ b. not b && is_in slot (queue_at rows row)) (eq-eqb slot slot refl)
 
-once_moved : (slot : ℕ) (joins : Bool) (row : List ℕ) → AllPairs (λ a b. a ≢ b) row → AllPairs (λ a b. a ≢ b) (moved slot joins row)
-once_moved slot false row once = rw (append-nil (without slot row)) (AllPairs-filter (λ a b. a ≢ b) (λ other. not (eqb other slot)) row once)
-once_moved slot true row once =
-    all_pairs_push (λ a b. a ≢ b) (without slot row) slot (AllPairs-filter (λ a b. a ≢ b) (λ other. not (eqb other slot)) row once) (none_of slot (without slot row) (without_it slot row))
+pub alone_left : (node slot : ℕ) (rows : List (List ℕ)) → node ≢ slot → IsAlone node (left slot rows) → IsAlone node rows
+alone_left node slot rows other alone row = ap (λ b. not b && is_in node (queue_at rows row)) (sym (ne_eqb node slot other)) ∙ sym (in_left node slot row rows) ∙ alone row
 
-pub moved_at : (slot row : ℕ) (rows : List (List ℕ)) (r : ℕ) → row < length rows → queue_at (shifted slot row rows) r ≡ moved slot (eqb r row) (queue_at rows r)
-moved_at slot row rows r below =
-    let longer : List ℕ = without slot (queue_at rows row) ++ slot ∷ [] in
+pub joined_at : (slot row : ℕ) (rows : List (List ℕ)) (r : ℕ) → row < length rows → queue_at (joined slot row rows) r ≡ queue_at rows r ++ cond (eqb r row) (slot ∷ []) []
+joined_at slot row rows r below =
+    let longer : List ℕ = queue_at rows row ++ slot ∷ [] in
     elim (cases_eq r row) [
-      | inl same ↦ rw (same, eq-eqb row row refl) (get_or-set_same (map (without slot) rows) row longer [] (omega (arith, below, length-map rows (without slot))))
-      | inr other ↦ rw (ne_eqb r row other, append-nil (without slot (queue_at rows r))) (get_or-set_other (map (without slot) rows) row r longer [] other ∙ map_at (without slot) [] rows r)
+      | inl same ↦ rw (same, eq-eqb row row refl) (get_or-set_same rows row longer [] below)
+      | inr other ↦ rw (ne_eqb r row other, append-nil (queue_at rows r)) (get_or-set_other rows row r longer [] other)
     ]
+
+in_joined : (node slot row : ℕ) (rows : List (List ℕ)) (r : ℕ) → row < length rows → is_in node (queue_at (joined slot row rows) r) ≡ (is_in node (queue_at rows r) || is_in node (cond (eqb r row) (slot ∷ []) []))
+in_joined node slot row rows r below = ap (is_in node) (joined_at slot row rows r below) ∙ list_any-append (eqb node) (queue_at rows r) (cond (eqb r row) (slot ∷ []) [])
+
+in_one : (node slot : ℕ) (here : Bool) → is_in node (cond here (slot ∷ []) []) ≡ true → (node ≡ slot) × (here ≡ true)
+in_one node slot false is = absurd (false≢true is)
+in_one node slot true is = elim (or_cases (eqb node slot) false is) [ inl same ↦ (eqb-true node slot same, refl) | inr never ↦ absurd (false≢true never) ]
+
+pub alone_joined : (node slot row : ℕ) (rows : List (List ℕ)) → row < length rows → IsAlone node (joined slot row rows) → (node ≢ slot) × IsAlone node rows
+alone_joined node slot row rows below alone =
+    let parts : (r : ℕ) → (is_in node (queue_at rows r) ≡ false) × (is_in node (cond (eqb r row) (slot ∷ []) []) ≡ false) =
+    λ r. or_parts (is_in node (queue_at rows r)) (is_in node (cond (eqb r row) (slot ∷ []) [])) (sym (in_joined node slot row rows r below) ∙ alone r) in
+    (eqb-false node slot (or_parts (eqb node slot) false (ap (λ b. is_in node (cond b (slot ∷ []) [])) (sym (eq-eqb row row refl)) ∙ (parts row).1)).0, λ r. (parts r).0)
+
+once_joined : (slot : ℕ) (here : Bool) (row : List ℕ) → is_in slot row ≡ false → AllPairs (λ a b. a ≢ b) row → AllPairs (λ a b. a ≢ b) (row ++ cond here (slot ∷ []) [])
+once_joined slot false row absent once = rw (append-nil row) once
+once_joined slot true row absent once = all_pairs_push (λ a b. a ≢ b) row slot once (none_of slot row absent)
 
 pub is_head : (heads : List ℕ) (row : ℕ) → row < length heads → is_in (head_at heads row) heads ≡ true
 is_head heads row below = list_any_at (eqb (head_at heads row)) heads row 0 below (eq-eqb (head_at heads row) (head_at heads row) refl)
@@ -103,19 +115,31 @@ module _ {nodes : ℕ} {heads : List ℕ} {rows : List (List ℕ)} (kept : AreAp
         apart = λ p q slot p_in q_in. kept.apart p q slot (ap (is_in slot) (sym (at p)) ∙ p_in) (ap (is_in slot) (sym (at q)) ∙ q_in);
       }
 
-  pub apart_moved : (slot row : ℕ) → IsSlot nodes heads slot → row < length rows → AreApart nodes heads (shifted slot row rows)
-  apart_moved slot row slot_is below =
-      let at : (r : ℕ) → queue_at (shifted slot row rows) r ≡ moved slot (eqb r row) (queue_at rows r) = λ r. moved_at slot row rows r below in
-      let in_it : (s r : ℕ) → is_in s (queue_at (shifted slot row rows) r) ≡ true → ((s ≡ slot) × (eqb r row ≡ true)) ⊎ ((s ≢ slot) × (is_in s (queue_at rows r) ≡ true)) =
-      λ s r there. in_moved s slot (eqb r row) (queue_at rows r) (ap (is_in s) (sym (at r)) ∙ there) in
+  pub apart_left : (slot : ℕ) → AreApart nodes heads (left slot rows)
+  apart_left slot =
+      let still : (r s : ℕ) → is_in s (queue_at (left slot rows) r) ≡ true → is_in s (queue_at rows r) ≡ true = λ r s there. (and_parts (not (eqb s slot)) (is_in s (queue_at rows r)) (sym (in_left s slot r rows) ∙ there)).1 in
       record {
-        count = length-set (map (without slot) rows) row (without slot (queue_at rows row) ++ slot ∷ []) ∙ length-map rows (without slot) ∙ kept.count;
+        count = length-map rows (without slot) ∙ kept.count;
         below = kept.below;
         distinct = kept.distinct;
-        slots = λ r s there. elim (in_it s r there) [ inl here ↦ rw here.0 slot_is | inr stays ↦ kept.slots r s stays.1 ];
-        once = λ r. rw (at r) (once_moved slot (eqb r row) (queue_at rows r) (kept.once r));
+        slots = λ r s there. kept.slots r s (still r s there);
+        once = λ r. rw (map_at (without slot) [] rows r) (AllPairs-filter (λ a b. a ≢ b) (λ other. not (eqb other slot)) (queue_at rows r) (kept.once r));
+        apart = λ p q s p_in q_in. kept.apart p q s (still p s p_in) (still q s q_in);
+      }
+
+  pub apart_joined : (slot row : ℕ) → IsSlot nodes heads slot → IsAlone slot rows → row < length rows → AreApart nodes heads (joined slot row rows)
+  apart_joined slot row slot_is alone below =
+      let in_it : (s r : ℕ) → is_in s (queue_at (joined slot row rows) r) ≡ true → (is_in s (queue_at rows r) ≡ true) ⊎ ((s ≡ slot) × (eqb r row ≡ true)) =
+      λ s r there. elim (or_cases (is_in s (queue_at rows r)) (is_in s (cond (eqb r row) (slot ∷ []) [])) (sym (in_joined s slot row rows r below) ∙ there)) [ inl old ↦ inl old | inr new ↦ inr (in_one s slot (eqb r row) new) ] in
+      let never : (s r : ℕ) → s ≡ slot → is_in s (queue_at rows r) ≡ true → ⊥ = λ s r same there. false≢true (sym (alone r) ∙ ap (λ n. is_in n (queue_at rows r)) (sym same) ∙ there) in
+      record {
+        count = length-set rows row (queue_at rows row ++ slot ∷ []) ∙ kept.count;
+        below = kept.below;
+        distinct = kept.distinct;
+        slots = λ r s there. elim (in_it s r there) [ inl old ↦ kept.slots r s old | inr new ↦ rw new.0 slot_is ];
+        once = λ r. rw (joined_at slot row rows r below) (once_joined slot (eqb r row) (queue_at rows r) (alone r) (kept.once r));
         apart = λ p q s p_in q_in. elim (in_it s p p_in) [
-          | inl here ↦ elim (in_it s q q_in) [ inl too ↦ eqb-true p row here.1 ∙ sym (eqb-true q row too.1) | inr stays ↦ absurd (stays.0 here.0) ]
-          | inr stays ↦ elim (in_it s q q_in) [ inl here ↦ absurd (stays.0 here.0) | inr too ↦ kept.apart p q s stays.1 too.1 ]
+          | inl old ↦ elim (in_it s q q_in) [ inl too ↦ kept.apart p q s old too | inr new ↦ absurd (never s p new.0 old) ]
+          | inr new ↦ elim (in_it s q q_in) [ inl old ↦ absurd (never s q new.0 old) | inr too ↦ eqb-true p row new.1 ∙ sym (eqb-true q row too.1) ]
         ];
       }

@@ -1,4 +1,4 @@
--- Slots, each of which is in one queue or idle at any time, and moves from place to place.
+-- Slots, each of which is alone, idle or in one queue at any time.
 use Rattle.std.specs.Prelude.{◌≡◌, ◌≢◌, ℕ, ◌<◌, ◌==◌, nat_eq, Bool, true, false, not, Option, None, Some, List, [], ◌∷◌, ◌++◌, length, map, filter, slice_index_or, slice_set, AllPairs}
 use Rattle.std.specs.List.{list_any}
 
@@ -32,9 +32,17 @@ pub record IsSlot (nodes : ℕ) (heads : List ℕ) (node : ℕ) : Type 0 where
 abbrev pub without : ℕ → List ℕ → List ℕ
 without slot queue = filter (λ other. not (other == slot)) queue
 
--- the slot leaves the place where it is for the end of this queue
-abbrev pub shifted : ℕ → ℕ → List (List ℕ) → List (List ℕ)
-shifted slot queue queues = slice_set (map (without slot) queues) queue (without slot (queue_at queues queue) ++ slot ∷ [])
+-- the slot leaves the place where it is
+abbrev pub left : ℕ → List (List ℕ) → List (List ℕ)
+left slot rows = map (without slot) rows
+
+-- the slot comes to the end of this row
+abbrev pub joined : ℕ → ℕ → List (List ℕ) → List (List ℕ)
+joined slot row rows = slice_set rows row (queue_at rows row ++ slot ∷ [])
+
+-- the slot is in none of these rows
+abbrev pub IsAlone : ℕ → List (List ℕ) → Type 0
+IsAlone slot rows = (row : ℕ) → is_in slot (queue_at rows row) ≡ false
 
 -- a slot is in one of these rows at most, and once there; and each row has a head of its own
 pub record AreApart (nodes : ℕ) (heads : List ℕ) (rows : List (List ℕ)) : Type 0 where

@@ -1,6 +1,6 @@
 //! Rings of nodes, linked both ways.
 ghost use Rattle.std.specs.Prelude.{◌≡◌, ◌≢◌, ◌<◌, ◌≤◌, ◌+◌, ◌++◌, ◌∷◌, [], ℕ, length, IfOk, OnOk, OnErr, slice_set, vec_len, vec_capacity};
-ghost use Rattle.sg_queues.specs.kept.Links.{at, AreLinked, IsExchanged, IsShifted};
+ghost use Rattle.sg_queues.specs.kept.Links.{at, AreLinked, IsExchanged};
 
 use sg_base::Memory;
 
@@ -53,32 +53,20 @@ impl Links {
         self.prev[node]
     }
 
-    // Two nodes exchange what they lead to: this takes a slot out of its ring, or puts one that is alone into a ring.
-    fn exchange(&mut self, a: usize, b: usize)
+    /// A slot, and the node that leads to this one, exchange what they lead to: this takes a slot out of its ring, where
+    /// it is the node itself, and puts a slot that is alone into the ring of another node, in front of that.
+    pub(crate) fn exchange_before(&mut self, node: usize, slot: usize)
         requires linked { AreLinked self.old.next.items self.old.prev.items }
-        requires a { a < length self.old.next.items }
-        requires b { b < length self.old.next.items }
-        ensures linked { AreLinked self.new.next.items self.new.prev.items }
-        ensures exchanged { IsExchanged self.old.next.items self.new.next.items a b }
-    {
-        let after_a = self.next_of(a);
-        let after_b = self.next_of(b);
-        self.link(a, after_b);
-        self.link(b, after_a);
-    }
-
-    /// The slot leaves its ring for the end of the ring of this head.
-    pub(crate) fn shift(&mut self, slot: usize, head: usize)
-        requires linked { AreLinked self.old.next.items self.old.prev.items }
+        requires node { node < length self.old.next.items }
         requires slot { slot < length self.old.next.items }
-        requires head { head < length self.old.next.items }
         ensures linked { AreLinked self.new.next.items self.new.prev.items }
-        ensures shifted { IsShifted self.old.next.items self.new.next.items slot head }
+        ensures exchanged { IsExchanged self.old.next.items self.new.next.items
+            (at self.old.prev.items node) slot }
     {
-        let before = self.prev_of(slot);
-        self.exchange(before, slot);
-        let last = self.prev_of(head);
-        self.exchange(last, slot);
+        let before = self.prev_of(node);
+        let after = self.next_of(slot);
+        self.link(before, after);
+        self.link(slot, node);
     }
 
     /// A node more, which is alone. It takes memory before it changes anything.

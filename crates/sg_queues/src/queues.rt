@@ -76,7 +76,8 @@ impl<T: Copy + Drop> Queues<T> {
         ensures kept { OnErr result (self.new ≡ self.old) }
     {
         self.values.reserve(1)?;
-        self.rings.add_slot()?;
+        let slot = self.rings.add_slot()?;
+        self.rings.retire(slot);
         push(&mut self.values, self.blank);
         self.room += 1;
         Ok(())
@@ -108,7 +109,8 @@ impl<T: Copy + Drop> Queues<T> {
             None => unreachable!(),
         };
         self.values[slot] = value;
-        self.rings.shift(slot, queue);
+        self.rings.leave(slot);
+        self.rings.join(slot, queue);
         self.room -= 1;
         slot
     }
@@ -132,6 +134,7 @@ impl<T: Copy + Drop> Queues<T> {
         ensures room { self.new.room ≡ self.old.room + 1 }
         ensures slots { AreSlots self.new.queues }
     {
+        self.rings.leave(slot);
         self.rings.retire(slot);
         self.room += 1;
     }

@@ -1,6 +1,6 @@
 //! Slots that move from queue to queue.
-ghost use Rattle.std.specs.Prelude.{◌≡◌, ◌<◌, ◌+◌, ◌++◌, ◌∷◌, [], suc, length, map, IfOk, OnOk, OnErr};
-ghost use Rattle.sg_queues.specs.Rings.{front, queue_at, shifted, without, IsApart, IsSlot};
+ghost use Rattle.std.specs.Prelude.{◌≡◌, ◌<◌, ◌+◌, ◌++◌, ◌∷◌, [], suc, length, IfOk, OnOk, OnErr};
+ghost use Rattle.sg_queues.specs.Rings.{front, joined, left, queue_at, rows_of, without, IsAlone, IsApart, IsSlot};
 ghost use Rattle.sg_queues.specs.kept.Links.{head_at};
 
 use crate::links::{Links, push};
@@ -8,14 +8,15 @@ use sg_base::Memory;
 use std::alloc::Global;
 use std::marker::Model;
 
-/// Slots, each of which is in one queue or idle at any time. A slot moves from the place where it is to the end of
-/// another.
+/// Slots, each of which is alone, idle or in one queue at any time. A slot leaves the place where it is, and then comes
+/// to the end of another.
 ///
 /// Slots and heads are nodes, numbered from 0 on as they are added: node 0 is the head of the idle slots, and each
 /// queue has a head of its own. Each move costs the same however long the queues are; only adding takes memory.
 #[derive(Drop)]
 pub struct Rings {
-    // the idle slots, and those of each queue, are a ring, linked both ways, that begins and ends at its head
+    // the idle slots, and those of each queue, are a ring, linked both ways, that begins and ends at its head; and so is
+    // each slot that is alone
     links: Links,
     // the head of each queue
     heads: Vec<usize>,
@@ -77,18 +78,17 @@ impl Rings {
         Ok(number)
     }
 
-    /// A slot more, which is idle. Its number is how many nodes there were.
-    pub fn add_slot(&mut self) -> Result<(), Memory>
-        ensures slot { OnOk result (self.new ≡ record self.old {
-          nodes = self.old.nodes + 1;
-          idle = self.old.idle ++ self.old.nodes ∷ [];
-        }) }
+    /// A slot more, which is alone. Its number is how many nodes there were.
+    pub fn add_slot(&mut self) -> Result<usize, Memory>
+        ensures number { IfOk result (λ slot. slot ≡ self.old.nodes) }
+        ensures slot { OnOk result (self.new ≡ record self.old { nodes = self.old.nodes + 1 }) }
+        ensures alone { OnOk result (IsAlone self.old.nodes (rows_of self.new)) }
+        ensures is { OnOk result (IsSlot self.new.nodes self.new.heads self.old.nodes) }
         ensures apart { OnOk result (IsApart self.new) }
         ensures kept { OnErr result (self.new ≡ self.old) }
     {
         let slot = self.links.add()?;
-        self.links.shift(slot, IDLE);
-        Ok(())
+        Ok(slot)
     }
 
     fn head_of(&self, queue: usize) -> usize
@@ -117,29 +117,40 @@ impl Rings {
         if first == IDLE { None } else { Some(first) }
     }
 
-    /// A slot leaves the place where it is for the end of a queue.
-    pub fn shift(&mut self, slot: usize, queue: usize)
-        requires slot { IsSlot self.old.nodes self.old.heads slot }
-        requires queue { queue < length self.old.queues }
-        ensures moved { self.new ≡ record self.old {
+    /// A slot leaves the place where it is, and is alone.
+    pub fn leave(&mut self, slot: usize)
+        requires { IsSlot self.old.nodes self.old.heads slot }
+        ensures left { self.new ≡ record self.old {
           idle = without slot self.old.idle;
-          queues = shifted slot queue self.old.queues;
+          queues = left slot self.old.queues;
+        } }
+        ensures alone { IsAlone slot (rows_of self.new) }
+        ensures apart { IsApart self.new }
+    {
+        self.links.exchange_before(slot, slot);
+    }
+
+    /// A slot that is alone comes to the end of a queue.
+    pub fn join(&mut self, slot: usize, queue: usize)
+        requires slot { IsSlot self.old.nodes self.old.heads slot }
+        requires alone { IsAlone slot (rows_of self.old) }
+        requires queue { queue < length self.old.queues }
+        ensures joined { self.new ≡ record self.old {
+          queues = joined slot queue self.old.queues;
         } }
         ensures apart { IsApart self.new }
     {
         let head = self.head_of(queue);
-        self.links.shift(slot, head);
+        self.links.exchange_before(head, slot);
     }
 
-    /// A slot leaves the place where it is and is idle, behind all others that are.
+    /// A slot that is alone is idle, behind all others that are.
     pub fn retire(&mut self, slot: usize)
-        requires { IsSlot self.old.nodes self.old.heads slot }
-        ensures moved { self.new ≡ record self.old {
-          idle = without slot self.old.idle ++ slot ∷ [];
-          queues = map (without slot) self.old.queues;
-        } }
+        requires slot { IsSlot self.old.nodes self.old.heads slot }
+        requires alone { IsAlone slot (rows_of self.old) }
+        ensures idle { self.new ≡ record self.old { idle = self.old.idle ++ slot ∷ [] } }
         ensures apart { IsApart self.new }
     {
-        self.links.shift(slot, IDLE);
+        self.links.exchange_before(IDLE, slot);
     }
 }

@@ -21,7 +21,8 @@ fn made(alloc: Global) -> Result<Rings, Memory>
     rings.add_queue()?;
     rings.add_queue()?;
     for _slot in 0..SLOTS {
-        rings.add_slot()?;
+        let slot = rings.add_slot()?;
+        rings.retire(slot);
     }
     Ok(rings)
 }
@@ -44,10 +45,11 @@ fn shift(rings: &mut Rings, slot: usize, row: usize)
     requires row { row < 4 }
     ensures { IsMade 16 rings.new }
 {
+    rings.leave(slot);
     if row == 0 {
         rings.retire(slot);
     } else {
-        rings.shift(slot, row - 1);
+        rings.join(slot, row - 1);
     }
 }
 

@@ -7,11 +7,11 @@ use Rattle.std.proofs.lemmas.List.Folds.{list_any-append}
 use Rattle.std.proofs.lemmas.List.Sums.{get_or-le-sum_by}
 use Rattle.sg_base.specs.declared.ids.ActorId.{ActorId}
 use Rattle.sg_queues.specs.Rings as rings
-use Rattle.sg_queues.specs.Rings.{Rings, is_in, shifted, IsApart, IsSlot}
+use Rattle.sg_queues.specs.Rings.{Rings, is_in, rows_of, IsAlone, IsApart, IsSlot}
 use Rattle.sg_queues.proofs.Entries.{front_in}
-use Rattle.sg_queues.proofs.Lists.{map_at, popped, none_of, joined_of, left_of}
+use Rattle.sg_queues.proofs.Lists.{map_at, popped, none_of, left_of}
 use Rattle.sg_queues.proofs.Rows.{absent_from}
-use Rattle.sg_sync.specs.Queues.{queue_at, behind, joined, left, shortened, times, waits}
+use Rattle.sg_sync.specs.Queues.{queue_at, behind, left, shortened, times, waits}
 use Rattle.sg_sync.specs.kept.Slots.{actor_of, actors_in, waiting_in, AreActors, AreKept}
 use Rattle.sg_sync.proofs.Counts.{one_same, times_cons}
 
@@ -36,20 +36,20 @@ nowhere queues actor free q = elim (cases_lt q (length queues)) [
   | inr past ↦ ap (is_in actor.0) (get_or_past queues q [] past)
 ]
 
--- an actor is idle
-pub left_is : (queues : List (List ℕ)) (actor : ActorId) → waiting_in (map (rings.without actor.0) queues) ≡ left actor (waiting_in queues)
-left_is queues actor = left_of actor_of (λ (other : ActorId). not (eqb other.0 actor.0)) queues
+pub alone_is : (now : Rings) (actor : ActorId) → now.idle ≡ [] → waits actor (waiting_in now.queues) ≡ 0 → IsAlone actor.0 (rows_of now)
+alone_is now actor none free zero = ap (is_in actor.0) none
+alone_is now actor none free (suc q) = nowhere now.queues actor free q
 
--- an actor that waits nowhere goes to the end of a queue
-pub joined_is : (queues : List (List ℕ)) (actor : ActorId) (queue : ℕ) → waits actor (waiting_in queues) ≡ 0 → waiting_in (shifted actor.0 queue queues) ≡ joined (waiting_in queues) queue actor
-joined_is queues actor queue free = joined_of actor.0 queues (nowhere queues actor free) actor_of queue
+-- an actor is alone
+pub left_is : (queues : List (List ℕ)) (actor : ActorId) → waiting_in (rings.left actor.0 queues) ≡ left actor (waiting_in queues)
+left_is queues actor = left_of actor_of (λ (other : ActorId). not (eqb other.0 actor.0)) queues
 
 behind_is : (slots : List ℕ) → actors_in (rings.behind slots) ≡ behind (actors_in slots)
 behind_is [] = refl
 behind_is (slot ∷ slots) = refl
 
 -- the first leaves its queue alone
-pub shortened_is : (now : Rings) (queue slot : ℕ) → IsApart now → queue < length now.queues → rings.front (rings.queue_at now.queues queue) ≡ Some slot → waiting_in (map (rings.without slot) now.queues) ≡ shortened (waiting_in now.queues) queue
+pub shortened_is : (now : Rings) (queue slot : ℕ) → IsApart now → queue < length now.queues → rings.front (rings.queue_at now.queues queue) ≡ Some slot → waiting_in (rings.left slot now.queues) ≡ shortened (waiting_in now.queues) queue
 shortened_is now queue slot apart within is =
     let slots : List ℕ = rings.queue_at now.queues queue in
     ap waiting_in (popped (λ x. x) now.queues queue slot within is (apart.once (suc queue))
@@ -72,6 +72,7 @@ head_more actors nodes heads few kept = record {
 pub queue_more : (actors : ℕ) (old new : Rings) → AreKept actors old → IsApart new → new ≡ record old { nodes = old.nodes + 1; heads = old.heads ++ old.nodes ∷ []; queues = old.queues ++ [] ∷ [] } → AreKept actors new
 queue_more actors old new kept apart is = record {
   apart = apart;
+  idle = ap (λ (r : Rings). r.idle) is ∙ kept.idle;
   nodes = omega (arith, kept.nodes, ap (λ (r : Rings). r.nodes) is, ap (λ (r : Rings). length r.queues) is, length_push old.queues []);
   slots = subst (λ (r : Rings). AreActors actors r.nodes r.heads) (sym is) (head_more actors old.nodes old.heads (omega (arith, kept.nodes)) kept.slots);
 }

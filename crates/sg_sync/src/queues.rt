@@ -12,7 +12,7 @@ use std::marker::Model;
 /// Joining and leaving take no memory, and cost the same however long the queues are.
 #[derive(Drop)]
 pub(crate) struct Queues {
-    /// Each actor is a slot, of its own number, which is idle where the actor waits nowhere.
+    /// Each actor is a slot, of its own number, which is alone where the actor waits nowhere.
     rings: Rings,
     actors: u32,
 }
@@ -54,7 +54,7 @@ impl Queues {
         ensures few { length (queue_at self.new.queues queue)
             ≤ self.old.actors + length self.old.queues + 1 }
     {
-        self.rings.shift(actor.0 as usize, queue as usize);
+        self.rings.join(actor.0 as usize, queue as usize);
     }
 
     /// The first of a queue leaves it.
@@ -67,7 +67,7 @@ impl Queues {
     {
         match self.rings.front(queue as usize) {
             Some(slot) => {
-                self.rings.retire(slot);
+                self.rings.leave(slot);
                 Some(ActorId(slot as u32))
             }
             None => None,
@@ -79,6 +79,6 @@ impl Queues {
         requires { IsActor self.old.actors actor }
         ensures { self.new ≡ record self.old { queues = left actor self.old.queues } }
     {
-        self.rings.retire(actor.0 as usize);
+        self.rings.leave(actor.0 as usize);
     }
 }

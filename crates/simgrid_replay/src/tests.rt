@@ -1,4 +1,4 @@
-//! Jobs over parts and streams in memory: the tables of `sg_job_cases`.
+//! Jobs over parts and streams in memory: the tables of `sg_job_tables` and `sg_change_tables`.
 ghost use Rattle.std.specs.Prelude.{◌≡◌, ◌<◌, All, None, IfOk};
 ghost use Rattle.sg_edge.specs.declared.files.Part.{Part};
 ghost use Rattle.sg_edge.specs.declared.files.Stage.TheVariants.{Fresh};
@@ -7,10 +7,12 @@ use crate::host::Host;
 use crate::whole_call::simgrid;
 use sg_actor::{Actor, PlainContext, TapeContext, all_blank};
 use sg_base::{Memory, Steps};
+use sg_change_tables::{ENERGY, LIVES, OUTAGES, PROFILES};
 use sg_edge::{Files, MemFiles, MemSinks, Sinks, SureFiles, SureSinks};
-use sg_job_cases::{
-    BY_HAND, COLLECTIVES, COMPUTATIONS, Case, Done, EACH_FAILURE, ENERGY, FAILURES, FAULTS, JOBS,
-    Kind, LIMITS, LIVES, LONG, MEETINGS, OUTAGES, PROFILES, RUNS, hold, hold_failing,
+use sg_job_cases::{Case, Done, Kind, hold, hold_failing};
+use sg_job_tables::{
+    BY_HAND, COLLECTIVES, COMPUTATIONS, EACH_FAILURE, FAILURES, FAULTS, JOBS, LIMITS, LONG,
+    MEETINGS, RUNS,
 };
 use std::alloc::Global;
 use std::marker::Brand;

@@ -1,6 +1,6 @@
--- How slots are kept: each row is a ring of nodes, its head and its slots, linked both ways.
-use Rattle.std.specs.Prelude.{◌≡◌, ◌≢◌, ℕ, zero, suc, ◌<◌, ◌==◌, Bool, false, if◌then◌else◌, List, [], ◌∷◌, ◌++◌, length, map, slice_index_or}
-use Rattle.sg_queues.specs.Rings.{is_in, queue_at, without, AreApart}
+-- How slots are kept: each row is a ring of nodes, its head and its slots, linked both ways, and so is each slot that is alone.
+use Rattle.std.specs.Prelude.{◌≡◌, ◌≢◌, ℕ, zero, suc, ◌<◌, ◌==◌, false, if◌then◌else◌, List, [], ◌∷◌, length, map, slice_index_or}
+use Rattle.sg_queues.specs.Rings.{is_in, queue_at, AreApart, IsAlone}
 
 -- what a node is linked to; what is no node, to itself
 abbrev pub at : List ℕ → ℕ → ℕ
@@ -9,10 +9,6 @@ at links node = slice_index_or links node node
 -- the head of this row
 abbrev pub head_at : List ℕ → ℕ → ℕ
 head_at heads row = slice_index_or heads row 0
-
--- a row without the slot, or with the slot at its end
-abbrev pub moved : ℕ → Bool → List ℕ → List ℕ
-moved slot joins row = without slot row ++ (if joins then slot ∷ [] else [])
 
 -- the links lead from a node over these ones to a last one
 abbrev pub Path : (ℕ → ℕ) → ℕ → List ℕ → ℕ → Type 0
@@ -47,14 +43,9 @@ pub record IsExchanged (old new : List ℕ) (a b : ℕ) : Type 0 where
   pub at_b : at new b ≡ at old a
   pub others : (node : ℕ) → node ≢ a → node ≢ b → at new node ≡ at old node
 
--- each ring without the slot, and the ring of this head with the slot at its end
-pub record IsShifted (old new : List ℕ) (slot head : ℕ) : Type 0 where
-  pub len : length new ≡ length old
-  pub paths : (from : ℕ) (nodes : List ℕ) → from ≢ slot → is_in head nodes ≡ false → Path (at old) from nodes from
-      → Path (at new) from (moved slot (from == head) nodes) from
-
--- The links lead from the head of each row over its slots back to the head.
+-- The links lead from the head of each row over its slots back to the head, and from a slot in no row to itself.
 pub record AreRings (next prev heads : List ℕ) (rows : List (List ℕ)) : Type 0 where
   pub links : AreLinked next prev
   pub paths : (row : ℕ) → row < length heads → Path (at next) (head_at heads row) (queue_at rows row) (head_at heads row)
+  pub alone : (slot : ℕ) → is_in slot heads ≡ false → IsAlone slot rows → at next slot ≡ slot
   pub apart : AreApart (length next) heads rows

@@ -1,5 +1,5 @@
--- How queues of actors are kept: each actor is a slot, of its own number. Those that wait nowhere are idle.
-use Rattle.std.specs.Prelude.{◌≡◌, ℕ, ◌+◌, ◌<◌, ◌≤◌, List, length, map}
+-- How queues of actors are kept: each actor is a slot, of its own number. Those that wait nowhere are alone.
+use Rattle.std.specs.Prelude.{◌≡◌, ℕ, ◌+◌, ◌<◌, ◌≤◌, List, [], length, map}
 use Rattle.sg_base.specs.declared.ids.ActorId.{ActorId}
 use Rattle.sg_queues.specs.Rings.{Rings, IsApart, IsSlot}
 
@@ -19,5 +19,6 @@ pub record AreActors (actors nodes : ℕ) (heads : List ℕ) : Type 0 where
 
 pub record AreKept (actors : ℕ) (rings : Rings) : Type 0 where
   pub apart : IsApart rings
+  pub idle : rings.idle ≡ []
   pub nodes : rings.nodes ≡ actors + length rings.queues + 1
   pub slots : AreActors actors rings.nodes rings.heads

@@ -13,18 +13,27 @@ overflow_add-self g c =
     ap length (c.push.ensures.items ∙ ap (λ l. l ++ inside.blank ∷ []) c.reserve.ensures.items) ∙ length_push inside.values.items inside.blank in
     record { fits = omega (arith, len, c.self.invariant.free, short c.self.invariant.apart 0, c.self.invariant.values_fit, c.push.new.items.ok.0, c.push.new.items.small) }
 
+pub retire-requires-clause-slot : goal.retire-requires-clause-slot
+retire-requires-clause-slot g c = rw c.in_ok-slot.ensures.number c.in_ok-slot.ensures.is
+
+pub retire-requires-clause-alone : goal.retire-requires-clause-alone
+retire-requires-clause-alone g c = rw c.in_ok-slot.ensures.number c.in_ok-slot.ensures.alone
+
 pub invariant_of-self-2 : goal.invariant_of-self-2
 invariant_of-self-2 g c =
     let inside = c.self.inside in
-    let is = c.in_ok-add_slot.ensures.slot in
+    let is = c.retire.ensures.idle in
+    let was = c.in_ok-slot.ensures.slot in
     rw (c.push.ensures.items, c.reserve.ensures.items) (record {
-      apart = c.in_ok-add_slot.ensures.apart;
-      values_fit = omega (arith, length_push inside.values.items inside.blank, c.self.invariant.values_fit, ap (λ (r : Rings). r.nodes) is);
-      free = omega (arith, c.self.invariant.free, ap (λ (r : Rings). length r.idle) is, length_push inside.rings.idle inside.rings.nodes);
+      apart = c.retire.ensures.apart;
+      values_fit = omega (arith, length_push inside.values.items inside.blank, c.self.invariant.values_fit, ap (λ (r : Rings). r.nodes) is, ap (λ (r : Rings). r.nodes) was);
+      free = omega (arith, c.self.invariant.free, ap (λ (r : Rings). length r.idle) is, ap (λ (r : Rings). length r.idle) was, length_push c.add_slot.new.self.idle c.in_ok-slot.slot);
     })
 
 pub returns-clause-room : goal.returns-clause-room
 returns-clause-room g c =
     let inside = c.self.inside in
     rw (← c.self.view_is, c.push.ensures.items, c.reserve.ensures.items)
-    (ap (λ q. record { queues = q; room = inside.room + 1 }) (ap (λ (r : Rings). entries_of inside.blank (inside.values.items ++ inside.blank ∷ []) r.queues) c.in_ok-add_slot.ensures.slot ∙ entries_grown inside.blank inside.values.items inside.rings.queues))
+    (ap (λ q. record { queues = q; room = inside.room + 1 })
+    (ap (λ (r : Rings). entries_of inside.blank (inside.values.items ++ inside.blank ∷ []) r.queues) (c.retire.ensures.idle ∙ ap (λ (r : Rings). record r { idle = r.idle ++ c.in_ok-slot.slot ∷ [] }) c.in_ok-slot.ensures.slot)
+    ∙ entries_grown inside.blank inside.values.items inside.rings.queues))

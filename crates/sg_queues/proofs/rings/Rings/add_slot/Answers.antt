@@ -1,21 +1,22 @@
-use Rattle.std.proofs.Common.{◌∙◌, ap, refl, length, arith}
+use Rattle.std.proofs.Common.{◌∙◌, ap, sym, subst, length}
 use Rattle.std.proofs.lemmas.List.{length_push}
-use Rattle.sg_queues.proofs.Moves.{as_walked, links_grown, seen_is, slot_added}
+use Rattle.sg_queues.specs.Rings.{IsAlone}
+use Rattle.sg_queues.proofs.Moves.{as_walked, seen_is, walked_are, with_node}
+use Rattle.sg_queues.proofs.Rows.{new_apart}
 use Rattle.sg_queues.proofs.rings.Rings.add_slot.Goals as goal
 
-pub shift-requires-clause-linked : goal.shift-requires-clause-linked
-shift-requires-clause-linked c = rw (c.in_ok-slot.ensures.next, c.in_ok-slot.ensures.prev) (links_grown c.self.invariant)
-
 pub invariant_of-self-2 : goal.invariant_of-self-2
-invariant_of-self-2 c =
-    as_walked (slot_added c.in_ok-slot.slot 0 0 c.self.invariant (omega arith) refl c.in_ok-slot.ensures.next c.in_ok-slot.ensures.node c.shift.ensures.linked c.shift.ensures.shifted)
+invariant_of-self-2 c = as_walked (with_node c.self.invariant c.in_ok-slot.ensures.next c.in_ok-slot.ensures.prev)
 
 pub returns-clause-slot : goal.returns-clause-slot
 returns-clause-slot c =
     let next = c.self.inside.links.next.items in
-    rw (← c.self.view_is)
-    (seen_is (slot_added c.in_ok-slot.slot 0 0 c.self.invariant (omega arith) refl c.in_ok-slot.ensures.next c.in_ok-slot.ensures.node c.shift.ensures.linked c.shift.ensures.shifted)
-    (c.shift.ensures.shifted.len ∙ ap length c.in_ok-slot.ensures.next ∙ length_push next (length next)))
+    rw (← c.self.view_is) (seen_is (with_node c.self.invariant c.in_ok-slot.ensures.next c.in_ok-slot.ensures.prev) (ap length c.in_ok-slot.ensures.next ∙ length_push next (length next)))
 
 pub returns-clause-apart : goal.returns-clause-apart
 returns-clause-apart c = (invariant_of-self-2 c).apart
+
+pub returns-clause-alone : goal.returns-clause-alone
+returns-clause-alone c =
+    let inside = c.self.inside in
+    rw (← c.self.view_is) (subst (IsAlone (length inside.links.next.items)) (sym (walked_are (with_node c.self.invariant c.in_ok-slot.ensures.next c.in_ok-slot.ensures.prev))) (new_apart c.self.invariant.apart))

@@ -9,6 +9,7 @@ invariant-loop-actor l = record {
   apart : IsApart l.rings;
   nodes : l.rings.nodes ≡ l._actor + 1;
   heads : l.rings.heads ≡ 0 ∷ [];
+  idle : l.rings.idle ≡ [];
   none : l.rings.queues ≡ [];
 }
 

@@ -12,8 +12,8 @@ use Rattle.sg_sync.proofs.queues.Queues.take_first.Goals.{In-Some}
 first : (c : In-Some) → IsSlot c.self.inside.rings.nodes c.self.inside.rings.heads c.in-Some.slot
 first c = c.self.invariant.apart.slots (suc c.args.queue) c.in-Some.slot (front_in (rings.queue_at c.self.inside.rings.queues c.args.queue) c.in-Some.slot (sym c.front.ensures ∙ c.in-Some.is))
 
-pub retire-requires : goal.retire-requires
-retire-requires c = first (goal.at.retire-requires c).In-Some
+pub leave-requires : goal.leave-requires
+leave-requires c = first (goal.at.leave-requires c).In-Some
 
 pub overflow_cast-result : goal.overflow_cast-result
 overflow_cast-result c = record { fits = omega (arith, c.self.invariant.slots.all c.in-Some.slot (first (goal.at.overflow_cast-result c).In-Some), c.self.ranges) }
@@ -27,4 +27,4 @@ returns-in-Some-clause-shortened c =
     let within : c.args.queue < length (waiting_in inside.rings.queues) = rw (← c.self.view_is) at c.requires in
     rw (← c.self.view_is)
     (ap (λ queues. record { actors = inside.actors; queues = queues })
-    (ap (λ (r : Rings). waiting_in r.queues) c.retire.ensures.moved ∙ shortened_is inside.rings c.args.queue c.in-Some.slot c.self.invariant.apart (omega (arith, within, length-map inside.rings.queues (map actor_of))) (sym c.front.ensures ∙ c.in-Some.is)))
+    (ap (λ (r : Rings). waiting_in r.queues) c.leave.ensures.left ∙ shortened_is inside.rings c.args.queue c.in-Some.slot c.self.invariant.apart (omega (arith, within, length-map inside.rings.queues (map actor_of))) (sym c.front.ensures ∙ c.in-Some.is)))

@@ -1,0 +1,13 @@
+//! Tables of whole jobs, as `sg_job_cases` reads them, in which hosts, links or actors change while the run goes on, and
+//! what hosts draw.
+#![tactic(auto)]
+
+mod energy;
+mod lives;
+mod outages;
+mod profiles;
+
+pub use energy::ENERGY;
+pub use lives::LIVES;
+pub use outages::OUTAGES;
+pub use profiles::PROFILES;
