@@ -1,5 +1,6 @@
-# make: builds the proved program.  make install [PREFIX=/usr/local] [DESTDIR=]: puts the program, the tools, the manual
-# page and the completions where they belong.  make uninstall takes them away.  make check: all proofs and tests.
+# make, make proof: proves and builds the program, where sources have changed.  make test: the gate, all proofs and tests.
+# make install [PREFIX=/usr/local] [DESTDIR=]: puts the program, the tools, the manual page and the completions where they
+# belong.  make uninstall takes them away.
 PREFIX = /usr/local
 DESTDIR =
 BIN = $(DESTDIR)$(PREFIX)/bin
@@ -8,11 +9,10 @@ LIBEXEC = $(DESTDIR)$(PREFIX)/libexec/simgrid_replay
 PROGRAM = crates/simgrid_replay/out/simgrid_replay
 TOOLS = explain gantt usage totable report cluster from_simgrid
 
-# The launcher knows whether the program is as new as its sources.
-all:
-	./simgrid_replay --version
+all proof:
+	.ci/build
 
-check:
+test check:
 	.ci/run
 
 install: all
@@ -33,4 +33,4 @@ uninstall:
 	rm -f $(SHARE)/bash-completion/completions/simgrid_replay $(SHARE)/zsh/site-functions/_simgrid_replay
 	rm -f $(SHARE)/fish/vendor_completions.d/simgrid_replay.fish
 
-.PHONY: all check install uninstall
+.PHONY: all proof test check install uninstall
