@@ -1,7 +1,0 @@
-use Rattle.std.proofs.Common.{arith, ap, length}
-use Rattle.std.proofs.lemmas.List.Sums.{count_by-le-length}
-use Rattle.sg_rows.specs.Deployment.{starts}
-use Rattle.sg_engine_cases.proofs.tests.are_enough.Goals as goal
-
-pub returns : goal.returns
-returns c is = omega (arith, count_by-le-length starts c.args.deployment.now.actors, ap length c.actors.ensures.rows, c.if-contexts-actors.false)
