@@ -14,6 +14,8 @@ mod routed_platform;
 mod setups;
 #[cfg(test)]
 mod tests;
+#[cfg(test)]
+mod unscripted;
 mod whole_call;
 
 ghost use Rattle.std.specs.Prelude.{◌≡◌, ◌<◌, [], length, All, None, IfOk, IfErr};

@@ -5,8 +5,8 @@ ghost use Rattle.sg_edge.specs.declared.files.Stage.TheVariants.{Fresh};
 
 use crate::host::Host;
 use crate::whole_call::simgrid;
-use sg_actor::{Actor, PlainContext, TapeContext, all_blank};
-use sg_base::{Memory, Steps};
+use sg_actor::{Actor, PlainContext, Role, TapeContext, all_blank};
+use sg_base::{Answer, Call, Memory, Steps};
 use sg_change_tables::{ENERGY, LIVES, OUTAGES, PROFILES};
 use sg_edge::{Files, MemFiles, MemSinks, Sinks, SureFiles, SureSinks};
 use sg_job_cases::{Case, Done, Kind, hold, hold_failing};
@@ -14,8 +14,11 @@ use sg_job_tables::{
     BY_HAND, COLLECTIVES, COMPUTATIONS, EACH_FAILURE, FAILURES, FAULTS, JOBS, LIMITS, LONG,
     MEETINGS, RUNS,
 };
+use sg_platform::{read_deployment, read_platform};
 use std::alloc::Global;
 use std::marker::Brand;
+use std::sync::Arc;
+use std::sync::atomic::{AtomicU64, Ordering};
 use std::sync::ledger::{Blank, Ledger};
 use std::test::Fail;
 use std::thread::Threads;
@@ -71,21 +74,33 @@ fn code_of<R: Threads + Sync, F: Files, O: Sinks, L: Ledger>(
     simgrid(host.rt, host.alloc, words, files, out, crew, &mut steps).code()
 }
 
-// Does the job of a case.
-fn done<R: Threads + Sync>(rt: &R, alloc: Global, case: &Case) -> Result<Done, Fail> {
+// Does the job of a case with this crew.
+fn done_by<R: Threads + Sync>(
+    rt: &R,
+    alloc: Global,
+    case: &Case,
+    crew: &mut Vec<Box<dyn Actor + Send>>,
+) -> Result<Done, Fail>
+    requires blank { All (λ b. mind b ≡ None) crew.old.items }
+{
     let words = case.command_line(alloc)?;
     let mut files = case.files(alloc)?;
     let mut out = case.sinks(alloc)?;
-    let mut crew = crew_of(alloc, case)?;
     let code = code_of::<R, MemFiles, MemSinks, Brand>(
         &Host { rt, alloc },
         &words,
         &mut files,
         &mut out,
-        &mut crew,
+        crew,
         Blank::new(1),
     );
     Ok(Done::new(&files, out, code))
+}
+
+// Does the job of a case.
+fn done<R: Threads + Sync>(rt: &R, alloc: Global, case: &Case) -> Result<Done, Fail> {
+    let mut crew = crew_of(alloc, case)?;
+    done_by(rt, alloc, case, &mut crew)
 }
 
 // The exit status of the job of a case over parts and streams that never fail.
@@ -162,5 +177,69 @@ fn completes_over_parts_and_streams_that_never_fail(rt: HostRuntime) -> Result<(
     case.take(alloc, "over", "FAST ONE")?;
     case.take(alloc, "script", "p0 compute 1e9")?;
     assert_eq!(rt; over_sure_parts(&rt, alloc, &case)?, 0);
+    Ok(())
+}
+
+// A context that has a number, and adds it for as many times as its actor's id says.
+#[derive(Drop)]
+struct Numbered {
+    inner: PlainContext,
+    number: u64,
+    sum: Arc<AtomicU64>,
+}
+
+impl Actor for Numbered {
+    ghost mind = { λ s. s.inner };
+
+    fn is_blank(&self) -> bool {
+        self.inner.is_blank()
+    }
+
+    fn cast(&mut self, role: &Role) -> Result<(), Memory> {
+        if let Role::Replay(me) = role {
+            let share = self.number.wrapping_mul(u64::from(me.0));
+            self.sum.fetch_add(share, Ordering::SeqCst);
+        }
+        self.inner.cast(role)
+    }
+
+    fn turn(&mut self, answer: Answer) -> Call {
+        self.inner.turn(answer)
+    }
+}
+
+// A crew of contexts with the numbers 1, 10, 100 and 1,000.
+fn numbered_crew(alloc: Global, sum: &Arc<AtomicU64>) -> Result<Vec<Box<dyn Actor + Send>>, Fail> {
+    let mut crew: Vec<Box<dyn Actor + Send>> = Vec::new(alloc);
+    for number in [1, 10, 100, 1000] {
+        let inner = PlainContext::new(alloc);
+        let sum = sum.clone()?;
+        crew.push(Box::new(alloc, Numbered { inner, number, sum })?)?;
+    }
+    Ok(crew)
+}
+
+#[test]
+fn actors_take_contexts_in_their_order(rt: HostRuntime) -> Result<(), Fail> {
+    let alloc = rt.alloc();
+    let sum = Arc::new(alloc, AtomicU64::new(0))?;
+    let mut case = Case::new(alloc)?;
+    case.take(alloc, "job", "p replay p d s")?;
+    case.take(alloc, "over", "FAST LAST_LATER")?;
+    case.take(alloc, "script", "p0 create p2 | p0 create p2")?;
+    let mut crew = blank_crew(numbered_crew(alloc, &sum)?)?;
+    let done = done_by(&rt, alloc, &case, &mut crew)?;
+    assert_eq!(rt; done.status, 0);
+    assert_eq!(rt; crew.len(), 1);
+    assert_eq!(rt; sum.load(Ordering::SeqCst), 321);
+    Ok(())
+}
+
+#[test]
+fn bytes_that_are_no_text_name_nobody(rt: HostRuntime) -> Result<(), Fail> {
+    let platform = read_platform(rt.alloc(), b"")?;
+    let deployment = read_deployment(rt.alloc(), b"", &platform)?;
+    assert_eq!(rt; deployment.actor(b"\xff"), None);
+    assert_eq!(rt; deployment.replay_actor(b"\xff"), None);
     Ok(())
 }
