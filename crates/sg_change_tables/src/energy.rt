@@ -10,12 +10,14 @@ out [h1:p0:(1) 1.000000000] compute 1000000000 1.000000000
 out Simulation time 1.000000000
 out energy h1 200.000000000000
 ends 0
+job simgrid_replay replay p d s
 over POWERED_DUAL ONE
 script p0 compute 1e9
 out [h1:p0:(1) 1.000000000] compute 1000000000 1.000000000
 out Simulation time 1.000000000
 out energy h1 160.000000000000
 ends 0
+job simgrid_replay replay p d s
 over POWERED_SLOW BESIDE
 script p0 compute 10 | p1 compute 10 | p2 compute 10
 out [h1:p0:(1) 3.333333334] compute 10 3.333333334
@@ -34,6 +36,7 @@ out energy h3 0.002000000000
 ends 0
 -- However the run ends; but not behind a fault.
 job simgrid_replay replay p d s --budget 7
+over POWERED_APART TWO
 script p0 sleep 1 | p0 compute 1e9 | p1 compute 2e9
 out [h1:p0:(1) 1.000000000] sleep 1.000000000
 out budget of 7 events used at 1.000000000
@@ -41,6 +44,7 @@ out energy h1 100.000000000000
 out energy h3 0.001000000000
 ends 8
 job simgrid_replay replay p d s
+over POWERED_APART TWO
 script p0 compute 1e9 | p0 recv p1
 out [h1:p0:(1) 1.000000000] compute 1000000000 1.000000000
 out deadlock at 1.000000000
@@ -48,6 +52,8 @@ out blocked [h1:p0:(1)] recv p1
 out energy h1 200.000000000000
 out energy h3 0.001000000000
 ends 6
+job simgrid_replay replay p d s
+over POWERED_APART TWO
 script p0 sleep 1 | p0 suspend p0 | p1 compute 2e9
 out [h1:p0:(1) 1.000000000] sleep 1.000000000
 out [h1:p0:(1) 1.000000000] suspend p0 0.000000000
@@ -57,10 +63,14 @@ out suspended [h1:p0:(1)]
 out energy h1 200.000000000000
 out energy h3 0.002000000000
 ends 6
+job simgrid_replay replay p d s
+over POWERED_APART TWO
 script p0 compute 1e9 | p0 fly
 err script line 2: unknown action
 ends 5
 -- An execution that is held, and one that is given up.
+job simgrid_replay replay p d s
+over POWERED_APART TWO
 script p1 sleep 0.5 | p1 suspend p0 | p1 sleep 1 | p1 resume p0 | p0 compute 1e9
 out [h2:p1:(2) 0.500000000] sleep 0.500000000
 out [h2:p1:(2) 0.500000000] suspend p0 0.000000000
@@ -71,6 +81,8 @@ out Simulation time 2.000000000
 out energy h1 300.000000000000
 out energy h3 0.002000000000
 ends 0
+job simgrid_replay replay p d s
+over POWERED_APART TWO
 script p1 sleep 0.5 | p1 kill p0 | p1 sleep 0.5 | p0 compute 1e9
 out [h2:p1:(2) 0.500000000] sleep 0.500000000
 out [h2:p1:(2) 0.500000000] kill p0 0.000000000
@@ -80,6 +92,7 @@ out energy h1 150.000000000000
 out energy h3 0.001000000000
 ends 0
 -- A host that is off, and one without speed.
+job simgrid_replay replay p d s
 over POWERED ONE
 with state_profile = [{host = 'h1', dates = ['0.5', '1.5'], states = ['off', 'on']}]
 script p0 compute 1e9 | p0 sleep 1 | p0 compute 1e9
@@ -89,6 +102,7 @@ out [h1:p0:(1) 2.500000000] compute 1000000000 1.000000000
 out Simulation time 2.500000000
 out energy h1 310.000000000000
 ends 0
+job simgrid_replay replay p d s
 over POWERED ONE
 with profile = [{host = 'h1', dates = ['0.5', '1.5'], values = ['0', '1Gf']}]
 script p0 compute 1e9

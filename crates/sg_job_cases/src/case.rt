@@ -70,18 +70,6 @@ impl Case {
         }
     }
 
-    /// The next case of a table: the words, the platform, the deployment and the crew stay.
-    pub fn clear(&mut self) {
-        self.script.clear();
-        self.failing_call = 0;
-        self.failing_write = 0;
-        self.out.clear();
-        self.err.clear();
-        self.back.clear();
-        self.need = None;
-        self.calls = 0;
-    }
-
     // The platform and the deployment of these names.
     fn take_texts(&mut self, alloc: Global, names: &str) -> Result<(), Fail> {
         let (platform, deployment) = names.split_once(" ").unwrap_or((names, ""));

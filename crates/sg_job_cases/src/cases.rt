@@ -7,10 +7,11 @@ use std::test::Fail;
 /// Does the job of each case of a table, and fails where one comes to something else than what is wanted; the failure
 /// tells its words and its number in the table.
 ///
-/// A line is `KEY TEXT`. `job WORDS` and `over PLATFORM DEPLOYMENT` (by the names of texts), `platform TEXT`, `with LINE`
-/// behind it, `deployment TEXT`, `crew KIND NUMBER` and `meeting NUMBER WANTED TURN` stay for the cases below them; all
-/// other lines are of one case, which `ends STATUS` ends: `script LINE`, `lines TIMES LINE`, `unended TEXT`, what is
-/// written by `out LINE`, `front TEXT`, `back LINE` and `err LINE`, and what else [`Case`] has.
+/// A line is `KEY TEXT`, and each case is whole: `job WORDS`; `over PLATFORM DEPLOYMENT` (by the names of texts), and in
+/// place of one or behind it `platform TEXT`, `with LINE` behind a platform, `deployment TEXT`; `script LINE`,
+/// `lines TIMES LINE`, `unended TEXT`; `crew KIND NUMBER` or `meeting NUMBER WANTED TURN`, else a crew of twenty contexts
+/// of both kinds; what is written by `out LINE`, `front TEXT`, `back LINE` and `err LINE`; what else [`Case`] has; and
+/// `ends STATUS`, which ends it.
 pub fn hold<F: Fn(Global, &Case) -> Result<Done, Fail>>(
     alloc: Global,
     table: &str,
@@ -28,7 +29,7 @@ pub fn hold<F: Fn(Global, &Case) -> Result<Done, Fail>>(
             if let Some(what) = does(alloc, &case)?.difference(&case, status) {
                 return Err(case.failure(alloc, what, number));
             }
-            case.clear();
+            case = Case::new(alloc)?;
         } else {
             case.take(alloc, key, text)?;
         }

@@ -104,7 +104,7 @@ pub fn hold_failing<F: Fn(Global, &Case) -> Result<Done, Fail>>(
         if key == "ends" {
             let status: u8 = text.parse()?;
             fail_all(alloc, &mut case, status, &does)?;
-            case.clear();
+            case = Case::new(alloc)?;
         } else {
             case.take(alloc, key, text)?;
         }

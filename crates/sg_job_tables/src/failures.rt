@@ -9,47 +9,65 @@ script p0 compute 1e9
 failing_call 1
 err cannot read the platform
 ends 10
+job simgrid_replay replay p d s
+over FAST ONE
 script p0 compute 1e9
 failing_call 2
 err cannot read the platform
 ends 10
+job simgrid_replay replay p d s
+over FAST ONE
 script p0 compute 1e9
 failing_call 3
 err cannot read the platform
 ends 10
+job simgrid_replay replay p d s
+over FAST ONE
 script p0 compute 1e9
 failing_call 4
 err cannot read the deployment
 ends 10
+job simgrid_replay replay p d s
+over FAST ONE
 script p0 compute 1e9
 failing_call 6
 err cannot read the deployment
 ends 10
+job simgrid_replay replay p d s
+over FAST ONE
 script p0 compute 1e9
 failing_call 7
 err cannot read the script
 ends 10
+job simgrid_replay replay p d s
+over FAST ONE
 unended p0 comp
 failing_call 9
 err cannot read the script
 ends 10
+job simgrid_replay replay p d s
+over FAST ONE
 script p0 compute 1e9
 unended p0 comp
 failing_call 9
 out [h1:p0:(1) 1.000000000] compute 1000000000 1.000000000
 err cannot read the script
 ends 10
+job simgrid_replay replay p d s
 over FAST
 script p0 compute 1e9
 failing_call 6
 out Simulation time 0.000000000
 ends 0
 -- A failed write leaves a front. A write takes 7 bytes at most.
+job simgrid_replay replay p d s
 over LINE TWO
 script p0 compute 1e9
 failing_write 3
 front [h1:p0:(1) 1.0
 ends 11
+job simgrid_replay replay p d s
+over LINE TWO
 script p0 send p1 1e6 | p1 recv p0
 failing_write 11
 out [h1:p0:(1) 1.010000000] send p1 1000000 1.010000000
@@ -71,11 +89,14 @@ out [h1:p0:(1) 1.010000000] send p1 1000000 1.010000000
 out [h2:p1:(2) 1.010000000] recv p0 1000000 1.010000000
 out Simulation time 1.010000000
 ends 0
+job simgrid_replay replay p d s
+over LINE TWO
 script p0 compute 1e9 | p1 compute 5e8 | p0 jump 5
 calls 8
 out [h2:p1:(2) 0.500000000] compute 500000000 0.500000000
 err script line 3: unknown action
 ends 5
+job simgrid_replay replay p d s
 over LINE ONE
 script p0 compute 1e9
 unended p0 comp

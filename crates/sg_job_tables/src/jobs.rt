@@ -10,25 +10,30 @@ out [h1:p0:(1) 1.000000000] compute 1000000000 1.000000000
 out Simulation time 1.000000000
 ends 0
 job p replay p d s --quiet
+over FAST ONE
 script p0 compute 1e9
 out Simulation time 1.000000000
 ends 0
 job p replay --budget 5 p d s
+over FAST ONE
 script p0 compute 1e9
 out [h1:p0:(1) 1.000000000] compute 1000000000 1.000000000
 out Simulation time 1.000000000
 ends 0
 job p replay p d s --budget 4
+over FAST ONE
 script p0 compute 1e9
 out [h1:p0:(1) 1.000000000] compute 1000000000 1.000000000
 out budget of 4 events used at 1.000000000
 ends 8
 job p replay p d s --budget=3
+over FAST ONE
 script p0 compute 1e9
 out [h1:p0:(1) 1.000000000] compute 1000000000 1.000000000
 out budget of 3 events used at 1.000000000
 ends 8
 job p replay p d s --budget 2 --quiet
+over FAST ONE
 script p0 compute 1e9
 out budget of 2 events used at 0.000000000
 ends 8
@@ -49,6 +54,7 @@ out [h2:w1:(2) 2.020000000] recv w1 0 0.010000000
 out Simulation time 2.020000000
 ends 0
 job p run p d --nthreads 2 --quiet
+over LINE MASTER
 unended p0 jump
 out Simulation time 2.020000000
 ends 0
@@ -56,67 +62,62 @@ job p run p d
 over FAST ONE
 err deployment: replay actor under run (row 1)
 ends 4
+job p run p d
 over FAST WORKER_AND_REPLAY
 err deployment: replay actor under run (row 2)
 ends 4
+-- Churns: their events are 3 × (7 × steps + 1), their times those of an independent program in Python.
 job p churn 7 3 0
-over FAST ONE
-script p0 compute 1e9
 out 3 actors, 3 events
 out Simulation time 0.000000000
 ends 0
 job p churn 7 3 2
-script p0 compute 1e9
 out 3 actors, 45 events
 out Simulation time 3.827152185
 ends 0
 job p churn 7 3 2 --nthreads 64
-script p0 compute 1e9
 out 3 actors, 45 events
 out Simulation time 3.827152185
 ends 0
 job p churn 7 3 2 --budget 45
-script p0 compute 1e9
 out 3 actors, 45 events
 out Simulation time 3.827152185
 ends 0
 job p churn 7 3 2 --budget 44
-script p0 compute 1e9
 out budget of 44 events used at 3.827152185
 ends 8
 job p churn 0 3 2
-script p0 compute 1e9
 out 3 actors, 45 events
 out Simulation time 9.127278760
 ends 0
 job p churn 1 3 2
-script p0 compute 1e9
 out 3 actors, 45 events
 out Simulation time 6.175579008
 ends 0
 job p churn 2 3 2
-script p0 compute 1e9
 out 3 actors, 45 events
 out Simulation time 16.893233497
 ends 0
 job p churn 3 3 2
-script p0 compute 1e9
 out 3 actors, 45 events
 out Simulation time 5.372317252
 ends 0
 job p replay --budget 0 p d s
+over FAST ONE
 script p0 compute 1e9
 err error: invalid value '0' for '--budget <N>': 0 is not in 1..=1000000000
 err
 err For more information, try '--help'.
 ends 2
 job p replay --nthreads 0 p d s
+over FAST ONE
 script p0 compute 1e9
 err error: invalid value '0' for '--nthreads <N>': 0 is not in 1..=64
 err
 err For more information, try '--help'.
 ends 2
 job simgrid_replay replay p d
+over FAST ONE
 script p0 compute 1e9
 err error: the following required arguments were not provided:
 err   <SCRIPT>
@@ -126,10 +127,10 @@ err
 err For more information, try '--help'.
 ends 2
 job p --version
-script p0 compute 1e9
 out simgrid_replay 0.1.0
 ends 0
 job p replay d p s
+over FAST ONE
 script p0 compute 1e9
 err cannot read the platform
 ends 10
@@ -157,9 +158,7 @@ script p0 compute 1e9
 err deployment: 2 actors, 1 contexts
 ends 4
 job p churn 7 3 2
-over FAST ONE
 crew both 2
-script p0 compute 1e9
 err deployment: 3 actors, 2 contexts
 ends 4
 -- Each kind of context serves.
@@ -173,6 +172,8 @@ out [h1:m:(1) 2.020000000] send w1 0 1.010000000
 out [h2:w1:(2) 2.020000000] recv w1 0 0.010000000
 out Simulation time 2.020000000
 ends 0
+job p run p d
+over LINE MASTER
 crew tape 2
 out [h1:m:(1) 1.010000000] send w1 1000000 1.010000000
 out [h2:w1:(2) 1.010000000] recv w1 1000000 1.010000000
@@ -181,6 +182,8 @@ out [h1:m:(1) 2.020000000] send w1 0 1.010000000
 out [h2:w1:(2) 2.020000000] recv w1 0 0.010000000
 out Simulation time 2.020000000
 ends 0
+job p run p d
+over LINE MASTER
 crew both 2
 out [h1:m:(1) 1.010000000] send w1 1000000 1.010000000
 out [h2:w1:(2) 1.010000000] recv w1 1000000 1.010000000
@@ -189,20 +192,41 @@ out [h1:m:(1) 2.020000000] send w1 0 1.010000000
 out [h2:w1:(2) 2.020000000] recv w1 0 0.010000000
 out Simulation time 2.020000000
 ends 0
+job p run p d --budget 100
+over LINE MASTER
+crew plain 4
+out [h1:m:(1) 1.010000000] send w1 1000000 1.010000000
+out [h2:w1:(2) 1.010000000] recv w1 1000000 1.010000000
+out [h2:w1:(2) 2.010000000] compute 1000000000 1.000000000
+out [h1:m:(1) 2.020000000] send w1 0 1.010000000
+out [h2:w1:(2) 2.020000000] recv w1 0 0.010000000
+out Simulation time 2.020000000
+ends 0
+job p run p d --budget 100 --nthreads 2
+over LINE MASTER
+crew tape 4
+out [h1:m:(1) 1.010000000] send w1 1000000 1.010000000
+out [h2:w1:(2) 1.010000000] recv w1 1000000 1.010000000
+out [h2:w1:(2) 2.010000000] compute 1000000000 1.000000000
+out [h1:m:(1) 2.020000000] send w1 0 1.010000000
+out [h2:w1:(2) 2.020000000] recv w1 0 0.010000000
+out Simulation time 2.020000000
+ends 0
 -- Help is told on Out.
-crew both 1
 job p --help
-over FAST ONE
+crew both 1
 front Simulates how long a program takes
 back   11  the output could not be written
 back   12  there was no memory left
 ends 0
 job p replay --help
+crew both 1
 front Replays a script
 back   11  the output could not be written
 back   12  there was no memory left
 ends 0
 job p run -h
+crew both 1
 front Runs masters and workers
 back   11  the output could not be written
 back   12  there was no memory left
@@ -224,15 +248,16 @@ job p replay p d s --nthreads 8
 over LINE EIGHT
 meeting 8 8 1
 ends 0
-script p0 sleep 1 | p2 sleep 1 | p5 sleep 1 | p7 sleep 1
+job p replay p d s --nthreads 8
+over LINE EIGHT
 meeting 8 4 3
+script p0 sleep 1 | p2 sleep 1 | p5 sleep 1 | p7 sleep 1
 ends 0
 job p run p d --nthreads 3
 over LINE TWO_WORKERS
 meeting 3 3 1
 ends 0
 job p churn 7 3 0 --nthreads 3
-over LINE TWO
 meeting 3 3 1
 ends 0
 job p churn 7 8 0 --nthreads 8

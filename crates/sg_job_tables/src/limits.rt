@@ -8,15 +8,20 @@ unended p0 compute 1e15
 out [h1:p0:(1) 1000000000000000.000000000] compute 1000000000000000 1000000000000000.000000000
 out Simulation time 1000000000000000.000000000
 ends 0
+job simgrid_replay replay p d s
+over SLOWEST ONE
 unended p0 compute 1000000000000001
 err script line 1: bad amount
 ends 5
+job simgrid_replay replay p d s
 over SLOW_LINK
 out Simulation time 0.000000000
 ends 0
+job simgrid_replay replay p d s
 over SLOWER_LINK
 err platform: bad value (table 4, row 1, key 3)
 ends 3
+job simgrid_replay replay p d s
 over FOREIGN_GATEWAY
 err platform: gateway outside (table 6, row 1, key 3)
 ends 3
@@ -28,12 +33,15 @@ long_line 4096 _
 script
 out Simulation time 0.000000000
 ends 0
+job p replay p d s --quiet
+over FAST ONE
 unended p0 compute 0
 long_line 4097 _
 script
 err script line 1: line too long
 ends 5
 -- Lines wait for their actor.
+job p replay p d s --quiet
 over FAST TWO
 lines 5000 p1 compute 0
 script p0 compute 0
@@ -41,17 +49,20 @@ out Simulation time 0.000000000
 ends 0
 -- A script is read as far as its Asks need it.
 job p replay p d s --budget 4
+over FAST TWO
 script p0 compute 1e9 | p1 compute 1e9
 lines 100000 # 34567890 234567890 234567890 234567890 234567890 234567890 23
 out budget of 4 events used at 0.000000000
 need 30
 ends 8
 job simgrid_replay replay p d s
+over FAST TWO
 script p0 compute 0 | p0 jump
 lines 100000 # 34567890 234567890 234567890 234567890 234567890 234567890 23
 err script line 2: unknown action
 need 21
 ends 5
+job simgrid_replay replay p d s
 over FAST
 script p0 compute 0
 lines 100000 # 34567890 234567890 234567890 234567890 234567890 234567890 23
@@ -66,6 +77,7 @@ script p0 send p1 0 | p1 recv p0
 out Simulation time 0.000000000
 ends 0
 job simgrid_replay replay p d s
+over - TWO
 platform zone = [{id = 'z', routing = 'Full'}, {id = 'za', parent = 'z', routing = 'Full'}, {id = 'zb', parent = 'z', routing = 'Full'}] | host = [{id = 'h1', zone = 'za', speed = '1Gf'}, {id = 'h2', zone = 'zb', speed = '1Gf'}] | router = [{id = 'r1', zone = 'za'}] | link = [%0%65%{id = 'k#', bandwidth = '1MBps'}, %] | route = [{src = 'h1', dst = 'r1', links = [%0%64%'k#', %]}] | zone_route = [{src = 'za', dst = 'zb', gw_src = 'r1', gw_dst = 'h2', links = [%64%65%'k#', %]}]
 script p0 send p1 1 | p1 recv p0
 err route from h1 to h2: more than 64 links
@@ -81,18 +93,20 @@ ends 0
 /// A text has 16 MiB at most.
 pub const LONG: &str = "\
 job simgrid_replay replay p d s
--- A text is read in under a second or two.
 over LINE ONE
 long_platform 1048576 #
 long_deployment 1048576 #
+-- A text is read in under a second or two.
 out Simulation time 0.000000000
 ends 0
 -- Not a byte more is read than 16 MiB and one: behind the begin there are 4,097 reads, and the next call would fail.
+job simgrid_replay replay p d s
 over LINE ONE
 long_platform 16777217 #
 failing_call 4099
 err platform: over a limit (table 0, row 0, key 0)
 ends 3
+job simgrid_replay replay p d s
 over LINE ONE
 long_deployment 16777217 #
 err deployment: over a limit (table 0, row 0, key 0)
