@@ -1,6 +1,5 @@
 pub mod Routed
 pub mod Times
-pub mod Sums
 pub mod Serials
 pub mod Stamps
 pub mod Listing
@@ -35,7 +34,6 @@ pub mod Hitting
 pub mod Struck
 pub mod Holding
 pub mod Switched
-pub mod Tested
 pub mod Metering
 pub mod Loaded
 pub mod Summed

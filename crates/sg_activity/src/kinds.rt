@@ -2,7 +2,7 @@
 use sg_base::{PointId, Serial};
 
 /// What an activity does in one of its phases.
-#[derive(Clone, Copy, Debug, PartialEq, Eq)]
+#[derive(Clone, Copy)]
 pub enum PhaseKind {
     /// A communication lets the latency of its route pass.
     Latency,
@@ -17,14 +17,14 @@ pub enum PhaseKind {
 }
 
 /// A phase that is due.
-#[derive(Clone, Copy, Debug, PartialEq, Eq)]
+#[derive(Clone, Copy)]
 pub struct Phase {
     pub serial: Serial,
     pub kind: PhaseKind,
 }
 
 /// What a host takes, in milliwatts: without an execution, at the least load, at full load, and where it is off.
-#[derive(Clone, Copy, Debug, PartialEq, Eq)]
+#[derive(Clone, Copy)]
 pub struct Power {
     pub idle: u64,
     pub epsilon: u64,
@@ -34,7 +34,7 @@ pub struct Power {
 
 /// What a host offers: so many flops a second on each of its cores. Executions get together at most what all
 /// the cores offer, and one execution at most what one core offers. Its energy is counted where its power is known.
-#[derive(Clone, Copy, Debug, PartialEq, Eq)]
+#[derive(Clone, Copy)]
 pub struct HostCap {
     pub speed: u64,
     pub cores: u32,
@@ -43,7 +43,7 @@ pub struct HostCap {
 
 /// What a link offers, in bytes a second: the flows over a link get together at most its bandwidth, and on a FATPIPE
 /// link each flow gets at most the bandwidth, whatever the others get.
-#[derive(Clone, Copy, Debug, PartialEq, Eq)]
+#[derive(Clone, Copy)]
 pub struct LinkCap {
     pub bandwidth: u64,
     pub fatpipe: bool,

@@ -15,12 +15,6 @@ mod renewal;
 mod room;
 mod routes;
 mod switches;
-#[cfg(test)]
-mod tests;
-#[cfg(test)]
-mod tests_changes;
-#[cfg(test)]
-mod tests_scale;
 
 pub use activities::Activities;
 pub use kinds::{HostCap, LinkCap, Phase, PhaseKind, Power, Transfer};

@@ -24,6 +24,3 @@ pub use role::Role;
 pub use seat::Seat;
 pub use tape_context::TapeContext;
 pub use turns::run_round;
-
-#[cfg(test)]
-mod tests;

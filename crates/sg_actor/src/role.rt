@@ -2,7 +2,7 @@
 use sg_base::{ActorId, Ids};
 
 /// What an actor is to be.
-#[derive(Debug, Drop)]
+#[derive(Drop)]
 pub enum Role {
     /// This actor replays its lines of the script.
     Replay(ActorId),

@@ -5,7 +5,7 @@ use crate::ids::ActorId;
 use std::marker::Model;
 
 /// A list of actors, which contracts see as that list.
-#[derive(Debug, Drop)]
+#[derive(Drop)]
 pub struct Ids {
     actors: Vec<ActorId>,
 }

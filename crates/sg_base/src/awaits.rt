@@ -2,7 +2,7 @@
 use crate::ids::Serial;
 
 /// As what an actor takes part in an activity.
-#[derive(Clone, Copy, Debug, PartialEq, Eq)]
+#[derive(Clone, Copy, PartialEq, Eq)]
 pub enum Party {
     /// It computes or sleeps.
     Alone,
@@ -11,7 +11,7 @@ pub enum Party {
 }
 
 /// What an actor waits for, or may wait for: that its side of the activity of this serial is done.
-#[derive(Clone, Copy, Debug, PartialEq, Eq)]
+#[derive(Clone, Copy)]
 pub struct Await {
     pub serial: Serial,
     pub party: Party,

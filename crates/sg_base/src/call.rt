@@ -3,7 +3,7 @@
 use crate::ids::{ActorId, BoxId};
 
 /// What an actor asks of the simulator. An actor makes one call a turn.
-#[derive(Clone, Copy, Debug, PartialEq, Eq)]
+#[derive(Clone, Copy)]
 pub enum Call {
     /// For its next script line.
     Ask,
@@ -49,7 +49,7 @@ pub enum Call {
 }
 
 /// What a communication brings beside its bytes.
-#[derive(Clone, Copy, Debug, PartialEq, Eq)]
+#[derive(Clone, Copy)]
 pub enum Msg {
     /// Nothing: scripts send bytes alone.
     Empty,
@@ -60,7 +60,7 @@ pub enum Msg {
 }
 
 /// A script line, without the name of its actor.
-#[derive(Clone, Copy, Debug, PartialEq, Eq)]
+#[derive(Clone, Copy)]
 pub enum Action {
     /// So many flops, at a priority.
     Compute(u64, u32),
@@ -85,7 +85,7 @@ pub enum Action {
 }
 
 /// What an actor is answered.
-#[derive(Clone, Copy, Debug, PartialEq, Eq)]
+#[derive(Clone, Copy)]
 pub enum Answer {
     /// Before its first turn.
     Start,

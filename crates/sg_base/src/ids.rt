@@ -2,7 +2,7 @@
 ghost use Rattle.std.specs.Prelude.{◌≡◌, ◌-◌, ◌<◌};
 
 /// An actor: the first actor of the deployment has the number 1.
-#[derive(Clone, Copy, Debug, PartialEq, Eq, Hash)]
+#[derive(Clone, Copy, PartialEq, Eq, Hash)]
 pub struct ActorId(pub u32);
 
 impl ActorId {
@@ -16,31 +16,31 @@ impl ActorId {
 }
 
 /// A point of the platform: the hosts in declared order from 0 on, then the routers.
-#[derive(Clone, Copy, Debug, PartialEq, Eq, PartialOrd, Ord)]
+#[derive(Clone, Copy, PartialEq, Eq, PartialOrd, Ord)]
 pub struct PointId(pub u32);
 
 /// A link, from 0 on in declared order. A SPLITDUPLEX row gives two, up and then down; the last one of all is
 /// the loopback.
-#[derive(Clone, Copy, Debug, Default, PartialEq, Eq)]
+#[derive(Clone, Copy, Default)]
 pub struct LinkId(pub u32);
 
 /// A zone, from 0 on in declared order.
-#[derive(Clone, Copy, Debug, PartialEq, Eq, PartialOrd, Ord)]
+#[derive(Clone, Copy, PartialEq, Eq, PartialOrd, Ord)]
 pub struct ZoneId(pub u32);
 
 /// A child of a zone.
-#[derive(Clone, Copy, Debug, PartialEq, Eq, PartialOrd, Ord)]
+#[derive(Clone, Copy, PartialEq, Eq, PartialOrd, Ord)]
 pub enum Child {
     Point(PointId),
     Zone(ZoneId),
 }
 
 /// The serial of an activity, counted up from 1 over the whole run.
-#[derive(Clone, Copy, Debug, PartialEq, Eq)]
+#[derive(Clone, Copy)]
 pub struct Serial(pub u64);
 
 /// A mailbox, where a send and a receive meet.
-#[derive(Clone, Copy, Debug, PartialEq, Eq, Hash)]
+#[derive(Clone, Copy, PartialEq, Eq, Hash)]
 pub enum BoxId {
     /// The one for what the first actor sends to the second.
     Pair(ActorId, ActorId),

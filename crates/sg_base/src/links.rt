@@ -5,7 +5,7 @@ use crate::ids::LinkId;
 use std::marker::Model;
 
 /// A list of links, which contracts see as that list.
-#[derive(Debug, Drop)]
+#[derive(Drop)]
 pub struct Links {
     links: Vec<LinkId>,
 }

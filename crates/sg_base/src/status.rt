@@ -1,7 +1,7 @@
 //! How the program ends.
 
 /// How a call of the whole program ended.
-#[derive(Clone, Copy, Debug, PartialEq, Eq)]
+#[derive(Clone, Copy)]
 pub enum Status {
     /// All actors have ended.
     Completed,

@@ -3,7 +3,7 @@ use crate::call::Call;
 use crate::ids::ActorId;
 
 /// How an action ended.
-#[derive(Clone, Copy, Debug, PartialEq, Eq)]
+#[derive(Clone, Copy)]
 pub enum End {
     /// It is done, and took so many nanoseconds.
     Done(u128),
@@ -14,7 +14,7 @@ pub enum End {
 }
 
 /// An action that was answered: what a trace line tells.
-#[derive(Clone, Copy, Debug, PartialEq, Eq)]
+#[derive(Clone, Copy)]
 pub struct Record {
     pub actor: ActorId,
     /// When it was answered, in nanoseconds.

@@ -8,6 +8,3 @@ mod uses;
 
 pub use chains::Chains;
 pub use uses::Use;
-
-#[cfg(test)]
-mod tests;

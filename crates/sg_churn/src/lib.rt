@@ -5,8 +5,6 @@ mod deployment;
 mod laws;
 mod names;
 mod platform;
-#[cfg(test)]
-mod tests;
 
 pub use deployment::churn_deployment;
 pub use laws::churn_has_no_zone_fault;

@@ -12,7 +12,7 @@ use crate::step::Step;
 use sg_base::{Action, ActorId};
 
 /// What all members do together, with amounts of bytes and flops. Members have the ranks from 0 on.
-#[derive(Clone, Copy, Debug, PartialEq, Eq)]
+#[derive(Clone, Copy)]
 pub enum Collective {
     /// Rank 0 sends so many bytes to all, over a tree.
     Bcast { bytes: u64 },

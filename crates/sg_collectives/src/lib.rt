@@ -14,6 +14,3 @@ pub use collective::Collective;
 pub use laws::{alone_does_nothing, peers_are_others, requests_are_awaited, sends_are_received};
 pub use members::Members;
 pub use step::Step;
-
-#[cfg(test)]
-mod tests;

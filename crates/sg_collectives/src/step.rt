@@ -5,7 +5,7 @@ ghost use Rattle.sg_collectives.specs.Actions.{action_of, NamesMember};
 use sg_base::{Action, ActorId};
 
 /// One action of a member, which names its peer by rank. Members have the ranks from 0 on.
-#[derive(Clone, Copy, Debug, PartialEq, Eq)]
+#[derive(Clone, Copy)]
 pub enum Step {
     /// To receive from a peer, and go on when the bytes have arrived.
     Recv(u32),

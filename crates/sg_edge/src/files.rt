@@ -5,7 +5,7 @@ ghost use Rattle.sg_edge.specs.declared.files.Stage.TheVariants.{Fresh, Begun, O
 ghost use Rattle.sg_edge.specs.Files.{PartView, Begins, Breaks, Takes, Only, NoneLeft};
 
 /// An input part.
-#[derive(Clone, Copy, Debug, PartialEq, Eq)]
+#[derive(Clone, Copy)]
 pub enum Part {
     Platform,
     Deployment,
@@ -13,7 +13,7 @@ pub enum Part {
 }
 
 /// How far a part was read.
-#[derive(Clone, Copy, Debug, PartialEq, Eq)]
+#[derive(Clone, Copy)]
 pub enum Stage {
     /// It was not begun.
     Fresh,
@@ -26,7 +26,7 @@ pub enum Stage {
 }
 
 /// A device did not do what it was asked.
-#[derive(Clone, Copy, Debug, PartialEq, Eq)]
+#[derive(Clone, Copy)]
 pub struct Failed;
 
 /// Where the three parts are read from.

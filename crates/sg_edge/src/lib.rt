@@ -15,8 +15,6 @@ mod numbers;
 mod sinks;
 mod sure_files;
 mod sure_sinks;
-#[cfg(test)]
-mod tests;
 
 pub use files::{Failed, Files, Part, Stage};
 pub use loading::{Loaded, ReadError, load, read_whole};

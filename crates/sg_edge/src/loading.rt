@@ -9,7 +9,7 @@ use crate::files::{Failed, Files, Part};
 use std::alloc::{AllocError, Global};
 
 /// Why a part was not read.
-#[derive(Clone, Copy, Debug, PartialEq, Eq)]
+#[derive(Clone, Copy)]
 pub enum ReadError {
     /// There was no memory for its bytes.
     Memory,

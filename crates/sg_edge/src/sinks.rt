@@ -6,7 +6,7 @@ ghost use Rattle.sg_edge.specs.Sinks.{gain, SameBut, GainsFront};
 use crate::files::Failed;
 
 /// An output stream.
-#[derive(Clone, Copy, Debug, PartialEq, Eq)]
+#[derive(Clone, Copy)]
 pub enum Stream {
     Out,
     Err,

@@ -7,6 +7,3 @@ mod reading;
 
 pub use laws::{lazy_is_whole, set_keeps, set_power_is_used};
 pub use meter::Meter;
-
-#[cfg(test)]
-mod tests;

@@ -2,7 +2,7 @@
 use sg_base::{ActorId, Call};
 
 /// What an actor has called in its turn.
-#[derive(Clone, Copy, Debug, PartialEq, Eq)]
+#[derive(Clone, Copy)]
 pub struct ActorCall {
     pub actor: ActorId,
     pub call: Call,

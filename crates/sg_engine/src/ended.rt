@@ -10,7 +10,7 @@ use sg_kernel::Stop;
 use sg_script::LineFault;
 
 /// How a run ended. The first line of each says when.
-#[derive(Clone, Copy, Debug, PartialEq, Eq)]
+#[derive(Clone, Copy)]
 pub enum Ended {
     /// All actors have ended.
     Completed,

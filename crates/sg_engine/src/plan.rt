@@ -7,7 +7,7 @@ use sg_rows::{Deployment, PlatformText};
 use std::alloc::Global;
 
 /// How a run is made: on up to so many threads at once, with so many events at most, and how much is written.
-#[derive(Clone, Copy, Debug)]
+#[derive(Clone, Copy)]
 pub struct Terms {
     pub threads: u32,
     pub budget: u64,

@@ -1,7 +1,7 @@
 //! How much of a run is written.
 
 /// What is written of a run that isn't refused.
-#[derive(Clone, Copy, Debug, PartialEq, Eq)]
+#[derive(Clone, Copy)]
 pub enum Show {
     /// A trace line for each record, and the lines of the end.
     All,

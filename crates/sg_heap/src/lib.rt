@@ -7,6 +7,3 @@ mod keys;
 mod sifting;
 
 pub use agenda::Agenda;
-
-#[cfg(test)]
-mod tests;

@@ -6,7 +6,7 @@ use std::sync::Arc;
 use std::sync::atomic::{AtomicU64, Ordering};
 
 /// A kind of contexts.
-#[derive(Clone, Copy, Debug)]
+#[derive(Clone, Copy)]
 pub enum Kind {
     Plain,
     Tape,
@@ -15,7 +15,7 @@ pub enum Kind {
 }
 
 /// Which kinds of contexts a crew has.
-#[derive(Clone, Copy, Debug)]
+#[derive(Clone, Copy)]
 pub enum Kinds {
     All(Kind),
     /// Plain ones and ones with a tape, in turn.

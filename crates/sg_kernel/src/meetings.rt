@@ -29,7 +29,7 @@ use sg_mailbox::{Found, Side};
 use sg_route::{RouteFault, Router};
 
 /// A side of a communication that comes to a mailbox.
-#[derive(Clone, Copy, Debug, PartialEq, Eq)]
+#[derive(Clone, Copy)]
 pub struct Comer {
     /// The call by which it comes.
     pub what: Call,

@@ -11,7 +11,7 @@ use std::collections::HashMap;
 use std::marker::Model;
 
 /// How an activity is over.
-#[derive(Clone, Copy, Debug, PartialEq, Eq)]
+#[derive(Clone, Copy)]
 pub enum How {
     /// All of it is done.
     Done,
@@ -20,7 +20,7 @@ pub enum How {
 }
 
 /// Whose an activity is.
-#[derive(Clone, Copy, Debug, PartialEq, Eq)]
+#[derive(Clone, Copy)]
 pub enum Whose {
     /// Nobody's: it is over.
     Over(How),

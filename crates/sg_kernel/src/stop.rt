@@ -2,7 +2,7 @@
 use sg_base::{Child, PointId, ZoneId};
 
 /// Why a run stops before all actors have ended.
-#[derive(Clone, Copy, Debug, PartialEq, Eq)]
+#[derive(Clone, Copy)]
 pub enum Stop {
     /// An event is next, and as many as there may be were counted.
     Budget,

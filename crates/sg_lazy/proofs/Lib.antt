@@ -21,8 +21,5 @@ pub mod Looks
 pub mod Fixing
 pub mod Waited
 pub mod Floors
-pub mod Alone
-pub mod OneEach
-pub mod Pairs
 pub mod Apart
 pub mod Filled

@@ -3,5 +3,4 @@ pub mod Touch
 pub mod Work
 pub mod Lazily
 pub mod Laws
-pub mod Tested
 pub mod kept

@@ -12,6 +12,3 @@ mod writing;
 
 pub use laws::{names_dont_matter, settled_keeps_none, touched_rates};
 pub use lazy::Lazy;
-
-#[cfg(test)]
-mod tests;

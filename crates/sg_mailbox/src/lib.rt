@@ -7,6 +7,3 @@ mod sides;
 
 pub use boxes::Boxes;
 pub use sides::{Found, Meeting, Post, Side};
-
-#[cfg(test)]
-mod tests;

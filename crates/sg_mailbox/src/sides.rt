@@ -2,7 +2,7 @@
 use sg_base::{ActorId, BoxId, Msg, Serial};
 
 /// One side of a communication: who sends, or who receives.
-#[derive(Clone, Copy, Debug, PartialEq, Eq)]
+#[derive(Clone, Copy)]
 pub struct Side {
     pub actor: ActorId,
     /// The size of what is sent; a receive has none.
@@ -13,7 +13,7 @@ pub struct Side {
 }
 
 /// What became of a side that came to a mailbox.
-#[derive(Clone, Copy, Debug, PartialEq, Eq)]
+#[derive(Clone, Copy)]
 pub enum Meeting {
     /// It waits there, as the communication of this serial.
     Posted(Serial),
@@ -22,7 +22,7 @@ pub enum Meeting {
 }
 
 /// What a side that comes to a mailbox finds there.
-#[derive(Clone, Copy, Debug, PartialEq, Eq)]
+#[derive(Clone, Copy)]
 pub struct Found {
     /// The queue of the mailbox, where somebody waits there.
     pub queue: Option<usize>,
@@ -31,7 +31,7 @@ pub struct Found {
 }
 
 /// A side that waits: the serial of its communication, and whether it sends.
-#[derive(Clone, Copy, Debug, PartialEq, Eq)]
+#[derive(Clone, Copy)]
 pub struct Post {
     pub serial: Serial,
     pub sends: bool,
@@ -39,7 +39,7 @@ pub struct Post {
 }
 
 /// Where a side waits.
-#[derive(Clone, Copy, Debug, PartialEq, Eq)]
+#[derive(Clone, Copy)]
 pub(crate) struct Place {
     pub(crate) mailbox: BoxId,
     /// The queue of the mailbox.

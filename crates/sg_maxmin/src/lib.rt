@@ -14,6 +14,3 @@ pub use laws::{
 };
 pub use sg_chains::Use;
 pub use system::{FlowId, System};
-
-#[cfg(test)]
-mod tests;

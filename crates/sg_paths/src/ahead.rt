@@ -21,7 +21,7 @@ pub struct Ahead {
 }
 
 /// The key of a list of links that was at hand, and its rank among all that were.
-#[derive(Clone, Copy, Debug)]
+#[derive(Clone, Copy)]
 pub struct Mark {
     pub date: u128,
     pub serial: u64,

@@ -9,7 +9,7 @@ use std::alloc::Global;
 
 /// For each point the last route that leads to it, and for each route the one before it that leads to the same point:
 /// its number and one, or 0 where there is none.
-#[derive(Debug, Drop)]
+#[derive(Drop)]
 pub struct Arrivals {
     pub last: Vec<usize>,
     pub before: Vec<usize>,

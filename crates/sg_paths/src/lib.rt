@@ -16,6 +16,3 @@ mod trail;
 pub use laws::least_path_is_least;
 pub use paths::Paths;
 pub use route::PathRoute;
-
-#[cfg(test)]
-mod tests;

@@ -2,7 +2,7 @@
 use sg_base::Links;
 
 /// A route from a point to another, one way, over its links in order.
-#[derive(Debug, Drop)]
+#[derive(Drop)]
 pub struct PathRoute {
     pub from: u32,
     pub to: u32,

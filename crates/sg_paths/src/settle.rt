@@ -5,7 +5,7 @@ ghost use Rattle.sg_paths.specs.Trail.{first_settled, HasPlaces, IsNew, IsSettle
 use crate::trail::Settled;
 
 /// The points that are settled, and the place of each.
-#[derive(Clone, Copy, Debug)]
+#[derive(Clone, Copy)]
 pub struct Known<'a> {
     pub settled: &'a Vec<Settled>,
     pub places: &'a Vec<usize>,

@@ -7,7 +7,7 @@ use sg_base::LinkId;
 
 /// A point, the route that its least path begins with, and the place among the settled points of
 /// the one that this route leads to. The first settled point is where all paths end: it takes no route.
-#[derive(Clone, Copy, Debug)]
+#[derive(Clone, Copy)]
 pub struct Settled {
     pub point: u32,
     pub route: usize,

@@ -5,7 +5,7 @@ use sg_base::{LinkId, PointId};
 use std::marker::Model;
 
 /// What changes, and to what.
-#[derive(Clone, Copy, Debug, PartialEq, Eq)]
+#[derive(Clone, Copy)]
 pub enum Entry {
     /// The speed of a host, in flops per second.
     Speed(PointId, u64),
@@ -18,7 +18,7 @@ pub enum Entry {
 }
 
 /// A list of entries, which contracts see as that list.
-#[derive(Debug, Drop)]
+#[derive(Drop)]
 pub struct Entries {
     entries: Vec<Entry>,
 }

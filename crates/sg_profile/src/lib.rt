@@ -16,6 +16,3 @@ pub use laws::{
 pub use profile::Profile;
 pub use profiles::Profiles;
 pub use turn::Turn;
-
-#[cfg(test)]
-mod tests;

@@ -9,7 +9,7 @@ use sg_rows::{Numbers, ProfileRow, Profiled, StateProfileRow};
 use std::alloc::Global;
 
 /// What changes of a host or a link while a run goes on, and when.
-#[derive(Debug, Drop)]
+#[derive(Drop)]
 pub struct Profile {
     /// The dates of a turn, in nanoseconds.
     pub dates: Numbers,

@@ -5,7 +5,7 @@ ghost use Rattle.sg_profile.specs.Profiles.{IsSchedule, date_of, turn_after, tur
 use crate::profile::Profile;
 
 /// The number of the turn, from 0 on, and the number of the next entry in it, from 0 on.
-#[derive(Clone, Copy, Debug, PartialEq, Eq)]
+#[derive(Clone, Copy)]
 pub struct Turn {
     pub number: u128,
     pub entry: usize,

@@ -1,4 +1,3 @@
 pub mod Rings
 pub mod Queues
-pub mod Tested
 pub mod kept

@@ -7,6 +7,3 @@ mod rings;
 
 pub use queues::Queues;
 pub use rings::Rings;
-
-#[cfg(test)]
-mod tests;

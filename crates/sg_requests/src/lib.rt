@@ -5,6 +5,3 @@ mod requests;
 mod serials;
 
 pub use requests::Requests;
-
-#[cfg(test)]
-mod tests;

@@ -5,7 +5,7 @@ ghost use Rattle.sg_route.specs.Leg.{next, parting};
 use sg_base::{Child, PointId, ZoneId};
 
 /// A zone, and two children of it between which a route needs a local route.
-#[derive(Clone, Copy, Debug)]
+#[derive(Clone, Copy)]
 pub struct Leg {
     pub zone: ZoneId,
     pub from: Child,

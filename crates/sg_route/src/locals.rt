@@ -10,14 +10,14 @@ use std::collections::BTreeMap;
 use std::marker::Model;
 
 /// An ordered pair of children of a zone.
-#[derive(Clone, Copy, Debug, PartialEq, Eq, PartialOrd, Ord)]
+#[derive(Clone, Copy, PartialEq, Eq, PartialOrd, Ord)]
 pub struct Pair {
     pub from: Child,
     pub to: Child,
 }
 
 /// A local route from one child of a zone to another.
-#[derive(Debug, Drop)]
+#[derive(Drop)]
 pub struct Local {
     pub pair: Pair,
     /// The gateway at which it begins.

@@ -13,7 +13,7 @@ use sg_paths::Paths;
 use std::marker::Model;
 
 /// Why there is no route.
-#[derive(Clone, Copy, Debug, PartialEq, Eq)]
+#[derive(Clone, Copy)]
 pub enum RouteFault {
     /// The zone has no local route from the one of its children to the other. Where several are missing, the lowest
     /// zone that holds both points is told, else the first in front of its local route, else the first behind it.

@@ -7,7 +7,7 @@ use sg_base::{LinkId, Links, Memory};
 use std::alloc::Global;
 
 /// A link: its latency in nanoseconds, and the link that takes its place on the way back.
-#[derive(Clone, Copy, Debug, PartialEq, Eq)]
+#[derive(Clone, Copy)]
 pub struct LinkEnd {
     pub back: LinkId,
     pub latency: u64,

@@ -3,7 +3,7 @@ ghost use Rattle.std.specs.Prelude.{◌≡◌, ◌≤◌, ◌*◌, ◌^◌};
 ghost use Rattle.sg_rows.specs.Network.{IsNetwork, bandwidth_over, if_bound, latency_over, plain_network, window_bound};
 
 /// Factors, and a window. The route from a host to itself has none of them.
-#[derive(Clone, Copy, Debug, PartialEq, Eq)]
+#[derive(Clone, Copy)]
 pub struct Network {
     /// What latencies are multiplied by, in millionths.
     pub latency_factor: u64,

@@ -4,7 +4,7 @@ ghost use Rattle.std.specs.Prelude.{◌≡◌, ℕ, List};
 use std::marker::Model;
 
 /// A list of numbers, which contracts see as that list.
-#[derive(Debug, Drop)]
+#[derive(Drop)]
 pub struct Numbers {
     numbers: Vec<u64>,
 }

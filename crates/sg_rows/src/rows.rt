@@ -5,7 +5,7 @@ use crate::states::States;
 use sg_base::{ActorId, Child, Ids, LinkId, Links, PointId, Text, ZoneId};
 
 /// How a zone finds the routes between its children.
-#[derive(Clone, Copy, Debug, PartialEq, Eq)]
+#[derive(Clone, Copy)]
 pub enum Routing {
     /// Each pair has a route of its own.
     Full,
@@ -16,7 +16,7 @@ pub enum Routing {
 }
 
 /// A zone.
-#[derive(Debug, Drop)]
+#[derive(Drop)]
 pub struct ZoneRow {
     pub id: Text,
     /// `None` for the root.
@@ -25,7 +25,7 @@ pub struct ZoneRow {
 }
 
 /// What a host draws, in milliwatts.
-#[derive(Clone, Copy, Debug, PartialEq, Eq)]
+#[derive(Clone, Copy)]
 pub struct Power {
     /// While it computes nothing.
     pub idle: u64,
@@ -38,7 +38,7 @@ pub struct Power {
 }
 
 /// A host.
-#[derive(Debug, Drop)]
+#[derive(Drop)]
 pub struct HostRow {
     pub id: Text,
     pub zone: ZoneId,
@@ -50,14 +50,14 @@ pub struct HostRow {
 }
 
 /// A router: a point that no actor is on.
-#[derive(Debug, Drop)]
+#[derive(Drop)]
 pub struct RouterRow {
     pub id: Text,
     pub zone: ZoneId,
 }
 
 /// How flows share a link.
-#[derive(Clone, Copy, Debug, PartialEq, Eq)]
+#[derive(Clone, Copy)]
 pub enum Policy {
     /// All flows together get at most the bandwidth.
     Shared,
@@ -68,7 +68,7 @@ pub enum Policy {
 }
 
 /// A link, or the two of a SPLITDUPLEX row.
-#[derive(Debug, Drop)]
+#[derive(Drop)]
 pub struct LinkRow {
     pub id: Text,
     /// In bytes per second.
@@ -79,7 +79,7 @@ pub struct LinkRow {
 }
 
 /// A route between two points.
-#[derive(Debug, Drop)]
+#[derive(Drop)]
 pub struct RouteRow {
     pub src: PointId,
     pub dst: PointId,
@@ -89,7 +89,7 @@ pub struct RouteRow {
 }
 
 /// A route between two children of a zone, at least one of them a zone.
-#[derive(Debug, Drop)]
+#[derive(Drop)]
 pub struct ZoneRouteRow {
     pub src: Child,
     pub dst: Child,
@@ -103,7 +103,7 @@ pub struct ZoneRouteRow {
 }
 
 /// What joins a child of a Star zone to its centre.
-#[derive(Debug, Drop)]
+#[derive(Drop)]
 pub struct SpokeRow {
     pub zone: ZoneId,
     pub child: Child,
@@ -114,14 +114,14 @@ pub struct SpokeRow {
 }
 
 /// What a profile is of.
-#[derive(Clone, Copy, Debug, PartialEq, Eq)]
+#[derive(Clone, Copy)]
 pub enum Profiled {
     Host(PointId),
     Link(LinkId),
 }
 
 /// How the speed of a host or the bandwidth of a link changes while a run goes on.
-#[derive(Debug, Drop)]
+#[derive(Drop)]
 pub struct ProfileRow {
     pub of: Profiled,
     /// When it changes, in nanoseconds, each later than the one before.
@@ -133,7 +133,7 @@ pub struct ProfileRow {
 }
 
 /// When a host or a link goes on or off while a run goes on.
-#[derive(Debug, Drop)]
+#[derive(Drop)]
 pub struct StateProfileRow {
     pub of: Profiled,
     /// When it goes on or off, in nanoseconds, each later than the one before.
@@ -162,7 +162,7 @@ pub struct PlatformRows {
 }
 
 /// What an actor does.
-#[derive(Debug, Drop)]
+#[derive(Drop)]
 pub enum Function {
     /// It does what the script says.
     Replay,
@@ -186,7 +186,7 @@ pub enum Function {
 }
 
 /// An actor.
-#[derive(Debug, Drop)]
+#[derive(Drop)]
 pub struct ActorRow {
     pub name: Text,
     pub host: PointId,
@@ -196,13 +196,13 @@ pub struct ActorRow {
 }
 
 /// A mutex.
-#[derive(Debug, Drop)]
+#[derive(Drop)]
 pub struct MutexRow {
     pub id: Text,
 }
 
 /// A semaphore.
-#[derive(Debug, Drop)]
+#[derive(Drop)]
 pub struct SemaphoreRow {
     pub id: Text,
     /// How many may acquire it at once.

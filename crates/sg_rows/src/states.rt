@@ -4,7 +4,7 @@ ghost use Rattle.std.specs.Prelude.{◌≡◌};
 use std::marker::Model;
 
 /// A list of states, on (`true`) or off, which contracts see as that list.
-#[derive(Debug, Drop)]
+#[derive(Drop)]
 pub struct States {
     states: Vec<bool>,
 }

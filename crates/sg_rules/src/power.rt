@@ -8,7 +8,7 @@ use sg_tree::Kind;
 use toml::Value;
 
 /// What a host that is on draws, in milliwatts.
-#[derive(Clone, Copy, Debug, PartialEq, Eq)]
+#[derive(Clone, Copy)]
 pub struct Powers {
     /// While it computes nothing.
     pub idle: u64,

@@ -10,7 +10,6 @@ pub mod Meeting
 pub mod Needs
 pub mod QueueLemmas
 pub mod Repeating
-pub mod Rows
 pub mod Spending
 pub mod Splits
 pub mod StandLemmas

@@ -2,7 +2,7 @@
 
 /// Why a script line is bad. Where several hold, the first in this order is told, but for the arguments, which are
 /// judged from left to right.
-#[derive(Clone, Copy, Debug, PartialEq, Eq)]
+#[derive(Clone, Copy)]
 pub enum LineFault {
     /// It has more than 4,096 bytes, its newline not counted.
     TooLong,
@@ -24,7 +24,7 @@ pub enum LineFault {
 }
 
 /// Why an Ask has no answer.
-#[derive(Clone, Copy, Debug, PartialEq, Eq)]
+#[derive(Clone, Copy)]
 pub enum ScriptFault {
     /// The first bad line: its number, counted from 1, and why it is bad.
     Line(u64, LineFault),

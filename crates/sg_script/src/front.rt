@@ -10,7 +10,7 @@ use crate::line::LONGEST_LINE;
 use sg_edge::Stage;
 
 /// What stands at the front of bytes that were read.
-#[derive(Clone, Copy, Debug, PartialEq, Eq)]
+#[derive(Clone, Copy)]
 pub enum Front {
     /// A line of `len` bytes that takes `end` bytes with its newline; or a front of one that is bad however it goes
     /// on.

@@ -11,8 +11,6 @@ mod operation;
 mod pending;
 mod queues;
 mod script;
-#[cfg(test)]
-mod tests;
 mod verbs;
 mod waiting;
 mod words;

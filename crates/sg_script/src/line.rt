@@ -23,7 +23,7 @@ use sg_rows::Deployment;
 pub const LONGEST_LINE: usize = 4096;
 
 /// A good line: whose it is, and what it asks for.
-#[derive(Clone, Copy, Debug, PartialEq, Eq)]
+#[derive(Clone, Copy)]
 pub struct Entry {
     pub actor: ActorId,
     pub operation: Operation,

@@ -7,7 +7,7 @@ use sg_base::{Action, ActorId};
 use sg_collectives::{Collective, Members};
 
 /// What a line asks for.
-#[derive(Clone, Copy, Debug, PartialEq, Eq)]
+#[derive(Clone, Copy)]
 pub enum Operation {
     /// One action.
     Alone(Action),

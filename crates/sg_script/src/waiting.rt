@@ -9,7 +9,7 @@ use sg_base::{Action, ActorId};
 use sg_collectives::Members;
 
 /// A line that waits for its actor: what it asks for, and how many of its actions were taken.
-#[derive(Clone, Copy, Debug)]
+#[derive(Clone, Copy)]
 pub struct Waiting {
     pub operation: Operation,
     pub place: u64,

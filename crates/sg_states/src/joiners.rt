@@ -12,7 +12,7 @@ use crate::state::Actor;
 use sg_base::ActorId;
 
 /// An actor that is blocked by the join of another.
-#[derive(Clone, Copy, Debug, PartialEq, Eq)]
+#[derive(Clone, Copy)]
 pub(crate) struct Joiner {
     /// Whom it joins.
     pub(crate) of: ActorId,

@@ -10,6 +10,3 @@ mod states;
 
 pub use state::{Actor, Blocking, State};
 pub use states::States;
-
-#[cfg(test)]
-mod tests;

@@ -5,7 +5,7 @@ ghost use Rattle.sg_states.specs.Actors.{blocking_in, inbox_of, is_alive, is_ove
 use sg_base::{ActorId, Answer, Await, Call};
 
 /// What an actor does.
-#[derive(Clone, Copy, Debug, PartialEq, Eq)]
+#[derive(Clone, Copy)]
 pub enum State {
     /// It waits until another starts it.
     Unstarted,
@@ -19,7 +19,7 @@ pub enum State {
 }
 
 /// On what an actor is blocked: its call, the date of the call, and its side of an activity, if it waits for one.
-#[derive(Clone, Copy, Debug, PartialEq, Eq)]
+#[derive(Clone, Copy)]
 pub struct Blocking {
     /// The call.
     pub what: Call,
@@ -30,7 +30,7 @@ pub struct Blocking {
 }
 
 /// What an actor does, and whether another has suspended it: then it takes no turn.
-#[derive(Clone, Copy, Debug, PartialEq, Eq)]
+#[derive(Clone, Copy)]
 pub struct Actor {
     /// What it does.
     pub state: State,

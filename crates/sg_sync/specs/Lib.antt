@@ -1,5 +1,4 @@
 pub mod Queues
 pub mod Objects
 pub mod Laws
-pub mod Tested
 pub mod kept

@@ -10,6 +10,3 @@ mod sync;
 pub use laws::{actors_wait_once, leaving_lets_others_wait, nobody_is_lost};
 pub use outcome::Outcome;
 pub use sync::Sync;
-
-#[cfg(test)]
-mod tests;

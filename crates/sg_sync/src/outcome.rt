@@ -1,7 +1,7 @@
 //! What a call at a mutex, a semaphore or the barrier answers.
 
 /// What becomes of the actor that called.
-#[derive(Clone, Copy, Debug, PartialEq, Eq)]
+#[derive(Clone, Copy)]
 pub enum Outcome {
     GoesOn,
     /// Until another call names it among those that go on.

@@ -3,7 +3,7 @@ ghost use Rattle.std.specs.Prelude.{◌≡◌};
 ghost use Rattle.sg_tables.specs.Tables.{keys_of, row_limit, shape_of, table_number, table_text, word_text};
 
 /// A key as a text writes it.
-#[derive(Clone, Copy, Debug, PartialEq, Eq)]
+#[derive(Clone, Copy)]
 pub enum Word {
     Id,
     Parent,
@@ -43,7 +43,7 @@ pub enum Word {
 }
 
 /// Whether a row must have a key.
-#[derive(Clone, Copy, Debug, PartialEq, Eq)]
+#[derive(Clone, Copy)]
 pub enum Need {
     Required,
     Optional,
@@ -54,7 +54,7 @@ pub enum Need {
 }
 
 /// What the value of a key must be.
-#[derive(Clone, Copy, Debug, PartialEq, Eq)]
+#[derive(Clone, Copy)]
 pub enum Rule {
     /// A new name among zones, hosts and routers.
     NewPoint,
@@ -131,7 +131,7 @@ pub enum Rule {
 }
 
 /// The type of the value of a key.
-#[derive(Clone, Copy, Debug, PartialEq, Eq)]
+#[derive(Clone, Copy)]
 pub enum Shape {
     Text,
     Whole,
@@ -141,7 +141,7 @@ pub enum Shape {
 }
 
 /// A key of a table.
-#[derive(Clone, Copy, Debug, PartialEq, Eq)]
+#[derive(Clone, Copy)]
 pub struct Key {
     pub word: Word,
     pub need: Need,
@@ -149,7 +149,7 @@ pub struct Key {
 }
 
 /// A table of one of the texts.
-#[derive(Clone, Copy, Debug, PartialEq, Eq)]
+#[derive(Clone, Copy)]
 pub enum Table {
     Zone,
     Host,

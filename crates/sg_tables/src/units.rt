@@ -5,7 +5,7 @@ ghost use Rattle.sg_tables.specs.Units.{amount_value, bandwidth_value, factor_va
 use sg_units::{read_amount, read_bandwidth, read_factor, read_speed, read_time};
 
 /// What a text gives an amount of.
-#[derive(Clone, Copy, Debug, PartialEq, Eq)]
+#[derive(Clone, Copy)]
 pub enum Quantity {
     /// In nanoseconds.
     Time,

@@ -2,7 +2,7 @@
 use sg_base::{ActorId, Call, PointId};
 
 /// What a line at the end of a run tells. Dates are in nanoseconds.
-#[derive(Clone, Copy, Debug, PartialEq, Eq)]
+#[derive(Clone, Copy)]
 pub enum Last {
     /// All actors had ended at this date.
     Time(u128),

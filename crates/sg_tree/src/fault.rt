@@ -3,7 +3,7 @@ ghost use Rattle.std.specs.Prelude.{◌≡◌};
 ghost use Rattle.sg_tree.specs.Faults.{kind_words};
 
 /// Which rule a text breaks. At one place the earlier kind is told.
-#[derive(Clone, Copy, Debug, PartialEq, Eq)]
+#[derive(Clone, Copy)]
 pub enum Kind {
     /// A key that must be there is missing.
     MissingKey,
@@ -46,7 +46,7 @@ impl Kind {
 
 /// A place in a text: tables, rows and keys count from 1. Key 0 is the row as a whole, row 0 the table as a
 /// whole, and table 0 the text as a whole.
-#[derive(Clone, Copy, Debug, PartialEq, Eq)]
+#[derive(Clone, Copy, Debug)]
 pub struct Place {
     pub table: u32,
     pub row: u32,
@@ -54,7 +54,7 @@ pub struct Place {
 }
 
 /// A rule that is broken at a place.
-#[derive(Clone, Copy, Debug, PartialEq, Eq)]
+#[derive(Clone, Copy)]
 pub struct Fault {
     pub place: Place,
     pub kind: Kind,

@@ -3,8 +3,6 @@
 
 mod fault;
 mod names;
-#[cfg(test)]
-mod tests;
 mod tree;
 
 pub use fault::{Fault, Kind, Place};

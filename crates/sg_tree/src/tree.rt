@@ -8,7 +8,7 @@ use std::alloc::Global;
 use toml::{Table, Value};
 
 /// Why there is no tree.
-#[derive(Clone, Copy, Debug, PartialEq, Eq)]
+#[derive(Clone, Copy)]
 pub enum NoTree {
     /// The bytes aren't UTF-8, or the grammar of TOML gives them no tree.
     BadToml,

@@ -1,7 +1,7 @@
 //! Why a text is refused.
 
 /// The first thing that is wrong with the text of an amount, in this order.
-#[derive(Clone, Copy, Debug, PartialEq, Eq)]
+#[derive(Clone, Copy)]
 pub enum AmountFault {
     /// It doesn't begin with a digit.
     NotANumber,

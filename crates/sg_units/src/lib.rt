@@ -13,6 +13,3 @@ pub use date::date_text;
 pub use fault::AmountFault;
 pub use laws::number_is_longest;
 pub use readers::{read_amount, read_bandwidth, read_factor, read_speed, read_time};
-
-#[cfg(test)]
-mod tests;

@@ -4,6 +4,5 @@ pub mod Law
 pub mod Level
 pub mod Numbers
 pub mod Refusals
-pub mod Rows
 pub mod Stops
 pub mod TwoRules

@@ -7,7 +7,7 @@ use sg_base::{Memory, Text};
 use std::alloc::{AllocError, AllocFailed};
 
 /// Why there is no job.
-#[derive(Debug, Drop)]
+#[derive(Drop)]
 pub enum WordsFault {
     /// Help or the version was asked for: the text.
     Help(Text),

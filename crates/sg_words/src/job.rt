@@ -5,7 +5,7 @@ ghost use Rattle.sg_words.specs.Ranges.{AreChurnNumbers, IsInRange, IsInRange-pr
 use sg_base::Text;
 
 /// What the program is to do, with the names of the parts where it has any.
-#[derive(Debug, Drop)]
+#[derive(Drop)]
 pub enum Command {
     /// To replay a script.
     Replay {
@@ -28,7 +28,7 @@ pub enum Command {
 
 /// A command line that was accepted: the command, how many threads there are, after how many events the run
 /// is stopped, and whether the actions are left out of what is printed.
-#[derive(Debug, Drop)]
+#[derive(Drop)]
 pub struct Job {
     pub command: Command,
     pub threads: u32,
@@ -40,7 +40,7 @@ pub struct Job {
 }
 
 /// The numbers of a churn.
-#[derive(Clone, Copy, Debug)]
+#[derive(Clone, Copy)]
 pub(crate) struct ChurnNumbers {
     pub(crate) seed: u64,
     pub(crate) actors: u32,
@@ -49,7 +49,7 @@ pub(crate) struct ChurnNumbers {
 }
 
 /// The command, in texts of the words.
-#[derive(Clone, Copy, Debug)]
+#[derive(Clone, Copy)]
 pub(crate) enum Request<'a> {
     Replay(&'a str, &'a str, &'a str),
     Run(&'a str, &'a str),
@@ -57,7 +57,7 @@ pub(crate) enum Request<'a> {
 }
 
 /// The job, in texts of the words.
-#[derive(Clone, Copy, Debug)]
+#[derive(Clone, Copy)]
 pub(crate) struct Asked<'a> {
     pub(crate) request: Request<'a>,
     pub(crate) threads: u32,

@@ -7,8 +7,6 @@ mod help;
 mod job;
 mod laws;
 mod reading;
-#[cfg(test)]
-mod tests;
 mod words;
 
 pub use fault::WordsFault;

@@ -11,7 +11,7 @@ use sg_zones::ZoneFault;
 use std::alloc::Global;
 
 /// Why a platform or a deployment isn't there.
-#[derive(Debug, Drop)]
+#[derive(Drop)]
 pub enum Refusal {
     /// The platform's text is none.
     Platform(PlatformFault),

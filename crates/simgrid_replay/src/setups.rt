@@ -23,7 +23,7 @@ use sg_words::{Command, Job};
 use std::alloc::Global;
 
 /// The names of a platform and a deployment, and whether a script goes with them.
-#[derive(Clone, Copy, Debug)]
+#[derive(Clone, Copy)]
 struct Texts<'a> {
     platform: &'a str,
     deployment: &'a str,

@@ -1,4 +1,0 @@
-use Rattle.sg_activity.proofs.tests.shares_a_link.Given as goal
-
-abbrev pub ghosts-two_sends : goal.ghosts-two_sends
-ghosts-two_sends g a = record { name = a.blank.name; parts = a.blank.parts }

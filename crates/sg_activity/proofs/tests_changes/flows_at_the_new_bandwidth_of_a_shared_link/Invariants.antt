@@ -1,4 +1,0 @@
-use Rattle.sg_activity.proofs.tests_changes.flows_at_the_new_bandwidth_of_a_shared_link.Given as goal
-
-abbrev pub ghosts-changed_flow : goal.ghosts-changed_flow
-ghosts-changed_flow g a = record { name = a.blank.name; parts = a.blank.parts }
