@@ -1,0 +1,16 @@
+//! Tests of parts, streams, seats and readers, of what no whole run shows: reads and writes that fail or give little,
+//! turns that meet in threads, units, and the rows of a churn.
+#![tactic(auto)]
+
+#[cfg(test)]
+mod churns;
+#[cfg(test)]
+mod parts;
+#[cfg(test)]
+mod rounds;
+#[cfg(test)]
+mod scripts;
+#[cfg(test)]
+mod turns;
+#[cfg(test)]
+mod units;

@@ -1,0 +1,4 @@
+pub mod Pairs
+pub mod OneEach
+pub mod Alone
+pub mod AllOn

@@ -1,0 +1,159 @@
+//! What an end costs doesn't grow with the hosts.
+ghost use Rattle.std.specs.Prelude.{◌≡◌, ◌+◌, ◌<◌, ◌^◌, All, IfOk, OnOk, length};
+ghost use Rattle.sg_activity.specs.Hosts.{IsHost};
+ghost use Rattle.sg_activity.specs.Links.{all_on};
+
+use sg_activity::{Activities, HostCap};
+use sg_base::{Memory, PointId, Steps};
+use std::alloc::Global;
+use std::marker::Brand;
+use std::process::Abort;
+use std::sync::ledger::{Blank, Ledger};
+use std::test::Fail;
+
+const MEGA: u64 = 1_000_000;
+
+const HOSTS: u32 = 16_384;
+
+const ENDS: u32 = 1_000_000;
+
+// Goes to the next date and ends the first phase that is due: the date, and its serial.
+fn next_end<L: Ledger>(doing: &mut Activities, steps: &mut Steps<L>) -> Option<(u128, u64)>
+    requires { length doing.old.under.tasks < 10 ^ 9 }
+    ensures tasks { length doing.new.under.tasks ≡ length doing.old.under.tasks }
+    ensures capacities { doing.new.under.capacities ≡ doing.old.under.capacities }
+    ensures on { doing.new.under.on ≡ doing.old.under.on }
+{
+    doing.settle(steps);
+    let Some(date) = doing.next_date() else {
+        return None;
+    };
+    if date >= 1_000_000_000_000_000 {
+        return None;
+    }
+    doing.advance_to(date);
+    let Some(phase) = doing.due() else {
+        return None;
+    };
+    doing.finish();
+    Some((date, phase.serial.0))
+}
+
+// Hosts of speeds from 1 flop a second on.
+fn hosts_of_speeds(alloc: Global) -> Result<Vec<HostCap>, Memory>
+    ensures hosts { IfOk result (λ hosts. All IsHost hosts.items) }
+    ensures count { IfOk result (λ hosts. length hosts.items ≡ 16384) }
+{
+    let mut hosts = Vec::new(alloc);
+    for host in 0..HOSTS {
+        hosts.push(HostCap {
+            speed: u64::from(host) + 1,
+            cores: 1,
+            power: None,
+        })?;
+    }
+    Ok(hosts)
+}
+
+// The execution of this number on a host, of a million flops, begins; both are noted under its serial.
+fn compute(
+    doing: &mut Activities,
+    host: u32,
+    number: u64,
+    noted: &mut Vec<(u32, u64)>,
+) -> Result<(), Memory>
+    requires few { length doing.old.under.tasks < 10 ^ 9 }
+    requires host { host < length doing.old.under.capacities.hosts }
+    requires on { doing.old.under.on ≡ all_on doing.old.under.capacities }
+    ensures capacities { doing.new.under.capacities ≡ doing.old.under.capacities }
+    ensures on { doing.new.under.on ≡ doing.old.under.on }
+    ensures drawn { OnOk result (length doing.new.under.tasks ≡ length doing.old.under.tasks + 1) }
+{
+    doing.reserve(1)?;
+    let _serial = doing.start_exec(PointId(host), MEGA, 1);
+    noted.push((host, number))?;
+    Ok(())
+}
+
+// When so many executions of a million flops, one after the other, are over on the host.
+fn over_at(host: u32, number: u64) -> u128 {
+    u128::from(number) * u128::from(1_000_000_000_000_000u64.div_ceil(u64::from(host) + 1))
+}
+
+// The first execution begins on each host.
+fn compute_everywhere(doing: &mut Activities, noted: &mut Vec<(u32, u64)>) -> Result<(), Memory>
+    requires hosts { length doing.old.under.capacities.hosts ≡ 16384 }
+    requires on { doing.old.under.on ≡ all_on doing.old.under.capacities }
+    requires tasks { length doing.old.under.tasks ≡ 0 }
+    ensures capacities { doing.new.under.capacities ≡ doing.old.under.capacities }
+    ensures on { doing.new.under.on ≡ doing.old.under.on }
+    ensures tasks { OnOk result (length doing.new.under.tasks ≡ 16384) }
+{
+    for host in 0..HOSTS {
+        compute(doing, host, 1, noted)?;
+    }
+    Ok(())
+}
+
+// The next execution ends when all those on its host up to it are over, whatever goes on elsewhere. Another begins there.
+fn compute_anew<L: Ledger>(
+    rt: &impl Abort,
+    doing: &mut Activities,
+    noted: &mut Vec<(u32, u64)>,
+    steps: &mut Steps<L>,
+) -> Result<(), Memory>
+    requires few { length doing.old.under.tasks < 10 ^ 9 }
+    requires hosts { length doing.old.under.capacities.hosts ≡ 16384 }
+    requires on { doing.old.under.on ≡ all_on doing.old.under.capacities }
+    ensures capacities { doing.new.under.capacities ≡ doing.old.under.capacities }
+    ensures on { doing.new.under.on ≡ doing.old.under.on }
+    ensures drawn { OnOk result (length doing.new.under.tasks ≡ length doing.old.under.tasks + 1) }
+{
+    let Some((date, serial)) = next_end(doing, steps) else {
+        panic!(rt; "no execution is due")
+    };
+    let Some((host, number)) = noted.get((serial as usize).saturating_sub(1)).copied() else {
+        panic!(rt; "serial {serial} is unknown")
+    };
+    assert_eq!(rt; date, over_at(host, number));
+    assert!(rt; host < HOSTS);
+    compute(doing, host, number.saturating_add(1), noted)
+}
+
+// Executions follow one another on each host, until so many have ended.
+fn compute_long<L: Ledger>(
+    rt: &impl Abort,
+    doing: &mut Activities,
+    noted: &mut Vec<(u32, u64)>,
+    steps: &mut Steps<L>,
+) -> Result<(), Memory>
+    requires hosts { length doing.old.under.capacities.hosts ≡ 16384 }
+    requires on { doing.old.under.on ≡ all_on doing.old.under.capacities }
+    requires tasks { length doing.old.under.tasks ≡ 0 }
+{
+    compute_everywhere(doing, noted)?;
+    for _end in 0..ENDS {
+        compute_anew(rt, doing, noted, steps)?;
+    }
+    Ok(())
+}
+
+// The same on hosts of their own.
+fn ends_as_stated<L: Ledger>(rt: &impl Abort, alloc: Global, blank: Blank) -> Result<(), Memory>
+    requires name { blank.name ≡ L.name }
+    requires parts { blank.parts ≡ L.parts }
+    requires some { 0 < blank.parts }
+{
+    let mut steps = Steps::<L>::new(blank);
+    let mut noted = Vec::new(alloc);
+    let hosts = hosts_of_speeds(alloc)?;
+    let mut doing = Activities::new(alloc, &hosts, &[])?;
+    compute_long(rt, &mut doing, &mut noted, &mut steps)
+}
+
+// A body that looks at all hosts, or copies all uses, at each end doesn't come to the end of it in time.
+#[test]
+fn touched_scale(rt: HostRuntime) -> Result<(), Fail> {
+    ends_as_stated::<Brand>(&rt, rt.alloc(), Blank::new(1))?;
+    Ok(())
+}

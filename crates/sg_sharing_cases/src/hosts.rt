@@ -1,0 +1,151 @@
+//! What a second execution on a host, and another speed of it, change among 100 hosts, and how much they look at.
+ghost use Rattle.std.specs.Prelude.{◌≡◌, ◌<◌, ◌≤◌, ◌+◌, OnOk};
+ghost use Rattle.sg_sharing_cases.specs.OneEach.{IsCalm, IsIdle, IsOneEach};
+
+use sg_base::{Memory, Steps};
+use sg_lazy::Lazy;
+use std::alloc::Global;
+use std::marker::Brand;
+use std::process::Abort;
+use std::sync::ledger::{Blank, Ledger};
+use std::test::Fail;
+
+const HOSTS: usize = 100;
+
+// One execution on each of 100 hosts, settled; the numbers of the flows are put behind.
+fn one_each<L: Ledger>(
+    lazy: &mut Lazy,
+    flows: &mut Vec<usize>,
+    steps: &mut Steps<L>,
+) -> Result<(), Memory>
+    requires { IsIdle lazy.old }
+    ensures each { OnOk result (IsOneEach 100 lazy.new) }
+    ensures calm { OnOk result (IsCalm lazy.new) }
+{
+    lazy.reserve(HOSTS + 1, HOSTS + 1)?;
+    for host in 0..HOSTS {
+        let flow = lazy.start(&[host], 1, Some(10));
+        flows.push(flow)?;
+    }
+    lazy.settle(steps);
+    Ok(())
+}
+
+// A second execution on a host, settled with no more looks than its two flows allow.
+fn add_second<L: Ledger>(lazy: &mut Lazy, host: usize, steps: &mut Steps<L>) -> usize
+    requires each { IsOneEach 100 lazy.old }
+    requires calm { IsCalm lazy.old }
+    requires host { host < 100 }
+    ensures { steps.new ≤ steps.old + 48 }
+{
+    let second = lazy.start(&[host], 1, Some(10));
+    lazy.settle(steps);
+    second
+}
+
+// The flows whose rates a second execution on a host changes are the two there.
+fn changes_two<L: Ledger>(
+    rt: &impl Abort,
+    lazy: &mut Lazy,
+    flows: &mut Vec<usize>,
+    host: usize,
+    steps: &mut Steps<L>,
+) -> Result<(), Memory>
+    requires idle { IsIdle lazy.old }
+    requires host { host < 100 }
+{
+    one_each(lazy, flows, steps)?;
+    assert_eq!(rt; lazy.changed().len(), HOSTS);
+    let second = add_second(lazy, host, steps);
+    let changed = lazy.changed();
+    assert_eq!(rt; changed.len(), 2);
+    assert!(rt; changed.contains(&second));
+    if let Some(first) = flows.get(host) {
+        assert!(rt; changed.contains(first));
+    }
+    Ok(())
+}
+
+// The same on a system of its own.
+fn changes_two_of_100<L: Ledger>(
+    rt: &impl Abort,
+    alloc: Global,
+    blank: Blank,
+    host: usize,
+) -> Result<(), Memory>
+    requires name { blank.name ≡ L.name }
+    requires parts { blank.parts ≡ L.parts }
+    requires some { 0 < blank.parts }
+    requires host { host < 100 }
+{
+    let mut steps = Steps::<L>::new(blank);
+    let mut flows = Vec::new(alloc);
+    let mut lazy = Lazy::new(alloc, &[10; HOSTS])?;
+    changes_two(rt, &mut lazy, &mut flows, host, &mut steps)
+}
+
+#[test]
+fn second_execution_changes_two(rt: HostRuntime) -> Result<(), Fail> {
+    for host in 0..HOSTS {
+        changes_two_of_100::<Brand>(&rt, rt.alloc(), Blank::new(1), host)?;
+    }
+    Ok(())
+}
+
+// Another speed of a host, settled with no more looks than its one flow allows.
+fn slow_host<L: Ledger>(lazy: &mut Lazy, host: usize, speed: u64, steps: &mut Steps<L>)
+    requires each { IsOneEach 100 lazy.old }
+    requires calm { IsCalm lazy.old }
+    requires host { host < 100 }
+    ensures { steps.new ≤ steps.old + 16 }
+{
+    lazy.set_capacity(host, speed);
+    lazy.settle(steps);
+}
+
+// The flow whose rate a host's speed changes is the one there.
+fn changes_one<L: Ledger>(
+    rt: &impl Abort,
+    lazy: &mut Lazy,
+    flows: &mut Vec<usize>,
+    host: usize,
+    steps: &mut Steps<L>,
+) -> Result<(), Memory>
+    requires idle { IsIdle lazy.old }
+    requires host { host < 100 }
+{
+    one_each(lazy, flows, steps)?;
+    slow_host(lazy, host, 4, steps);
+    let changed = lazy.changed();
+    assert_eq!(rt; changed.len(), 1);
+    if let Some(flow) = flows.get(host) {
+        assert!(rt; changed.contains(flow));
+    }
+    Ok(())
+}
+
+// The same on a system of its own.
+fn changes_one_of_100<L: Ledger>(
+    rt: &impl Abort,
+    alloc: Global,
+    blank: Blank,
+    host: usize,
+) -> Result<(), Memory>
+    requires name { blank.name ≡ L.name }
+    requires parts { blank.parts ≡ L.parts }
+    requires some { 0 < blank.parts }
+    requires host { host < 100 }
+{
+    let mut steps = Steps::<L>::new(blank);
+    let mut flows = Vec::new(alloc);
+    let mut lazy = Lazy::new(alloc, &[10; HOSTS])?;
+    changes_one(rt, &mut lazy, &mut flows, host, &mut steps)
+}
+
+#[test]
+fn another_speed_changes_one(rt: HostRuntime) -> Result<(), Fail> {
+    for host in 0..HOSTS {
+        changes_one_of_100::<Brand>(&rt, rt.alloc(), Blank::new(1), host)?;
+    }
+    Ok(())
+}
