@@ -1,12 +1,13 @@
 //! The flows and resources that sharing joins to what changed.
-ghost use Rattle.std.specs.Prelude.{◌≡◌, ◌≤◌, ◌<◌, ◌+◌, ℕ, Bool, IsTrue, All, length, take};
+ghost use Rattle.std.specs.Prelude.{◌≡◌, ◌≤◌, ◌<◌, ◌+◌, ℕ, Bool, IfOk, IsTrue, All, length, take};
 ghost use Rattle.sg_base.specs.MarkSet.{is_in};
 ghost use Rattle.sg_chains.specs.Chained.{users_on};
 ghost use Rattle.sg_maxmin.specs.Sharing.{IsSound, uses_at};
 ghost use Rattle.sg_lazy.specs.kept.Component.{AreIn, AreVisited, IsClosedBy, IsOpen, MarksRow, PassAlong, Passes, RowPasses, Spreads, StaysWithin, lengths, touched_uses};
 
-use sg_base::{Marks, Steps};
+use sg_base::{Marks, Memory, Steps};
 use sg_maxmin::System;
+use std::alloc::Global;
 use std::sync::ledger::Ledger;
 
 /// The touched flows and the reached resources.
@@ -14,6 +15,20 @@ use std::sync::ledger::Ledger;
 pub struct Component {
     pub touched: Marks,
     pub reached: Marks,
+}
+
+impl Component {
+    /// Nothing is touched, and there is room for so many resources.
+    pub fn new(alloc: Global, resources: usize) -> Result<Component, Memory>
+        ensures { IfOk result (λ component. component.reached.room ≡ resources) }
+    {
+        let mut reached = Marks::new(alloc);
+        reached.reserve(resources)?;
+        Ok(Component {
+            touched: Marks::new(alloc),
+            reached,
+        })
+    }
 }
 
 // Reaches the resources of a flow.

@@ -1,16 +1,17 @@
 //! The filling of the touched flows alone.
-ghost use Rattle.std.specs.Prelude.{◌≡◌, ◌≢◌, ◌≤◌, ◌<◌, ◌+◌, ◌-◌, ◌*◌, ◌/◌, ◌^◌, ◌++◌, ◌∷◌, ℕ, List, [], Option, None, Some, IfSome, IsSome, true, false, AllPairs, All, length, min, option_map, option_to_list, slice_index, slice_set};
+ghost use Rattle.std.specs.Prelude.{◌≡◌, ◌≢◌, ◌≤◌, ◌<◌, ◌+◌, ◌-◌, ◌*◌, ◌/◌, ◌^◌, ◌++◌, ◌∷◌, ℕ, List, [], Option, None, Some, IfOk, IfSome, IsSome, true, false, AllPairs, All, length, min, option_map, option_to_list, slice_index, slice_set};
 ghost use Rattle.sg_base.specs.MarkSet.{is_in};
 ghost use Rattle.sg_chains.specs.Chained.{times, users_on};
 ghost use Rattle.sg_maxmin.specs.Fill.{bound_level as level_of_bound, level_of, share_at, share_of, bounded};
 ghost use Rattle.sg_maxmin.specs.Laws.{HaveLimits};
 ghost use Rattle.sg_maxmin.specs.Sharing.{IsSound, flow_at, uses_at};
 ghost use Rattle.sg_lazy.specs.kept.Component.{AreIn, MarksRow, lengths};
-ghost use Rattle.sg_lazy.specs.kept.Filling.{AreAbove, AreCounted, AreFixed, AreJoined, AreLeveled, AreLevels, ArePart, FlowSteps, HasPlaces, IsFloor, IsLeast, IsLessBy, IsLow, IsMoreBy, IsOver, KeepsCount, KeepsFixed, KeepsOthers, StepsPartly, bound_at, bound_limit, fixed_at, flow_in, flows_at, least_with, level_where, limits_at, unfixed_bounds, unfixed_limits, waited_levels, weight_of, weight_on};
+ghost use Rattle.sg_lazy.specs.kept.Filling.{AreAbove, AreCounted, AreFixed, AreJoined, AreLeveled, AreLevels, ArePart, FlowSteps, HasPlaces, HasResources, IsFloor, IsLeast, IsLessBy, IsLow, IsMoreBy, IsOver, KeepsCount, KeepsFixed, KeepsOthers, StepsPartly, bound_at, bound_limit, fixed_at, flow_in, flows_at, least_with, level_where, limits_at, unfixed_bounds, unfixed_limits, waited_levels, weight_of, weight_on};
 
 use crate::component::mark_uses;
-use sg_base::{Marks, Steps};
+use sg_base::{Marks, Memory, Steps};
 use sg_maxmin::System;
+use std::alloc::Global;
 use std::sync::ledger::Ledger;
 
 /// What a filling writes down.
@@ -24,6 +25,23 @@ pub struct Filling {
     pub levels: Vec<u64>,
     // the resources whose levels must be divided again
     pub stale: Marks,
+}
+
+impl Filling {
+    /// Places for resources with these capacities, and for no flow yet.
+    pub fn new(alloc: Global, capacities: &[u64]) -> Result<Filling, Memory>
+        ensures { IfOk result (HasResources (length capacities.now)) }
+    {
+        let mut stale = Marks::new(alloc);
+        stale.reserve(capacities.len())?;
+        Ok(Filling {
+            fixed: Vec::new(alloc),
+            left: Vec::from_slice(alloc, capacities)?,
+            waiting: Vec::from_slice(alloc, capacities)?,
+            levels: Vec::from_slice(alloc, capacities)?,
+            stale,
+        })
+    }
 }
 
 // The level of a step, and one that no bound of an unfixed flow is below. Where there is none, no such flow has a bound.

@@ -62,37 +62,20 @@ impl Lazy {
     pub fn new(alloc: Global, capacities: &[u64]) -> Result<Lazy, Memory>
         ensures { IfOk result (IsFresh capacities.now) }
     {
-        let mut resources = Marks::new(alloc);
-        resources.reserve(capacities.len())?;
-        let mut reached = Marks::new(alloc);
-        reached.reserve(capacities.len())?;
-        let mut stale = Marks::new(alloc);
-        stale.reserve(capacities.len())?;
+        let pending = Pending::new(alloc, capacities.len())?;
+        let component = Component::new(alloc, capacities.len())?;
+        let filling = Filling::new(alloc, capacities)?;
         let system = System::new(alloc, capacities)?;
         system.is_sound();
         Ok(Lazy {
             system,
-            pending: Pending {
-                began: Marks::new(alloc),
-                marked: Marks::new(alloc),
-                ended: Marks::new(alloc),
-                resources,
-            },
+            pending,
             rated: Rated {
                 rates: Vec::new(alloc),
                 changed: Marks::new(alloc),
             },
-            component: Component {
-                touched: Marks::new(alloc),
-                reached,
-            },
-            filling: Filling {
-                fixed: Vec::new(alloc),
-                left: Vec::from_slice(alloc, capacities)?,
-                waiting: Vec::from_slice(alloc, capacities)?,
-                levels: Vec::from_slice(alloc, capacities)?,
-                stale,
-            },
+            component,
+            filling,
         })
     }
 

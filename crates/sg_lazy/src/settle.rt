@@ -1,17 +1,18 @@
 //! Settling: the rates of the touched flows are filled anew.
-ghost use Rattle.std.specs.Prelude.{◌≡◌, ◌≢◌, ◌≤◌, ◌<◌, ◌+◌, ℕ, IsSome, AllPairs, length, slice_index};
+ghost use Rattle.std.specs.Prelude.{◌≡◌, ◌≢◌, ◌≤◌, ◌<◌, ◌+◌, ℕ, IfOk, IsSome, AllPairs, length, slice_index};
 ghost use Rattle.sg_maxmin.specs.Sharing.{IsSound, flow_at, uses_at};
 ghost use Rattle.sg_lazy.specs.RunningFlow.{running_flows};
 ghost use Rattle.sg_lazy.specs.Work.{work};
 ghost use Rattle.sg_lazy.specs.kept.Component.{MarksRows, lengths};
-ghost use Rattle.sg_lazy.specs.kept.Held.{HasRoom, IsLazy, IsRefilled, IsWithout, running_in, ended_in};
+ghost use Rattle.sg_lazy.specs.kept.Held.{HasRoom, IsLazy, IsNothing, IsRefilled, IsWithout, running_in, ended_in};
 
 use crate::by_part::{fill_marked, fill_on_all};
 use crate::component::{Component, mark_uses};
 use crate::filling::Filling;
 use crate::writing::write_rates;
-use sg_base::{Marks, Steps};
+use sg_base::{Marks, Memory, Steps};
 use sg_maxmin::System;
+use std::alloc::Global;
 use std::sync::ledger::Ledger;
 
 /// What changed since the last settling.
@@ -23,6 +24,22 @@ pub struct Pending {
     pub ended: Marks,
     // whose capacities changed; a settling adds those that ended flows used
     pub resources: Marks,
+}
+
+impl Pending {
+    /// Nothing changed, of so many resources.
+    pub fn new(alloc: Global, resources: usize) -> Result<Pending, Memory>
+        ensures { IfOk result (IsNothing resources) }
+    {
+        let mut changed = Marks::new(alloc);
+        changed.reserve(resources)?;
+        Ok(Pending {
+            began: Marks::new(alloc),
+            marked: Marks::new(alloc),
+            ended: Marks::new(alloc),
+            resources: changed,
+        })
+    }
 }
 
 /// The rates, and the flows whose rates the last settling changed.

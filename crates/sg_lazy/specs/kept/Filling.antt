@@ -120,6 +120,13 @@ pub record HasPlaces (s : Sharing) (filling : Filling) : Type 0 where
   pub levels_len : length filling.levels.items ≡ length s.capacities
   pub stale_room : filling.stale.room ≡ length s.capacities
 
+-- a place for each of so many resources
+pub record HasResources (resources : ℕ) (filling : Filling) : Type 0 where
+  pub left_len : length filling.left.items ≡ resources
+  pub waiting_len : length filling.waiting.items ≡ resources
+  pub levels_len : length filling.levels.items ≡ resources
+  pub stale_room : filling.stale.room ≡ resources
+
 -- the level of a flow's bound
 abbrev pub bound_limit : List (Option Flow) → ℕ → Option ℕ
 bound_limit slots id = option_map (bound_level (weight_at slots id)) (bound_at slots id)

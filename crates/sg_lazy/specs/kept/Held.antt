@@ -31,6 +31,14 @@ flow_or_none (Some held) = held
 abbrev pub ended_in : List (Option Flow) → List ℕ → List Flow
 ended_in slots ended = map (λ id. flow_or_none (flow_at slots id)) ended
 
+-- nothing changed, and there is room for so many resources
+pub record IsNothing (resources : ℕ) (pending : Pending) : Type 0 where
+  pub began : pending.began.members ≡ []
+  pub marked : pending.marked.members ≡ []
+  pub ended : pending.ended.members ≡ []
+  pub changed : pending.resources.members ≡ []
+  pub room : pending.resources.room ≡ resources
+
 -- there is room for all flows, and for all resources
 pub record HasRoom (s : Sharing) (pending : Pending) (component : Component) (filling : Filling) (rated : Rated) : Type 0 where
   pub began : length s.slots ≤ pending.began.room
