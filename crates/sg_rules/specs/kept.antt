@@ -1,2 +1,3 @@
 -- How the code keeps the names of a tree.
 pub mod NamesView
+pub mod Parts
