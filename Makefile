@@ -7,7 +7,7 @@ BIN = $(DESTDIR)$(PREFIX)/bin
 SHARE = $(DESTDIR)$(PREFIX)/share
 LIBEXEC = $(DESTDIR)$(PREFIX)/libexec/simgrid_replay
 PROGRAM = crates/simgrid_replay/out/simgrid_replay
-TOOLS = explain gantt usage totable report cluster from_simgrid
+TOOLS = explain gantt usage totable report cluster from_simgrid sweep
 
 all proof:
 	.ci/build
