@@ -1,23 +1,14 @@
-#!/usr/bin/env python3
-"""Makes the inputs of one point: a ring of HOSTS hosts over one backbone.
-
-    make HOSTS BACKBONE FOLDER
+"""Makes the inputs of one point: a ring of hosts over one backbone.
 
 A problem of 16e9 flops a step is cut into as many parts as there are hosts. In each of ten steps every actor computes
 its part, sends its border of 10 MB to the next one, and receives that of the one before. All messages share the
-backbone, of which BACKBONE is the bandwidth, as `400MBps`.
+backbone, of which `backbone` is the bandwidth, as `400MBps`.
 """
-import pathlib
-import sys
 
 FLOPS, BYTES, STEPS = 16_000_000_000, 10_000_000, 10
 
 
-def main():
-    if len(sys.argv) != 4:
-        sys.exit(__doc__)
-    hosts, backbone, folder = int(sys.argv[1]), sys.argv[2], pathlib.Path(sys.argv[3])
-
+def make(folder, backbone, hosts):
     platform = ['[[zone]]\nid = "cluster"\nrouting = "Star"\n']
     platform.append(f'\n[[link]]\nid = "backbone"\nbandwidth = "{backbone}"\nlatency = "100us"\n')
     deployment, script = [], []
@@ -34,10 +25,5 @@ def main():
             f"a{number} wait\n",
         ]
 
-    folder.mkdir(parents=True, exist_ok=True)
     for name, lines in (("platform.toml", platform), ("deployment.toml", deployment), ("script.txt", script)):
         (folder / name).write_text("".join(lines))
-
-
-if __name__ == "__main__":
-    main()
