@@ -26,6 +26,23 @@ WORKER = '[[actor]]\nname = "w"\nhost = "h1"\nfunction = "worker"\n'
 MUTEX = '[[mutex]]\nid = "m"\n[[semaphore]]\nid = "s"\ncapacity = 1\n'
 GOOD = ZONE + HOST
 
+# Three hosts in a row: a slow link joins the first two, and the last host is slow.
+THREE = ZONE + TWO + HOST.replace("h1", "h3").replace("1Gf", "1f") + LINK.replace("1MBps", "1Bps") + LINK.replace('"l"', '"k"') + "".join(
+    f'[[route]]\nsrc = "{a}"\ndst = "{b}"\nlinks = {links}\n' for a, b, links in (
+        ("h1", "h2", '["l"]'), ("h2", "h3", '["l", "k"]'), ("h1", "h3", '["k"]')))
+# A Full zone over a Star and a Dijkstra zone, in which each link has a latency of its own.
+ENDS = ("h1", "h2", "d1", "d2", "d3", "x1")
+NESTED = ('zone = [{id = "z", routing = "Full"}, {id = "s", parent = "z", routing = "Star"}, {id = "d", parent = "z", routing = "Dijkstra"}]\n'
+          "host = [" + ", ".join(f'{{id = "{h}", zone = "{ {"h": "s", "d": "d", "x": "z"}[h[0]] }", speed = "1Gf"}}' for h in ENDS) + "]\n"
+          'router = [{id = "gw", zone = "s"}]\nlink = ['
+          + ", ".join(f'{{id = "{name}", bandwidth = "1MBps", latency = "{10**at}ns"' + (', sharing_policy = "SPLITDUPLEX"' if name in "kl" else "")
+                      + "}" for at, name in enumerate("klmnop")) + ']\n'
+          'spoke = [{zone = "s", child = "h1", up = ["k_UP", "m"]}, {zone = "s", child = "h2", up = ["l_UP", "m"], down = ["m", "k_DOWN"]}, '
+          '{zone = "s", child = "gw", up = ["m"]}]\n'
+          'route = [{src = "d1", dst = "d2", links = ["n"]}, {src = "d2", dst = "d3", links = ["o"]}, {src = "d1", dst = "d3", links = ["n", "p", "o"]}]\n'
+          'zone_route = [{src = "s", dst = "d", gw_src = "gw", gw_dst = "d2", links = ["p"]}, {src = "x1", dst = "s", gw_dst = "gw", links = ["o"]}, '
+          '{src = "x1", dst = "d", gw_dst = "d1", links = ["l_UP"]}]\n')
+
 # The platform's text, the program's line, the line and column, what stands over the carets, and a part of what is told.
 PLATFORMS = [
     ("", "no root zone (table 1, row 0, key 0)", "1:1", "", "there is no zone"),
@@ -73,7 +90,21 @@ PLATFORMS = [
     (GOOD + NETWORK + 'latency_factor = 13.01\n', "wrong type (table 8, row 1, key 1)", "9:18", "13.01", 'as `latency_factor = "13.01"`'),
     (GOOD + NETWORK + 'latency_factor = "1000.5"\n', "bad value (table 8, row 1, key 1)", "9:18", '"1000.5"', "above 1,000"),
     (GOOD + NETWORK + 'bandwidth_factor = "0"\n', "bad value (table 8, row 1, key 2)", "9:20", '"0"', "it is zero"),
-    (GOOD + NETWORK + 'window = "4MiB"\n', "bad value (table 8, row 1, key 3)", "9:10", '"4MiB"', "without a unit: `4`"),
+    (GOOD + NETWORK + 'window = "4MiB"\n', "bad value (table 8, row 1, key 3)", "9:10", '"4MiB"', "without a unit: `4194304`"),
+    (GOOD + NETWORK + 'window = "4 ms"\n', "bad value (table 8, row 1, key 3)", "9:10", '"4 ms"', "write the number without a unit\n"),
+    (GOOD.replace('"1Gf"', "2e9"), "wrong type (table 2, row 1, key 3)", "7:9", "2e9", 'a float, `2e9`'),
+    (GOOD.replace('"1Gf"', "+2_000"), "wrong type (table 2, row 1, key 3)", "7:9", "+2_000", 'as `speed = "2000"`'),
+    (GOOD.replace('"1Gf"', "2e9"), "wrong type (table 2, row 1, key 3)", "7:9", "2e9", 'as `speed = "2e9"`'),
+    (GOOD.replace("1Gf", "2 GHz"), "bad value (table 2, row 1, key 3)", "7:9", '"2 GHz"', "did you mean `2Gf`?"),
+    (GOOD.replace("1Gf", "3.5 TFLOPS"), "bad value (table 2, row 1, key 3)", "7:9", '"3.5 TFLOPS"', "did you mean `3.5Tf`?"),
+    (ZONE + LINK.replace("1MBps", "10 Gbit/s"), "bad value (table 4, row 1, key 2)", "6:13", '"10 Gbit/s"', "did you mean `10Gbps`?"),
+    (ZONE + LINK.replace("1MBps", "10MiB/s"), "bad value (table 4, row 1, key 2)", "6:13", '"10MiB/s"', "did you mean `10MiBps`?"),
+    (ZONE + LINK + 'latency = "1min"\n', "bad value (table 4, row 1, key 3)", "7:11", '"1min"', "did you mean `1m`?"),
+    (ZONE + LINK + 'latency = "5 usec"\n', "bad value (table 4, row 1, key 3)", "7:11", '"5 usec"', "did you mean `5us`?"),
+    (ZONE + LINK + 'policy = "SHARED"\n', "unknown name (table 4, row 1, key 0)", "7:1", "policy", "did you mean `sharing_policy`?"),
+    (ZONE + TWO + LINK + ROUTE.replace("src", "from"), "unknown name (table 5, row 1, key 0)", "16:1", "from", "did you mean `src`?"),
+    (ZONE + TWO + LINK + ROUTE.replace("dst", "to"), "unknown name (table 5, row 1, key 0)", "17:1", "to", "did you mean `dst`?"),
+    (ZONE + HOST.replace("id =", "name ="), "unknown name (table 2, row 1, key 0)", "5:1", "name", "did you mean `id`?"),
     (GOOD + NETWORK + 'weight_s = "20537"\n', "unknown name (table 8, row 1, key 0)", "9:1", "weight_s", "`window`"),
     (GOOD + NETWORK * 2, "over a limit (table 8, row 0, key 0)", "9:1", "[[network]]", "at most 1 row"),
     (GOOD + PROFILE.replace('host = "h1"\n', ""), "missing key (table 9, row 1, key 1)", "8:1", "[[profile]]", 'or `link = "l1"`'),
@@ -142,6 +173,8 @@ DEPLOYMENTS = [
     (ACTOR + "x = \n", "not TOML", "5:5", "", "a value was expected"),
     (ZONE, "unknown name (table 0, row 0, key 0)", "1:1", "[[zone]]", "a table of the platform"),
     (ACTOR + "stop = 1\n", "unknown name (table 1, row 1, key 0)", "5:1", "stop", "`name`, `host`, `function`, `argument` and `start`"),
+    (ACTOR.replace("name =", "id ="), "unknown name (table 1, row 1, key 0)", "2:1", "id", "did you mean `name`?"),
+    (ACTOR.replace('name = "p0"\n', ""), "missing key (table 1, row 1, key 1)", "1:1", "[[actor]]", 'as `name = "p0"`'),
     (ACTOR + "start = 0\n", "wrong type (table 1, row 1, key 5)", "5:9", "0", "as `start = false`"),
     (ACTOR + 'start = "no"\n', "wrong type (table 1, row 1, key 5)", "5:9", '"no"', "write `start = false`, without quotes"),
     (ACTOR.replace("h1", "h9"), "unknown name (table 1, row 1, key 2)", "3:8", '"h9"', "a host of the platform: `h1`"),
@@ -181,14 +214,21 @@ SCRIPTS = [
     ("p0 reduce 1e6\n", "wrong number of arguments", "1:14", "`reduce` takes an amount and an amount"),
     ("p0 gather 1e6\n", "unknown action", "1:4", "`bcast`, `reduce`, `allreduce` and `alltoall`"),
     ("p0 allReduce 1e6 1e6\n", "unknown action", "1:4", "did you mean `allreduce`?"),
-    ("p0 bcast 1Gf\n", "bad amount", "1:10", "without a unit: `1`"),
+    ("p0 bcast 1Gf\n", "bad amount", "1:10", "without a unit: `1e9`"),
+    ("p0 bcast 10MB\n", "bad amount", "1:10", "without a unit: `10e6`"),
+    ("p0 bcast 1.5e3kB\n", "bad amount", "1:10", "without a unit: `1.5e6`"),
+    ("p0 bcast 2KiB\n", "bad amount", "1:10", "without a unit: `2048`"),
+    ("p0 bcast 5B\n", "bad amount", "1:10", "without a unit: `5`"),
+    ("p0 bcast 5Mb\n", "bad amount", "1:10", "write the number without a unit\n"),
+    ("p0 bcast 5x\n", "bad amount", "1:10", "write the number without a unit\n"),
     ("p0 compute 1 #note\n", "bad amount", "1:14", "a comment stands on a line of its own"),
     ("p0 compute 1 0\n", "bad amount", "1:14", "a priority: a number above 0 up to 10^3"),
     ("p0 compute 1 1001\n", "bad amount", "1:14", "above 10^3"),
     ("p0 send p0 1 1Gf\n", "bad amount", "1:14", "`Gf` is no unit of a bandwidth"),
     ("p0 isend p0 1 7bps\n", "bad amount", "1:15", "zero when rounded down"),
     ("p0 compute 1e16\n", "bad amount", "1:12", "above 10^15"),
-    ("p0 compute 1Gf\n", "bad amount", "1:12", "without a unit: `1`"),
+    ("p0 compute 1Gf\n", "bad amount", "1:12", "without a unit: `1e9`"),
+    ("p0 compute 3Tflops\n", "bad amount", "1:12", "without a unit: `3e12`"),
     ("p0 compute -5\n", "bad amount", "1:12", "numbers are never below 0"),
     ("p0 compute 1.5.5\n", "bad amount", "1:12", "`.5` is no unit"),
     ("p0 compute 123456789012345678901234\n", "bad amount", "1:12", "more than 20 digits"),
@@ -313,6 +353,65 @@ class Kinds(unittest.TestCase):
         done = tool("explain", "p", "d", "s", given=done.stdout + done.stderr, folder=folder.name)
         self.assertEqual(done.returncode, 0)
         self.assertIn("script line 2: unknown action\n  --> s:2:4\n", done.stdout.decode())
+
+    def ended(self, script, *options, deployment=None, platform=None):
+        """What is told of how a run of three actors ends, with the files of the run at hand."""
+        folder = Folder(p=platform or THREE, d=deployment or "".join(
+            ACTOR.replace("p0", name).replace("h1", host) for name, host in (("a", "h1"), ("b", "h2"), ("c", "h3"))), s=script)
+        done = tool("explain", "p", "d", "s", given=folder.replayed(*options).stdout, folder=folder.name)
+        self.assertEqual(done.returncode, 0)
+        return done.stdout.decode()
+
+    def test_who_is_missing_at_the_barrier(self):
+        for script, part in (
+                ("a barrier\nb barrier\n", "2 of 3 members are at the barrier; `c` has no such line: it ended at 0\n"),
+                ("a barrier\nb compute 5e8\n", "1 of 3 members are at the barrier; `b` has no such line: it ended at 0.5; `c` has no such line: "
+                 "it ended at 0\n"),
+                ("a barrier\nb barrier\nc barrier\na barrier\nb barrier\n", "; `c` has only 1 such line: it ended at 0\n"),
+                ("a barrier\nb barrier\nc recv a\n", "2 of 3 members are at the barrier; `c` waits for a message from `a`\n"),
+                ("a barrier\nb kill c\nb barrier\nc sleep 9\nc barrier\n", "`c` has only 1 such line: `b` killed it at 0\n"),
+                ("a barrier\nb suspend c\nb barrier\nc sleep 9\nc barrier\n", "members are at the barrier; `c` is suspended\n")):
+            with self.subTest(script):
+                self.assertIn(part, self.ended(script))
+        never = "".join(ACTOR.replace("p0", name) for name in "ab") + "start = false\n"
+        self.assertIn("1 of 2 members are at the barrier; `b` has no such line: it never began\n", self.ended("a yield\na barrier\n", deployment=never))
+        self.assertIn("`c` has no such line: it ended at 0\n", self.ended("a barrier\nb barrier\n", "--quiet"))
+
+    def test_what_a_wait_waits_for(self):
+        script = "a isend b 1000\na irecv b\nb recv a\na wait\na wait\n"
+        self.assertIn("waits for its oldest request: `irecv b` of 0; `b` has sent 0 of 1 messages for which `a` asked\n", self.ended(script))
+        self.assertIn("with the trace lines", self.ended(script, "--quiet"))
+        self.assertIn("waits for its oldest request: `isend b 7` of 1; `b` has received 0 of 1 messages from `a`\n",
+                      self.ended("a compute 1e9\na isend b 7\na wait\n"))
+        self.assertIn("waits for its oldest request: `isend b 7`\n", self.ended("a isend b 7\na wait\n", "--quiet"))
+        self.assertIn("a circle: `a` waits for `b` waits for `a`\n", self.ended("a irecv b\nb irecv a\na wait\nb wait\n"))
+
+    def test_what_has_no_share_left(self):
+        """A host of 1 flop a second and a link of 1 byte a second are each used twice."""
+        twice = "".join(ACTOR.replace("p0", name).replace("h1", host) for name, host in (("a", "h1"), ("b", "h2"), ("c", "h3"), ("d", "h3")))
+        told = self.ended("c compute 9\nd compute 9\n", deployment=twice)
+        self.assertIn("the host `h3` has no share left: 1 flop a second (in line 12 of p) for 2 users, `c`, `d`\n", told)
+        told = self.ended("a send b 9\na send c 9\nb irecv a\nb irecv c\nb wait\nc send b 9\n")
+        self.assertIn("the link `l` has no share left: 1 byte a second (in line 16 of p) for 2 users, `a` to `b`, `c` to `b`\n", told)
+        self.assertNotIn("the link `k`", told)
+        self.assertNotIn("circle", told)
+        told = self.ended("a compute 5e8\na compute 1e9\n", platform=THREE + PROFILE.replace('"2"', '"1.5"'))
+        self.assertIn("the host `h1` has no share left: 0 flops a second (in line 34 of p) for 1 user, `a`\n", told)
+        told = self.ended("c compute 9 2\n")
+        self.assertIn("the host `h3` has no share left: 1 flop a second (in line 12 of p) for 1 user, `c`; their priorities add up to more\n", told)
+
+    def test_the_route_of_a_message(self):
+        """The routes over stars, zones and least paths are those that the trace of a run must have taken: each link has a latency of its own."""
+        explained = module("explain")
+        platform = explained.Platform("p", NESTED.encode())
+        self.assertEqual(platform.first(), [])
+        folder = Folder(p=NESTED, d="".join(ACTOR.replace("p0", "a" + host).replace("h1", host) for host in ENDS))
+        routes, pairs = explained.Routes(platform), [(a, b) for a in ENDS for b in ENDS if a != b]
+        for a, b in pairs:
+            links = routes.between(a, b)
+            folder.write("s", f"a{a} send a{b} 0\na{b} recv a{a}\n")
+            wanted = sum(10 ** "klmnop".index(link[0]) for link in links)
+            self.assertIn(f"Simulation time {wanted // 10**9}.{wanted % 10**9:09d}\n", folder.replayed().stdout.decode(), (a, b, links))
 
     def test_endings(self):
         for given, part in ENDINGS:
