@@ -16,6 +16,10 @@ HOST = '[[host]]\nid = "h1"\nzone = "z"\nspeed = "1Gf"\n'
 ACTOR = '[[actor]]\nname = "p0"\nhost = "h1"\nfunction = "replay"\n'
 
 
+sys.path.insert(0, str(ROOT / "tools"))
+sys.dont_write_bytecode = True
+
+
 def module(name):
     """A tool as a module."""
     key = "tool_" + name

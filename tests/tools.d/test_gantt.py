@@ -1,7 +1,7 @@
-"""tools/gantt: lanes, colours, axis and tool tips of the chart; and what gantt, usage and totable share."""
+"""tools/gantt: lanes, colours, axis and tool tips of the chart; and the reading of traces, which gantt, usage and totable share."""
 
+import io
 import random
-import re
 import subprocess
 import sys
 import unittest
@@ -95,10 +95,45 @@ class Charts(unittest.TestCase):
         """A call that failed has no duration: its bar begins where its actor was free, and one in its call is a mark."""
         text = traces.GOOD + "[h1:a:(1) 2.500000000] compute 5 failed\n[h1:a:(1) 2.500000000] compute 5 failed\nSimulation time 2.500000000\n"
         svg = chart(text)
-        bar, = [rect for rect in svg.iter(SVG + "rect") if rect.get("class") == "kind-failed"]
+        bar, = [rect for rect in svg.iter(SVG + "rect") if rect.get("class") == "kind-failed-compute"]
+        self.assertIn("[h1:a:(1) 2.500000000] compute 5 failed: the host h1 was off", tips(bar))
         whole, = [rect for rect in svg.iter(SVG + "rect") if rect.get("class") == "kind-compute"]
         self.assertAlmostEqual(float(bar.get("width")) / float(whole.get("width")), 1.5, 2)
         self.assertEqual(len([rect for rect in svg.iter(SVG + "rect") if rect.get("class") == "mark"]), 1)
+
+    def test_whose_failure_it_was(self):
+        """a's request fails since b is killed, c's message for another reason, and c's computation with its host."""
+        text = ("[h1:a:(1) 0.000000000] isend b 5 0.000000000\n[h3:c:(3) 1.000000000] sleep 1.000000000\n[h3:c:(3) 1.000000000] kill b 0.000000000\n"
+                "[h1:a:(1) 1.000000000] wait failed\n[h3:c:(3) 2.000000000] send a 7 failed\n[h1:a:(1) 2.000000000] recv c 7 failed\n"
+                "[h3:c:(3) 3.000000000] compute 9 failed\nSimulation time 3.000000000\n")
+        told = tips(chart(text))
+        for line in ("[h1:a:(1) 1.000000000] wait failed: b was killed by c",
+                     "[h3:c:(3) 2.000000000] send a 7 failed: a link between c and a, or the host of one of them, was off",
+                     "[h3:c:(3) 3.000000000] compute 9 failed: the host h3 was off"):
+            self.assertIn(line, told)
+        texts = [text.text for text in chart(text).iter(SVG + "text")]
+        self.assertEqual([texts.count(name) for name in ("computed until its host went off", "message failed on its way, or while waited for")], [1, 1])
+
+    def test_suspended(self):
+        """Of the 2 s of a compute, 1 s in the middle is held; the stretch behind is computing again."""
+        text = ("[g:b:(2) 0.500000000] sleep 0.500000000\n[g:b:(2) 0.500000000] suspend a 0.000000000\n[g:b:(2) 1.500000000] sleep 1.000000000\n"
+                "[g:b:(2) 1.500000000] resume a 0.000000000\n[h:a:(1) 2.000000000] compute 1 2.000000000\nSimulation time 2.000000000\n")
+        bars = [rect for rect in lanes(chart(text))[0].iter(SVG + "rect")][1:]
+        self.assertEqual([bar.get("class") for bar in bars], ["kind-compute", "kind-held", "kind-compute"])
+        self.assertAlmostEqual(float(bars[1].get("width")), 2 * float(bars[0].get("width")), 1)
+
+    def test_very_many_pieces(self):
+        """More pieces than a chart holds, on few lanes: the picture is as wide, and the long one among them is seen."""
+        text = "".join(f"[h:a:(1) {i // 10**5}.{i % 10**5:05d}0000] compute 5 0.000010000\n" for i in range(1, 200001))
+        text += "[h:a:(1) 4.000000000] sleep 2.000000000\nSimulation time 4.000000000\n"
+        svg = chart(text)
+        classes = [rect.get("class") for rect in svg.iter(SVG + "rect") if rect.get("class", "").startswith("kind")]
+        self.assertGreater(classes.count("kind-compute"), 400)
+        self.assertLess(len(classes), 2000)
+        longest, = [rect for rect in svg.iter(SVG + "rect") if rect.get("class") == "kind-sleep"]
+        self.assertGreater(float(longest.get("width")), 400)
+        more = sum(int(line.split()[2]) + 8 for line in tips(svg) if line.startswith("... and"))
+        self.assertEqual(more, 200000)
 
     def test_other_actors(self):
         """A join that takes time is waiting, a create is a mark; who is suspended at the end is drawn as blocked; energy isn't drawn."""
@@ -127,14 +162,7 @@ class Shared(unittest.TestCase):
 
     TOOLS = ("gantt", "usage", "totable")
 
-    def test_shared_lines_are_the_same(self):
-        parts = []
-        for name in self.TOOLS:
-            text = (ROOT / "tools" / name).read_text(encoding="utf-8")
-            parts.append(re.search(r"^# A trace: .*?^# The end of what is the same -+$", text, re.S | re.M)[0])
-        self.assertEqual(len(set(parts)), 1)
-
-    def test_a_bad_line_is_told_and_nothing_is_written(self):
+    def test_a_bad_line_is_told_and_nothing_is_drawn(self):
         for index, (text, told) in enumerate(traces.BAD):
             for name in self.TOOLS if index % 5 == 0 else ("gantt",):
                 with self.subTest(text, tool=name):
@@ -142,7 +170,8 @@ class Shared(unittest.TestCase):
                     out = folder.path / "out"
                     done = tool(name, "trace", *(["-o", "out"] if name == "gantt" else []), folder=folder.name)
                     self.assertEqual(done.returncode, 1)
-                    self.assertEqual(done.stdout, b"")
+                    # A table has the rows in front of the bad line.
+                    self.assertLess(done.stdout.count(b"\n"), text.count("\n") + 1 if name == "totable" else 1)
                     self.assertIn(told, done.stderr.decode())
                     self.assertFalse(out.exists())
 
@@ -163,6 +192,8 @@ class Shared(unittest.TestCase):
         for words in (["--width", "x"], ["--from", "-1"], ["--from", "2", "--to", "1"], ["-o", "no/where"]):
             self.assertEqual(tool("gantt", "trace", *words, folder=folder.name).returncode, 2)
         for path in (ROOT / "tools").iterdir():
+            if path.suffix == ".py" or path.is_dir():
+                continue
             self.assertIn(b"exit status:", tool(path.name, "--help").stdout)
 
     def test_spoiled_traces(self):
@@ -175,14 +206,15 @@ class Shared(unittest.TestCase):
             text = text[:at] + rng.choice(["", "0", "9", ".", "(", "\n", " ", "refused", "p1", "\x00", "wait", "99999999999999"]) + text[
                 at + rng.choice([0, 1, 2, 30]):]
             try:
-                trace = GANTT.read_trace(text.split("\n")[:-1])
+                lines = text.splitlines(keepends=True)
+                drawn, used = GANTT.lanes_of(lines), usage.usage_of(lines, 5)
             except GANTT.BadTrace as told:
                 self.assertRegex(str(told), "^line [0-9]+: ")
                 bad += 1
                 continue
-            ElementTree.fromstring(GANTT.Chart(trace).svg())
-            usage.table(trace, "both", 5)
-            list(totable.rows_of(trace, True))
+            ElementTree.fromstring(GANTT.Chart(drawn).svg())
+            usage.table(used, "both", 5)
+            totable.write_table(GANTT.Reader(lines, all_met=True), totable.Csv(True), True, io.StringIO())
         self.assertGreater(bad, 100)
 
     def test_output_that_cannot_be_written(self):
@@ -198,12 +230,10 @@ class Shared(unittest.TestCase):
         messages = 0
         for number in range(30):
             folder = Folder(**traces.fatpipe(number))
-            trace = GANTT.read_trace(folder.replayed().stdout.decode().splitlines())
-            met = GANTT.meetings(trace)
-            for action in trace.actions:
-                if action.words[0] in ("send", "recv"):
+            for action in GANTT.Reader(folder.replayed().stdout.decode().splitlines()):
+                if action.call.word in ("send", "recv"):
                     messages += 1
-                    self.assertEqual(action.end - met[action.number], traces.LATENCY + int(action.words[2]) * traces.BYTE, action)
+                    self.assertEqual(action.end - action.met, traces.LATENCY + int(action.call.amount) * traces.BYTE, action.text)
         self.assertGreater(messages, 200)
 
 

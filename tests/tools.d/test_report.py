@@ -115,6 +115,14 @@ class Pages(unittest.TestCase):
             self.assertIn(part, text)
         self.assertEqual(text.count('class="lane"'), 3)
 
+    def test_energies_and_failures(self):
+        text = page("[h1:a:(1) 1.000000000] compute 5 failed\nSimulation time 1.000000000\nenergy h1 20.000000000000\nenergy h2 1.500000000000\n")
+        for part in ("the host h1 was off", "What failed", "21.500000000000 J", "20.000000000000</td>", "1.500000000000</td>", ">h2<"):
+            self.assertIn(part, text)
+        plain = page(example("ring"))
+        self.assertNotIn("What failed", plain)
+        self.assertNotIn("joules", plain)
+
     def test_endings(self):
         for ending, part in (("deadlock at 3.000000000\nblocked [h1:a:(1)] recv b", "Deadlock"), ("starved at 3.000000000", "Starvation"),
                              ("budget of 5 events used at 3.000000000", "The budget of events was used up"), ("", "The trace has no ending"),

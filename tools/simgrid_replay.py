@@ -1,0 +1,525 @@
+"""Runs simgrid_replay from Python, and reads its traces. It needs Python's standard library alone.
+
+    from simgrid_replay import run
+    result = run("platform.toml", "deployment.toml", "script.txt")
+    print(result.word, result.seconds)
+
+The program is the one that the environment variable SIMGRID_REPLAY names, or one beside this file, or one on PATH.
+"""
+
+import functools
+import io
+import json
+import os
+import re
+import shutil
+import subprocess
+import sys
+import tempfile
+from collections import deque
+from decimal import Decimal
+from pathlib import Path
+from typing import NamedTuple
+
+__all__ = ["run", "toml", "Result", "Row", "Fault", "Reader", "BadTrace", "STATUSES"]
+
+# A word for each exit status of the program.
+STATUSES = {0: "completed", 2: "invalid arguments", 3: "platform refused", 4: "deployment refused", 5: "bad script line", 6: "deadlock",
+            7: "starved", 8: "budget used up", 9: "no route", 10: "unreadable", 11: "unwritable", 12: "out of memory", 101: "not built"}
+# How a run may end that is no fault of its inputs.
+ENDED = (0, 6, 7, 8)
+
+
+# Runs --------------------------------------------------------------------------------------------------------------------
+
+class Row(NamedTuple):
+    """An action of the trace. `seconds` is how long it took, None where it was refused or failed."""
+    host: str
+    actor: str
+    number: int
+    date: Decimal
+    action: str
+    words: tuple
+    seconds: Decimal
+    outcome: str
+
+
+class Fault(Exception):
+    """The run was refused or cut off: its status with its word, the line that the program wrote, and what `explain` says of it.
+
+    `result` has what was done before.
+    """
+
+    def __init__(self, result, line, explanation):
+        super().__init__(explanation or line or result.word)
+        self.status, self.word, self.result = result.status, result.word, result
+        self.line, self.explanation = line, explanation
+
+
+class Result:
+    """How a run ended, and what it wrote. What is told of the trace is read from it when it is first asked for."""
+
+    def __init__(self, status, text):
+        self.status, self.word, self.text = status, STATUSES.get(status, f"status {status}"), text
+
+    def __repr__(self):
+        return f"<Result: {self.word}, {self.seconds} s>"
+
+    @functools.cached_property
+    def _read(self):
+        reader = Reader(io.StringIO(self.text))
+        rows = [row_of(action) for action in reader]
+        return rows, reader
+
+    @property
+    def rows(self):
+        """The actions of the trace in order, each a Row."""
+        return self._read[0]
+
+    @property
+    def seconds(self):
+        """The date at which the run ended, exactly; of one that was cut off by a fault, that of its last action."""
+        return decimal(self._read[1].end)
+
+    @property
+    def blocked(self):
+        """The calls in which actors were blocked at the end, each a Row without how long."""
+        return [row_of(action) for action in self._read[1].blocked if action.call.word != "suspended"]
+
+    @property
+    def suspended(self):
+        """The names of the actors that were suspended at the end."""
+        return [action.actor.name for action in self._read[1].blocked if action.call.word == "suspended"]
+
+    @property
+    def joules(self):
+        """The energy of each host that has `power`, by its name."""
+        return {host: Decimal(joules) for host, joules in self._read[1].energies}
+
+    @property
+    def events(self):
+        """How many events there were, where the budget of them was used up; else None."""
+        match = re.match("budget of ([0-9]+) events", self._read[1].ending)
+        return int(match[1]) if match else None
+
+    def to_pandas(self):
+        """The rows as a DataFrame of pandas, in which dates and durations are floats."""
+        import pandas
+        frame = pandas.DataFrame(self.rows, columns=Row._fields)
+        return frame.assign(words=frame["words"].map(" ".join), **{
+            name: frame[name].map(float, na_action="ignore").astype(float) for name in ("date", "seconds")})
+
+
+def run(platform, deployment, script=None, *, budget=None, quiet=False, threads=None, timeout=None, program=None):
+    """Runs a script, or masters and workers where there is none, and gives the Result; a fault is raised as `Fault`.
+
+    A platform and a deployment are the name of a file, a text (which has more than one line), or a dictionary of tables. A
+    script is the name of a file, a text, or lines. With `timeout`, in seconds, `subprocess.TimeoutExpired` is raised where the
+    program takes longer.
+    """
+    with tempfile.TemporaryDirectory(prefix="simgrid_replay-") as folder:
+        names = [file_of(platform, folder, "platform.toml"), file_of(deployment, folder, "deployment.toml")]
+        names += [file_of(script, folder, "script.txt")] if script is not None else []
+        options = ["--quiet"] if quiet else []
+        for name, value in (("--budget", budget), ("--nthreads", threads)):
+            options += [name, str(whole(value))] if value is not None else []
+        command = [program or find_program(), "replay" if script is not None else "run", *options, "--", *names]
+        done = subprocess.run(command, stdin=subprocess.DEVNULL, capture_output=True, timeout=timeout)
+        result = Result(done.returncode, done.stdout.decode("ascii", "backslashreplace"))
+        if result.status not in ENDED:
+            line = done.stderr.decode("utf-8", "replace").rstrip("\n")
+            raise Fault(result, line, explanation(line, names) if line and result.status != 101 else "")
+        return result
+
+
+def whole(value):
+    """The value as a whole number, also where it is written as a float, as 1e6."""
+    if int(value) != value:
+        raise ValueError(f"{value!r} is no whole number")
+    return int(value)
+
+
+def file_of(part, folder, name):
+    """The name of the file that a part is, which is written into the folder where it is none yet."""
+    if isinstance(part, os.PathLike) or (isinstance(part, str) and part and "\n" not in part):
+        return os.fspath(part)
+    if isinstance(part, dict):
+        part = toml(part)
+    elif not isinstance(part, (str, bytes)):
+        part = "".join(f"{line}\n" for line in part)
+    path = os.path.join(folder, name)
+    with open(path, "wb") as file:
+        file.write(part.encode() if isinstance(part, str) else part)
+    return path
+
+
+def toml(tables):
+    """A dictionary of tables, each a list of rows, as TOML."""
+    lines = []
+    for name, rows in tables.items():
+        if isinstance(rows, (list, tuple)) and rows and all(isinstance(row, dict) for row in rows):
+            lines += [f"{key_text(name)} = [", *(f"  {value_text(row)}," for row in rows), "]"]
+        else:
+            lines.append(f"{key_text(name)} = {value_text(rows)}")
+    return "\n".join(lines) + "\n"
+
+
+def key_text(name):
+    return name if re.fullmatch("[A-Za-z0-9_-]+", name) else value_text(name)
+
+
+def value_text(value):
+    if isinstance(value, bool):
+        return "true" if value else "false"
+    if isinstance(value, str):
+        # JSON lets the one character stand that TOML wants escaped.
+        return json.dumps(value, ensure_ascii=False).replace("\x7f", "\\u007f")
+    if isinstance(value, dict):
+        return "{" + ", ".join(f"{key_text(key)} = {value_text(item)}" for key, item in value.items()) + "}"
+    if isinstance(value, (list, tuple)):
+        return "[" + ", ".join(map(value_text, value)) + "]"
+    if isinstance(value, (int, float)):
+        return str(value)
+    raise TypeError(f"{value!r} can't be written as TOML")
+
+
+# Where the program and `explain` are: in a checkout, where `make install` puts them, and where a package has them.
+HERE = Path(__file__).resolve().parent
+
+
+def find_program():
+    """The program's file, or FileNotFoundError."""
+    named = os.environ.get("SIMGRID_REPLAY")
+    if named:
+        return named
+    for folder in (HERE, HERE.parent, *prefixes("bin")):
+        path = folder / "simgrid_replay"
+        if path.is_file() and os.access(path, os.X_OK):
+            return str(path)
+    found = shutil.which("simgrid_replay")
+    if found is None:
+        raise FileNotFoundError("there is no program simgrid_replay: set SIMGRID_REPLAY to its file, or put it on PATH")
+    return found
+
+
+def prefixes(name):
+    """This folder of each prefix under which the module may be installed."""
+    return [parent.parent / name for parent in HERE.parents if parent.name == "lib"]
+
+
+def explanation(line, names):
+    """What `explain` says of a line of the program, or "" where that tool isn't there."""
+    folders = (HERE, *(folder / "simgrid_replay" for folder in prefixes("libexec")))
+    tool = next((str(folder / "explain") for folder in folders if (folder / "explain").is_file()), None)
+    command = [sys.executable, "-B", tool] if tool else [shutil.which("simgrid_replay-explain")]
+    if command[-1] is None:
+        return ""
+    done = subprocess.run([*command, *names], input=line, capture_output=True, text=True, encoding="utf-8")
+    return done.stdout.rstrip("\n")
+
+
+# Traces ------------------------------------------------------------------------------------------------------------------
+
+NAME, DATE, AMOUNT = "[A-Za-z0-9_.-]{1,64}", r"[0-9]{1,24}\.[0-9]{9}", "[0-9]{1,20}"
+CALL = re.compile(rf"(?:compute ({AMOUNT})|(?:sleep|wait|barrier|yield)|i?send ({NAME}) ({AMOUNT})|recv ({NAME})(?: ({AMOUNT}))?|"
+                  rf"(?:irecv|lock|unlock|acquire|release|create|join|kill|suspend|resume) ({NAME}))")
+WHO = re.compile(rf"\[({NAME}):({NAME}):\(([1-9][0-9]{{0,8}})\)")
+# A line of an action in pieces: who and what are judged once for each text.
+LINE = re.compile(r"(\[[^ \n]+) ([0-9]{1,24})\.([0-9]{9})\] ([^\r\n]+) (?:([0-9]{1,24})\.([0-9]{9})|(refused|failed))\r?\n?")
+BLOCKED = re.compile(r"(?:blocked (\[[^ ]+)\] (.+)|suspended (\[[^ ]+)\])")
+ENERGY = re.compile(rf"energy ({NAME}) ([0-9]{{1,40}}\.[0-9]{{12}})")
+DATED_END = re.compile(rf"(?:Simulation time|deadlock at|starved at|budget of [0-9]+ events used at) ({DATE})")
+FAULT_END = re.compile(r"script line [0-9]+: .+|cannot read the script|no route from .+|route from .+: more than 64 links")
+# How a run ended, by the beginning of its ending line.
+ENDING_WORDS = (("Simulation time", 0), ("deadlock", 6), ("starved", 7), ("budget", 8), ("script line", 5), ("cannot read", 10), ("", 9))
+SIDES = {"send": 1, "isend": 1, "recv": 2, "irecv": 2}
+# How many texts of calls are known at a time.
+MOST_CALLS = 20_000
+
+
+class BadTrace(ValueError):
+    """A line, by its number, isn't one of a trace."""
+
+
+class Actor:
+    """An actor of a trace. `free` is when it was free last, `requests` are the calls for which it hasn't waited yet."""
+
+    __slots__ = ("host", "name", "id", "free", "requests", "sends_itself", "more")
+
+    def __init__(self, host, name, id):
+        self.host, self.name, self.id, self.free = host, name, id, 0
+        self.requests, self.sends_itself, self.more = deque(), False, None
+
+
+class Call:
+    """What an actor does: its words, and which side of a message it is: 1 the sender's, 2 the receiver's, else 0."""
+
+    __slots__ = ("word", "other", "amount", "text", "side", "more")
+
+    def __init__(self, text, other, amount):
+        self.text, self.other, self.amount, self.more = text, other, amount, None
+        self.word = text.partition(" ")[0]
+        self.side = SIDES.get(self.word, 0)
+
+
+class Action:
+    """A line of a trace; dates are whole nanoseconds. What is blocked or suspended at the end of the run has no line of its own.
+
+    `met` is when both sides of a message were there, None where that isn't known. `held` are the spans, since its actor was
+    free, in which that was suspended. `request` is the call for which a `wait` waited.
+    """
+
+    # What most actions don't have stands here alone, which saves time.
+    met, open, held, request = None, False, (), None
+
+    def __init__(self, number, line, actor, begin, end, call, how):
+        self.number = number
+        self.line = line
+        self.actor = actor
+        self.begin = begin
+        self.end = end
+        self.call = call
+        self.how = how
+
+    @property
+    def text(self):
+        return self.line.rstrip("\r\n")
+
+
+class Reader:
+    """Reads the lines of a trace; iterating over it gives the actions in order, and raises `BadTrace` at a line that is none.
+
+    Behind the last action `ending` is the text of the ending ("" where there is none), `end` its date, `blocked` what is
+    blocked or suspended then, `energies` the hosts with their joules, and `count` how many actions there were. It keeps what it
+    needs of lines that can't be judged yet: an action is given once it is known when both sides of its message were there; of
+    `isend` and `irecv`, whose other side may come late or never, only with `all_met`.
+    """
+
+    def __init__(self, lines, all_met=False):
+        self.lines, self.all_met = lines, all_met
+        self.actors, self.calls, self.ids = {}, {}, {}
+        self.waiting = ({}, {})     # sends, and receives, whose other side isn't there, by the two actors
+        self.holds, self.kills = {}, {}
+        self.ending, self.end, self.blocked, self.energies, self.count = "", 0, [], [], 0
+
+    def __iter__(self):
+        number, end, before, held = 0, 0, None, deque()
+        actors, calls, holds, all_met, fullmatch = self.actors, self.calls, self.holds, self.all_met, LINE.fullmatch
+        lines = iter(self.lines)
+        for line in lines:
+            number += 1
+            match = fullmatch(line)
+            if match is None:
+                self.close(number, line, lines)
+                break
+            who, whole, part, words, took, rest, how = match.groups()
+            actor = actors.get(who) or self.actor(who, number, line)
+            call = calls.get(words) or self.call(words, number, line)
+            date, free = int(whole + part), actor.free
+            # The line of a failed call tells no duration: it began when its actor was free.
+            begin = date - int(took + rest) if took is not None else date if how == "refused" else free
+            if date < end or begin < free:
+                raise BadTrace(f"line {number}: {'the date falls' if date < end else 'it began before the actor was free'}")
+            end = actor.free = date
+            action = Action(number, line, actor, begin, date, call, how or "done")
+            if holds and actor.name in holds:
+                self.held(action, free)
+            if call.side:
+                self.meet(action, before)
+            elif call.word == "wait":
+                if actor.requests and how != "refused":
+                    action.request = actor.requests.popleft()
+            elif call.other is not None:
+                self.order(action)
+            before = action
+            if held or (action.open and (all_met or call.word == "send")):
+                self.end = end
+                held.append(action)
+                # Both sides of a message that is done have the same date.
+                while held and (not held[0].open or (not all_met and (held[0].call.word != "send" or held[0].end < date))):
+                    yield held.popleft()
+            else:
+                yield action
+            self.end, self.count = end, number
+        for action in self.blocked:
+            if action.call.side:
+                self.meet(action, None)
+        yield from held
+
+    def actor(self, who, number, line):
+        """The actor of a line of which none stood in front."""
+        match = WHO.fullmatch(who)
+        if match is None:
+            raise no_line(number, line)
+        host, name, id = match[1], match[2], int(match[3])
+        actor = self.ids.setdefault(id, Actor(host, name, id))
+        if (actor.host, actor.name) != (host, name):
+            raise BadTrace(f"line {number}: actor {id} was {actor.name} on {actor.host} before")
+        self.actors[who] = actor
+        return actor
+
+    def call(self, words, number, line):
+        match = CALL.fullmatch(words)
+        if match is None:
+            raise no_line(number, line)
+        if len(self.calls) == MOST_CALLS:
+            self.calls.clear()
+        flops, receiver, sent, sender, taken, other = match.groups()
+        call = self.calls[words] = Call(words, receiver or sender or other, flops or sent or taken)
+        return call
+
+    def meet(self, action, before):
+        """Looks for the other side of a message.
+
+        The sends of one actor to another meet its receives in order. A worker, which sends nothing, receives from all of its
+        masters; its line follows that of the master at once.
+        """
+        actor, call = action.actor, action.call
+        name, other = actor.name, call.other
+        if name == other:
+            if call.side == 1:
+                actor.sends_itself = True
+            elif call.word == "recv" and not actor.sends_itself:
+                sent = before and before.call
+                if sent and sent.word == "send" and sent.other == name and sent.amount == call.amount:
+                    action.met = before.met = max(action.begin, before.begin)
+                    before.open = False
+                    self.waiting[0][before.actor.name, name].pop()
+                return
+        if call.word[0] == "i":
+            actor.requests.append(call)
+        pair = (name, other) if call.side == 1 else (other, name)
+        others = self.waiting[2 - call.side].get(pair)
+        if others:
+            there = others.popleft()
+            met = there.begin if there.begin > action.begin else action.begin
+            action.met = there.met = met
+            there.open = False
+        else:
+            action.open = True
+            queue = self.waiting[call.side - 1].get(pair)
+            if queue is None:
+                queue = self.waiting[call.side - 1][pair] = deque()
+            # A later side needs only when this one began, if it isn't given again.
+            queue.append(action)
+
+    def order(self, action):
+        """What one actor does to another."""
+        word, other = action.call.word, action.call.other
+        if word == "suspend":
+            spans = self.holds.setdefault(other, [])
+            if not spans or spans[-1][1] is not None:
+                spans.append([action.end, None])
+        elif word == "resume" and other in self.holds:
+            spans = self.holds[other]
+            spans[-1][1] = action.end if spans[-1][1] is None else spans[-1][1]
+        elif word == "kill" and action.how == "done":
+            self.kills[other] = action.actor.name, action.end
+            self.holds.pop(other, None)
+
+    def held(self, action, free):
+        """The spans in which the actor of an action was suspended since it was free."""
+        name, date = action.actor.name, action.end
+        spans = [(max(begin, free), date if end is None else min(end, date)) for begin, end in self.holds[name]]
+        action.held = tuple((begin, end) for begin, end in spans if begin < end)
+        left = [[date, None] for _, end in self.holds[name] if end is None]
+        if left:
+            self.holds[name] = left
+        else:
+            del self.holds[name]
+
+    def cause(self, action):
+        """Whose failure the failure of an action was."""
+        if action.call.word == "compute":
+            return f"the host {action.actor.host} was off"
+        other = (action.request or action.call).other
+        killer, date = self.kills.get(other, (None, None))
+        if date == action.end:
+            return f"{other} was killed by {killer}"
+        if other is None or other == action.actor.name:
+            return "a host or a link on the way of the message was off"
+        return f"a link between {action.actor.name} and {other}, or the host of one of them, was off"
+
+    def close(self, number, line, lines):
+        """Reads the ending, which is the first line that is no action, and what follows it."""
+        text = line.rstrip("\n").removesuffix("\r")
+        match = DATED_END.fullmatch(text)
+        if match is None and not FAULT_END.fullmatch(text):
+            raise no_line(number, line)
+        if match:
+            date = int(match[1].replace(".", ""))
+            if date < self.end:
+                raise BadTrace(f"line {number}: the run ends before its last action")
+            self.end = date
+        self.ending = text
+        for line in lines:
+            number += 1
+            text = line.rstrip("\n").removesuffix("\r")
+            match = ENERGY.fullmatch(text)
+            if match:
+                self.energies.append((match[1], match[2]))
+                continue
+            match = BLOCKED.fullmatch(text)
+            if match is None:
+                raise no_line(number, line, " can follow its end")
+            actor = self.actors.get(match[1] or match[3]) or self.actor(match[1] or match[3], number, line)
+            call = self.call(match[2], number, line) if match[2] else Call("suspended", None, None)
+            action = Action(number, text, actor, actor.free, self.end, call, "blocked" if match[2] else "suspended")
+            if actor.name in self.holds:
+                self.held(action, actor.free)
+            if call.word == "wait" and actor.requests:
+                action.request = actor.requests[0]
+            self.blocked.append(action)
+
+    @property
+    def status(self):
+        """The exit status that the ending tells; None where there is no ending."""
+        return next(status for start, status in ENDING_WORDS if self.ending.startswith(start)) if self.ending else None
+
+
+def no_line(number, line, more=""):
+    text = line.rstrip("\r\n")
+    return BadTrace(f"line {number}: no line of a trace{more}: {text[:80]!r}")
+
+
+def decimal(time):
+    """A date in nanoseconds as seconds, exactly."""
+    return Decimal(in_seconds(time))
+
+
+def in_seconds(time):
+    text = str(time)
+    return f"{text[:-9]}.{text[-9:]}" if len(text) > 9 else f"0.{text:0>9}"
+
+
+def row_of(action):
+    call, done = action.call, action.how == "done"
+    return Row(action.actor.host, action.actor.name, action.actor.id, decimal(action.end), call.word, tuple(call.text.split()[1:]),
+               decimal(action.end - action.begin) if done else None, action.how)
+
+
+# What the tools over traces share ----------------------------------------------------------------------------------------
+
+def open_trace(name):
+    """The lines of the file, or of standard input; what isn't ASCII stands as escapes, which no line of a trace has."""
+    if name == "-":
+        if sys.stdin is None:
+            raise OSError("standard input is closed")
+        return io.TextIOWrapper(sys.stdin.buffer, "ascii", "backslashreplace", newline="\n")
+    return open(name, encoding="ascii", errors="backslashreplace", newline="\n")
+
+
+def warn_of_no_ending(tool, reader):
+    """Tells that a trace may not be whole."""
+    if not reader.ending:
+        print(f"{tool}: warning: the trace has no ending line: it was cut off, or a fault ended the run, which standard error told",
+              file=sys.stderr)
+
+
+def give_up(tool, error):
+    """Tells why the output couldn't be written, and gives the status; what is still to be written is dropped."""
+    os.dup2(os.open(os.devnull, os.O_WRONLY), 1)
+    if isinstance(error, BrokenPipeError):
+        return 0
+    print(f"{tool}: {error}", file=sys.stderr)
+    return 2
