@@ -1,13 +1,22 @@
 # make, make proof: proves and builds the program, where sources have changed.  make test: the gate, all proofs and tests.
-# make install [PREFIX=/usr/local] [DESTDIR=]: puts the program, the tools, the manual page and the completions where they
-# belong.  make uninstall takes them away.
+# make install [PREFIX=/usr/local] [DESTDIR=]: puts the program, the tools, Python's module, the manual page and the
+# completions where they belong.  make uninstall takes them away.  make dist: packages for machines without the kit, in dist/.
 PREFIX = /usr/local
 DESTDIR =
 BIN = $(DESTDIR)$(PREFIX)/bin
 SHARE = $(DESTDIR)$(PREFIX)/share
 LIBEXEC = $(DESTDIR)$(PREFIX)/libexec/simgrid_replay
 PROGRAM = crates/simgrid_replay/out/simgrid_replay
+# What stands in tools/: programs, modules that they share, and folders of modules, which install takes where they are there.
 TOOLS = explain gantt usage totable report cluster from_simgrid sweep
+MODULES = simgrid_replay.py
+FOLDERS =
+# The module is installed where Python looks under this prefix, if it looks there at all.
+PYTHON = python3
+PYTHONDIR = $(DESTDIR)$(PREFIX)/$(shell $(PYTHON) -c 'import sys; p = "$(PREFIX)/"; \
+    print(next((d[len(p):] for d in sys.path if d.startswith(p + "lib/python") and d.endswith("-packages")), "lib/python3/dist-packages"))')
+DIST = dist
+INSTALLED = $(notdir $(wildcard $(TOOLS:%=tools/%)))
 
 all proof:
 	.ci/build
@@ -18,10 +27,14 @@ test check:
 install: all
 	install -d $(BIN) $(LIBEXEC) $(SHARE)/man/man1 $(SHARE)/bash-completion/completions $(SHARE)/zsh/site-functions $(SHARE)/fish/vendor_completions.d
 	install -m 755 $(PROGRAM) $(BIN)/simgrid_replay
-	for tool in $(TOOLS); do \
+	for tool in $(INSTALLED); do \
 	    install -m 755 tools/$$tool $(LIBEXEC)/$$tool && \
 	    ln -sf ../libexec/simgrid_replay/$$tool $(BIN)/simgrid_replay-$$tool || exit 1; \
 	done
+	for module in $(MODULES) $(foreach folder,$(FOLDERS),$(patsubst tools/%,%,$(wildcard tools/$(folder)/*.py))); do \
+	    install -D -m 644 tools/$$module $(LIBEXEC)/$$module || exit 1; \
+	done
+	install -D -m 644 tools/simgrid_replay.py $(PYTHONDIR)/simgrid_replay.py
 	install -m 644 docs/simgrid_replay.1 $(SHARE)/man/man1/simgrid_replay.1
 	install -m 644 completions/simgrid_replay.bash $(SHARE)/bash-completion/completions/simgrid_replay
 	install -m 644 completions/_simgrid_replay $(SHARE)/zsh/site-functions/_simgrid_replay
@@ -30,7 +43,13 @@ install: all
 uninstall:
 	rm -f $(BIN)/simgrid_replay $(SHARE)/man/man1/simgrid_replay.1
 	for tool in $(TOOLS); do rm -f $(BIN)/simgrid_replay-$$tool $(LIBEXEC)/$$tool; done
+	cd $(LIBEXEC) 2>/dev/null && rm -rf $(MODULES) $(FOLDERS) __pycache__ || :
+	rm -f $(PYTHONDIR)/simgrid_replay.py
 	rm -f $(SHARE)/bash-completion/completions/simgrid_replay $(SHARE)/zsh/site-functions/_simgrid_replay
 	rm -f $(SHARE)/fish/vendor_completions.d/simgrid_replay.fish
 
-.PHONY: all proof test check install uninstall
+# SIMGRID_REPLAY names another program, which is then packed in the place of the one that is built here.
+dist: $(if $(SIMGRID_REPLAY),,all)
+	$(PYTHON) -B packaging/dist --program $(or $(SIMGRID_REPLAY),$(PROGRAM)) --output $(DIST)
+
+.PHONY: all proof test check install uninstall dist
