@@ -10,7 +10,7 @@ PROGRAM = crates/simgrid_replay/out/simgrid_replay
 # What stands in tools/: programs, modules that they share, and folders of modules, which install takes where they are there.
 TOOLS = explain gantt usage totable report cluster from_simgrid sweep
 MODULES = simgrid_replay.py
-FOLDERS =
+FOLDERS = simgrid_files
 # The module is installed where Python looks under this prefix, if it looks there at all.
 PYTHON = python3
 PYTHONDIR = $(DESTDIR)$(PREFIX)/$(shell $(PYTHON) -c 'import sys; p = "$(PREFIX)/"; \

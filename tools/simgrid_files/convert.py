@@ -1,0 +1,69 @@
+"""A whole study: what is read, what comes of it, and where it is written."""
+
+import os
+import sys
+
+from . import deployment, model, rows, traces, xmlfile, zones
+from .platform import Platform
+from .told import Notes, Unread
+
+RUN = """#!/bin/sh
+# Runs the study. The environment's SIMGRID_REPLAY names the program; options stand behind.
+here=$(cd -- "$(dirname -- "$0")" && pwd) || exit
+"""
+
+
+class Study:
+    """The texts that are written, by the names of their files."""
+
+    def __init__(self):
+        self.notes, self.texts = Notes(), {}
+
+    def write(self, folder):
+        if not folder:
+            sys.stdout.write(self.texts["platform.toml"])
+            sys.stdout.flush()
+            return
+        os.makedirs(folder, exist_ok=True)
+        for name in ("platform.toml", "deployment.toml", "script.txt", "run.sh"):
+            path = os.path.join(folder, name)
+            if name not in self.texts:
+                # What another study has left there is not of this one.
+                if os.path.exists(path):
+                    os.remove(path)
+                continue
+            with open(path, "w", encoding="ascii") as file:
+                file.write(self.texts[name])
+        if "run.sh" in self.texts:
+            os.chmod(os.path.join(folder, "run.sh"), 0o755)
+
+
+def study(given):
+    found = Study()
+    root = xmlfile.read(given.platform)
+    platform = Platform("." if given.platform == "-" else os.path.dirname(given.platform), found.notes).read(root)
+    model.settle(platform, given.model)
+    zones.write(platform)
+    actors = script = None
+    if given.deployment:
+        actors, script = deployment.read(given, platform, found.notes)
+    explain = rows.explain()
+    texts = found.texts
+    texts["platform.toml"] = platform.rows.text(found.notes.all())
+    judged = platform.rows.text([], False) if len(platform.rows.tables["route"]) > rows.MOST_READ else texts["platform.toml"]
+    part = explain.Platform("platform.toml", judged.encode())
+    rows.judge(platform.rows, texts["platform.toml"], part, (given.platform, root.line))
+    if actors:
+        texts["deployment.toml"] = actors.text([])
+        members = explain.Deployment("deployment.toml", texts["deployment.toml"].encode(), part)
+        rows.judge(actors, texts["deployment.toml"], members, (given.deployment, 1))
+        texts["run.sh"] = RUN + line_of_run(script is not None)
+        if script is not None:
+            texts["script.txt"] = script.text()
+            traces.judge(script, explain, members)
+    return found
+
+
+def line_of_run(replay):
+    command, script = ("replay", ' "$here/script.txt"') if replay else ("run", "")
+    return f'exec "${{SIMGRID_REPLAY:-simgrid_replay}}" {command} "$here/platform.toml" "$here/deployment.toml"{script} "$@"\n'

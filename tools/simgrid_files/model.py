@@ -1,0 +1,89 @@
+"""The model of the network: the row that it has, and what is told of it."""
+
+from . import values
+from .told import Refused, quoted
+
+# What SimGrid's models have, by our keys.
+MODELS = {"LV08": {"latency_factor": "13.01", "bandwidth_factor": "0.97", "window": "4194304"}, "CM02": {}}
+KEYS = {"network/latency-factor": "latency_factor", "network/bandwidth-factor": "bandwidth_factor", "network/TCP-gamma": "window"}
+LOOPBACK = "10GBps", "0"
+# Settings that change no date, but for its last digits.
+WITHOUT_EFFECT = ("tracing", "contexts/", "path", "maxmin/", "precision/", "surf/", "cpu/optim", "network/optim", "host/model",
+                  "debug/", "cpu/maxmin", "network/maxmin", "exception/")
+
+
+def settle(platform, model):
+    """The row of the network, by the model and then by what <config> sets."""
+    settings, notes = dict(platform.settings), platform.notes
+    model = chosen(settings.pop("network/model", None), model, notes)
+    row = dict(MODELS[model])
+    for setting, key in KEYS.items():
+        prop = settings.pop(setting, None)
+        if prop is not None:
+            row.update(factor(prop, setting, key, notes))
+    if "window" in row:
+        # SimGrid multiplies what the window allows by the factor of bandwidths, simgrid_replay doesn't.
+        row["window"] = str(int(int(row["window"]) * values.Fraction(row.get("bandwidth_factor", "1"))))
+    if row.get("window") == "0":
+        del row["window"]
+    crossed = settings.pop("network/crosstraffic", None)
+    weighed = settings.pop("network/weight-S", None)
+    platform.loopback = loopback(settings, notes)
+    for setting, prop in settings.items():
+        if not setting.startswith(WITHOUT_EFFECT):
+            notes.add(prop, f"<config> {setting}={quoted(prop.get('value'))} isn't here")
+    if row:
+        platform.rows.add("network", platform.root.element, **row)
+    tell(notes, model, row, crossed, weighed, "network/TCP-gamma" in platform.settings)
+
+
+def chosen(prop, model, notes):
+    """The model that <config> names, where it is here, else the one of the command line."""
+    if prop is None:
+        return model
+    if prop.get("value") in MODELS:
+        return prop.get("value")
+    notes.add(prop, f"<config> network/model={quoted(prop.get('value'))} isn't here: {model} is taken")
+    return model
+
+
+def factor(prop, setting, key, notes):
+    """A key of the row, where the setting is a plain number."""
+    text = prop.get("value").strip()
+    value, end = values.fraction(text)
+    if value is None or text[end:]:
+        notes.add(prop, f"<config> {setting}={quoted(text)} isn't a plain number, and is left out")
+        return {}
+    least, most = {"latency_factor": (0, 1000), "bandwidth_factor": (values.Fraction(1, 10**6), 1000),
+                   "window": (0, values.GREATEST_RATE)}[key]
+    if not least <= value <= most:
+        raise Refused(prop, f"<config> {setting}={quoted(text)} isn't from {float(least):g} to {most}")
+    if values.OURS.fullmatch(text) and key != "window":
+        return {key: text}
+    return {key: str(int(value)) if key == "window" else values.seconds(int(value * 10**9))}
+
+
+def loopback(settings, notes):
+    bandwidth, latency = LOOPBACK
+    prop = settings.pop("network/loopback-bw", None)
+    if prop is not None:
+        bandwidth = values.bandwidth(prop, prop.get("value"), "network/loopback-bw")
+    prop = settings.pop("network/loopback-lat", None)
+    if prop is not None:
+        latency = values.latency(prop, prop.get("value"), notes, "network/loopback-lat")
+    return bandwidth, latency
+
+
+def tell(notes, model, row, crossed, weighed, windowed):
+    """What of the model isn't here, and what that changes."""
+    has = ", ".join(f"{key} {value}" for key, value in row.items()) or "no factors, no window"
+    notes.of_model(f"model {model}{', as SimGrid by default' if model == 'LV08' else ''}: {has}")
+    if model == "CM02" and not windowed:
+        notes.of_model("no window: SimGrid's CM02 bounds a flow by network/TCP-gamma 4194304 over twice its latency, where "
+                       "<config> doesn't set it to 0")
+    if crossed is None or crossed.get("value").lower() not in ("0", "no", "off", "false"):
+        notes.of_model("no cross traffic: in SimGrid a flow also takes 5 % on the links of its way back, so that one over SHARED "
+                       "links ends up to 5 % later there; --cfg=network/crosstraffic:0 there gives the dates here")
+    if model == "LV08" if weighed is None else values.fraction(weighed.get("value"))[0] != 0:
+        notes.of_model("no network/weight-S: flows that meet on a link share it equally here, and in SimGrid by their latencies "
+                       "and the bandwidths of their links; a flow that meets no other has the same dates")

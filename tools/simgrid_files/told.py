@@ -1,0 +1,57 @@
+"""What is told of SimGrid's files: refusals and notes, each with its file and line."""
+
+
+class Refused(Exception):
+    """Something in a file has nothing that corresponds. `place` is an element, or a file and a line."""
+
+    def __init__(self, place, text):
+        super().__init__(text)
+        self.file, self.line = place_of(place)
+
+    def __str__(self):
+        return f"{at(self.file, self.line)}: {plain(self.args[0])}"
+
+
+class Unread(Exception):
+    """A file can't be read, or is no XML."""
+
+
+def place_of(place):
+    return (place.file, place.line) if hasattr(place, "line") else place
+
+
+def at(file, line):
+    return f"{file}:{line}" if line else str(file)
+
+
+def plain(text):
+    """A text on one line, without what a comment of TOML can't hold."""
+    return "".join(letter if letter.isprintable() else "?" for letter in text)
+
+
+def quoted(text):
+    return '"' + text.replace("\\", "\\\\").replace('"', '\\"') + '"'
+
+
+class Notes:
+    """What is left out or differs: each text once, with its first place and how often it was met."""
+
+    def __init__(self):
+        self.model, self.found = [], {}
+
+    def of_model(self, text):
+        """A note on the model as such, which stands in no line of a file and isn't refused by --strict."""
+        if text not in self.model:
+            self.model.append(text)
+
+    def add(self, place, text):
+        file, line = place_of(place)
+        first = self.found.setdefault((file, plain(text)), [line, 0])
+        first[1] += 1
+
+    def lines(self):
+        for (file, text), (line, count) in self.found.items():
+            yield f"{at(file, line)}: {text}" + (f" ({count} times)" if count > 1 else "")
+
+    def all(self):
+        return [*self.model, *self.lines()]

@@ -1,0 +1,84 @@
+"""XML files as elements that know their lines."""
+
+import os
+import sys
+import xml.parsers.expat as expat
+
+from .told import Refused, Unread, quoted
+
+DEEPEST = 64
+
+
+class Element:
+    """An element with its attributes, what stands in it, and its place."""
+
+    def __init__(self, tag, attrib, file, line):
+        self.tag, self.attrib, self.file, self.line = tag, attrib, file, line
+        self.children, self.text = [], ""
+
+    def get(self, key, default=""):
+        """An attribute; SimGrid takes an empty one for none."""
+        return self.attrib.get(key) or default
+
+    def need(self, key):
+        if key not in self.attrib:
+            raise Refused(self, f"<{self.tag}> without {key}")
+        return self.attrib[key]
+
+    def only(self, known):
+        """Refuses an attribute that isn't known."""
+        for key, value in self.attrib.items():
+            if key not in known and value:
+                raise Refused(self, f"<{self.tag} {key}={quoted(value)}> isn't here")
+
+    def __str__(self):
+        name = next((f" {key}={quoted(self.attrib[key])}" for key in ("id", "src", "host") if key in self.attrib), "")
+        return f"<{self.tag}{name}>"
+
+
+def read_bytes(name):
+    try:
+        if name == "-":
+            return sys.stdin.buffer.read()
+        with open(name, "rb") as file:
+            return file.read()
+    except (OSError, ValueError) as fault:
+        raise Unread(f"{name}: {getattr(fault, 'strerror', None) or fault}") from None
+
+
+def read_lines(name):
+    """The lines of a file of ASCII."""
+    try:
+        return read_bytes(name).decode("ascii").splitlines()
+    except UnicodeDecodeError as fault:
+        raise Unread(f"{name}: {fault}") from None
+
+
+def find(name, folder):
+    """A file that is named from here, or from a folder."""
+    return name if name == "-" or os.path.exists(name) else os.path.join(folder, name)
+
+
+def read(name, data=None):
+    """The root of an XML file."""
+    parser, stack, root = expat.ParserCreate(), [], []
+
+    def start(tag, attrib):
+        element = Element(tag, attrib, name, parser.CurrentLineNumber)
+        if len(stack) >= DEEPEST:
+            raise Refused(element, f"elements deeper than {DEEPEST}")
+        (stack[-1].children if stack else root).append(element)
+        stack.append(element)
+
+    def text(data):
+        if stack:
+            stack[-1].text += data
+
+    parser.StartElementHandler, parser.CharacterDataHandler = start, text
+    parser.EndElementHandler = lambda tag: stack.pop()
+    parser.buffer_text = True
+    try:
+        parser.Parse(read_bytes(name) if data is None else data, True)
+    except (expat.ExpatError, ValueError, LookupError) as fault:
+        raise Unread(f"{name}: no XML: {fault}") from None
+    return root[0]
