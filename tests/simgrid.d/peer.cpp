@@ -3,7 +3,8 @@
 //     peer routes PLATFORM MOST SEED    its hosts, and the routes of all ordered pairs of them, or of so many drawn ones
 //     peer replay PLATFORM ACTORS SCRIPT    the end of each line of a script, by the actors of a file of `NAME<tab>HOST`
 //
-// Options of SimGrid, as --cfg=.., stand among the words. Each flow gets the weight 1: SimGrid weighs flows by latency.
+// Options of SimGrid, as --cfg=.., stand among the words. Each flow gets the weight 1: SimGrid weighs flows by latency, and
+// does so here where the environment has STOCK.
 
 #include <simgrid/kernel/resource/Model.hpp>
 #include <simgrid/kernel/resource/NetworkModelIntf.hpp>
@@ -12,6 +13,7 @@
 #include <csetjmp>
 #include <csignal>
 #include <cstdio>
+#include <cstdlib>
 #include <deque>
 #include <fstream>
 #include <iterator>
@@ -153,7 +155,8 @@ static int replay(sg4::Engine& engine, const char* actors, const char* script)
       lines[all[0]].push_back(all);
   }
   network = dynamic_cast<simgrid::kernel::resource::Model*>(engine.get_netzone_root()->get_network_model());
-  simgrid::kernel::activity::CommImpl::on_start.connect(weigh_equally);
+  if (getenv("STOCK") == nullptr)
+    simgrid::kernel::activity::CommImpl::on_start.connect(weigh_equally);
   std::ifstream rows(actors);
   for (std::string line; std::getline(rows, line);) {
     const auto tab = line.find('\t');

@@ -93,7 +93,7 @@ def of_ranks(given, platform, notes, hosts, actors):
     script = smpi.convert([traces.lines_of(path) for path in given.trace], given, notes, len(hosts))
     rows = Rows("deployment", ("actor",))
     for rank in range(script.ranks):
-        place = actors[rank].element if actors else (given.deployment, 0)
+        place = actors[rank % len(actors)].element if actors else (given.deployment, 0)
         if not hosts:
             raise Refused(place, "no host stands there")
         rows.add("actor", place, name=f"p{rank}", host=hosts[rank % len(hosts)], function="replay")

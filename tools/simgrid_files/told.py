@@ -25,7 +25,8 @@ def at(file, line):
 
 
 def plain(text):
-    """A text on one line, without what a comment of TOML can't hold."""
+    """A text on one line, in ASCII, without what a comment of TOML can't hold."""
+    text = text.encode("ascii", "backslashreplace").decode()
     return "".join(letter if letter.isprintable() else "?" for letter in text)
 
 

@@ -39,7 +39,7 @@ class Element:
 def read_bytes(name):
     try:
         if name == "-":
-            return sys.stdin.buffer.read()
+            return sys.stdin.buffer.read() if sys.stdin else b""
         with open(name, "rb") as file:
             return file.read()
     except (OSError, ValueError) as fault:
