@@ -330,8 +330,9 @@ class Converted:
     def do_allgatherv(self, line, rank, words):
         self.need(line, words, self.count + 1)
         self.in_line(line)
-        place = self.count + 1 if len(words) <= self.count + 3 else self.count + 1
-        factor = self.size(line, rank, words, place)
+        # Behind the sizes stand types, or places in a buffer, which have no type before them.
+        places = self.count + 3 < len(words) <= 2 * self.count + 1
+        factor = self.size(line, rank, words, len(words) if places else self.count + 1)
         self.gathered(line, rank, 0, self.amount(line, words[0], factor))
         self.down(line, rank, 0, self.total(line, words[1:1 + self.count], factor))
 

@@ -7,7 +7,6 @@ from .told import Refused
 
 # Lines that all actors have a part in.
 GATHER = ("barrier", "bcast", "reduce", "allreduce", "alltoall")
-MOST_LINES = 10**8
 
 
 class Line(NamedTuple):

@@ -60,8 +60,7 @@ def loopbacks(platform, zone):
         return
     for host in zone.hosts:
         if (host, host) not in zone.ways and (host, host) not in zone.bypass:
-            element = zone.element
-            platform.rows.add("route", element, src=host, dst=host, links=[loopback(platform)])
+            platform.rows.add("route", zone.element, src=host, dst=host, links=[loopback(platform)])
 
 
 def loopback(platform):
