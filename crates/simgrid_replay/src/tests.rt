@@ -239,7 +239,7 @@ fn actors_take_contexts_in_their_order(rt: HostRuntime) -> Result<(), Fail> {
 fn bytes_that_are_no_text_name_nobody(rt: HostRuntime) -> Result<(), Fail> {
     let platform = read_platform(rt.alloc(), b"")?;
     let deployment = read_deployment(rt.alloc(), b"", &platform)?;
-    assert_eq!(rt; deployment.actor(b"\xff"), None);
-    assert_eq!(rt; deployment.replay_actor(b"\xff"), None);
+    assert!(rt; deployment.actor(b"\xff").is_none());
+    assert!(rt; deployment.replay_actor(b"\xff").is_none());
     Ok(())
 }
