@@ -39,6 +39,7 @@ use Rattle.sg_kernel.specs.declared.owners.Whose.{Whose}
 use Rattle.sg_kernel.specs.declared.owners.Whose.TheVariants.{Over}
 use Rattle.sg_kernel.specs.Known.{Known, first_known}
 use Rattle.sg_kernel.specs.Meetings.{posts_from}
+use Rattle.sg_kernel.specs.kept.First.{first_states, objects_of}
 use Rattle.sg_kernel.specs.kept.Owners.{Owned}
 use Rattle.sg_kernel.specs.Start.{host_cap, power_of, link_cap, caps_in, caps_of, link_caps, home_of, capacity_of, replays, capacities_in, setup_of, first_objects}
 use Rattle.sg_kernel.specs.World.{extent}
@@ -76,15 +77,6 @@ pub links_fit : (network : Network) (rows : List LinkRow) → IsNetwork network 
 links_fit network rows kept fit = All-append IsLink (flat_map (caps_in network) rows) (link_cap 498000000 true ∷ []) (rows_fit network rows kept fit) (All-cons IsLink (link_cap 498000000 true) [] (omega arith) (All-nil IsLink))
 
 -- ---- the fields at first
-abbrev pub first_states : ℕ → ℕ → List Bool → ActorStates
-first_states mutexes semaphores starting = record {
-  extent = record { actors = length starting; mutexes = mutexes; semaphores = semaphores };
-  actors = map first_actor starting;
-  records = [];
-  room = 0;
-  passing = false;
-}
-
 pub record IsFirst (platform : Platform) (deployed : Deployed) (fields : Fields) : Type 0 where
   pub doing : fields.doing ≡ idle_on (map host_cap platform.hosts) (link_caps platform.network platform.links)
   pub states : fields.states ≡ first_states (length deployed.mutexes) (length deployed.semaphores) (map starts deployed.actors)
@@ -205,27 +197,9 @@ first_held platform deployed fields is kept =
 pub first_limited : (platform : Platform) (deployed : Deployed) (fields : Fields) → IsFirst platform deployed fields → AreLimited fields
 first_limited platform deployed fields is = subst (λ (o : Owned). All (IsOwner (extent (setup_in fields))) o.whose) (sym is.whose) (All-nil (IsOwner (extent (setup_in fields))))
 
-abbrev pub objects_of : ℕ → ℕ → List ℕ → ℕ → Objects
-objects_of actors mutexes semaphores members = record {
-  actors = actors;
-  owners = replicate mutexes None;
-  locking = replicate mutexes [];
-  counts = semaphores;
-  acquiring = replicate (length semaphores) [];
-  members = members;
-  arrived = [];
-  others = [];
-}
-
-pub objects_first : (platform : Platform) (deployed : Deployed) (budget n m : ℕ) (c : List ℕ) (e : ℕ) → n ≡ length deployed.actors → m ≡ length deployed.mutexes → c ≡ map capacity_of deployed.semaphores → e ≡ count_by replays deployed.actors → objects_of n m c e ≡ first_objects (setup_of platform deployed budget)
-objects_first platform deployed budget n m c e actors mutexes semaphores members =
-    let long = length (map home_of deployed.actors) in
-    let many = length deployed.mutexes in
-    let counts = map capacity_of deployed.semaphores in
-    ap (λ v. objects_of v m c e) (actors ∙ sym (length-map deployed.actors home_of))
-    ∙ ap (λ v. objects_of long v c e) mutexes
-    ∙ ap (λ v. objects_of long many v e) semaphores
-    ∙ ap (objects_of long many counts) members
+pub objects_first : (platform : Platform) (deployed : Deployed) (budget : ℕ) → objects_of (length deployed.actors) (length deployed.mutexes) (map capacity_of deployed.semaphores) (count_by replays deployed.actors) ≡ first_objects (setup_of platform deployed budget)
+objects_first platform deployed budget =
+    ap (λ n. objects_of n (length deployed.mutexes) (map capacity_of deployed.semaphores) (count_by replays deployed.actors)) (sym (length-map deployed.actors home_of))
 
 abbrev extent_of : ℕ → ℕ → ℕ → Extent
 extent_of actors mutexes semaphores = record { actors = actors; mutexes = mutexes; semaphores = semaphores }

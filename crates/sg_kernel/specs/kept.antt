@@ -5,3 +5,4 @@ pub mod Coming
 pub mod Waking
 pub mod Whole
 pub mod Killing
+pub mod First

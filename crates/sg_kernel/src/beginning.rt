@@ -1,22 +1,18 @@
 //! A simulation begins.
 
-ghost use Rattle.std.specs.Prelude.{◌≡◌, ◌≤◌, ◌^◌, [], All, IfOk};
-ghost use Rattle.sg_base.specs.declared.ids.BoxId.{BoxId};
-ghost use Rattle.sg_activity.specs.Doing.{idle_on};
-ghost use Rattle.sg_activity.specs.Hosts.{IsHost};
-ghost use Rattle.sg_activity.specs.Links.{IsLink};
-ghost use Rattle.sg_mailbox.specs.Posts.{waiting};
+ghost use Rattle.std.specs.Prelude.{◌≡◌, ◌≤◌, ◌^◌, IfOk};
 ghost use Rattle.sg_rows.specs.Deployment.{IsDeployedOn};
 ghost use Rattle.sg_kernel.specs.Start.{capacities_in, setup_of};
 ghost use Rattle.sg_kernel.specs.Known.{first_known};
+ghost use Rattle.sg_kernel.specs.kept.First.{AreActors, AreObjects, IsIdle};
 ghost use Rattle.sg_kernel.specs.kept.Sound.{known_of};
 ghost use Rattle.sg_kernel.specs.kept.Whole.{IsWhole};
 
 use crate::fields::Fields;
 use crate::owners::Owners;
 use crate::setup::{capacities, homes, hosts, links, members, starts};
-use sg_activity::{Activities, HostCap, LinkCap};
-use sg_base::Memory;
+use sg_activity::Activities;
+use sg_base::{Memory, PointId};
 use sg_mailbox::Boxes;
 use sg_profile::Profiles;
 use sg_requests::Requests;
@@ -25,23 +21,80 @@ use sg_states::States;
 use sg_sync::Sync;
 use std::alloc::Global;
 
-// Nothing under way, and nobody in the mailboxes: last of all, so that no want of memory drops them.
+// What is kept is made in parts: each want of memory drops all that a function holds by then, so each holds little.
+
+// The hosts and links of the platform, on which nothing is under way, and nobody in the mailboxes.
 #[derive(Drop)]
 struct Idle {
     doing: Activities,
     boxes: Boxes,
+    hosts: usize,
+    links: usize,
 }
 
-fn make_idle(alloc: Global, hosts: &[HostCap], links: &[LinkCap]) -> Result<Idle, Memory>
-    requires hosts { All IsHost hosts.now }
-    requires links { All IsLink links.now }
-    ensures doing { IfOk result (λ idle. idle.doing ≡ idle_on hosts.now links.now) }
-    ensures boxes { IfOk result (λ idle. (mailbox : BoxId) → waiting idle.boxes mailbox ≡ []) }
+fn make_idle(alloc: Global, platform: &PlatformText) -> Result<Idle, Memory>
+    ensures { IfOk result (IsIdle platform.now) }
 {
+    let hosts = hosts(alloc, platform.hosts())?;
+    let links = links(alloc, platform.network(), platform.links())?;
     let boxes = Boxes::new(alloc)?;
+    let doing = Activities::new(alloc, &hosts, &links)?;
     Ok(Idle {
-        doing: Activities::new(alloc, hosts, links)?,
+        doing,
         boxes,
+        hosts: hosts.len(),
+        links: links.len(),
+    })
+}
+
+// The actors of the deployment before any of them ran.
+#[derive(Drop)]
+struct FirstActors {
+    states: States,
+    requests: Requests,
+    homes: Vec<PointId>,
+    starts: Vec<bool>,
+}
+
+fn make_actors(alloc: Global, deployment: &Deployment) -> Result<FirstActors, Memory>
+    ensures { IfOk result (AreActors deployment.now) }
+{
+    let rows = deployment.actors();
+    let mutexes = deployment.mutexes().len();
+    let semaphores = deployment.semaphores().len();
+    let homes = homes(alloc, rows)?;
+    let requests = Requests::new(alloc, rows.len())?;
+    let starts = starts(alloc, rows)?;
+    let states = States::new(alloc, &starts, mutexes, semaphores)?;
+    Ok(FirstActors {
+        states,
+        requests,
+        homes,
+        starts,
+    })
+}
+
+// The mutexes, semaphores and the barrier of the deployment, at which nobody waits.
+#[derive(Drop)]
+struct FirstObjects {
+    objects: Sync,
+    semaphores: Vec<u64>,
+    members: u32,
+}
+
+fn make_objects(alloc: Global, deployment: &Deployment) -> Result<FirstObjects, Memory>
+    ensures { IfOk result (AreObjects deployment.now) }
+{
+    let rows = deployment.actors();
+    let actors = rows.len() as u32;
+    let mutexes = deployment.mutexes().len() as u32;
+    let members = members(rows);
+    let semaphores = capacities(alloc, deployment.semaphores())?;
+    let objects = Sync::new(alloc, actors, mutexes, &semaphores, members)?;
+    Ok(FirstObjects {
+        objects,
+        semaphores,
+        members,
     })
 }
 
@@ -59,37 +112,28 @@ pub(crate) fn first_fields(
         (setup_of platform.now deployment.now budget)) }
     ensures whole { IfOk result (λ fields. IsWhole fields) }
 {
-    let hosts = hosts(alloc, platform.hosts())?;
-    let network = platform.network();
     let profiles = Profiles::new(alloc, platform)?;
-    let links = links(alloc, network, platform.links())?;
-    let semaphores = capacities(alloc, deployment.semaphores())?;
-    let mutexes = deployment.mutexes().len();
-    let actors = deployment.actors().len();
-    let members = members(deployment.actors());
-    let starts = starts(alloc, deployment.actors())?;
-    let states = States::new(alloc, &starts, mutexes, semaphores.len())?;
-    let requests = Requests::new(alloc, actors)?;
-    let objects = Sync::new(alloc, actors as u32, mutexes as u32, &semaphores, members)?;
-    let homes = homes(alloc, deployment.actors())?;
-    let idle = make_idle(alloc, &hosts, &links)?;
+    let objects = make_objects(alloc, deployment)?;
+    let actors = make_actors(alloc, deployment)?;
+    // Last of all, so that no want of memory drops it.
+    let idle = make_idle(alloc, platform)?;
     Ok(Fields {
-        states,
+        doing: idle.doing,
+        states: actors.states,
         whose: Owners::new(alloc),
-        requests,
-        objects,
-        hosts: hosts.len(),
-        links: links.len(),
-        network,
+        boxes: idle.boxes,
+        requests: actors.requests,
+        objects: objects.objects,
+        hosts: idle.hosts,
+        links: idle.links,
+        network: platform.network(),
         profiles,
-        homes,
-        starts,
-        mutexes,
-        semaphores,
-        members,
+        homes: actors.homes,
+        starts: actors.starts,
+        mutexes: deployment.mutexes().len(),
+        semaphores: objects.semaphores,
+        members: objects.members,
         events: 0,
         budget,
-        doing: idle.doing,
-        boxes: idle.boxes,
     })
 }

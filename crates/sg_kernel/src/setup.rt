@@ -1,10 +1,10 @@
 //! What a platform and a deployment give to a simulation.
-ghost use Rattle.std.specs.Prelude.{◌≡◌, ◌≤◌, All, IfOk, length, map, option_map};
+ghost use Rattle.std.specs.Prelude.{◌≡◌, ◌≤◌, ◌++◌, All, IfOk, OnOk, length, map, option_map};
 ghost use Rattle.std.specs.List.{count_by};
 ghost use Rattle.sg_rows.specs.Deployment.{starts};
 ghost use Rattle.sg_rows.specs.Network.{IsNetwork};
 ghost use Rattle.sg_rows.specs.Platform.{IsLinkRow};
-ghost use Rattle.sg_kernel.specs.Start.{capacity_of, host_cap, is_replay, link_cap, link_caps, power_of, replays};
+ghost use Rattle.sg_kernel.specs.Start.{capacity_of, caps_in, host_cap, is_replay, link_cap, link_caps, power_of, replays};
 
 use sg_activity::{HostCap, LinkCap, Power};
 use sg_base::{Memory, PointId};
@@ -49,6 +49,24 @@ fn link(bandwidth: u64, fatpipe: bool) -> LinkCap
     LinkCap { bandwidth, fatpipe }
 }
 
+// Puts the links of a row behind.
+fn add_links(links: &mut Vec<LinkCap>, network: Network, row: &LinkRow) -> Result<(), Memory>
+    requires network { IsNetwork network }
+    requires row { IsLinkRow row.now }
+    ensures { OnOk result (links.new.items ≡ links.old.items ++ caps_in network row.now) }
+{
+    let bandwidth = network.bandwidth_over(row.bandwidth);
+    match row.policy {
+        Policy::Shared => links.push(link(bandwidth, false))?,
+        Policy::Fatpipe => links.push(link(bandwidth, true))?,
+        Policy::SplitDuplex => {
+            links.push(link(bandwidth, false))?;
+            links.push(link(bandwidth, false))?;
+        }
+    }
+    Ok(())
+}
+
 /// The links in declared order, whose bandwidths have the network's factor, and last the loopback, which has none.
 pub(crate) fn links(
     alloc: Global,
@@ -61,15 +79,7 @@ pub(crate) fn links(
 {
     let mut links = Vec::new(alloc);
     for row in rows {
-        let bandwidth = network.bandwidth_over(row.bandwidth);
-        match row.policy {
-            Policy::Shared => links.push(link(bandwidth, false))?,
-            Policy::Fatpipe => links.push(link(bandwidth, true))?,
-            Policy::SplitDuplex => {
-                links.push(link(bandwidth, false))?;
-                links.push(link(bandwidth, false))?;
-            }
-        }
+        add_links(&mut links, network, row)?;
     }
     links.push(link(LOOPBACK_BANDWIDTH, true))?;
     Ok(links)
