@@ -1,10 +1,10 @@
 -- An actor is killed: what is kept, and what is known.
 use Rattle.std.proofs.Common.{◌≡◌, ◌≢◌, ℕ, zero, suc, ◌+◌, ◌-◌, ◌<◌, ◌≤◌, ◌==◌, ◌^◌, not, Bool, true, false, true≢false, cond, IsTrue, inl, inr, Option, None, Some, List, [], ◌∷◌, ◌++◌, length, map, filter, set, get_or, refl, sym, ap, ap₂, subst, ◌∙◌, append-nil, drop, drop-cons, add-one, arith}
-use Rattle.std.specs.Prelude.{option_to_list, nat_lt, is_some, IfSome, IsSome}
+use Rattle.std.specs.Prelude.{option_to_list, nat_lt, IfSome, IsSome}
 use Rattle.std.specs.List.{All}
 use Rattle.std.proofs.lemmas.Bool.{cases_eq}
 use Rattle.std.proofs.lemmas.List.{length-set, length-map}
-use Rattle.std.proofs.lemmas.List.Elements.{All-append, All-cons, All-head, All-map, All-nil, All-set, All-tail, filter-append}
+use Rattle.std.proofs.lemmas.List.Elements.{All-append, All-cons, All-head, All-nil, All-set, All-tail, filter-append}
 use Rattle.sg_base.specs.declared.awaits.Await.{Await}
 use Rattle.sg_base.specs.declared.call.Answer.TheVariants as answer
 use Rattle.sg_base.specs.declared.call.Call.TheVariants as call
@@ -16,14 +16,13 @@ use Rattle.sg_activity.specs.Doing.{Doing, gave_up}
 use Rattle.sg_activity.specs.Task.{Task, task_at}
 use Rattle.sg_activity.specs.Underway.{Underway}
 use Rattle.sg_mailbox.specs.declared.sides.Post.{Post}
-use Rattle.sg_mailbox.specs.declared.sides.Side.{Side}
 use Rattle.sg_mailbox.specs.Posts as mail
 use Rattle.sg_mailbox.specs.Posts.{Posts, box_eq, waiting}
-use Rattle.sg_requests.specs.Requested.{Requested, awaited_with, entered, queue_at, rising, serial_of, without_requests}
+use Rattle.sg_requests.specs.Requested.{Requested, entered, queue_at, rising, serial_of, without_requests}
 use Rattle.sg_states.specs.declared.state.Actor.{Actor}
 use Rattle.sg_states.specs.declared.state.Blocking.{Blocking}
 use Rattle.sg_states.specs.declared.state.State.TheVariants.{Ready, Ended}
-use Rattle.sg_states.specs.Actors.{blocking_in, is_alive, is_answered, put_state, state_at}
+use Rattle.sg_states.specs.Actors.{blocking_in, is_answered, put_state, state_at}
 use Rattle.sg_states.specs.Records.{record_of, IsTellable}
 use Rattle.sg_states.specs.States.{ActorStates, CanCall, by_call, with_reply, with_state}
 use Rattle.sg_sync.specs.Objects as sync
@@ -40,10 +39,10 @@ use Rattle.sg_kernel.specs.Kills.{awaited, blocked_on, gives_up, kill_done, with
 use Rattle.sg_kernel.specs.Known.{Known, after, after_call}
 use Rattle.sg_kernel.specs.Meetings.{post_in, posts_from}
 use Rattle.sg_kernel.specs.Steps.{Step, goes_on, follows, and_then, each, all_of, at_once}
-use Rattle.sg_kernel.specs.World.{Core, IsActor, MayCall, extent, state_of, whose_at}
+use Rattle.sg_kernel.specs.World.{Core, IsActor, extent, state_of, whose_at}
 use Rattle.sg_kernel.specs.kept.Killing.{killed_by, AreSerials}
 use Rattle.sg_kernel.specs.kept.Owners.{Owned}
-use Rattle.sg_kernel.specs.kept.Sound.{core_of, is_idle, is_posted, is_queued, known_of, setup_in, AreHeld, AwaitsMade, IsMade, IsOwner, IsSound}
+use Rattle.sg_kernel.specs.kept.Sound.{core_of, is_idle, is_posted, is_queued, known_of, setup_in, AwaitsMade, IsMade, IsOwner, IsSound}
 use Rattle.sg_kernel.specs.kept.Whole.{CanStep, IsWhole, IsWholeFor}
 use Rattle.sg_kernel.proofs.Alone.{gives_up_goes, kill_done_goes}
 use Rattle.sg_kernel.proofs.Begins.{held_with, sound_with}

@@ -1,4 +1,4 @@
-use Rattle.std.proofs.Common.{◌-◌, length, set, ap, ◌∙◌}
+use Rattle.std.proofs.Common.{◌-◌, length, ap, ◌∙◌}
 use Rattle.std.proofs.lemmas.List.{length-set}
 use Rattle.sg_kernel.specs.declared.owners.How.TheVariants as how
 use Rattle.sg_kernel.specs.declared.owners.Whose.TheVariants.{Over}

@@ -1,4 +1,4 @@
-use Rattle.std.proofs.Common.{ℕ, ◌≡◌, ◌-◌, ◌+◌, List, length, refl, sym, ap, ap₂, subst, ◌∙◌, arith}
+use Rattle.std.proofs.Common.{ℕ, ◌≡◌, ◌-◌, List, length, refl, sym, ap, ap₂, subst, ◌∙◌, arith}
 use Rattle.sg_base.specs.declared.awaits.Await.{Await}
 use Rattle.sg_base.specs.declared.call.Call.TheVariants as call
 use Rattle.sg_requests.specs.Requested.{Requested, awaited_with, queue_at, without_requests}
