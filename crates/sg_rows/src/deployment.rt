@@ -2,6 +2,8 @@
 ghost use Rattle.std.specs.Prelude.{◌≡◌, ◌≤◌, All, IfOk, length};
 ghost use Rattle.sg_base.specs.Limits.{IsActorIn};
 ghost use Rattle.sg_rows.specs.Deployment.{IsDeployment, actor_named, deployment_of_rows, extent_of, members_among, members_of, mutex_named, replay_actor_named, semaphore_named};
+ghost use Rattle.sg_rows.specs.Index.{actor_number, mutex_number, replay_number, semaphore_number};
+ghost use Rattle.sg_rows.specs.kept.Finds.{FindsAs};
 
 use crate::index::{replay_by_name, rows_by_name};
 use crate::rows::{ActorRow, Function, MutexRow, SemaphoreRow};
@@ -51,6 +53,63 @@ fn members_among(alloc: Global, actors: &[ActorRow]) -> Result<Members, Memory>
     Ok(members)
 }
 
+// What finds rows is made in two parts: a function that holds many maps while a call may still fail is dear to prove.
+
+/// Finds actors by their names, and those that replay.
+#[derive(Drop)]
+struct ActorIndex {
+    named: IndexMap<Vec<u8>, u32>,
+    replay: IndexMap<Vec<u8>, u32>,
+    members: Members,
+}
+
+impl ActorIndex {
+    /// The index of these actors.
+    fn new(alloc: Global, actors: &[ActorRow]) -> Result<ActorIndex, Memory>
+        requires { length actors.now ≤ 65536 }
+        ensures named { IfOk result (λ index. FindsAs index.named (actor_number actors.now)) }
+        ensures replay { IfOk result (λ index. FindsAs index.replay (replay_number actors.now)) }
+        ensures members { IfOk result (λ index. index.members ≡ members_among actors.now) }
+    {
+        let named = rows_by_name(alloc, actors)?;
+        let replay = replay_by_name(alloc, actors)?;
+        let members = members_among(alloc, actors)?;
+        Ok(ActorIndex {
+            named,
+            replay,
+            members,
+        })
+    }
+}
+
+/// Finds mutexes and semaphores by their names.
+#[derive(Drop)]
+struct LockIndex {
+    mutexes: IndexMap<Vec<u8>, u32>,
+    semaphores: IndexMap<Vec<u8>, u32>,
+}
+
+impl LockIndex {
+    /// The index of these mutexes and semaphores.
+    fn new(
+        alloc: Global,
+        mutexes: &[MutexRow],
+        semaphores: &[SemaphoreRow],
+    ) -> Result<LockIndex, Memory>
+        ensures mutexes { IfOk result
+            (λ index. FindsAs index.mutexes (mutex_number mutexes.now)) }
+        ensures semaphores { IfOk result
+            (λ index. FindsAs index.semaphores (semaphore_number semaphores.now)) }
+    {
+        let by_mutex = rows_by_name(alloc, mutexes)?;
+        let by_semaphore = rows_by_name(alloc, semaphores)?;
+        Ok(LockIndex {
+            mutexes: by_mutex,
+            semaphores: by_semaphore,
+        })
+    }
+}
+
 impl Deployment {
     /// The deployment with these rows.
     ///
@@ -68,20 +127,17 @@ impl Deployment {
         ensures { IfOk result
             (λ d. d ≡ deployment_of_rows actors.items mutexes.items semaphores.items) }
     {
-        let named_actors = rows_by_name(alloc, actors.as_slice())?;
-        let replay = replay_by_name(alloc, actors.as_slice())?;
-        let named_mutexes = rows_by_name(alloc, mutexes.as_slice())?;
-        let named_semaphores = rows_by_name(alloc, semaphores.as_slice())?;
-        let members = members_among(alloc, actors.as_slice())?;
+        let of_actors = ActorIndex::new(alloc, actors.as_slice())?;
+        let of_locks = LockIndex::new(alloc, mutexes.as_slice(), semaphores.as_slice())?;
         Ok(Deployment {
             actors,
             mutexes,
             semaphores,
-            named_actors,
-            replay,
-            named_mutexes,
-            named_semaphores,
-            members,
+            named_actors: of_actors.named,
+            replay: of_actors.replay,
+            named_mutexes: of_locks.mutexes,
+            named_semaphores: of_locks.semaphores,
+            members: of_actors.members,
         })
     }
 
