@@ -1,17 +1,20 @@
 //! Reads platforms.
-ghost use Rattle.std.specs.Prelude.{◌≡◌, ◌≢◌, Err, IfOk};
+ghost use Rattle.std.specs.Prelude.{◌≡◌, ◌≢◌, ◌≤◌, Err, IfOk, codes, length, map};
 ghost use Rattle.sg_rows.specs.Platform.{IsPlatform};
+ghost use Rattle.sg_rows.specs.Ends.{link_ends};
+ghost use Rattle.sg_platform.specs.Build.{host_row, profile_row, route_row, router_row, spoke_row, state_profile_row, zone_route_row, zone_row};
 ghost use Rattle.sg_platform.specs.FaultWords.{platform_place, platform_rule, platform_words};
-ghost use Rattle.sg_platform.specs.PlatformOf.{fault_of, platform_of, rows_of, tree_platform};
+ghost use Rattle.sg_platform.specs.PlatformOf.{fault_of, links_of, platform_of, rows_of, tree_platform};
 ghost use Rattle.sg_platform.specs.declared.platform.PlatformFault.TheVariants.{Memory};
 ghost use Rattle.sg_rules.specs.Names.{platform_known};
 ghost use Rattle.sg_rules.specs.kept.NamesView.{names_view};
+ghost use Rattle.sg_tree.specs.Tree.{rows_at};
 ghost use Rattle.toml.specs.View.{table_view};
 
 use crate::build::{network_of, read_rows};
 use sg_rows::{
-    HostRow, LinkRow, PlatformRows, PlatformText, ProfileRow, RouteRow, RouterRow, SpokeRow,
-    StateProfileRow, ZoneRouteRow, ZoneRow, link_ends,
+    HostRow, LinkEnd, LinkRow, PlatformRows, PlatformText, ProfileRow, RouteRow, RouterRow,
+    SpokeRow, StateProfileRow, ZoneRouteRow, ZoneRow, link_ends,
 };
 use sg_rules::{Names, first_fault, platform_names};
 use sg_tables::PLATFORM;
@@ -108,6 +111,130 @@ fn fault_of(fault: Fault) -> PlatformFault
     }
 }
 
+// The rows are read in parts: a function that holds many lists while a call may still fail is dear to prove.
+
+/// The rows of zones, hosts and routers.
+#[derive(Drop)]
+struct Places {
+    zones: Vec<ZoneRow>,
+    hosts: Vec<HostRow>,
+    routers: Vec<RouterRow>,
+}
+
+fn read_places(alloc: Global, names: &Names, tree: &toml::Table) -> Result<Places, sg_base::Memory>
+    ensures zones { IfOk result
+        (λ made. made.zones.items
+        ≡ map (zone_row (names_view names.now)) (rows_at (codes "zone") (table_view tree.now))) }
+    ensures hosts { IfOk result
+        (λ made. made.hosts.items
+        ≡ map (host_row (names_view names.now)) (rows_at (codes "host") (table_view tree.now))) }
+    ensures routers { IfOk result
+        (λ made. made.routers.items
+        ≡ map (router_row (names_view names.now))
+        (rows_at (codes "router") (table_view tree.now))) }
+{
+    let zones = read_rows::<ZoneRow>(alloc, names, &[], rows_at(tree, "zone"))?;
+    let hosts = read_rows::<HostRow>(alloc, names, &[], rows_at(tree, "host"))?;
+    let routers = read_rows::<RouterRow>(alloc, names, &[], rows_at(tree, "router"))?;
+    Ok(Places {
+        zones,
+        hosts,
+        routers,
+    })
+}
+
+/// The rows of routes, zone routes and spokes.
+#[derive(Drop)]
+struct Routes {
+    routes: Vec<RouteRow>,
+    zone_routes: Vec<ZoneRouteRow>,
+    spokes: Vec<SpokeRow>,
+}
+
+fn read_routes(
+    alloc: Global,
+    names: &Names,
+    ends: &[LinkEnd],
+    tree: &toml::Table,
+) -> Result<Routes, sg_base::Memory>
+    ensures routes { IfOk result
+        (λ made. made.routes.items
+        ≡ map (route_row (names_view names.now)) (rows_at (codes "route") (table_view tree.now))) }
+    ensures zone_routes { IfOk result
+        (λ made. made.zone_routes.items
+        ≡ map (zone_route_row (names_view names.now))
+        (rows_at (codes "zone_route") (table_view tree.now))) }
+    ensures spokes { IfOk result
+        (λ made. made.spokes.items
+        ≡ map (spoke_row (names_view names.now) ends.now)
+        (rows_at (codes "spoke") (table_view tree.now))) }
+{
+    let routes = read_rows::<RouteRow>(alloc, names, &[], rows_at(tree, "route"))?;
+    let zone_routes = read_rows::<ZoneRouteRow>(alloc, names, &[], rows_at(tree, "zone_route"))?;
+    let spokes = read_rows::<SpokeRow>(alloc, names, ends, rows_at(tree, "spoke"))?;
+    Ok(Routes {
+        routes,
+        zone_routes,
+        spokes,
+    })
+}
+
+/// The rows of links, and those of routes over them.
+fn read_ways(
+    alloc: Global,
+    names: &Names,
+    tree: &toml::Table,
+) -> Result<(Vec<LinkRow>, Routes), sg_base::Memory>
+    requires { length (links_of (table_view tree.now)) ≤ 65536 }
+    ensures links { IfOk result (λ made. made.0.items ≡ links_of (table_view tree.now)) }
+    ensures routes { IfOk result
+        (λ made. made.1.routes.items
+        ≡ map (route_row (names_view names.now)) (rows_at (codes "route") (table_view tree.now))) }
+    ensures zone_routes { IfOk result
+        (λ made. made.1.zone_routes.items
+        ≡ map (zone_route_row (names_view names.now))
+        (rows_at (codes "zone_route") (table_view tree.now))) }
+    ensures spokes { IfOk result
+        (λ made. made.1.spokes.items
+        ≡ map (spoke_row (names_view names.now) (link_ends made.0.items))
+        (rows_at (codes "spoke") (table_view tree.now))) }
+{
+    let links = read_rows::<LinkRow>(alloc, names, &[], rows_at(tree, "link"))?;
+    let ends = link_ends(alloc, links.as_slice())?;
+    let routes = read_routes(alloc, names, ends.as_slice(), tree)?;
+    Ok((links, routes))
+}
+
+/// The rows of profiles and of state profiles.
+#[derive(Drop)]
+struct Profiles {
+    profiles: Vec<ProfileRow>,
+    state_profiles: Vec<StateProfileRow>,
+}
+
+fn read_profiles(
+    alloc: Global,
+    names: &Names,
+    tree: &toml::Table,
+) -> Result<Profiles, sg_base::Memory>
+    ensures profiles { IfOk result
+        (λ made. made.profiles.items
+        ≡ map (profile_row (names_view names.now))
+        (rows_at (codes "profile") (table_view tree.now))) }
+    ensures state_profiles { IfOk result
+        (λ made. made.state_profiles.items
+        ≡ map (state_profile_row (names_view names.now))
+        (rows_at (codes "state_profile") (table_view tree.now))) }
+{
+    let profiles = read_rows::<ProfileRow>(alloc, names, &[], rows_at(tree, "profile"))?;
+    let states = rows_at(tree, "state_profile");
+    let state_profiles = read_rows::<StateProfileRow>(alloc, names, &[], states)?;
+    Ok(Profiles {
+        profiles,
+        state_profiles,
+    })
+}
+
 #[tactic(auto, unfolding(crate::specs::PlatformOf::rows_of))]
 fn rows_of(
     alloc: Global,
@@ -117,28 +244,20 @@ fn rows_of(
     requires { IsPlatform (rows_of (names_view names.now) (table_view tree.now)) }
     ensures { IfOk result (λ p. p ≡ rows_of (names_view names.now) (table_view tree.now)) }
 {
-    let zones = read_rows::<ZoneRow>(alloc, names, &[], rows_at(tree, "zone"))?;
-    let hosts = read_rows::<HostRow>(alloc, names, &[], rows_at(tree, "host"))?;
-    let routers = read_rows::<RouterRow>(alloc, names, &[], rows_at(tree, "router"))?;
-    let links = read_rows::<LinkRow>(alloc, names, &[], rows_at(tree, "link"))?;
-    let ends = link_ends(alloc, links.as_slice())?;
-    let routes = read_rows::<RouteRow>(alloc, names, &[], rows_at(tree, "route"))?;
-    let zone_routes = read_rows::<ZoneRouteRow>(alloc, names, &[], rows_at(tree, "zone_route"))?;
-    let spokes = read_rows::<SpokeRow>(alloc, names, ends.as_slice(), rows_at(tree, "spoke"))?;
-    let profiles = read_rows::<ProfileRow>(alloc, names, &[], rows_at(tree, "profile"))?;
-    let states = rows_at(tree, "state_profile");
-    let state_profiles = read_rows::<StateProfileRow>(alloc, names, &[], states)?;
+    let places = read_places(alloc, names, tree)?;
+    let ways = read_ways(alloc, names, tree)?;
+    let profiles = read_profiles(alloc, names, tree)?;
     Ok(PlatformText::with_rows(PlatformRows {
-        zones,
-        hosts,
-        routers,
-        links,
-        routes,
-        zone_routes,
-        spokes,
+        zones: places.zones,
+        hosts: places.hosts,
+        routers: places.routers,
+        links: ways.0,
+        routes: ways.1.routes,
+        zone_routes: ways.1.zone_routes,
+        spokes: ways.1.spokes,
         network: network_of(rows_at(tree, "network")),
-        profiles,
-        state_profiles,
+        profiles: profiles.profiles,
+        state_profiles: profiles.state_profiles,
     }))
 }
 
