@@ -2,7 +2,6 @@
 use Rattle.std.specs.Prelude.{ℕ, ◌-◌, Bool, List, length, slice_index, slice_index_or}
 use Rattle.sg_base.specs.declared.awaits.Await.{Await}
 use Rattle.sg_base.specs.Limits.{Extent}
-use Rattle.sg_base.specs.Mind.{Mind}
 use Rattle.sg_activity.specs.Underway.{Underway}
 use Rattle.sg_profile.specs.declared.turn.Turn.{Turn}
 use Rattle.sg_profile.specs.declared.profile.Profile.{Profile}
@@ -42,12 +41,6 @@ pub record Core : Type 0 where
   pub requests : List (List Await)
   pub objects : Objects
   pub events : ℕ
-
--- The world: the core, and of each actor its mind and how many Asks it has made. The records are what its steps make, one after another.
-pub record World : Type 0 where
-  pub minds : List Mind
-  pub asks : ℕ → ℕ
-  pub core : Core
 
 abbrev pub host_of : Setup → ℕ → ℕ
 host_of setup actor = slice_index setup.homes (actor - 1)

@@ -1,24 +1,12 @@
-//! Laws of kernels and of the worlds for which they stand, each the contract of a function that does nothing.
+//! Laws of kernels, each the contract of a function that does nothing.
 ghost use Rattle.std.specs.Prelude.{◌≡◌, length};
 ghost use Rattle.sg_route.specs.Roads.{roads_of};
 ghost use Rattle.sg_rows.specs.Ends.{link_ends};
 ghost use Rattle.sg_kernel.specs.Failures.{NothingOffIsUsed};
-ghost use Rattle.sg_kernel.specs.Known.{StandsAtFirst, StepsLead};
 ghost use Rattle.sg_kernel.specs.Roads.{AreOver};
 
 use sg_route::{Router, routes_are_good};
 use sg_rows::PlatformText;
-
-/// A new kernel stands for the first world.
-pub fn stands_at_first()
-    ensures { StandsAtFirst }
-{}
-
-/// Each step, of a call or of a pass, leads from every world for which the kernel stood to the step's world, for
-/// which it then stands.
-pub fn steps_lead()
-    ensures { StepsLead }
-{}
 
 /// Nothing that is under way uses a host or a link that is off: not at first, not after a call, and not after a pass
 /// that wasn't stopped.

@@ -24,6 +24,6 @@ mod setup;
 mod stop;
 
 pub use kernel::Kernel;
-pub use laws::{nothing_off_is_used, roads_are_over, stands_at_first, steps_lead};
+pub use laws::{nothing_off_is_used, roads_are_over};
 pub use owners::{How, Whose};
 pub use stop::Stop;
