@@ -6,7 +6,7 @@ use Rattle.clap.specs.ValueTests.{is_unsigned_in}
 use Rattle.clap.specs.Walk.{answers_to, nothing_held, rows_after, walk, walk_from}
 use Rattle.clap.specs.Simple.{argument_words, built_leaf, entered, filled, help_shape, inherited, label_of, names_of, with_index}
 use Rattle.clap.specs.Faults.{entered_fault, level_fault}
-use Rattle.sg_words.specs.CommandLine.{actors_rule, asked_at, asked_by, asked_of, churn_app, churn_at, name_rule, number_at, program_app, replay_app, replay_at, request_at, run_app, run_at, seed_rule, steps_rule}
+use Rattle.sg_words.specs.CommandLine.{actors_rule, asked_at, asked_by, churn_app, churn_at, name_rule, number_at, program_app, replay_app, replay_at, request_at, run_app, run_at, seed_rule, steps_rule}
 use Rattle.sg_words.proofs.Accepted.{Owns, nil_both}
 use Rattle.sg_words.proofs.Ends.{owns_of, text_of}
 use Rattle.sg_words.proofs.Level.{Taken, default_first, entered_level, find_four, level_taken, required_first}
@@ -139,7 +139,7 @@ three_left s word words stop is none (inl three) = three
 three_left s word words stop is none (inr help) = absurd (not_entered word words stop is none help)
 
 -- words that the definition takes ask for something
-pub accepted : (words : List Text) → fault_of program_app words ≡ [] → is_some (asked_of words) ≡ true
+pub accepted : (words : List Text) → fault_of program_app words ≡ [] → is_some (asked_by (subcommand_of program_app words)) ≡ true
 accepted words f =
     let given = argument_words (built program_app) words in
     let stop = (walk top.rules (names_of (built program_app)) nothing_held given).stopped in
@@ -164,4 +164,4 @@ not_both (Some x) some none = cc
 
 -- so it isn't that nothing is asked for
 pub never : (words : List Text) (rows : Option (Text × List Row)) → fault_of program_app words ≡ [] → rows ≡ subcommand_of program_app words → None ≡ asked_by rows → ⊥
-never words rows f same none = not_both (asked_of words) (accepted words f) (sym (none ∙ ap asked_by same))
+never words rows f same none = not_both (asked_by (subcommand_of program_app words)) (accepted words f) (sym (none ∙ ap asked_by same))

@@ -6,3 +6,4 @@ pub mod Numbers
 pub mod Refusals
 pub mod Stops
 pub mod TwoRules
+pub mod Written

@@ -8,6 +8,7 @@ use Rattle.clap.specs.ValueTests.{is_unsigned_in}
 use Rattle.clap.specs.declared.builder.action.ArgAction.TheVariants.{SetTrue}
 use Rattle.clap.specs.declared.builder.value_parser.ValueParser.{ValueParser}
 use Rattle.clap.specs.declared.builder.value_parser.ValueParser.TheVariants as vp
+use Rattle.sg_words.specs.Budgets.{in_digits}
 
 -- ---- the definition
 
@@ -76,9 +77,9 @@ bare_app = record {
 abbrev pub program_app : App
 program_app = with_subcommand (with_subcommand (with_subcommand bare_app replay_app.top) run_app.top) churn_app.top
 
--- the kinds of refusal that the words may have, none where the definition accepts them
+-- the kinds of refusal that the words may have, none where the definition accepts them once their budgets are in digits
 abbrev pub refusals : List Text → Kinds
-refusals words = fault_of program_app words
+refusals words = fault_of program_app (in_digits words)
 
 -- ---- the job
 
@@ -139,7 +140,7 @@ asked_by = option_and_then (λ command. asked_at command.0 command.1)
 
 -- what the words ask for, where the definition accepts them
 abbrev pub asked_of : List Text → Option Asked
-asked_of words = asked_by (subcommand_of program_app words)
+asked_of words = asked_by (subcommand_of program_app (in_digits words))
 
 -- words that aren't refused ask for a job
 abbrev pub AcceptedWordsHaveJobs : Type 0

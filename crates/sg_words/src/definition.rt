@@ -158,14 +158,17 @@ fn churn<'a>(alloc: Global) -> Result<Command<'a>, AllocError>
     with_common_options(alloc, command)
 }
 
-fn bare<'a>(alloc: Global) -> Command<'a>
-    ensures { app_of result ≡ bare_app }
+fn bare<'a>(alloc: Global) -> Result<Command<'a>, AllocError>
+    ensures { IfOk result (λ c. app_of c ≡ bare_app) }
 {
-    Command::new(alloc, "simgrid_replay")
+    // (whatever the program's file is called)
+    let command = Command::new(alloc, "simgrid_replay")
+        .bin_name("simgrid_replay")?
         .version(help::VERSION)
         .about(help::PROGRAM)
         .after_help(help::STATUSES)
-        .subcommand_required(true)
+        .subcommand_required(true);
+    Ok(command)
 }
 
 // The command with one more subcommand.
@@ -181,7 +184,7 @@ fn with_command<'a>(command: Command<'a>, sub: Command<'a>) -> Result<Command<'a
 pub fn program<'a>(alloc: Global) -> Result<Command<'a>, AllocError>
     ensures { IfOk result (λ c. app_of c ≡ program_app) }
 {
-    let program = with_command(bare(alloc), replay(alloc)?)?;
+    let program = with_command(bare(alloc)?, replay(alloc)?)?;
     let program = with_command(program, run(alloc)?)?;
     with_command(program, churn(alloc)?)
 }

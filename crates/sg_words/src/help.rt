@@ -34,7 +34,7 @@ pub const SCRIPT: &str =
 
 pub const THREADS: &str = "Worker threads, 1 to 64; the output is the same for every number";
 
-pub const BUDGET: &str = "Events after which the run is stopped, 1 to 1000000000";
+pub const BUDGET: &str = "Events after which the run is stopped, 1 to 1000000000, also as 1e6";
 
 pub const QUIET: &str = "Prints no line for each action, only how the run ended";
 
@@ -44,10 +44,24 @@ pub const STATUSES: &str = "Exit status:
    3  the platform was refused
    4  the deployment was refused
    5  a line of the script was refused
-   6  deadlock: actors wait, and nothing is under way
-   7  starved: actors wait, and nothing that is under way ever ends
+   6  deadlock: actors wait, nothing is under way, and no profile goes on
+   7  starved: actors wait, nothing that is under way ever ends, and no profile goes on
    8  the budget of events was used up
    9  two hosts have no route, or one that is too long
   10  the platform, the deployment or the script could not be read
   11  the output could not be written
   12  there was no memory left";
+
+/// How what is said of `churn --quiet` begins: the option that reads most like it is no help.
+pub const MISLED: &str = "error: unexpected argument '--quiet' found
+
+  tip: a similar argument exists: '--budget'";
+
+pub const NEEDS_NO_QUIET: &str = "error: unexpected argument '--quiet' found
+
+  tip: 'churn' prints no line for each action as it is
+
+Usage: simgrid_replay churn [OPTIONS] <SEED> <ACTORS> <STEPS>
+
+For more information, try '--help'.
+";

@@ -1,6 +1,7 @@
 //! The command line: its definition, and the job that words ask for.
 #![tactic(auto)]
 
+mod budgets;
 mod definition;
 mod fault;
 mod help;

@@ -1,11 +1,13 @@
 //! The job that the words of a command line ask for.
 ghost use Rattle.std.specs.Prelude.{◌≡◌, IfOk, map, string_bytes};
-ghost use Rattle.clap.specs.Words.{FailsBy, kind_of, subcommand_of, subcommand_rows_of};
-ghost use Rattle.sg_words.specs.CommandLine.{asked_of, program_app, refusals};
+ghost use Rattle.clap.specs.Words.{FailsBy, fault_of, kind_of, subcommand_of, subcommand_rows_of};
+ghost use Rattle.sg_words.specs.CommandLine.{asked_by, asked_of, program_app, refusals};
 ghost use Rattle.sg_words.specs.Views.{Answers, IsFaultOf};
 
+use crate::budgets::in_digits;
 use crate::definition::program;
 use crate::fault::WordsFault;
+use crate::help;
 use crate::job::Job;
 use crate::reading::{asked_in, job_of};
 use clap::error::ErrorKind;
@@ -13,13 +15,22 @@ use clap::{ArgMatches, Error};
 use sg_base::{Memory, Text};
 use std::alloc::Global;
 
-// The values of the words, where the definition accepts them.
+// The values of the words, whose budgets are in digits, where the definition accepts them.
 fn parsed<'a>(alloc: Global, words: &'a [String]) -> Result<ArgMatches<'a>, Error>
-    ensures kinds { FailsBy (refusals (map string_bytes words.entry.now)) result }
+    ensures kinds { FailsBy (fault_of program_app (map string_bytes words.entry.now)) result }
     ensures matches { IfOk result (λ m. subcommand_rows_of m
         ≡ subcommand_of program_app (map string_bytes words.entry.now)) }
 {
     program(alloc)?.try_get_matches_from(words)
+}
+
+// The text of a refusal, but where its tip misleads.
+fn told(text: &str) -> &str {
+    if text.starts_with(help::MISLED) {
+        help::NEEDS_NO_QUIET
+    } else {
+        text
+    }
 }
 
 // What the error of a parse is told as.
@@ -30,7 +41,7 @@ fn fault_from(alloc: Global, error: Error) -> Result<WordsFault, Memory>
     if kind == ErrorKind::OutOfMemory {
         return Ok(WordsFault::Memory);
     }
-    let text = Text::new(alloc, error.to_string(alloc)?.as_str())?;
+    let text = Text::new(alloc, told(error.to_string(alloc)?.as_str()))?;
     if kind == ErrorKind::DisplayHelp || kind == ErrorKind::DisplayVersion {
         Ok(WordsFault::Help(text))
     } else {
@@ -38,15 +49,10 @@ fn fault_from(alloc: Global, error: Error) -> Result<WordsFault, Memory>
     }
 }
 
-/// The job that the words ask for, the first of which is the program's name.
-///
-/// # Errors
-///
-/// `Help` where help or the version is asked for, `Bad` where the words are refused, each with the text for the
-/// user; and `Memory`.
-pub fn read_words(alloc: Global, words: &[String]) -> Result<Job, WordsFault>
-    ensures { Answers (refusals (map string_bytes words.now))
-        (asked_of (map string_bytes words.now)) result }
+// The job that words ask for whose budgets are in digits.
+fn read_plain(alloc: Global, words: &[String]) -> Result<Job, WordsFault>
+    ensures { Answers (fault_of program_app (map string_bytes words.now))
+        (asked_by (subcommand_of program_app (map string_bytes words.now))) result }
 {
     let matches = match parsed(alloc, words) {
         Ok(matches) => matches,
@@ -56,4 +62,18 @@ pub fn read_words(alloc: Global, words: &[String]) -> Result<Job, WordsFault>
         Some(asked) => Ok(job_of(alloc, asked)?),
         None => unreachable!(),
     }
+}
+
+/// The job that the words ask for, the first of which is the program's name. A budget may have a power of ten, as `1e6`.
+///
+/// # Errors
+///
+/// `Help` where help or the version is asked for, `Bad` where the words are refused, each with the text for the
+/// user; and `Memory`.
+pub fn read_words(alloc: Global, words: &[String]) -> Result<Job, WordsFault>
+    ensures { Answers (refusals (map string_bytes words.now))
+        (asked_of (map string_bytes words.now)) result }
+{
+    let words = in_digits(alloc, words)?;
+    read_plain(alloc, words.as_slice())
 }

@@ -1,4 +1,4 @@
-use Rattle.std.proofs.Common.{◌≡◌, subst, codes}
+use Rattle.std.proofs.Common.{subst, codes}
 use Rattle.sg_words.specs.kept.Building.{Builds}
 use Rattle.clap.specs.Words.{app_of, rule_of}
 use Rattle.sg_words.specs.CommandLine.{name_rule}
