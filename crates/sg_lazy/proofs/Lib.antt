@@ -23,3 +23,4 @@ pub mod Waited
 pub mod Floors
 pub mod Apart
 pub mod Filled
+pub mod Untouched

@@ -32,7 +32,7 @@ sum_held g [] = refl
 sum_held g (None ∷ slots) = omega (arith, sum_held g slots, sum_by-cons (part g) None slots)
 sum_held g (Some r ∷ slots) = sum_by-cons g r (running_flows slots) ∙ ap (λ n. g r + n) (sum_held g slots) ∙ sym (sum_by-cons (part g) (Some r) slots)
 
-In-held : (slots : List (Option RunningFlow)) (id : ℕ) (r : RunningFlow) → get_or slots id None ≡ Some r → In r (running_flows slots)
+pub In-held : (slots : List (Option RunningFlow)) (id : ℕ) (r : RunningFlow) → get_or slots id None ≡ Some r → In r (running_flows slots)
 In-held [] id r h = let q : None ≡ Some r = h in cc
 In-held (None ∷ slots) zero r h = let q : None ≡ Some r = h in cc
 In-held (Some s ∷ slots) zero r h = inl (same s r h)
@@ -73,17 +73,17 @@ or_parts : (a b : Bool) → (a || b) ≡ true → (a ≡ true) ⊎ (b ≡ true)
 or_parts true b e = inl refl
 or_parts false b e = inr e
 
-both_true : (a b : Bool) → a ≡ true → b ≡ true → (a && b) ≡ true
+pub both_true : (a b : Bool) → a ≡ true → b ≡ true → (a && b) ≡ true
 both_true true true e f = refl
 both_true false b e f = absurd (true≢false (sym e))
 both_true true false e f = absurd (true≢false (sym f))
 
-first_reached : (n : ℕ) (flows : List Flow) (first : ℕ → Bool) (c : ℕ) → first c ≡ true → reach n flows first c ≡ true
+pub first_reached : (n : ℕ) (flows : List Flow) (first : ℕ → Bool) (c : ℕ) → first c ≡ true → reach n flows first c ≡ true
 unfolding reach spread
 first_reached zero flows first c e = e
 first_reached (suc n) flows first c e = or_left (reach n flows first c) (list_any (λ flow. is_on c flow && touches (reach n flows first) flow) flows) (first_reached n flows first c e)
 
-next_reached : (n : ℕ) (flows : List Flow) (first : ℕ → Bool) (c : ℕ) (flow : Flow) → In flow flows → is_on c flow ≡ true → touches (reach n flows first) flow ≡ true → reach (suc n) flows first c ≡ true
+pub next_reached : (n : ℕ) (flows : List Flow) (first : ℕ → Bool) (c : ℕ) (flow : Flow) → In flow flows → is_on c flow ≡ true → touches (reach n flows first) flow ≡ true → reach (suc n) flows first c ≡ true
 unfolding reach spread
 next_reached n flows first c flow i u t = or_right (reach n flows first c) (list_any (λ flow. is_on c flow && touches (reach n flows first) flow) flows) (list_any_in (λ flow. is_on c flow && touches (reach n flows first) flow) flows flow i (both_true (is_on c flow) (touches (reach n flows first) flow) u t))
 

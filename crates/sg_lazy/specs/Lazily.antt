@@ -5,7 +5,7 @@ use Rattle.sg_base.specs.MarkSet.{is_in, with_mark}
 use Rattle.sg_maxmin.specs.Fill.{Flow, share_of}
 use Rattle.sg_maxmin.specs.Sharing.{flow_code}
 use Rattle.sg_lazy.specs.RunningFlow.{RunningFlow, bounded_by, running_at, flow_under, running_flows, flows_in}
-use Rattle.sg_lazy.specs.Work.{work}
+use Rattle.sg_lazy.specs.Work.{is_joined, work}
 
 -- the capacities, what runs under each number, the flows that ended since the last settling, the resources whose capacities changed since, the numbers of the flows whose rates it changed, and room for so many flows and uses more
 pub record Lazily : Type 0 where
@@ -86,3 +86,7 @@ pub record IsSettled (old new : Lazily) : Type 0 where
 -- how many looks a settling may take
 abbrev pub looks_of : Lazily → ℕ
 looks_of s = work (running_flows s.slots) s.ended s.resources
+
+-- A flow that no change since the last settling touches has the rate that it has in the whole.
+abbrev pub KeepUntouched : Lazily → Type 0
+KeepUntouched s = (id : ℕ) (running : RunningFlow) → running_at s.slots id ≡ Some running → is_joined (running_flows s.slots) s.ended s.resources running ≡ false → running.rate ≡ share_of s.capacities (flows_in s.slots) running.flow

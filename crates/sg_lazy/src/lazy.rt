@@ -3,7 +3,7 @@ ghost use Rattle.std.specs.Prelude.{◌≡◌, ◌≤◌, ◌<◌, ◌+◌, IsSo
 ghost use Rattle.sg_maxmin.specs.Fill.{flow};
 ghost use Rattle.sg_maxmin.specs.Sharing.{IsFlow};
 ghost use Rattle.sg_lazy.specs.RunningFlow.{running_at};
-ghost use Rattle.sg_lazy.specs.Lazily.{IsFresh, IsRoomier, IsSettled, looks_of, with_bound, with_capacity, with_flow, without_flow};
+ghost use Rattle.sg_lazy.specs.Lazily.{IsFresh, IsRoomier, IsSettled, KeepUntouched, looks_of, with_bound, with_capacity, with_flow, without_flow};
 
 use crate::component::Component;
 use crate::filling::Filling;
@@ -175,6 +175,14 @@ impl Lazy {
         self.pending.marked.clear();
         self.pending.ended.clear();
         self.pending.resources.clear();
+    }
+
+    /// A flow that no change since the last settling touches has the rate that it has in the whole, so that a settling
+    /// keeps it.
+    pub fn untouched_keep(&self)
+        ensures { KeepUntouched self.now }
+    {
+        let _numbers = self.system.numbers();
     }
 
     /// The rate that the last settling gave to a flow; 0 for one that began since.
