@@ -1,0 +1,4 @@
+pub mod Folded
+pub mod Messages
+pub mod Pairs
+pub mod Turns
