@@ -26,6 +26,12 @@ pub record TakesFirst {A : Type 0} (given : Result Setting Refusal) (how : Statu
   pub within : taken ≤ length old
   pub left : new ≡ drop taken old
 
+-- Of the crew the first contexts were taken, if any.
+pub record TakesFront {A : Type 0} (old new : List A) : Type 0 where
+  pub taken : ℕ
+  pub within : taken ≤ length old
+  pub left : new ≡ drop taken old
+
 -- Of the crew as many contexts were taken as the outcome takes, the first ones, and no more where the call was cut off.
 pub record TakesContexts {A : Type 0} (want : Outcome) (how : Status) (old new : List A) : Type 0 where
   pub taken : ℕ

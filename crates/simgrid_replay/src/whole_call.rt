@@ -11,7 +11,7 @@ ghost use Rattle.sg_edge.specs.Cause.{HasCause};
 ghost use Rattle.simgrid_replay.specs.PartSources.{request_of, AskFor, IsNamedBy, PartsGive, TextsGive};
 ghost use Rattle.simgrid_replay.specs.PartOrder.{AreBounded, IsTextBroken, SparesRest};
 ghost use Rattle.simgrid_replay.specs.kept.Reading.{ComesTo, IsCallCause, IsStart, SeatsJob, TakesParts};
-ghost use Rattle.simgrid_replay.specs.Contexts.{TakesContexts, TakesFirst};
+ghost use Rattle.simgrid_replay.specs.Contexts.{TakesContexts, TakesFirst, TakesFront};
 ghost use Rattle.simgrid_replay.specs.Outcome.{is_refusal, outcome, HasOutcome, IsWhole, ReportsWords};
 ghost use Rattle.simgrid_replay.specs.Settings.{platform_given, setting};
 ghost use Rattle.simgrid_replay.specs.Requests.{has_parts, has_script};
@@ -131,13 +131,14 @@ pub fn simgrid<R: Threads + Sync, F: Files, O: Sinks, L: Ledger>(
         → TakesContexts (outcome job (length crew.old.items) p d s) result
         crew.old.items crew.new.items }
 
-    // Help, the version, and what is wrong with the words: no part is begun, and nobody takes a
-    // context.
+    // Help, the version, and what is wrong with the words: no part is begun, nobody takes a context,
+    // and nothing is looked at.
     ensures refused { refusals (map string_bytes words.now) ≢ []
         → ReportsWords (refusals (map string_bytes words.now))
         result (O.contents out.old) (O.contents out.new) }
     ensures untouched { refusals (map string_bytes words.now) ≢ [] → files.new ≡ files.old }
     ensures spared { refusals (map string_bytes words.now) ≢ [] → crew.new.items ≡ crew.old.items }
+    ensures unlooked { refusals (map string_bytes words.now) ≢ [] → steps.new ≡ steps.old }
 
     // No part is begun behind one that is refused or can't be read, and none that the job doesn't
     // have.
@@ -164,6 +165,7 @@ pub fn simgrid<R: Threads + Sync, F: Files, O: Sinks, L: Ledger>(
     ensures rest { SparesRest result (F.shows files.old) (F.shows files.new) }
     ensures unseated { IsTrue (is_refusal result) → crew.new.items ≡ crew.old.items }
     ensures broken_text { IsTextBroken (F.shows files.new) → crew.new.items ≡ crew.old.items }
+    ensures front { TakesFront crew.old.items crew.new.items }
 
     // The causes of a failed write and of a failed read.
     ensures cause { HasCause (result ≡ Status.WriteFault) (result ≡ Status.ReadFault)

@@ -14,7 +14,7 @@ use Rattle.sg_engine.specs.RunContract.{IsReadOnDemand}
 use Rattle.sg_words.specs.CommandLine.{Asked, Request}
 use Rattle.simgrid_replay.specs.PartOrder.{AreBounded, IsTextBroken}
 use Rattle.simgrid_replay.specs.PartSources.{IsNamedBy, TextsGive}
-use Rattle.simgrid_replay.specs.Contexts.{TakesFirst}
+use Rattle.simgrid_replay.specs.Contexts.{TakesFirst, TakesFront}
 use Rattle.simgrid_replay.specs.Outcome.{Outcome, HasOutcome, is_cut, is_refusal}
 use Rattle.simgrid_replay.specs.Settings.{platform_given, setting}
 use Rattle.simgrid_replay.specs.Requests.{has_parts, has_script}
@@ -108,3 +108,4 @@ pub record SeatsJob {A : Type 0} (job : Asked) (how : Status) (old new : Part �
   pub first : (p d : Source) → TextsGive job.request old new p d → TakesFirst (setting job.request (length had) p d) how had has
   pub refused : IsTrue (is_refusal how) → has ≡ had
   pub broken : IsTextBroken new → has ≡ had
+  pub front : TakesFront had has

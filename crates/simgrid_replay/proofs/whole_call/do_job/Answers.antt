@@ -65,6 +65,7 @@ returns-in-Ok-clause-crew g c = record {
   refused = λ is. absurd (let e : true ≡ false = sym is ∙ c.run_job.ensures.unrefused in cc);
   broken = none_broken (g.F.Files.shows c.prepare.new.files) (g.F.Files.shows c.run_job.new.files) (c.run_job.ensures.script.others Platform (λ e. cc)) (c.run_job.ensures.script.others Deployment (λ e. cc))
       (c.in-Ok.ensures.read.platform_whole refl) (c.in-Ok.ensures.read.deployment_whole refl);
+  front = let first = c.run_job.ensures.crew in record { taken = first.taken; within = first.within; left = first.left };
 }
 
 pub returns-in-Err-clause-crew : goal.returns-in-Err-clause-crew
@@ -75,6 +76,7 @@ returns-in-Err-clause-crew g c = record {
       (λ told. sym (ap (λ (n : ℕ). setting (request_of c.args.job.now) n p d) (sym contexts) ∙ c.in-Err.ensures.given p d texts (λ e. told (cc)))) c.refuse.ensures.memory;
   refused = λ is. refl;
   broken = λ is. refl;
+  front = record { taken = 0; within = omega (arith); left = refl };
 }
 
 pub returns-in-Ok-clause-parts : goal.returns-in-Ok-clause-parts

@@ -170,3 +170,9 @@ returns-in-Err-clause-rest g c = record { platform = λ is. absurd (c.report_wor
 
 pub do_job-requires-clause-start : goal.do_job-requires-clause-start
 do_job-requires-clause-start g c κs within = record { fresh = c.requires.fresh; blank = c.requires.blank }
+
+pub returns-in-Ok-clause-front : goal.returns-in-Ok-clause-front
+returns-in-Ok-clause-front g c = c.do_job.ensures.crew.front
+
+pub returns-in-Err-clause-front : goal.returns-in-Err-clause-front
+returns-in-Err-clause-front g c = record { taken = 0; within = omega (arith); left = refl }
