@@ -20,16 +20,13 @@ use Rattle.sg_script.specs.kept.Spending.{IsThrifty, Spends}
 use Rattle.sg_script.specs.kept.Steps.{Goes, Answers, Ends, no_ask, one_ask}
 use Rattle.sg_script.proofs.Chains.{may_back}
 use Rattle.sg_script.proofs.QueueLemmas.{none_wait}
+use Rattle.sg_script.proofs.Spending.{no_length}
 
 -- the answer to an Ask of a source that has a piece more
 joined : (known : Known) (taken piece rest : List ℕ) (broken : Bool) (actor k : ℕ) → answer_of known (record { bytes = (taken ++ piece) ++ rest; broken = broken }) actor k ≡ answer_of known (record { bytes = taken ++ (piece ++ rest); broken = broken }) actor k
 joined known taken piece rest broken actor k = ap (λ (bytes : List ℕ). answer_of known (record { bytes = bytes; broken = broken }) actor k) (append_assoc taken piece rest)
 
 -- ---- what is needed
-no_length : (l : List ℕ) → length l ≡ 0 → l ≡ []
-no_length [] none = refl
-no_length (x ∷ l) none = absurd (omega (arith, none))
-
 some_wait : (l : List Action) → (l ≡ []) ⊎ (l ≢ [])
 some_wait [] = inl refl
 some_wait (x ∷ l) = inr (λ e. cc)
@@ -55,7 +52,7 @@ need_next known taken piece rest broken source asks actor stage old stands may b
     source_is : (source : Source) (bytes : List ℕ) (broken : Bool) → source.bytes ≡ bytes → source.broken ≡ broken → source ≡ record { bytes = bytes; broken = broken }
     source_is source bytes broken is same = ap₂ (λ (b : List ℕ) (m : Bool). record { bytes = b; broken = m }) is same
 
-near_need : (known : Known) (taken piece : List ℕ) (asks : ℕ → ℕ) (actor : ℕ) (v w : PartView) (old : Kept) → Stands known taken v.stage asks old → Reads piece v w → IsThrifty known actor w.stage piece old → IsNearNeed known taken piece w.stage actor (asks actor)
+near_need : (known : Known) (taken piece : List ℕ) (asks : ℕ → ℕ) (actor : ℕ) (v w : PartView) (old : Kept) → Stands known taken v.stage asks old → Reads piece v w → IsThrifty known actor v.stage w.stage piece old → IsNearNeed known taken piece w.stage actor (asks actor)
 near_need known taken piece asks actor v w old stands reads thrifty source goes = elim (some_wait (waits known.members old.queues actor)) [
   | inr waits ↦ inl (thrifty.idle waits)
   | inl empty ↦ elim (thrifty.near goes.rest source.broken goes.may) [

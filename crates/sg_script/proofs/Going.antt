@@ -35,7 +35,7 @@ pub goes_then : (known : Known) (actor : ℕ) (u v w : PartView) (a b c : Kept) 
 goes_then known actor u v w a b c empty empty' first second = record {
   piece = first.piece ++ second.piece;
   reads = reads_then first.piece second.piece u v w first.reads second.reads;
-  thrifty = thrifty_then known actor v.stage w.stage first.piece second.piece a b empty empty' second.reads.stayed first.spends first.thrifty second.thrifty;
+  thrifty = thrifty_then known actor u.stage v.stage w.stage first.piece second.piece a b empty empty' first.reads.stayed second.reads.stayed first.spends first.thrifty second.thrifty;
   spends = spends_then known v.stage w.stage first.piece second.piece no_ask a b c second.reads.stayed first.spends second.spends;
   moves = moves_then known v.stage w.stage first.piece second.piece a b c second.reads.stayed first.moves second.moves;
   queues = second.queues ∙ first.queues;
@@ -45,7 +45,7 @@ answers_then : (known : Known) (actor : ℕ) (answer : Result (Option Action) Sc
 answers_then known actor answer u v w a b c empty empty' first second = record {
   piece = first.piece ++ second.piece;
   reads = reads_then first.piece second.piece u v w first.reads second.reads;
-  thrifty = thrifty_then known actor v.stage w.stage first.piece second.piece a b empty empty' second.reads.stayed first.spends first.thrifty second.thrifty;
+  thrifty = thrifty_then known actor u.stage v.stage w.stage first.piece second.piece a b empty empty' first.reads.stayed second.reads.stayed first.spends first.thrifty second.thrifty;
   spends = spends_then known v.stage w.stage first.piece second.piece (one_ask actor) a b c second.reads.stayed first.spends second.spends;
   tells = tells_then known actor answer v.stage w.stage first.piece second.piece a b c second.reads.stayed first.moves second.tells;
   queues = second.queues ∙ first.queues;

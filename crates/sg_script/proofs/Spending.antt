@@ -1,11 +1,11 @@
 -- What one step reads, and several.
-use Rattle.std.proofs.Common.{◌≡◌, ◌≢◌, ◌<◌, ◌≤◌, ◌+◌, ◌∙◌, sym, ap, ap₂, refl, ℕ, Bool, true, false, eqb, List, [], ◌∷◌, ◌++◌, length, take, drop, Option, None, Some, Result, Ok, Err, inl, inr, arith, append_assoc, length-append, length-drop}
+use Rattle.std.proofs.Common.{◌≡◌, ◌≢◌, ◌⊎◌, ◌<◌, ◌≤◌, ◌+◌, ◌∙◌, sym, ap, ap₂, subst, refl, ℕ, Bool, true, false, eqb, List, [], ◌∷◌, ◌++◌, length, take, drop, Option, None, Some, Result, Ok, Err, inl, inr, arith, append_assoc, length-append, length-drop}
 use Rattle.std.proofs.lemmas.Bool.{cases_Bool, cases_lt}
 use Rattle.std.proofs.lemmas.Bool.Decides.{nat_tests}
-use Rattle.std.proofs.lemmas.List.{get_or-set_same, get_or-set_other}
+use Rattle.std.proofs.lemmas.List.{append-nil, get_or-set_same, get_or-set_other}
 use Rattle.sg_edge.specs.Files.{PartView}
 use Rattle.sg_edge.specs.declared.files.Stage.{Stage}
-use Rattle.sg_edge.specs.declared.files.Stage.TheVariants.{Begun}
+use Rattle.sg_edge.specs.declared.files.Stage.TheVariants.{Fresh, Begun, Over, Broken}
 use Rattle.sg_base.specs.declared.call.Action.{Action}
 use Rattle.sg_script.specs.declared.line.Entry.{Entry}
 use Rattle.sg_script.specs.declared.waiting.Waiting.{Waiting}
@@ -20,16 +20,25 @@ use Rattle.sg_script.specs.Operation.{line_actions}
 use Rattle.sg_script.specs.kept.Queues.{waits}
 use Rattle.sg_script.specs.Stands.{Kept}
 use Rattle.sg_script.specs.kept.Steps.{Ends, HasQueue, ReadIs, no_ask, one_ask, queues_with}
-use Rattle.sg_script.specs.Frugal.{cost_from, IsNear, Frugal}
+use Rattle.sg_script.specs.Frugal.{cost_from, IsNear, Frugal, Suffices}
 use Rattle.sg_script.specs.kept.Spending.{IsThrifty, Spends}
 use Rattle.sg_script.proofs.Chains.{may_back}
 use Rattle.sg_script.proofs.Needs.{open_needs}
 use Rattle.sg_script.proofs.QueueLemmas.{said_waits}
 
 -- ---- one step
+pub no_length : (l : List ℕ) → length l ≡ 0 → l ≡ []
+no_length [] none = refl
+no_length (x ∷ l) none = absurd (omega (arith, none))
+
 -- nothing was read
-pub thrifty_none : (known : Known) (actor : ℕ) (stage : Stage) (old : Kept) → IsThrifty known actor stage [] old
-thrifty_none known actor stage old = record { near = λ rest broken may. inl refl; idle = λ waits. refl }
+pub thrifty_none : (known : Known) (actor : ℕ) (stage : Stage) (old : Kept) → IsThrifty known actor stage stage [] old
+thrifty_none known actor stage old = record {
+  near = λ rest broken may. inl refl;
+  idle = λ waits. refl;
+  enough = λ suffices. refl;
+  last = λ suffices. refl;
+}
 
 -- what isn't read or asked for needs what it needed
 pub later_same : (known : Known) (broken : Bool) (actor lines : ℕ) (bytes : List ℕ) (n later : ℕ) → n ≡ 0 → need_from known broken actor lines bytes (n + later) ≡ need_from known broken actor lines bytes later
@@ -63,13 +72,30 @@ spends_piece known v w old new read = record {
       omega (arith, after, later_same known broken x old.lines (old.pending ++ (read.piece ++ rest)) 0 later refl, ap length read.pending, length-append old.pending read.piece);
 }
 
-pub thrifty_piece : (known : Known) (actor : ℕ) (v w : PartView) (old new : Kept) → IsOpen old.lines old.pending → old.lines ≤ 100000000 → waits known.members old.queues actor ≡ [] → (read : ReadIs v w old new) → IsThrifty known actor w.stage read.piece old
+-- nothing suffices behind an open front
+open_lacks : (known : Known) (actor : ℕ) (kept : Kept) → IsOpen kept.lines kept.pending → kept.lines ≤ 100000000 → Suffices known actor kept [] → ⊥
+open_lacks known actor kept is few suffices =
+    omega (arith, suffices (10 ∷ []) false, open_needs known false actor kept.lines 0 kept.pending (10 ∷ []) is few (omega arith))
+
+-- a piece that suffices has bytes, and behind them the part is open still
+last_piece : (known : Known) (actor : ℕ) (v w : PartView) (old new : Kept) → IsOpen old.lines old.pending → old.lines ≤ 100000000 → (read : ReadIs v w old new) → Suffices known actor old read.piece → w.stage ≡ v.stage
+last_piece known actor v w old new is few read suffices = elim (cases_lt 0 (length read.piece)) [
+  | inl some ↦ read.some some
+  | inr none ↦
+      let nothing : read.piece ≡ [] = no_length read.piece (omega (arith, none)) in
+      let lacks : Suffices known actor old [] → ⊥ = open_lacks known actor old is few in
+      absurd (lacks (subst (Suffices known actor old) nothing suffices))
+]
+
+pub thrifty_piece : (known : Known) (actor : ℕ) (v w : PartView) (old new : Kept) → IsOpen old.lines old.pending → old.lines ≤ 100000000 → waits known.members old.queues actor ≡ [] → (read : ReadIs v w old new) → IsThrifty known actor v.stage w.stage read.piece old
 thrifty_piece known actor v w old new is few empty read = record {
   near = λ rest broken may. elim (cases_lt 0 (length read.piece)) [
     | inl some ↦ inr (omega (arith, open_needs known broken actor old.lines 0 old.pending (read.piece ++ rest) is few (omega (arith, some, length-append read.piece rest)), read.short))
     | inr none ↦ inl (omega (arith, none))
   ];
   idle = λ waits. absurd (waits empty);
+  enough = λ suffices. absurd (open_lacks known actor old is few suffices);
+  last = last_piece known actor v w old new is few read;
 }
 
 -- a line was taken off the front
@@ -110,20 +136,71 @@ near_then known actor a b p q rest broken one first second = elim second [
   | inr near ↦ inr (rw (append_assoc p q rest) (omega (arith, near, one, length-append p q)))
 ]
 
-pub thrifty_then : (known : Known) (actor : ℕ) (s t : Stage) (p q : List ℕ) (a b : Kept) → waits known.members a.queues actor ≡ [] → waits known.members b.queues actor ≡ [] → (s ≢ Begun → (q ≡ []) × (t ≡ s))
-    → Spends known s p no_ask a b → IsThrifty known actor s p a → IsThrifty known actor t q b → IsThrifty known actor t (p ++ q) a
-thrifty_then known actor s t p q a b empty empty' stayed spends first second = record {
+-- what an actor without a queue needs behind a piece is less by what was taken off the front
+cost_then : (known : Known) (actor : ℕ) (s : Stage) (p : List ℕ) (a b : Kept) → waits known.members a.queues actor ≡ [] → waits known.members b.queues actor ≡ [] → Spends known s p no_ask a b → (rest : List ℕ) (broken : Bool) → May s rest broken
+    → cost_from known a (p ++ rest) broken actor + length b.pending ≡ length a.pending + length p + cost_from known b rest broken actor
+cost_then known actor s p a b empty empty' spends rest broken may =
+    let none : spends.own actor ≡ 0 = omega (arith, spends.queued actor, ap length empty, ap length empty') in
+    omega (arith, spends.cost rest broken may actor 0, later_same known broken actor a.lines (a.pending ++ (p ++ rest)) (spends.own actor) 0 none)
+
+begun_or_not : (s : Stage) → (s ≡ Begun) ⊎ (s ≢ Begun)
+begun_or_not Fresh = inr (λ e. cc)
+begun_or_not Begun = inl refl
+begun_or_not Over = inr (λ e. cc)
+begun_or_not Broken = inr (λ e. cc)
+
+all_may : (s : Stage) (rest : List ℕ) (broken : Bool) → s ≡ Begun → May s rest broken
+all_may s rest broken is = rw is tt
+
+-- what suffices with two pieces suffices with the second, where the first was read
+suffices_then : (known : Known) (actor : ℕ) (s : Stage) (p q : List ℕ) (a b : Kept) → s ≡ Begun → waits known.members a.queues actor ≡ [] → waits known.members b.queues actor ≡ [] → Spends known s p no_ask a b → Suffices known actor a (p ++ q) → Suffices known actor b q
+suffices_then known actor s p q a b is empty empty' spends suffices rest broken =
+    let whole : cost_from known a (p ++ (q ++ rest)) broken actor ≤ length a.pending + length (p ++ q) = subst (λ (bytes : List ℕ). cost_from known a bytes broken actor ≤ length a.pending + length (p ++ q)) (append_assoc p q rest) (suffices rest broken) in
+    omega (arith, whole, cost_then known actor s p a b empty empty' spends (q ++ rest) broken (all_may s (q ++ rest) broken is), length-append p q)
+
+-- where the first piece suffices nothing is read behind it
+enough_then : (known : Known) (actor : ℕ) (u s t : Stage) (p q : List ℕ) (a b : Kept) → waits known.members a.queues actor ≡ [] → waits known.members b.queues actor ≡ [] → (s ≢ Begun → (q ≡ []) × (t ≡ s))
+    → Spends known s p no_ask a b → IsThrifty known actor u s p a → IsThrifty known actor s t q b → Suffices known actor a [] → p ++ q ≡ []
+enough_then known actor u s t p q a b empty empty' stayed spends first second suffices =
+    let none : p ≡ [] = first.enough suffices in
+    let none' : q ≡ [] = elim (begun_or_not s) [
+      | inl is ↦
+          let front : p ++ [] ≡ [] = rw none refl in
+          second.enough (suffices_then known actor s p [] a b is empty empty' spends (subst (Suffices known actor a) (sym front) suffices))
+      | inr isnt ↦ (stayed isnt).0
+    ] in
+    rw (none, none') refl
+
+-- where both pieces suffice the part is as open as before them
+last_then : (known : Known) (actor : ℕ) (u s t : Stage) (p q : List ℕ) (a b : Kept) → waits known.members a.queues actor ≡ [] → waits known.members b.queues actor ≡ [] → (u ≢ Begun → (p ≡ []) × (s ≡ u)) → (s ≢ Begun → (q ≡ []) × (t ≡ s))
+    → Spends known s p no_ask a b → IsThrifty known actor u s p a → IsThrifty known actor s t q b → Suffices known actor a (p ++ q) → t ≡ u
+last_then known actor u s t p q a b empty empty' stayed stayed' spends first second suffices = elim (begun_or_not s) [
+  | inl is ↦
+      let here : t ≡ s = second.last (suffices_then known actor s p q a b is empty empty' spends suffices) in
+      elim (begun_or_not u) [
+        | inl was ↦ here ∙ is ∙ sym was
+        | inr wasnt ↦ here ∙ (stayed wasnt).1
+      ]
+  | inr isnt ↦
+      let (none, same) = stayed' isnt in
+      let front : p ++ q ≡ p = rw none (append-nil p) in
+      same ∙ first.last (subst (Suffices known actor a) front suffices)
+]
+
+pub thrifty_then : (known : Known) (actor : ℕ) (u s t : Stage) (p q : List ℕ) (a b : Kept) → waits known.members a.queues actor ≡ [] → waits known.members b.queues actor ≡ [] → (u ≢ Begun → (p ≡ []) × (s ≡ u)) → (s ≢ Begun → (q ≡ []) × (t ≡ s))
+    → Spends known s p no_ask a b → IsThrifty known actor u s p a → IsThrifty known actor s t q b → IsThrifty known actor u t (p ++ q) a
+thrifty_then known actor u s t p q a b empty empty' stayed stayed' spends first second = record {
   near = λ rest broken may.
-      let may' : May s (q ++ rest) broken = may_back s t q rest broken stayed may in
-      let none : spends.own actor ≡ 0 = omega (arith, spends.queued actor, ap length empty, ap length empty') in
-      let one : cost_from known a (p ++ (q ++ rest)) broken actor + length b.pending ≡ length a.pending + length p + cost_from known b (q ++ rest) broken actor = omega (arith, spends.cost (q ++ rest) broken may' actor 0, later_same known broken actor a.lines (a.pending ++ (p ++ (q ++ rest))) (spends.own actor) 0 none) in
-      near_then known actor a b p q rest broken one (first.near (q ++ rest) broken may') (second.near rest broken may);
+      let may' : May s (q ++ rest) broken = may_back s t q rest broken stayed' may in
+      near_then known actor a b p q rest broken (cost_then known actor s p a b empty empty' spends (q ++ rest) broken may') (first.near (q ++ rest) broken may') (second.near rest broken may);
   idle = λ waits. absurd (waits empty);
+  enough = enough_then known actor u s t p q a b empty empty' stayed' spends first second;
+  last = last_then known actor u s t p q a b empty empty' stayed stayed' spends first second;
 }
 
 -- ---- an Ask
 pub frugal_of : (known : Known) (actor : ℕ) (answer : Result (Option Action) ScriptFault) (v w : PartView) (old new : Kept) → Ends known actor answer v w old new → Frugal known actor v w old
-frugal_of known actor (Ok found) v w old new is = record { piece = is.piece; reads = is.reads; near = is.thrifty.near; idle = is.thrifty.idle }
-frugal_of known actor (Err (Line n kind)) v w old new is = record { piece = is.piece; reads = is.reads; near = is.thrifty.near; idle = is.thrifty.idle }
-frugal_of known actor (Err Read) v w old new is = record { piece = is.piece; reads = is.reads; near = is.thrifty.near; idle = is.thrifty.idle }
-frugal_of known actor (Err Memory) v w old new is = record { piece = is.piece; reads = is.reads; near = is.thrifty.near; idle = is.thrifty.idle }
+frugal_of known actor (Ok found) v w old new is = record { piece = is.piece; reads = is.reads; near = is.thrifty.near; idle = is.thrifty.idle; enough = is.thrifty.enough; last = is.thrifty.last }
+frugal_of known actor (Err (Line n kind)) v w old new is = record { piece = is.piece; reads = is.reads; near = is.thrifty.near; idle = is.thrifty.idle; enough = is.thrifty.enough; last = is.thrifty.last }
+frugal_of known actor (Err Read) v w old new is = record { piece = is.piece; reads = is.reads; near = is.thrifty.near; idle = is.thrifty.idle; enough = is.thrifty.enough; last = is.thrifty.last }
+frugal_of known actor (Err Memory) v w old new is = record { piece = is.piece; reads = is.reads; near = is.thrifty.near; idle = is.thrifty.idle; enough = is.thrifty.enough; last = is.thrifty.last }

@@ -1,4 +1,4 @@
--- What is read is needed, but for less than a piece.
+-- What is read is needed, but for less than a piece, and is asked for only where it is needed.
 use Rattle.std.specs.Prelude.{◌≡◌, ◌≢◌, [], ◌≤◌, ◌⊎◌, ℕ, Bool, ◌+◌, ◌++◌, List, length}
 use Rattle.sg_edge.specs.Files.{PartView}
 use Rattle.sg_script.specs.Known.{Known}
@@ -17,8 +17,15 @@ abbrev pub IsNear : Known → ℕ → List ℕ → Kept → List ℕ → Bool �
 IsNear known actor piece old rest broken = (length piece ≡ 0)
     ⊎ (length old.pending + length piece ≤ cost_from known old (piece ++ rest) broken actor + 4095)
 
--- an Ask read nothing, or less than a piece more than it needs, whatever may still come; and
--- nothing where an action waits for the actor
+-- what is kept, with a piece behind it, answers the next Ask of an actor without a queue, whatever
+-- follows
+abbrev pub Suffices : Known → ℕ → Kept → List ℕ → Type 0
+Suffices known actor kept piece = (rest : List ℕ) (broken : Bool) →
+    cost_from known kept (piece ++ rest) broken actor ≤ length kept.pending + length piece
+
+-- An Ask read nothing, or less than a piece more than it needs, whatever may still come; nothing
+-- where an action waits for the actor, or what is kept suffices; and behind a piece that suffices
+-- no read follows, which may meet the end or fail.
 pub record Frugal (known : Known) (actor : ℕ) (old_part new_part : PartView)
     (old : Kept) : Type 0 where
   pub piece : List ℕ
@@ -26,3 +33,5 @@ pub record Frugal (known : Known) (actor : ℕ) (old_part new_part : PartView)
   pub near : (rest : List ℕ) (broken : Bool) → May new_part.stage rest broken →
       IsNear known actor piece old rest broken
   pub idle : waits known.members old.queues actor ≢ [] → piece ≡ []
+  pub enough : Suffices known actor old [] → piece ≡ []
+  pub last : Suffices known actor old piece → new_part.stage ≡ old_part.stage

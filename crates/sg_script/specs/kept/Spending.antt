@@ -1,7 +1,7 @@
 -- What the steps of an Ask have read, and what is needed from then on.
 use Rattle.std.specs.Prelude.{◌≡◌, ◌≢◌, ◌+◌, ◌++◌, ℕ, Bool, List, [], length}
 use Rattle.sg_edge.specs.declared.files.Stage.{Stage}
-use Rattle.sg_script.specs.Frugal.{IsNear}
+use Rattle.sg_script.specs.Frugal.{IsNear, Suffices}
 use Rattle.sg_script.specs.Known.{Known}
 use Rattle.sg_script.specs.Needed.{need_from}
 use Rattle.sg_script.specs.Rest.{May}
@@ -21,10 +21,12 @@ pub record Spends (known : Known) (stage : Stage) (piece : List ℕ) (asked : �
       ≡ length old.pending + length piece
       + need_from known broken actor new.lines (new.pending ++ rest) later
 
--- an Ask of this actor read nothing, or less than a piece more than it needs, whatever may still
--- come; and nothing where an action waits for it
-pub record IsThrifty (known : Known) (actor : ℕ) (stage : Stage) (piece : List ℕ)
+-- from this stage on an Ask of this actor read nothing, or less than a piece more than it needs,
+-- whatever may still come; nothing where it has its answer, and no further behind its answer
+pub record IsThrifty (known : Known) (actor : ℕ) (start stage : Stage) (piece : List ℕ)
     (old : Kept) : Type 0 where
   pub near : (rest : List ℕ) (broken : Bool) → May stage rest broken →
       IsNear known actor piece old rest broken
   pub idle : waits known.members old.queues actor ≢ [] → piece ≡ []
+  pub enough : Suffices known actor old [] → piece ≡ []
+  pub last : Suffices known actor old piece → stage ≡ start

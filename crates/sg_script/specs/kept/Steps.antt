@@ -47,7 +47,7 @@ pub record Goes (known : Known) (actor : ℕ) (old_part new_part : PartView)
     (old new : Kept) : Type 0 where
   pub piece : List ℕ
   pub reads : Reads piece old_part new_part
-  pub thrifty : IsThrifty known actor new_part.stage piece old
+  pub thrifty : IsThrifty known actor old_part.stage new_part.stage piece old
   pub spends : Spends known new_part.stage piece no_ask old new
   pub moves : Moves known new_part.stage piece old new
   pub queues : length new.queues ≡ length old.queues
@@ -57,7 +57,7 @@ pub record Answers (known : Known) (actor : ℕ) (answer : Result (Option Action
     (old_part new_part : PartView) (old new : Kept) : Type 0 where
   pub piece : List ℕ
   pub reads : Reads piece old_part new_part
-  pub thrifty : IsThrifty known actor new_part.stage piece old
+  pub thrifty : IsThrifty known actor old_part.stage new_part.stage piece old
   pub spends : Spends known new_part.stage piece (one_ask actor) old new
   pub tells : Tells known actor answer new_part.stage piece old new
   pub queues : length new.queues ≡ length old.queues
@@ -144,4 +144,5 @@ pub record ReadIs (old_part new_part : PartView) (old new : Kept) : Type 0 where
   pub lines : new.lines ≡ old.lines
   pub pending : new.pending ≡ old.pending ++ piece
   pub short : length piece ≤ 4096
+  pub some : 0 < length piece → new_part.stage ≡ old_part.stage
   pub less : to_do new_part.stage new < to_do old_part.stage old
