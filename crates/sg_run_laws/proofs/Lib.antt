@@ -1,0 +1,7 @@
+pub mod Called
+pub mod Passed
+pub mod Stretches
+pub mod Rounds
+pub mod Parts
+pub mod Ends
+pub mod Given

@@ -1,0 +1,40 @@
+-- How runs end.
+use Rattle.std.specs.Prelude.{◌≡◌, ℕ, ◌+◌, ◌<◌, ◌≤◌, false, IsTrue, IsSome, None, Some}
+use Rattle.sg_rows.specs.Platform.{IsPlatform}
+use Rattle.sg_engine.specs.declared.ended.Ended.TheVariants as ended
+use Rattle.sg_engine.specs.Run.{Scene, Answering, Progress, are_completed, at_world, round_or_pass, run_from, with_front}
+use Rattle.sg_engine.specs.World.{World}
+use Rattle.sg_kernel.specs.World.{Core}
+use Rattle.sg_await_laws.specs.Runs.{IsCoreOf, Run, first_in, parts_in, scene_in, whole}
+
+-- A run goes on with rounds and passes until it ends: here all have ended that began, or the next round or pass ends it, or it goes on behind that.
+pub data GoesTo (at : Scene) (answers : Answering) : World → Progress → Type 0 where
+  completes : {world : World} → IsTrue (are_completed world.core) → GoesTo at answers world (at_world (Some ended.Completed) world)
+  ends : {world : World} → are_completed world.core ≡ false → IsSome (round_or_pass at answers world).ended → GoesTo at answers world (round_or_pass at answers world)
+  goes_on : {world : World} {rest : Progress} → are_completed world.core ≡ false → (round_or_pass at answers world).ended ≡ None → GoesTo at answers (round_or_pass at answers world).world rest →
+      GoesTo at answers world (with_front (round_or_pass at answers world).made rest)
+
+-- The run as it is defined is the one to which its rounds and passes go, and they go to no other.
+pub record HasEnd (run : Run) : Type 0 where
+  pub goes : GoesTo (scene_in run) run.answers (first_in run) (whole run)
+  pub alone : (other : Progress) → GoesTo (scene_in run) run.answers (first_in run) other → other ≡ whole run
+  pub ended : IsSome (whole run).ended
+
+abbrev pub RunsEnd : Type 0
+RunsEnd = (run : Run) → IsPlatform run.platform → HasEnd run
+
+-- where there may be more rounds and passes it is the same
+abbrev pub MoreIsTheSame : Type 0
+MoreIsTheSame = (run : Run) (more : ℕ) → IsPlatform run.platform → run_from (run.budget + 1 + more) (scene_in run) run.answers (first_in run) ≡ whole run
+
+-- each round and each pass that doesn't end the run adds an event
+abbrev pub PartsCount : Type 0
+PartsCount = (run : Run) (parts : ℕ) → IsPlatform run.platform → (parts_in (parts + 1) run).ended ≡ None → (parts_in parts run).world.core.events < (parts_in (parts + 1) run).world.core.events
+
+-- No run has more events than its budget, and one that ends by it has as many.
+pub record KeepsBudget (run : Run) : Type 0 where
+  pub within : (core : Core) → IsCoreOf run core → core.events ≤ run.budget
+  pub used : (whole run).ended ≡ Some ended.Budget → (whole run).world.core.events ≡ run.budget
+
+abbrev pub BudgetsAreKept : Type 0
+BudgetsAreKept = (run : Run) → IsPlatform run.platform → KeepsBudget run
