@@ -1,0 +1,12 @@
+pub mod Listed
+pub mod Walked
+pub mod Users
+pub mod Balance
+pub mod OnRow
+pub mod HeldLevels
+pub mod RowRise
+pub mod Changing
+pub mod Converse
+pub mod Steps
+pub mod Marked
+pub mod Noted

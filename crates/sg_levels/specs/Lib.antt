@@ -1,0 +1,5 @@
+pub mod Balanced
+pub mod Numbered
+pub mod Held
+pub mod Changes
+pub mod Settling

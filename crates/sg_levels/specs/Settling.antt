@@ -1,0 +1,66 @@
+-- Levels and holds while they are made to agree: some resources wait to be looked at, and some users of one of them.
+use Rattle.std.specs.Prelude.{◌≡◌, ℕ, ◌<◌, ◌⊎◌, Bool, true, false, Option, None, Some, List, [], length, slice_index, slice_index_or}
+use Rattle.sg_base.specs.MarkSet.{MarkSet, is_in}
+use Rattle.sg_chains.specs.Chained.{users_on}
+use Rattle.sg_maxmin.specs.Fill.{Flow}
+use Rattle.sg_maxmin.specs.Sharing.{Sharing, IsSound, flow_at}
+use Rattle.sg_levels.specs.Numbered.{bound_of, level_at}
+use Rattle.sg_levels.specs.Held.{IsHold, AreHeld, IsAtMost}
+
+-- whether a resource waits to be looked at
+abbrev pub is_active : List Bool → ℕ → Bool
+is_active active r = slice_index_or active r false
+
+-- the level is that of the flow's bound, or what is written of one of its resources
+pub data HasCause (holds : List (Option ℕ)) (flow : Flow) (level : Option ℕ) : Type 0 where
+  at_bound : bound_of flow ≡ level → HasCause holds flow level
+  at_hold : (r : ℕ) → is_in r flow.uses ≡ true → level_at holds r ≡ level → HasCause holds flow level
+
+-- What is written of a resource that isn't active is its hold, and its users are no higher, but for those of c in `todo`.
+-- Each flow has a cause, but for those in `todo` that have the level which was written of c before.
+pub record AreSettlingOn (s : Sharing) (levels holds : List (Option ℕ)) (active : List Bool) (c : ℕ) (old : Option ℕ) (todo : List ℕ) : Type 0 where
+  pub resources : (r : ℕ) → r < length s.capacities → is_active active r ≡ false → IsHold (slice_index s.capacities r) s.slots levels (users_on s.users r) (level_at holds r)
+  pub within : (id : ℕ) (flow : Flow) → flow_at s.slots id ≡ Some flow → IsAtMost (level_at levels id) (bound_of flow)
+  pub under : (id r : ℕ) (flow : Flow) → flow_at s.slots id ≡ Some flow → is_in r flow.uses ≡ true → is_active active r ≡ false → IsAtMost (level_at levels id) (level_at holds r) ⊎ ((r ≡ c) × (is_in id todo ≡ true))
+  pub cause : (id : ℕ) (flow : Flow) → flow_at s.slots id ≡ Some flow → HasCause holds flow (level_at levels id) ⊎ ((is_in id todo ≡ true) × (level_at levels id ≡ old))
+
+-- the same where no user is left to be looked at
+abbrev pub AreSettling : Sharing → List (Option ℕ) → List (Option ℕ) → List Bool → Type 0
+AreSettling s levels holds active = AreSettlingOn s levels holds active 0 None []
+
+-- Once no resource is active, all flows are held, so their levels are those of the filling.
+abbrev pub SettlingEnds : Type 0
+SettlingEnds =
+    (s : Sharing) (levels holds : List (Option ℕ)) (active : List Bool) → IsSound s →
+    AreSettling s levels holds active → ((r : ℕ) → is_active active r ≡ false) → AreHeld s levels (level_at holds)
+
+-- Where all flows are held, no resource need be active: so a settling may begin after a filling.
+abbrev pub HeldSettles : Type 0
+HeldSettles =
+    (s : Sharing) (levels holds : List (Option ℕ)) (active : List Bool) → AreHeld s levels (level_at holds) →
+    AreSettling s levels holds active
+
+-- a flow that came, went or has another bound: the resources that it used or uses are active, and its level is that of its bound
+pub record IsChanged (old new : Option Flow) (level : Option ℕ) (active : List Bool) : Type 0 where
+  pub before : (flow : Flow) (r : ℕ) → old ≡ Some flow → is_in r flow.uses ≡ true → is_active active r ≡ true
+  pub after : (flow : Flow) (r : ℕ) → new ≡ Some flow → is_in r flow.uses ≡ true → is_active active r ≡ true
+  pub level_is : (flow : Flow) → new ≡ Some flow → level ≡ bound_of flow
+
+-- Flows came, went or have other bounds, and resources have other capacities: what they touch is active, and all else is as it was.
+pub record AreMarked (s t : Sharing) (old new : List (Option ℕ)) (active active' : List Bool) : Type 0 where
+  pub as_many : length t.capacities ≡ length s.capacities
+  pub capacities : (r : ℕ) → is_active active' r ≡ false → slice_index t.capacities r ≡ slice_index s.capacities r
+  pub marks : (r : ℕ) → is_active active' r ≡ false → is_active active r ≡ false
+  pub flows : (id : ℕ) → ((flow_at t.slots id ≡ flow_at s.slots id) × (level_at new id ≡ level_at old id)) ⊎ IsChanged (flow_at s.slots id) (flow_at t.slots id) (level_at new id) active'
+
+-- What is written stays right of what isn't active.
+abbrev pub ChangesKeep : Type 0
+ChangesKeep =
+    (s t : Sharing) (old new holds : List (Option ℕ)) (active active' : List Bool) → IsSound s → IsSound t → AreMarked s t old new active active' →
+    AreSettling s old holds active → AreSettling t new holds active'
+
+-- the members stay, and a flow whose level changed is one
+pub record AreNoted (old new : MarkSet) (levels levels' : List (Option ℕ)) : Type 0 where
+  pub room : new.room ≡ old.room
+  pub grows : (id : ℕ) → is_in id old.members ≡ true → is_in id new.members ≡ true
+  pub kept : (id : ℕ) → is_in id new.members ≡ false → level_at levels' id ≡ level_at levels id

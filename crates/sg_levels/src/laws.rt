@@ -1,0 +1,87 @@
+//! Laws of levels that balance and of holds. Each function does nothing, and its contract is the law.
+ghost use Rattle.sg_levels.specs.Balanced.{BalanceIsFilling, FillingBalances};
+ghost use Rattle.sg_levels.specs.Changes.{FullHolds, HoldIsLocal, HoldIsOne, HoldStays, HoldStaysFrom, OthersHoldNone, SlackHoldsNone, SlackIsAbove};
+ghost use Rattle.sg_levels.specs.Held.{FillingIsHeld, HeldIsFilling};
+ghost use Rattle.sg_levels.specs.Numbered.{RowTells};
+ghost use Rattle.sg_levels.specs.Settling.{ChangesKeep, HeldSettles, SettlingEnds};
+
+/// Levels that balance at each flow and at each resource are those of the filling.
+pub fn balance_is_filling()
+    ensures { BalanceIsFilling }
+{}
+
+/// The levels of the filling balance.
+pub fn filling_balances()
+    ensures { FillingBalances }
+{}
+
+/// The level of a resource depends on the flows on it alone.
+pub fn row_tells()
+    ensures { RowTells }
+{}
+
+/// Where each flow's level is the least of its bound's level and of its resources' holds, the levels are those of the
+/// filling.
+pub fn held_is_filling()
+    ensures { HeldIsFilling }
+{}
+
+/// In the filling each flow's level is the least of its bound's level and of its resources' holds.
+pub fn filling_is_held()
+    ensures { FillingIsHeld }
+{}
+
+/// A resource has one hold.
+pub fn hold_is_one()
+    ensures { HoldIsOne }
+{}
+
+/// A hold depends on the capacity, the flows on the resource and their levels alone.
+pub fn hold_is_local()
+    ensures { HoldIsLocal }
+{}
+
+/// A hold stays as long as no level below it changes.
+pub fn hold_stays()
+    ensures { HoldStays }
+{}
+
+/// A hold doesn't fall below the levels that change.
+pub fn hold_stays_from()
+    ensures { HoldStaysFrom }
+{}
+
+/// A resource whose flows leave enough is above a level.
+pub fn slack_is_above()
+    ensures { SlackIsAbove }
+{}
+
+/// A resource whose flows leave enough holds none of them.
+pub fn slack_holds_none()
+    ensures { SlackHoldsNone }
+{}
+
+/// After a filling a resource that is at the level of one of its users holds at it.
+pub fn full_holds()
+    ensures { FullHolds }
+{}
+
+/// After a filling a resource that is at the level of none of its users holds none.
+pub fn others_hold_none()
+    ensures { OthersHoldNone }
+{}
+
+/// Once no resource is active, all flows are held.
+pub fn settling_ends()
+    ensures { SettlingEnds }
+{}
+
+/// Where all flows are held, a settling may begin.
+pub fn held_settles()
+    ensures { HeldSettles }
+{}
+
+/// A change that makes active what it touches leaves what is written of all else right.
+pub fn changes_keep()
+    ensures { ChangesKeep }
+{}
