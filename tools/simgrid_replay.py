@@ -18,6 +18,7 @@ import sys
 import tempfile
 from collections import deque
 from decimal import Decimal
+from itertools import chain, islice
 from pathlib import Path
 from typing import NamedTuple
 
@@ -224,14 +225,17 @@ NAME, DATE, AMOUNT = "[A-Za-z0-9_.-]{1,64}", r"[0-9]{1,24}\.[0-9]{9}", "[0-9]{1,
 CALL = re.compile(rf"(?:compute ({AMOUNT})|(?:sleep|wait|barrier|yield)|i?send ({NAME}) ({AMOUNT})|recv ({NAME})(?: ({AMOUNT}))?|"
                   rf"(?:irecv|lock|unlock|acquire|release|create|join|kill|suspend|resume) ({NAME}))")
 WHO = re.compile(rf"\[({NAME}):({NAME}):\(([1-9][0-9]{{0,8}})\)")
-# A line of an action in pieces: who and what are judged once for each text.
-LINE = re.compile(r"(\[[^ \n]+) ([0-9]{1,24})\.([0-9]{9})\] ([^\r\n]+) (?:([0-9]{1,24})\.([0-9]{9})|(refused|failed))\r?\n?")
+# A line of an action in pieces: itself, who, when, what and how long. Who and what are judged once for each text.
+LINE = re.compile(r"^((\[[^ \n]+) ([0-9]{1,24}\.[0-9]{9})\] ([a-z]+(?: [^ \r\n]+){0,2}?) ([0-9]{1,24}\.[0-9]{9}|refused|failed))\r?$", re.M)
+# So many characters of a trace are read at a time.
+BLOCK = 1 << 16
 BLOCKED = re.compile(r"(?:blocked (\[[^ ]+)\] (.+)|suspended (\[[^ ]+)\])")
 ENERGY = re.compile(rf"energy ({NAME}) ([0-9]{{1,40}}\.[0-9]{{12}})")
 DATED_END = re.compile(rf"(?:Simulation time|deadlock at|starved at|budget of [0-9]+ events used at) ({DATE})")
 FAULT_END = re.compile(r"script line [0-9]+: .+|cannot read the script|no route from .+|route from .+: more than 64 links")
 # How a run ended, by the beginning of its ending line.
 ENDING_WORDS = (("Simulation time", 0), ("deadlock", 6), ("starved", 7), ("budget", 8), ("script line", 5), ("cannot read", 10), ("", 9))
+ORDERS = {"suspend", "resume", "kill"}
 SIDES = {"send": 1, "isend": 1, "recv": 2, "irecv": 2}
 # How many texts of calls are known at a time.
 MOST_CALLS = 20_000
@@ -252,14 +256,15 @@ class Actor:
 
 
 class Call:
-    """What an actor does: its words, and which side of a message it is: 1 the sender's, 2 the receiver's, else 0."""
+    """What an actor does: its words, which side of a message it is (1 the sender's, 2 the receiver's, else 0), and whether it
+    holds, lets go on or ends another actor."""
 
-    __slots__ = ("word", "other", "amount", "text", "side", "more")
+    __slots__ = ("word", "other", "amount", "text", "side", "orders", "more")
 
     def __init__(self, text, other, amount):
         self.text, self.other, self.amount, self.more = text, other, amount, None
-        self.word = text.partition(" ")[0]
-        self.side = SIDES.get(self.word, 0)
+        word = self.word = text.partition(" ")[0]
+        self.side, self.orders = SIDES.get(word, 0), word in ORDERS
 
 
 class Action:
@@ -269,8 +274,7 @@ class Action:
     free, in which that was suspended. `request` is the call for which a `wait` waited.
     """
 
-    # What most actions don't have stands here alone, which saves time.
-    met, open, held, request = None, False, (), None
+    __slots__ = ("number", "line", "actor", "begin", "end", "call", "how", "met", "open", "held", "request")
 
     def __init__(self, number, line, actor, begin, end, call, how):
         self.number = number
@@ -280,10 +284,9 @@ class Action:
         self.end = end
         self.call = call
         self.how = how
-
-    @property
-    def text(self):
-        return self.line.rstrip("\r\n")
+        self.met = self.request = None
+        self.open = False
+        self.held = ()
 
 
 class Reader:
@@ -304,43 +307,49 @@ class Reader:
 
     def __iter__(self):
         number, end, before, held = 0, 0, None, deque()
-        actors, calls, holds, all_met, fullmatch = self.actors, self.calls, self.holds, self.all_met, LINE.fullmatch
-        lines = iter(self.lines)
-        for line in lines:
-            number += 1
-            match = fullmatch(line)
-            if match is None:
-                self.close(number, line, lines)
-                break
-            who, whole, part, words, took, rest, how = match.groups()
-            actor = actors.get(who) or self.actor(who, number, line)
-            call = calls.get(words) or self.call(words, number, line)
-            date, free = int(whole + part), actor.free
-            # The line of a failed call tells no duration: it began when its actor was free.
-            begin = date - int(took + rest) if took is not None else date if how == "refused" else free
-            if date < end or begin < free:
-                raise BadTrace(f"line {number}: {'the date falls' if date < end else 'it began before the actor was free'}")
-            end = actor.free = date
-            action = Action(number, line, actor, begin, date, call, how or "done")
-            if holds and actor.name in holds:
-                self.held(action, free)
-            if call.side:
-                self.meet(action, before)
-            elif call.word == "wait":
-                if actor.requests and how != "refused":
-                    action.request = actor.requests.popleft()
-            elif call.other is not None:
-                self.order(action)
-            before = action
-            if held or (action.open and (all_met or call.word == "send")):
-                self.end = end
-                held.append(action)
-                # Both sides of a message that is done have the same date.
-                while held and (not held[0].open or (not all_met and (held[0].call.word != "send" or held[0].end < date))):
-                    yield held.popleft()
-            else:
-                yield action
+        actors, calls, holds, all_met = self.actors, self.calls, self.holds, self.all_met
+        blocks = blocks_of(self.lines)
+        for block in blocks:
+            found = LINE.findall(block)
+            others = [] if len(found) == block.count("\n") else unlike(found, block)
+            for line, who, when, words, took in found:
+                number += 1
+                actor = actors.get(who) or self.actor(who, number, line)
+                call = calls.get(words) or self.call(words, number, line)
+                date, free, how = int(when.replace(".", "")), actor.free, "done"
+                if took == "0.000000000":
+                    begin = date
+                elif took == "refused":
+                    begin, how = date, took
+                elif took == "failed":
+                    # The line of a failed call tells no duration: it began when its actor was free.
+                    begin, how = free, took
+                else:
+                    begin = date - int(took.replace(".", ""))
+                if date < end or begin < free:
+                    raise BadTrace(f"line {number}: {'the date falls' if date < end else 'it began before the actor was free'}")
+                end = actor.free = date
+                action = Action(number, line, actor, begin, date, call, how)
+                if holds and actor.name in holds:
+                    self.held(action, free)
+                if call.side:
+                    self.meet(action, before)
+                elif call.word == "wait":
+                    if actor.requests and how != "refused":
+                        action.request = actor.requests.popleft()
+                elif call.orders:
+                    self.order(action)
+                before = action
+                if held or (action.open and (all_met or call.word == "send")):
+                    held.append(action)
+                    # Both sides of a message that is done have the same date.
+                    while held and (not held[0].open or (not all_met and (held[0].call.word != "send" or held[0].end < date))):
+                        yield held.popleft()
+                else:
+                    yield action
             self.end, self.count = end, number
+            if others:
+                self.close(number + 1, others[0], chain(others[1:], (line for block in blocks for line in lines_of(block))))
         for action in self.blocked:
             if action.call.side:
                 self.meet(action, None)
@@ -375,9 +384,9 @@ class Reader:
         masters; its line follows that of the master at once.
         """
         actor, call = action.actor, action.call
-        name, other = actor.name, call.other
+        name, other, side = actor.name, call.other, call.side
         if name == other:
-            if call.side == 1:
+            if side == 1:
                 actor.sends_itself = True
             elif call.word == "recv" and not actor.sends_itself:
                 sent = before and before.call
@@ -388,8 +397,9 @@ class Reader:
                 return
         if call.word[0] == "i":
             actor.requests.append(call)
-        pair = (name, other) if call.side == 1 else (other, name)
-        others = self.waiting[2 - call.side].get(pair)
+        sends, recvs = self.waiting
+        mine, theirs, pair = (sends, recvs, (name, other)) if side == 1 else (recvs, sends, (other, name))
+        others = theirs.get(pair)
         if others:
             there = others.popleft()
             met = there.begin if there.begin > action.begin else action.begin
@@ -397,9 +407,9 @@ class Reader:
             there.open = False
         else:
             action.open = True
-            queue = self.waiting[call.side - 1].get(pair)
+            queue = mine.get(pair)
             if queue is None:
-                queue = self.waiting[call.side - 1][pair] = deque()
+                queue = mine[pair] = deque()
             # A later side needs only when this one began, if it isn't given again.
             queue.append(action)
 
@@ -442,29 +452,27 @@ class Reader:
 
     def close(self, number, line, lines):
         """Reads the ending, which is the first line that is no action, and what follows it."""
-        text = line.rstrip("\n").removesuffix("\r")
-        match = DATED_END.fullmatch(text)
-        if match is None and not FAULT_END.fullmatch(text):
+        match = DATED_END.fullmatch(line)
+        if match is None and not FAULT_END.fullmatch(line):
             raise no_line(number, line)
         if match:
             date = int(match[1].replace(".", ""))
             if date < self.end:
                 raise BadTrace(f"line {number}: the run ends before its last action")
             self.end = date
-        self.ending = text
+        self.ending = line
         for line in lines:
             number += 1
-            text = line.rstrip("\n").removesuffix("\r")
-            match = ENERGY.fullmatch(text)
+            match = ENERGY.fullmatch(line)
             if match:
                 self.energies.append((match[1], match[2]))
                 continue
-            match = BLOCKED.fullmatch(text)
+            match = BLOCKED.fullmatch(line)
             if match is None:
                 raise no_line(number, line, " can follow its end")
             actor = self.actors.get(match[1] or match[3]) or self.actor(match[1] or match[3], number, line)
             call = self.call(match[2], number, line) if match[2] else Call("suspended", None, None)
-            action = Action(number, text, actor, actor.free, self.end, call, "blocked" if match[2] else "suspended")
+            action = Action(number, line, actor, actor.free, self.end, call, "blocked" if match[2] else "suspended")
             if actor.name in self.holds:
                 self.held(action, actor.free)
             if call.word == "wait" and actor.requests:
@@ -477,9 +485,33 @@ class Reader:
         return next(status for start, status in ENDING_WORDS if self.ending.startswith(start)) if self.ending else None
 
 
+def blocks_of(lines):
+    """A file of text, or lines, in blocks of whole lines, each with its end."""
+    if hasattr(lines, "read"):
+        while block := lines.read(BLOCK):
+            if block[-1] != "\n":
+                block += lines.readline()
+            yield block if block[-1] == "\n" else block + "\n"
+    else:
+        lines = iter(lines)
+        while some := list(islice(lines, 1_000)):
+            yield "".join(line if line.endswith("\n") else line + "\n" for line in some)
+
+
+def lines_of(block):
+    return [line.removesuffix("\r") for line in block[:-1].split("\n")]
+
+
+def unlike(found, block):
+    """The lines of a block from the first on that isn't an action; those in front of it are left in what was found."""
+    lines = lines_of(block)
+    count = next((index for index, (line, action) in enumerate(zip(lines, found)) if line != action[0]), len(found))
+    del found[count:]
+    return lines[count:]
+
+
 def no_line(number, line, more=""):
-    text = line.rstrip("\r\n")
-    return BadTrace(f"line {number}: no line of a trace{more}: {text[:80]!r}")
+    return BadTrace(f"line {number}: no line of a trace{more}: {line[:80]!r}")
 
 
 def decimal(time):

@@ -233,7 +233,7 @@ class Shared(unittest.TestCase):
             for action in GANTT.Reader(folder.replayed().stdout.decode().splitlines()):
                 if action.call.word in ("send", "recv"):
                     messages += 1
-                    self.assertEqual(action.end - action.met, traces.LATENCY + int(action.call.amount) * traces.BYTE, action.text)
+                    self.assertEqual(action.end - action.met, traces.LATENCY + int(action.call.amount) * traces.BYTE, action.line)
         self.assertGreater(messages, 200)
 
 
