@@ -261,10 +261,14 @@ class Call:
 
     __slots__ = ("word", "other", "amount", "text", "side", "orders", "more")
 
-    def __init__(self, text, other, amount):
-        self.text, self.other, self.amount, self.more = text, other, amount, None
-        word = self.word = text.partition(" ")[0]
-        self.side, self.orders = SIDES.get(word, 0), word in ORDERS
+    def __init__(self, text, word, other, amount):
+        self.text = text
+        self.word = word
+        self.other = other
+        self.amount = amount
+        self.side = SIDES.get(word, 0)
+        self.orders = word in ORDERS
+        self.more = None
 
 
 class Action:
@@ -307,7 +311,7 @@ class Reader:
 
     def __iter__(self):
         number, end, before, held = 0, 0, None, deque()
-        actors, calls, holds, all_met = self.actors, self.calls, self.holds, self.all_met
+        actors, calls, holds, all_met, meet = self.actors, self.calls, self.holds, self.all_met, self.meet
         blocks = blocks_of(self.lines)
         for block in blocks:
             found = LINE.findall(block)
@@ -333,7 +337,7 @@ class Reader:
                 if holds and actor.name in holds:
                     self.held(action, free)
                 if call.side:
-                    self.meet(action, before)
+                    meet(action, before)
                 elif call.word == "wait":
                     if actor.requests and how != "refused":
                         action.request = actor.requests.popleft()
@@ -368,13 +372,19 @@ class Reader:
         return actor
 
     def call(self, words, number, line):
-        match = CALL.fullmatch(words)
-        if match is None:
-            raise no_line(number, line)
         if len(self.calls) == MOST_CALLS:
             self.calls.clear()
-        flops, receiver, sent, sender, taken, other = match.groups()
-        call = self.calls[words] = Call(words, receiver or sender or other, flops or sent or taken)
+        word, _, rest = words.partition(" ")
+        if word == "compute" and rest.isdecimal() and rest.isascii() and len(rest) <= 20:
+            # No two of these need be alike, so the usual way is too long.
+            call = Call(words, word, None, rest)
+        else:
+            match = CALL.fullmatch(words)
+            if match is None:
+                raise no_line(number, line)
+            flops, receiver, sent, sender, taken, other = match.groups()
+            call = Call(words, word, receiver or sender or other, flops or sent or taken)
+        self.calls[words] = call
         return call
 
     def meet(self, action, before):
@@ -471,7 +481,7 @@ class Reader:
             if match is None:
                 raise no_line(number, line, " can follow its end")
             actor = self.actors.get(match[1] or match[3]) or self.actor(match[1] or match[3], number, line)
-            call = self.call(match[2], number, line) if match[2] else Call("suspended", None, None)
+            call = self.call(match[2], number, line) if match[2] else Call("suspended", "suspended", None, None)
             action = Action(number, line, actor, actor.free, self.end, call, "blocked" if match[2] else "suspended")
             if actor.name in self.holds:
                 self.held(action, actor.free)
