@@ -4,4 +4,5 @@ pub mod Stretches
 pub mod Rounds
 pub mod Parts
 pub mod Ends
+pub mod Used
 pub mod Given

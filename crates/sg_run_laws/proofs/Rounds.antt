@@ -33,7 +33,7 @@ all_up world j place is some =
     let same : place ≡ j = omega (arith, is) in
     ap (λ (k : ℕ). is_unstarted (place_state world.core.actors k)) same ∙ ap is_unstarted caller.state
 
-all_live : (world : World) → AllLive 1 (calls_in world) world.core
+pub all_live : (world : World) → AllLive 1 (calls_in world) world.core
 all_live world j place is some =
     let caller = who_calls world.minds world.core.actors j some in
     let same : place ≡ j = omega (arith, is) in

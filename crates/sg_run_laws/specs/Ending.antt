@@ -1,10 +1,11 @@
 -- How runs end.
-use Rattle.std.specs.Prelude.{◌≡◌, ℕ, ◌+◌, ◌<◌, ◌≤◌, false, IsTrue, IsSome, None, Some}
+use Rattle.std.specs.Prelude.{◌≡◌, ℕ, ◌+◌, ◌<◌, ◌≤◌, ◌||◌, Bool, false, IsTrue, IsSome, is_some, None, Some}
 use Rattle.sg_rows.specs.Platform.{IsPlatform}
 use Rattle.sg_engine.specs.declared.ended.Ended.TheVariants as ended
-use Rattle.sg_engine.specs.Run.{Scene, Answering, Progress, are_completed, at_world, round_or_pass, run_from, with_front}
+use Rattle.sg_engine.specs.Run.{Scene, Answering, Progress, anyone_ready, are_completed, at_world, round_or_pass, run_from, with_front}
 use Rattle.sg_engine.specs.World.{World}
-use Rattle.sg_kernel.specs.World.{Core}
+use Rattle.sg_kernel.specs.Passes.{next_span, settled}
+use Rattle.sg_kernel.specs.World.{Core, Setup}
 use Rattle.sg_await_laws.specs.Runs.{IsCoreOf, Run, first_in, parts_in, scene_in, whole}
 
 -- A run goes on with rounds and passes until it ends: here all have ended that began, or the next round or pass ends it, or it goes on behind that.
@@ -38,3 +39,12 @@ pub record KeepsBudget (run : Run) : Type 0 where
 
 abbrev pub BudgetsAreKept : Type 0
 BudgetsAreKept = (run : Run) → IsPlatform run.platform → KeepsBudget run
+
+-- an event is next: somebody is ready, or in some time a phase is due or an entry comes
+abbrev pub has_next : Setup → Core → Bool
+has_next setup core = anyone_ready core || is_some (next_span setup (settled core))
+
+-- Behind a round or a pass a run that has used up its budget ends by it, where an event is next.
+abbrev pub UsedBudgetsEnd : Type 0
+UsedBudgetsEnd = (run : Run) (parts : ℕ) → (parts_in parts run).ended ≡ None → (parts_in parts run).world.core.events ≡ run.budget → are_completed (parts_in parts run).world.core ≡ false →
+    IsTrue (has_next (scene_in run).setup (parts_in parts run).world.core) → (parts_in (parts + 1) run).ended ≡ Some ended.Budget

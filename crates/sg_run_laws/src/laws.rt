@@ -1,9 +1,9 @@
 //! Laws of whole runs.
 ghost use Rattle.sg_run_laws.specs.Creating.{ContextsAreTaken, CreatesAreGiven};
-ghost use Rattle.sg_run_laws.specs.Ending.{BudgetsAreKept, MoreIsTheSame, PartsCount, RunsEnd};
+ghost use Rattle.sg_run_laws.specs.Ending.{BudgetsAreKept, MoreIsTheSame, PartsCount, RunsEnd, UsedBudgetsEnd};
 
-/// Each run goes on with rounds and passes until it ends, and it ends. So the number of them that its definition has is a
-/// way of writing it.
+/// Each run goes on with rounds and passes until it ends, and it ends. So the number of them that its definition has
+/// is a way of writing it.
 pub fn runs_end()
     ensures { RunsEnd }
 {}
@@ -21,6 +21,11 @@ pub fn parts_count()
 /// No run has more events than its budget, and one that ends by its budget has as many.
 pub fn budgets_are_kept()
     ensures { BudgetsAreKept }
+{}
+
+/// Behind a round or a pass a run that has used up its budget ends by it, where an event is next.
+pub fn used_budgets_end()
+    ensures { UsedBudgetsEnd }
 {}
 
 /// A create is refused exactly where the named actor began before, or no context of the crew is left, by what the run

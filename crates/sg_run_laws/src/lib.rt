@@ -5,5 +5,5 @@ mod laws;
 
 pub use laws::{
     budgets_are_kept, contexts_are_taken, creates_are_given, more_is_the_same, parts_count,
-    runs_end,
+    runs_end, used_budgets_end,
 };
