@@ -1,9 +1,9 @@
 -- Chains of uses.
-use Rattle.std.proofs.Common.{◌≡◌, ◌≢◌, ℕ, zero, suc, ◌+◌, ◌-◌, ◌*◌, ◌<◌, ◌≤◌, ◌==◌, ◌⊎◌, inl, inr, cond, Bool, true, false, le_trans, Option, None, Some, is_some, option_map, List, [], ◌∷◌, length, count_by, get_or, set, get_or-set_other, drop, drop-cons, refl, sym, ap, ap₂, subst, ◌∙◌, arith}
+use Rattle.std.proofs.Common.{◌≡◌, ◌≢◌, ℕ, zero, suc, ◌+◌, ◌-◌, ◌*◌, ◌<◌, ◌≤◌, ◌==◌, ◌⊎◌, inl, inr, cond, Bool, true, false, le_trans, Option, None, Some, is_some, option_map, List, [], ◌∷◌, length, count_by, replicate, get_or, set, get_or-set_other, drop, drop-cons, refl, sym, ap, ap₂, subst, ◌∙◌, arith}
 use Rattle.std.proofs.lemmas.List.Sums.{sum_by-set, sum_by-cons, count_by-le-length}
 use Rattle.sg_chains.specs.declared.uses.Use.{Use}
 use Rattle.sg_chains.specs.Chain.{IsChain, IsSameChain, KeepsChains, resources, resource_at, next_at, IsOf}
-use Rattle.sg_chains.specs.Walk.{Leads, next_of_flow, resource_of}
+use Rattle.sg_chains.specs.Walk.{Leads, next_of_flow, resource_of, user_of}
 use Rattle.sg_chains.specs.Chained.{times}
 use Rattle.sg_chains.specs.kept.Linked.{SameBut, flow_part, use_of, users_of, AreGained, GainsOne, LosesOne}
 use Rattle.sg_chains.specs.declared.slots.Slot.{Slot}
@@ -187,6 +187,17 @@ chain_leads id (suc n) uses (Some i) c =
     let next : next_at (get_or uses i None) ≡ one.0.next_of_flow = ap next_at one.1 in
     let rest = chain_leads id n uses (next_at (get_or uses i None)) c.1 in
     (i, one.0, refl, one.1, sym (ap resource_at one.1), subst (λ w. Leads next_of_flow resource_of uses w (resources n uses (next_at (get_or uses i None)))) next rest)
+
+-- and it is the flow's own all along
+pub chain_own : (id n : ℕ) (uses : List (Option Use)) (at : Option ℕ) → IsChain id n uses at → Leads next_of_flow user_of uses at (replicate n id)
+unfolding IsChain Leads
+chain_own id zero uses at c = c
+chain_own id (suc n) uses None c = absurd c
+chain_own id (suc n) uses (Some i) c =
+    let one = of_some id (get_or uses i None) c.0 in
+    let next : next_at (get_or uses i None) ≡ one.0.next_of_flow = ap next_at one.1 in
+    let rest = chain_own id n uses (next_at (get_or uses i None)) c.1 in
+    (i, one.0, refl, one.1, one.2, subst (λ w. Leads next_of_flow user_of uses w (replicate n id)) next rest)
 
 chain_count : (id n : ℕ) (uses : List (Option Use)) (at : Option ℕ) → IsChain id n uses at → n ≤ count_by is_some uses
 chain_count id zero uses at c = omega arith

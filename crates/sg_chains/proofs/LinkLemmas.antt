@@ -1,8 +1,8 @@
 -- A slot comes in front, or goes away.
-use Rattle.std.proofs.Common.{◌≡◌, ◌≢◌, ℕ, zero, suc, ◌+◌, ◌⊎◌, inl, inr, true, false, true≢false, cond, ◌==◌, Option, None, Some, is_some, option_map, set, map, length, count_by, ◌<◌, ◌≤◌, le_trans, get_or-set_same, get_or-set_other, length-set, List, [], ◌∷◌, ◌++◌, get_or, refl, sym, ap, ap₂, subst, ◌∙◌, arith}
+use Rattle.std.proofs.Common.{◌≡◌, ◌≢◌, ℕ, zero, suc, ◌+◌, ◌⊎◌, inl, inr, true, false, true≢false, cond, ◌==◌, Option, None, Some, is_some, option_map, set, map, length, count_by, ◌<◌, ◌≤◌, le_trans, get_or-set_same, get_or-set_other, length-set, List, [], ◌∷◌, ◌++◌, get_or, replicate, refl, sym, ap, ap₂, subst, ◌∙◌, arith}
 use Rattle.std.proofs.lemmas.List.{get_or_past, length-map}
 use Rattle.sg_chains.specs.declared.uses.Use.{Use}
-use Rattle.sg_chains.specs.Walk.{Leads, next_on, user_of}
+use Rattle.sg_chains.specs.Walk.{Leads, next_on, resource_of, user_of}
 use Rattle.std.proofs.lemmas.List.Sums.{sum_by-set, sum_by-cons, count_by-le-length}
 use Rattle.sg_chains.specs.Chained.{times, users_on, GainsUses}
 use Rattle.sg_chains.specs.kept.Linked.{next_of, IsBehind, Linked, last_of, first_of, In, Distinct, with_prev, with_next, PointsFrom, IsList, AreLists, flow_in, user_in, use_of, uses_of, flow_part, SameBut, walked, users_of, GainsOne, LosesOne, AreGained}
@@ -583,6 +583,28 @@ linked_leads c slots prev (i ∷ list) at l =
     there : (o : Option Slot) → get_or slots i None ≡ o → IsBehind c prev o → (s : Slot) × (get_or slots i None ≡ Some s)
     there None z h = absurd h
     there (Some s) z h = (s, z)
+
+-- and each slot behind it is one of the resource
+linked_stands : (c : ℕ) (slots : List (Option Slot)) (prev : Option ℕ) (list : List ℕ) (at : Option ℕ) → Linked c slots prev list at → Leads next_on resource_of (uses_of slots) at (replicate (length list) c)
+unfolding Leads
+linked_stands c slots prev [] at l = l
+linked_stands c slots prev (i ∷ list) at l =
+    let one = there (get_or slots i None) refl l.1 in
+    let rest = linked_stands c slots (Some i) list (next_of (get_or slots i None)) l.2 in
+    let on = subst (IsBehind c prev) one.1 l.1 in
+    (i, use_of one.0, l.0, uses_at slots i ∙ ap (option_map use_of) one.1, on.0, subst (λ o. Leads next_on resource_of (uses_of slots) (next_of o) (replicate (length list) c)) one.1 rest)
+  where
+    there : (o : Option Slot) → get_or slots i None ≡ o → IsBehind c prev o → (s : Slot) × (get_or slots i None ≡ Some s)
+    there None z h = absurd h
+    there (Some s) z h = (s, z)
+
+pub users_stand : (slots : List (Option Slot)) (on : List (Option ℕ)) (c : ℕ) → AreLists slots on → c < length on →
+    Leads next_on resource_of (uses_of slots) (get_or on c None) (replicate (length (users_on (map (walked (length slots) slots) on) c)) c)
+users_stand slots on c are in' =
+    let mine = are.lists c in' in
+    let long : length (users_on (map (walked (length slots) slots) on) c) ≡ length mine.list =
+    ap length (users_is slots on c ∙ users_from c slots mine.list (get_or on c None) mine.linked mine.once) ∙ length-map mine.list (λ i. flow_in (get_or slots i None)) in
+    subst (λ n. Leads next_on resource_of (uses_of slots) (get_or on c None) (replicate n c)) (sym long) (linked_stands c slots None mine.list (get_or on c None) mine.linked)
 
 pub users_lead : (slots : List (Option Slot)) (on : List (Option ℕ)) (c : ℕ) → AreLists slots on → c < length on →
     Leads next_on user_of (uses_of slots) (get_or on c None) (users_on (map (walked (length slots) slots) on) c) × (length (users_on (map (walked (length slots) slots) on) c) ≤ length (uses_of slots))

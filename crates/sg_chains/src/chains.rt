@@ -1,9 +1,9 @@
 //! All uses: each stands in the chain of its flow and in that of its resource.
-ghost use Rattle.std.specs.Prelude.{◌≡◌, ◌≤◌, ◌<◌, ◌+◌, ◌∷◌, ℕ, [], All, length, None, Some, IsSome, IfOk, OnOk, slice_index_or};
+ghost use Rattle.std.specs.Prelude.{◌≡◌, ◌≤◌, ◌<◌, ◌+◌, ◌∷◌, ℕ, [], All, length, None, Some, IsSome, IfOk, OnOk, replicate, slice_index_or};
 ghost use Rattle.slab.specs.Slab.{HasRoomFor, slab_len};
 ghost use Rattle.sg_chains.specs.Chain.{IsChain, KeepsChains, resources};
 ghost use Rattle.sg_chains.specs.Chained.{GainsUses, users_on};
-ghost use Rattle.sg_chains.specs.Walk.{Leads, next_on, user_of};
+ghost use Rattle.sg_chains.specs.Walk.{Leads, next_on, resource_of, user_of};
 ghost use Rattle.sg_chains.specs.kept.Linked.{AreGained, AreLists, uses_of};
 
 use crate::links::{link, unlink};
@@ -179,11 +179,13 @@ impl Chains {
         }
     }
 
-    /// The first use on a resource; None where no flow uses it.
+    /// The first use on a resource; None where no flow uses it. Those behind it are uses of the same resource.
     pub fn first_on(&self, resource: usize) -> Option<usize>
         requires { resource < length self.now.users }
         ensures leads { Leads next_on user_of self.now.uses result
             (users_on self.now.users resource) }
+        ensures here { Leads next_on resource_of self.now.uses result
+            (replicate (length (users_on self.now.users resource)) resource) }
         ensures few { length (users_on self.now.users resource) ≤ length self.now.uses }
     {
         self.on[resource]

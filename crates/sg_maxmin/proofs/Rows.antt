@@ -1,8 +1,8 @@
 -- Rows of flows, as one comes or goes.
-use Rattle.std.proofs.Common.{◌≡◌, ◌≢◌, ℕ, zero, suc, ◌+◌, ◌<◌, ◌≤◌, ◌^◌, ◌==◌, true, false, cond, length, length-set, IfSome, ◌⊎◌, inl, inr, Option, None, Some, List, [], ◌∷◌, All, map, get_or, get_or-set_same, get_or-set_other, set, option_map, refl, sym, ap, subst, ◌∙◌, arith}
+use Rattle.std.proofs.Common.{◌≡◌, ◌≢◌, ℕ, zero, suc, ◌+◌, ◌<◌, ◌≤◌, ◌^◌, ◌==◌, true, false, cond, length, length-set, IfSome, ◌⊎◌, inl, inr, Option, None, Some, List, [], ◌∷◌, All, map, get_or, get_or-set_same, get_or-set_other, set, option_map, replicate, refl, sym, ap, subst, ◌∙◌, arith}
 use Rattle.sg_chains.specs.declared.uses.Use.{Use}
-use Rattle.sg_chains.specs.Walk.{Leads, next_of_flow, resource_of}
-use Rattle.sg_chains.proofs.ChainLemmas.{chain_leads, chain_few, length-resources}
+use Rattle.sg_chains.specs.Walk.{Leads, next_of_flow, resource_of, user_of}
+use Rattle.sg_chains.proofs.ChainLemmas.{chain_few, chain_leads, chain_own, length-resources}
 use Rattle.sg_maxmin.specs.declared.flow_row.FlowRow.{FlowRow}
 use Rattle.std.proofs.lemmas.List.{length-map, map-set}
 use Rattle.std.proofs.Math.Seq.{map-set_same}
@@ -157,6 +157,19 @@ first_leads caps rows uses id row are e =
 pub first_none : (rows : List (Option FlowRow)) (uses : List (Option Use)) (id : ℕ) → get_or rows id None ≡ None → IsLed uses None (uses_at (flows_of rows uses) id)
 unfolding Leads
 first_none rows uses id e = subst (λ o. IsLed uses None (uses_in o)) (sym (flow_none rows uses id e)) (record { leads = refl; few = omega arith })
+
+-- and each use that it leads to is the flow's own
+pub first_own : (caps : List ℕ) (rows : List (Option FlowRow)) (uses : List (Option Use)) (id : ℕ) (row : FlowRow) → AreRows caps rows uses → get_or rows id None ≡ Some row →
+    Leads next_of_flow user_of uses row.first (replicate (length (uses_at (flows_of rows uses) id)) id)
+unfolding flow_of
+first_own caps rows uses id row are e =
+    let chain = are.chains id row e in
+    subst (λ o. Leads next_of_flow user_of uses row.first (replicate (length (uses_in o)) id)) (sym (flow_held rows uses id row e))
+    (subst (λ n. Leads next_of_flow user_of uses row.first (replicate n id)) (sym (length-resources id row.count uses row.first chain)) (chain_own id row.count uses row.first chain))
+
+pub none_own : (rows : List (Option FlowRow)) (uses : List (Option Use)) (id : ℕ) → get_or rows id None ≡ None → Leads next_of_flow user_of uses None (replicate (length (uses_at (flows_of rows uses) id)) id)
+unfolding Leads
+none_own rows uses id e = subst (λ o. Leads next_of_flow user_of uses None (replicate (length (uses_in o)) id)) (sym (flow_none rows uses id e)) refl
 
 pub flows_are : (caps : List ℕ) (rows : List (Option FlowRow)) (uses : List (Option Use)) → AreRows caps rows uses → (id : ℕ) (held : Flow) → flow_at (flows_of rows uses) id ≡ Some held → IsFlow caps held
 flows_are caps rows uses are id held e = at (get_or rows id None) refl

@@ -1,5 +1,5 @@
 //! The system of capacities and flows: which flow uses which resources, and the share that each gets.
-ghost use Rattle.std.specs.Prelude.{◌≡◌, ◌≤◌, ◌<◌, ◌+◌, ℕ, [], length, Some, None, IsSome, IfSome, IfOk, OnOk, slice_index, slice_index_or, slice_set};
+ghost use Rattle.std.specs.Prelude.{◌≡◌, ◌≤◌, ◌<◌, ◌+◌, ℕ, [], length, Some, None, IsSome, IfSome, IfOk, OnOk, replicate, slice_index, slice_index_or, slice_set};
 ghost use Rattle.sg_maxmin.specs.Fair.{IsFair};
 ghost use Rattle.sg_maxmin.specs.Fill.{flow, share_of};
 ghost use Rattle.sg_chains.specs.Chained.{users_on};
@@ -194,10 +194,12 @@ impl System {
         }
     }
 
-    /// The first use of a flow; None exactly where there is no flow or it uses no resource.
+    /// The first use of a flow; None exactly where there is no flow or it uses no resource. Those behind it are its own.
     pub fn first_of(&self, flow: FlowId) -> Option<usize>
         ensures leads { Leads next_of_flow resource_of self.now.uses result
             (uses_at self.now.slots flow) }
+        ensures own { Leads next_of_flow user_of self.now.uses result
+            (replicate (length (uses_at self.now.slots flow)) flow) }
         ensures few { length (uses_at self.now.slots flow) ≤ length self.now.uses }
     {
         match self.flows.get(flow) {
@@ -206,11 +208,13 @@ impl System {
         }
     }
 
-    /// The first use on a resource; None exactly where no flow uses it.
+    /// The first use on a resource; None exactly where no flow uses it. Those behind it are uses of the same resource.
     pub fn first_on(&self, resource: usize) -> Option<usize>
         requires { resource < length self.now.capacities }
         ensures leads { Leads next_on user_of self.now.uses result
             (users_on self.now.users resource) }
+        ensures here { Leads next_on resource_of self.now.uses result
+            (replicate (length (users_on self.now.users resource)) resource) }
         ensures few { length (users_on self.now.users resource) ≤ length self.now.uses }
     {
         self.chains.first_on(resource)
