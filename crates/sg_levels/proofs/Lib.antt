@@ -10,3 +10,4 @@ pub mod Converse
 pub mod Steps
 pub mod Marked
 pub mod Noted
+pub mod Moving

@@ -3,3 +3,4 @@ pub mod Numbered
 pub mod Held
 pub mod Changes
 pub mod Settling
+pub mod Kept

@@ -1,12 +1,18 @@
 //! Levels of a filling that are kept up to date: which levels are those of the filling, told of each flow and of each
-//! resource by itself, and what a change leaves of them. It stands on the filling of `sg_maxmin` and on the chains of
-//! `sg_chains`.
+//! resource by itself, and a settling that makes them so, one resource at a time.
+//!
+//! It stands on the filling and the `System` of `sg_maxmin`, and on the chains of `sg_chains`.
 #![tactic(auto)]
 
+mod hold;
 mod laws;
+mod levels;
+mod settling;
 
+pub use hold::hold_of;
 pub use laws::{
     balance_is_filling, changes_keep, filling_balances, filling_is_held, full_holds,
     held_is_filling, held_settles, hold_is_local, hold_is_one, hold_stays, hold_stays_from,
     others_hold_none, row_tells, settling_ends, slack_holds_none, slack_is_above,
 };
+pub use levels::Levels;

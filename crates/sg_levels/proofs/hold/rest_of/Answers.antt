@@ -1,0 +1,105 @@
+use Rattle.std.proofs.Common.{◌-◌, suc, cond, is_none, IsSome, slice_index, refl, sym, ap, ap₂, subst, ◌∙◌, arith}
+use Rattle.sg_chains.specs.Chained.{users_on}
+use Rattle.sg_chains.specs.Walk.{next_on, user_of}
+use Rattle.sg_maxmin.specs.Fill.{share_of_fixed}
+use Rattle.sg_levels.specs.Numbered.{below_at, flow_in, row_taken, row_waiting, weight_at}
+use Rattle.sg_levels.proofs.Listed.{in_at, take_all}
+use Rattle.sg_levels.proofs.Walked.{can_look, looked, walk_from, walk_on, nearer, walked}
+use Rattle.sg_levels.proofs.Users.{on_held, flow_below}
+use Rattle.sg_levels.proofs.OnRow.{weights_fit}
+use Rattle.sg_levels.proofs.RowRise.{taken_next, waiting_next, room_next, taken_none, waiting_none}
+use Rattle.sg_levels.proofs.hold.rest_of.Goals as goal
+
+pub loop-at-init : goal.loop-at-init
+loop-at-init g c =
+    let s = c.args.system.now in
+    let row = users_on s.users c.args.resource in
+    let fixed = below_at c.args.levels.now c.args.low in (
+      0,
+      record {
+        walk = walk_from next_on user_of s.uses row c.first_on-at.result c.first_on-at.ensures.leads c.first_on-at.ensures.few;
+        left = omega (arith, c.capacity.ensures, taken_none s.slots fixed row);
+        waiting = sym (waiting_none s.slots fixed row);
+        looks = omega arith;
+      },
+    )
+
+pub look-one-requires : goal.look-one-requires
+look-one-requires g c =
+    let s = c.args.system.now in
+    let inv = c.loop-at.invariant in
+    can_look next_on user_of s.uses (users_on s.users c.args.resource) inv.0 c.loop-at.at inv.1.walk c.in-Some.i c.in-Some.is
+
+pub loop-at-smaller : goal.loop-at-smaller
+loop-at-smaller g c =
+    let s = c.args.system.now in
+    let inv = c.loop-at.invariant in
+    nearer next_on user_of s.uses (users_on s.users c.args.resource) inv.0 c.loop-at.at inv.1.walk c.in-Some.i c.look-one.result c.in-Some.is c.look-one.ensures.there
+
+pub below-requires : goal.below-requires
+below-requires g c =
+    let s = c.args.system.now in
+    let row = users_on s.users c.args.resource in
+    let inv = c.loop-at.invariant in
+    let r = looked next_on user_of s.uses row inv.0 c.loop-at.at inv.1.walk c.in-Some.i c.look-one.result c.in-Some.is c.look-one.ensures.there in
+    let f = on_held s c.requires.sound c.args.resource c.look-one.result.flow (in_at c.look-one.result.flow row inv.0 r.less (sym r.is)) in
+    omega (arith, flow_below s.slots c.look-one.result.flow f.0 f.1, c.requires.levels)
+
+pub with_flow-rest-requires-clause-held : goal.with_flow-rest-requires-clause-held
+with_flow-rest-requires-clause-held g c =
+    let s = c.args.system.now in
+    let row = users_on s.users c.args.resource in
+    let inv = c.loop-at.invariant in
+    let r = looked next_on user_of s.uses row inv.0 c.loop-at.at inv.1.walk c.in-Some.i c.look-one.result c.in-Some.is c.look-one.ensures.there in
+    let f = on_held s c.requires.sound c.args.resource c.look-one.result.flow (in_at c.look-one.result.flow row inv.0 r.less (sym r.is)) in
+    subst IsSome (sym f.1) refl
+
+pub with_flow-rest-requires-clause-fits : goal.with_flow-rest-requires-clause-fits
+with_flow-rest-requires-clause-fits g c =
+    let s = c.args.system.now in
+    let row = users_on s.users c.args.resource in
+    let inv = c.loop-at.invariant in
+    let r = looked next_on user_of s.uses row inv.0 c.loop-at.at inv.1.walk c.in-Some.i c.look-one.result c.in-Some.is c.look-one.ensures.there in
+    omega (arith, inv.1.waiting, room_next s.slots (below_at c.args.levels.now c.args.low) row inv.0 r.less, ap (weight_at s.slots) r.is, weights_fit s c.requires.sound c.args.resource)
+
+pub loop-at-preserved : goal.loop-at-preserved
+loop-at-preserved g c =
+    let s = c.args.system.now in
+    let row = users_on s.users c.args.resource in
+    let inv = c.loop-at.invariant in
+    let k = inv.0 in
+    let fixed = below_at c.args.levels.now c.args.low in
+    let r = looked next_on user_of s.uses row k c.loop-at.at inv.1.walk c.in-Some.i c.look-one.result c.in-Some.is c.look-one.ensures.there in
+    let share = ap₂ (λ o id. share_of_fixed (flow_in s.slots id) o) (c.below.ensures ∙ ap fixed r.is) r.is in
+    let weight = ap₂ (λ o id. cond (is_none o) (weight_at s.slots id) 0) (c.below.ensures ∙ ap fixed r.is) r.is in (
+      suc k,
+      record {
+        walk = walk_on next_on user_of s.uses row k c.loop-at.at inv.1.walk c.in-Some.i c.look-one.result c.in-Some.is c.look-one.ensures.there;
+        left = omega (arith, c.with_flow-rest.ensures.left, inv.1.left, taken_next s.slots fixed row k r.less, share);
+        waiting = omega (arith, c.with_flow-rest.ensures.waiting, inv.1.waiting, waiting_next s.slots fixed row k r.less, weight);
+        looks = omega (arith, inv.1.looks, c.look-one.ensures.looks);
+      },
+    )
+
+pub returns-clause-left : goal.returns-clause-left
+returns-clause-left g c =
+    let s = c.args.system.now in
+    let row = users_on s.users c.args.resource in
+    let inv = c.loop-at.invariant in
+    let all = take_all row inv.0 (walked next_on user_of s.uses row inv.0 c.loop-at.at inv.1.walk c.in_default.not-Some) in
+    inv.1.left ∙ ap (λ xs. slice_index s.capacities c.args.resource - row_taken s.slots (below_at c.args.levels.now c.args.low) xs) all
+
+pub returns-clause-waiting : goal.returns-clause-waiting
+returns-clause-waiting g c =
+    let s = c.args.system.now in
+    let row = users_on s.users c.args.resource in
+    let inv = c.loop-at.invariant in
+    let all = take_all row inv.0 (walked next_on user_of s.uses row inv.0 c.loop-at.at inv.1.walk c.in_default.not-Some) in
+    inv.1.waiting ∙ ap (λ xs. row_waiting s.slots (below_at c.args.levels.now c.args.low) xs) all
+
+pub returns-clause-looks : goal.returns-clause-looks
+returns-clause-looks g c =
+    let s = c.args.system.now in
+    let row = users_on s.users c.args.resource in
+    let inv = c.loop-at.invariant in
+    omega (arith, inv.1.looks, walked next_on user_of s.uses row inv.0 c.loop-at.at inv.1.walk c.in_default.not-Some)

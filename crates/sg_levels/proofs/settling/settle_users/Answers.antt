@@ -1,0 +1,88 @@
+use Rattle.std.proofs.Common.{◌≡◌, ◌∷◌, suc, length, drop, sym, ap, subst, ◌∙◌, arith}
+use Rattle.sg_chains.specs.Chained.{users_on}
+use Rattle.sg_chains.specs.Walk.{next_on, user_of}
+use Rattle.sg_maxmin.specs.Sharing.{uses_at}
+use Rattle.sg_levels.specs.Numbered.{all_uses}
+use Rattle.sg_levels.specs.Kept.{IsSettlingOn}
+use Rattle.sg_levels.proofs.Listed.{in_at, take_all}
+use Rattle.sg_levels.proofs.Walked.{can_look, looked, walk_from, walk_on, nearer, walked}
+use Rattle.sg_levels.proofs.Noted.{noted_none, noted_on}
+use Rattle.sg_levels.proofs.Steps.{uses_next, drop_step, drop_end}
+use Rattle.sg_levels.proofs.settling.settle_users.Goals as goal
+
+pub loop-at-init : goal.loop-at-init
+loop-at-init g c =
+    let s = c.args.system.now in
+    let row = users_on s.users c.args.resource in (
+      0,
+      record {
+        walk = walk_from next_on user_of s.uses row c.first_on-at.result c.first_on-at.ensures.leads c.first_on-at.ensures.few;
+        settling = λ are. are;
+        places = c.requires.places;
+        moved = noted_none c.args.kept.now.moved c.args.kept.now.levels.items;
+        looks = omega arith;
+      },
+    )
+
+pub look-one-requires : goal.look-one-requires
+look-one-requires g c =
+    let s = c.args.system.now in
+    let row = users_on s.users c.args.resource in
+    let inv = c.loop-at.invariant in
+    can_look next_on user_of s.uses row inv.0 c.loop-at.at inv.1.walk c.in-Some.i c.in-Some.is
+
+pub loop-at-smaller : goal.loop-at-smaller
+loop-at-smaller g c =
+    let s = c.args.system.now in
+    let row = users_on s.users c.args.resource in
+    let inv = c.loop-at.invariant in
+    nearer next_on user_of s.uses row inv.0 c.loop-at.at inv.1.walk c.in-Some.i c.look-one.result c.in-Some.is c.look-one.ensures.there
+
+pub settle_user-requires-clause-user : goal.settle_user-requires-clause-user
+settle_user-requires-clause-user g c =
+    let s = c.args.system.now in
+    let row = users_on s.users c.args.resource in
+    let inv = c.loop-at.invariant in
+    let r = looked next_on user_of s.uses row inv.0 c.loop-at.at inv.1.walk c.in-Some.i c.look-one.result c.in-Some.is c.look-one.ensures.there in
+    in_at c.look-one.result.flow row inv.0 r.less (sym r.is)
+
+pub loop-at-preserved : goal.loop-at-preserved
+loop-at-preserved g c =
+    let s = c.args.system.now in
+    let n = c.args.resource in
+    let row = users_on s.users n in
+    let inv = c.loop-at.invariant in
+    let k = inv.0 in
+    let was = c.args.was in
+    let before = c.loop-at.kept in
+    let after = c.settle_user.new.kept in
+    let r = looked next_on user_of s.uses row k c.loop-at.at inv.1.walk c.in-Some.i c.look-one.result c.in-Some.is c.look-one.ensures.there in
+    let first : drop k row ≡ c.look-one.result.flow ∷ drop (suc k) row = drop_step row k r.less ∙ ap (λ id. id ∷ drop (suc k) row) (sym r.is) in (
+      suc k,
+      record {
+        walk = walk_on next_on user_of s.uses row k c.loop-at.at inv.1.walk c.in-Some.i c.look-one.result c.in-Some.is c.look-one.ensures.there;
+        settling = λ are. c.settle_user.ensures.settles (drop (suc k) row) (subst (IsSettlingOn s before n was) first (inv.1.settling are));
+        places = c.settle_user.ensures.places;
+        moved = noted_on c.args.kept.now.moved before.moved after.moved c.args.kept.now.levels.items before.levels.items after.levels.items inv.1.moved c.settle_user.ensures.moved;
+        looks = omega (arith, inv.1.looks, c.look-one.ensures.looks, c.settle_user.ensures.looks, uses_next s.slots row k r.less, ap (λ id. length (uses_at s.slots id)) r.is);
+      },
+    )
+
+pub returns-clause-settles : goal.returns-clause-settles
+returns-clause-settles g c = λ are.
+    let s = c.args.system.now in
+    let row = users_on s.users c.args.resource in
+    let inv = c.loop-at.invariant in
+    let end = drop_end row inv.0 (walked next_on user_of s.uses row inv.0 c.loop-at.at inv.1.walk c.in_default.not-Some) in
+    subst (IsSettlingOn s c.loop-at.kept c.args.resource c.args.was) end (inv.1.settling are)
+
+pub returns-clause-moved : goal.returns-clause-moved
+returns-clause-moved g c = c.loop-at.invariant.1.moved
+
+pub returns-clause-looks : goal.returns-clause-looks
+returns-clause-looks g c =
+    let s = c.args.system.now in
+    let row = users_on s.users c.args.resource in
+    let inv = c.loop-at.invariant in
+    let end = walked next_on user_of s.uses row inv.0 c.loop-at.at inv.1.walk c.in_default.not-Some in
+    omega (arith, inv.1.looks, end, ap (all_uses s.slots) (take_all row inv.0 end))

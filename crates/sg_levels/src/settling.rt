@@ -1,0 +1,306 @@
+//! A settling: levels and holds are made to agree, one resource at a time, in whatever order.
+ghost use Rattle.std.specs.Prelude.{◌≡◌, ◌≤◌, ◌<◌, ◌+◌, ◌*◌, ℕ, true, false, IsTrue, Option, None, Some, IfSome, IsSome, List, [], ◌∷◌, All, length, option_map};
+ghost use Rattle.sg_base.specs.MarkSet.{is_in};
+ghost use Rattle.sg_chains.specs.Chained.{users_on};
+ghost use Rattle.sg_maxmin.specs.Fill.{bound_level as level_of_bound};
+ghost use Rattle.sg_maxmin.specs.Sharing.{IsSound, flow_at, uses_at};
+ghost use Rattle.sg_levels.specs.Held.{AreFilled, IsAtMost, IsUnder};
+ghost use Rattle.sg_levels.specs.Kept.{ActivatesAll, ActivatesBut, HasPlaces, IsMoved, IsSettling, IsSettlingOn, NotesMoved, refresh_looks};
+ghost use Rattle.sg_levels.specs.Numbered.{all_uses, bound_of as bound_of_flow, flow_in, level_at};
+ghost use Rattle.sg_levels.specs.Settling.{HasCause, is_active};
+
+use crate::hold::hold_of;
+use crate::levels::Levels;
+use sg_base::Steps;
+use sg_maxmin::System;
+use std::sync::ledger::Ledger;
+
+// Whether two levels are the same.
+fn is_same(one: Option<u64>, other: Option<u64>) -> bool
+    ensures same { IsTrue result → one ≡ other }
+    ensures told { one ≡ other → IsTrue result }
+{
+    match one {
+        None => other.is_none(),
+        Some(one) => match other {
+            None => false,
+            Some(other) => one == other,
+        },
+    }
+}
+
+// The hold, where the level is above it.
+fn hold_below(level: Option<u64>, hold: Option<u64>) -> Option<u64>
+    ensures some { IfSome result (λ h. (hold ≡ Some h) × IsUnder h level) }
+    ensures none { result ≡ None → IsAtMost level hold }
+{
+    match hold {
+        None => None,
+        Some(hold) => match level {
+            None => Some(hold),
+            Some(level) => { if hold < level { Some(hold) } else { None } }
+        },
+    }
+}
+
+// The level of a bound.
+fn bound_level(weight: u32, bound: Option<u64>) -> Option<u64>
+    requires { 0 < weight }
+    ensures { result ≡ option_map (level_of_bound weight) bound }
+{
+    match bound {
+        None => None,
+        Some(bound) => Some(bound.div_ceil(weight as u64)),
+    }
+}
+
+// The level of a flow's bound.
+fn bound_of(system: &System, flow: usize) -> Option<u64>
+    requires sound { IsSound system.now }
+    requires held { IsSome (flow_at system.now.slots flow) }
+    ensures { result ≡ bound_of_flow (flow_in system.now.slots flow) }
+{
+    bound_level(system.weight(flow), system.bound(flow))
+}
+
+// Makes a resource active.
+fn activate(active: &mut [bool], resource: usize)
+    requires { resource < length active.old }
+    ensures { ActivatesAll (resource ∷ []) active.old active.new }
+{
+    active[resource] = true;
+}
+
+// Makes the resources of a flow active.
+fn activate_uses<L: Ledger>(system: &System, flow: usize, active: &mut [bool], steps: &mut Steps<L>)
+    requires { All (λ c. c < length active.old) (uses_at system.now.slots flow) }
+    ensures activates { ActivatesAll (uses_at system.now.slots flow) active.old active.new }
+    ensures looks { steps.new ≡ steps.old + length (uses_at system.now.slots flow) }
+{
+    let mut at = system.first_of(flow);
+    while let Some(i) = at {
+        let one = system.look(i, steps);
+        activate(active, one.resource);
+        at = one.next_of_flow;
+    }
+}
+
+// Whether a flow's level is that of its bound, or what is written of one of its resources.
+fn has_cause<L: Ledger>(
+    system: &System,
+    flow: usize,
+    level: Option<u64>,
+    kept: &Levels,
+    steps: &mut Steps<L>,
+) -> bool
+    requires sound { IsSound system.now }
+    requires held { IsSome (flow_at system.now.slots flow) }
+    requires places { HasPlaces system.now kept.now }
+    ensures cause { IsTrue result
+        → HasCause kept.now.holds.items (flow_in system.now.slots flow) level }
+    ensures looks { steps.new ≤ steps.old + length (uses_at system.now.slots flow) }
+{
+    if is_same(bound_of(system, flow), level) {
+        return true;
+    }
+    let mut at = system.first_of(flow);
+    while let Some(i) = at {
+        let one = system.look(i, steps);
+        if is_same(kept.hold(one.resource), level) {
+            return true;
+        }
+        at = one.next_of_flow;
+    }
+    false
+}
+
+// Gives a flow another level, and notes it; its resources are active.
+fn move_flow<L: Ledger>(
+    system: &System,
+    flow: usize,
+    level: Option<u64>,
+    kept: &mut Levels,
+    steps: &mut Steps<L>,
+)
+    requires level { flow < length kept.old.levels.items }
+    requires moved { flow < kept.old.moved.room }
+    requires exist { All (λ c. c < length kept.old.active.items) (uses_at system.now.slots flow) }
+    ensures moved { IsMoved kept.old kept.new flow level }
+    ensures activates { ActivatesAll (uses_at system.now.slots flow)
+        kept.old.active.items kept.new.active.items }
+    ensures looks { steps.new ≡ steps.old + length (uses_at system.now.slots flow) }
+{
+    kept.levels[flow] = level;
+    kept.moved.insert(flow);
+    activate_uses(system, flow, &mut kept.active, steps);
+}
+
+// A user of a resource comes down to its hold; its other resources are active.
+fn lower<L: Ledger>(
+    system: &System,
+    resource: usize,
+    flow: usize,
+    hold: u64,
+    kept: &mut Levels,
+    steps: &mut Steps<L>,
+)
+    requires sound { IsSound system.now }
+    requires places { HasPlaces system.now kept.old }
+    requires resource { resource < length system.now.capacities }
+    requires user { is_in flow (users_on system.now.users resource) ≡ true }
+    ensures moved { IsMoved kept.old kept.new flow (Some hold) }
+    ensures activates { ActivatesBut resource (uses_at system.now.slots flow)
+        kept.old.active.items kept.new.active.items }
+    ensures looks { steps.new ≡ steps.old + length (uses_at system.now.slots flow) }
+{
+    let was = kept.is_active(resource);
+    move_flow(system, flow, Some(hold), kept, steps);
+    kept.active[resource] = was;
+}
+
+// A user of a resource that held it goes up, where nothing holds it now.
+fn settle_held<L: Ledger>(
+    system: &System,
+    resource: usize,
+    flow: usize,
+    kept: &mut Levels,
+    steps: &mut Steps<L>,
+)
+    requires sound { IsSound system.now }
+    requires places { HasPlaces system.now kept.old }
+    requires resource { resource < length system.now.capacities }
+    requires user { is_in flow (users_on system.now.users resource) ≡ true }
+    requires most { IsAtMost (level_at kept.old.levels.items flow)
+        (level_at kept.old.holds.items resource) }
+    ensures settles { (was : Option ℕ) (todo : List ℕ)
+        → IsSettlingOn system.now kept.old resource was (flow ∷ todo)
+        → IsSettlingOn system.now kept.new resource was todo }
+    ensures places { HasPlaces system.now kept.new }
+    ensures moved { NotesMoved kept.old kept.new }
+    ensures looks { steps.new ≤ steps.old + 2 * length (uses_at system.now.slots flow) }
+{
+    let level = kept.level(flow);
+    if is_same(kept.hold(resource), level) {
+        return;
+    }
+    if !has_cause(system, flow, level, kept, steps) {
+        move_flow(system, flow, bound_of(system, flow), kept, steps);
+    }
+}
+
+// A user of a resource is looked at, of which another hold was written before.
+fn settle_user<L: Ledger>(
+    system: &System,
+    resource: usize,
+    was: Option<u64>,
+    flow: usize,
+    kept: &mut Levels,
+    steps: &mut Steps<L>,
+)
+    requires sound { IsSound system.now }
+    requires places { HasPlaces system.now kept.old }
+    requires resource { resource < length system.now.capacities }
+    requires user { is_in flow (users_on system.now.users resource) ≡ true }
+    ensures settles { (todo : List ℕ)
+        → IsSettlingOn system.now kept.old resource was (flow ∷ todo)
+        → IsSettlingOn system.now kept.new resource was todo }
+    ensures places { HasPlaces system.now kept.new }
+    ensures moved { NotesMoved kept.old kept.new }
+    ensures looks { steps.new ≤ steps.old + 2 * length (uses_at system.now.slots flow) }
+{
+    let level = kept.level(flow);
+    match hold_below(level, kept.hold(resource)) {
+        Some(hold) => lower(system, resource, flow, hold, kept, steps),
+        None => {
+            if is_same(level, was) {
+                settle_held(system, resource, flow, kept, steps);
+            }
+        }
+    }
+}
+
+// The users of a resource come down to the hold that is written of it, and those that it held before and that nothing
+// holds now go up to their bounds.
+fn settle_users<L: Ledger>(
+    system: &System,
+    resource: usize,
+    was: Option<u64>,
+    kept: &mut Levels,
+    steps: &mut Steps<L>,
+)
+    requires sound { IsSound system.now }
+    requires places { HasPlaces system.now kept.old }
+    requires resource { resource < length system.now.capacities }
+    ensures settles { IsSettlingOn system.now kept.old resource was
+        (users_on system.now.users resource)
+        → IsSettlingOn system.now kept.new resource was [] }
+    ensures places { HasPlaces system.now kept.new }
+    ensures moved { NotesMoved kept.old kept.new }
+    ensures looks { let users = users_on system.now.users resource in
+        steps.new ≤ steps.old + length users + 2 * all_uses system.now.slots users }
+{
+    let mut at = system.first_on(resource);
+    while let Some(i) = at {
+        let one = system.look(i, steps);
+        settle_user(system, resource, was, one.flow, kept, steps);
+        at = one.next_on;
+    }
+}
+
+// Whether there is neither.
+fn are_none(one: Option<u64>, other: Option<u64>) -> bool
+    ensures { IsTrue result → (one ≡ None) × (other ≡ None) }
+{
+    one.is_none() && other.is_none()
+}
+
+// The first active resource.
+fn first_active(active: &[bool]) -> Option<usize>
+    ensures none { result ≡ None → ((r : ℕ) → is_active active.now r ≡ false) }
+    ensures some { IfSome result (λ r. r < length active.now) }
+{
+    for i in 0..active.len() {
+        if active[i] {
+            return Some(i);
+        }
+    }
+    None
+}
+
+impl Levels {
+    /// Looks at a resource: its hold is written, its flows above it come down to it, and those that it held before and
+    /// that nothing holds now go up to their bounds. The other resources of flows that moved are active.
+    pub fn refresh<L: Ledger>(&mut self, system: &System, resource: usize, steps: &mut Steps<L>)
+        requires resource { resource < length system.now.capacities }
+        requires settling { IsSettling system.now self.old }
+        ensures settling { IsSettling system.now self.new }
+        ensures moved { NotesMoved self.old self.new }
+        ensures looks { steps.new ≤ steps.old + refresh_looks system.now resource }
+    {
+        system.is_sound();
+        let was = self.hold(resource);
+        let hold = hold_of(system, resource, &self.levels, steps);
+        self.active[resource] = false;
+        if !are_none(was, hold) {
+            self.holds[resource] = hold;
+            settle_users(system, resource, was, self, steps);
+        }
+    }
+
+    /// Looks at active resources, so many at most. True: none is left, and each flow has its level of the filling.
+    pub fn settle<L: Ledger>(&mut self, system: &System, rounds: u64, steps: &mut Steps<L>) -> bool
+        requires { IsSettling system.now self.old }
+        ensures settling { IsSettling system.now self.new }
+        ensures moved { NotesMoved self.old self.new }
+        ensures levels { IsTrue result → AreFilled system.now self.new.levels.items }
+    {
+        system.is_sound();
+        for _ in 0..rounds {
+            match first_active(&self.active) {
+                None => return true,
+                Some(resource) => self.refresh(system, resource, steps),
+            }
+        }
+        false
+    }
+}
