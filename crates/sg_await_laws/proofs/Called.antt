@@ -155,7 +155,7 @@ awaited_suspends : (actor : ℕ) (on : Bool) (target : ActorId) (core : Core) �
 awaited_suspends actor on target core caller a = (let b = both_suspended actor on target core caller a in awaited_ready Nobody [] actor answer.Done (suspended_to on target core) b.calls.apart b.awaits)
 
 -- ---- kills
-withdrawn_fewer : (o : Objects) (target other : ActorId) → waiting (sync.withdrawn target o) other ≤ waiting o other
+pub withdrawn_fewer : (o : Objects) (target other : ActorId) → waiting (sync.withdrawn target o) other ≤ waiting o other
 withdrawn_fewer o target other = elim (cases_eq other.0 target.0) [
   | inl same ↦ (let none : waiting (sync.withdrawn target o) other ≡ 0 = ap (waiting (sync.withdrawn target o)) (id_same other target same) ∙ waits_nowhere o target in omega (arith, none))
   | inr differs ↦ omega (arith, waits_stays target other o.locking differs, waits_stays target other o.acquiring differs, times_stays target other o.arrived differs)

@@ -22,7 +22,7 @@ use Rattle.sg_await_laws.proofs.Later.{IsAnswered, first_goes, next_call, parts_
 use Rattle.sg_await_laws.proofs.Rounds.{by_end, callers_stand, round_to_comes}
 use Rattle.sg_await_laws.proofs.Runs.{parts_in_come, reached_in}
 
-without_stop : (o : Option Stop) → option_map ended_by o ≡ None → o ≡ None
+pub without_stop : (o : Option Stop) → option_map ended_by o ≡ None → o ≡ None
 without_stop None is = refl
 without_stop (Some why) is = absurd (cc is)
 
@@ -31,13 +31,13 @@ goes_by None first next is = refl
 goes_by (Some how) first next is = absurd (cc is)
 
 module _ (run : Run) (parts actors : ℕ) (target : ActorId) (kills : KillsAt run parts actors target) where
-  abbrev setup : Setup
+  abbrev pub setup : Setup
   setup = setup_of run.platform run.deployed run.budget
 
-  abbrev world : World
+  abbrev pub world : World
   world = (parts_in parts run).world
 
-  abbrev round_of : ℕ → Progress
+  abbrev pub round_of : ℕ → Progress
   round_of n = round_to n (scene_in run) run.answers world
 
   goes : (parts_in parts run).ended ≡ None
@@ -46,10 +46,10 @@ module _ (run : Run) (parts actors : ℕ) (target : ActorId) (kills : KillsAt ru
   as_round : (n : ℕ) → run_to parts n run ≡ with_front (parts_in parts run).made (round_of n)
   as_round n = goes_by (parts_in parts run).ended (parts_in parts run) (round_to n (scene_in run) run.answers) goes
 
-  core_is : (n : ℕ) → (run_to parts n run).world.core ≡ (round_of n).world.core
+  pub core_is : (n : ℕ) → (run_to parts n run).world.core ≡ (round_of n).world.core
   core_is n = ap (λ (p : Progress). p.world.core) (as_round n)
 
-  killer : IsAnswered (scene_in run) run.answers (actors + 1) (call.Kill target) (round_of actors) (round_of (suc actors))
+  pub killer : IsAnswered (scene_in run) run.answers (actors + 1) (call.Kill target) (round_of actors) (round_of (suc actors))
   killer =
       let me : actors + 1 ≡ 1 + actors = omega arith in
       let next : actors + 1 ≡ suc actors = omega arith in
@@ -57,13 +57,13 @@ module _ (run : Run) (parts actors : ℕ) (target : ActorId) (kills : KillsAt ru
       let on : (round_of (suc actors)).ended ≡ None = ap (λ (n : ℕ). (round_of n).ended) (sym next) ∙ ap (λ (p : Progress). p.ended) (sym (as_round (actors + 1))) ∙ kills.goes_on in
       next_call (scene_in run) run.answers actors 1 (actors + 1) (calls_in world) (call.Kill target) (turned world) (omega arith) me (callers_stand world) kills.calls lives on
 
-  abbrev killed : Step
+  abbrev pub killed : Step
   killed = answered (roads_of run.platform) setup (round_of actors).world.core (actors + 1) (call.Kill target)
 
-  by_kernel : one_call (scene_in run) run.answers (actors + 1) (call.Kill target) (round_of actors).world ≡ in_world (round_of actors).world killed
+  pub by_kernel : one_call (scene_in run) run.answers (actors + 1) (call.Kill target) (round_of actors).world ≡ in_world (round_of actors).world killed
   by_kernel = cond-false (run.script && false) (ask_step setup run.answers (actors + 1) (round_of actors).world) (in_world (round_of actors).world killed) (and_right run.script false refl)
 
-  abbrev IsLater : Core → Type 0
+  abbrev pub IsLater : Core → Type 0
   IsLater core = Reaches (roads_of run.platform) setup killed.core core
 
   behind_call : IsLater (round_of (suc actors)).world.core
@@ -87,7 +87,7 @@ module _ (run : Run) (parts actors : ℕ) (target : ActorId) (kills : KillsAt ru
       subst IsLater (ap (λ (w : World). w.core) (sym (parts_add (scene_in run) run.answers parts (suc more) n (first_in run) is goes)))
       (parts_behind (scene_in run) run.answers killed.core (suc actors) actors more world (ap is_some kills.calls) behind_call)
 
-  later : {core : Core} → IsLaterCore run parts (actors + 1) core → IsLater core
+  pub later : {core : Core} → IsLaterCore run parts (actors + 1) core → IsLater core
   later (in_round more) = round_later more
   later (behind_round more others) =
       (let n : parts + 1 + more ≡ parts + suc more = omega arith in

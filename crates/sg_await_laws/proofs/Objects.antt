@@ -80,7 +80,7 @@ comers_few actor caller GoesOn = omega arith
 comers_few actor caller Waits = omega (arith, times_cons actor caller [], one_few actor caller)
 comers_few actor caller Refused = omega arith
 
-no_comer : (actor caller : ActorId) (outcome : Outcome) → caller.0 ≢ actor.0 → times actor (comers caller outcome) ≡ 0
+pub no_comer : (actor caller : ActorId) (outcome : Outcome) → caller.0 ≢ actor.0 → times actor (comers caller outcome) ≡ 0
 no_comer actor caller GoesOn apart = refl
 no_comer actor caller Waits apart = omega (arith, times_cons actor caller [], one_other actor caller apart)
 no_comer actor caller Refused apart = refl

@@ -71,7 +71,7 @@ both P target before first next s more = by first.stop
     by None = let t = more s.since in record { since = t.since; told = All-append P first.made (next first.core).made s.told t.told }
     by (Some why) = s
 
-each_goes : {X : Type 0} (P : Record → Type 0) (target : ActorId) (before : Core) (Is : X → Type 0) (does : X → Core → Step) → ((x : X) (core : Core) → Is x → Since target before core → Goes P target before (does x core)) → (xs : List X) (core : Core) → All Is xs → Since target before core → Goes P target before (each does xs core)
+pub each_goes : {X : Type 0} (P : Record → Type 0) (target : ActorId) (before : Core) (Is : X → Type 0) (does : X → Core → Step) → ((x : X) (core : Core) → Is x → Since target before core → Goes P target before (does x core)) → (xs : List X) (core : Core) → All Is xs → Since target before core → Goes P target before (each does xs core)
 unfolding each
 each_goes P target before Is does one [] core are s = stays P target before core s
 each_goes P target before Is does one (x ∷ xs) core are s =
@@ -219,7 +219,7 @@ joined_before target before core actor s is = by (state_of core actor) refl is
     by (Blocked what since on) e joined = ap (joins target.0) (s.blocked actor since what on e).0 ∙ joined
     by Ended e joined = absurd (cc joined)
 
-joiners_tell : (target : ActorId) (before core : Core) → Since target before core → Goes (TellsJoiner target before) target before (joiners_wake target.0 core)
+pub joiners_tell : (target : ActorId) (before core : Core) → Since target before core → Goes (TellsJoiner target before) target before (joiners_wake target.0 core)
 joiners_tell target before core s =
     each_goes (TellsJoiner target before) target before Joined wakes (wake_tells target before) (joiners target.0 1 core.actors) core
     (joiners_all Joined target.0 1 core.actors (not_suspended Ended) one) s

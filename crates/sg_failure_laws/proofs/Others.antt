@@ -662,7 +662,7 @@ few_created given actor target core fit = few_creates given actor target (counte
 
 -- ---- kills
 -- what each of the numbers that enter a list satisfies
-entered_all : (P : ℕ → Type 0) (n : ℕ) (list : List ℕ) → P n → All P list → All P (entered n list)
+pub entered_all : (P : ℕ → Type 0) (n : ℕ) (list : List ℕ) → P n → All P list → All P (entered n list)
 unfolding entered
 entered_all P n [] p all = All-cons P n [] p (All-nil P)
 entered_all P n (m ∷ more) p all = by (nat_lt n m) (n == m) (entered_all P n more p (All-tail P m more all))
@@ -672,7 +672,7 @@ entered_all P n (m ∷ more) p all = by (nat_lt n m) (n == m) (entered_all P n m
     by false true rest = all
     by false false rest = All-cons P m (entered n more) (All-head P m more all) rest
 
-rising_all : (P : ℕ → Type 0) (list : List ℕ) → All P list → All P (rising list)
+pub rising_all : (P : ℕ → Type 0) (list : List ℕ) → All P list → All P (rising list)
 unfolding rising
 rising_all P [] all = All-nil P
 rising_all P (n ∷ more) all = entered_all P n (rising more) (All-head P n more all) (rising_all P more (All-tail P n more all))
@@ -806,11 +806,11 @@ few_told setup core actor action fit =
 
 -- ---- failures
 -- the first that passes a test does so where it stands
-record IsThere {X : Type 0} (test : X → Bool) (n serial : ℕ) (xs : List (Option X)) : Type 0 where
-  from : n ≤ serial
-  there : passes test (get_or xs (serial - n) None) ≡ true
+pub record IsThere {X : Type 0} (test : X → Bool) (n serial : ℕ) (xs : List (Option X)) : Type 0 where
+  pub from : n ≤ serial
+  pub there : passes test (get_or xs (serial - n) None) ≡ true
 
-first_there : {X : Type 0} (test : X → Bool) (n serial : ℕ) (xs : List (Option X)) (rest : List ℕ) → serials test n xs ≡ serial ∷ rest → IsThere test n serial xs
+pub first_there : {X : Type 0} (test : X → Bool) (n serial : ℕ) (xs : List (Option X)) (rest : List ℕ) → serials test n xs ≡ serial ∷ rest → IsThere test n serial xs
 unfolding serials
 first_there test n serial [] rest e = absurd (cc e)
 first_there test n serial (x ∷ xs) rest e = by (passes test x) refl e (first_there test (n + 1) serial xs rest)
@@ -896,14 +896,14 @@ few_pass setup core (Some span) fit =
     (few_each (ends setup) (few_ends setup) (due_in span core.under)))
 
 -- nobody is blocked at first
-none_blocked : (starts : List Bool) (i since : ℕ) (what : Call) (on : Await) → (get_or (map first_actor starts) i (not_suspended Ended)).state ≡ Blocked what since (Some on) → ⊥
+pub none_blocked : (starts : List Bool) (i since : ℕ) (what : Call) (on : Await) → (get_or (map first_actor starts) i (not_suspended Ended)).state ≡ Blocked what since (Some on) → ⊥
 none_blocked [] i since what on e = absurd (cc e)
 none_blocked (true ∷ starts) zero since what on e = absurd (cc e)
 none_blocked (false ∷ starts) zero since what on e = absurd (cc e)
 none_blocked (b ∷ starts) (suc i) since what on e = none_blocked starts i since what on e
 
 -- nobody has asked for anything
-none_asked : (P : Await → Type 0) (many i : ℕ) → All P (get_or (replicate many []) i [])
+pub none_asked : (P : Await → Type 0) (many i : ℕ) → All P (get_or (replicate many []) i [])
 none_asked P many i = elim (cases_lt i many) [
   | inl less ↦ subst (λ (q : List Await). All P q) (sym (get_or-replicate many i none none less)) (All-nil P)
   | inr past ↦ subst (λ (q : List Await). All P q) (sym (get_or_past (replicate many none) i none (omega (arith, past, length-replicate many none)))) (All-nil P)
