@@ -1,0 +1,15 @@
+pub mod Parts
+pub mod Failures
+pub mod Around
+pub mod Timing
+pub mod Energy
+pub mod Theirs
+pub mod Finished
+pub mod CalledParts
+pub mod Reached
+pub mod Tracked
+pub mod Answered
+pub mod Meets
+pub mod Queues
+pub mod Order
+pub mod Reaching

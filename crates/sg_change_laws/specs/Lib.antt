@@ -1,0 +1,7 @@
+pub mod Failures
+pub mod Energy
+pub mod Theirs
+pub mod Told
+pub mod Meets
+pub mod Queues
+pub mod Order

@@ -1,0 +1,10 @@
+//! What failures, kills and energy mean for whole runs, as laws, each the contract of a function without a body.
+#![tactic(auto)]
+
+mod laws;
+
+pub use laws::{
+    awaited_are_drawn, energy_is_sum, exits_tell_joiners, killed_wait_nowhere, kills_reach,
+    kills_tell_in_order, meetings_tell_both, no_other_fails_in_runs, nobody_waits_for_over,
+    nothing_off_is_used_in_runs, passes_answer,
+};
