@@ -316,10 +316,10 @@ parts_suspended on target core p = by (is_alive (state_of core target.0))
 abbrev pub Belongs : ℕ → List Whose → ℕ → Type 0
 Belongs actor whose serial = (0 < serial) × ((is_over (get_or whose (serial - 1) (Over how.Done)) ≡ true) ⊎ ((side : Party) × PartOf actor (get_or whose (serial - 1) (Over how.Done)) side))
 
-record Dying (actor : ℕ) (serials : List ℕ) (core : Core) : Type 0 where
-  parts : TakePart Nobody core
-  dead : blocking_in (state_of core actor) ≡ None
-  belong : All (Belongs actor core.whose) serials
+pub record Dying (actor : ℕ) (serials : List ℕ) (core : Core) : Type 0 where
+  pub parts : TakePart Nobody core
+  pub dead : blocking_in (state_of core actor) ≡ None
+  pub belong : All (Belongs actor core.whose) serials
 
 asked_belongs : (actor : ℕ) (whose : List Whose) (on : Await) → IsAsked whose actor on → Belongs actor whose on.serial.0
 asked_belongs actor whose on a = (a.from, by a.part)
@@ -410,14 +410,19 @@ parts_give_up dead serial core belongs gone p = by (whose_at core serial) refl
     by (Posted mailbox sends other) e = fails
     by (Pair sender receiver) e = fails
 
+-- the first of these is given up
+pub dying_next : (dead serial : ℕ) (rest : List ℕ) (core : Core) → Dying dead (serial ∷ rest) core → Dying dead rest (gives_up serial core).core
+dying_next dead serial rest core d =
+    let R = Belongs dead core.whose in
+    let s = (gives_up_kept (Stays dead rest) anything (stays_closed dead rest) serial core (record { dead = d.dead; belong = All-tail R serial rest d.belong })).holds in
+    record { parts = parts_give_up dead serial core (All-head R serial rest d.belong) d.dead d.parts; dead = s.dead; belong = s.belong }
+
 parts_given_up : (dead : ℕ) (serials : List ℕ) (core : Core) → Dying dead serials core → TakePart Nobody (each gives_up serials core).core
 unfolding each
 parts_given_up dead [] core d = d.parts
 parts_given_up dead (serial ∷ rest) core d =
-    let R = Belongs dead core.whose in
-    let one = parts_give_up dead serial core (All-head R serial rest d.belong) d.dead d.parts in
-    let s = (gives_up_kept (Stays dead rest) anything (stays_closed dead rest) serial core (record { dead = d.dead; belong = All-tail R serial rest d.belong })).holds in
-    after_both (TakePart Nobody) (gives_up serial core) (each gives_up rest) one (λ p. parts_given_up dead rest (gives_up serial core).core (record { parts = p; dead = s.dead; belong = s.belong }))
+    let next = dying_next dead serial rest core d in
+    after_both (TakePart Nobody) (gives_up serial core) (each gives_up rest) next.parts (λ p. parts_given_up dead rest (gives_up serial core).core next)
 
 parts_withdrawn : (target : ActorId) (core : Core) → TakePart Nobody core → TakePart Nobody (withdrawn target core)
 parts_withdrawn target core p =
@@ -425,31 +430,33 @@ parts_withdrawn target core p =
     let dead = parts_put Nobody (record core { requests = set core.requests (target.0 - 1) [] }) target.0 Ended (λ since what on e. absurd (cc e)) fewer in
     record { numbered = dead.numbered; waits = dead.waits; asked = dead.asked; posted = dead.posted }
 
-parts_killed : (dead actor : ℕ) (target : ActorId) (core : Core) → 0 < dead → dead - 1 ≡ target.0 - 1 → TakePart Nobody core → TakePart Nobody (kills_alive actor target core).core
-parts_killed dead actor target core from same p =
-    (then_more (Dying dead serials) (TakePart Nobody) anything (kill_done actor target) (each gives_up serials ∷ joiners_wake target.0 ∷ []) start (kill_done_goes actor target start) (record { holds = done (actor == target.0); made = λ i d within. tt })
-    (λ mid d. more_kept (TakePart Nobody) anything (each gives_up serials) (joiners_wake target.0 ∷ []) mid (record { holds = parts_given_up dead serials mid d; made = λ i e within. tt })
-    (λ late q. more_kept (TakePart Nobody) anything (joiners_wake target.0) [] late (joiners_kept (TakePart Nobody) anything parts_replying target.0 late q) (none_kept (TakePart Nobody) anything)))).holds
+pub dying_own : (dead actor : ℕ) (target : ActorId) (core : Core) → 0 < dead → dead - 1 ≡ target.0 - 1 → TakePart Nobody core → Dying dead (awaited target core) (kill_done actor target (withdrawn target core)).core
+dying_own dead actor target core from same p = done (actor == target.0)
   where
-    serials : List ℕ
-    serials = awaited target core
-
     start : Core
     start = withdrawn target core
 
     ended : blocking_in (get_or start.actors (target.0 - 1) (not_suspended Ended)).state ≡ None
     ended = at_place (λ (a : Actor). blocking_in a.state ≡ None) core.actors (target.0 - 1) (record (actor_at core.actors target.0) { state = Ended }) (not_suspended Ended) refl refl
 
-    here : Dying dead serials start
+    here : Dying dead (awaited target core) start
     here = record {
       parts = parts_withdrawn target core p;
       dead = ap (λ k. blocking_in (get_or start.actors k (not_suspended Ended)).state) same ∙ ended;
       belong = awaited_belong dead target core from same p;
     }
 
-    done : (b : Bool) → Dying dead serials (cond b (goes_on start []) (at_once actor (call.Kill target) 0 answer.Done start)).core
+    done : (b : Bool) → Dying dead (awaited target core) (cond b (goes_on start []) (at_once actor (call.Kill target) 0 answer.Done start)).core
     done true = here
     done false = record { parts = parts_ready Nobody start actor answer.Done here.parts; dead = dead_replied dead actor answer.Done start here.dead; belong = here.belong }
+
+parts_killed : (dead actor : ℕ) (target : ActorId) (core : Core) → 0 < dead → dead - 1 ≡ target.0 - 1 → TakePart Nobody core → TakePart Nobody (kills_alive actor target core).core
+parts_killed dead actor target core from same p =
+    let serials = awaited target core in
+    let start = withdrawn target core in
+    (then_more (Dying dead serials) (TakePart Nobody) anything (kill_done actor target) (each gives_up serials ∷ joiners_wake target.0 ∷ []) start (kill_done_goes actor target start) (record { holds = dying_own dead actor target core from same p; made = λ i d within. tt })
+    (λ mid d. more_kept (TakePart Nobody) anything (each gives_up serials) (joiners_wake target.0 ∷ []) mid (record { holds = parts_given_up dead serials mid d; made = λ i e within. tt })
+    (λ late q. more_kept (TakePart Nobody) anything (joiners_wake target.0) [] late (joiners_kept (TakePart Nobody) anything parts_replying target.0 late q) (none_kept (TakePart Nobody) anything)))).holds
 
 parts_kills : (actor : ℕ) (target : ActorId) (core : Core) → TakePart Nobody core → TakePart Nobody (kills actor target core).core
 parts_kills actor target core p =

@@ -1,5 +1,5 @@
 -- What a kill tells, and in which order.
-use Rattle.std.proofs.Common.{◌≡◌, ◌≢◌, ◌⊎◌, ℕ, zero, suc, ◌+◌, ◌-◌, ◌<◌, ◌≤◌, ◌==◌, nat_lt, Bool, true, false, cond, inl, inr, Option, None, Some, List, [], ◌∷◌, ◌++◌, append_assoc, get_or, refl, sym, ap, subst, ◌∙◌, arith}
+use Rattle.std.proofs.Common.{◌≡◌, ◌≢◌, ◌⊎◌, ℕ, zero, suc, ◌+◌, ◌-◌, ◌<◌, ◌≤◌, ◌==◌, nat_lt, Bool, true, false, cond, IsTrue, inl, inr, Option, None, Some, List, [], ◌∷◌, ◌++◌, append_assoc, get_or, refl, sym, ap, subst, ◌∙◌, arith}
 use Rattle.std.specs.List.{All, Contains}
 use Rattle.std.proofs.lemmas.Bool.{cond-false}
 use Rattle.std.proofs.lemmas.List.Elements.{All-nil, All-cons, All-append, All-head, All-tail, All-contains_itself}
@@ -18,7 +18,7 @@ use Rattle.sg_states.specs.declared.state.Actor.{Actor}
 use Rattle.sg_states.specs.declared.state.Blocking.{Blocking}
 use Rattle.sg_states.specs.declared.state.State.{State}
 use Rattle.sg_states.specs.declared.state.State.TheVariants.{Ready, Blocked, Ended}
-use Rattle.sg_states.specs.Actors.{blocking_in, is_answered, joiners, joins, not_suspended, put_state, state_at}
+use Rattle.sg_states.specs.Actors.{blocking_in, is_alive, is_answered, joiners, joins, not_suspended, put_state, state_at}
 use Rattle.sg_states.specs.Records.{record_of}
 use Rattle.sg_kernel.specs.declared.owners.How.TheVariants as how
 use Rattle.sg_kernel.specs.declared.owners.Whose.{Whose}
@@ -203,7 +203,7 @@ wake_id actor core = by (blocking_in (state_of core actor.0))
     by None = All-nil Q
     by (Some blocking) = All-cons Q _ [] refl (All-nil Q)
 
-joiners_from : (target id : ℕ) (actors : List Actor) → All (λ (a : ActorId). id ≤ a.0) (joiners target id actors)
+pub joiners_from : (target id : ℕ) (actors : List Actor) → All (λ (a : ActorId). id ≤ a.0) (joiners target id actors)
 unfolding joiners
 joiners_from target id [] = All-nil (λ (a : ActorId). id ≤ a.0)
 joiners_from target id (actor ∷ rest) = by (joins target actor.state) (λ i d within. (let more = joiners_from target (id + 1) rest i d within in omega (arith, more)))
@@ -365,7 +365,7 @@ module _ (other since : ℕ) (what : Call) (from : 0 < other) where
   given_up_waits (serial ∷ rest) core is = after_both Waits (gives_up serial core) (each gives_up rest) (give_up_waits serial core is) (given_up_waits rest (gives_up serial core).core)
 
 -- ---- a kill
-all_of_is : (first : Core → Step) (rest : List (Core → Step)) (core : Core) → (first core).stop ≡ None → all_of (first ∷ rest) core ≡ record (all_of rest (first core).core) { made = (first core).made ++ (all_of rest (first core).core).made }
+pub all_of_is : (first : Core → Step) (rest : List (Core → Step)) (core : Core) → (first core).stop ≡ None → all_of (first ∷ rest) core ≡ record (all_of rest (first core).core) { made = (first core).made ++ (all_of rest (first core).core).made }
 unfolding all_of
 all_of_is first rest core on = then_is (first core) (all_of rest) on
 
@@ -373,10 +373,10 @@ module _ (roads : Roads) (setup : Setup) (core : Core) (actor : ℕ) (target : A
   abbrev serials : List ℕ
   serials = awaited target core
 
-  abbrev start : Core
+  abbrev pub start : Core
   start = withdrawn target (counted core)
 
-  abbrev own : Step
+  abbrev pub own : Step
   own = kill_done actor target start
 
   abbrev sides : Step
@@ -412,22 +412,22 @@ module _ (roads : Roads) (setup : Setup) (core : Core) (actor : ℕ) (target : A
   side_goes : Goes (TellsOther target core) target core sides
   side_goes = each_goes (TellsOther target core) target core (Contains serials) gives_up (gives_up_tells target core) serials own.core (All-contains_itself serials) since_own
 
-  own_waits : (other since : ℕ) → 0 < other → other - 1 ≢ target.0 - 1 → state_of core other ≡ Blocked (call.Join target) since None → state_of own.core other ≡ Blocked (call.Join target) since None
-  own_waits other since from apart is = by (actor == target.0)
+  pub own_waits : (other since : ℕ) (what : Call) (on : Option Await) → other - 1 ≢ target.0 - 1 → state_of core other ≡ Blocked what since on → state_of own.core other ≡ Blocked what since on
+  own_waits other since what on apart is = by (actor == target.0)
     where
-      left : state_of start other ≡ Blocked (call.Join target) since None
-      left = put_there (λ (s : State). s ≡ Blocked (call.Join target) since None) core.actors target.0 other Ended (λ same. absurd (apart same)) is
+      left : state_of start other ≡ Blocked what since on
+      left = put_there (λ (s : State). s ≡ Blocked what since on) core.actors target.0 other Ended (λ same. absurd (apart same)) is
 
       calls : other - 1 ≡ actor - 1 → ⊥
       calls same = absurd (cc (sym may.ready ∙ ap is_answered (sym (same_state core.actors other actor same)) ∙ ap is_answered is))
 
-      by : (b : Bool) → state_of (cond b (goes_on start []) (at_once actor (call.Kill target) 0 answer.Done start)).core other ≡ Blocked (call.Join target) since None
+      by : (b : Bool) → state_of (cond b (goes_on start []) (at_once actor (call.Kill target) 0 answer.Done start)).core other ≡ Blocked what since on
       by true = left
-      by false = put_there (λ (s : State). s ≡ Blocked (call.Join target) since None) start.actors actor other (Ready answer.Done) (λ same. absurd (calls same)) left
+      by false = put_there (λ (s : State). s ≡ Blocked what since on) start.actors actor other (Ready answer.Done) (λ same. absurd (calls same)) left
 
   joiner_told : (other since : ℕ) → 0 < other → other - 1 ≢ target.0 - 1 → state_of core other ≡ Blocked (call.Join target) since None → IsTold other since (call.Join target) woken
   joiner_told other since from apart is =
-      let now = given_up_waits other since (call.Join target) from serials own.core (own_waits other since from apart is) in
+      let now = given_up_waits other since (call.Join target) from serials own.core (own_waits other since (call.Join target) None apart is) in
       let there : joins target.0 (state_of sides.core other) ≡ true = ap (joins target.0) now ∙ eq_yes target.0 target.0 refl in
       let place : 1 + (other - 1) ≡ other = omega (arith, from) in
       all_told other since (call.Join target) from (joiners target.0 1 sides.core.actors) sides.core (joiners_from target.0 1 sides.core.actors) (joiners_among target.0 1 (other - 1) other sides.core.actors place there) now
@@ -453,20 +453,15 @@ module _ (roads : Roads) (setup : Setup) (core : Core) (actor : ℕ) (target : A
           ∙ ap (λ (ms : List Record). own.made ++ ms) (sym (append_assoc sides.made front (r ∷ back)))
           ∙ sym (append_assoc own.made (sides.made ++ front) (r ∷ back))
 
+pub kill_is : (roads : Roads) (setup : Setup) (core : Core) (actor : ℕ) (target : ActorId) → IsTrue (is_alive (state_of core target.0)) → core.events ≢ setup.budget →
+    answered roads setup core actor (call.Kill target) ≡ all_of (kill_stretches actor target (awaited target core)) (withdrawn target (counted core))
+kill_is roads setup core actor target alive left =
+    let ends = all_of (kill_stretches actor target (awaited target core)) (withdrawn target (counted core)) in
+    let stays = at_once actor (call.Kill target) 0 answer.Done (counted core) in
+    cond-false (core.events == setup.budget) (stops core [] Budget) (kills actor target (counted core)) (eq_no core.events setup.budget left) ∙ ap (λ b. cond b ends stays) alive
+
 pub kills_tell_in_order : KillsTellInOrder
-kills_tell_in_order roads setup core actor target may alive left = subst (TellsInOrder actor target core) (sym is) (in_order roads setup core actor target may)
-  where
-    start : Core
-    start = withdrawn target (counted core)
-
-    ends : Step
-    ends = all_of (kill_stretches actor target (awaited target core)) start
-
-    stays : Step
-    stays = at_once actor (call.Kill target) 0 answer.Done (counted core)
-
-    is : answered roads setup core actor (call.Kill target) ≡ ends
-    is = cond-false (core.events == setup.budget) (stops core [] Budget) (kills actor target (counted core)) (eq_no core.events setup.budget left) ∙ ap (λ b. cond b ends stays) alive
+kills_tell_in_order roads setup core actor target may alive left = subst (TellsInOrder actor target core) (sym (kill_is roads setup core actor target alive left)) (in_order roads setup core actor target may)
 
 -- ---- an exit
 exit_tells : (core : Core) (actor : ℕ) → TellsJoiners actor core (exits actor (counted core))

@@ -224,7 +224,7 @@ module _ (actor since : ℕ) (what : Call) (on : Option Await) where
   then_replying : (mid : Core) → Replying (BlockedThen mid) anything
   then_replying mid = record { replies = λ other blocking bytes given core is p. one_made (BlockedThen mid) anything _ _ (λ now. p (ready_after core.actors other actor since given what on now)) tt }
 
-  finish_tracks : (over : How) (serial : ℕ) (core : Core) → 0 < actor → TakePart Nobody core → Follows core (finishes over serial core)
+  pub finish_tracks : (over : How) (serial : ℕ) (core : Core) → 0 < actor → TakePart Nobody core → Follows core (finishes over serial core)
   finish_tracks over serial core from p = from_alike core mid (finishes over serial core) refl refl (by (whose_at core serial) refl)
     where
       mid : Core

@@ -43,8 +43,13 @@ abbrev pub PassesAnswer : Type 0
 PassesAnswer = (run : Run) (core : Core) → IsCoreOf run core → (actor since : ℕ) (what : Call) (on : Await) (over : How) → 0 < actor → state_of core actor ≡ Blocked what since (Some on) →
     whose_at (pass_of (setup_in run) core).core on.serial.0 ≡ Over over → IsAnswered actor since what over (pass_of (setup_in run) core)
 
+-- one of the records tells that the actor's call has failed, and the actor has an answer
+pub record IsFailed (actor since : ℕ) (what : Call) (step : Step) : Type 0 where
+  pub fails : TellsCaller actor what step.made
+  pub told : IsTold actor since what step
+
 -- In each core of a run a kill of another that is alive tells whoever is blocked on an activity that the killed one awaits.
 abbrev pub KillsReach : Type 0
 KillsReach = (run : Run) (core : Core) → IsCoreOf run core → (actor : ℕ) (target : ActorId) → MayCall core actor → 0 < target.0 → is_alive (state_of core target.0) ≡ true → core.events ≢ run.budget →
     (other since : ℕ) (called : Call) (on : Await) → 0 < other → other ≢ target.0 → state_of core other ≡ Blocked called since (Some on) → Contains (awaited target core) on.serial.0 →
-    TellsCaller other called (answered (roads_of run.platform) (setup_in run) core actor (call.Kill target)).made
+    IsFailed other since called (answered (roads_of run.platform) (setup_in run) core actor (call.Kill target))

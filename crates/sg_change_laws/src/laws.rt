@@ -35,7 +35,8 @@ pub fn passes_answer()
     ensures { PassesAnswer }
 {}
 
-/// A kill of an actor that is alive tells whoever else is blocked, in a core of a run, on an activity that it awaits.
+/// A kill of an actor that is alive tells whoever else is blocked, in a core of a run, on an activity that it awaits:
+/// there is a record that its call failed, and it has an answer.
 pub fn kills_reach()
     ensures { KillsReach }
 {}
