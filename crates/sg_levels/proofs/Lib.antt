@@ -7,6 +7,8 @@ pub mod HeldLevels
 pub mod RowRise
 pub mod Changing
 pub mod Converse
+pub mod Demand
+pub mod Shifting
 pub mod Steps
 pub mod Marked
 pub mod Noted

@@ -32,6 +32,9 @@ flow_below slots id flow e = elim (lt_cases id (length slots)) [
   | inr past ↦ absurd (none_some (sym (get_or_past slots id None past) ∙ e))
 ]
 
+pub held_below : (slots : List (Option Flow)) (id : ℕ) → IsSome (flow_at slots id) → id < length slots
+held_below slots id some = let f = some_of (flow_at slots id) some in flow_below slots id f.0 f.1
+
 -- what has uses is held
 in_uses : (slots : List (Option Flow)) (id c : ℕ) → is_in c (uses_at slots id) ≡ true → (flow : Flow) × (flow_at slots id ≡ Some flow) × (is_on c flow ≡ true)
 in_uses slots id c i = from (flow_at slots id) refl

@@ -30,7 +30,7 @@ fn below(levels: &[Option<u64>], flow: usize, low: u64) -> Option<u64>
 }
 
 // The share at a level, or the greatest number where that is less.
-fn capped_share(weight: u32, bound: Option<u64>, level: u64) -> u64
+pub(crate) fn capped_share(weight: u32, bound: Option<u64>, level: u64) -> u64
     ensures { result ≡ min (bounded bound (weight * level)) (2 ^ 64 - 1) }
 {
     let share = (weight as u64).saturating_mul(level);
@@ -81,9 +81,11 @@ fn rest_of<L: Ledger>(
     requires resource { resource < length system.now.capacities }
     requires levels { length system.now.slots ≤ length levels.now }
     ensures left { result.left ≡ slice_index system.now.capacities resource
-        - row_taken system.now.slots (below_at levels.now low) (users_on system.now.users resource) }
+        - row_taken system.now.slots (below_at levels.now low)
+        (users_on system.now.users resource) }
     ensures waiting { result.waiting
-        ≡ row_waiting system.now.slots (below_at levels.now low) (users_on system.now.users resource) }
+        ≡ row_waiting system.now.slots (below_at levels.now low)
+        (users_on system.now.users resource) }
     ensures looks { steps.new ≡ steps.old + length (users_on system.now.users resource) }
 {
     let mut rest = Rest {
@@ -111,8 +113,8 @@ fn level_above<L: Ledger>(
     requires resource { resource < length system.now.capacities }
     requires levels { length system.now.slots ≤ length levels.now }
     ensures none { result ≡ None
-        → row_waiting system.now.slots (below_at levels.now low) (users_on system.now.users resource)
-        ≡ 0 }
+        → row_waiting system.now.slots (below_at levels.now low)
+        (users_on system.now.users resource) ≡ 0 }
     ensures some { IfSome result (λ level. (0 < row_waiting system.now.slots
         (below_at levels.now low) (users_on system.now.users resource))
         × (level ≡ row_level (slice_index system.now.capacities resource) system.now.slots

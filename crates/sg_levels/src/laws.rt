@@ -1,6 +1,7 @@
 //! Laws of levels that balance and of holds. Each function does nothing, and its contract is the law.
 ghost use Rattle.sg_levels.specs.Balanced.{BalanceIsFilling, FillingBalances};
 ghost use Rattle.sg_levels.specs.Changes.{FullHolds, HoldIsLocal, HoldIsOne, HoldStays, HoldStaysFrom, OthersHoldNone, SlackHoldsNone, SlackIsAbove};
+ghost use Rattle.sg_levels.specs.Demand.{DemandHoldsNone};
 ghost use Rattle.sg_levels.specs.Held.{FillingIsHeld, HeldIsFilling};
 ghost use Rattle.sg_levels.specs.Numbered.{RowTells};
 ghost use Rattle.sg_levels.specs.Settling.{ChangesKeep, HeldSettles, SettlingEnds};
@@ -59,6 +60,11 @@ pub fn slack_is_above()
 /// A resource whose flows leave enough holds none of them.
 pub fn slack_holds_none()
     ensures { SlackHoldsNone }
+{}
+
+/// A resource that offers more than the demand on it holds none of its flows.
+pub fn demand_holds_none()
+    ensures { DemandHoldsNone }
 {}
 
 /// After a filling a resource that is at the level of one of its users holds at it.

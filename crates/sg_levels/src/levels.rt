@@ -12,6 +12,8 @@ pub struct Levels {
     pub(crate) levels: Vec<Option<u64>>,
     // under each resource the level at which it holds its flows; None: at none
     pub(crate) holds: Vec<Option<u64>>,
+    // under each resource the demand on it
+    pub(crate) demands: Vec<u128>,
     // under each resource whether it waits to be looked at
     pub(crate) active: Vec<bool>,
     // the flows whose levels changed

@@ -1,15 +1,16 @@
 //! A settling: levels and holds are made to agree, one resource at a time, in whatever order.
-ghost use Rattle.std.specs.Prelude.{◌≡◌, ◌≤◌, ◌<◌, ◌+◌, ◌*◌, ℕ, true, false, IsTrue, Option, None, Some, IfSome, IsSome, List, [], ◌∷◌, All, length, option_map};
+ghost use Rattle.std.specs.Prelude.{◌≡◌, ◌≤◌, ◌<◌, ◌+◌, ◌-◌, ◌*◌, ◌^◌, ℕ, true, false, IsTrue, Option, None, Some, IfSome, IsSome, List, [], ◌∷◌, length, option_map, slice_index, slice_set};
 ghost use Rattle.sg_base.specs.MarkSet.{is_in};
-ghost use Rattle.sg_chains.specs.Chained.{users_on};
+ghost use Rattle.sg_chains.specs.Chained.{times, users_on};
 ghost use Rattle.sg_maxmin.specs.Fill.{bound_level as level_of_bound};
 ghost use Rattle.sg_maxmin.specs.Sharing.{IsSound, flow_at, uses_at};
-ghost use Rattle.sg_levels.specs.Held.{AreFilled, IsAtMost, IsUnder};
-ghost use Rattle.sg_levels.specs.Kept.{ActivatesAll, ActivatesBut, HasPlaces, IsMoved, IsSettling, IsSettlingOn, NotesMoved, refresh_looks};
+ghost use Rattle.sg_levels.specs.Demand.{demand_of};
+ghost use Rattle.sg_levels.specs.Held.{AreFilled, IsAtMost, IsHold, IsUnder};
+ghost use Rattle.sg_levels.specs.Kept.{ActivatesAll, ActivatesBut, HasPlaces, IsKept, IsMoved, IsSettling, IsSettlingOn, KeepsLevels, NotesMoved, Shifts, hold_looks, refresh_looks};
 ghost use Rattle.sg_levels.specs.Numbered.{all_uses, bound_of as bound_of_flow, flow_in, level_at};
 ghost use Rattle.sg_levels.specs.Settling.{HasCause, is_active};
 
-use crate::hold::hold_of;
+use crate::hold::{capped_share, hold_of};
 use crate::levels::Levels;
 use sg_base::Steps;
 use sg_maxmin::System;
@@ -63,24 +64,61 @@ fn bound_of(system: &System, flow: usize) -> Option<u64>
     bound_level(system.weight(flow), system.bound(flow))
 }
 
-// Makes a resource active.
-fn activate(active: &mut [bool], resource: usize)
-    requires { resource < length active.old }
-    ensures { ActivatesAll (resource ∷ []) active.old active.new }
+// What a flow adds to the demand on each of its resources, at this level.
+fn part_of(system: &System, flow: usize, level: Option<u64>) -> u128
+    requires { IsSome (flow_at system.now.slots flow) }
+    ensures { result ≡ demand_of (flow_in system.now.slots flow) level }
 {
-    active[resource] = true;
+    let weight = system.weight(flow);
+    match level {
+        None => u128::from(u64::MAX) + 1,
+        Some(level) => {
+            u128::from(capped_share(weight, system.bound(flow), level)) + 2 * u128::from(weight)
+        }
+    }
 }
 
-// Makes the resources of a flow active.
-fn activate_uses<L: Ledger>(system: &System, flow: usize, active: &mut [bool], steps: &mut Steps<L>)
-    requires { All (λ c. c < length active.old) (uses_at system.now.slots flow) }
-    ensures activates { ActivatesAll (uses_at system.now.slots flow) active.old active.new }
+// A resource of a flow that moves is active, and in the demand on it one part stands for another.
+fn visit(resource: usize, before: u128, after: u128, kept: &mut Levels)
+    requires active { resource < length kept.old.active.items }
+    requires demand { resource < length kept.old.demands.items }
+    requires some { before ≤ slice_index kept.old.demands.items resource }
+    requires fits { slice_index kept.old.demands.items resource + after < 2 ^ 128 + before }
+    ensures activates { ActivatesAll (resource ∷ []) kept.old.active.items kept.new.active.items }
+    ensures demands { kept.new.demands.items ≡ slice_set kept.old.demands.items resource
+        (slice_index kept.old.demands.items resource - before + after) }
+    ensures levels { KeepsLevels kept.old kept.new }
+{
+    kept.active[resource] = true;
+    kept.demands[resource] = kept.demands[resource] - before + after;
+}
+
+// The same of each resource of the flow.
+fn visit_uses<L: Ledger>(
+    system: &System,
+    flow: usize,
+    before: u128,
+    after: u128,
+    kept: &mut Levels,
+    steps: &mut Steps<L>,
+)
+    requires sound { IsSound system.now }
+    requires places { HasPlaces system.now kept.old }
+    requires some { (c : ℕ) → times c (uses_at system.now.slots flow) * before
+        ≤ slice_index kept.old.demands.items c }
+    requires fits { (c : ℕ) → slice_index kept.old.demands.items c
+        + times c (uses_at system.now.slots flow) * after < 2 ^ 128 }
+    ensures activates { ActivatesAll (uses_at system.now.slots flow)
+        kept.old.active.items kept.new.active.items }
+    ensures shifts { Shifts before after (uses_at system.now.slots flow)
+        kept.old.demands.items kept.new.demands.items }
+    ensures levels { KeepsLevels kept.old kept.new }
     ensures looks { steps.new ≡ steps.old + length (uses_at system.now.slots flow) }
 {
     let mut at = system.first_of(flow);
     while let Some(i) = at {
         let one = system.look(i, steps);
-        activate(active, one.resource);
+        visit(one.resource, before, after, kept);
         at = one.next_of_flow;
     }
 }
@@ -122,17 +160,20 @@ fn move_flow<L: Ledger>(
     kept: &mut Levels,
     steps: &mut Steps<L>,
 )
-    requires level { flow < length kept.old.levels.items }
-    requires moved { flow < kept.old.moved.room }
-    requires exist { All (λ c. c < length kept.old.active.items) (uses_at system.now.slots flow) }
+    requires sound { IsSound system.now }
+    requires held { IsSome (flow_at system.now.slots flow) }
+    requires kept { IsKept system.now kept.old }
     ensures moved { IsMoved kept.old kept.new flow level }
     ensures activates { ActivatesAll (uses_at system.now.slots flow)
         kept.old.active.items kept.new.active.items }
+    ensures kept { IsKept system.now kept.new }
     ensures looks { steps.new ≡ steps.old + length (uses_at system.now.slots flow) }
 {
+    let before = part_of(system, flow, kept.level(flow));
+    let after = part_of(system, flow, level);
     kept.levels[flow] = level;
     kept.moved.insert(flow);
-    activate_uses(system, flow, &mut kept.active, steps);
+    visit_uses(system, flow, before, after, kept, steps);
 }
 
 // A user of a resource comes down to its hold; its other resources are active.
@@ -145,12 +186,13 @@ fn lower<L: Ledger>(
     steps: &mut Steps<L>,
 )
     requires sound { IsSound system.now }
-    requires places { HasPlaces system.now kept.old }
+    requires kept { IsKept system.now kept.old }
     requires resource { resource < length system.now.capacities }
     requires user { is_in flow (users_on system.now.users resource) ≡ true }
     ensures moved { IsMoved kept.old kept.new flow (Some hold) }
     ensures activates { ActivatesBut resource (uses_at system.now.slots flow)
         kept.old.active.items kept.new.active.items }
+    ensures kept { IsKept system.now kept.new }
     ensures looks { steps.new ≡ steps.old + length (uses_at system.now.slots flow) }
 {
     let was = kept.is_active(resource);
@@ -167,7 +209,7 @@ fn settle_held<L: Ledger>(
     steps: &mut Steps<L>,
 )
     requires sound { IsSound system.now }
-    requires places { HasPlaces system.now kept.old }
+    requires kept { IsKept system.now kept.old }
     requires resource { resource < length system.now.capacities }
     requires user { is_in flow (users_on system.now.users resource) ≡ true }
     requires most { IsAtMost (level_at kept.old.levels.items flow)
@@ -175,7 +217,7 @@ fn settle_held<L: Ledger>(
     ensures settles { (was : Option ℕ) (todo : List ℕ)
         → IsSettlingOn system.now kept.old resource was (flow ∷ todo)
         → IsSettlingOn system.now kept.new resource was todo }
-    ensures places { HasPlaces system.now kept.new }
+    ensures kept { IsKept system.now kept.new }
     ensures moved { NotesMoved kept.old kept.new }
     ensures looks { steps.new ≤ steps.old + 2 * length (uses_at system.now.slots flow) }
 {
@@ -198,13 +240,13 @@ fn settle_user<L: Ledger>(
     steps: &mut Steps<L>,
 )
     requires sound { IsSound system.now }
-    requires places { HasPlaces system.now kept.old }
+    requires kept { IsKept system.now kept.old }
     requires resource { resource < length system.now.capacities }
     requires user { is_in flow (users_on system.now.users resource) ≡ true }
     ensures settles { (todo : List ℕ)
         → IsSettlingOn system.now kept.old resource was (flow ∷ todo)
         → IsSettlingOn system.now kept.new resource was todo }
-    ensures places { HasPlaces system.now kept.new }
+    ensures kept { IsKept system.now kept.new }
     ensures moved { NotesMoved kept.old kept.new }
     ensures looks { steps.new ≤ steps.old + 2 * length (uses_at system.now.slots flow) }
 {
@@ -229,12 +271,12 @@ fn settle_users<L: Ledger>(
     steps: &mut Steps<L>,
 )
     requires sound { IsSound system.now }
-    requires places { HasPlaces system.now kept.old }
+    requires kept { IsKept system.now kept.old }
     requires resource { resource < length system.now.capacities }
     ensures settles { IsSettlingOn system.now kept.old resource was
         (users_on system.now.users resource)
         → IsSettlingOn system.now kept.new resource was [] }
-    ensures places { HasPlaces system.now kept.new }
+    ensures kept { IsKept system.now kept.new }
     ensures moved { NotesMoved kept.old kept.new }
     ensures looks { let users = users_on system.now.users resource in
         steps.new ≤ steps.old + length users + 2 * all_uses system.now.slots users }
@@ -268,8 +310,42 @@ fn first_active(active: &[bool]) -> Option<usize>
 }
 
 impl Levels {
-    /// Looks at a resource: its hold is written, its flows above it come down to it, and those that it held before and
-    /// that nothing holds now go up to their bounds. The other resources of flows that moved are active.
+    // Whether a resource offers more than the demand on it.
+    fn has_slack(&self, system: &System, resource: usize) -> bool
+        requires resource { resource < length system.now.capacities }
+        requires demand { resource < length self.now.demands.items }
+        ensures { IsTrue result
+            → (slice_index self.now.demands.items resource
+            < slice_index system.now.capacities resource)
+            × (slice_index system.now.capacities resource < 2 ^ 64) }
+    {
+        self.demands[resource] < u128::from(system.capacity(resource))
+    }
+
+    // The hold of a resource, without a look where it offers more than the demand on it.
+    fn find_hold<L: Ledger>(
+        &self,
+        system: &System,
+        resource: usize,
+        steps: &mut Steps<L>,
+    ) -> Option<u64>
+        requires sound { IsSound system.now }
+        requires resource { resource < length system.now.capacities }
+        requires settling { IsSettling system.now self.now }
+        ensures hold { IsHold (slice_index system.now.capacities resource) system.now.slots
+            self.now.levels.items (users_on system.now.users resource) result }
+        ensures looks { steps.new
+            ≤ steps.old + hold_looks (length (users_on system.now.users resource)) }
+    {
+        if self.has_slack(system, resource) {
+            return None;
+        }
+        hold_of(system, resource, &self.levels, steps)
+    }
+
+    /// Looks at a resource, or finds without a look that it holds none: its hold is written, its flows above it come
+    /// down to it, and those that it held before and that nothing holds now go up to their bounds. The other resources
+    /// of flows that moved are active.
     pub fn refresh<L: Ledger>(&mut self, system: &System, resource: usize, steps: &mut Steps<L>)
         requires resource { resource < length system.now.capacities }
         requires settling { IsSettling system.now self.old }
@@ -279,7 +355,7 @@ impl Levels {
     {
         system.is_sound();
         let was = self.hold(resource);
-        let hold = hold_of(system, resource, &self.levels, steps);
+        let hold = self.find_hold(system, resource, steps);
         self.active[resource] = false;
         if !are_none(was, hold) {
             self.holds[resource] = hold;

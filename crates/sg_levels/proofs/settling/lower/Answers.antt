@@ -1,22 +1,29 @@
-use Rattle.std.proofs.Common.{◌≡◌, ◌<◌, inl, inr, false, true≢false, length, get_or-set_same, get_or-set_other, length-set, set, sym, ap, ◌∙◌, arith}
+use Rattle.std.proofs.Common.{◌≡◌, ◌<◌, inl, inr, false, true≢false, IsSome, length, refl, subst, get_or-set_same, get_or-set_other, length-set, set, sym, ap, ◌∙◌, arith}
 use Rattle.sg_levels.specs.Settling.{is_active}
 use Rattle.sg_levels.proofs.Listed.{eq_cases}
-use Rattle.sg_levels.proofs.Steps.{rows_fit, user_below}
+use Rattle.sg_levels.proofs.Steps.{held_user}
 use Rattle.sg_levels.proofs.settling.lower.Goals as goal
 
-pub move_flow-requires-clause-level : goal.move_flow-requires-clause-level
-move_flow-requires-clause-level g c = user_below c.args.system.now c.requires.sound c.args.resource c.args.flow (length c.args.kept.now.levels.items) c.requires.user c.requires.places.levels
-
-pub move_flow-requires-clause-moved : goal.move_flow-requires-clause-moved
-move_flow-requires-clause-moved g c = user_below c.args.system.now c.requires.sound c.args.resource c.args.flow c.args.kept.now.moved.room c.requires.user c.requires.places.moved
-
-pub move_flow-requires-clause-exist : goal.move_flow-requires-clause-exist
-move_flow-requires-clause-exist g c = rows_fit c.args.system.now c.requires.sound c.args.flow (length c.args.kept.now.active.items) c.requires.places.active
+pub move_flow-requires-clause-held : goal.move_flow-requires-clause-held
+move_flow-requires-clause-held g c = subst IsSome (sym (held_user c.args.system.now c.requires.sound c.args.resource c.args.flow c.requires.user)) refl
 
 pub returns-clause-moved : goal.returns-clause-moved
-returns-clause-moved g c =
-    let m = c.move_flow.ensures.moved in
-    record { level_is = m.level_is; noted = m.noted; holds = m.holds; active = length-set c.move_flow.new.kept.active.items c.args.resource c.is_active-was.result ∙ m.active }
+returns-clause-moved g c = let m = c.move_flow.ensures.moved in record { level_is = m.level_is; noted = m.noted; holds = m.holds }
+
+pub returns-clause-kept : goal.returns-clause-kept
+returns-clause-kept g c =
+    let kept = c.move_flow.ensures.kept in
+    let places = kept.places in
+    record {
+      places = record {
+        levels = places.levels;
+        moved = places.moved;
+        holds = places.holds;
+        demands = places.demands;
+        active = length-set c.move_flow.new.kept.active.items c.args.resource c.is_active-was.result ∙ places.active;
+      };
+      demands = kept.demands;
+    }
 
 pub returns-clause-activates : goal.returns-clause-activates
 returns-clause-activates g c = λ r off.
@@ -26,7 +33,7 @@ returns-clause-activates g c = λ r off.
     let was = c.is_active-was.result in
     elim (eq_cases r n) [
       | inl e ↦
-          let below : n < length mid = omega (arith, c.requires.resource, c.requires.places.active, c.move_flow.ensures.moved.active) in
+          let below : n < length mid = omega (arith, c.requires.resource, c.move_flow.ensures.kept.places.active) in
           let read : is_active (set mid n was) n ≡ was = get_or-set_same mid n was false below in
           (ap (is_active old) e ∙ sym c.is_active-was.ensures ∙ sym read ∙ ap (is_active (set mid n was)) (sym e) ∙ off, λ i. e)
       | inr ne ↦

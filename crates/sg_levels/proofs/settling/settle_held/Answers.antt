@@ -3,24 +3,18 @@ use Rattle.sg_levels.specs.Numbered.{flow_in}
 use Rattle.sg_levels.specs.Settling.{HasCause, at_hold}
 use Rattle.sg_levels.specs.Kept.{IsMoved}
 use Rattle.sg_levels.proofs.Noted.{noted_none}
-use Rattle.sg_levels.proofs.Steps.{held_user, rows_fit, user_below}
-use Rattle.sg_levels.proofs.Moving.{moved_notes, moved_places, raised, skipped, uses_it}
+use Rattle.sg_levels.proofs.Steps.{held_user, user_below}
+use Rattle.sg_levels.proofs.Moving.{moved_notes, raised, skipped, uses_it}
 use Rattle.sg_levels.proofs.settling.settle_held.Goals as goal
 
 pub level-level-requires : goal.level-level-requires
-level-level-requires g c = user_below c.args.system.now c.requires.sound c.args.resource c.args.flow (length c.args.kept.now.levels.items) c.requires.user c.requires.places.levels
+level-level-requires g c = user_below c.args.system.now c.requires.sound c.args.resource c.args.flow (length c.args.kept.now.levels.items) c.requires.user c.requires.kept.places.levels
 
 pub has_cause-requires-clause-held : goal.has_cause-requires-clause-held
 has_cause-requires-clause-held g c = subst IsSome (sym (held_user c.args.system.now c.requires.sound c.args.resource c.args.flow c.requires.user)) refl
 
-pub move_flow-requires-clause-level : goal.move_flow-requires-clause-level
-move_flow-requires-clause-level g c = user_below c.args.system.now c.requires.sound c.args.resource c.args.flow (length c.args.kept.now.levels.items) c.requires.user c.requires.places.levels
-
-pub move_flow-requires-clause-moved : goal.move_flow-requires-clause-moved
-move_flow-requires-clause-moved g c = user_below c.args.system.now c.requires.sound c.args.resource c.args.flow c.args.kept.now.moved.room c.requires.user c.requires.places.moved
-
-pub move_flow-requires-clause-exist : goal.move_flow-requires-clause-exist
-move_flow-requires-clause-exist g c = rows_fit c.args.system.now c.requires.sound c.args.flow (length c.args.kept.now.active.items) c.requires.places.active
+pub move_flow-requires-clause-held : goal.move_flow-requires-clause-held
+move_flow-requires-clause-held g c = subst IsSome (sym (held_user c.args.system.now c.requires.sound c.args.resource c.args.flow c.requires.user)) refl
 
 pub bound_of-requires-clause-held : goal.bound_of-requires-clause-held
 bound_of-requires-clause-held g c = subst IsSome (sym (held_user c.args.system.now c.requires.sound c.args.resource c.args.flow c.requires.user)) refl
@@ -36,7 +30,7 @@ returns-then-is_same-clause-settles g c = λ was todo are.
 pub returns-then-not-has_cause-clause-settles : goal.returns-then-not-has_cause-clause-settles
 returns-then-not-has_cause-clause-settles g c = λ was todo are.
     let moved = subst (IsMoved c.args.kept.now c.move_flow.new.kept c.args.flow) c.bound_of.ensures c.move_flow.ensures.moved in
-    raised c.args.system.now c.requires.sound c.args.resource c.args.flow c.requires.user c.args.kept.now c.move_flow.new.kept was todo c.requires.places moved c.move_flow.ensures.activates are
+    raised c.args.system.now c.requires.sound c.args.resource c.args.flow c.requires.user c.args.kept.now c.move_flow.new.kept was todo c.requires.kept moved c.move_flow.ensures.activates are
 
 pub returns-else-not-has_cause-clause-settles : goal.returns-else-not-has_cause-clause-settles
 returns-else-not-has_cause-clause-settles g c = λ was todo are.
@@ -44,9 +38,6 @@ returns-else-not-has_cause-clause-settles g c = λ was todo are.
     let f = c.args.flow in
     skipped s c.requires.sound c.args.resource f c.requires.user c.args.kept.now was todo c.requires.most
     (λ e. subst (HasCause c.args.kept.now.holds.items (flow_in s.slots f)) c.level-level.ensures (c.has_cause.ensures.cause c.if-not-has_cause.false)) are
-
-pub returns-then-not-has_cause-clause-places : goal.returns-then-not-has_cause-clause-places
-returns-then-not-has_cause-clause-places g c = moved_places c.args.system.now c.args.kept.now c.move_flow.new.kept c.args.flow c.bound_of.result c.move_flow.ensures.moved c.requires.places
 
 pub returns-then-not-has_cause-clause-moved : goal.returns-then-not-has_cause-clause-moved
 returns-then-not-has_cause-clause-moved g c = moved_notes c.args.kept.now c.move_flow.new.kept c.args.flow c.bound_of.result c.move_flow.ensures.moved

@@ -3,11 +3,11 @@ use Rattle.sg_levels.specs.Numbered.{level_at}
 use Rattle.sg_levels.specs.Held.{IsAtMost, IsUnder}
 use Rattle.sg_levels.proofs.Noted.{noted_none}
 use Rattle.sg_levels.proofs.Steps.{user_below}
-use Rattle.sg_levels.proofs.Moving.{lowered, moved_notes, moved_places, skipped}
+use Rattle.sg_levels.proofs.Moving.{lowered, moved_notes, skipped}
 use Rattle.sg_levels.proofs.settling.settle_user.Goals as goal
 
 pub level-level-requires : goal.level-level-requires
-level-level-requires g c = user_below c.args.system.now c.requires.sound c.args.resource c.args.flow (length c.args.kept.now.levels.items) c.requires.user c.requires.places.levels
+level-level-requires g c = user_below c.args.system.now c.requires.sound c.args.resource c.args.flow (length c.args.kept.now.levels.items) c.requires.user c.requires.kept.places.levels
 
 pub settle_held-requires-clause-most : goal.settle_held-requires-clause-most
 settle_held-requires-clause-most g c = subst (λ o. IsAtMost o (level_at c.args.kept.now.holds.items c.args.resource)) c.level-level.ensures (subst (IsAtMost c.level-level.result) c.hold.ensures (c.hold_below.ensures.none c.in-None.is))
@@ -15,11 +15,8 @@ settle_held-requires-clause-most g c = subst (λ o. IsAtMost o (level_at c.args.
 pub returns-in-Some-clause-settles : goal.returns-in-Some-clause-settles
 returns-in-Some-clause-settles g c = λ todo are.
     let told = subst (λ o. IfSome o (λ h. (c.hold.result ≡ Some h) × IsUnder h c.level-level.result)) c.in-Some.is c.hold_below.ensures.some in
-    lowered c.args.system.now c.requires.sound c.args.resource c.args.flow c.requires.user c.args.kept.now c.lower.new.kept c.args.was todo c.in-Some.hold c.requires.places c.lower.ensures.moved c.lower.ensures.activates
+    lowered c.args.system.now c.requires.sound c.args.resource c.args.flow c.requires.user c.args.kept.now c.lower.new.kept c.args.was todo c.in-Some.hold c.requires.kept c.lower.ensures.moved c.lower.ensures.activates
     (sym c.hold.ensures ∙ told.0) (subst (IsUnder c.in-Some.hold) c.level-level.ensures told.1) are
-
-pub returns-in-Some-clause-places : goal.returns-in-Some-clause-places
-returns-in-Some-clause-places g c = moved_places c.args.system.now c.args.kept.now c.lower.new.kept c.args.flow (Some c.in-Some.hold) c.lower.ensures.moved c.requires.places
 
 pub returns-in-Some-clause-moved : goal.returns-in-Some-clause-moved
 returns-in-Some-clause-moved g c = moved_notes c.args.kept.now c.lower.new.kept c.args.flow (Some c.in-Some.hold) c.lower.ensures.moved

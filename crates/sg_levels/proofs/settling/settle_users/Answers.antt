@@ -18,7 +18,7 @@ loop-at-init g c =
       record {
         walk = walk_from next_on user_of s.uses row c.first_on-at.result c.first_on-at.ensures.leads c.first_on-at.ensures.few;
         settling = λ are. are;
-        places = c.requires.places;
+        kept = c.requires.kept;
         moved = noted_none c.args.kept.now.moved c.args.kept.now.levels.items;
         looks = omega arith;
       },
@@ -62,7 +62,7 @@ loop-at-preserved g c =
       record {
         walk = walk_on next_on user_of s.uses row k c.loop-at.at inv.1.walk c.in-Some.i c.look-one.result c.in-Some.is c.look-one.ensures.there;
         settling = λ are. c.settle_user.ensures.settles (drop (suc k) row) (subst (IsSettlingOn s before n was) first (inv.1.settling are));
-        places = c.settle_user.ensures.places;
+        kept = c.settle_user.ensures.kept;
         moved = noted_on c.args.kept.now.moved before.moved after.moved c.args.kept.now.levels.items before.levels.items after.levels.items inv.1.moved c.settle_user.ensures.moved;
         looks = omega (arith, inv.1.looks, c.look-one.ensures.looks, c.settle_user.ensures.looks, uses_next s.slots row k r.less, ap (λ id. length (uses_at s.slots id)) r.is);
       },

@@ -2,7 +2,7 @@ use Rattle.std.proofs.Common.{ℕ, ◌+◌, ◌*◌, ◌≤◌, length, drop, ta
 use Rattle.sg_chains.specs.Chained.{users_on}
 use Rattle.sg_chains.specs.Walk.{next_on, user_of, left_from}
 use Rattle.sg_levels.specs.Numbered.{all_uses}
-use Rattle.sg_levels.specs.Kept.{HasPlaces, IsSettlingOn, NotesMoved}
+use Rattle.sg_levels.specs.Kept.{IsKept, IsSettlingOn, NotesMoved}
 use Rattle.sg_levels.proofs.Walked.{IsWalk}
 use Rattle.sg_levels.proofs.settling.settle_users.Given as goal
 
@@ -10,7 +10,7 @@ abbrev pub invariant-loop-at : goal.invariant-loop-at
 invariant-loop-at g l = (k : ℕ) × record {
   walk : IsWalk next_on user_of l.system.uses (users_on l.system.users l.resource) k l.at;
   settling : IsSettlingOn l.system l.fn.kept l.resource l.was (users_on l.system.users l.resource) → IsSettlingOn l.system l.kept l.resource l.was (drop k (users_on l.system.users l.resource));
-  places : HasPlaces l.system l.kept;
+  kept : IsKept l.system l.kept;
   moved : NotesMoved l.fn.kept l.kept;
   looks : l.steps ≤ l.fn.steps + k + 2 * all_uses l.system.slots (take k (users_on l.system.users l.resource));
 }

@@ -1,4 +1,4 @@
-use Rattle.std.proofs.Common.{ℕ, Bool, Option, None, false, length-set, set, slice_index, sym, subst, ◌∙◌, arith}
+use Rattle.std.proofs.Common.{◌≡◌, ℕ, Bool, Option, None, false, length, length-set, set, slice_index, sym, subst, ◌∙◌, arith}
 use Rattle.sg_chains.specs.Chained.{users_on}
 use Rattle.sg_levels.specs.Held.{IsHold}
 use Rattle.sg_levels.specs.Settling.{AreSettlingOn}
@@ -6,14 +6,18 @@ use Rattle.sg_levels.proofs.Noted.{noted_none}
 use Rattle.sg_levels.proofs.Steps.{any_end, rest_keeps, start_keeps}
 use Rattle.sg_levels.proofs.levels.Levels.refresh.Goals as goal
 
-pub settle_users-requires-clause-places : goal.settle_users-requires-clause-places
-settle_users-requires-clause-places g c =
-    let places = c.requires.settling.places in
+pub settle_users-requires-clause-kept : goal.settle_users-requires-clause-kept
+settle_users-requires-clause-kept g c =
+    let places = c.requires.settling.kept.places in
     record {
-      levels = places.levels;
-      moved = places.moved;
-      holds = omega (arith, places.holds, length-set {A = Option ℕ});
-      active = omega (arith, places.active, length-set {A = Bool});
+      places = record {
+        levels = places.levels;
+        moved = places.moved;
+        holds = omega (arith, places.holds, length-set {A = Option ℕ});
+        demands = places.demands;
+        active = omega (arith, places.active, length-set {A = Bool});
+      };
+      demands = c.requires.settling.kept.demands;
     }
 
 pub returns-then-not-are_none-clause-settling : goal.returns-then-not-are_none-clause-settling
@@ -25,12 +29,12 @@ returns-then-not-are_none-clause-settling g c =
     let cap = slice_index s.capacities n in
     let row = users_on s.users n in
     let sound = c.is_sound.ensures in
-    let places = c.requires.settling.places in
-    let is = subst (λ ls. IsHold cap s.slots ls row c.hold_of-hold.result) c.deref.ensures.value c.hold_of-hold.ensures.hold in
-    let start = start_keeps s sound kept.levels.items kept.holds.items kept.active.items 0 None n c.hold_of-hold.result c.requires.settling.written (omega (arith, c.requires.resource, places.holds)) (omega (arith, c.requires.resource, places.active)) is in
+    let places = c.requires.settling.kept.places in
+    let is = c.find_hold-hold.ensures.hold in
+    let start = start_keeps s sound kept.levels.items kept.holds.items kept.active.items 0 None n c.find_hold-hold.result c.requires.settling.written (omega (arith, c.requires.resource, places.holds)) (omega (arith, c.requires.resource, places.active)) is in
     record {
-      places = c.settle_users.ensures.places;
-      written = any_end s new.levels.items new.holds.items new.active.items n 0 c.hold-was.result None (c.settle_users.ensures.settles (subst (λ o. AreSettlingOn s kept.levels.items (set kept.holds.items n c.hold_of-hold.result) (set kept.active.items n false) n o row) (sym c.hold-was.ensures) start));
+      kept = c.settle_users.ensures.kept;
+      written = any_end s new.levels.items new.holds.items new.active.items n 0 c.hold-was.result None (c.settle_users.ensures.settles (subst (λ o. AreSettlingOn s kept.levels.items (set kept.holds.items n c.find_hold-hold.result) (set kept.active.items n false) n o row) (sym c.hold-was.ensures) start));
     }
 
 pub returns-else-not-are_none-clause-settling : goal.returns-else-not-are_none-clause-settling
@@ -40,11 +44,14 @@ returns-else-not-are_none-clause-settling g c =
     let kept = c.args.self.now in
     let cap = slice_index s.capacities n in
     let row = users_on s.users n in
-    let places = c.requires.settling.places in
+    let places = c.requires.settling.kept.places in
     let none = c.are_none.ensures c.if-not-are_none.false in
-    let is = subst (λ ls. IsHold cap s.slots ls row c.hold_of-hold.result) c.deref.ensures.value c.hold_of-hold.ensures.hold in
+    let is = c.find_hold-hold.ensures.hold in
     record {
-      places = record { levels = places.levels; moved = places.moved; holds = places.holds; active = omega (arith, places.active, length-set kept.active.items n false) };
+      kept = record {
+        places = record { levels = places.levels; moved = places.moved; holds = places.holds; demands = places.demands; active = omega (arith, places.active, length-set kept.active.items n false) };
+        demands = c.requires.settling.kept.demands;
+      };
       written = rest_keeps s c.is_sound.ensures kept.levels.items kept.holds.items kept.active.items 0 None n c.requires.settling.written (sym c.hold-was.ensures ∙ none.0) (subst (IsHold cap s.slots kept.levels.items row) none.1 is);
     }
 

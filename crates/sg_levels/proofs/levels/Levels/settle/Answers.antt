@@ -29,4 +29,4 @@ loop-preserved g c =
 pub refresh-requires-clause-resource : goal.refresh-requires-clause-resource
 refresh-requires-clause-resource g c =
     let some = subst (λ o. IfSome o (λ r. r < length c.deref.result.now)) c.in-Some.is c.first_active.ensures.some in
-    omega (arith, some, ap length c.deref.ensures.value, c.loop.invariant.settling.places.active)
+    omega (arith, some, ap length c.deref.ensures.value, c.loop.invariant.settling.kept.places.active)

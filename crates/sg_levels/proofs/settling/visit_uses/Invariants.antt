@@ -1,0 +1,20 @@
+use Rattle.std.proofs.Common.{◌≡◌, ◌≢◌, ◌+◌, ◌<◌, ℕ, false, length, slice_index, take}
+use Rattle.sg_maxmin.specs.Sharing.{uses_at}
+use Rattle.sg_chains.specs.Walk.{next_of_flow, resource_of, left_from}
+use Rattle.sg_levels.specs.Settling.{is_active}
+use Rattle.sg_levels.specs.Kept.{KeepsLevels, Shifts}
+use Rattle.sg_levels.proofs.Walked.{IsWalk}
+use Rattle.sg_levels.proofs.settling.visit_uses.Given as goal
+
+abbrev pub invariant-loop-at : goal.invariant-loop-at
+invariant-loop-at g l = (k : ℕ) × record {
+  walk : IsWalk next_of_flow resource_of l.system.uses (uses_at l.system.slots l.flow) k l.at;
+  stays : (r : ℕ) → is_active l.kept.active.items r ≡ false → is_active l.fn.kept.active.items r ≡ false;
+  done : (i : ℕ) → i < k → (r : ℕ) → is_active l.kept.active.items r ≡ false → r ≢ slice_index (uses_at l.system.slots l.flow) i;
+  shifts : Shifts l.before l.after (take k (uses_at l.system.slots l.flow)) l.fn.kept.demands.items l.kept.demands.items;
+  levels : KeepsLevels l.fn.kept l.kept;
+  looks : l.steps ≡ l.fn.steps + k;
+}
+
+abbrev pub decreases-loop-at : goal.decreases-loop-at
+decreases-loop-at g l = left_from (length l.system.uses) next_of_flow l.system.uses l.at
