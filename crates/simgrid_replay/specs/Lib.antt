@@ -1,4 +1,6 @@
+pub mod Completion
 pub mod Contexts
+pub mod Exit
 pub mod Outcome
 pub mod PartOrder
 pub mod PartSources

@@ -2,9 +2,11 @@
 #![tactic(auto)]
 
 mod churn_setup;
+mod exit;
 mod fitting;
 mod host;
 mod job_run;
+mod laws;
 mod loading;
 mod real_files;
 mod real_sinks;
@@ -22,7 +24,10 @@ ghost use Rattle.std.specs.Prelude.{◌≡◌, ◌<◌, [], length, All, None, I
 ghost use Rattle.std.specs.Process.{exit_status};
 ghost use Rattle.std.specs.Vec.Iter.{into_iter_items};
 ghost use Rattle.sg_base.specs.Status.{status_code};
+ghost use Rattle.simgrid_replay.specs.Exit.{IsExit};
 
+use exit::{exit_code, exit_of};
+use host::Host;
 use real_files::RealFiles;
 use real_sinks::RealSinks;
 use sg_actor::{Actor, PlainContext, TapeContext, all_blank};
@@ -34,7 +39,6 @@ use std::marker::Brand;
 use std::process::ExitCode;
 use std::sync::ledger::{Blank, Ledger};
 use std::thread::Threads;
-use whole_call::simgrid;
 
 /// How many contexts of each kind there are.
 const PAIRS: u32 = 2048;
@@ -73,19 +77,20 @@ fn start<R: Threads + Sync, L: Ledger>(
     words: &[String],
     crew: &mut Vec<Box<dyn Actor + Send>>,
     blank: Blank,
-) -> Status
+) -> ExitCode
     requires contexts { length crew.old.items ≡ 4096 }
     requires blank { All (λ b. mind b ≡ None) crew.old.items }
     requires name { blank.name ≡ L.name }
     requires parts { blank.parts ≡ L.parts }
     requires some { 0 < blank.parts }
+    ensures { IsExit (exit_status result) }
 {
     let mut files = RealFiles::new(host);
     let mut out = RealSinks::new(host);
     let mut steps = Steps::<L>::new(blank);
-    simgrid(
-        rt,
-        host.alloc(),
+    let alloc = host.alloc();
+    exit_of(
+        &Host { rt, alloc },
         words,
         &mut files,
         &mut out,
@@ -95,7 +100,9 @@ fn start<R: Threads + Sync, L: Ledger>(
 }
 
 // The program with the words of its command line, and contexts of both kinds in turn.
-fn program<R: Threads + Sync>(rt: &R, host: HostRuntime) -> Result<Status, Memory> {
+fn program<R: Threads + Sync>(rt: &R, host: HostRuntime) -> Result<ExitCode, Memory>
+    ensures { IfOk result (λ code. IsExit (exit_status code)) }
+{
     let alloc = host.alloc();
     let words = words_of(alloc, env::args(&host))?;
     let mut crew: Vec<Box<dyn Actor + Send>> = Vec::new(alloc);
@@ -110,17 +117,24 @@ fn program<R: Threads + Sync>(rt: &R, host: HostRuntime) -> Result<Status, Memor
     Ok(start::<R, Brand>(rt, host, &words, &mut crew, Blank::new(1)))
 }
 
-// What the program tells the system of its status.
-fn exit_code(status: Result<Status, Memory>) -> ExitCode
-    ensures ended { IfOk status (λ s. exit_status result ≡ status_code s) }
-    ensures memory { IfErr status (λ _. exit_status result ≡ status_code Status.Memory) }
+// What the system is told at the end: want of memory too, before there was a call.
+fn told(ended: Result<ExitCode, Memory>) -> ExitCode
+    ensures ended { IfOk ended (λ code. exit_status result ≡ exit_status code) }
+    ensures memory { IfErr ended (λ _. exit_status result ≡ status_code Status.Memory) }
 {
-    match status {
-        Ok(status) => ExitCode::from(status.code()),
-        Err(Memory) => ExitCode::from(Status::Memory.code()),
+    match ended {
+        Ok(code) => code,
+        Err(Memory) => exit_code(Status::Memory),
     }
 }
 
+// The whole program: `main` can have no contract.
+fn whole<R: Threads + Sync>(rt: &R, host: HostRuntime) -> ExitCode
+    ensures { IsExit (exit_status result) }
+{
+    told(program(rt, host))
+}
+
 fn main(rt: HostRuntime) -> ExitCode {
-    exit_code(program(&rt, rt))
+    whole(&rt, rt)
 }

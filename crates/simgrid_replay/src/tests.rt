@@ -219,18 +219,31 @@ fn numbered_crew(alloc: Global, sum: &Arc<AtomicU64>) -> Result<Vec<Box<dyn Acto
     Ok(crew)
 }
 
-#[test]
-fn actors_take_contexts_in_their_order(rt: HostRuntime) -> Result<(), Fail> {
-    let alloc = rt.alloc();
-    let sum = Arc::new(alloc, AtomicU64::new(0))?;
+// A job in which two actors begin, and one of them creates a third.
+fn creating_job(alloc: Global) -> Result<Case, Fail> {
     let mut case = Case::new(alloc)?;
     case.take(alloc, "job", "p replay p d s")?;
     case.take(alloc, "over", "FAST LAST_LATER")?;
     case.take(alloc, "script", "p0 create p2 | p0 create p2")?;
-    let mut crew = blank_crew(numbered_crew(alloc, &sum)?)?;
-    let done = done_by(&rt, alloc, &case, &mut crew)?;
-    assert_eq!(rt; done.status, 0);
-    assert_eq!(rt; crew.len(), 1);
+    Ok(case)
+}
+
+// The exit status of that job by numbered contexts, and how many of them are left.
+fn numbered_run<R: Threads + Sync>(
+    rt: &R,
+    alloc: Global,
+    sum: &Arc<AtomicU64>,
+) -> Result<(u8, usize), Fail> {
+    let case = creating_job(alloc)?;
+    let mut crew = blank_crew(numbered_crew(alloc, sum)?)?;
+    let status = done_by(rt, alloc, &case, &mut crew)?.status;
+    Ok((status, crew.len()))
+}
+
+#[test]
+fn actors_take_contexts_in_their_order(rt: HostRuntime) -> Result<(), Fail> {
+    let sum = Arc::new(rt.alloc(), AtomicU64::new(0))?;
+    assert_eq!(rt; numbered_run(&rt, rt.alloc(), &sum)?, (0, 1));
     assert_eq!(rt; sum.load(Ordering::SeqCst), 321);
     Ok(())
 }

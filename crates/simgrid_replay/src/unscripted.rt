@@ -102,23 +102,39 @@ fn begun(alloc: Global) -> Result<MemFiles, Fail>
     }
 }
 
-// How the run ends, and what it writes.
-fn ended<R: Threads + Sync + Abort>(rt: &R, alloc: Global) -> Result<(Ended, MemSinks), Fail> {
-    let mut setup = setup(alloc)?;
-    let mut files = begun(alloc)?;
+// A crew of one context.
+fn crew_of_one(alloc: Global) -> Result<Vec<Box<dyn Actor + Send>>, Memory> {
     let mut crew: Vec<Box<dyn Actor + Send>> = Vec::new(alloc);
     crew.push(Box::new(alloc, PlainContext::new(alloc))?)?;
+    Ok(crew)
+}
+
+// How a run of this setup by this crew ends, and what it writes.
+fn ended_by<R: Threads + Sync + Abort>(
+    rt: &R,
+    alloc: Global,
+    setup: &mut Setup,
+    crew: &mut Vec<Box<dyn Actor + Send>>,
+) -> Result<(Ended, MemSinks), Fail> {
+    let mut files = begun(alloc)?;
     let mut out = MemSinks::new(alloc, 1000, 1000, &[], 7)?;
     let ended = run_counted::<R, MemFiles, MemSinks, Brand>(
         rt,
         alloc,
-        &mut setup,
+        setup,
         &mut files,
-        &mut crew,
+        crew,
         &mut out,
         Blank::new(1),
     );
     Ok((ended, out))
+}
+
+// How the run ends, and what it writes.
+fn ended<R: Threads + Sync + Abort>(rt: &R, alloc: Global) -> Result<(Ended, MemSinks), Fail> {
+    let mut setup = setup(alloc)?;
+    let mut crew = crew_of_one(alloc)?;
+    ended_by(rt, alloc, &mut setup, &mut crew)
 }
 
 #[test]

@@ -1,5 +1,5 @@
 //! The whole program as one call.
-ghost use Rattle.std.specs.Prelude.{◌≡◌, ◌≢◌, ◌⊎◌, [], length, map, All, None, false, IsTrue, IsErr, string_bytes};
+ghost use Rattle.std.specs.Prelude.{◌≡◌, ◌≢◌, [], length, map, All, None, false, IsTrue, IsErr, string_bytes};
 ghost use Rattle.sg_edge.specs.declared.files.Part.{Part};
 ghost use Rattle.sg_edge.specs.declared.files.Stage.TheVariants.{Fresh, Broken};
 ghost use Rattle.sg_edge.specs.Files.{KeepsTelling, SameFrom, SomeBroke};
@@ -12,12 +12,13 @@ ghost use Rattle.simgrid_replay.specs.PartSources.{request_of, AskFor, IsNamedBy
 ghost use Rattle.simgrid_replay.specs.PartOrder.{AreBounded, IsTextBroken, SparesRest};
 ghost use Rattle.simgrid_replay.specs.kept.Reading.{ComesTo, IsCallCause, IsStart, SeatsJob, TakesParts};
 ghost use Rattle.simgrid_replay.specs.Contexts.{TakesContexts, TakesFirst, TakesFront};
-ghost use Rattle.simgrid_replay.specs.Outcome.{is_refusal, outcome, HasOutcome, IsWhole, ReportsWords};
+ghost use Rattle.simgrid_replay.specs.Outcome.{is_refusal, outcome, HasOutcome, ReportsWords};
 ghost use Rattle.simgrid_replay.specs.Settings.{platform_given, setting};
 ghost use Rattle.simgrid_replay.specs.Requests.{has_parts, has_script};
 
 use crate::host::Host;
 use crate::job_run::{JobSetup, run_job};
+use crate::laws::outcomes_are_whole;
 use crate::reports::{refuse, report_words};
 use crate::setups::prepare;
 use sg_actor::Actor;
@@ -90,19 +91,6 @@ pub fn simgrid<R: Threads + Sync, F: Files, O: Sinks, L: Ledger>(
         → HasOutcome (outcome job (length crew.old.items) p d s) result
         (O.contents out.old) (O.contents out.new) steps.old steps.new }
 
-    // Where no write failed and memory was there, all that the definition has was written, with its
-    // status; and a run that completes by the definition says so, or that memory was wanting.
-    ensures complete { (job : Asked) → AskFor (map string_bytes words.now) job
-        → (p d s : Source) → PartsGive job.request (F.shows files.old) (F.shows files.new) p d s
-        → O.faults out.new ≡ 0 → result ≢ Status.Memory
-        → IsWhole (outcome job (length crew.old.items) p d s) result
-        (O.contents out.old) (O.contents out.new) }
-    ensures completed { (job : Asked) → AskFor (map string_bytes words.now) job
-        → (p d s : Source) → PartsGive job.request (F.shows files.old) (F.shows files.new) p d s
-        → O.faults out.new ≡ 0
-        → (outcome job (length crew.old.items) p d s).status ≡ Status.Completed
-        → (result ≡ Status.Completed) ⊎ (result ≡ Status.Memory) }
-
     // Of the script at most 4,095 bytes more were taken than the Asks of the run need.
     ensures needed { (job : Asked) → AskFor (map string_bytes words.now) job
         → (p d s : Source) → PartsGive job.request (F.shows files.old) (F.shows files.new) p d s
@@ -172,6 +160,7 @@ pub fn simgrid<R: Threads + Sync, F: Files, O: Sinks, L: Ledger>(
         (O.faults out.new) (SomeBroke (F.shows files.old) (F.shows files.new)) }
 {
     accepted_words_have_a_job();
+    outcomes_are_whole();
     match read_words(alloc, words) {
         Ok(job) => do_job(&Host { rt, alloc }, &job, files, out, crew, steps),
         Err(fault) => report_words(fault, out),

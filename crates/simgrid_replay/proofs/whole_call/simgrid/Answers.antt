@@ -1,4 +1,4 @@
-use Rattle.std.proofs.Common.{◌≡◌, ◌∙◌, inr, sym, ap, subst, refl, length, map, true, false, arith}
+use Rattle.std.proofs.Common.{◌≡◌, ◌∙◌, sym, ap, subst, refl, length, map, true, false, arith}
 use Rattle.std.specs.Prelude.{IsErr, string_bytes}
 use Rattle.sg_engine.specs.RunContract.{IsReadOnDemand}
 use Rattle.sg_words.specs.CommandLine.{Asked, asked_of, refusals}
@@ -9,7 +9,7 @@ use Rattle.simgrid_replay.specs.Outcome.{HasOutcome, is_cut, outcome}
 use Rattle.simgrid_replay.specs.Settings.{setting}
 use Rattle.simgrid_replay.specs.Requests.{has_parts, has_script}
 use Rattle.simgrid_replay.proofs.PartLemmas.{nameless_by, takes_none}
-use Rattle.simgrid_replay.proofs.TopLemmas.{completed_of, prints_nothing, takes_contexts, whole_of}
+use Rattle.simgrid_replay.proofs.TopLemmas.{prints_nothing, takes_contexts}
 use Rattle.simgrid_replay.proofs.WordLemmas.{fault_is, job_is}
 use Rattle.simgrid_replay.proofs.whole_call.simgrid.Goals as goal
 
@@ -59,24 +59,6 @@ returns-in-Err-clause-output g c = λ job asks p d s gives.
       prints = prints_nothing (outcome job (length c.args.crew.now.items) p d s) c.report_words.result _ _ silent.1;
       counts = omega (arith);
     }
-
-pub returns-in-Ok-clause-complete : goal.returns-in-Ok-clause-complete
-returns-in-Ok-clause-complete g c = λ job asks p d s gives sound some.
-    whole_of (outcome job (length c.args.crew.now.items) p d s) c.do_job.result (g.O.Sinks.faults c.do_job.new.out) _ (g.O.Sinks.contents c.args.out.now) (g.O.Sinks.contents c.do_job.new.out)
-    (returns-in-Ok-clause-output g c job asks p d s gives).prints c.do_job.ensures.cause sound some
-
-pub returns-in-Ok-clause-completed : goal.returns-in-Ok-clause-completed
-returns-in-Ok-clause-completed g c = λ job asks p d s gives sound done.
-    completed_of (outcome job (length c.args.crew.now.items) p d s) c.do_job.result (g.O.Sinks.faults c.do_job.new.out) _ (g.O.Sinks.contents c.args.out.now) (g.O.Sinks.contents c.do_job.new.out)
-    (returns-in-Ok-clause-output g c job asks p d s gives).prints c.do_job.ensures.cause sound done
-
-pub returns-in-Err-clause-complete : goal.returns-in-Err-clause-complete
-returns-in-Err-clause-complete g c = λ job asks p d s gives sound some.
-    absurd (some (c.report_words.ensures.silent (asked_of (map string_bytes c.args.words.now)) (fault_is _ _ (asked_of (map string_bytes c.args.words.now)) c.read_words.result c.in-Err.fault c.read_words.ensures c.in-Err.is asks.accepted)).0)
-
-pub returns-in-Err-clause-completed : goal.returns-in-Err-clause-completed
-returns-in-Err-clause-completed g c = λ job asks p d s gives sound done.
-    inr (c.report_words.ensures.silent (asked_of (map string_bytes c.args.words.now)) (fault_is _ _ (asked_of (map string_bytes c.args.words.now)) c.read_words.result c.in-Err.fault c.read_words.ensures c.in-Err.is asks.accepted)).0
 
 pub returns-in-Err-clause-crew : goal.returns-in-Err-clause-crew
 returns-in-Err-clause-crew g c = λ job asks p d texts. record {

@@ -1,4 +1,4 @@
-use Rattle.simgrid_replay.proofs.unscripted.ended.Given as goal
+use Rattle.simgrid_replay.proofs.unscripted.ended_by.Given as goal
 
 abbrev pub ghosts-run_counted : goal.ghosts-run_counted
 ghosts-run_counted g a = record { name = a.blank.name; parts = a.blank.parts }

@@ -1,0 +1,56 @@
+//! The exit status of the whole program.
+ghost use Rattle.std.specs.Prelude.{◌≡◌, ◌≢◌, [], length, map, All, None, string_bytes};
+ghost use Rattle.std.specs.Process.{exit_status};
+ghost use Rattle.sg_base.specs.Status.{status_code};
+ghost use Rattle.sg_edge.specs.Cause.{HasCause};
+ghost use Rattle.sg_edge.specs.declared.files.Part.{Part};
+ghost use Rattle.sg_edge.specs.declared.files.Stage.TheVariants.{Fresh};
+ghost use Rattle.sg_edge.specs.Files.{SomeBroke};
+ghost use Rattle.sg_edge.specs.Sources.{Source};
+ghost use Rattle.sg_words.specs.CommandLine.{Asked, refusals};
+ghost use Rattle.simgrid_replay.specs.Exit.{Exits};
+ghost use Rattle.simgrid_replay.specs.Outcome.{outcome, HasOutcome, ReportsWords};
+ghost use Rattle.simgrid_replay.specs.PartSources.{AskFor, PartsGive};
+
+use crate::host::Host;
+use crate::whole_call::simgrid;
+use sg_actor::Actor;
+use sg_base::{Status, Steps};
+use sg_edge::{Files, Sinks};
+use std::process::ExitCode;
+use std::sync::ledger::Ledger;
+use std::thread::Threads;
+
+/// What the program tells the system of its status.
+pub fn exit_code(status: Status) -> ExitCode
+    ensures { exit_status result ≡ status_code status }
+{
+    ExitCode::from(status.code())
+}
+
+/// Does what the words ask for, as `simgrid` does, and tells the exit status: that of the definition where the parts told
+/// what they gave, and always that of a status for whose causes it stands.
+pub fn exit_of<R: Threads + Sync, F: Files, O: Sinks, L: Ledger>(
+    host: &Host<'_, R>,
+    words: &[String],
+    files: &mut F,
+    out: &mut O,
+    crew: &mut Vec<Box<dyn Actor + Send>>,
+    steps: &mut Steps<L>,
+) -> ExitCode
+    requires fresh { (part : Part) → (F.shows files.old part).stage ≡ Fresh }
+    requires sound { O.faults out.old ≡ 0 }
+    requires blank { All (λ b. mind b ≡ None) crew.old.items }
+    ensures output { (job : Asked) → AskFor (map string_bytes words.now) job
+        → (p d s : Source) → PartsGive job.request (F.shows files.old) (F.shows files.new) p d s
+        → Exits (exit_status result) (λ how. HasOutcome (outcome job (length crew.old.items) p d s)
+        how (O.contents out.old) (O.contents out.new) steps.old steps.new) }
+    ensures refused { refusals (map string_bytes words.now) ≢ []
+        → Exits (exit_status result) (λ how. ReportsWords (refusals (map string_bytes words.now))
+        how (O.contents out.old) (O.contents out.new)) }
+    ensures cause { Exits (exit_status result) (λ how. HasCause (how ≡ Status.WriteFault)
+        (how ≡ Status.ReadFault) (O.faults out.new)
+        (SomeBroke (F.shows files.old) (F.shows files.new))) }
+{
+    exit_code(simgrid(host.rt, host.alloc, words, files, out, crew, steps))
+}
