@@ -1,6 +1,8 @@
 //! Asks for routes between hosts of a platform: `bench_routes PLATFORM COUNT [PAIRS]`. The hosts are drawn by a linear
-//! congruential sequence, which begins anew after so many pairs. It prints how many routes there were, and how many links
-//! they had in all.
+//! congruential sequence, which begins anew after so many pairs. It prints how many routes there were, and how many
+//! links they had in all.
+//! It is entered by `main`.
+//! It stands on `sg_platform` and `sg_route`.
 #![tactic(auto)]
 
 ghost use Rattle.std.specs.Prelude.{◌≡◌, ◌<◌};

@@ -1,4 +1,7 @@
 //! Actors: what they have in mind, and the turns of a round, one of each that is ready.
+//! One enters by `run_round`, over seats in each of which an `Actor` sits: whoever writes actors of another kind
+//! implements this trait. Here are `PlainContext` and `TapeContext`.
+//! It stands on `sg_base`.
 #![tactic(auto)]
 
 mod actor;

@@ -1,4 +1,6 @@
 //! How actors begin and end, as laws, each the contract of a function without a body.
+//! One begins at `the_dead_stay_dead`.
+//! It stands on `sg_kernel` and what is below it.
 #![tactic(auto)]
 
 mod laws;

@@ -1,4 +1,6 @@
 //! What actors await, as laws, each the contract of a function without a body.
+//! One begins at `named_are_awaited`.
+//! It stands on `sg_engine`, on `sg_actor_laws`, and what is below these.
 #![tactic(auto)]
 
 mod laws;

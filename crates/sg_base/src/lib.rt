@@ -1,5 +1,7 @@
-//! The words that every layer of the simulator speaks: identifiers, calls, actions, answers, records, how a
-//! program ends, texts, lists, sets of small numbers, and the counter of steps.
+//! The words that every layer of the simulator speaks: identifiers, calls, actions, answers, records, how a program
+//! ends, texts, lists, sets of small numbers, and the counter of looks.
+//! One enters by its types: a turn ends in a `Call`, which is answered by an `Answer`; `Steps` counts looks.
+//! It stands on std alone.
 #![tactic(auto)]
 
 mod actors;

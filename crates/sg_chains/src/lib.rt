@@ -1,4 +1,6 @@
 //! Uses of resources by flows, in chains both ways: those of each flow, and those on each resource.
+//! One enters by `Chains`: `add` and `remove` write the uses of a flow, and `look` reads one use and counts it.
+//! It stands on `sg_base`, and keeps its rows in a slab.
 #![tactic(auto)]
 
 mod chains;

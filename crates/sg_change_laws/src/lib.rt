@@ -1,4 +1,6 @@
 //! What failures, kills and energy mean for whole runs, as laws, each the contract of a function without a body.
+//! One begins at `nothing_off_is_used_in_runs`.
+//! It stands on `sg_await_laws`, on `sg_failure_laws`, and what is below these.
 #![tactic(auto)]
 
 mod laws;

@@ -1,4 +1,6 @@
 //! The load of a churn, which anybody can make again from three numbers: a platform, and the actors on it.
+//! One enters by `churn_platform` and `churn_deployment`.
+//! It stands on `sg_actor` for the numbers that are drawn, and on `sg_zones` for what a platform may be.
 #![tactic(auto)]
 
 mod deployment;

@@ -1,4 +1,6 @@
 //! What collectives mean for whole runs, as laws, each the contract of a function without a body.
+//! One begins at `collectives_run`.
+//! It stands on `sg_engine`, on `sg_platform` for the texts that runs are of, and what is below these.
 #![tactic(auto)]
 
 mod laws;

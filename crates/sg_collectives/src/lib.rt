@@ -1,4 +1,6 @@
 //! Collective actions of numbered members, each as the sends, receives and computes that every member does for it.
+//! One enters by `Collective`: `action` is what an actor does at a place of it, `steps` how many places there are.
+//! It stands on `sg_base`.
 #![tactic(auto)]
 
 mod alltoall;

@@ -1,8 +1,7 @@
-//! What the simulator reads and writes: three input parts and two output streams, and stand-ins for both in
-//! memory.
-//!
-//! Whoever reads real files or writes to a real terminal implements [`Files`] and [`Sinks`]. All layers above
-//! know these two traits alone.
+//! What the simulator reads and writes: three input parts and two output streams, and stand-ins for both in memory.
+//! Whoever reads real files or writes to a real terminal implements [`Files`] and [`Sinks`]. All layers above know
+//! these two traits alone, mostly by `load`, which reads a part whole, and `write_all`.
+//! It stands on `sg_base`.
 #![tactic(auto)]
 
 mod files;

@@ -1,4 +1,6 @@
 //! What hosts cost in energy, host by host, exactly.
+//! One enters by `Meter`: `set` gives a host another power from a date on, `energy` tells what it used until a date.
+//! It stands on `sg_base`.
 #![tactic(auto)]
 
 mod laws;

@@ -1,4 +1,8 @@
 //! The kernel of a simulation: it answers the calls of actors, moves the date, and tells when a run has to end.
+//! One enters by `Kernel`: `answer` takes the call of an actor, `pass` moves the date to what is due next; both give a
+//! `Stop` where the run can't go on.
+//! It stands on one crate for each thing that it keeps: `sg_states`, `sg_activity`, `sg_mailbox`, `sg_requests`,
+//! `sg_sync` and `sg_profile`; and on `sg_route` for the ways of messages.
 #![tactic(auto)]
 
 mod answers;

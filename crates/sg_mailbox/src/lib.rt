@@ -1,4 +1,7 @@
 //! Mailboxes: sends and receives that wait for each other.
+//! One enters by `Boxes`: `look` tells whom a side meets, `enter` puts it in or takes the other out by what was found,
+//! and `withdraw` lets one go.
+//! It stands on `sg_base`, and on `sg_queues` for who waits where.
 #![tactic(auto)]
 
 mod boxes;

@@ -1,4 +1,7 @@
-//! Shares of flows on resources, by progressive filling in whole numbers.
+//! Shares of flows on resources, by progressive filling in whole numbers: the definition that `sg_lazy` is measured by.
+//! One enters by `System`: `add` and `remove` make and end flows, `solve` fills the whole system anew, `share` tells
+//! the outcome. The laws say what a filling is, as `is_fair`.
+//! It stands on `sg_base`, and on `sg_chains` for who uses what.
 #![tactic(auto)]
 
 mod filling;

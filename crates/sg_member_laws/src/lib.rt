@@ -1,5 +1,7 @@
-//! What the members of a collective do together, as laws, each the contract of a function without a body. They say it of
-//! the steps themselves, and know no tree.
+//! What the members of a collective do together, as laws, each the contract of a function without a body. They say it
+//! of the steps themselves, and know no tree.
+//! One begins at `bcast_reaches_each_once`, which the others are like.
+//! It stands on `sg_collectives`.
 #![tactic(auto)]
 
 mod laws;

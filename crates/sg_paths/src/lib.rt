@@ -1,4 +1,6 @@
 //! Paths of fewest links over routes between numbered points.
+//! One enters by `Paths`: `build` once, and then `search` for each pair of points; a few of those found are kept.
+//! It stands on `sg_base`, and on `sg_heap` for the next point to settle.
 #![tactic(auto)]
 
 mod ahead;

@@ -1,4 +1,6 @@
 //! Routes between any two points of a platform.
+//! One enters by `Router`: `build` once, and then `route` for each pair; `routes_are_good` says what a route is.
+//! It stands on `sg_zones` for the way through the tree, and on `sg_paths` for that within a Dijkstra zone.
 #![tactic(auto)]
 
 mod build;

@@ -1,4 +1,6 @@
 //! Laws of routes, each the contract of a function without a body: what the definition means in plain words.
+//! One begins at `follows_lowest_zone`.
+//! It stands on `sg_route` and what is below it.
 #![tactic(auto)]
 
 mod laws;

@@ -1,4 +1,7 @@
-//! Platforms and deployments as rows with resolved names: what they promise, their links' ends, and rows by name.
+//! Platforms and deployments as rows with resolved names: what they promise, their links' ends, and rows by name. All
+//! that comes behind the readers works with these.
+//! One enters by `PlatformText` and `Deployment`, which `of_rows` makes of given rows.
+//! It stands on `sg_base`, on `sg_tree` for spaces of names, and on `sg_collectives` for the members of a deployment.
 #![tactic(auto)]
 
 mod deployment;

@@ -1,5 +1,7 @@
-//! The rules that a platform text and a deployment text keep: the names that their rows give, and the first fault of
-//! a tree.
+//! The rules that a platform text and a deployment text keep: the names that their rows give, and the first fault of a
+//! tree.
+//! One enters by `first_fault`, with the names from `platform_names` or `deployment_names`.
+//! It stands on `sg_tables` for what is to be where, on `sg_tree` for what is there, and on what is below these.
 #![tactic(auto)]
 
 mod arguments;

@@ -1,4 +1,6 @@
 //! How runs end, and which creates are given in them, as laws, each the contract of a function without a body.
+//! One begins at `runs_end`.
+//! It stands on `sg_await_laws` and what is below it.
 #![tactic(auto)]
 
 mod laws;

@@ -1,4 +1,7 @@
 //! What actors do: their states, the run queue, who waits for another to end, and the records of what was answered.
+//! One enters by `States`: `block` has an actor wait, `answer` and `reply` make it ready, `begin` and `end` are its
+//! life, and `run_queue` has who is to take a turn.
+//! It stands on `sg_base`.
 #![tactic(auto)]
 
 mod crowd;

@@ -1,4 +1,7 @@
 //! Mutexes, semaphores and the barrier: the simulated objects at which actors wait.
+//! One enters by `Sync`: `lock`, `unlock`, `acquire`, `release`, `arrive` and `leave` answer an `Outcome`, and `others`
+//! tells who else goes on by it.
+//! It stands on `sg_base`, and on `sg_queues` for who waits where.
 #![tactic(auto)]
 
 mod arrivals;

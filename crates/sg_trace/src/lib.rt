@@ -1,4 +1,6 @@
 //! The lines on standard output: those of the trace, and those that tell how a run ended. Nothing here takes memory.
+//! One enters by `line`, for an answered call, and `ending_line`.
+//! It stands on `sg_units` for dates, and on `sg_rows` for names.
 #![tactic(auto)]
 
 mod calls;

@@ -1,4 +1,6 @@
 //! The command line: its definition, and the job that words ask for.
+//! One enters by `read_words`, which gives a `Job` or a `WordsFault`.
+//! It stands on `sg_base`, and on clap.
 #![tactic(auto)]
 
 mod budgets;

@@ -1,4 +1,8 @@
 //! SimGrid's S4U simulation kernel and trace replay, in whole numbers, as a program.
+//! One enters by `simgrid`, the whole call, over any files and streams: it reads the words, has what they ask for read
+//! or made, and runs it. `main` calls it over the real ones.
+//! It stands on `sg_words` for the job, `sg_platform`, `sg_zones` and `sg_churn` for what it is of, `sg_engine` for the
+//! run; and for its tests on `sg_job_cases`, `sg_job_tables` and `sg_change_tables`.
 #![tactic(auto)]
 
 mod churn_setup;
