@@ -2,6 +2,7 @@
 use Rattle.std.proofs.Common.{◌≡◌, ◌<◌, ◌≤◌, ◌+◌, ◌-◌, ◌∙◌, ap, sym, refl, subst, ℕ, zero, suc, Bool, true, false, cond, not, List, [], ◌∷◌, ◌++◌, length, map, get_or, All, Option, None, Some, Result, Ok, Err, option_map, option_to_list, unwrap_or, codes, nat_lt, inl, inr, arith, lt-ltb}
 use Rattle.std.specs.List.{slice_get}
 use Rattle.std.specs.Map.{lookup}
+use Rattle.std.specs.Option.{option_map_or}
 use Rattle.std.specs.Str.{bytes_eq}
 use Rattle.std.proofs.lemmas.Bool.{cases_Bool, false_from_ne_true}
 use Rattle.std.proofs.lemmas.List.Elements.{All-append, All-cons, All-nil, All-weaker}
@@ -9,10 +10,8 @@ use Rattle.std.proofs.lemmas.Option.{same_Some, slice_get-get_or}
 use Rattle.std.proofs.lemmas.Slice.Eq.{bytes_eq-Decides}
 use Rattle.sg_base.specs.declared.ids.ActorId.{ActorId}
 use Rattle.sg_platform.specs.Build.{actor_row}
-use Rattle.sg_platform.specs.DeploymentOf.{deployment_of, deployment_or_none, names_on, rows_of, rows_unless, tree_deployment}
-use Rattle.sg_platform.specs.PlatformOf.{greatest_text, whole_text}
-use Rattle.sg_platform.specs.declared.deployment.DeploymentFault.{DeploymentFault}
-use Rattle.sg_platform.specs.declared.deployment.DeploymentFault.TheVariants.{Limit}
+use Rattle.sg_platform.specs.DeploymentOf.{deployment_of, names_on, rows_of, tree_deployment}
+use Rattle.sg_platform.specs.PlatformOf.{greatest_text, rows_unless, too_long}
 use Rattle.sg_rows.specs.Deployment.{Deployed, id_if_replay, member_ids, members_among, members_of, replay_actor_named}
 use Rattle.sg_rows.specs.Index.{names_if_replay, replay_names, replay_number}
 use Rattle.sg_rows.specs.Platform.{Platform}
@@ -265,28 +264,28 @@ numbered_on : (platform : Platform) (tree : Members) (text : List ℕ) →
 unfolding deployment_known
 numbered_on platform tree text = refl
 
-abbrev Has : Result Deployed DeploymentFault → Type 0
+abbrev Has : Result Deployed (Option Fault) → Type 0
 Has (Ok deployed) = HasNames deployed
 Has (Err why) = Unit {0}
 
 unless_named : (platform : Platform) (tree : Members) (fault : Option Fault) → first (faults_of (names_on platform tree) deployment_tables tree) ≡ fault →
-    Has (rows_unless (names_on platform tree) tree fault)
+    Has (rows_unless fault (rows_of (names_on platform tree) tree))
 unless_named platform tree None e = tree_named (names_on platform tree) tree (numbered_on platform tree) e
 unless_named platform tree (Some fault) e = tt
 
-read_named : (platform : Platform) (tree : Option Members) → Has (deployment_or_none platform tree)
+read_named : (platform : Platform) (tree : Option Members) → Has (option_map_or (tree_deployment platform) tree (Err None))
 unfolding tree_deployment
 read_named platform None = tt
 read_named platform (Some tree) = unless_named platform tree (first (faults_of (names_on platform tree) deployment_tables tree)) refl
 
-unless_long : (b : Bool) (r s : Result Deployed DeploymentFault) → Has r → Has s → Has (cond b r s)
+unless_long : (b : Bool) (r s : Result Deployed (Option Fault)) → Has r → Has s → Has (cond b r s)
 unless_long true r s one two = one
 unless_long false r s one two = two
 
 text_named : (bytes : List ℕ) (platform : Platform) → Has (deployment_of bytes platform)
 unfolding deployment_of
 text_named bytes platform =
-    unless_long (nat_lt greatest_text (length bytes)) (Err (Limit whole_text)) (deployment_or_none platform (tree_of bytes)) tt (read_named platform (tree_of bytes))
+    unless_long (nat_lt greatest_text (length bytes)) (Err (Some too_long)) (option_map_or (tree_deployment platform) (tree_of bytes) (Err None)) tt (read_named platform (tree_of bytes))
 
 pub texts_have_names : TextsHaveNames
 texts_have_names bytes platform deployed e = subst Has e (text_named bytes platform)

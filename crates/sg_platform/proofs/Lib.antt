@@ -7,3 +7,4 @@ pub mod KeptProfiles
 pub mod LinkLists
 pub mod RowsRead
 pub mod Whole
+pub mod PlatformFaults

@@ -1,10 +1,9 @@
--- Why a text is refused, in words, and where.
-use Rattle.std.specs.Prelude.{ℕ, List, [], Option, Some, None, option_map, codes}
+-- Which rule a text breaks, by what its reader tells; of no TOML, and for want of memory, none.
+use Rattle.std.specs.Prelude.{Option, Some, None}
 use Rattle.sg_platform.specs.declared.deployment.DeploymentFault.{DeploymentFault}
 use Rattle.sg_platform.specs.declared.deployment.DeploymentFault.TheVariants as deployment
 use Rattle.sg_platform.specs.declared.platform.PlatformFault.{PlatformFault}
 use Rattle.sg_platform.specs.declared.platform.PlatformFault.TheVariants as platform
-use Rattle.sg_tree.specs.Faults.{kind_words}
 use Rattle.sg_tree.specs.declared.fault.Fault.{Fault}
 use Rattle.sg_tree.specs.declared.fault.Kind.{Kind}
 use Rattle.sg_tree.specs.declared.fault.Kind.TheVariants as kind
@@ -13,14 +12,6 @@ use Rattle.sg_tree.specs.declared.fault.Place.{Place}
 abbrev pub broken_at : Place → Kind → Option Fault
 broken_at place kind = Some (record { place = place; kind = kind })
 
--- what a rule says, where one is broken
-abbrev pub rule_words : Option Fault → List ℕ
-rule_words None = []
-rule_words (Some rule) = kind_words rule.kind
-
--- ---- platforms
-
--- the rule that is broken, and where
 abbrev pub platform_rule : PlatformFault → Option Fault
 platform_rule platform.BadToml = None
 platform_rule (platform.MissingKey place) = broken_at place kind.MissingKey
@@ -31,15 +22,6 @@ platform_rule (platform.Duplicate place) = broken_at place kind.Duplicate
 platform_rule (platform.Unknown place) = broken_at place kind.Unknown
 platform_rule (platform.Limit place) = broken_at place kind.Limit
 platform_rule platform.Memory = None
-
-abbrev pub platform_words : PlatformFault → List ℕ
-platform_words platform.BadToml = codes "not TOML"
-platform_words fault = rule_words (platform_rule fault)
-
-abbrev pub platform_place : PlatformFault → Option Place
-platform_place fault = option_map (λ rule. rule.place) (platform_rule fault)
-
--- ---- deployments
 
 abbrev pub deployment_rule : DeploymentFault → Option Fault
 deployment_rule deployment.BadToml = None
@@ -53,10 +35,3 @@ deployment_rule (deployment.Limit place) = broken_at place kind.Limit
 deployment_rule (deployment.Function place) = broken_at place kind.Function
 deployment_rule (deployment.Arguments place) = broken_at place kind.Arguments
 deployment_rule deployment.Memory = None
-
-abbrev pub deployment_words : DeploymentFault → List ℕ
-deployment_words deployment.BadToml = codes "not TOML"
-deployment_words fault = rule_words (deployment_rule fault)
-
-abbrev pub deployment_place : DeploymentFault → Option Place
-deployment_place fault = option_map (λ rule. rule.place) (deployment_rule fault)

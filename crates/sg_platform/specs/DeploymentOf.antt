@@ -1,33 +1,18 @@
--- The deployment that a text describes on a platform, or its fault of least place, and there of least kind.
-use Rattle.std.specs.Prelude.{ℕ, List, map, length, codes, if◌then◌else◌, nat_lt, Option, Some, None, Result, Ok, Err}
+-- The deployment that a text describes on a platform; or its fault of least place, and there of least kind, and none where
+-- it is no TOML.
+use Rattle.std.specs.Prelude.{ℕ, List, map, length, codes, Option, Result}
 use Rattle.sg_platform.specs.Build.{actor_row, mutex_row, semaphore_row}
 use Rattle.sg_rows.specs.Deployment.{Deployed}
 use Rattle.sg_rows.specs.Index.{host_number}
 use Rattle.sg_rows.specs.Platform.{Platform}
-use Rattle.sg_platform.specs.PlatformOf.{greatest_text, whole_text}
-use Rattle.sg_platform.specs.declared.deployment.DeploymentFault.{DeploymentFault}
-use Rattle.sg_platform.specs.declared.deployment.DeploymentFault.TheVariants.{BadToml, MissingKey, WrongType, BadValue, BadName, Duplicate, Unknown, Limit, Function, Arguments}
+use Rattle.sg_platform.specs.PlatformOf.{rows_unless, text_by}
 use Rattle.sg_rules.specs.Faults.{faults_of}
 use Rattle.sg_rules.specs.Names.{Known, deployment_known}
 use Rattle.sg_tables.specs.Tables.{deployment_tables}
 use Rattle.sg_tree.specs.Along.{first}
 use Rattle.sg_tree.specs.Tree.{tree_of, rows_at}
 use Rattle.sg_tree.specs.declared.fault.Fault.{Fault}
-use Rattle.sg_tree.specs.declared.fault.Kind.{Kind}
-use Rattle.sg_tree.specs.declared.fault.Kind.TheVariants as kind
-use Rattle.sg_tree.specs.declared.fault.Place.{Place}
 use Rattle.toml.specs.Data.{Members}
-
-abbrev pub fault_of : Place → Kind → DeploymentFault
-fault_of place kind.MissingKey = MissingKey place
-fault_of place kind.WrongType = WrongType place
-fault_of place kind.BadValue = BadValue place
-fault_of place kind.BadName = BadName place
-fault_of place kind.Duplicate = Duplicate place
-fault_of place kind.Unknown = Unknown place
-fault_of place kind.Limit = Limit place
-fault_of place kind.Function = Function place
-fault_of place kind.Arguments = Arguments place
 
 -- the names that a deployment may use on a platform: its hosts, and the names of its own rows
 abbrev pub names_on : Platform → Members → Known
@@ -41,19 +26,10 @@ rows_of names tree = record {
   semaphores = map semaphore_row (rows_at (codes "semaphore") tree);
 }
 
-abbrev pub rows_unless : Known → Members → Option Fault → Result Deployed DeploymentFault
-rows_unless names tree None = Ok (rows_of names tree)
-rows_unless names tree (Some fault) = Err (fault_of fault.place fault.kind)
-
 -- the first fault of the tree, else its rows
-unfoldable pub tree_deployment : Platform → Members → Result Deployed DeploymentFault
+unfoldable pub tree_deployment : Platform → Members → Result Deployed (Option Fault)
 tree_deployment platform tree =
-    rows_unless (names_on platform tree) tree (first (faults_of (names_on platform tree) deployment_tables tree))
+    rows_unless (first (faults_of (names_on platform tree) deployment_tables tree)) (rows_of (names_on platform tree) tree)
 
-abbrev pub deployment_or_none : Platform → Option Members → Result Deployed DeploymentFault
-deployment_or_none platform None = Err BadToml
-deployment_or_none platform (Some tree) = tree_deployment platform tree
-
-unfoldable pub deployment_of : List ℕ → Platform → Result Deployed DeploymentFault
-deployment_of bytes platform =
-    if nat_lt greatest_text (length bytes) then Err (Limit whole_text) else deployment_or_none platform (tree_of bytes)
+unfoldable pub deployment_of : List ℕ → Platform → Result Deployed (Option Fault)
+deployment_of bytes platform = text_by (tree_deployment platform) bytes

@@ -1,8 +1,9 @@
 //! Reads deployments.
-ghost use Rattle.std.specs.Prelude.{◌≡◌, ◌≢◌, Err, IfOk};
+ghost use Rattle.std.specs.Prelude.{◌≡◌, ◌≢◌, Err, IfOk, Some};
+ghost use Rattle.std.specs.Result.{result_map_both};
 ghost use Rattle.sg_rows.specs.Deployment.{IsDeployedOn, IsDeployment};
-ghost use Rattle.sg_platform.specs.FaultWords.{deployment_place, deployment_rule, deployment_words};
-ghost use Rattle.sg_platform.specs.DeploymentOf.{deployment_of, fault_of, names_on, rows_of, tree_deployment};
+ghost use Rattle.sg_platform.specs.BrokenRules.{deployment_rule};
+ghost use Rattle.sg_platform.specs.DeploymentOf.{deployment_of, names_on, rows_of, tree_deployment};
 ghost use Rattle.sg_platform.specs.declared.deployment.DeploymentFault.TheVariants.{Memory};
 ghost use Rattle.sg_rules.specs.kept.NamesView.{names_view};
 ghost use Rattle.toml.specs.View.{table_view};
@@ -53,7 +54,7 @@ impl From<sg_base::Memory> for DeploymentFault {
 
 impl DeploymentFault {
     /// The rule that the text breaks, if it breaks one.
-    fn rule(&self) -> Option<Fault>
+    pub fn rule(&self) -> Option<Fault>
         ensures { result ≡ deployment_rule self.now }
     {
         let (kind, place) = match self {
@@ -70,33 +71,10 @@ impl DeploymentFault {
         };
         Some(Fault { place, kind })
     }
-
-    /// What is wrong, in words; of want of memory no word.
-    pub fn words(&self) -> &'static str
-        ensures { result.now ≡ deployment_words self.now }
-    {
-        match self {
-            DeploymentFault::BadToml => "not TOML",
-            fault => match fault.rule() {
-                Some(rule) => rule.kind.words(),
-                None => "",
-            },
-        }
-    }
-
-    /// Where the text breaks a rule.
-    pub fn place(&self) -> Option<Place>
-        ensures { result ≡ deployment_place self.now }
-    {
-        match self.rule() {
-            Some(rule) => Some(rule.place),
-            None => None,
-        }
-    }
 }
 
 fn fault_of(fault: Fault) -> DeploymentFault
-    ensures { result ≡ fault_of fault.place fault.kind }
+    ensures { deployment_rule result ≡ Some fault }
 {
     let place = fault.place;
     match fault.kind {
@@ -146,8 +124,8 @@ fn deployment_in(
     platform: &PlatformText,
 ) -> Result<Deployment, DeploymentFault>
     requires { names_view names.now ≡ names_on platform.now (table_view tree.now) }
-    ensures value { result ≢ Err Memory
-        → result ≡ tree_deployment platform.now (table_view tree.now) }
+    ensures value { result ≢ Err Memory → result_map_both (λ d. d) deployment_rule result
+        ≡ tree_deployment platform.now (table_view tree.now) }
     ensures deployed { IfOk result (IsDeployedOn platform.now) }
 {
     match first_fault(alloc, names, &DEPLOYMENT, tree)? {
@@ -161,8 +139,8 @@ fn tree_deployment(
     tree: &toml::Table,
     platform: &PlatformText,
 ) -> Result<Deployment, DeploymentFault>
-    ensures value { result ≢ Err Memory
-        → result ≡ tree_deployment platform.now (table_view tree.now) }
+    ensures value { result ≢ Err Memory → result_map_both (λ d. d) deployment_rule result
+        ≡ tree_deployment platform.now (table_view tree.now) }
     ensures deployed { IfOk result (IsDeployedOn platform.now) }
 {
     let names = names_on(alloc, tree, platform)?;
@@ -180,7 +158,8 @@ pub fn read_deployment(
     bytes: &[u8],
     platform: &PlatformText,
 ) -> Result<Deployment, DeploymentFault>
-    ensures value { result ≢ Err Memory → result ≡ deployment_of bytes.now platform.now }
+    ensures value { result ≢ Err Memory → result_map_both (λ d. d) deployment_rule result
+        ≡ deployment_of bytes.now platform.now }
     ensures deployed { IfOk result (IsDeployedOn platform.now) }
 {
     if bytes.len() > GREATEST_TEXT {

@@ -1,12 +1,14 @@
 //! Reads platforms.
-ghost use Rattle.std.specs.Prelude.{◌≡◌, ◌≢◌, ◌≤◌, Err, IfOk, codes, length, map};
+ghost use Rattle.std.specs.Prelude.{◌≡◌, ◌≢◌, ◌≤◌, Err, IfOk, Some, codes, length, map};
+ghost use Rattle.std.specs.Result.{result_map_both};
 ghost use Rattle.sg_rows.specs.Platform.{IsPlatform};
 ghost use Rattle.sg_rows.specs.Ends.{link_ends};
 ghost use Rattle.sg_platform.specs.Build.{host_row, profile_row, route_row, router_row, spoke_row, state_profile_row, zone_route_row, zone_row};
-ghost use Rattle.sg_platform.specs.FaultWords.{platform_place, platform_rule, platform_words};
-ghost use Rattle.sg_platform.specs.PlatformOf.{fault_of, links_of, platform_of, rows_of, tree_platform};
+ghost use Rattle.sg_platform.specs.BrokenRules.{platform_rule};
+ghost use Rattle.sg_platform.specs.PlatformOf.{links_of, platform_of, rows_of, tree_platform};
 ghost use Rattle.sg_platform.specs.declared.platform.PlatformFault.TheVariants.{Memory};
 ghost use Rattle.sg_rules.specs.Names.{platform_known};
+ghost use Rattle.sg_rules.specs.PlatformKinds.{IsPlatformFault};
 ghost use Rattle.sg_rules.specs.kept.NamesView.{names_view};
 ghost use Rattle.sg_tree.specs.Tree.{rows_at};
 ghost use Rattle.toml.specs.View.{table_view};
@@ -55,7 +57,7 @@ impl From<sg_base::Memory> for PlatformFault {
 
 impl PlatformFault {
     /// The rule that the text breaks, if it breaks one.
-    fn rule(&self) -> Option<Fault>
+    pub fn rule(&self) -> Option<Fault>
         ensures { result ≡ platform_rule self.now }
     {
         let (kind, place) = match self {
@@ -70,33 +72,11 @@ impl PlatformFault {
         };
         Some(Fault { place, kind })
     }
-
-    /// What is wrong, in words; of want of memory no word.
-    pub fn words(&self) -> &'static str
-        ensures { result.now ≡ platform_words self.now }
-    {
-        match self {
-            PlatformFault::BadToml => "not TOML",
-            fault => match fault.rule() {
-                Some(rule) => rule.kind.words(),
-                None => "",
-            },
-        }
-    }
-
-    /// Where the text breaks a rule.
-    pub fn place(&self) -> Option<Place>
-        ensures { result ≡ platform_place self.now }
-    {
-        match self.rule() {
-            Some(rule) => Some(rule.place),
-            None => None,
-        }
-    }
 }
 
 fn fault_of(fault: Fault) -> PlatformFault
-    ensures { result ≡ fault_of fault.place fault.kind }
+    requires { IsPlatformFault fault }
+    ensures { platform_rule result ≡ Some fault }
 {
     let place = fault.place;
     match fault.kind {
@@ -269,7 +249,8 @@ fn platform_in(
     tree: &toml::Table,
 ) -> Result<PlatformText, PlatformFault>
     requires { names_view names.now ≡ platform_known (table_view tree.now) }
-    ensures { result ≢ Err Memory → result ≡ tree_platform (table_view tree.now) }
+    ensures { result ≢ Err Memory
+        → result_map_both (λ p. p) platform_rule result ≡ tree_platform (table_view tree.now) }
 {
     match first_fault(alloc, names, &PLATFORM, tree)? {
         Some(fault) => Err(fault_of(fault)),
@@ -278,7 +259,8 @@ fn platform_in(
 }
 
 fn tree_platform(alloc: Global, tree: &toml::Table) -> Result<PlatformText, PlatformFault>
-    ensures { result ≢ Err Memory → result ≡ tree_platform (table_view tree.now) }
+    ensures { result ≢ Err Memory
+        → result_map_both (λ p. p) platform_rule result ≡ tree_platform (table_view tree.now) }
 {
     let names = platform_names(alloc, tree)?;
     platform_in(alloc, &names, tree)
@@ -294,7 +276,8 @@ pub const GREATEST_TEXT: usize = 16_777_216;
 /// The text's fault of least place, and there of least kind, or want of memory.
 #[tactic(auto, unfolding(crate::specs::PlatformOf::platform_of))]
 pub fn read_platform(alloc: Global, bytes: &[u8]) -> Result<PlatformText, PlatformFault>
-    ensures { result ≢ Err Memory → result ≡ platform_of bytes.now }
+    ensures { result ≢ Err Memory
+        → result_map_both (λ p. p) platform_rule result ≡ platform_of bytes.now }
 {
     if bytes.len() > GREATEST_TEXT {
         let place = Place {

@@ -13,9 +13,7 @@ use Rattle.sg_engine.specs.declared.setup.Setup.{Setup}
 use Rattle.sg_rows.specs.Deployment.{Deployed}
 use Rattle.sg_platform.specs.DeploymentOf.{deployment_of}
 use Rattle.sg_rows.specs.Platform.{Platform}
-use Rattle.sg_platform.specs.PlatformOf.{platform_of, whole_text}
-use Rattle.sg_platform.specs.declared.deployment.DeploymentFault.TheVariants as deployment
-use Rattle.sg_platform.specs.declared.platform.PlatformFault.TheVariants as platform
+use Rattle.sg_platform.specs.PlatformOf.{platform_of, too_long}
 use Rattle.simgrid_replay.specs.Settings.{platform_given, deployment_given, or_platform_fault, or_deployment_fault, if_fitting, on_platform, fitting, Setting}
 use Rattle.simgrid_replay.specs.kept.Setups.{setting_in}
 use Rattle.simgrid_replay.specs.declared.refusal.Refusal.{Refusal}
@@ -29,22 +27,22 @@ pub deployment_whole : (source : Source) (bytes : List ℕ) (p : Platform) → (
 deployment_whole source bytes p loaded = rw (loaded.0, loaded.1) (grind (arith, nat_tests))
 
 -- a text over the limit is refused as a whole
-pub long_platform : (bytes : List ℕ) → 16777216 < length bytes → platform_of bytes ≡ C.Err (platform.Limit whole_text)
+pub long_platform : (bytes : List ℕ) → 16777216 < length bytes → platform_of bytes ≡ C.Err (Some too_long)
 unfolding platform_of
 long_platform bytes long = grind (arith, nat_tests)
 
-pub long_deployment : (bytes : List ℕ) (p : Platform) → 16777216 < length bytes → deployment_of bytes p ≡ C.Err (deployment.Limit whole_text)
+pub long_deployment : (bytes : List ℕ) (p : Platform) → 16777216 < length bytes → deployment_of bytes p ≡ C.Err (Some too_long)
 unfolding deployment_of
 long_deployment bytes p long = grind (arith, nat_tests)
 
-pub platform_too_long : (source : Source) → 16777216 < length source.bytes → C.Err (refusal.Platform (platform.Limit whole_text)) ≡ platform_given source
+pub platform_too_long : (source : Source) → 16777216 < length source.bytes → C.Err (refusal.Platform (Some too_long)) ≡ platform_given source
 platform_too_long source long =
-    let is : platform_of source.bytes ≡ C.Err (platform.Limit whole_text) = long_platform source.bytes long in
+    let is : platform_of source.bytes ≡ C.Err (Some too_long) = long_platform source.bytes long in
     rw is (grind (arith, nat_tests))
 
-pub deployment_too_long : (source : Source) (p : Platform) → 16777216 < length source.bytes → C.Err (refusal.Deployment (deployment.Limit whole_text)) ≡ deployment_given p source
+pub deployment_too_long : (source : Source) (p : Platform) → 16777216 < length source.bytes → C.Err (refusal.Deployment (Some too_long)) ≡ deployment_given p source
 deployment_too_long source p long =
-    let is : deployment_of source.bytes p ≡ C.Err (deployment.Limit whole_text) = long_deployment source.bytes p long in
+    let is : deployment_of source.bytes p ≡ C.Err (Some too_long) = long_deployment source.bytes p long in
     rw is (grind (arith, nat_tests))
 
 -- what is deployed suits its run, so it is the setting

@@ -1,5 +1,5 @@
 -- What a whole call writes, and its status, by what its three parts gave.
-use Rattle.std.specs.Prelude.{◌≡◌, ◌+◌, ◌≤◌, ℕ, List, [], Option, Result, Ok, Err, Bool, true, false, MatchBool, codes}
+use Rattle.std.specs.Prelude.{◌≡◌, ◌+◌, ◌≤◌, ℕ, List, [], Option, option_map, Result, Ok, Err, Bool, true, false, MatchBool, codes}
 use Rattle.sg_base.specs.declared.status.Status.{Status}
 use Rattle.sg_base.specs.declared.status.Status.TheVariants as status
 use Rattle.sg_edge.specs.declared.sinks.Stream.{Stream}
@@ -13,10 +13,9 @@ use Rattle.clap.specs.Words.{IsAmong, Kinds}
 use Rattle.clap.specs.declared.error.kind.ErrorKind.{ErrorKind}
 use Rattle.sg_words.specs.CommandLine.{Asked}
 use Rattle.sg_words.specs.Views.{IsHelp}
-use Rattle.sg_platform.specs.FaultWords.{platform_words, platform_place, deployment_words, deployment_place}
 use Rattle.sg_tree.specs.declared.fault.Place.{Place}
 use Rattle.sg_zones.specs.FaultWords.{zone_words, zone_place}
-use Rattle.simgrid_replay.specs.RefusalLines.{refusal_line, replay_line, contexts_line}
+use Rattle.simgrid_replay.specs.RefusalLines.{fault_words, refusal_line, replay_line, contexts_line}
 use Rattle.simgrid_replay.specs.Settings.{Setting, setting}
 use Rattle.simgrid_replay.specs.Requests.{has_script, show_of}
 use Rattle.simgrid_replay.specs.declared.refusal.Refusal.{Refusal}
@@ -54,9 +53,9 @@ abbrev pub fault_outcome : List ℕ → List ℕ → Option Place → Status →
 fault_outcome part words place how = one_text stream.Err (refusal_line part words place) how
 
 abbrev pub refusal_outcome : Refusal → Outcome
-refusal_outcome (refusal.Platform fault) = fault_outcome (codes "platform") (platform_words fault) (platform_place fault) status.Platform
+refusal_outcome (refusal.Platform fault) = fault_outcome (codes "platform") (fault_words fault) (option_map (λ rule. rule.place) fault) status.Platform
 refusal_outcome (refusal.Zones fault) = fault_outcome (codes "platform") (zone_words fault) (zone_place fault) status.Platform
-refusal_outcome (refusal.Deployment fault) = fault_outcome (codes "deployment") (deployment_words fault) (deployment_place fault) status.Deployment
+refusal_outcome (refusal.Deployment fault) = fault_outcome (codes "deployment") (fault_words fault) (option_map (λ rule. rule.place) fault) status.Deployment
 refusal_outcome (refusal.ReplayUnderRun row) = one_text stream.Err (replay_line row) status.Deployment
 refusal_outcome (refusal.TooFewContexts actors contexts) = one_text stream.Err (contexts_line actors contexts) status.Deployment
 refusal_outcome refusal.ReadPlatform = one_text stream.Err (codes "cannot read the platform\n") status.ReadFault

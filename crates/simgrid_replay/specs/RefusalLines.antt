@@ -1,6 +1,13 @@
 -- The lines that tell why a platform or a deployment is refused.
 use Rattle.std.specs.Prelude.{ℕ, List, ◌++◌, Option, Some, None, codes, decimal}
+use Rattle.sg_tree.specs.Faults.{kind_words}
+use Rattle.sg_tree.specs.declared.fault.Fault.{Fault}
 use Rattle.sg_tree.specs.declared.fault.Place.{Place}
+
+-- what is wrong with a text, in words: it is no TOML, or breaks a rule
+abbrev pub fault_words : Option Fault → List ℕ
+fault_words None = codes "not TOML"
+fault_words (Some rule) = kind_words rule.kind
 
 -- PART: WORDS (table T, row R, key K), or PART: WORDS alone
 abbrev pub refusal_line : List ℕ → List ℕ → Option Place → List ℕ

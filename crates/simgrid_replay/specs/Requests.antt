@@ -4,9 +4,6 @@ use Rattle.sg_engine.specs.declared.show.Show.{Show}
 use Rattle.sg_engine.specs.declared.show.Show.TheVariants as show
 use Rattle.sg_words.specs.CommandLine.{Request, replay, churn}
 
-abbrev pub show_if : Bool → Show
-show_if quiet = if quiet then show.Quiet else show.All
-
 -- a churn is made from its numbers, and any other run is read from a platform and a deployment
 abbrev pub has_parts : Request → Bool
 has_parts (churn seed actors steps) = false
@@ -20,4 +17,4 @@ has_script other = false
 -- of a churn a summary is shown
 abbrev pub show_of : Request → Bool → Show
 show_of (churn seed actors steps) quiet = show.Summary
-show_of other quiet = show_if quiet
+show_of other quiet = if quiet then show.Quiet else show.All

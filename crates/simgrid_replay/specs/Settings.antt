@@ -1,5 +1,7 @@
 -- What the platform and the deployment are, by what their parts gave.
-use Rattle.std.specs.Prelude.{◌+◌, ℕ, Bool, length, Option, None, Some, Result, Ok, Err, if◌then◌else◌, true, false, nat_lt, position}
+use Rattle.std.specs.Prelude.{◌+◌, ◌&&◌, ℕ, Bool, length, Option, None, Some, Result, Ok, Err, if◌then◌else◌, true, false, nat_le, nat_lt, position}
+use Rattle.std.specs.Option.{option_map_or}
+use Rattle.std.specs.Result.{result_map_both}
 use Rattle.sg_churn.specs.Generated.{platform_of_seed, deployed_of_seed}
 use Rattle.sg_edge.specs.Sources.{Source}
 use Rattle.sg_kernel.specs.Start.{replays}
@@ -7,8 +9,7 @@ use Rattle.sg_rows.specs.Deployment.{Deployed, started_number}
 use Rattle.sg_platform.specs.DeploymentOf.{deployment_of}
 use Rattle.sg_rows.specs.Platform.{Platform}
 use Rattle.sg_platform.specs.PlatformOf.{platform_of, greatest_text}
-use Rattle.sg_platform.specs.declared.deployment.DeploymentFault.{DeploymentFault}
-use Rattle.sg_platform.specs.declared.platform.PlatformFault.{PlatformFault}
+use Rattle.sg_tree.specs.declared.fault.Fault.{Fault}
 use Rattle.sg_words.specs.CommandLine as line
 use Rattle.sg_words.specs.CommandLine.{Request}
 use Rattle.sg_zones.specs.Faults.{zones_of}
@@ -23,26 +24,21 @@ or_zone_fault platform (Ok tree) = Ok platform
 or_zone_fault platform (Err fault) = Err (refusal.Zones fault)
 
 -- the faults of the zones are told after those of the text
-abbrev pub or_platform_fault : Result Platform PlatformFault → Result Platform Refusal
+abbrev pub or_platform_fault : Result Platform (Option Fault) → Result Platform Refusal
 or_platform_fault (Ok platform) = or_zone_fault platform (zones_of platform)
 or_platform_fault (Err fault) = Err (refusal.Platform fault)
 
-abbrev pub or_deployment_fault : Result Deployed DeploymentFault → Result Deployed Refusal
-or_deployment_fault (Ok deployed) = Ok deployed
-or_deployment_fault (Err fault) = Err (refusal.Deployment fault)
+abbrev pub or_deployment_fault : Result Deployed (Option Fault) → Result Deployed Refusal
+or_deployment_fault = result_map_both (λ deployed. deployed) refusal.Deployment
 
 -- a text over the limit is refused whatever stands behind it, else a failed read is told, else what the text says
 abbrev pub platform_given : Source → Result Platform Refusal
 platform_given source =
-    if nat_lt greatest_text (length source.bytes) then or_platform_fault (platform_of source.bytes)
-    else if source.broken then Err refusal.ReadPlatform
-    else or_platform_fault (platform_of source.bytes)
+    if source.broken && nat_le (length source.bytes) greatest_text then Err refusal.ReadPlatform else or_platform_fault (platform_of source.bytes)
 
 abbrev pub deployment_given : Platform → Source → Result Deployed Refusal
 deployment_given platform source =
-    if nat_lt greatest_text (length source.bytes) then or_deployment_fault (deployment_of source.bytes platform)
-    else if source.broken then Err refusal.ReadDeployment
-    else or_deployment_fault (deployment_of source.bytes platform)
+    if source.broken && nat_le (length source.bytes) greatest_text then Err refusal.ReadDeployment else or_deployment_fault (deployment_of source.bytes platform)
 
 -- ---- what is run
 -- a platform, all its rows, those of profiles among them, and what is deployed on it
@@ -50,17 +46,14 @@ pub record Setting : Type 0 where
   pub platform : Platform
   pub deployment : Deployed
 
-abbrev pub or_replay : Option ℕ → Result Deployed Refusal → Result Deployed Refusal
-or_replay None next = next
-or_replay (Some place) next = Err (refusal.ReplayUnderRun (place + 1))
-
 abbrev pub or_few_contexts : ℕ → Deployed → Result Deployed Refusal
 or_few_contexts contexts deployed =
     if nat_lt contexts (started_number deployed) then Err (refusal.TooFewContexts (started_number deployed) contexts) else Ok deployed
 
 -- without a script no actor may replay, and there must be a context for each actor that begins with the run
 abbrev pub fitting : Bool → ℕ → Deployed → Result Deployed Refusal
-fitting script contexts deployed = or_replay (if script then None else position replays deployed.actors) (or_few_contexts contexts deployed)
+fitting script contexts deployed =
+    option_map_or (λ place. Err (refusal.ReplayUnderRun (place + 1))) (if script then None else position replays deployed.actors) (or_few_contexts contexts deployed)
 
 abbrev pub if_fitting : Bool → ℕ → Result Deployed Refusal → Result Deployed Refusal
 if_fitting script contexts (Ok deployed) = fitting script contexts deployed
@@ -70,13 +63,10 @@ abbrev pub on_platform : Platform → Result Deployed Refusal → Result Setting
 on_platform platform (Ok deployed) = Ok (record { platform = platform; deployment = deployed })
 on_platform platform (Err why) = Err why
 
+-- what is run, with a script or without, by what the platform and the deployment gave; the first refusal is told
 abbrev pub setting_on : Bool → ℕ → Source → Result Platform Refusal → Result Setting Refusal
 setting_on script contexts deployment (Ok platform) = on_platform platform (if_fitting script contexts (deployment_given platform deployment))
 setting_on script contexts deployment (Err why) = Err why
-
--- what is run, with a script or without, by what the platform and the deployment gave; the first refusal is told
-abbrev pub setting_given : Bool → ℕ → Source → Source → Result Setting Refusal
-setting_given script contexts platform deployment = setting_on script contexts deployment (platform_given platform)
 
 -- what a churn runs
 abbrev pub churn_setting : ℕ → ℕ → ℕ → ℕ → Result Setting Refusal
@@ -84,6 +74,6 @@ churn_setting contexts seed actors steps = on_platform (platform_of_seed seed ac
 
 -- what is run for a request
 abbrev pub setting : Request → ℕ → Source → Source → Result Setting Refusal
-setting (line.replay p d s) contexts platform deployment = setting_given true contexts platform deployment
-setting (line.run p d) contexts platform deployment = setting_given false contexts platform deployment
+setting (line.replay p d s) contexts platform deployment = setting_on true contexts deployment (platform_given platform)
+setting (line.run p d) contexts platform deployment = setting_on false contexts deployment (platform_given platform)
 setting (line.churn seed actors steps) contexts platform deployment = churn_setting contexts seed actors steps

@@ -9,7 +9,7 @@ ghost use Rattle.simgrid_replay.specs.PartSources.{request_of, IsNamedBy, Script
 ghost use Rattle.simgrid_replay.specs.kept.Reading.{BeginsScript, Broke, ComesTo, IsCallCause};
 ghost use Rattle.simgrid_replay.specs.Outcome.{is_refusal, run_on};
 ghost use Rattle.simgrid_replay.specs.kept.Setups.{setting_in, IsSetupOfJob};
-ghost use Rattle.simgrid_replay.specs.Requests.{has_script, show_if as show_if_spec, show_of};
+ghost use Rattle.simgrid_replay.specs.Requests.{has_script, show_of};
 
 use crate::host::Host;
 use crate::reports::status;
@@ -21,19 +21,14 @@ use sg_words::{Command, Job};
 use std::sync::ledger::Ledger;
 use std::thread::Threads;
 
-fn show_if(quiet: bool) -> Show
-    ensures { result ≡ show_if_spec quiet }
-{
-    if quiet { Show::Quiet } else { Show::All }
-}
-
 // What is shown of a job's run.
 fn show(job: &Job) -> Show
     ensures { result ≡ show_of (request_of job.now) job.now.quiet }
 {
     match job.command {
-        Command::Replay { .. } | Command::Run { .. } => show_if(job.quiet),
         Command::Churn { .. } => Show::Summary,
+        Command::Replay { .. } | Command::Run { .. } if job.quiet => Show::Quiet,
+        Command::Replay { .. } | Command::Run { .. } => Show::All,
     }
 }
 

@@ -14,14 +14,17 @@ use crate::routed_platform::RoutedPlatform;
 use sg_edge::{Files, Loaded, Part, load};
 use sg_platform::{DeploymentFault, GREATEST_TEXT, PlatformFault, read_deployment, read_platform};
 use sg_rows::{Deployment, PlatformText};
-use sg_tree::Place;
+use sg_tree::{Fault, Kind, Place};
 use std::alloc::Global;
 
-/// Where a text as a whole is refused.
-const WHOLE_TEXT: Place = Place {
-    table: 0,
-    row: 0,
-    key: 0,
+/// A text is over the limit as a whole.
+const TOO_LONG: Fault = Fault {
+    place: Place {
+        table: 0,
+        row: 0,
+        key: 0,
+    },
+    kind: Kind::Limit,
 };
 
 fn platform_of(alloc: Global, text: &[u8]) -> Result<RoutedPlatform, Refusal>
@@ -32,7 +35,7 @@ fn platform_of(alloc: Global, text: &[u8]) -> Result<RoutedPlatform, Refusal>
     match read_platform(alloc, text) {
         Ok(platform) => RoutedPlatform::new(alloc, platform),
         Err(PlatformFault::Memory) => Err(Refusal::Memory),
-        Err(fault) => Err(Refusal::Platform(fault)),
+        Err(fault) => Err(Refusal::Platform(fault.rule())),
     }
 }
 
@@ -45,7 +48,7 @@ fn deployment_of(alloc: Global, text: &[u8], platform: &PlatformText) -> Result<
     match read_deployment(alloc, text, platform) {
         Ok(deployment) => Ok(deployment),
         Err(DeploymentFault::Memory) => Err(Refusal::Memory),
-        Err(fault) => Err(Refusal::Deployment(fault)),
+        Err(fault) => Err(Refusal::Deployment(fault.rule())),
     }
 }
 
@@ -71,7 +74,7 @@ pub fn load_platform<F: Files>(
 {
     match load(alloc, files, Part::Platform, name, GREATEST_TEXT) {
         Loaded::Whole(text) => platform_of(alloc, &text),
-        Loaded::TooLong => Err(Refusal::Platform(PlatformFault::Limit(WHOLE_TEXT))),
+        Loaded::TooLong => Err(Refusal::Platform(Some(TOO_LONG))),
         Loaded::Fault => Err(Refusal::ReadPlatform),
         Loaded::Memory => Err(Refusal::Memory),
     }
@@ -102,7 +105,7 @@ pub fn load_deployment<F: Files>(
 {
     match load(alloc, files, Part::Deployment, name, GREATEST_TEXT) {
         Loaded::Whole(text) => deployment_of(alloc, &text, platform),
-        Loaded::TooLong => Err(Refusal::Deployment(DeploymentFault::Limit(WHOLE_TEXT))),
+        Loaded::TooLong => Err(Refusal::Deployment(Some(TOO_LONG))),
         Loaded::Fault => Err(Refusal::ReadDeployment),
         Loaded::Memory => Err(Refusal::Memory),
     }

@@ -1,24 +1,22 @@
 //! Why a platform or a deployment isn't there, and the lines that tell it.
-ghost use Rattle.std.specs.Prelude.{◌≡◌, IfOk, codes, string_bytes};
-ghost use Rattle.sg_platform.specs.FaultWords.{platform_words, platform_place, deployment_words, deployment_place};
+ghost use Rattle.std.specs.Prelude.{◌≡◌, IfOk, codes, option_map, string_bytes};
 ghost use Rattle.sg_zones.specs.FaultWords.{zone_words, zone_place};
-ghost use Rattle.simgrid_replay.specs.RefusalLines.{refusal_line as refusal_line_spec, replay_line as replay_line_spec, contexts_line as contexts_line_spec};
+ghost use Rattle.simgrid_replay.specs.RefusalLines.{fault_words as fault_words_spec, refusal_line as refusal_line_spec, replay_line as replay_line_spec, contexts_line as contexts_line_spec};
 
 use sg_base::Memory;
-use sg_platform::{DeploymentFault, PlatformFault};
-use sg_tree::Place;
+use sg_tree::{Fault, Place};
 use sg_zones::ZoneFault;
 use std::alloc::Global;
 
 /// Why a platform or a deployment isn't there.
 #[derive(Drop)]
 pub enum Refusal {
-    /// The platform's text is none.
-    Platform(PlatformFault),
+    /// The platform's text breaks this rule, or is no TOML.
+    Platform(Option<Fault>),
     /// The platform's zones are no tree, or its rows don't fit it.
     Zones(ZoneFault),
-    /// The deployment's text is none, or it doesn't fit the platform.
-    Deployment(DeploymentFault),
+    /// The deployment's text breaks this rule, or is no TOML.
+    Deployment(Option<Fault>),
     /// There is no script, and the actor of this row replays. Rows count from 1.
     ReplayUnderRun(u32),
     /// So many actors begin with the run, and there are so many contexts, which are fewer.
@@ -51,12 +49,31 @@ fn refusal_line(
     }
 }
 
-/// The line that tells a platform's fault, with its newline.
-pub fn platform_line(alloc: Global, fault: &PlatformFault) -> Result<String, Memory>
-    ensures { IfOk result (λ line. string_bytes line ≡ refusal_line_spec (codes "platform")
-        (platform_words fault.now) (platform_place fault.now)) }
+/// What is wrong with a text, in words.
+fn fault_words(fault: Option<Fault>) -> &'static str
+    ensures { result.now ≡ fault_words_spec fault }
 {
-    refusal_line(alloc, "platform", fault.words(), fault.place())
+    match fault {
+        Some(rule) => rule.kind.words(),
+        None => "not TOML",
+    }
+}
+
+fn place_of(fault: Option<Fault>) -> Option<Place>
+    ensures { result ≡ option_map (λ rule. rule.place) fault }
+{
+    match fault {
+        Some(rule) => Some(rule.place),
+        None => None,
+    }
+}
+
+/// The line that tells a platform's fault, with its newline.
+pub fn platform_line(alloc: Global, fault: Option<Fault>) -> Result<String, Memory>
+    ensures { IfOk result (λ line. string_bytes line ≡ refusal_line_spec (codes "platform")
+        (fault_words_spec fault) (option_map (λ rule. rule.place) fault)) }
+{
+    refusal_line(alloc, "platform", fault_words(fault), place_of(fault))
 }
 
 /// The line that tells a fault of a platform's zones, with its newline.
@@ -68,11 +85,11 @@ pub fn zone_line(alloc: Global, fault: &ZoneFault) -> Result<String, Memory>
 }
 
 /// The line that tells a deployment's fault, with its newline.
-pub fn deployment_line(alloc: Global, fault: &DeploymentFault) -> Result<String, Memory>
+pub fn deployment_line(alloc: Global, fault: Option<Fault>) -> Result<String, Memory>
     ensures { IfOk result (λ line. string_bytes line ≡ refusal_line_spec (codes "deployment")
-        (deployment_words fault.now) (deployment_place fault.now)) }
+        (fault_words_spec fault) (option_map (λ rule. rule.place) fault)) }
 {
-    refusal_line(alloc, "deployment", fault.words(), fault.place())
+    refusal_line(alloc, "deployment", fault_words(fault), place_of(fault))
 }
 
 /// The line that tells of an actor that replays where there is no script, with its newline.

@@ -78,10 +78,10 @@ pub fn refuse<O: Sinks>(alloc: Global, refusal: Refusal, out: &mut O) -> Status
     ensures cause { IsCallCause result (O.faults out.new) (IsReadFault refusal) }
 {
     match refusal {
-        Refusal::Platform(fault) => say_made(platform_line(alloc, &fault), Status::Platform, out),
+        Refusal::Platform(fault) => say_made(platform_line(alloc, fault), Status::Platform, out),
         Refusal::Zones(fault) => say_made(zone_line(alloc, &fault), Status::Platform, out),
         Refusal::Deployment(fault) => {
-            say_made(deployment_line(alloc, &fault), Status::Deployment, out)
+            say_made(deployment_line(alloc, fault), Status::Deployment, out)
         }
         Refusal::ReplayUnderRun(row) => say_made(replay_line(alloc, row), Status::Deployment, out),
         Refusal::TooFewContexts(actors, contexts) => {

@@ -8,7 +8,7 @@ ghost use Rattle.sg_platform.specs.PlatformOf.{greatest_text};
 ghost use Rattle.simgrid_replay.specs.PartSources.{request_of, IsNamedBy, TextsGive};
 ghost use Rattle.simgrid_replay.specs.PartOrder.{AreBounded};
 ghost use Rattle.simgrid_replay.specs.kept.Reading.{AreRead, Broke, IsOfPlatform, IsReadFault, PlatformDecides};
-ghost use Rattle.simgrid_replay.specs.Settings.{setting, setting_given, setting_on};
+ghost use Rattle.simgrid_replay.specs.Settings.{platform_given, setting, setting_on};
 ghost use Rattle.simgrid_replay.specs.kept.Setups.{IsSetupOf, IsSetupFor};
 ghost use Rattle.simgrid_replay.specs.Requests.{has_parts, has_script};
 
@@ -75,7 +75,7 @@ fn read_setup<F: Files>(
     ensures given { (p d : Source)
         → Gives (F.shows files.old Part.Platform) (F.shows files.new Part.Platform) p
         → Gives (F.shows files.old Part.Deployment) (F.shows files.new Part.Deployment) d
-        → IsSetupOf (setting_given texts.now.script contexts p d) result }
+        → IsSetupOf (setting_on texts.now.script contexts d (platform_given p)) result }
     ensures fits { IfOk result (IsSetupFor texts.now.script contexts) }
     ensures read { AreRead result (F.shows files.old) (F.shows files.new) }
     ensures decided { PlatformDecides true result (F.shows files.old) (F.shows files.new) }
