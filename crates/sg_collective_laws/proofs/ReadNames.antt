@@ -20,11 +20,11 @@ use Rattle.sg_rows.specs.declared.rows.Function.{Function}
 use Rattle.sg_rows.specs.declared.rows.Function.TheVariants.{Replay, Worker, Master, Churn}
 use Rattle.sg_rules.proofs.Kept.{KeysKept, not_false, required_text, unbroken}
 use Rattle.sg_rules.specs.Faults.{faults_of, key_faults, row_faults, row_faults_at, rows_before, table_faults}
-use Rattle.sg_rules.specs.Names.{Known, deployment_known}
+use Rattle.sg_names.specs.Names.{Known, deployment_known}
 use Rattle.sg_rules.specs.Rules.{id_kinds, is_taken, key_kinds}
 use Rattle.sg_tables.specs.Tables.{deployment_tables, keys_of, table_number}
 use Rattle.sg_tables.specs.declared.tables.Key.{Key}
-use Rattle.sg_tables.specs.declared.tables.Rule.TheVariants as rule
+use Rattle.sg_tables.specs.declared.tables.TextRule.TheVariants as text_rule
 use Rattle.sg_tables.specs.declared.tables.Table.TheVariants.{Actor}
 use Rattle.sg_tables.specs.declared.tables.Word.TheVariants as word
 use Rattle.sg_tree.proofs.Kept.{empty_at, empty_left, empty_right, none_empty}
@@ -125,7 +125,7 @@ record HasOwnName (names : Known) (number : ℕ) (row : Data) : Type 0 where
 row_named : (names : Known) (number : ℕ) (row : Data) → KeysKept names number row (keys_of Actor) → HasOwnName names number row
 unfolding id_kinds
 row_named names number row kept =
-    let name = required_text names number row word.Name rule.NewActor refl kept.0 in
+    let name = required_text names number row word.Name text_rule.NewActor kept.0 in
     record {
       text = name.0;
       there = name.1;

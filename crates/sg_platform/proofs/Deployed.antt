@@ -11,7 +11,7 @@ use Rattle.sg_platform.specs.DeploymentOf.{rows_of}
 use Rattle.sg_rows.specs.Platform.{Platform}
 use Rattle.sg_rules.proofs.Kept.{rows_few, rows_kept}
 use Rattle.sg_rules.specs.Faults.{faults_of, table_faults}
-use Rattle.sg_rules.specs.Names.{Known, deployment_known}
+use Rattle.sg_names.specs.Names.{Known, deployment_known}
 use Rattle.sg_tables.specs.Tables.{deployment_tables}
 use Rattle.sg_tables.specs.declared.tables.Table.TheVariants.{Actor, Mutex, Semaphore}
 use Rattle.sg_tree.proofs.Kept.{empty_left, empty_right, none_empty}

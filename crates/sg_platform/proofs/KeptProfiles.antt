@@ -14,15 +14,17 @@ use Rattle.sg_rows.specs.Platform.{Counts, HasDates, IsProfileRow, IsProfiled, I
 use Rattle.sg_rows.specs.declared.rows.Profiled.{Profiled}
 use Rattle.sg_tables.proofs.Greatest.{bandwidth_within, speed_within, time_within}
 use Rattle.sg_rules.proofs.Kept.{KeysKept, host_there, not_false, optional_text, positive_there, required_at, required_items, some_there, unbroken}
-use Rattle.sg_rules.specs.Names.{Known}
-use Rattle.sg_rules.specs.Profiles.{Subjects, amount_in, are_rising, dates_kinds, each_date_kinds, is_later, is_of_host, items_at, quantity_of, state_in}
+use Rattle.sg_names.specs.Names.{Known}
+use Rattle.sg_names.specs.Subjects.{Subjects}
+use Rattle.sg_rules.specs.Profiles.{amount_in, are_rising, dates_kinds, each_date_kinds, is_later, is_of_host, items_at, quantity_of, state_in}
 use Rattle.sg_rules.specs.Rules.{host_kinds, key_kinds, kinds_at, profiled_host_kinds, profiled_link_kinds, text_kinds}
-use Rattle.sg_tables.specs.Tables.{key, keys_of, shape_of}
+use Rattle.sg_tables.specs.Tables.{key, keys_of}
 use Rattle.sg_tables.specs.Units.{quantity_value, time_value}
 use Rattle.sg_tables.specs.declared.tables.Need.TheVariants.{Optional, Required, Unless}
-use Rattle.sg_tables.specs.declared.tables.Rule.{Rule}
 use Rattle.sg_tables.specs.declared.tables.Rule.TheVariants as rule
-use Rattle.sg_tables.specs.declared.tables.Shape.TheVariants.{Text}
+use Rattle.sg_tables.specs.declared.tables.TextRule.{TextRule}
+use Rattle.sg_tables.specs.declared.tables.TextRule.TheVariants as text_rule
+use Rattle.sg_tables.specs.declared.tables.TextsRule.TheVariants as texts_rule
 use Rattle.sg_tables.specs.declared.tables.Table.TheVariants.{Profile, StateProfile}
 use Rattle.sg_tables.specs.declared.tables.Word.TheVariants as word
 use Rattle.sg_tables.specs.declared.units.Quantity.{Quantity}
@@ -52,26 +54,24 @@ host_below names counts earlier counted number row name empty =
     rw there.1 (omega (arith, below, counted.hosts))
 
 -- These rules are those of what a profile is of, where these are the subjects of its table.
-record AreOfSubjects (names : Known) (number : ℕ) (row : Data) (earlier : Subjects) (host link : Rule) : Type 0 where
-  host_text : shape_of host ≡ Text
-  link_text : shape_of link ≡ Text
+record AreOfSubjects (names : Known) (number : ℕ) (row : Data) (earlier : Subjects) (host link : TextRule) : Type 0 where
   hosts : (name : List ℕ) → text_kinds names number row host name ≡ profiled_host_kinds names earlier number name
   links : (name : List ℕ) → text_kinds names number row link name ≡ profiled_link_kinds names earlier number row name
 
-profiled_kept : (names : Known) (counts : Counts) → IsCounted names counts → (number : ℕ) (row : Data) (earlier : Subjects) (hosts links : Rule) → AreOfSubjects names number row earlier hosts links
+profiled_kept : (names : Known) (counts : Counts) → IsCounted names counts → (number : ℕ) (row : Data) (earlier : Subjects) (hosts links : TextRule) → AreOfSubjects names number row earlier hosts links
     → (host link : Option Data) → get (codes "link") row ≡ link
-    → kinds_at names number row (key word.Host (Unless word.Link) hosts) host ≡ [] → kinds_at names number row (key word.Link Optional links) link ≡ []
+    → kinds_at names number row (key word.Host (Unless word.Link) (rule.Text hosts)) host ≡ [] → kinds_at names number row (key word.Link Optional (rule.Text links)) link ≡ []
     → IsProfiled counts (subject_by names row (option_and_then as_str host))
 profiled_kept names counts counted number row earlier hosts links rules (Some d) link link_is host_kept link_kept =
-    let host = required_at names number row word.Host hosts rules.host_text (Some d) host_kept in
+    let host = required_at names number row word.Host hosts (Some d) host_kept in
     rw host.1 (host_below names counts earlier counted number row host.0 (sym (rules.hosts host.0) ∙ host.2))
 profiled_kept names counts counted number row earlier hosts links rules None None link_is host_kept link_kept = let missing = rw link_is at host_kept in cc
 profiled_kept names counts counted number row earlier hosts links rules None (Some d) link_is host_kept link_kept =
-    let link = required_at names number row word.Link links rules.link_text (Some d) link_kept in
+    let link = required_at names number row word.Link links (Some d) link_kept in
     rw (link_is, link.1) (link_below names counts earlier counted number row link.0 (sym (rules.links link.0) ∙ link.2))
 
-of_kept : (names : Known) (counts : Counts) → IsCounted names counts → (number : ℕ) (row : Data) (earlier : Subjects) (hosts links : Rule) → AreOfSubjects names number row earlier hosts links
-    → key_kinds names number row (key word.Host (Unless word.Link) hosts) ≡ [] → key_kinds names number row (key word.Link Optional links) ≡ []
+of_kept : (names : Known) (counts : Counts) → IsCounted names counts → (number : ℕ) (row : Data) (earlier : Subjects) (hosts links : TextRule) → AreOfSubjects names number row earlier hosts links
+    → key_kinds names number row (key word.Host (Unless word.Link) (rule.Text hosts)) ≡ [] → key_kinds names number row (key word.Link Optional (rule.Text links)) ≡ []
     → IsProfiled counts (subject_by names row (text_at (codes "host") row))
 unfolding key_kinds
 of_kept names counts counted number row earlier hosts links rules host link = profiled_kept names counts counted number row earlier hosts links rules (get (codes "host") row) (get (codes "link") row) refl host link
@@ -158,11 +158,11 @@ gap_kept (Some text) kept = let there = kept text refl in rw there.1 (there.2, t
 
 -- What tables of profiles share: a row with so many items, one for each date.
 turns_kept : (names : Known) (counts : Counts) (number : ℕ) (row : Data) (of : Profiled) (count : ℕ) → IsProfiled counts of → count ≡ length (items_at (codes "dates") row)
-    → key_kinds names number row (key word.Dates Required rule.DateList) ≡ [] → key_kinds names number row (key word.Loop Optional rule.PositiveTimeText) ≡ []
+    → key_kinds names number row (key word.Dates Required (rule.Texts texts_rule.DateList)) ≡ [] → key_kinds names number row (key word.Loop Optional (rule.Text text_rule.PositiveTimeText)) ≡ []
     → HasDates counts of (amounts_at Time (codes "dates") row) count (option_and_then time_value (text_at (codes "loop") row))
 turns_kept names counts number row of count exists each dates_fine loop_fine =
     let items = items_at (codes "dates") row in
-    let dates = dates_kept items (required_items names number row word.Dates rule.DateList refl dates_fine) in
+    let dates = dates_kept items (required_items names number row word.Dates texts_rule.DateList dates_fine) in
     record {
       exists = exists;
       some = dates.some;
@@ -170,7 +170,7 @@ turns_kept names counts number row of count exists each dates_fine loop_fine =
       each = omega (arith, each, length-map items (amount_or_zero Time));
       rising = dates.rising;
       soon = amounts_within Time items;
-      wide = gap_kept (text_at (codes "loop") row) (λ text there. positive_there (time_value text) (optional_text names number row word.Loop rule.PositiveTimeText refl loop_fine text there));
+      wide = gap_kept (text_at (codes "loop") row) (λ text there. positive_there (time_value text) (optional_text names number row word.Loop text_rule.PositiveTimeText loop_fine text there));
     }
 
 pub profile_kept : (names : Known) (counts : Counts) → IsCounted names counts → (number : ℕ) (row : Data) → KeysKept names number row (keys_of Profile) → IsProfileRow counts (profile_row names row)
@@ -178,9 +178,9 @@ unfolding profile_row
 profile_kept names counts counted number row kept =
     let values = items_at (codes "values") row in
     let of = subject_by names row (text_at (codes "host") row) in
-    let rules : AreOfSubjects names number row names.profiles rule.ProfiledHost rule.ProfiledLink = record { host_text = refl; link_text = refl; hosts = λ name. refl; links = λ name. refl } in
-    let exists = of_kept names counts counted number row names.profiles rule.ProfiledHost rule.ProfiledLink rules kept.0 kept.1.0 in
-    let each = each_kept row values _ (required_items names number row word.Values rule.ValueList refl kept.1.1.1.0) in
+    let rules : AreOfSubjects names number row names.profiles text_rule.ProfiledHost text_rule.ProfiledLink = record { hosts = λ name. refl; links = λ name. refl } in
+    let exists = of_kept names counts counted number row names.profiles text_rule.ProfiledHost text_rule.ProfiledLink rules kept.0 kept.1.0 in
+    let each = each_kept row values _ (required_items names number row word.Values texts_rule.ValueList kept.1.1.1.0) in
     record {
       dates = turns_kept names counts number row of (length (amounts_at (quantity_of row) (codes "values") row)) exists (length-map values (amount_or_zero (quantity_of row)) ∙ each) kept.1.1.0 kept.1.1.1.1.0;
       values = rates_within row values;
@@ -192,7 +192,7 @@ unfolding state_profile_row
 state_profile_kept names counts counted number row kept =
     let states = items_at (codes "states") row in
     let of = subject_by names row (text_at (codes "host") row) in
-    let rules : AreOfSubjects names number row names.state_profiles rule.SwitchedHost rule.SwitchedLink = record { host_text = refl; link_text = refl; hosts = λ name. refl; links = λ name. refl } in
-    let exists = of_kept names counts counted number row names.state_profiles rule.SwitchedHost rule.SwitchedLink rules kept.0 kept.1.0 in
-    let each = each_kept row states _ (required_items names number row word.States rule.StateList refl kept.1.1.1.0) in
+    let rules : AreOfSubjects names number row names.state_profiles text_rule.SwitchedHost text_rule.SwitchedLink = record { hosts = λ name. refl; links = λ name. refl } in
+    let exists = of_kept names counts counted number row names.state_profiles text_rule.SwitchedHost text_rule.SwitchedLink rules kept.0 kept.1.0 in
+    let each = each_kept row states _ (required_items names number row word.States texts_rule.StateList kept.1.1.1.0) in
     turns_kept names counts number row of (length (states_at (codes "states") row)) exists (length-map states (λ item. unwrap_or (state_in item) false) ∙ each) kept.1.1.0 kept.1.1.1.1.0

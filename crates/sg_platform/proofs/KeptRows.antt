@@ -1,6 +1,7 @@
 -- What holds of a row that breaks no rule.
 use Rattle.std.proofs.Common.{◌≡◌, ℕ, ◌+◌, ◌-◌, ◌<◌, ◌≤◌, ◌&&◌, false, cond, not, nat_le, nat_lt, ℤ, pos, negsuc, List, [], ◌∷◌, length, Option, Some, None, IfSome, option_and_then, option_map, unwrap_or, codes, refl, inl, inr, arith}
 use Rattle.std.specs.List.{All}
+use Rattle.std.specs.Option.{option_map_or}
 use Rattle.std.proofs.lemmas.Bool.{cases_Bool}
 use Rattle.std.proofs.lemmas.Bool.Decides.{nat_tests}
 use Rattle.sg_base.specs.declared.ids.Child.TheVariants.{Point as PointChild, Zone as ZoneChild}
@@ -8,22 +9,25 @@ use Rattle.sg_rows.proofs.EndsBelow.{way_back_kept}
 use Rattle.sg_rows.proofs.Networks.{plain_kept}
 use Rattle.sg_platform.proofs.KeptPower.{power_kept}
 use Rattle.sg_platform.proofs.LinkLists.{required_links, value_link_list}
-use Rattle.sg_platform.specs.Build.{actor_row, capacity_or_zero, child_of, core_or_one, gateway, host_row, link_row, links_at, links_or_back, mutex_row, network_of, network_row, point_id, route_row, router_row, semaphore_row, spoke_row, value_at, zone_id, zone_route_row, zone_row}
+use Rattle.sg_platform.specs.Build.{actor_row, capacity_or_zero, child_of, core_or_one, gateway, host_row, link_row, links_at, mutex_row, network_of, network_row, point_id, route_row, router_row, semaphore_row, spoke_row, value_at, zone_id, zone_route_row, zone_row}
 use Rattle.sg_rows.specs.Deployment.{IsActorRow, IsSemaphoreRow}
-use Rattle.sg_rows.specs.Ends.{link_ends}
+use Rattle.sg_rows.specs.Ends.{link_ends, way_back}
 use Rattle.sg_rows.specs.Network.{IsNetwork}
 use Rattle.sg_rows.specs.Platform.{Counts, IsChild, IsHostRow, IsLinkList, IsLinkRow, IsRouteRow, IsRouterRow, IsSpokeRow, IsZoneRouteRow, IsZoneRow}
 use Rattle.sg_rows.specs.declared.rows.ActorRow.{ActorRow}
 use Rattle.sg_rows.specs.declared.rows.LinkRow.{LinkRow}
 use Rattle.sg_tables.proofs.Greatest.{amount_within, bandwidth_within, factor_within, latency_within, speed_within}
 use Rattle.sg_rules.proofs.Kept.{KeysKept, child_end, end_there, host_there, taken_there, link_name_short, name_short, optional_text, point_there, positive_there, required_text, route_end_point, unbroken, zone_route_end_end, zone_there}
-use Rattle.sg_rules.specs.LinkNames.{is_split}
-use Rattle.sg_rules.specs.Names.{Known}
+use Rattle.sg_names.specs.LinkNames.{is_split}
+use Rattle.sg_names.specs.Names.{Known}
 use Rattle.sg_rules.specs.Rules.{end_kinds, key_kinds, kinds_at, refused_kinds, names_zone, point_kinds, positive_kinds, value_kinds, whole_kinds, zone_kinds}
 use Rattle.sg_tables.specs.Tables.{key, keys_of, word_text}
 use Rattle.sg_tables.specs.Units.{amount_value, bandwidth_value, factor_value, latency_value, speed_value}
 use Rattle.sg_tables.specs.declared.tables.Need.TheVariants.{Required, Optional, IfZone}
 use Rattle.sg_tables.specs.declared.tables.Rule.TheVariants as rule
+use Rattle.sg_tables.specs.declared.tables.TextRule.TheVariants as text_rule
+use Rattle.sg_tables.specs.declared.tables.TextsRule.TheVariants as texts_rule
+use Rattle.sg_tables.specs.declared.tables.WholeRule.TheVariants as whole_rule
 use Rattle.sg_tables.specs.declared.tables.Table.TheVariants.{Zone, Host, Router, Link, Route, ZoneRoute, Spoke, Network, Actor, Mutex, Semaphore}
 use Rattle.sg_tables.specs.declared.tables.Word.{Word}
 use Rattle.sg_tables.specs.declared.tables.Word.TheVariants as word
@@ -78,7 +82,7 @@ absent_gateway names counts counted end empty no_zone =
     from : (n : ℕ) → (nat_le 0 n && nat_lt n names.zones) ≡ false → names.zones ≤ n
     from n other = grind (arith, nat_tests)
 
-value_at_point : (names : Known) (number : ℕ) (row : Data) (d : Data) → value_kinds names number row rule.PointName d ≡ [] → of_type (point_kinds names) (as_str d) ≡ []
+value_at_point : (names : Known) (number : ℕ) (row : Data) (d : Data) → value_kinds names number row (rule.Text text_rule.PointName) d ≡ [] → of_type (point_kinds names) (as_str d) ≡ []
 unfolding value_kinds
 value_at_point names number row d empty = empty
 
@@ -88,7 +92,7 @@ gateway_text names counts counted number row None other empty = cc
 gateway_text names counts counted number row (Some text) other empty = point_below names counts counted text empty
 
 gateway_at : (names : Known) (counts : Counts) → IsCounted names counts → (number : ℕ) (row : Data) (w : Word) (end_word : Word) (end : List ℕ) → text_at (word_text end_word) row ≡ Some end → end_kinds names end ≡ []
-    → (d : Option Data) → kinds_at names number row (key w (IfZone end_word) rule.PointName) d ≡ []
+    → (d : Option Data) → kinds_at names number row (key w (IfZone end_word) (rule.Text text_rule.PointName)) d ≡ []
     → (point_id names (unwrap_or (option_and_then as_str d) (text_or_empty (word_text end_word) row))).0 < counts.points
 gateway_at names counts counted number row w end_word end found fine None empty =
     let no_zone = rw found at (unbroken _ _ empty) in
@@ -96,7 +100,7 @@ gateway_at names counts counted number row w end_word end found fine None empty 
 gateway_at names counts counted number row w end_word end found fine (Some d) empty = gateway_text names counts counted number row (as_str d) (text_or_empty (word_text end_word) row) (value_at_point names number row d empty)
 
 gateway_below : (names : Known) (counts : Counts) → IsCounted names counts → (number : ℕ) (row : Data) (w : Word) (end_word : Word) (end : List ℕ) → text_at (word_text end_word) row ≡ Some end → end_kinds names end ≡ []
-    → key_kinds names number row (key w (IfZone end_word) rule.PointName) ≡ [] → (gateway names row (word_text w) (word_text end_word)).0 < counts.points
+    → key_kinds names number row (key w (IfZone end_word) (rule.Text text_rule.PointName)) ≡ [] → (gateway names row (word_text w) (word_text end_word)).0 < counts.points
 unfolding key_kinds
 gateway_below names counts counted number row w end_word end found fine empty = gateway_at names counts counted number row w end_word end found fine (get (word_text w) row) empty
 
@@ -107,10 +111,10 @@ parent_below names counts counted (Some name) kept = zone_below names counts cou
 pub zone_kept : (names : Known) (counts : Counts) → IsCounted names counts → (number : ℕ) (row : Data) → KeysKept names number row (keys_of Zone) → IsZoneRow counts (zone_row names row)
 unfolding zone_row
 zone_kept names counts counted number row kept =
-    let id = required_text names number row word.Id rule.NewPoint refl kept.0 in
+    let id = required_text names number row word.Id text_rule.NewPoint kept.0 in
     record {
       id = rw id.1 (name_short names.points number id.0 id.2);
-      parent = parent_below names counts counted _ (optional_text names number row word.Parent rule.ZoneName refl kept.1.0);
+      parent = parent_below names counts counted _ (optional_text names number row word.Parent text_rule.ZoneName kept.1.0);
     }
 
 core_bounds : (o : Option ℤ) → (1 ≤ core_or_one o) × (core_or_one o ≤ 1024)
@@ -125,9 +129,9 @@ core_bounds (Some (pos n)) =
 pub host_kept : (names : Known) (counts : Counts) → IsCounted names counts → (number : ℕ) (row : Data) → KeysKept names number row (keys_of Host) → IsHostRow counts (host_row names row)
 unfolding host_row
 host_kept names counts counted number row kept =
-    let id = required_text names number row word.Id rule.NewPoint refl kept.0 in
-    let zone = required_text names number row word.Zone rule.ZoneName refl kept.1.0 in
-    let speed = required_text names number row word.Speed rule.SpeedText refl kept.1.1.0 in
+    let id = required_text names number row word.Id text_rule.NewPoint kept.0 in
+    let zone = required_text names number row word.Zone text_rule.ZoneName kept.1.0 in
+    let speed = required_text names number row word.Speed text_rule.SpeedText kept.1.1.0 in
     let rate = positive_there (speed_value speed.0) speed.2 in
     let cores = core_bounds (option_and_then as_integer (get (codes "core") row)) in
     record {
@@ -143,8 +147,8 @@ host_kept names counts counted number row kept =
 pub router_kept : (names : Known) (counts : Counts) → IsCounted names counts → (number : ℕ) (row : Data) → KeysKept names number row (keys_of Router) → IsRouterRow counts (router_row names row)
 unfolding router_row
 router_kept names counts counted number row kept =
-    let id = required_text names number row word.Id rule.NewPoint refl kept.0 in
-    let zone = required_text names number row word.Zone rule.ZoneName refl kept.1.0 in
+    let id = required_text names number row word.Id text_rule.NewPoint kept.0 in
+    let zone = required_text names number row word.Zone text_rule.ZoneName kept.1.0 in
     record {
       id = rw id.1 (name_short names.points number id.0 id.2);
       zone = rw zone.1 (zone_below names counts counted zone.0 zone.2);
@@ -165,15 +169,15 @@ taken_within reader greatest within text kept =
 pub link_kept : (names : Known) (number : ℕ) (row : Data) → KeysKept names number row (keys_of Link) → IsLinkRow (link_row row)
 unfolding link_row
 link_kept names number row kept =
-    let id = required_text names number row word.Id rule.NewLink refl kept.0 in
-    let bandwidth = required_text names number row word.Bandwidth rule.BandwidthText refl kept.1.0 in
+    let id = required_text names number row word.Id text_rule.NewLink kept.0 in
+    let bandwidth = required_text names number row word.Bandwidth text_rule.BandwidthText kept.1.0 in
     let rate = positive_there (bandwidth_value bandwidth.0) bandwidth.2 in
     record {
       id = rw id.1 (link_name_short names.taken number (is_split row) id.0 id.2);
       some_bandwidth = rw (bandwidth.1, rate.1) rate.2;
       bandwidth = rw (bandwidth.1, rate.1) (bandwidth_within bandwidth.0 rate.0 rate.1);
       latency = text_holds (λ n. n ≤ 1000000000000000) latency_value 0 (omega arith) (text_at (codes "latency") row)
-          (λ text there. taken_within latency_value 1000000000000000 latency_within text (optional_text names number row word.Latency rule.LatencyText refl kept.1.1.0 text there));
+          (λ text there. taken_within latency_value 1000000000000000 latency_within text (optional_text names number row word.Latency text_rule.LatencyText kept.1.1.0 text there));
     }
 
 abbrev IsPositiveFactor : ℕ → Type 0
@@ -189,14 +193,14 @@ unfolding network_row
 network_row_kept names number row kept =
     let bandwidth : IsPositiveFactor (value_at factor_value 1000000 (codes "bandwidth_factor") row)
     = text_holds IsPositiveFactor factor_value 1000000 (omega arith, omega arith) (text_at (codes "bandwidth_factor") row)
-    (λ text there. positive_factor text (optional_text names number row word.BandwidthFactor rule.PositiveFactorText refl kept.1.0 text there)) in
+    (λ text there. positive_factor text (optional_text names number row word.BandwidthFactor text_rule.PositiveFactorText kept.1.0 text there)) in
     record {
       latency_factor = text_holds (λ n. n ≤ 1000000000) factor_value 1000000 (omega arith) (text_at (codes "latency_factor") row)
-          (λ text there. taken_within factor_value 1000000000 factor_within text (optional_text names number row word.LatencyFactor rule.FactorText refl kept.0 text there));
+          (λ text there. taken_within factor_value 1000000000 factor_within text (optional_text names number row word.LatencyFactor text_rule.FactorText kept.0 text there));
       some_bandwidth = bandwidth.0;
       bandwidth_factor = bandwidth.1;
       window = text_holds (λ n. n ≤ 1000000000000000) amount_value 0 (omega arith) (text_at (codes "window") row)
-          (λ text there. taken_within amount_value 1000000000000000 amount_within text (optional_text names number row word.Window rule.AmountText refl kept.1.1.0 text there));
+          (λ text there. taken_within amount_value 1000000000000000 amount_within text (optional_text names number row word.Window text_rule.AmountText kept.1.1.0 text there));
     }
 
 pub network_kept : (rows : List Data) → All (λ row. IsNetwork (network_row row)) rows → IsNetwork (network_of rows)
@@ -206,8 +210,8 @@ network_kept (row ∷ rows) kept = kept 0 row (omega arith)
 pub route_kept : (names : Known) (counts : Counts) → IsCounted names counts → (number : ℕ) (row : Data) → KeysKept names number row (keys_of Route) → IsRouteRow counts (route_row names row)
 unfolding route_row
 route_kept names counts counted number row kept =
-    let src = required_text names number row word.Src rule.PointName refl kept.0 in
-    let dst = required_text names number row word.Dst rule.RouteEnd refl kept.1.0 in
+    let src = required_text names number row word.Src text_rule.PointName kept.0 in
+    let dst = required_text names number row word.Dst text_rule.RouteEnd kept.1.0 in
     record {
       src = rw src.1 (point_below names counts counted src.0 src.2);
       dst = rw dst.1 (point_below names counts counted dst.0 (route_end_point names number row dst.0 dst.2));
@@ -217,8 +221,8 @@ route_kept names counts counted number row kept =
 pub zone_route_kept : (names : Known) (counts : Counts) → IsCounted names counts → (number : ℕ) (row : Data) → KeysKept names number row (keys_of ZoneRoute) → IsZoneRouteRow counts (zone_route_row names row)
 unfolding zone_route_row
 zone_route_kept names counts counted number row kept =
-    let src = required_text names number row word.Src rule.EndName refl kept.0 in
-    let dst = required_text names number row word.Dst rule.ZoneRouteEnd refl kept.1.0 in
+    let src = required_text names number row word.Src text_rule.EndName kept.0 in
+    let dst = required_text names number row word.Dst text_rule.ZoneRouteEnd kept.1.0 in
     let end = zone_route_end_end names number row dst.0 dst.2 in
     record {
       src = rw src.1 (child_below names counts counted src.0 src.2);
@@ -229,14 +233,14 @@ zone_route_kept names counts counted number row kept =
     }
 
 down_at : (names : Known) (counts : Counts) → IsCounted names counts → (rows : List LinkRow) → counts.links ≡ length (link_ends rows) → (number : ℕ) (row : Data)
-    → IsLinkList counts (links_at names (codes "up") row) → (d : Option Data) → get (codes "down") row ≡ d → kinds_at names number row (key word.Down Optional rule.LinkList) d ≡ []
-    → IsLinkList counts (links_or_back names (link_ends rows) row (links_at names (codes "up") row) d)
+    → IsLinkList counts (links_at names (codes "up") row) → (d : Option Data) → get (codes "down") row ≡ d → kinds_at names number row (key word.Down Optional (rule.Texts texts_rule.LinkList)) d ≡ []
+    → IsLinkList counts (option_map_or (λ x. links_at names (codes "down") row) d (way_back (link_ends rows) (links_at names (codes "up") row)))
 down_at names counts counted rows same number row up None there empty = way_back_kept counts rows (links_at names (codes "up") row) same up
 down_at names counts counted rows same number row up (Some d) there empty = rw there (value_link_list names counts counted.links number row d empty)
 
 down_kept : (names : Known) (counts : Counts) → IsCounted names counts → (rows : List LinkRow) → counts.links ≡ length (link_ends rows) → (number : ℕ) (row : Data)
-    → IsLinkList counts (links_at names (codes "up") row) → key_kinds names number row (key word.Down Optional rule.LinkList) ≡ []
-    → IsLinkList counts (links_or_back names (link_ends rows) row (links_at names (codes "up") row) (get (codes "down") row))
+    → IsLinkList counts (links_at names (codes "up") row) → key_kinds names number row (key word.Down Optional (rule.Texts texts_rule.LinkList)) ≡ []
+    → IsLinkList counts (option_map_or (λ x. links_at names (codes "down") row) (get (codes "down") row) (way_back (link_ends rows) (links_at names (codes "up") row)))
 unfolding key_kinds
 down_kept names counts counted rows same number row up empty = down_at names counts counted rows same number row up (get (codes "down") row) refl empty
 
@@ -244,8 +248,8 @@ pub spoke_kept : (names : Known) (counts : Counts) → IsCounted names counts �
     → IsSpokeRow counts (spoke_row names (link_ends rows) row)
 unfolding spoke_row
 spoke_kept names counts counted rows same number row kept =
-    let zone = required_text names number row word.Zone rule.ZoneName refl kept.0 in
-    let child = required_text names number row word.Child rule.SpokeChild refl kept.1.0 in
+    let zone = required_text names number row word.Zone text_rule.ZoneName kept.0 in
+    let child = required_text names number row word.Child text_rule.SpokeChild kept.1.0 in
     let end = child_end names number child.0 child.2 in
     let up = required_links names counts counted.links number row word.Up kept.1.1.1.0 in
     record {
@@ -264,8 +268,8 @@ pub record IsActorOn (hosts : ℕ) (actor : ActorRow) : Type 0 where
 pub actor_kept : (names : Known) (number : ℕ) (row : Data) → KeysKept names number row (keys_of Actor) → IsActorOn names.hosts (actor_row names row)
 unfolding actor_row
 actor_kept names number row kept =
-    let name = required_text names number row word.Name rule.NewActor refl kept.0 in
-    let host = required_text names number row word.Host rule.HostName refl kept.1.0 in
+    let name = required_text names number row word.Name text_rule.NewActor kept.0 in
+    let host = required_text names number row word.Host text_rule.HostName kept.1.0 in
     let there = host_there names host.0 host.2 in
     record {
       row = rw name.1 (name_short names.actors number name.0 name.2);
@@ -275,10 +279,10 @@ actor_kept names number row kept =
 pub mutex_kept : (names : Known) (number : ℕ) (row : Data) → KeysKept names number row (keys_of Mutex) → length (mutex_row row).id ≤ 64
 unfolding mutex_row
 mutex_kept names number row kept =
-    let id = required_text names number row word.Id rule.NewMutex refl kept.0 in
+    let id = required_text names number row word.Id text_rule.NewMutex kept.0 in
     rw id.1 (name_short names.mutexes number id.0 id.2)
 
-capacity_within : (o : Option ℤ) → of_type (whole_kinds rule.CapacityCount) o ≡ [] → capacity_or_zero o ≤ 1000000000
+capacity_within : (o : Option ℤ) → of_type (whole_kinds whole_rule.CapacityCount) o ≡ [] → capacity_or_zero o ≤ 1000000000
 capacity_within None empty = cc
 capacity_within (Some (negsuc n)) empty = omega arith
 capacity_within (Some (pos n)) empty = within n (unbroken _ _ empty)
@@ -286,19 +290,19 @@ capacity_within (Some (pos n)) empty = within n (unbroken _ _ empty)
     within : (n : ℕ) → not (nat_le n 1000000000) ≡ false → n ≤ 1000000000
     within n fits = grind (arith, nat_tests)
 
-capacity_at : (names : Known) (number : ℕ) (row : Data) (d : Option Data) → kinds_at names number row (key word.Capacity Required rule.CapacityCount) d ≡ [] → capacity_or_zero (option_and_then as_integer d) ≤ 1000000000
+capacity_at : (names : Known) (number : ℕ) (row : Data) (d : Option Data) → kinds_at names number row (key word.Capacity Required (rule.Whole whole_rule.CapacityCount)) d ≡ [] → capacity_or_zero (option_and_then as_integer d) ≤ 1000000000
 unfolding value_kinds
 capacity_at names number row None empty = cc
 capacity_at names number row (Some d) empty = capacity_within (as_integer d) empty
 
-capacity_kept : (names : Known) (number : ℕ) (row : Data) → key_kinds names number row (key word.Capacity Required rule.CapacityCount) ≡ [] → capacity_or_zero (option_and_then as_integer (get (codes "capacity") row)) ≤ 1000000000
+capacity_kept : (names : Known) (number : ℕ) (row : Data) → key_kinds names number row (key word.Capacity Required (rule.Whole whole_rule.CapacityCount)) ≡ [] → capacity_or_zero (option_and_then as_integer (get (codes "capacity") row)) ≤ 1000000000
 unfolding key_kinds
 capacity_kept names number row empty = capacity_at names number row (get (codes "capacity") row) empty
 
 pub semaphore_kept : (names : Known) (number : ℕ) (row : Data) → KeysKept names number row (keys_of Semaphore) → IsSemaphoreRow (semaphore_row row)
 unfolding semaphore_row
 semaphore_kept names number row kept =
-    let id = required_text names number row word.Id rule.NewSemaphore refl kept.0 in
+    let id = required_text names number row word.Id text_rule.NewSemaphore kept.0 in
     record {
       id = rw id.1 (name_short names.semaphores number id.0 id.2);
       capacity = capacity_kept names number row kept.1.0;

@@ -9,11 +9,12 @@ use Rattle.sg_base.specs.declared.ids.LinkId.{LinkId}
 use Rattle.sg_platform.specs.Build.{link_id, link_of, links_at}
 use Rattle.sg_rows.specs.Platform.{Counts, IsLinkList}
 use Rattle.sg_rules.proofs.Kept.{unbroken}
-use Rattle.sg_rules.specs.Names.{Known}
+use Rattle.sg_names.specs.Names.{Known}
 use Rattle.sg_rules.specs.Rules.{is_text, is_unknown, key_kinds, kinds_at, link_list_kinds, list_kinds, value_kinds}
 use Rattle.sg_tables.specs.Tables.{key, word_text}
 use Rattle.sg_tables.specs.declared.tables.Need.TheVariants.{Required}
-use Rattle.sg_tables.specs.declared.tables.Rule.TheVariants.{LinkList}
+use Rattle.sg_tables.specs.declared.tables.Rule.TheVariants.{Texts}
+use Rattle.sg_tables.specs.declared.tables.TextsRule.TheVariants.{LinkList}
 use Rattle.sg_tables.specs.declared.tables.Word.{Word}
 use Rattle.sg_tree.proofs.Kept.{empty_left, empty_right}
 use Rattle.sg_tree.specs.Faults.{of_type}
@@ -86,18 +87,18 @@ typed_link_list : (names : Known) (counts : Counts) → LinksBelow names counts 
 typed_link_list names counts below row None empty = cc
 typed_link_list names counts below row (Some items) empty = items_link_list names counts below row (list_of items) empty
 
-pub value_link_list : (names : Known) (counts : Counts) → LinksBelow names counts → (number : ℕ) (row : Data) (d : Data) → value_kinds names number row LinkList d ≡ []
+pub value_link_list : (names : Known) (counts : Counts) → LinksBelow names counts → (number : ℕ) (row : Data) (d : Data) → value_kinds names number row (Texts LinkList) d ≡ []
     → IsLinkList counts (map (link_of names) (items_or_none (as_array d)))
 unfolding value_kinds
 value_link_list names counts below number row d empty = typed_link_list names counts below row (as_array d) empty
 
-required_at : (names : Known) (counts : Counts) → LinksBelow names counts → (number : ℕ) (row : Data) (word : Word) (d : Option Data) → kinds_at names number row (key word Required LinkList) d ≡ []
+required_at : (names : Known) (counts : Counts) → LinksBelow names counts → (number : ℕ) (row : Data) (word : Word) (d : Option Data) → kinds_at names number row (key word Required (Texts LinkList)) d ≡ []
     → IsLinkList counts (map (link_of names) (items_or_none (option_and_then as_array d)))
 required_at names counts below number row word None empty = cc
 required_at names counts below number row word (Some d) empty = value_link_list names counts below number row d empty
 
 -- a required list
-pub required_links : (names : Known) (counts : Counts) → LinksBelow names counts → (number : ℕ) (row : Data) (word : Word) → key_kinds names number row (key word Required LinkList) ≡ []
+pub required_links : (names : Known) (counts : Counts) → LinksBelow names counts → (number : ℕ) (row : Data) (word : Word) → key_kinds names number row (key word Required (Texts LinkList)) ≡ []
     → IsLinkList counts (links_at names (word_text word) row)
 unfolding key_kinds
 required_links names counts below number row word empty = required_at names counts below number row word (get (word_text word) row) empty

@@ -1,9 +1,9 @@
 -- The first fault of a platform is one of a platform's rules.
-use Rattle.std.proofs.Common.{◌≡◌, List, [], ◌∷◌, Option, Some, None, subst}
+use Rattle.std.proofs.Common.{◌≡◌, List, [], ◌∷◌, Some, subst}
 use Rattle.std.specs.List.{AllByRecursion}
 use Rattle.sg_rules.proofs.PlatformKinds.{platform_kinds}
 use Rattle.sg_rules.specs.Faults.{faults_of}
-use Rattle.sg_rules.specs.Names.{Known}
+use Rattle.sg_names.specs.Names.{Known}
 use Rattle.sg_rules.specs.PlatformKinds.{IsPlatformFault}
 use Rattle.sg_tables.specs.Tables.{platform_tables}
 use Rattle.sg_tree.specs.Along.{first}

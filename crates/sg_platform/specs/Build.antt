@@ -1,5 +1,6 @@
 -- The rows that a tree gives, where it has no fault. A value that is missing or unfit stands for its default here.
-use Rattle.std.specs.Prelude.{ℕ, ◌-◌, ◌&&◌, Bool, true, false, ℤ, pos, negsuc, nat_le, nat_lt, List, [], ◌∷◌, map, if◌then◌else◌, Option, Some, None, option_map, option_and_then, unwrap_or, codes}
+use Rattle.std.specs.Prelude.{ℕ, ◌-◌, ◌&&◌, Bool, true, false, ℤ, pos, nat_le, nat_lt, List, [], ◌∷◌, map, if◌then◌else◌, Option, Some, None, option_map, option_and_then, unwrap_or, codes}
+use Rattle.std.specs.Option.{option_map_or}
 use Rattle.std.specs.Str.{bytes_eq}
 use Rattle.sg_base.specs.declared.ids.Child.{Child}
 use Rattle.sg_base.specs.declared.ids.Child.TheVariants.{Point as PointChild, Zone as ZoneChild}
@@ -31,8 +32,8 @@ use Rattle.sg_rows.specs.declared.rows.StateProfileRow.{StateProfileRow}
 use Rattle.sg_rows.specs.declared.rows.ZoneRouteRow.{ZoneRouteRow}
 use Rattle.sg_rows.specs.declared.rows.ZoneRow.{ZoneRow}
 use Rattle.sg_rules.specs.Arguments.{text_of}
-use Rattle.sg_rules.specs.Pairs.{truth_or}
-use Rattle.sg_rules.specs.Names.{Known}
+use Rattle.sg_names.specs.Pairs.{truth_or}
+use Rattle.sg_names.specs.Names.{Known}
 use Rattle.sg_rules.specs.Power.{milliwatts, powers_in}
 use Rattle.sg_rules.specs.Profiles.{amount_in, items_at, quantity_of, state_in}
 use Rattle.sg_rules.specs.declared.power.Powers.{Powers}
@@ -56,16 +57,9 @@ point_id names name = record { 0 = number_of names.points name - names.zones }
 abbrev pub routing_of : List ℕ → Routing
 routing_of text = if bytes_eq text (codes "Star") then Star else if bytes_eq text (codes "Dijkstra") then Dijkstra else Full
 
-abbrev pub speed_of : List ℕ → ℕ
-speed_of text = unwrap_or (speed_value text) 0
-
 abbrev pub core_or_one : Option ℤ → ℕ
-core_or_one None = 1
 core_or_one (Some (pos n)) = if nat_le 1 n && nat_le n 1024 then n else 1
-core_or_one (Some (negsuc n)) = 1
-
-abbrev pub core_count : Data → ℕ
-core_count row = core_or_one (option_and_then as_integer (get (codes "core") row))
+core_or_one other = 1
 
 -- what a host draws while it is off
 abbrev pub power_off : Data → ℕ
@@ -90,26 +84,16 @@ child_of names name =
 abbrev pub gateway : Known → Data → List ℕ → List ℕ → PointId
 gateway names row key end = point_id names (unwrap_or (text_at key row) (text_or_empty end row))
 
-abbrev pub bandwidth_of : List ℕ → ℕ
-bandwidth_of text = unwrap_or (bandwidth_value text) 0
-
 -- the text at a key, by its reader, or this default
 abbrev pub value_at : (List ℕ → Option ℕ) → ℕ → List ℕ → Data → ℕ
 value_at reader default key row = unwrap_or (option_and_then reader (text_at key row)) default
-
-abbrev pub latency_of : Data → ℕ
-latency_of row = value_at latency_value 0 (codes "latency") row
 
 abbrev pub policy_of : List ℕ → Policy
 policy_of text = if bytes_eq text (codes "SPLITDUPLEX") then SplitDuplex else if bytes_eq text (codes "FATPIPE") then Fatpipe else Shared
 
 abbrev pub capacity_or_zero : Option ℤ → ℕ
-capacity_or_zero None = 0
 capacity_or_zero (Some (pos n)) = n
-capacity_or_zero (Some (negsuc n)) = 0
-
-abbrev pub capacity_of : Data → ℕ
-capacity_of row = capacity_or_zero (option_and_then as_integer (get (codes "capacity") row))
+capacity_or_zero other = 0
 
 abbrev pub link_of : Known → Data → LinkId
 link_of names item = link_id names (text_of item)
@@ -132,12 +116,8 @@ abbrev pub links_at : Known → List ℕ → Data → List LinkId
 links_at names key row = map (link_of names) (items_at key row)
 
 -- the links down to a child: by default the way back of those up
-abbrev pub links_or_back : Known → List LinkEnd → Data → List LinkId → Option Data → List LinkId
-links_or_back names ends row up None = way_back ends up
-links_or_back names ends row up (Some d) = links_at names (codes "down") row
-
 abbrev pub down_links : Known → List LinkEnd → Data → List LinkId → List LinkId
-down_links names ends row up = links_or_back names ends row up (get (codes "down") row)
+down_links names ends row up = option_map_or (λ d. links_at names (codes "down") row) (get (codes "down") row) (way_back ends up)
 
 unfoldable pub zone_row : Known → Data → ZoneRow
 zone_row names row = record {
@@ -150,8 +130,8 @@ unfoldable pub host_row : Known → Data → HostRow
 host_row names row = record {
   id = text_or_empty (codes "id") row;
   zone = zone_id names (text_or_empty (codes "zone") row);
-  speed = speed_of (text_or_empty (codes "speed") row);
-  cores = core_count row;
+  speed = unwrap_or (speed_value (text_or_empty (codes "speed") row)) 0;
+  cores = core_or_one (option_and_then as_integer (get (codes "core") row));
   power = power_of row;
 }
 
@@ -161,8 +141,8 @@ router_row names row = record { id = text_or_empty (codes "id") row; zone = zone
 unfoldable pub link_row : Data → LinkRow
 link_row row = record {
   id = text_or_empty (codes "id") row;
-  bandwidth = bandwidth_of (text_or_empty (codes "bandwidth") row);
-  latency = latency_of row;
+  bandwidth = unwrap_or (bandwidth_value (text_or_empty (codes "bandwidth") row)) 0;
+  latency = value_at latency_value 0 (codes "latency") row;
   policy = policy_of (text_or_empty (codes "sharing_policy") row);
 }
 
@@ -213,7 +193,7 @@ unfoldable pub mutex_row : Data → MutexRow
 mutex_row row = record { id = text_or_empty (codes "id") row }
 
 unfoldable pub semaphore_row : Data → SemaphoreRow
-semaphore_row row = record { id = text_or_empty (codes "id") row; capacity = capacity_of row }
+semaphore_row row = record { id = text_or_empty (codes "id") row; capacity = capacity_or_zero (option_and_then as_integer (get (codes "capacity") row)) }
 
 unfoldable pub actor_row : Known → Data → ActorRow
 actor_row names row = record {

@@ -7,10 +7,10 @@ use Rattle.sg_rows.specs.Index.{host_number}
 use Rattle.sg_rows.specs.Platform.{Platform}
 use Rattle.sg_platform.specs.PlatformOf.{rows_unless, text_by}
 use Rattle.sg_rules.specs.Faults.{faults_of}
-use Rattle.sg_rules.specs.Names.{Known, deployment_known}
+use Rattle.sg_names.specs.Names.{Known, deployment_known}
 use Rattle.sg_tables.specs.Tables.{deployment_tables}
 use Rattle.sg_tree.specs.Along.{first}
-use Rattle.sg_tree.specs.Tree.{tree_of, rows_at}
+use Rattle.sg_tree.specs.Tree.{rows_at}
 use Rattle.sg_tree.specs.declared.fault.Fault.{Fault}
 use Rattle.toml.specs.Data.{Members}
 

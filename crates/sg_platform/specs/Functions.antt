@@ -3,8 +3,9 @@ use Rattle.std.specs.Prelude.{ℕ, List, [], ◌∷◌, map, if◌then◌else◌
 use Rattle.sg_base.specs.declared.ids.ActorId.{ActorId}
 use Rattle.sg_rows.specs.declared.rows.Function.{Function}
 use Rattle.sg_rows.specs.declared.rows.Function.TheVariants.{Replay, Worker, Master}
-use Rattle.sg_rules.specs.Arguments.{has_function, text_of}
-use Rattle.sg_rules.specs.Names.{Known}
+use Rattle.sg_names.specs.Workers.{has_function}
+use Rattle.sg_rules.specs.Arguments.{text_of}
+use Rattle.sg_names.specs.Names.{Known}
 use Rattle.sg_rules.specs.Profiles.{items_at}
 use Rattle.sg_tables.specs.Units.{amount_value}
 use Rattle.toml.specs.Data.{Data}
@@ -22,10 +23,8 @@ worker_id names d = record { 0 = unwrap_or (names.workers (text_of d)) 1 }
 
 -- the count of tasks, the flops and the bytes of each, and the workers in their order
 abbrev pub master_of : Known → List Data → Function
-master_of names [] = Master 0 0 0 []
-master_of names (tasks ∷ []) = Master 0 0 0 []
-master_of names (tasks ∷ (flops ∷ [])) = Master 0 0 0 []
 master_of names (tasks ∷ (flops ∷ (bytes ∷ workers))) = Master (amount_of tasks) (amount_of flops) (amount_of bytes) (map (worker_id names) workers)
+master_of names arguments = Master 0 0 0 []
 
 unfoldable pub function_of : Known → Data → Function
 function_of names row =

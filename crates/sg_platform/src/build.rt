@@ -1,28 +1,26 @@
 //! Makes rows of a tree that has no fault.
 ghost use Rattle.std.specs.Prelude.{◌≡◌, ℕ, List, IfOk, codes, map, option_and_then, unwrap_or};
 ghost use Rattle.std.specs.HashMap.{get_by_text};
-ghost use Rattle.sg_platform.specs.Build.{actor_row, amounts_at, bandwidth_of, capacity_of, child_of, core_count, down_links, gateway, host_row, latency_of, link_id, link_of, link_row, links_at, mutex_row, network_of, network_row, number_of, point_id, policy_of, power_of, power_off, profile_row, route_row, router_row, routing_of, semaphore_row, speed_of, spoke_row, state_profile_row, states_at, subject_by, value_at, zone_id, zone_route_row, zone_row};
+ghost use Rattle.sg_platform.specs.Build.{actor_row, amounts_at, capacity_or_zero, child_of, core_or_one, down_links, gateway, host_row, link_id, link_of, link_row, links_at, mutex_row, network_of, network_row, number_of, point_id, policy_of, power_of, power_off, profile_row, route_row, router_row, routing_of, semaphore_row, spoke_row, state_profile_row, states_at, subject_by, value_at, zone_id, zone_route_row, zone_row};
 ghost use Rattle.sg_rows.specs.declared.ends.LinkEnd.{LinkEnd};
-ghost use Rattle.sg_rules.specs.Names.{Known};
+ghost use Rattle.sg_names.specs.Names.{Known};
 ghost use Rattle.sg_rules.specs.Profiles.{amount_in, state_in};
-ghost use Rattle.sg_tables.specs.Units.{amount_value, factor_value, time_value};
-ghost use Rattle.sg_rules.specs.kept.NamesView.{names_view};
+ghost use Rattle.sg_tables.specs.Units.{amount_value, factor_value, latency_value, time_value};
+ghost use Rattle.sg_names.specs.kept.NamesView.{names_view};
 ghost use Rattle.sg_tree.specs.Tree.{text_at};
-ghost use Rattle.toml.specs.Data.{Data};
+ghost use Rattle.toml.specs.Data.{Data, as_integer, get};
 ghost use Rattle.toml.specs.View.{view};
 
 use crate::functions::function_of;
 use indexmap::IndexMap;
 use sg_base::{Child, LinkId, Links, Memory, PointId, Text, ZoneId};
+use sg_names::{Names, is_symmetrical, truth_at};
 use sg_rows::{
     ActorRow, HostRow, LinkEnd, LinkRow, MutexRow, Network, Numbers, Policy, Power, ProfileRow,
     Profiled, RouteRow, RouterRow, Routing, SemaphoreRow, SpokeRow, StateProfileRow, States,
     ZoneRouteRow, ZoneRow, way_back,
 };
-use sg_rules::{
-    Names, amount_in, is_symmetrical, items_at, milliwatts, powers_in, quantity_of, state_in,
-    text_of, truth_at,
-};
+use sg_rules::{amount_in, items_at, milliwatts, powers_in, quantity_of, state_in, text_of};
 use sg_tables::{
     Quantity, amount_value, bandwidth_value, factor_value, latency_value, speed_value, time_value,
 };
@@ -62,14 +60,9 @@ fn routing_of(text: &str) -> Routing
     }
 }
 
-fn speed_of(text: &str) -> u64
-    ensures { result ≡ speed_of text.now }
-{
-    speed_value(text.as_bytes()).unwrap_or(0)
-}
-
 fn core_count(row: &Value) -> u32
-    ensures { result ≡ core_count (view row.now) }
+    ensures { result
+        ≡ core_or_one (option_and_then as_integer (get (codes "core") (view row.now))) }
 {
     match row.get("core") {
         Some(value) => match value.as_integer() {
@@ -142,14 +135,8 @@ fn gateway(names: &Names, row: &Value, key: &str, end: &str) -> PointId
     }
 }
 
-fn bandwidth_of(text: &str) -> u64
-    ensures { result ≡ bandwidth_of text.now }
-{
-    bandwidth_value(text.as_bytes()).unwrap_or(0)
-}
-
 fn latency_of(row: &Value) -> u64
-    ensures { result ≡ latency_of (view row.now) }
+    ensures { result ≡ value_at latency_value 0 (codes "latency") (view row.now) }
 {
     match text_at(row, "latency") {
         Some(text) => latency_value(text.as_bytes()).unwrap_or(0),
@@ -170,7 +157,8 @@ fn policy_of(text: &str) -> Policy
 }
 
 fn capacity_of(row: &Value) -> u64
-    ensures { result ≡ capacity_of (view row.now) }
+    ensures { result
+        ≡ capacity_or_zero (option_and_then as_integer (get (codes "capacity") (view row.now))) }
 {
     match row.get("capacity") {
         Some(value) => match value.as_integer() {
@@ -361,7 +349,7 @@ impl Row for HostRow {
     ) -> Result<HostRow, Memory> {
         let id = Text::new(alloc, text_or_empty(row, "id"))?;
         let zone = zone_id(names, text_or_empty(row, "zone"));
-        let speed = speed_of(text_or_empty(row, "speed"));
+        let speed = speed_value(text_or_empty(row, "speed").as_bytes()).unwrap_or(0);
         let cores = core_count(row);
         Ok(HostRow {
             id,
@@ -400,7 +388,7 @@ impl Row for LinkRow {
         row: &Value,
     ) -> Result<LinkRow, Memory> {
         let id = Text::new(alloc, text_or_empty(row, "id"))?;
-        let bandwidth = bandwidth_of(text_or_empty(row, "bandwidth"));
+        let bandwidth = bandwidth_value(text_or_empty(row, "bandwidth").as_bytes()).unwrap_or(0);
         let latency = latency_of(row);
         let policy = policy_of(text_or_empty(row, "sharing_policy"));
         Ok(LinkRow {

@@ -5,13 +5,14 @@ ghost use Rattle.sg_rows.specs.Deployment.{IsDeployedOn, IsDeployment};
 ghost use Rattle.sg_platform.specs.BrokenRules.{deployment_rule};
 ghost use Rattle.sg_platform.specs.DeploymentOf.{deployment_of, names_on, rows_of, tree_deployment};
 ghost use Rattle.sg_platform.specs.declared.deployment.DeploymentFault.TheVariants.{Memory};
-ghost use Rattle.sg_rules.specs.kept.NamesView.{names_view};
+ghost use Rattle.sg_names.specs.kept.NamesView.{names_view};
 ghost use Rattle.toml.specs.View.{table_view};
 
 use crate::build::read_rows;
 use crate::platform::GREATEST_TEXT;
+use sg_names::{Names, deployment_names};
 use sg_rows::{ActorRow, Deployment, MutexRow, PlatformText, SemaphoreRow, hosts_by_name};
-use sg_rules::{Names, deployment_names, first_fault};
+use sg_rules::first_fault;
 use sg_tables::DEPLOYMENT;
 use sg_tree::{Fault, Kind, NoTree, Place, read_tree, rows_at};
 use std::alloc::Global;

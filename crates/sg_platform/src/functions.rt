@@ -1,12 +1,13 @@
 //! What the actors of a tree do, where it has no fault.
 ghost use Rattle.std.specs.Prelude.{◌≡◌, IfOk, map};
 ghost use Rattle.sg_platform.specs.Functions.{amount_of, function_of, master_of, worker_id};
-ghost use Rattle.sg_rules.specs.kept.NamesView.{names_view};
+ghost use Rattle.sg_names.specs.kept.NamesView.{names_view};
 ghost use Rattle.toml.specs.View.{view};
 
 use sg_base::{ActorId, Ids, Memory};
+use sg_names::{Names, has_function};
 use sg_rows::Function;
-use sg_rules::{Names, has_function, items_at, text_of};
+use sg_rules::{items_at, text_of};
 use sg_tables::amount_value;
 use std::alloc::Global;
 use toml::Value;

@@ -5,14 +5,15 @@ use Rattle.std.proofs.lemmas.Bool.Decides.{nat_tests}
 use Rattle.std.specs.List.{All, AllByRecursion, list_all}
 use Rattle.sg_rules.proofs.TableLemmas.{few_rows}
 use Rattle.sg_rules.specs.Faults.{key_faults, row_faults, row_faults_at, rows_before, table_faults, table_kinds}
-use Rattle.sg_rules.specs.Names.{Known}
+use Rattle.sg_names.specs.Names.{Known}
 use Rattle.sg_rules.specs.Profiles.{items_at}
 use Rattle.sg_rules.specs.Rules.{child_kinds, end_kinds, host_kinds, id_kinds, is_between, is_from, is_positive, is_text, key_kinds, kinds_at, refused_kinds, link_id_kinds, list_kinds, point_kinds, positive_kinds, route_end_kinds, text_kinds, texts_kinds, value_kinds, zone_kinds, zone_route_end_kinds}
-use Rattle.sg_tables.specs.Tables.{key, keys_of, row_limit, shape_of, table_number, table_text, word_text}
+use Rattle.sg_tables.specs.Tables.{key, keys_of, row_limit, table_number, table_text, word_text}
 use Rattle.sg_tables.specs.declared.tables.Key.{Key}
 use Rattle.sg_tables.specs.declared.tables.Need.TheVariants.{Required, Optional}
-use Rattle.sg_tables.specs.declared.tables.Rule.{Rule}
-use Rattle.sg_tables.specs.declared.tables.Shape.TheVariants.{Text, Texts}
+use Rattle.sg_tables.specs.declared.tables.Rule.TheVariants.{Text, Texts}
+use Rattle.sg_tables.specs.declared.tables.TextRule.{TextRule}
+use Rattle.sg_tables.specs.declared.tables.TextsRule.{TextsRule}
 use Rattle.sg_tables.specs.declared.tables.Table.{Table}
 use Rattle.sg_tables.specs.declared.tables.Word.{Word}
 use Rattle.sg_tree.proofs.Kept.{all_kept, empty_at, empty_left, empty_right}
@@ -61,38 +62,38 @@ rows_kept names tree table P kept empty =
     0 (rows_at (table_text table) tree) (empty_right _ _ empty)
 
 -- a text at a key that keeps its rule
-abbrev pub HasText : Known → ℕ → Data → Rule → Option (List ℕ) → Type 0
+abbrev pub HasText : Known → ℕ → Data → TextRule → Option (List ℕ) → Type 0
 HasText names number row rule found = (text : List ℕ) × (found ≡ Some text) × (text_kinds names number row rule text ≡ [])
 
-typed_text : (names : Known) (number : ℕ) (row : Data) (rule : Rule) (found : Option (List ℕ)) → of_type (text_kinds names number row rule) found ≡ [] → HasText names number row rule found
+typed_text : (names : Known) (number : ℕ) (row : Data) (rule : TextRule) (found : Option (List ℕ)) → of_type (text_kinds names number row rule) found ≡ [] → HasText names number row rule found
 typed_text names number row rule None empty = cc
 typed_text names number row rule (Some text) empty = (text, refl, empty)
 
-pub required_at : (names : Known) (number : ℕ) (row : Data) (word : Word) (rule : Rule) → shape_of rule ≡ Text → (d : Option Data) → kinds_at names number row (key word Required rule) d ≡ []
+pub required_at : (names : Known) (number : ℕ) (row : Data) (word : Word) (rule : TextRule) → (d : Option Data) → kinds_at names number row (key word Required (Text rule)) d ≡ []
     → HasText names number row rule (option_and_then as_str d)
 unfolding value_kinds
-required_at names number row word rule shape None empty = cc
-required_at names number row word rule shape (Some d) empty = typed_text names number row rule (as_str d) (rw shape at empty)
+required_at names number row word rule None empty = cc
+required_at names number row word rule (Some d) empty = typed_text names number row rule (as_str d) empty
 
 -- a required text is there, and keeps its rule
-pub required_text : (names : Known) (number : ℕ) (row : Data) (word : Word) (rule : Rule) → shape_of rule ≡ Text → key_kinds names number row (key word Required rule) ≡ []
+pub required_text : (names : Known) (number : ℕ) (row : Data) (word : Word) (rule : TextRule) → key_kinds names number row (key word Required (Text rule)) ≡ []
     → HasText names number row rule (text_at (word_text word) row)
 unfolding key_kinds
-required_text names number row word rule shape empty = required_at names number row word rule shape (get (word_text word) row) empty
+required_text names number row word rule empty = required_at names number row word rule (get (word_text word) row) empty
 
-optional_at : (names : Known) (number : ℕ) (row : Data) (word : Word) (rule : Rule) → shape_of rule ≡ Text → (d : Option Data) → kinds_at names number row (key word Optional rule) d ≡ []
+optional_at : (names : Known) (number : ℕ) (row : Data) (word : Word) (rule : TextRule) → (d : Option Data) → kinds_at names number row (key word Optional (Text rule)) d ≡ []
     → (text : List ℕ) → option_and_then as_str d ≡ Some text → text_kinds names number row rule text ≡ []
 unfolding value_kinds
-optional_at names number row word rule shape None empty text there = cc
-optional_at names number row word rule shape (Some d) empty text there = rw there at (rw shape at empty)
+optional_at names number row word rule None empty text there = cc
+optional_at names number row word rule (Some d) empty text there = rw there at empty
 
 -- an optional text, where it is there, keeps its rule
-pub optional_text : (names : Known) (number : ℕ) (row : Data) (word : Word) (rule : Rule) → shape_of rule ≡ Text → key_kinds names number row (key word Optional rule) ≡ []
+pub optional_text : (names : Known) (number : ℕ) (row : Data) (word : Word) (rule : TextRule) → key_kinds names number row (key word Optional (Text rule)) ≡ []
     → (text : List ℕ) → text_at (word_text word) row ≡ Some text → text_kinds names number row rule text ≡ []
 unfolding key_kinds
-optional_text names number row word rule shape empty text there = optional_at names number row word rule shape (get (word_text word) row) empty text there
+optional_text names number row word rule empty text there = optional_at names number row word rule (get (word_text word) row) empty text there
 
-typed_texts : (names : Known) (row : Data) (rule : Rule) (items : List Data) → list_kinds names row rule items ≡ [] → texts_kinds names row rule items ≡ []
+typed_texts : (names : Known) (row : Data) (rule : TextsRule) (items : List Data) → list_kinds names row rule items ≡ [] → texts_kinds names row rule items ≡ []
 unfolding list_kinds
 typed_texts names row rule items empty =
     elim (cases_Bool (list_all is_text items)) [
@@ -100,21 +101,21 @@ typed_texts names row rule items empty =
       | inr other ↦ let wrong = rw other at empty in cc
     ]
 
-typed_items : (names : Known) (row : Data) (rule : Rule) (found : Option Items) → of_type (λ items. list_kinds names row rule (list_of items)) found ≡ [] → texts_kinds names row rule (items_or_none found) ≡ []
+typed_items : (names : Known) (row : Data) (rule : TextsRule) (found : Option Items) → of_type (λ items. list_kinds names row rule (list_of items)) found ≡ [] → texts_kinds names row rule (items_or_none found) ≡ []
 typed_items names row rule None empty = cc
 typed_items names row rule (Some items) empty = typed_texts names row rule (list_of items) empty
 
-items_there : (names : Known) (number : ℕ) (row : Data) (word : Word) (rule : Rule) → shape_of rule ≡ Texts → (d : Option Data) → kinds_at names number row (key word Required rule) d ≡ []
+items_there : (names : Known) (number : ℕ) (row : Data) (word : Word) (rule : TextsRule) → (d : Option Data) → kinds_at names number row (key word Required (Texts rule)) d ≡ []
     → texts_kinds names row rule (items_or_none (option_and_then as_array d)) ≡ []
 unfolding value_kinds
-items_there names number row word rule shape None empty = cc
-items_there names number row word rule shape (Some d) empty = typed_items names row rule (as_array d) (rw shape at empty)
+items_there names number row word rule None empty = cc
+items_there names number row word rule (Some d) empty = typed_items names row rule (as_array d) empty
 
 -- the items of a required array keep its rule
-pub required_items : (names : Known) (number : ℕ) (row : Data) (word : Word) (rule : Rule) → shape_of rule ≡ Texts → key_kinds names number row (key word Required rule) ≡ []
+pub required_items : (names : Known) (number : ℕ) (row : Data) (word : Word) (rule : TextsRule) → key_kinds names number row (key word Required (Texts rule)) ≡ []
     → texts_kinds names row rule (items_at (word_text word) row) ≡ []
 unfolding key_kinds
-required_items names number row word rule shape empty = items_there names number row word rule shape (get (word_text word) row) empty
+required_items names number row word rule empty = items_there names number row word rule (get (word_text word) row) empty
 
 -- a new name has at most 64 bytes
 pub name_short : (numbers : Finds) (number : ℕ) (name : List ℕ) → id_kinds numbers number name ≡ [] → length name ≤ 64

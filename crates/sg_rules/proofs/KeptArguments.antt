@@ -11,12 +11,14 @@ use Rattle.std.specs.Map.{lookup}
 use Rattle.std.specs.Str.{bytes_eq}
 use Rattle.sg_rules.proofs.Kept.{unbroken}
 use Rattle.sg_rules.proofs.Repeats.{distinct}
-use Rattle.sg_rules.specs.Arguments.{are_workers, argument_kinds, has_function, is_task_count, has_repeat, are_for_master, text_of, worker_names, worker_numbers}
-use Rattle.sg_rules.specs.Names.{Known, deployment_known}
+use Rattle.sg_names.specs.Workers.{has_function, worker_names, worker_numbers}
+use Rattle.sg_rules.specs.Arguments.{are_workers, argument_kinds, is_task_count, has_repeat, are_for_master, text_of}
+use Rattle.sg_names.specs.Names.{Known, deployment_known}
 use Rattle.sg_rules.specs.Rules.{is_text, key_kinds, kinds_at, list_kinds, value_kinds}
 use Rattle.sg_tables.specs.Tables.{key}
 use Rattle.sg_tables.specs.declared.tables.Need.TheVariants.{Optional}
-use Rattle.sg_tables.specs.declared.tables.Rule.TheVariants.{ArgumentList}
+use Rattle.sg_tables.specs.declared.tables.Rule.TheVariants.{Texts}
+use Rattle.sg_tables.specs.declared.tables.TextsRule.TheVariants.{ArgumentList}
 use Rattle.sg_tables.specs.declared.tables.Word.TheVariants.{Argument}
 use Rattle.sg_tree.proofs.NameLemmas.{lookup_append}
 use Rattle.sg_tree.specs.Along.{along}
@@ -34,14 +36,14 @@ typed_arguments names row (Some items) empty =
       | inr other ↦ let wrong = rw other at empty in cc
     ]
 
-arguments_at : (names : Known) (number : ℕ) (row : Data) (d : Option Data) → kinds_at names number row (key Argument Optional ArgumentList) d ≡ []
+arguments_at : (names : Known) (number : ℕ) (row : Data) (d : Option Data) → kinds_at names number row (key Argument Optional (Texts ArgumentList)) d ≡ []
     → argument_kinds names.workers row (items_or_none (option_and_then as_array d)) ≡ []
 unfolding value_kinds
 arguments_at names number row None empty = empty
 arguments_at names number row (Some d) empty = typed_arguments names row (as_array d) empty
 
 -- the arguments of a row fit, also where they are left out
-pub arguments_fit : (names : Known) (number : ℕ) (row : Data) → key_kinds names number row (key Argument Optional ArgumentList) ≡ []
+pub arguments_fit : (names : Known) (number : ℕ) (row : Data) → key_kinds names number row (key Argument Optional (Texts ArgumentList)) ≡ []
     → argument_kinds names.workers row (items_or_none (option_and_then as_array (get (codes "argument") row))) ≡ []
 unfolding key_kinds
 arguments_fit names number row empty = arguments_at names number row (get (codes "argument") row) empty

@@ -1,9 +1,7 @@
 pub mod DateLemmas
 pub mod Kept
 pub mod KeptArguments
-pub mod NameLemmas
 pub mod Repeats
-pub mod NumbersBelow
 pub mod TableLemmas
 pub mod Rising
 pub mod PlatformKinds

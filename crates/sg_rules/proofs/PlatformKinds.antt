@@ -3,17 +3,21 @@ use Rattle.std.proofs.Common.{ℕ, ◌+◌, ◌≤◌, Bool, true, false, cond, 
 use Rattle.std.specs.List.{list_all}
 use Rattle.sg_rules.proofs.Rising.{Each, each_append}
 use Rattle.sg_rules.specs.Faults.{faults_of, key_faults, row_faults, row_faults_at, row_kinds, rows_before, table_faults, table_kinds, top_kinds}
-use Rattle.sg_rules.specs.Names.{Known}
+use Rattle.sg_names.specs.Names.{Known}
 use Rattle.sg_rules.specs.PlatformKinds.{IsPlatformFault, PlatformKinds}
 use Rattle.sg_rules.specs.Power.{powers_kinds}
 use Rattle.sg_rules.specs.Profiles.{dates_kinds, each_date_kinds}
-use Rattle.sg_rules.specs.Rules.{child_kinds, default_kinds, end_kinds, host_kinds, id_kinds, is_text, is_whole, key_kinds, kinds_at, refused_kinds, link_id_kinds, link_list_kinds, list_kinds, point_kinds, positive_kinds, profiled_host_kinds, profiled_link_kinds, route_end_kinds, shape_kinds, text_kinds, texts_kinds, value_kinds, whole_kinds, whole_list_kinds, wholes_kinds, word_kinds, zone_kinds, zone_route_end_kinds}
+use Rattle.sg_rules.specs.Rules.{child_kinds, default_kinds, end_kinds, host_kinds, id_kinds, is_text, is_whole, key_kinds, kinds_at, refused_kinds, link_id_kinds, link_list_kinds, list_kinds, point_kinds, positive_kinds, profiled_host_kinds, profiled_link_kinds, route_end_kinds, text_kinds, texts_kinds, value_kinds, whole_kinds, whole_list_kinds, word_kinds, zone_kinds, zone_route_end_kinds}
 use Rattle.sg_tables.specs.Tables.{keys_of, platform_tables, table_number, table_text}
 use Rattle.sg_tables.specs.declared.tables.Key.{Key}
 use Rattle.sg_tables.specs.declared.tables.Rule.{Rule}
 use Rattle.sg_tables.specs.declared.tables.Rule.TheVariants as rule
-use Rattle.sg_tables.specs.declared.tables.Shape.{Shape}
-use Rattle.sg_tables.specs.declared.tables.Shape.TheVariants as shape
+use Rattle.sg_tables.specs.declared.tables.TextRule.{TextRule}
+use Rattle.sg_tables.specs.declared.tables.TextRule.TheVariants as text
+use Rattle.sg_tables.specs.declared.tables.TextsRule.{TextsRule}
+use Rattle.sg_tables.specs.declared.tables.TextsRule.TheVariants as texts
+use Rattle.sg_tables.specs.declared.tables.WholeRule.{WholeRule}
+use Rattle.sg_tables.specs.declared.tables.WholeRule.TheVariants as whole
 use Rattle.sg_tables.specs.declared.tables.Table.{Table}
 use Rattle.sg_tree.specs.Along.{along}
 use Rattle.sg_tree.specs.Faults.{at_place, kind_if, kind_number, of_type}
@@ -45,100 +49,83 @@ typed kinds (Some x) h = h x
 
 -- the rules of a platform's keys
 abbrev IsPlatformRule : Rule → Type 0
-IsPlatformRule rule.FunctionWord = ⊥
-IsPlatformRule rule.ArgumentList = ⊥
+IsPlatformRule (rule.Text text.FunctionWord) = ⊥
+IsPlatformRule (rule.Texts texts.ArgumentList) = ⊥
 IsPlatformRule _ = Unit {0}
 
-text_small : (names : Known) (number : ℕ) (row : Data) (r : Rule) (text : List ℕ) → IsPlatformRule r → AreSmall (text_kinds names number row r text)
+text_small : (names : Known) (number : ℕ) (row : Data) (r : TextRule) (t : List ℕ) → IsPlatformRule (rule.Text r) → AreSmall (text_kinds names number row r t)
 unfolding child_kinds end_kinds host_kinds id_kinds refused_kinds link_id_kinds point_kinds positive_kinds profiled_host_kinds profiled_link_kinds route_end_kinds word_kinds zone_kinds zone_route_end_kinds
-text_small names number row rule.NewPoint text h = two _ _ BadName Duplicate (omega arith) (omega arith)
-text_small names number row rule.NewLink text h = two _ _ BadName Duplicate (omega arith) (omega arith)
-text_small names number row rule.NewActor text h = two _ _ BadName Duplicate (omega arith) (omega arith)
-text_small names number row rule.NewMutex text h = two _ _ BadName Duplicate (omega arith) (omega arith)
-text_small names number row rule.NewSemaphore text h = two _ _ BadName Duplicate (omega arith) (omega arith)
-text_small names number row rule.ZoneName text h = one _ Unknown (omega arith)
-text_small names number row rule.PointName text h = one _ Unknown (omega arith)
-text_small names number row rule.EndName text h = one _ Unknown (omega arith)
-text_small names number row rule.HostName text h = one _ Unknown (omega arith)
-text_small names number row rule.RouteEnd text h = two _ _ Duplicate Unknown (omega arith) (omega arith)
-text_small names number row rule.ZoneRouteEnd text h = two _ _ Duplicate Unknown (omega arith) (omega arith)
-text_small names number row rule.SpokeChild text h = two _ _ Duplicate Unknown (omega arith) (omega arith)
-text_small names number row rule.RoutingWord text h = one _ BadValue (omega arith)
-text_small names number row rule.PolicyWord text h = one _ BadValue (omega arith)
-text_small names number row rule.FunctionWord text h = absurd h
-text_small names number row rule.SpeedText text h = one _ BadValue (omega arith)
-text_small names number row rule.BandwidthText text h = one _ BadValue (omega arith)
-text_small names number row rule.LatencyText text h = one _ BadValue (omega arith)
-text_small names number row rule.FactorText text h = one _ BadValue (omega arith)
-text_small names number row rule.PositiveFactorText text h = one _ BadValue (omega arith)
-text_small names number row rule.AmountText text h = one _ BadValue (omega arith)
-text_small names number row rule.PositiveTimeText text h = one _ BadValue (omega arith)
-text_small names number row rule.CoreCount text h = tt
-text_small names number row rule.CapacityCount text h = tt
-text_small names number row rule.Milliwatts text h = tt
-text_small names number row rule.TruthValue text h = tt
-text_small names number row rule.ProfiledHost text h = two _ _ Duplicate Unknown (omega arith) (omega arith)
-text_small names number row rule.ProfiledLink text h = three _ _ _ BadValue Duplicate Unknown (omega arith) (omega arith) (omega arith)
-text_small names number row rule.SwitchedHost text h = two _ _ Duplicate Unknown (omega arith) (omega arith)
-text_small names number row rule.SwitchedLink text h = three _ _ _ BadValue Duplicate Unknown (omega arith) (omega arith) (omega arith)
-text_small names number row rule.LinkList text h = tt
-text_small names number row rule.DateList text h = tt
-text_small names number row rule.ValueList text h = tt
-text_small names number row rule.StateList text h = tt
-text_small names number row rule.ArgumentList text h = tt
-text_small names number row rule.PowerList text h = tt
+text_small names number row text.NewPoint t h = two _ _ BadName Duplicate (omega arith) (omega arith)
+text_small names number row text.NewLink t h = two _ _ BadName Duplicate (omega arith) (omega arith)
+text_small names number row text.NewActor t h = two _ _ BadName Duplicate (omega arith) (omega arith)
+text_small names number row text.NewMutex t h = two _ _ BadName Duplicate (omega arith) (omega arith)
+text_small names number row text.NewSemaphore t h = two _ _ BadName Duplicate (omega arith) (omega arith)
+text_small names number row text.ZoneName t h = one _ Unknown (omega arith)
+text_small names number row text.PointName t h = one _ Unknown (omega arith)
+text_small names number row text.EndName t h = one _ Unknown (omega arith)
+text_small names number row text.HostName t h = one _ Unknown (omega arith)
+text_small names number row text.RouteEnd t h = two _ _ Duplicate Unknown (omega arith) (omega arith)
+text_small names number row text.ZoneRouteEnd t h = two _ _ Duplicate Unknown (omega arith) (omega arith)
+text_small names number row text.SpokeChild t h = two _ _ Duplicate Unknown (omega arith) (omega arith)
+text_small names number row text.RoutingWord t h = one _ BadValue (omega arith)
+text_small names number row text.PolicyWord t h = one _ BadValue (omega arith)
+text_small names number row text.FunctionWord t h = absurd h
+text_small names number row text.SpeedText t h = one _ BadValue (omega arith)
+text_small names number row text.BandwidthText t h = one _ BadValue (omega arith)
+text_small names number row text.LatencyText t h = one _ BadValue (omega arith)
+text_small names number row text.FactorText t h = one _ BadValue (omega arith)
+text_small names number row text.PositiveFactorText t h = one _ BadValue (omega arith)
+text_small names number row text.AmountText t h = one _ BadValue (omega arith)
+text_small names number row text.PositiveTimeText t h = one _ BadValue (omega arith)
+text_small names number row text.ProfiledHost t h = two _ _ Duplicate Unknown (omega arith) (omega arith)
+text_small names number row text.ProfiledLink t h = three _ _ _ BadValue Duplicate Unknown (omega arith) (omega arith) (omega arith)
+text_small names number row text.SwitchedHost t h = two _ _ Duplicate Unknown (omega arith) (omega arith)
+text_small names number row text.SwitchedLink t h = three _ _ _ BadValue Duplicate Unknown (omega arith) (omega arith) (omega arith)
 
-whole_small : (r : Rule) (z : ℤ) → AreSmall (whole_kinds r z)
-whole_small rule.CoreCount z = one _ BadValue (omega arith)
-whole_small rule.CapacityCount z = one _ BadValue (omega arith)
-whole_small rule.Milliwatts z = one _ BadValue (omega arith)
-whole_small _ z = tt
+whole_small : (r : WholeRule) (z : ℤ) → AreSmall (whole_kinds r z)
+whole_small whole.CoreCount z = one _ BadValue (omega arith)
+whole_small whole.CapacityCount z = one _ BadValue (omega arith)
+whole_small whole.Milliwatts z = one _ BadValue (omega arith)
 
-texts_small : (names : Known) (row : Data) (r : Rule) (items : List Data) → IsPlatformRule r → AreSmall (texts_kinds names row r items)
+texts_small : (names : Known) (row : Data) (r : TextsRule) (items : List Data) → IsPlatformRule (rule.Texts r) → AreSmall (texts_kinds names row r items)
 unfolding dates_kinds each_date_kinds link_list_kinds
-texts_small names row rule.LinkList items h = three _ _ _ BadValue Unknown Limit (omega arith) (omega arith) (omega arith)
-texts_small names row rule.DateList items h = two _ _ BadValue Limit (omega arith) (omega arith)
-texts_small names row rule.ValueList items h = two _ _ BadValue Limit (omega arith) (omega arith)
-texts_small names row rule.StateList items h = two _ _ BadValue Limit (omega arith) (omega arith)
-texts_small names row rule.ArgumentList items h = absurd h
-texts_small names row _ items h = tt
+texts_small names row texts.LinkList items h = three _ _ _ BadValue Unknown Limit (omega arith) (omega arith) (omega arith)
+texts_small names row texts.DateList items h = two _ _ BadValue Limit (omega arith) (omega arith)
+texts_small names row texts.ValueList items h = two _ _ BadValue Limit (omega arith) (omega arith)
+texts_small names row texts.StateList items h = two _ _ BadValue Limit (omega arith) (omega arith)
+texts_small names row texts.ArgumentList items h = absurd h
 
 typed_or : (b : Bool) (kinds : List Kind) → AreSmall kinds → AreSmall (cond b kinds (WrongType ∷ []))
 typed_or true kinds h = h
 typed_or false kinds h = (omega arith, tt)
 
-list_small : (names : Known) (row : Data) (r : Rule) (items : List Data) → IsPlatformRule r → AreSmall (list_kinds names row r items)
+list_small : (names : Known) (row : Data) (r : TextsRule) (items : List Data) → IsPlatformRule (rule.Texts r) → AreSmall (list_kinds names row r items)
 unfolding list_kinds
 list_small names row r items h = typed_or (list_all is_text items) _ (texts_small names row r items h)
 
-wholes_small : (r : Rule) (items : List Data) → AreSmall (wholes_kinds r items)
-unfolding powers_kinds
-wholes_small rule.PowerList items = one _ BadValue (omega arith)
-wholes_small _ items = tt
+whole_list_small : (items : List Data) → AreSmall (whole_list_kinds items)
+unfolding whole_list_kinds powers_kinds
+whole_list_small items = typed_or (list_all is_whole items) _ (one _ BadValue (omega arith))
 
-whole_list_small : (r : Rule) (items : List Data) → AreSmall (whole_list_kinds r items)
-unfolding whole_list_kinds
-whole_list_small r items = typed_or (list_all is_whole items) _ (wholes_small r items)
-
-shape_small : (s : Shape) (names : Known) (number : ℕ) (row : Data) (r : Rule) (d : Data) → IsPlatformRule r → AreSmall (shape_kinds s names number row r d)
-shape_small shape.Text names number row r d h = typed _ (as_str d) (λ text. text_small names number row r text h)
-shape_small shape.Whole names number row r d h = typed _ (as_integer d) (whole_small r)
-shape_small shape.Truth names number row r d h = typed _ (as_bool d) (λ b. tt)
-shape_small shape.Texts names number row r d h = typed _ (as_array d) (λ items. list_small names row r _ h)
-shape_small shape.Wholes names number row r d h = typed _ (as_array d) (λ items. whole_list_small r _)
+value_small : (names : Known) (number : ℕ) (row : Data) (r : Rule) (d : Data) → IsPlatformRule r → AreSmall (value_kinds names number row r d)
+unfolding value_kinds
+value_small names number row (rule.Text r) d h = typed _ (as_str d) (λ t. text_small names number row r t h)
+value_small names number row (rule.Whole r) d h = typed _ (as_integer d) (whole_small r)
+value_small names number row rule.Truth d h = typed _ (as_bool d) (λ b. tt)
+value_small names number row (rule.Texts r) d h = typed _ (as_array d) (λ items. list_small names row r _ h)
+value_small names number row rule.Powers d h = typed _ (as_array d) (λ items. whole_list_small _)
 
 default_small : (names : Known) (row : Data) (r : Rule) → IsPlatformRule r → AreSmall (default_kinds names row r)
-default_small names row rule.ArgumentList h = absurd h
+default_small names row (rule.Texts texts.ArgumentList) h = absurd h
 default_small names row _ h = tt
 
 key_small : (names : Known) (number : ℕ) (row : Data) (k : Key) (o : Option Data) → IsPlatformRule k.rule → AreSmall (kinds_at names number row k o)
-unfolding value_kinds
 key_small names number row k None h = missing_or _ (default_kinds names row k.rule) (default_small names row k.rule h)
   where
     missing_or : (b : Bool) (kinds : List Kind) → AreSmall kinds → AreSmall (cond b (MissingKey ∷ []) kinds)
     missing_or true kinds h = (omega arith, tt)
     missing_or false kinds h = h
-key_small names number row k (Some d) h = shape_small _ names number row k.rule d h
+key_small names number row k (Some d) h = value_small names number row k.rule d h
 
 place_small : (t r k : ℕ) (kinds : List Kind) → AreSmall kinds → Each IsPlatformFault (at_place t r k kinds)
 place_small t r k [] h = tt

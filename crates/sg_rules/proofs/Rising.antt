@@ -3,17 +3,21 @@ use Rattle.std.proofs.Common.{◌≡◌, ℕ, ◌+◌, ◌<◌, ◌≤◌, Bool,
 use Rattle.std.specs.List.{AllByRecursion, list_all}
 use Rattle.sg_rules.specs.Arguments.{argument_kinds}
 use Rattle.sg_rules.specs.Faults.{faults_of, key_faults, row_faults, row_faults_at, row_kinds, rows_before, table_faults, table_kinds, top_kinds}
-use Rattle.sg_rules.specs.Names.{Known}
+use Rattle.sg_names.specs.Names.{Known}
 use Rattle.sg_rules.specs.Rising.{FaultsRise, IsBefore, IsRising}
 use Rattle.sg_rules.specs.Power.{powers_kinds}
 use Rattle.sg_rules.specs.Profiles.{dates_kinds, each_date_kinds}
-use Rattle.sg_rules.specs.Rules.{child_kinds, default_kinds, end_kinds, host_kinds, id_kinds, is_text, is_whole, key_kinds, kinds_at, refused_kinds, link_id_kinds, link_list_kinds, list_kinds, point_kinds, positive_kinds, profiled_host_kinds, profiled_link_kinds, route_end_kinds, shape_kinds, text_kinds, texts_kinds, value_kinds, whole_kinds, whole_list_kinds, wholes_kinds, word_kinds, zone_kinds, zone_route_end_kinds}
-use Rattle.sg_tables.specs.Tables.{deployment_tables, keys_of, platform_tables, shape_of, table_number, table_text}
+use Rattle.sg_rules.specs.Rules.{child_kinds, default_kinds, end_kinds, host_kinds, id_kinds, is_text, is_whole, key_kinds, kinds_at, refused_kinds, link_id_kinds, link_list_kinds, list_kinds, point_kinds, positive_kinds, profiled_host_kinds, profiled_link_kinds, route_end_kinds, text_kinds, texts_kinds, value_kinds, whole_kinds, whole_list_kinds, word_kinds, zone_kinds, zone_route_end_kinds}
+use Rattle.sg_tables.specs.Tables.{deployment_tables, keys_of, platform_tables, table_number, table_text}
 use Rattle.sg_tables.specs.declared.tables.Key.{Key}
 use Rattle.sg_tables.specs.declared.tables.Rule.{Rule}
 use Rattle.sg_tables.specs.declared.tables.Rule.TheVariants as rule
-use Rattle.sg_tables.specs.declared.tables.Shape.{Shape}
-use Rattle.sg_tables.specs.declared.tables.Shape.TheVariants as shape
+use Rattle.sg_tables.specs.declared.tables.TextRule.{TextRule}
+use Rattle.sg_tables.specs.declared.tables.TextRule.TheVariants as text
+use Rattle.sg_tables.specs.declared.tables.TextsRule.{TextsRule}
+use Rattle.sg_tables.specs.declared.tables.TextsRule.TheVariants as texts
+use Rattle.sg_tables.specs.declared.tables.WholeRule.{WholeRule}
+use Rattle.sg_tables.specs.declared.tables.WholeRule.TheVariants as whole
 use Rattle.sg_tables.specs.declared.tables.Table.{Table}
 use Rattle.sg_tree.specs.Along.{along}
 use Rattle.sg_tree.specs.Faults.{at_place, kind_if, kind_number, of_type}
@@ -67,97 +71,80 @@ typed : {A : Type 0} (kinds : A → List Kind) (o : Option A) → ((x : A) → K
 typed kinds None h = (tt, tt)
 typed kinds (Some x) h = h x
 
-text_rise : (names : Known) (number : ℕ) (row : Data) (r : Rule) (text : List ℕ) → KindsRise (text_kinds names number row r text)
+text_rise : (names : Known) (number : ℕ) (row : Data) (r : TextRule) (t : List ℕ) → KindsRise (text_kinds names number row r t)
 unfolding child_kinds end_kinds host_kinds id_kinds refused_kinds link_id_kinds point_kinds positive_kinds profiled_host_kinds profiled_link_kinds route_end_kinds word_kinds zone_kinds zone_route_end_kinds
-text_rise names number row rule.NewPoint text = two _ _ BadName Duplicate (omega arith)
-text_rise names number row rule.NewLink text = two _ _ BadName Duplicate (omega arith)
-text_rise names number row rule.NewActor text = two _ _ BadName Duplicate (omega arith)
-text_rise names number row rule.NewMutex text = two _ _ BadName Duplicate (omega arith)
-text_rise names number row rule.NewSemaphore text = two _ _ BadName Duplicate (omega arith)
-text_rise names number row rule.ZoneName text = one _ Unknown
-text_rise names number row rule.PointName text = one _ Unknown
-text_rise names number row rule.EndName text = one _ Unknown
-text_rise names number row rule.HostName text = one _ Unknown
-text_rise names number row rule.RouteEnd text = two _ _ Duplicate Unknown (omega arith)
-text_rise names number row rule.ZoneRouteEnd text = two _ _ Duplicate Unknown (omega arith)
-text_rise names number row rule.SpokeChild text = two _ _ Duplicate Unknown (omega arith)
-text_rise names number row rule.RoutingWord text = one _ BadValue
-text_rise names number row rule.PolicyWord text = one _ BadValue
-text_rise names number row rule.FunctionWord text = one _ Function
-text_rise names number row rule.SpeedText text = one _ BadValue
-text_rise names number row rule.BandwidthText text = one _ BadValue
-text_rise names number row rule.LatencyText text = one _ BadValue
-text_rise names number row rule.FactorText text = one _ BadValue
-text_rise names number row rule.PositiveFactorText text = one _ BadValue
-text_rise names number row rule.AmountText text = one _ BadValue
-text_rise names number row rule.PositiveTimeText text = one _ BadValue
-text_rise names number row rule.CoreCount text = tt
-text_rise names number row rule.CapacityCount text = tt
-text_rise names number row rule.Milliwatts text = tt
-text_rise names number row rule.TruthValue text = tt
-text_rise names number row rule.ProfiledHost text = two _ _ Duplicate Unknown (omega arith)
-text_rise names number row rule.ProfiledLink text = three _ _ _ BadValue Duplicate Unknown (omega arith) (omega arith)
-text_rise names number row rule.SwitchedHost text = two _ _ Duplicate Unknown (omega arith)
-text_rise names number row rule.SwitchedLink text = three _ _ _ BadValue Duplicate Unknown (omega arith) (omega arith)
-text_rise names number row rule.LinkList text = tt
-text_rise names number row rule.DateList text = tt
-text_rise names number row rule.ValueList text = tt
-text_rise names number row rule.StateList text = tt
-text_rise names number row rule.ArgumentList text = tt
-text_rise names number row rule.PowerList text = tt
+text_rise names number row text.NewPoint t = two _ _ BadName Duplicate (omega arith)
+text_rise names number row text.NewLink t = two _ _ BadName Duplicate (omega arith)
+text_rise names number row text.NewActor t = two _ _ BadName Duplicate (omega arith)
+text_rise names number row text.NewMutex t = two _ _ BadName Duplicate (omega arith)
+text_rise names number row text.NewSemaphore t = two _ _ BadName Duplicate (omega arith)
+text_rise names number row text.ZoneName t = one _ Unknown
+text_rise names number row text.PointName t = one _ Unknown
+text_rise names number row text.EndName t = one _ Unknown
+text_rise names number row text.HostName t = one _ Unknown
+text_rise names number row text.RouteEnd t = two _ _ Duplicate Unknown (omega arith)
+text_rise names number row text.ZoneRouteEnd t = two _ _ Duplicate Unknown (omega arith)
+text_rise names number row text.SpokeChild t = two _ _ Duplicate Unknown (omega arith)
+text_rise names number row text.RoutingWord t = one _ BadValue
+text_rise names number row text.PolicyWord t = one _ BadValue
+text_rise names number row text.FunctionWord t = one _ Function
+text_rise names number row text.SpeedText t = one _ BadValue
+text_rise names number row text.BandwidthText t = one _ BadValue
+text_rise names number row text.LatencyText t = one _ BadValue
+text_rise names number row text.FactorText t = one _ BadValue
+text_rise names number row text.PositiveFactorText t = one _ BadValue
+text_rise names number row text.AmountText t = one _ BadValue
+text_rise names number row text.PositiveTimeText t = one _ BadValue
+text_rise names number row text.ProfiledHost t = two _ _ Duplicate Unknown (omega arith)
+text_rise names number row text.ProfiledLink t = three _ _ _ BadValue Duplicate Unknown (omega arith) (omega arith)
+text_rise names number row text.SwitchedHost t = two _ _ Duplicate Unknown (omega arith)
+text_rise names number row text.SwitchedLink t = three _ _ _ BadValue Duplicate Unknown (omega arith) (omega arith)
 
-whole_rise : (r : Rule) (z : ℤ) → KindsRise (whole_kinds r z)
-whole_rise rule.CoreCount z = one _ BadValue
-whole_rise rule.CapacityCount z = one _ BadValue
-whole_rise rule.Milliwatts z = one _ BadValue
-whole_rise _ z = tt
+whole_rise : (r : WholeRule) (z : ℤ) → KindsRise (whole_kinds r z)
+whole_rise whole.CoreCount z = one _ BadValue
+whole_rise whole.CapacityCount z = one _ BadValue
+whole_rise whole.Milliwatts z = one _ BadValue
 
-texts_rise : (names : Known) (row : Data) (r : Rule) (items : List Data) → KindsRise (texts_kinds names row r items)
+texts_rise : (names : Known) (row : Data) (r : TextsRule) (items : List Data) → KindsRise (texts_kinds names row r items)
 unfolding argument_kinds dates_kinds each_date_kinds link_list_kinds
-texts_rise names row rule.LinkList items = three _ _ _ BadValue Unknown Limit (omega arith) (omega arith)
-texts_rise names row rule.DateList items = two _ _ BadValue Limit (omega arith)
-texts_rise names row rule.ValueList items = two _ _ BadValue Limit (omega arith)
-texts_rise names row rule.StateList items = two _ _ BadValue Limit (omega arith)
-texts_rise names row rule.ArgumentList items = one _ Arguments
-texts_rise names row _ items = tt
+texts_rise names row texts.LinkList items = three _ _ _ BadValue Unknown Limit (omega arith) (omega arith)
+texts_rise names row texts.DateList items = two _ _ BadValue Limit (omega arith)
+texts_rise names row texts.ValueList items = two _ _ BadValue Limit (omega arith)
+texts_rise names row texts.StateList items = two _ _ BadValue Limit (omega arith)
+texts_rise names row texts.ArgumentList items = one _ Arguments
 
 typed_or : (b : Bool) (kinds : List Kind) → KindsRise kinds → KindsRise (cond b kinds (WrongType ∷ []))
 typed_or true kinds h = h
 typed_or false kinds h = (tt, tt)
 
-list_rise : (names : Known) (row : Data) (r : Rule) (items : List Data) → KindsRise (list_kinds names row r items)
+list_rise : (names : Known) (row : Data) (r : TextsRule) (items : List Data) → KindsRise (list_kinds names row r items)
 unfolding list_kinds
 list_rise names row r items = typed_or (list_all is_text items) _ (texts_rise names row r items)
 
-wholes_rise : (r : Rule) (items : List Data) → KindsRise (wholes_kinds r items)
-unfolding powers_kinds
-wholes_rise rule.PowerList items = one _ BadValue
-wholes_rise _ items = tt
+whole_list_rise : (items : List Data) → KindsRise (whole_list_kinds items)
+unfolding whole_list_kinds powers_kinds
+whole_list_rise items = typed_or (list_all is_whole items) _ (one _ BadValue)
 
-whole_list_rise : (r : Rule) (items : List Data) → KindsRise (whole_list_kinds r items)
-unfolding whole_list_kinds
-whole_list_rise r items = typed_or (list_all is_whole items) _ (wholes_rise r items)
-
-shape_rise : (s : Shape) (names : Known) (number : ℕ) (row : Data) (r : Rule) (d : Data) → KindsRise (shape_kinds s names number row r d)
-shape_rise shape.Text names number row r d = typed _ (as_str d) (text_rise names number row r)
-shape_rise shape.Whole names number row r d = typed _ (as_integer d) (whole_rise r)
-shape_rise shape.Truth names number row r d = typed _ (as_bool d) (λ b. tt)
-shape_rise shape.Texts names number row r d = typed _ (as_array d) (λ items. list_rise names row r _)
-shape_rise shape.Wholes names number row r d = typed _ (as_array d) (λ items. whole_list_rise r _)
+value_rise : (names : Known) (number : ℕ) (row : Data) (r : Rule) (d : Data) → KindsRise (value_kinds names number row r d)
+unfolding value_kinds
+value_rise names number row (rule.Text r) d = typed _ (as_str d) (text_rise names number row r)
+value_rise names number row (rule.Whole r) d = typed _ (as_integer d) (whole_rise r)
+value_rise names number row rule.Truth d = typed _ (as_bool d) (λ b. tt)
+value_rise names number row (rule.Texts r) d = typed _ (as_array d) (λ items. list_rise names row r _)
+value_rise names number row rule.Powers d = typed _ (as_array d) (λ items. whole_list_rise _)
 
 default_rise : (names : Known) (row : Data) (r : Rule) → KindsRise (default_kinds names row r)
 unfolding argument_kinds
-default_rise names row rule.ArgumentList = one _ Arguments
+default_rise names row (rule.Texts texts.ArgumentList) = one _ Arguments
 default_rise names row _ = tt
 
 key_rise : (names : Known) (number : ℕ) (row : Data) (k : Key) (o : Option Data) → KindsRise (kinds_at names number row k o)
-unfolding value_kinds
 key_rise names number row k None = missing_or _ (default_kinds names row k.rule) (default_rise names row k.rule)
   where
     missing_or : (b : Bool) (kinds : List Kind) → KindsRise kinds → KindsRise (cond b (MissingKey ∷ []) kinds)
     missing_or true kinds h = (tt, tt)
     missing_or false kinds h = h
-key_rise names number row k (Some d) = shape_rise (shape_of k.rule) names number row k.rule d
+key_rise names number row k (Some d) = value_rise names number row k.rule d
 
 -- the faults at one place
 abbrev IsAt : ℕ → ℕ → ℕ → Fault → Type 0

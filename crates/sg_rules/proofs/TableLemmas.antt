@@ -5,7 +5,7 @@ use Rattle.toml.specs.Data.{Members, get_member, Data, Items, as_array}
 use Rattle.toml.specs.View.{view}
 use Rattle.toml.specs.declared.value.Value.{Value}
 use Rattle.sg_tree.specs.Tree.{rows_at, items_or_none, list_of}
-use Rattle.sg_rules.specs.Names.{Known}
+use Rattle.sg_names.specs.Names.{Known}
 use Rattle.sg_tree.specs.Along.{first, along}
 use Rattle.sg_rules.specs.Faults.{row_faults_at, table_kinds, table_faults, rows_before}
 use Rattle.sg_tables.specs.Tables.{table_text, table_number, keys_of, row_limit}

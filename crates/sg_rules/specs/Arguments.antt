@@ -1,27 +1,15 @@
--- What actors do, and the arguments that go with it.
-use Rattle.std.specs.Prelude.{is_some, ℕ, ◌+◌, ◌==◌, Bool, false, not, ◌&&◌, ◌||◌, nat_le, List, [], ◌∷◌, if◌then◌else◌, Option, Some, None, length, map, codes, unwrap_or}
+-- The arguments that go with what an actor does.
+use Rattle.std.specs.Prelude.{is_some, ℕ, ◌==◌, Bool, false, not, ◌&&◌, ◌||◌, nat_le, List, [], ◌∷◌, Option, length, map, codes, unwrap_or}
 use Rattle.std.specs.List.{list_all, list_any}
+use Rattle.std.specs.Option.{option_map_or}
 use Rattle.std.specs.Str.{bytes_eq}
+use Rattle.sg_names.specs.Workers.{has_function}
 use Rattle.sg_tables.specs.Units.{amount_value}
-use Rattle.sg_tree.specs.Along.{along}
 use Rattle.sg_tree.specs.Faults.{kind_if}
-use Rattle.sg_tree.specs.Names.{Finds, with_number, texts_at}
-use Rattle.sg_tree.specs.Tree.{text_or_empty}
+use Rattle.sg_tree.specs.Names.{Finds}
 use Rattle.sg_tree.specs.declared.fault.Kind.{Kind}
 use Rattle.sg_tree.specs.declared.fault.Kind.TheVariants.{Arguments}
 use Rattle.toml.specs.Data.{Data, as_str}
-
--- the row is that of an actor of this function
-abbrev pub has_function : List ℕ → Data → Bool
-has_function word row = bytes_eq (text_or_empty (codes "function") row) word
-
--- the name of a worker
-abbrev pub worker_names : Data → List (List ℕ)
-worker_names row = if has_function (codes "worker") row then texts_at (codes "name") row else []
-
--- the names of workers, under the identifiers of the actors, which are numbered from 1 on
-abbrev pub worker_numbers : List Data → List (List ℕ × ℕ)
-worker_numbers rows = along (λ i row. with_number (i + 1) (worker_names row)) 0 rows
 
 -- the text of an item
 abbrev pub text_of : Data → List ℕ
@@ -34,8 +22,7 @@ has_repeat (text ∷ texts) = list_any (bytes_eq text) texts || has_repeat texts
 
 -- how many tasks a master may hand out
 abbrev pub is_task_count : Option ℕ → Bool
-is_task_count None = false
-is_task_count (Some n) = nat_le n 1000000000
+is_task_count count = option_map_or (λ n. nat_le n 1000000000) count false
 
 -- the names of workers: some, and none twice
 unfoldable pub are_workers : Finds → List (List ℕ) → Bool
@@ -43,11 +30,9 @@ are_workers workers names = (not (length names == 0) && list_all (λ name. is_so
 
 -- what a master is given: the count of its tasks, the flops and the bytes of each, and its workers
 abbrev pub are_for_master : Finds → List (List ℕ) → Bool
-are_for_master workers [] = false
-are_for_master workers (tasks ∷ []) = false
-are_for_master workers (tasks ∷ (flops ∷ [])) = false
 are_for_master workers (tasks ∷ (flops ∷ (bytes ∷ names))) =
     ((is_task_count (amount_value tasks) && is_some (amount_value flops)) && is_some (amount_value bytes)) && are_workers workers names
+are_for_master workers items = false
 
 -- an actor of another function is given nothing
 abbrev pub takes_none : Data → Bool

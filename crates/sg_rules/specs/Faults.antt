@@ -1,6 +1,6 @@
 -- The list of all faults of a tree, in rising places, and at one place in rising kinds.
 use Rattle.std.specs.Prelude.{ℕ, ◌+◌, not, nat_lt, List, [], ◌++◌, Option, Some, None, length, map}
-use Rattle.sg_rules.specs.Names.{Known}
+use Rattle.sg_names.specs.Names.{Known}
 use Rattle.sg_rules.specs.Rules.{key_kinds, key_text}
 use Rattle.sg_tables.specs.Tables.{keys_of, row_limit, table_number, table_text}
 use Rattle.sg_tables.specs.declared.tables.Key.{Key}

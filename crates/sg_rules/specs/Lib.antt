@@ -1,11 +1,7 @@
 pub mod Arguments
 pub mod Profiles
 pub mod Power
-pub mod LinkNames
-pub mod Pairs
-pub mod Names
 pub mod Rules
 pub mod Faults
 pub mod Rising
 pub mod PlatformKinds
-pub mod kept

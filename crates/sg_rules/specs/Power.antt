@@ -18,17 +18,12 @@ milliwatts_in item = option_and_then milliwatts (as_integer item)
 abbrev pub powers_of : Option ℕ → Option ℕ → Option ℕ → Option Powers
 powers_of (Some idle) (Some epsilon) (Some all) =
     if nat_le epsilon all then Some (record { idle = idle; epsilon = epsilon; all = all }) else None
-powers_of (Some idle) (Some epsilon) None = None
-powers_of (Some idle) None all = None
-powers_of None epsilon all = None
+powers_of idle epsilon all = None
 
 -- idle, with nearly none of the capacity, and with all of it
 abbrev pub powers_in : List Data → Option Powers
-powers_in [] = None
-powers_in (idle ∷ []) = None
-powers_in (idle ∷ (epsilon ∷ [])) = None
 powers_in (idle ∷ (epsilon ∷ (all ∷ []))) = powers_of (milliwatts_in idle) (milliwatts_in epsilon) (milliwatts_in all)
-powers_in (idle ∷ (epsilon ∷ (all ∷ (more ∷ rest)))) = None
+powers_in items = None
 
 unfoldable pub powers_kinds : List Data → List Kind
 powers_kinds items = kind_if (is_none (powers_in items)) BadValue

@@ -2,32 +2,16 @@
 -- then on.
 use Rattle.std.specs.Prelude.{ℕ, ◌==◌, Bool, true, false, not, ◌&&◌, nat_lt, List, [], ◌∷◌, ◌++◌, if◌then◌else◌, Option, Some, None, is_some, length, map, option_and_then, codes}
 use Rattle.std.specs.List.{list_all}
-use Rattle.std.specs.Map.{lookup}
 use Rattle.std.specs.Str.{bytes_eq}
 use Rattle.sg_rules.specs.Arguments.{text_of}
 use Rattle.sg_tables.specs.Units.{quantity_value}
 use Rattle.sg_tables.specs.declared.units.Quantity.{Quantity}
 use Rattle.sg_tables.specs.declared.units.Quantity.TheVariants.{Time, Speed, Bandwidth}
 use Rattle.sg_tree.specs.Faults.{kind_if}
-use Rattle.sg_tree.specs.Names.{Finds, names_from}
 use Rattle.sg_tree.specs.Tree.{items_or_none}
 use Rattle.sg_tree.specs.declared.fault.Kind.{Kind}
 use Rattle.sg_tree.specs.declared.fault.Kind.TheVariants.{BadValue, Limit}
 use Rattle.toml.specs.Data.{Data, get, as_array}
-
--- the hosts and links that a table has profiles of, under the rows in which each stands first
-pub record Subjects : Type 0 where
-  pub hosts : Finds
-  pub links : Finds
-
-abbrev pub subjects_of : List Data → Subjects
-subjects_of rows = record {
-  hosts = λ q. lookup (bytes_eq q) (names_from (codes "host") 0 rows);
-  links = λ q. lookup (bytes_eq q) (names_from (codes "link") 0 rows);
-}
-
-abbrev pub no_subjects : Subjects
-no_subjects = record { hosts = λ q. None; links = λ q. None }
 
 -- the row names a host
 abbrev pub is_of_host : Data → Bool
@@ -55,9 +39,8 @@ abbrev pub state_in : Data → Option Bool
 state_in item = state_of (text_of item)
 
 abbrev pub is_later : Option ℕ → Option ℕ → Bool
-is_later None next = false
-is_later (Some date) None = false
 is_later (Some date) (Some next) = nat_lt date next
+is_later date next = false
 
 -- one date or more, and each is later than the one before
 abbrev pub are_rising : List (Option ℕ) → Bool

@@ -1,22 +1,28 @@
 -- The rules that the values of keys keep, each asked by itself of the whole tree.
 use Rattle.std.specs.Prelude.{is_none, is_some, ℕ, ◌+◌, ◌==◌, ℤ, pos, negsuc, Bool, true, false, not, ◌&&◌, ◌||◌, nat_lt, nat_le, List, [], ◌∷◌, ◌++◌, if◌then◌else◌, Option, Some, None, length, codes}
 use Rattle.std.specs.List.{list_all, list_any}
+use Rattle.std.specs.Option.{option_map_or}
 use Rattle.std.specs.Str.{bytes_eq}
 use Rattle.sg_rules.specs.Arguments.{argument_kinds}
-use Rattle.sg_rules.specs.LinkNames.{is_split}
-use Rattle.sg_rules.specs.Names.{Known}
-use Rattle.sg_rules.specs.Pairs.{pairs_of}
+use Rattle.sg_names.specs.LinkNames.{is_split}
+use Rattle.sg_names.specs.Names.{Known}
+use Rattle.sg_names.specs.Pairs.{pairs_of}
 use Rattle.sg_rules.specs.Power.{milliwatts, powers_kinds}
-use Rattle.sg_rules.specs.Profiles.{Subjects, dates_kinds, is_of_host, states_kinds, values_kinds}
-use Rattle.sg_tables.specs.Tables.{shape_of, word_text}
+use Rattle.sg_names.specs.Subjects.{Subjects}
+use Rattle.sg_rules.specs.Profiles.{dates_kinds, is_of_host, states_kinds, values_kinds}
+use Rattle.sg_tables.specs.Tables.{word_text}
 use Rattle.sg_tables.specs.Units.{amount_value, bandwidth_value, factor_value, latency_value, speed_value, time_value}
 use Rattle.sg_tables.specs.declared.tables.Key.{Key}
 use Rattle.sg_tables.specs.declared.tables.Need.{Need}
 use Rattle.sg_tables.specs.declared.tables.Need.TheVariants.{Required, Optional, IfZone, Unless}
 use Rattle.sg_tables.specs.declared.tables.Rule.{Rule}
-use Rattle.sg_tables.specs.declared.tables.Rule.TheVariants.{NewPoint, NewLink, NewActor, NewMutex, NewSemaphore, ZoneName, PointName, EndName, HostName, RouteEnd, ZoneRouteEnd, SpokeChild, RoutingWord, PolicyWord, FunctionWord, SpeedText, BandwidthText, LatencyText, FactorText, PositiveFactorText, AmountText, PositiveTimeText, CoreCount, CapacityCount, Milliwatts, TruthValue, ProfiledHost, ProfiledLink, SwitchedHost, SwitchedLink, LinkList, DateList, ValueList, StateList, ArgumentList, PowerList}
-use Rattle.sg_tables.specs.declared.tables.Shape.{Shape}
-use Rattle.sg_tables.specs.declared.tables.Shape.TheVariants.{Text, Whole, Truth, Texts, Wholes}
+use Rattle.sg_tables.specs.declared.tables.Rule.TheVariants.{Text, Whole, Truth, Texts, Powers}
+use Rattle.sg_tables.specs.declared.tables.TextRule.{TextRule}
+use Rattle.sg_tables.specs.declared.tables.TextRule.TheVariants.{NewPoint, NewLink, NewActor, NewMutex, NewSemaphore, ZoneName, PointName, EndName, HostName, RouteEnd, ZoneRouteEnd, SpokeChild, RoutingWord, PolicyWord, FunctionWord, SpeedText, BandwidthText, LatencyText, FactorText, PositiveFactorText, AmountText, PositiveTimeText, ProfiledHost, ProfiledLink, SwitchedHost, SwitchedLink}
+use Rattle.sg_tables.specs.declared.tables.TextsRule.{TextsRule}
+use Rattle.sg_tables.specs.declared.tables.TextsRule.TheVariants.{LinkList, DateList, ValueList, StateList, ArgumentList}
+use Rattle.sg_tables.specs.declared.tables.WholeRule.{WholeRule}
+use Rattle.sg_tables.specs.declared.tables.WholeRule.TheVariants.{CoreCount, CapacityCount, Milliwatts}
 use Rattle.sg_tree.specs.Faults.{kind_if, of_type}
 use Rattle.sg_tree.specs.Names.{Finds, Pair}
 use Rattle.sg_tree.specs.Spelling.{is_name, taken_by}
@@ -27,12 +33,10 @@ use Rattle.toml.specs.Data.{Data, get, as_str, as_integer, as_bool, as_array}
 
 -- the number under which a name stands first is below this one
 abbrev pub is_taken : Option ℕ → ℕ → Bool
-is_taken None number = false
-is_taken (Some first) number = nat_lt first number
+is_taken found number = option_map_or (λ first. nat_lt first number) found false
 
 abbrev pub is_between : ℕ → ℕ → Option ℕ → Bool
-is_between least end None = false
-is_between least end (Some first) = nat_le least first && nat_lt first end
+is_between least end found = option_map_or (λ first. nat_le least first && nat_lt first end) found false
 
 -- a new name, of the row of this number in its space
 unfoldable pub id_kinds : Finds → ℕ → List ℕ → List Kind
@@ -50,8 +54,7 @@ zone_kinds names name = kind_if (not (is_between 0 names.zones (names.points nam
 
 -- the name of a point: its number is not that of a zone
 abbrev pub is_from : ℕ → Option ℕ → Bool
-is_from least None = false
-is_from least (Some first) = nat_le least first
+is_from least found = option_map_or (nat_le least) found false
 
 unfoldable pub point_kinds : Known → List ℕ → List Kind
 point_kinds names name = kind_if (not (is_from names.zones (names.points name))) Unknown
@@ -103,8 +106,7 @@ functions = codes "replay" ∷ codes "master" ∷ codes "worker" ∷ []
 
 -- a speed, a bandwidth, a factor of bandwidths, or a time: above zero, where its reader takes the text
 abbrev pub is_positive : Option ℕ → Bool
-is_positive None = false
-is_positive (Some n) = nat_lt 0 n
+is_positive value = option_map_or (nat_lt 0) value false
 
 unfoldable pub positive_kinds : Option ℕ → List Kind
 positive_kinds value = kind_if (not (is_positive value)) BadValue
@@ -114,7 +116,7 @@ unfoldable pub refused_kinds : Option ℕ → List Kind
 refused_kinds value = kind_if (is_none value) BadValue
 
 -- what is wrong with a text
-abbrev pub text_kinds : Known → ℕ → Data → Rule → List ℕ → List Kind
+abbrev pub text_kinds : Known → ℕ → Data → TextRule → List ℕ → List Kind
 text_kinds names number row NewPoint text = id_kinds names.points number text
 text_kinds names number row NewLink text = link_id_kinds names.taken number (is_split row) text
 text_kinds names number row NewActor text = id_kinds names.actors number text
@@ -137,20 +139,10 @@ text_kinds names number row FactorText text = refused_kinds (factor_value text)
 text_kinds names number row PositiveFactorText text = positive_kinds (factor_value text)
 text_kinds names number row AmountText text = refused_kinds (amount_value text)
 text_kinds names number row PositiveTimeText text = positive_kinds (time_value text)
-text_kinds names number row CoreCount text = []
-text_kinds names number row CapacityCount text = []
-text_kinds names number row Milliwatts text = []
-text_kinds names number row TruthValue text = []
 text_kinds names number row ProfiledHost text = profiled_host_kinds names names.profiles number text
 text_kinds names number row ProfiledLink text = profiled_link_kinds names names.profiles number row text
 text_kinds names number row SwitchedHost text = profiled_host_kinds names names.state_profiles number text
 text_kinds names number row SwitchedLink text = profiled_link_kinds names names.state_profiles number row text
-text_kinds names number row LinkList text = []
-text_kinds names number row DateList text = []
-text_kinds names number row ValueList text = []
-text_kinds names number row StateList text = []
-text_kinds names number row ArgumentList text = []
-text_kinds names number row PowerList text = []
 
 abbrev pub is_core_count : ℤ → Bool
 is_core_count (pos n) = nat_le 1 n && nat_le n 1024
@@ -161,19 +153,17 @@ is_capacity (pos n) = nat_le n 1000000000
 is_capacity (negsuc n) = false
 
 -- what is wrong with a whole number
-abbrev pub whole_kinds : Rule → ℤ → List Kind
+abbrev pub whole_kinds : WholeRule → ℤ → List Kind
 whole_kinds CoreCount z = kind_if (not (is_core_count z)) BadValue
 whole_kinds CapacityCount z = kind_if (not (is_capacity z)) BadValue
 whole_kinds Milliwatts z = kind_if (is_none (milliwatts z)) BadValue
-whole_kinds _ z = []
 
 abbrev pub is_text : Data → Bool
 is_text d = is_some (as_str d)
 
 -- the names of 1 to 64 links
 abbrev pub is_unknown : Finds → Option (List ℕ) → Bool
-is_unknown numbers None = false
-is_unknown numbers (Some name) = is_none (numbers name)
+is_unknown numbers text = option_map_or (λ name. is_none (numbers name)) text false
 
 unfoldable pub link_list_kinds : Finds → List Data → List Kind
 link_list_kinds links items =
@@ -182,43 +172,34 @@ link_list_kinds links items =
     ++ kind_if (nat_lt 64 (length items)) Limit
 
 -- what is wrong with a list of texts
-abbrev pub texts_kinds : Known → Data → Rule → List Data → List Kind
+abbrev pub texts_kinds : Known → Data → TextsRule → List Data → List Kind
 texts_kinds names row LinkList items = link_list_kinds names.links items
 texts_kinds names row DateList items = dates_kinds items
 texts_kinds names row ValueList items = values_kinds row items
 texts_kinds names row StateList items = states_kinds row items
 texts_kinds names row ArgumentList items = argument_kinds names.workers row items
-texts_kinds names row _ items = []
 
-unfoldable pub list_kinds : Known → Data → Rule → List Data → List Kind
+unfoldable pub list_kinds : Known → Data → TextsRule → List Data → List Kind
 list_kinds names row rule items = if list_all is_text items then texts_kinds names row rule items else WrongType ∷ []
 
 abbrev pub is_whole : Data → Bool
 is_whole d = is_some (as_integer d)
 
 -- what is wrong with a list of whole numbers
-abbrev pub wholes_kinds : Rule → List Data → List Kind
-wholes_kinds PowerList items = powers_kinds items
-wholes_kinds _ items = []
-
-unfoldable pub whole_list_kinds : Rule → List Data → List Kind
-whole_list_kinds rule items = if list_all is_whole items then wholes_kinds rule items else WrongType ∷ []
+unfoldable pub whole_list_kinds : List Data → List Kind
+whole_list_kinds items = if list_all is_whole items then powers_kinds items else WrongType ∷ []
 
 -- what is wrong with a value, which must have the type of its rule
-abbrev pub shape_kinds : Shape → Known → ℕ → Data → Rule → Data → List Kind
-shape_kinds Text names number row rule d = of_type (text_kinds names number row rule) (as_str d)
-shape_kinds Whole names number row rule d = of_type (whole_kinds rule) (as_integer d)
-shape_kinds Truth names number row rule d = of_type (λ truth. []) (as_bool d)
-shape_kinds Texts names number row rule d = of_type (λ items. list_kinds names row rule (list_of items)) (as_array d)
-shape_kinds Wholes names number row rule d = of_type (λ items. whole_list_kinds rule (list_of items)) (as_array d)
-
 unfoldable pub value_kinds : Known → ℕ → Data → Rule → Data → List Kind
-value_kinds names number row rule d = shape_kinds (shape_of rule) names number row rule d
+value_kinds names number row (Text rule) d = of_type (text_kinds names number row rule) (as_str d)
+value_kinds names number row (Whole rule) d = of_type (whole_kinds rule) (as_integer d)
+value_kinds names number row Truth d = of_type (λ truth. []) (as_bool d)
+value_kinds names number row (Texts rule) d = of_type (λ items. list_kinds names row rule (list_of items)) (as_array d)
+value_kinds names number row Powers d = of_type (λ items. whole_list_kinds (list_of items)) (as_array d)
 
 -- the text is there, and names a zone
 abbrev pub names_zone : Known → Option (List ℕ) → Bool
-names_zone names None = false
-names_zone names (Some name) = is_between 0 names.zones (names.points name)
+names_zone names text = option_map_or (λ name. is_between 0 names.zones (names.points name)) text false
 
 -- a key that the row must have
 abbrev pub is_required : Known → Data → Need → Bool
@@ -229,7 +210,7 @@ is_required names row (Unless word) = is_none (get (word_text word) row)
 
 -- what is wrong where an optional key is left out: its default must fit the row too
 abbrev pub default_kinds : Known → Data → Rule → List Kind
-default_kinds names row ArgumentList = argument_kinds names.workers row []
+default_kinds names row (Texts ArgumentList) = argument_kinds names.workers row []
 default_kinds names row _ = []
 
 -- what is wrong at a key of a row, there or not

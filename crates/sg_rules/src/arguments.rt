@@ -1,81 +1,19 @@
-//! What actors do, and the arguments that go with it.
-ghost use Rattle.std.specs.Prelude.{◌≡◌, ◌+◌, is_some, ℕ, List, IfOk, OnOk, codes, map};
+//! The arguments that go with what an actor does.
+ghost use Rattle.std.specs.Prelude.{◌≡◌, is_some, IfOk, map};
 ghost use Rattle.std.specs.HashMap.{get_by_text};
 ghost use Rattle.std.specs.List.{list_all};
-ghost use Rattle.std.specs.Map.{lookup};
-ghost use Rattle.std.specs.Str.{bytes_eq};
-ghost use Rattle.sg_rules.specs.Arguments.{are_for_master, are_workers, argument_kinds, has_function, is_task_count, has_repeat, takes_none, text_of, worker_names, worker_numbers};
+ghost use Rattle.sg_rules.specs.Arguments.{are_for_master, are_workers, argument_kinds, is_task_count, has_repeat, takes_none, text_of};
 ghost use Rattle.sg_tables.specs.Units.{amount_value};
-ghost use Rattle.sg_tree.specs.Along.{along, first};
-ghost use Rattle.sg_tree.specs.Names.{with_number, or_else};
+ghost use Rattle.sg_tree.specs.Along.{first};
 ghost use Rattle.toml.specs.View.{view};
 
 use indexmap::IndexMap;
 use sg_base::Memory;
+use sg_names::has_function;
 use sg_tables::amount_value;
-use sg_tree::{Kind, add_name, text_at, text_or_empty};
+use sg_tree::{Kind, add_name};
 use std::alloc::Global;
 use toml::Value;
-
-/// Whether the row is that of an actor of this function.
-pub fn has_function(row: &Value, word: &str) -> bool
-    ensures { result ≡ has_function word.now (view row.now) }
-{
-    text_or_empty(row, "function") == word
-}
-
-/// Gives the name of a worker its number.
-fn add_worker(
-    alloc: Global,
-    space: &mut IndexMap<String, u32>,
-    number: usize,
-    row: &Value,
-) -> Result<(), Memory>
-    ensures { OnOk result
-        ((q : List ℕ)
-        → get_by_text space.new q
-        ≡ or_else (get_by_text space.old q)
-        (lookup (bytes_eq q) (with_number number (worker_names (view row.now))))) }
-{
-    if !has_function(row, "worker") {
-        return Ok(());
-    }
-    match text_at(row, "name") {
-        Some(name) => add_name(alloc, space, name, number),
-        None => Ok(()),
-    }
-}
-
-/// Gives the names of workers their identifiers: actors are numbered from 1 on.
-#[tactic(auto, using(sg_tree::proofs::NameLemmas::along_turn))]
-fn add_workers(
-    alloc: Global,
-    space: &mut IndexMap<String, u32>,
-    rows: &[Value],
-) -> Result<(), Memory>
-    ensures { OnOk result
-        ((q : List ℕ)
-        → get_by_text space.new q
-        ≡ or_else (get_by_text space.old q)
-        (lookup (bytes_eq q)
-        (along (λ i row. with_number (i + 1) (worker_names (view row))) 0 rows.now))) }
-{
-    for (i, row) in rows.iter().enumerate() {
-        add_worker(alloc, space, i + 1, row)?;
-    }
-    Ok(())
-}
-
-/// The names of workers, under their identifiers.
-pub fn workers_in(alloc: Global, rows: &[Value]) -> Result<IndexMap<String, u32>, Memory>
-    ensures { IfOk result
-        (λ made. (q : List ℕ)
-        → get_by_text made q ≡ lookup (bytes_eq q) (worker_numbers (map view rows.now))) }
-{
-    let mut made = IndexMap::new(alloc);
-    add_workers(alloc, &mut made, rows)?;
-    Ok(made)
-}
 
 /// The text of an item, and the empty text where it is none.
 pub fn text_of(item: &Value) -> &str

@@ -4,27 +4,25 @@ ghost use Rattle.std.specs.HashMap.{get_by, get_by_text};
 ghost use Rattle.std.specs.List.{list_all, list_any};
 ghost use Rattle.sg_tree.specs.Along.{first};
 ghost use Rattle.sg_tree.specs.declared.fault.Kind.TheVariants as kind;
-ghost use Rattle.sg_rules.specs.kept.NamesView.{names_view, subjects_view};
-ghost use Rattle.sg_rules.specs.Pairs.{pairs_of};
+ghost use Rattle.sg_names.specs.kept.NamesView.{names_view, subjects_view};
+ghost use Rattle.sg_names.specs.Pairs.{pairs_of};
 ghost use Rattle.sg_tree.specs.Names.{Pair, pair_eq};
 ghost use Rattle.sg_tree.specs.Spelling.{is_name, is_name_byte, split_names};
 ghost use Rattle.sg_tree.specs.Tree.{text_at};
 ghost use Rattle.toml.specs.Data.{as_str};
-ghost use Rattle.sg_rules.specs.Rules.{child_kinds, default_kinds, end_kinds, functions, host_kinds, id_kinds, is_capacity, is_core_count, is_pair_taken, is_required, is_taken, is_text, is_unknown, is_whole, key_kinds, refused_kinds, link_id_kinds, link_list_kinds, list_kinds, names_zone, point_kinds, policies, positive_kinds, profiled_host_kinds, profiled_link_kinds, route_end_kinds, routings, text_kinds, texts_kinds, value_kinds, whole_kinds, whole_list_kinds, wholes_kinds, word_kinds, zone_kinds, zone_route_end_kinds};
+ghost use Rattle.sg_rules.specs.Rules.{child_kinds, default_kinds, end_kinds, functions, host_kinds, id_kinds, is_capacity, is_core_count, is_pair_taken, is_required, is_taken, is_text, is_unknown, is_whole, key_kinds, refused_kinds, link_id_kinds, link_list_kinds, list_kinds, names_zone, point_kinds, policies, positive_kinds, profiled_host_kinds, profiled_link_kinds, route_end_kinds, routings, text_kinds, texts_kinds, value_kinds, whole_kinds, whole_list_kinds, word_kinds, zone_kinds, zone_route_end_kinds};
 ghost use Rattle.toml.specs.View.{view};
 
 use crate::arguments::argument_fault;
-use crate::links::is_split;
-use crate::names::Names;
-use crate::pairs::{is_symmetrical, point_at};
 use crate::power::{milliwatts, powers_fault};
-use crate::profiles::{Subjects, dates_fault, is_of_host, states_fault, values_fault};
+use crate::profiles::{dates_fault, is_of_host, states_fault, values_fault};
 use arrayvec::ArrayString;
 use indexmap::IndexMap;
 use sg_base::Memory;
+use sg_names::{Names, Subjects, is_split, is_symmetrical, point_at};
 use sg_tables::{
-    Key, Need, Rule, Shape, amount_value, bandwidth_value, factor_value, latency_value,
-    speed_value, time_value,
+    Key, Need, Rule, TextRule, TextsRule, WholeRule, amount_value, bandwidth_value, factor_value,
+    latency_value, speed_value, time_value,
 };
 use sg_tree::Kind;
 use std::alloc::Global;
@@ -164,7 +162,7 @@ fn is_given_pair(pairs: &IndexMap<(u32, u32), u32>, number: usize, pair: (u32, u
 }
 
 /// Whether an earlier row than this gave a pair that the row gives.
-#[tactic(auto, unfolding(crate::specs::Pairs::pairs_of, crate::specs::Rules::is_pair_taken))]
+#[tactic(auto, unfolding(sg_names::specs::Pairs::pairs_of, crate::specs::Rules::is_pair_taken))]
 fn is_pair_taken(
     pairs: &IndexMap<(u32, u32), u32>,
     points: &IndexMap<String, u32>,
@@ -320,47 +318,43 @@ fn function_fault(text: &str) -> Option<Kind>
     }
 }
 
-fn text_fault(names: &Names, number: usize, row: &Value, rule: Rule, text: &str) -> Option<Kind>
+fn text_fault(names: &Names, number: usize, row: &Value, rule: TextRule, text: &str) -> Option<Kind>
     ensures { result
         ≡ first (text_kinds (names_view names.now) number (view row.now) rule text.now) }
 {
     match rule {
-        Rule::NewPoint => id_fault(&names.points, number, text),
-        Rule::NewLink => link_id_fault(&names.taken, number, is_split(row), text),
-        Rule::NewActor => id_fault(&names.actors, number, text),
-        Rule::NewMutex => id_fault(&names.mutexes, number, text),
-        Rule::NewSemaphore => id_fault(&names.semaphores, number, text),
-        Rule::ZoneName => zone_fault(names, text),
-        Rule::PointName => point_fault(names, text),
-        Rule::EndName => end_fault(names, text),
-        Rule::HostName => host_fault(names, text),
-        Rule::RouteEnd => route_end_fault(names, number, row, text),
-        Rule::ZoneRouteEnd => zone_route_end_fault(names, number, row, text),
-        Rule::SpokeChild => child_fault(names, number, text),
-        Rule::RoutingWord => routing_fault(text),
-        Rule::PolicyWord => policy_fault(text),
-        Rule::FunctionWord => function_fault(text),
-        Rule::SpeedText => positive_fault(speed_value(text.as_bytes())),
-        Rule::BandwidthText => positive_fault(bandwidth_value(text.as_bytes())),
-        Rule::LatencyText => refused_fault(latency_value(text.as_bytes())),
-        Rule::FactorText => refused_fault(factor_value(text.as_bytes())),
-        Rule::PositiveFactorText => positive_fault(factor_value(text.as_bytes())),
-        Rule::AmountText => refused_fault(amount_value(text.as_bytes())),
-        Rule::PositiveTimeText => positive_fault(time_value(text.as_bytes())),
-        Rule::ProfiledHost => profiled_host_fault(names, &names.profiles, number, text),
-        Rule::ProfiledLink => profiled_link_fault(names, &names.profiles, number, row, text),
-        Rule::SwitchedHost => profiled_host_fault(names, &names.state_profiles, number, text),
-        Rule::SwitchedLink => profiled_link_fault(names, &names.state_profiles, number, row, text),
-        Rule::CoreCount
-        | Rule::CapacityCount
-        | Rule::Milliwatts
-        | Rule::TruthValue
-        | Rule::LinkList
-        | Rule::DateList
-        | Rule::ValueList
-        | Rule::StateList
-        | Rule::ArgumentList
-        | Rule::PowerList => None,
+        TextRule::NewPoint => id_fault(&names.points, number, text),
+        TextRule::NewLink => link_id_fault(&names.taken, number, is_split(row), text),
+        TextRule::NewActor => id_fault(&names.actors, number, text),
+        TextRule::NewMutex => id_fault(&names.mutexes, number, text),
+        TextRule::NewSemaphore => id_fault(&names.semaphores, number, text),
+        TextRule::ZoneName => zone_fault(names, text),
+        TextRule::PointName => point_fault(names, text),
+        TextRule::EndName => end_fault(names, text),
+        TextRule::HostName => host_fault(names, text),
+        TextRule::RouteEnd => route_end_fault(names, number, row, text),
+        TextRule::ZoneRouteEnd => zone_route_end_fault(names, number, row, text),
+        TextRule::SpokeChild => child_fault(names, number, text),
+        TextRule::RoutingWord => routing_fault(text),
+        TextRule::PolicyWord => policy_fault(text),
+        TextRule::FunctionWord => function_fault(text),
+        TextRule::SpeedText => positive_fault(speed_value(text.as_bytes())),
+        TextRule::BandwidthText => positive_fault(bandwidth_value(text.as_bytes())),
+        TextRule::LatencyText => refused_fault(latency_value(text.as_bytes())),
+        TextRule::FactorText => refused_fault(factor_value(text.as_bytes())),
+        TextRule::PositiveFactorText => positive_fault(factor_value(text.as_bytes())),
+        TextRule::AmountText => refused_fault(amount_value(text.as_bytes())),
+        TextRule::PositiveTimeText => positive_fault(time_value(text.as_bytes())),
+        TextRule::ProfiledHost => profiled_host_fault(names, &names.profiles, number, text),
+        TextRule::ProfiledLink => profiled_link_fault(names, &names.profiles, number, row, text),
+        TextRule::SwitchedHost => profiled_host_fault(names, &names.state_profiles, number, text),
+        TextRule::SwitchedLink => profiled_link_fault(
+            names,
+            &names.state_profiles,
+            number,
+            row,
+            text,
+        ),
     }
 }
 
@@ -376,13 +370,13 @@ fn is_capacity(value: i64) -> bool
     value >= 0 && value <= 1_000_000_000
 }
 
-fn whole_fault(rule: Rule, value: i64) -> Option<Kind>
+fn whole_fault(rule: WholeRule, value: i64) -> Option<Kind>
     ensures { result ≡ first (whole_kinds rule value) }
 {
     match rule {
-        Rule::CoreCount if !is_core_count(value) => Some(Kind::BadValue),
-        Rule::CapacityCount if !is_capacity(value) => Some(Kind::BadValue),
-        Rule::Milliwatts if milliwatts(value).is_none() => Some(Kind::BadValue),
+        WholeRule::CoreCount if !is_core_count(value) => Some(Kind::BadValue),
+        WholeRule::CapacityCount if !is_capacity(value) => Some(Kind::BadValue),
+        WholeRule::Milliwatts if milliwatts(value).is_none() => Some(Kind::BadValue),
         _ => None,
     }
 }
@@ -440,7 +434,7 @@ fn texts_fault(
     alloc: Global,
     names: &Names,
     row: &Value,
-    rule: Rule,
+    rule: TextsRule,
     items: &[Value],
 ) -> Result<Option<Kind>, Memory>
     ensures { IfOk result
@@ -448,12 +442,11 @@ fn texts_fault(
         ≡ first (texts_kinds (names_view names.now) (view row.now) rule (map view items.now))) }
 {
     match rule {
-        Rule::LinkList => Ok(link_list_fault(&names.links, items)),
-        Rule::DateList => Ok(dates_fault(items)),
-        Rule::ValueList => Ok(values_fault(row, items)),
-        Rule::StateList => Ok(states_fault(row, items)),
-        Rule::ArgumentList => argument_fault(alloc, &names.workers, row, items),
-        _ => Ok(None),
+        TextsRule::LinkList => Ok(link_list_fault(&names.links, items)),
+        TextsRule::DateList => Ok(dates_fault(items)),
+        TextsRule::ValueList => Ok(values_fault(row, items)),
+        TextsRule::StateList => Ok(states_fault(row, items)),
+        TextsRule::ArgumentList => argument_fault(alloc, &names.workers, row, items),
     }
 }
 
@@ -462,7 +455,7 @@ fn list_fault(
     alloc: Global,
     names: &Names,
     row: &Value,
-    rule: Rule,
+    rule: TextsRule,
     items: &[Value],
 ) -> Result<Option<Kind>, Memory>
     ensures { IfOk result
@@ -488,15 +481,13 @@ fn are_wholes(items: &[Value]) -> bool
 }
 
 #[tactic(auto, unfolding(crate::specs::Rules::whole_list_kinds))]
-fn whole_list_fault(rule: Rule, items: &[Value]) -> Option<Kind>
-    ensures { result ≡ first (whole_list_kinds rule (map view items.now)) }
+fn whole_list_fault(items: &[Value]) -> Option<Kind>
+    ensures { result ≡ first (whole_list_kinds (map view items.now)) }
 {
-    if !are_wholes(items) {
-        return Some(Kind::WrongType);
-    }
-    match rule {
-        Rule::PowerList => powers_fault(items),
-        _ => None,
+    if are_wholes(items) {
+        powers_fault(items)
+    } else {
+        Some(Kind::WrongType)
     }
 }
 
@@ -513,27 +504,27 @@ fn value_fault(
         (λ fault. fault
         ≡ first (value_kinds (names_view names.now) number (view row.now) rule (view value.now))) }
 {
-    match rule.shape() {
-        Shape::Text => match value.as_str() {
+    match rule {
+        Rule::Text(rule) => match value.as_str() {
             None => Ok(Some(Kind::WrongType)),
             Some(text) => Ok(text_fault(names, number, row, rule, text)),
         },
-        Shape::Whole => match value.as_integer() {
+        Rule::Whole(rule) => match value.as_integer() {
             None => Ok(Some(Kind::WrongType)),
             Some(whole) => Ok(whole_fault(rule, whole)),
         },
-        Shape::Truth => if value.is_bool() {
+        Rule::Truth => if value.is_bool() {
             Ok(None)
         } else {
             Ok(Some(Kind::WrongType))
         },
-        Shape::Texts => match value.as_array() {
+        Rule::Texts(rule) => match value.as_array() {
             None => Ok(Some(Kind::WrongType)),
             Some(items) => list_fault(alloc, names, row, rule, items.as_slice()),
         },
-        Shape::Wholes => match value.as_array() {
+        Rule::Powers => match value.as_array() {
             None => Ok(Some(Kind::WrongType)),
-            Some(items) => Ok(whole_list_fault(rule, items.as_slice())),
+            Some(items) => Ok(whole_list_fault(items.as_slice())),
         },
     }
 }
@@ -570,7 +561,7 @@ fn default_fault(
         (λ fault. fault ≡ first (default_kinds (names_view names.now) (view row.now) rule)) }
 {
     match rule {
-        Rule::ArgumentList => argument_fault(alloc, &names.workers, row, &[]),
+        Rule::Texts(TextsRule::ArgumentList) => argument_fault(alloc, &names.workers, row, &[]),
         _ => Ok(None),
     }
 }

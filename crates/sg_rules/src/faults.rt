@@ -5,7 +5,7 @@ ghost use Rattle.std.specs.List.{list_any, list_all};
 ghost use Rattle.std.specs.BTreeMap.{keys as map_keys};
 ghost use Rattle.std.specs.Str.{bytes_eq};
 ghost use Rattle.toml.specs.View.{view, table_view};
-ghost use Rattle.sg_rules.specs.kept.NamesView.{names_view};
+ghost use Rattle.sg_names.specs.kept.NamesView.{names_view};
 ghost use Rattle.sg_tree.specs.Along.{first, along};
 ghost use Rattle.sg_tree.specs.Tree.{has_only};
 ghost use Rattle.sg_rules.specs.Rules.{key_text};
@@ -13,8 +13,8 @@ ghost use Rattle.sg_tables.specs.Tables.{keys_of, row_limit, table_text};
 ghost use Rattle.sg_rules.specs.Faults.{key_faults, row_faults, row_faults_at, row_kinds, table_kinds, table_faults, rows_before, faults_of, top_kinds};
 
 use crate::checks::key_fault;
-use crate::names::Names;
 use sg_base::Memory;
+use sg_names::Names;
 use sg_tables::{Key, Table};
 use sg_tree::{Fault, Kind, Place, rows_at, value_at};
 use std::alloc::Global;

@@ -1,54 +1,16 @@
 //! Profiles: when the speed of a host, the bandwidth of a link or the state of one of them changes, and what it is from
 //! then on.
-ghost use Rattle.std.specs.Prelude.{◌≡◌, ℕ, List, IfOk, None, is_some, map};
-ghost use Rattle.std.specs.HashMap.{get_by_text};
+ghost use Rattle.std.specs.Prelude.{◌≡◌, is_some, map};
 ghost use Rattle.std.specs.List.{list_all};
 ghost use Rattle.sg_tree.specs.Along.{first};
-ghost use Rattle.sg_rules.specs.Profiles.{amount_in, are_rising, dates_kinds, each_date_kinds, is_of_host, items_at, quantity_of, state_in, states_kinds, subjects_of, values_kinds};
+ghost use Rattle.sg_rules.specs.Profiles.{amount_in, are_rising, dates_kinds, each_date_kinds, is_of_host, items_at, quantity_of, state_in, states_kinds, values_kinds};
 ghost use Rattle.sg_tables.specs.declared.units.Quantity.TheVariants.{Time};
 ghost use Rattle.toml.specs.View.{view};
 
 use crate::arguments::text_of;
-use indexmap::IndexMap;
-use sg_base::Memory;
 use sg_tables::Quantity;
-use sg_tree::{Kind, names_at};
-use std::alloc::Global;
+use sg_tree::Kind;
 use toml::Value;
-
-/// The hosts and links that a table has profiles of, under the rows in which each stands first.
-#[derive(Drop)]
-pub struct Subjects {
-    pub hosts: IndexMap<String, u32>,
-    pub links: IndexMap<String, u32>,
-}
-
-impl Subjects {
-    /// Nothing.
-    pub fn none(alloc: Global) -> Subjects
-        ensures hosts { (q : List ℕ) → get_by_text result.hosts q ≡ None }
-        ensures links { (q : List ℕ) → get_by_text result.links q ≡ None }
-    {
-        Subjects {
-            hosts: IndexMap::new(alloc),
-            links: IndexMap::new(alloc),
-        }
-    }
-
-    /// Those of the rows of a table.
-    pub fn of_rows(alloc: Global, rows: &[Value]) -> Result<Subjects, Memory>
-        ensures hosts { IfOk result
-            (λ made. (q : List ℕ)
-            → get_by_text made.hosts q ≡ (subjects_of (map view rows.now)).hosts q) }
-        ensures links { IfOk result
-            (λ made. (q : List ℕ)
-            → get_by_text made.links q ≡ (subjects_of (map view rows.now)).links q) }
-    {
-        let hosts = names_at(alloc, "host", rows)?;
-        let links = names_at(alloc, "link", rows)?;
-        Ok(Subjects { hosts, links })
-    }
-}
 
 /// Whether the row of a profile names a host.
 pub fn is_of_host(row: &Value) -> bool

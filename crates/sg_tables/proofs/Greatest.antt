@@ -2,7 +2,8 @@
 use Rattle.std.proofs.Common.{◌≡◌, ℕ, ◌≤◌, ◌==◌, Bool, true, false, cond, nat_le, List, length, Option, Some, None, Result, Ok, Err, IfOk, inl, inr, arith}
 use Rattle.std.proofs.lemmas.Bool.{cases_Bool}
 use Rattle.std.proofs.lemmas.Bool.Decides.{nat_tests}
-use Rattle.sg_tables.specs.Units.{amount_value, bandwidth_value, factor_value, if_latency, latency_value, speed_value, time_value, value_of}
+use Rattle.sg_tables.specs.Units.{amount_value, bandwidth_value, factor_value, if_latency, latency_value, speed_value, time_value}
+use Rattle.std.specs.Result.{result_ok}
 use Rattle.sg_units.specs.Amount.{up_to, value_in_unit, amount_of, bandwidth_of, factor_of, amount_by, speed_of, time_of, is_short, value_of as amount}
 use Rattle.sg_units.specs.Number.{Number, number_of}
 use Rattle.sg_units.specs.Units.{Units, amount_units, bandwidth_units, factor_units, size_of, speed_units, time_units}
@@ -33,7 +34,7 @@ within_read units greatest text =
     let n = number_of text in
     chosen (length n.whole == 0) (Err NotANumber) (value_in_unit greatest n (size_of units n.unit)) greatest tt (within_sized greatest n (size_of units n.unit))
 
-pub value_within : (greatest : ℕ) (r : Result ℕ AmountFault) (n : ℕ) → Within greatest r → value_of r ≡ Some n → n ≤ greatest
+pub value_within : (greatest : ℕ) (r : Result ℕ AmountFault) (n : ℕ) → Within greatest r → result_ok r ≡ Some n → n ≤ greatest
 value_within greatest (Ok value) n within same = let e : value ≡ n = cc in omega (arith, within, e)
 value_within greatest (Err fault) n within same = cc
 
@@ -71,4 +72,4 @@ latency_at_most (Some ns) n same =
 
 pub latency_within : (text : List ℕ) (n : ℕ) → latency_value text ≡ Some n → n ≤ 1000000000000000
 unfolding latency_value
-latency_within text n same = latency_at_most (value_of (time_of text)) n same
+latency_within text n same = latency_at_most (result_ok (time_of text)) n same

@@ -5,11 +5,12 @@ use Rattle.sg_tables.specs.declared.tables.Key.{Key}
 use Rattle.sg_tables.specs.declared.tables.Need.{Need}
 use Rattle.sg_tables.specs.declared.tables.Need.TheVariants.{Required, Optional, IfZone, Unless}
 use Rattle.sg_tables.specs.declared.tables.Rule.{Rule}
-use Rattle.sg_tables.specs.declared.tables.Rule.TheVariants.{NewPoint, NewLink, NewActor, NewMutex, NewSemaphore, ZoneName, PointName, EndName, HostName, RouteEnd, ZoneRouteEnd, SpokeChild, RoutingWord, PolicyWord, FunctionWord, SpeedText, BandwidthText, LatencyText, FactorText, PositiveFactorText, AmountText, PositiveTimeText, CoreCount, CapacityCount, Milliwatts, TruthValue, ProfiledHost, ProfiledLink, SwitchedHost, SwitchedLink, LinkList, DateList, ValueList, StateList, ArgumentList, PowerList}
-use Rattle.sg_tables.specs.declared.tables.Shape.{Shape}
-use Rattle.sg_tables.specs.declared.tables.Shape.TheVariants as shape
+use Rattle.sg_tables.specs.declared.tables.Rule.TheVariants.{Text, Whole, Truth, Texts, Powers}
 use Rattle.sg_tables.specs.declared.tables.Table.{Table}
 use Rattle.sg_tables.specs.declared.tables.Table.TheVariants.{Zone, Host, Router, Link, Route, ZoneRoute, Spoke, Network, Profile, StateProfile, Actor, Mutex, Semaphore}
+use Rattle.sg_tables.specs.declared.tables.TextRule.TheVariants.{NewPoint, NewLink, NewActor, NewMutex, NewSemaphore, ZoneName, PointName, EndName, HostName, RouteEnd, ZoneRouteEnd, SpokeChild, RoutingWord, PolicyWord, FunctionWord, SpeedText, BandwidthText, LatencyText, FactorText, PositiveFactorText, AmountText, PositiveTimeText, ProfiledHost, ProfiledLink, SwitchedHost, SwitchedLink}
+use Rattle.sg_tables.specs.declared.tables.TextsRule.TheVariants.{LinkList, DateList, ValueList, StateList, ArgumentList}
+use Rattle.sg_tables.specs.declared.tables.WholeRule.TheVariants.{CoreCount, CapacityCount, Milliwatts}
 use Rattle.sg_tables.specs.declared.tables.Word.{Word}
 use Rattle.sg_tables.specs.declared.tables.Word.TheVariants as word
 
@@ -19,82 +20,69 @@ key word need rule = record { word = word; need = need; rule = rule }
 -- the keys of a table, in order
 abbrev pub keys_of : Table → List Key
 keys_of Zone =
-    key word.Id Required NewPoint
-    ∷ key word.Parent Optional ZoneName
-    ∷ key word.Routing Required RoutingWord
-    ∷ []
+    key word.Id Required (Text NewPoint)
+    ∷ key word.Parent Optional (Text ZoneName)
+    ∷ key word.Routing Required (Text RoutingWord) ∷ []
 keys_of Host =
-    key word.Id Required NewPoint
-    ∷ key word.Zone Required ZoneName
-    ∷ key word.Speed Required SpeedText
-    ∷ key word.Core Optional CoreCount
-    ∷ key word.Power Optional PowerList
-    ∷ key word.PowerOff Optional Milliwatts
-    ∷ []
+    key word.Id Required (Text NewPoint)
+    ∷ key word.Zone Required (Text ZoneName)
+    ∷ key word.Speed Required (Text SpeedText)
+    ∷ key word.Core Optional (Whole CoreCount)
+    ∷ key word.Power Optional Powers
+    ∷ key word.PowerOff Optional (Whole Milliwatts) ∷ []
 keys_of Router =
-    key word.Id Required NewPoint
-    ∷ key word.Zone Required ZoneName
-    ∷ []
+    key word.Id Required (Text NewPoint)
+    ∷ key word.Zone Required (Text ZoneName) ∷ []
 keys_of Link =
-    key word.Id Required NewLink
-    ∷ key word.Bandwidth Required BandwidthText
-    ∷ key word.Latency Optional LatencyText
-    ∷ key word.SharingPolicy Optional PolicyWord
-    ∷ []
+    key word.Id Required (Text NewLink)
+    ∷ key word.Bandwidth Required (Text BandwidthText)
+    ∷ key word.Latency Optional (Text LatencyText)
+    ∷ key word.SharingPolicy Optional (Text PolicyWord) ∷ []
 keys_of Route =
-    key word.Src Required PointName
-    ∷ key word.Dst Required RouteEnd
-    ∷ key word.Links Required LinkList
-    ∷ key word.Symmetrical Optional TruthValue
-    ∷ []
+    key word.Src Required (Text PointName)
+    ∷ key word.Dst Required (Text RouteEnd)
+    ∷ key word.Links Required (Texts LinkList)
+    ∷ key word.Symmetrical Optional Truth ∷ []
 keys_of ZoneRoute =
-    key word.Src Required EndName
-    ∷ key word.Dst Required ZoneRouteEnd
-    ∷ key word.GwSrc (IfZone word.Src) PointName
-    ∷ key word.GwDst (IfZone word.Dst) PointName
-    ∷ key word.Links Required LinkList
-    ∷ key word.Symmetrical Optional TruthValue
-    ∷ []
+    key word.Src Required (Text EndName)
+    ∷ key word.Dst Required (Text ZoneRouteEnd)
+    ∷ key word.GwSrc (IfZone word.Src) (Text PointName)
+    ∷ key word.GwDst (IfZone word.Dst) (Text PointName)
+    ∷ key word.Links Required (Texts LinkList)
+    ∷ key word.Symmetrical Optional Truth ∷ []
 keys_of Spoke =
-    key word.Zone Required ZoneName
-    ∷ key word.Child Required SpokeChild
-    ∷ key word.Gateway (IfZone word.Child) PointName
-    ∷ key word.Up Required LinkList
-    ∷ key word.Down Optional LinkList
-    ∷ []
+    key word.Zone Required (Text ZoneName)
+    ∷ key word.Child Required (Text SpokeChild)
+    ∷ key word.Gateway (IfZone word.Child) (Text PointName)
+    ∷ key word.Up Required (Texts LinkList)
+    ∷ key word.Down Optional (Texts LinkList) ∷ []
 keys_of Network =
-    key word.LatencyFactor Optional FactorText
-    ∷ key word.BandwidthFactor Optional PositiveFactorText
-    ∷ key word.Window Optional AmountText
-    ∷ []
+    key word.LatencyFactor Optional (Text FactorText)
+    ∷ key word.BandwidthFactor Optional (Text PositiveFactorText)
+    ∷ key word.Window Optional (Text AmountText) ∷ []
 keys_of Profile =
-    key word.Host (Unless word.Link) ProfiledHost
-    ∷ key word.Link Optional ProfiledLink
-    ∷ key word.Dates Required DateList
-    ∷ key word.Values Required ValueList
-    ∷ key word.Loop Optional PositiveTimeText
-    ∷ []
+    key word.Host (Unless word.Link) (Text ProfiledHost)
+    ∷ key word.Link Optional (Text ProfiledLink)
+    ∷ key word.Dates Required (Texts DateList)
+    ∷ key word.Values Required (Texts ValueList)
+    ∷ key word.Loop Optional (Text PositiveTimeText) ∷ []
 keys_of StateProfile =
-    key word.Host (Unless word.Link) SwitchedHost
-    ∷ key word.Link Optional SwitchedLink
-    ∷ key word.Dates Required DateList
-    ∷ key word.States Required StateList
-    ∷ key word.Loop Optional PositiveTimeText
-    ∷ []
+    key word.Host (Unless word.Link) (Text SwitchedHost)
+    ∷ key word.Link Optional (Text SwitchedLink)
+    ∷ key word.Dates Required (Texts DateList)
+    ∷ key word.States Required (Texts StateList)
+    ∷ key word.Loop Optional (Text PositiveTimeText) ∷ []
 keys_of Actor =
-    key word.Name Required NewActor
-    ∷ key word.Host Required HostName
-    ∷ key word.Function Required FunctionWord
-    ∷ key word.Argument Optional ArgumentList
-    ∷ key word.Start Optional TruthValue
-    ∷ []
+    key word.Name Required (Text NewActor)
+    ∷ key word.Host Required (Text HostName)
+    ∷ key word.Function Required (Text FunctionWord)
+    ∷ key word.Argument Optional (Texts ArgumentList)
+    ∷ key word.Start Optional Truth ∷ []
 keys_of Mutex =
-    key word.Id Required NewMutex
-    ∷ []
+    key word.Id Required (Text NewMutex) ∷ []
 keys_of Semaphore =
-    key word.Id Required NewSemaphore
-    ∷ key word.Capacity Required CapacityCount
-    ∷ []
+    key word.Id Required (Text NewSemaphore)
+    ∷ key word.Capacity Required (Whole CapacityCount) ∷ []
 
 abbrev pub table_text : Table → List ℕ
 table_text Zone = codes "zone"
@@ -187,17 +175,3 @@ word_text word.States = codes "states"
 word_text word.Power = codes "power"
 word_text word.PowerOff = codes "power_off"
 word_text word.Start = codes "start"
-
--- the type of the values that a rule is for
-abbrev pub shape_of : Rule → Shape
-shape_of CoreCount = shape.Whole
-shape_of CapacityCount = shape.Whole
-shape_of Milliwatts = shape.Whole
-shape_of TruthValue = shape.Truth
-shape_of LinkList = shape.Texts
-shape_of DateList = shape.Texts
-shape_of ValueList = shape.Texts
-shape_of StateList = shape.Texts
-shape_of ArgumentList = shape.Texts
-shape_of PowerList = shape.Wholes
-shape_of _ = shape.Text

@@ -1,6 +1,15 @@
 //! The tables of both texts, and their keys.
 ghost use Rattle.std.specs.Prelude.{◌≡◌};
-ghost use Rattle.sg_tables.specs.Tables.{keys_of, row_limit, shape_of, table_number, table_text, word_text};
+ghost use Rattle.sg_tables.specs.Tables.{keys_of, row_limit, table_number, table_text, word_text};
+
+use TextRule::{
+    AmountText, BandwidthText, EndName, FactorText, FunctionWord, HostName, LatencyText, NewActor,
+    NewLink, NewMutex, NewPoint, NewSemaphore, PointName, PolicyWord, PositiveFactorText,
+    PositiveTimeText, ProfiledHost, ProfiledLink, RouteEnd, RoutingWord, SpeedText, SpokeChild,
+    SwitchedHost, SwitchedLink, ZoneName, ZoneRouteEnd,
+};
+use TextsRule::{ArgumentList, DateList, LinkList, StateList, ValueList};
+use WholeRule::{CapacityCount, CoreCount, Milliwatts};
 
 /// A key as a text writes it.
 #[derive(Clone, Copy)]
@@ -56,6 +65,21 @@ pub enum Need {
 /// What the value of a key must be.
 #[derive(Clone, Copy)]
 pub enum Rule {
+    /// A text.
+    Text(TextRule),
+    /// A whole number.
+    Whole(WholeRule),
+    /// `true` or `false`.
+    Truth,
+    /// A list of texts.
+    Texts(TextsRule),
+    /// Three numbers of milliwatts, the third not less than the second.
+    Powers,
+}
+
+/// What a text must be.
+#[derive(Clone, Copy)]
+pub enum TextRule {
     /// A new name among zones, hosts and routers.
     NewPoint,
     /// A new name among links; a SPLITDUPLEX link takes three.
@@ -100,14 +124,6 @@ pub enum Rule {
     AmountText,
     /// A time that isn't zero.
     PositiveTimeText,
-    /// A whole number from 1 to 1,024.
-    CoreCount,
-    /// A whole number from 0 to 10^9.
-    CapacityCount,
-    /// Milliwatts, from 0 to 10^9.
-    Milliwatts,
-    /// `true` or `false`.
-    TruthValue,
     /// The name of a host, where no earlier profile row has it.
     ProfiledHost,
     /// The name of a link, where no earlier profile row has it, nor this row a host.
@@ -116,6 +132,22 @@ pub enum Rule {
     SwitchedHost,
     /// The name of a link, where no earlier row of states has it, nor this row a host.
     SwitchedLink,
+}
+
+/// What a whole number must be.
+#[derive(Clone, Copy)]
+pub enum WholeRule {
+    /// A whole number from 1 to 1,024.
+    CoreCount,
+    /// A whole number from 0 to 10^9.
+    CapacityCount,
+    /// Milliwatts, from 0 to 10^9.
+    Milliwatts,
+}
+
+/// What a list of texts must be.
+#[derive(Clone, Copy)]
+pub enum TextsRule {
     /// The names of 1 to 64 links.
     LinkList,
     /// 1 to 1,024 times, each later than the one before.
@@ -126,18 +158,6 @@ pub enum Rule {
     StateList,
     /// The texts that an actor is given.
     ArgumentList,
-    /// Three numbers of milliwatts, the third not less than the second.
-    PowerList,
-}
-
-/// The type of the value of a key.
-#[derive(Clone, Copy)]
-pub enum Shape {
-    Text,
-    Whole,
-    Truth,
-    Texts,
-    Wholes,
 }
 
 /// A key of a table.
@@ -228,119 +248,100 @@ impl Word {
     }
 }
 
-impl Rule {
-    /// The type of the values that the rule is for.
-    pub fn shape(self) -> Shape
-        ensures { result ≡ shape_of self }
-    {
-        match self {
-            Rule::CoreCount | Rule::CapacityCount | Rule::Milliwatts => Shape::Whole,
-            Rule::TruthValue => Shape::Truth,
-            Rule::PowerList => Shape::Wholes,
-            Rule::LinkList
-            | Rule::DateList
-            | Rule::ValueList
-            | Rule::StateList
-            | Rule::ArgumentList => Shape::Texts,
-            _ => Shape::Text,
-        }
-    }
-}
-
 macro_rules! key {
-    ($word:ident, $need:ident($other:ident), $rule:ident) => {
-        Key { word: Word::$word, need: Need::$need(Word::$other), rule: Rule::$rule }
-    };
-    ($word:ident, $need:ident, $rule:ident) => {
-        Key { word: Word::$word, need: Need::$need, rule: Rule::$rule }
+    ($word:ident, $need:ident $(($other:ident))?, $of:ident $(($rule:ident))?) => {
+        Key { word: Word::$word, need: Need::$need $((Word::$other))?, rule: Rule::$of $(($rule))? }
     };
 }
 
 // The keys of each table, in order.
 
 const ZONE_KEYS: [Key; 3] = [
-    key!(Id, Required, NewPoint),
-    key!(Parent, Optional, ZoneName),
-    key!(Routing, Required, RoutingWord),
+    key!(Id, Required, Text(NewPoint)),
+    key!(Parent, Optional, Text(ZoneName)),
+    key!(Routing, Required, Text(RoutingWord)),
 ];
 
 const HOST_KEYS: [Key; 6] = [
-    key!(Id, Required, NewPoint),
-    key!(Zone, Required, ZoneName),
-    key!(Speed, Required, SpeedText),
-    key!(Core, Optional, CoreCount),
-    key!(Power, Optional, PowerList),
-    key!(PowerOff, Optional, Milliwatts),
+    key!(Id, Required, Text(NewPoint)),
+    key!(Zone, Required, Text(ZoneName)),
+    key!(Speed, Required, Text(SpeedText)),
+    key!(Core, Optional, Whole(CoreCount)),
+    key!(Power, Optional, Powers),
+    key!(PowerOff, Optional, Whole(Milliwatts)),
 ];
 
-const ROUTER_KEYS: [Key; 2] = [key!(Id, Required, NewPoint), key!(Zone, Required, ZoneName)];
+const ROUTER_KEYS: [Key; 2] = [
+    key!(Id, Required, Text(NewPoint)),
+    key!(Zone, Required, Text(ZoneName)),
+];
 
 const LINK_KEYS: [Key; 4] = [
-    key!(Id, Required, NewLink),
-    key!(Bandwidth, Required, BandwidthText),
-    key!(Latency, Optional, LatencyText),
-    key!(SharingPolicy, Optional, PolicyWord),
+    key!(Id, Required, Text(NewLink)),
+    key!(Bandwidth, Required, Text(BandwidthText)),
+    key!(Latency, Optional, Text(LatencyText)),
+    key!(SharingPolicy, Optional, Text(PolicyWord)),
 ];
 
 const ROUTE_KEYS: [Key; 4] = [
-    key!(Src, Required, PointName),
-    key!(Dst, Required, RouteEnd),
-    key!(Links, Required, LinkList),
-    key!(Symmetrical, Optional, TruthValue),
+    key!(Src, Required, Text(PointName)),
+    key!(Dst, Required, Text(RouteEnd)),
+    key!(Links, Required, Texts(LinkList)),
+    key!(Symmetrical, Optional, Truth),
 ];
 
 const ZONE_ROUTE_KEYS: [Key; 6] = [
-    key!(Src, Required, EndName),
-    key!(Dst, Required, ZoneRouteEnd),
-    key!(GwSrc, IfZone(Src), PointName),
-    key!(GwDst, IfZone(Dst), PointName),
-    key!(Links, Required, LinkList),
-    key!(Symmetrical, Optional, TruthValue),
+    key!(Src, Required, Text(EndName)),
+    key!(Dst, Required, Text(ZoneRouteEnd)),
+    key!(GwSrc, IfZone(Src), Text(PointName)),
+    key!(GwDst, IfZone(Dst), Text(PointName)),
+    key!(Links, Required, Texts(LinkList)),
+    key!(Symmetrical, Optional, Truth),
 ];
 
 const SPOKE_KEYS: [Key; 5] = [
-    key!(Zone, Required, ZoneName),
-    key!(Child, Required, SpokeChild),
-    key!(Gateway, IfZone(Child), PointName),
-    key!(Up, Required, LinkList),
-    key!(Down, Optional, LinkList),
+    key!(Zone, Required, Text(ZoneName)),
+    key!(Child, Required, Text(SpokeChild)),
+    key!(Gateway, IfZone(Child), Text(PointName)),
+    key!(Up, Required, Texts(LinkList)),
+    key!(Down, Optional, Texts(LinkList)),
 ];
 
 const NETWORK_KEYS: [Key; 3] = [
-    key!(LatencyFactor, Optional, FactorText),
-    key!(BandwidthFactor, Optional, PositiveFactorText),
-    key!(Window, Optional, AmountText),
+    key!(LatencyFactor, Optional, Text(FactorText)),
+    key!(BandwidthFactor, Optional, Text(PositiveFactorText)),
+    key!(Window, Optional, Text(AmountText)),
 ];
 
 const PROFILE_KEYS: [Key; 5] = [
-    key!(Host, Unless(Link), ProfiledHost),
-    key!(Link, Optional, ProfiledLink),
-    key!(Dates, Required, DateList),
-    key!(Values, Required, ValueList),
-    key!(Loop, Optional, PositiveTimeText),
+    key!(Host, Unless(Link), Text(ProfiledHost)),
+    key!(Link, Optional, Text(ProfiledLink)),
+    key!(Dates, Required, Texts(DateList)),
+    key!(Values, Required, Texts(ValueList)),
+    key!(Loop, Optional, Text(PositiveTimeText)),
 ];
 
 const STATE_PROFILE_KEYS: [Key; 5] = [
-    key!(Host, Unless(Link), SwitchedHost),
-    key!(Link, Optional, SwitchedLink),
-    key!(Dates, Required, DateList),
-    key!(States, Required, StateList),
-    key!(Loop, Optional, PositiveTimeText),
+    key!(Host, Unless(Link), Text(SwitchedHost)),
+    key!(Link, Optional, Text(SwitchedLink)),
+    key!(Dates, Required, Texts(DateList)),
+    key!(States, Required, Texts(StateList)),
+    key!(Loop, Optional, Text(PositiveTimeText)),
 ];
 
 const ACTOR_KEYS: [Key; 5] = [
-    key!(Name, Required, NewActor),
-    key!(Host, Required, HostName),
-    key!(Function, Required, FunctionWord),
-    key!(Argument, Optional, ArgumentList),
-    key!(Start, Optional, TruthValue),
+    key!(Name, Required, Text(NewActor)),
+    key!(Host, Required, Text(HostName)),
+    key!(Function, Required, Text(FunctionWord)),
+    key!(Argument, Optional, Texts(ArgumentList)),
+    key!(Start, Optional, Truth),
 ];
 
-const MUTEX_KEYS: [Key; 1] = [key!(Id, Required, NewMutex)];
+const MUTEX_KEYS: [Key; 1] = [key!(Id, Required, Text(NewMutex))];
 
 const SEMAPHORE_KEYS: [Key; 2] = [
-    key!(Id, Required, NewSemaphore),
-    key!(Capacity, Required, CapacityCount),
+    key!(Id, Required, Text(NewSemaphore)),
+    key!(Capacity, Required, Whole(CapacityCount)),
 ];
 
 impl Table {

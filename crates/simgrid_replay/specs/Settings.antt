@@ -1,5 +1,5 @@
 -- What the platform and the deployment are, by what their parts gave.
-use Rattle.std.specs.Prelude.{◌+◌, ◌&&◌, ℕ, Bool, length, Option, None, Some, Result, Ok, Err, if◌then◌else◌, true, false, nat_le, nat_lt, position}
+use Rattle.std.specs.Prelude.{◌+◌, ◌&&◌, ℕ, Bool, length, Option, None, Result, Ok, Err, if◌then◌else◌, true, false, nat_le, nat_lt, position}
 use Rattle.std.specs.Option.{option_map_or}
 use Rattle.std.specs.Result.{result_map_both}
 use Rattle.sg_churn.specs.Generated.{platform_of_seed, deployed_of_seed}

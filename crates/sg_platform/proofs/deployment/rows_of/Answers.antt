@@ -2,7 +2,7 @@ use Rattle.std.proofs.Common.{◌≡◌, ◌∙◌, IfOk, ap, codes, map, subst}
 use Rattle.sg_platform.specs.Build.{actor_row, mutex_row, semaphore_row}
 use Rattle.sg_platform.specs.DeploymentOf.{rows_of}
 use Rattle.sg_rows.specs.Deployment.{Deployed, deployment_of_rows}
-use Rattle.sg_rules.specs.kept.NamesView.{names_view}
+use Rattle.sg_names.specs.kept.NamesView.{names_view}
 use Rattle.sg_tree.specs.Tree.{rows_at}
 use Rattle.toml.specs.View.{table_view}
 use Rattle.sg_platform.proofs.deployment.rows_of.Goals as goal

@@ -1,6 +1,6 @@
 use Rattle.std.proofs.Common.{◌∙◌, ap, map}
 use Rattle.sg_platform.specs.Build.{host_row, router_row, zone_row}
-use Rattle.sg_rules.specs.kept.NamesView.{names_view}
+use Rattle.sg_names.specs.kept.NamesView.{names_view}
 use Rattle.sg_platform.proofs.platform.read_places.Goals as goal
 
 pub returns-clause-zones : goal.returns-clause-zones

@@ -1,6 +1,6 @@
 use Rattle.std.proofs.Common.{◌∙◌, ap, map}
 use Rattle.sg_platform.specs.Build.{profile_row, state_profile_row}
-use Rattle.sg_rules.specs.kept.NamesView.{names_view}
+use Rattle.sg_names.specs.kept.NamesView.{names_view}
 use Rattle.sg_platform.proofs.platform.read_profiles.Goals as goal
 
 pub returns-clause-profiles : goal.returns-clause-profiles

@@ -1,6 +1,6 @@
 use Rattle.std.proofs.Common.{◌∙◌, ap, map}
 use Rattle.sg_platform.specs.Build.{route_row, spoke_row, zone_route_row}
-use Rattle.sg_rules.specs.kept.NamesView.{names_view}
+use Rattle.sg_names.specs.kept.NamesView.{names_view}
 use Rattle.sg_platform.proofs.platform.read_routes.Goals as goal
 
 pub returns-clause-routes : goal.returns-clause-routes

@@ -1,7 +1,7 @@
 use Rattle.std.proofs.Common.{◌∙◌, ap, codes, map}
 use Rattle.sg_platform.specs.Build.{link_row, spoke_row}
 use Rattle.sg_rows.specs.Ends.{link_ends}
-use Rattle.sg_rules.specs.kept.NamesView.{names_view}
+use Rattle.sg_names.specs.kept.NamesView.{names_view}
 use Rattle.sg_tree.specs.Tree.{rows_at}
 use Rattle.toml.specs.View.{table_view}
 use Rattle.sg_platform.proofs.platform.read_ways.Goals as goal

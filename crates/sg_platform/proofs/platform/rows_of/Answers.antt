@@ -2,7 +2,7 @@ use Rattle.std.proofs.Common.{◌∙◌, ap, subst, sym}
 use Rattle.sg_platform.proofs.RowsRead.{IsRead, rows_read}
 use Rattle.sg_platform.specs.Build.{network_of}
 use Rattle.sg_rows.specs.Platform.{IsPlatform, Platform}
-use Rattle.sg_rules.specs.kept.NamesView.{names_view}
+use Rattle.sg_names.specs.kept.NamesView.{names_view}
 use Rattle.toml.specs.View.{table_view}
 use Rattle.sg_platform.proofs.platform.rows_of.Goals as goal
 

@@ -1,0 +1,29 @@
+-- What the code has collected of the names of a tree.
+use Rattle.std.specs.HashMap.{get_by, get_by_text}
+use Rattle.sg_names.specs.Names.{Known}
+use Rattle.sg_names.specs.Subjects.{Subjects}
+use Rattle.sg_names.specs.declared.names.Names.{Names}
+use Rattle.sg_names.specs.declared.subjects.Subjects.{Subjects as SubjectMaps}
+use Rattle.sg_tree.specs.Names.{pair_eq}
+
+abbrev pub subjects_view : SubjectMaps → Subjects
+subjects_view maps = record { hosts = λ q. get_by_text maps.hosts q; links = λ q. get_by_text maps.links q }
+
+-- what the code has collected
+abbrev pub names_view : Names → Known
+names_view names = record {
+  zones = names.zones;
+  hosts = names.hosts;
+  points = λ q. get_by_text names.points q;
+  taken = λ q. get_by_text names.taken q;
+  links = λ q. get_by_text names.links q;
+  pairs = λ q. get_by (pair_eq q) names.pairs;
+  zone_pairs = λ q. get_by (pair_eq q) names.zone_pairs;
+  children = λ q. get_by_text names.children q;
+  profiles = subjects_view names.profiles;
+  state_profiles = subjects_view names.state_profiles;
+  actors = λ q. get_by_text names.actors q;
+  workers = λ q. get_by_text names.workers q;
+  mutexes = λ q. get_by_text names.mutexes q;
+  semaphores = λ q. get_by_text names.semaphores q;
+}

@@ -1,0 +1,163 @@
+//! The names of links.
+ghost use Rattle.std.specs.Prelude.{◌≡◌, ◌+◌, ◌<◌, ◌^◌, ◌++◌, ◌∷◌, [], ℕ, List, IfOk, OnOk, codes, length, map};
+ghost use Rattle.std.specs.HashMap.{get_by_text};
+ghost use Rattle.std.specs.List.{flat_map};
+ghost use Rattle.std.specs.Map.{lookup};
+ghost use Rattle.std.specs.Str.{bytes_eq};
+ghost use Rattle.sg_names.specs.LinkNames.{declared_numbers, is_split, link_names, one_name, taken_names, taken_numbers};
+ghost use Rattle.sg_tree.specs.Along.{along};
+ghost use Rattle.sg_tree.specs.Names.{with_number, or_else};
+ghost use Rattle.toml.specs.View.{view};
+
+use indexmap::IndexMap;
+use sg_base::Memory;
+use sg_tree::{add_name, text_at};
+use std::alloc::Global;
+use toml::Value;
+
+/// Whether a link is SPLITDUPLEX: one for each direction.
+pub fn is_split(row: &Value) -> bool
+    ensures { result ≡ is_split (view row.now) }
+{
+    match text_at(row, "sharing_policy") {
+        Some(policy) => policy == "SPLITDUPLEX",
+        None => false,
+    }
+}
+
+/// Gives the names of both directions of a link their numbers.
+#[tactic(auto, using(sg_tree::proofs::NameLemmas::given_here))]
+fn add_split(
+    alloc: Global,
+    space: &mut IndexMap<String, u32>,
+    id: &str,
+    up: usize,
+    down: usize,
+) -> Result<(), Memory>
+    ensures { OnOk result
+        ((q : List ℕ)
+        → get_by_text space.new q
+        ≡ or_else (get_by_text space.old q)
+        (lookup (bytes_eq q)
+        ((id.now ++ codes "_UP", up) ∷ (id.now ++ codes "_DOWN", down) ∷ []))) }
+{
+    let mut name = String::from_str(alloc, id)?;
+    name.push_str("_UP")?;
+    add_name(alloc, space, name.as_str(), up)?;
+    let mut name = String::from_str(alloc, id)?;
+    name.push_str("_DOWN")?;
+    add_name(alloc, space, name.as_str(), down)
+}
+
+/// Gives the names that a link takes its number.
+fn add_taken(
+    alloc: Global,
+    space: &mut IndexMap<String, u32>,
+    number: usize,
+    row: &Value,
+) -> Result<(), Memory>
+    ensures { OnOk result
+        ((q : List ℕ)
+        → get_by_text space.new q
+        ≡ or_else (get_by_text space.old q)
+        (lookup (bytes_eq q) (with_number number (taken_names (view row.now))))) }
+{
+    match text_at(row, "id") {
+        Some(id) => {
+            add_name(alloc, space, id, number)?;
+            if is_split(row) {
+                add_split(alloc, space, id, number, number)?;
+            }
+            Ok(())
+        }
+        None => Ok(()),
+    }
+}
+
+/// Gives the names that links take the numbers of their rows.
+#[tactic(auto, using(sg_tree::proofs::NameLemmas::along_turn))]
+fn add_all_taken(
+    alloc: Global,
+    space: &mut IndexMap<String, u32>,
+    rows: &[Value],
+) -> Result<(), Memory>
+    ensures { OnOk result
+        ((q : List ℕ)
+        → get_by_text space.new q
+        ≡ or_else (get_by_text space.old q)
+        (lookup (bytes_eq q)
+        (along (λ i row. with_number i (taken_names (view row))) 0 rows.now))) }
+{
+    for (i, row) in rows.iter().enumerate() {
+        add_taken(alloc, space, i, row)?;
+    }
+    Ok(())
+}
+
+/// Gives the names of a link their numbers, from the next on, and counts them.
+fn add_link(
+    alloc: Global,
+    space: &mut IndexMap<String, u32>,
+    next: usize,
+    row: &Value,
+) -> Result<usize, Memory>
+    requires { next + 2 < 2 ^ 64 }
+    ensures given { OnOk result
+        ((q : List ℕ)
+        → get_by_text space.new q
+        ≡ or_else (get_by_text space.old q)
+        (lookup (bytes_eq q) (along one_name next (link_names (view row.now))))) }
+    ensures count { IfOk result (λ n. n ≡ length (link_names (view row.now))) }
+{
+    match text_at(row, "id") {
+        Some(id) => {
+            if is_split(row) {
+                add_split(alloc, space, id, next, next + 1)?;
+                Ok(2)
+            } else {
+                add_name(alloc, space, id, next)?;
+                Ok(1)
+            }
+        }
+        None => Ok(0),
+    }
+}
+
+/// Gives the names of links their numbers.
+fn add_links(alloc: Global, space: &mut IndexMap<String, u32>, rows: &[Value]) -> Result<(), Memory>
+    requires { length rows.now < 2 ^ 62 }
+    ensures { OnOk result
+        ((q : List ℕ)
+        → get_by_text space.new q
+        ≡ or_else (get_by_text space.old q)
+        (lookup (bytes_eq q)
+        (along one_name 0 (flat_map (λ row. link_names (view row)) rows.now)))) }
+{
+    let mut next = 0;
+    for row in rows {
+        next += add_link(alloc, space, next, row)?;
+    }
+    Ok(())
+}
+
+/// The names that link rows take, under the numbers of the rows.
+pub fn taken_links(alloc: Global, rows: &[Value]) -> Result<IndexMap<String, u32>, Memory>
+    ensures { IfOk result
+        (λ made. (q : List ℕ)
+        → get_by_text made q ≡ lookup (bytes_eq q) (taken_numbers (map view rows.now))) }
+{
+    let mut made = IndexMap::new(alloc);
+    add_all_taken(alloc, &mut made, rows)?;
+    Ok(made)
+}
+
+/// The names by which lists name links, under the numbers of the links.
+pub fn declared_links(alloc: Global, rows: &[Value]) -> Result<IndexMap<String, u32>, Memory>
+    ensures { IfOk result
+        (λ made. (q : List ℕ)
+        → get_by_text made q ≡ lookup (bytes_eq q) (declared_numbers (map view rows.now))) }
+{
+    let mut made = IndexMap::new(alloc);
+    add_links(alloc, &mut made, rows)?;
+    Ok(made)
+}

@@ -1,0 +1,109 @@
+//! The ordered pairs that routes give.
+ghost use Rattle.std.specs.Prelude.{◌≡◌, ℕ, List, true, IfOk, OnOk, codes, map, option_and_then};
+ghost use Rattle.std.specs.HashMap.{get_by, get_by_text};
+ghost use Rattle.std.specs.Map.{lookup};
+ghost use Rattle.sg_names.specs.Pairs.{pair_numbers, pairs_of, truth_or};
+ghost use Rattle.sg_tree.specs.Along.{along};
+ghost use Rattle.sg_tree.specs.Names.{Pair, with_number, or_else, pair_eq};
+ghost use Rattle.sg_tree.specs.Tree.{text_at};
+ghost use Rattle.toml.specs.Data.{get};
+ghost use Rattle.toml.specs.View.{view};
+
+use indexmap::IndexMap;
+use sg_base::Memory;
+use sg_tree::{add_pair, text_at};
+use std::alloc::Global;
+use toml::Value;
+
+/// The number of the point, or zone, that a key names.
+pub fn point_at(points: &IndexMap<String, u32>, row: &Value, key: &str) -> Option<u32>
+    ensures { result
+        ≡ option_and_then (λ q. get_by_text points.now q) (text_at key.now (view row.now)) }
+{
+    match text_at(row, key) {
+        Some(name) => points.get(name).copied(),
+        None => None,
+    }
+}
+
+/// The truth value at a key, which is true where the row doesn't have the key.
+pub fn truth_at(row: &Value, key: &str) -> bool
+    ensures { result ≡ truth_or true (get key.now (view row.now)) }
+{
+    match row.get(key) {
+        Some(value) => match value.as_bool() {
+            Some(truth) => truth,
+            None => false,
+        },
+        None => true,
+    }
+}
+
+/// Whether a route serves the way back too.
+pub fn is_symmetrical(row: &Value) -> bool
+    ensures { result ≡ truth_or true (get (codes "symmetrical") (view row.now)) }
+{
+    truth_at(row, "symmetrical")
+}
+
+/// Gives the pairs of a route its number.
+#[tactic(auto, unfolding(crate::specs::Pairs::pairs_of))]
+fn add_route(
+    points: &IndexMap<String, u32>,
+    pairs: &mut IndexMap<(u32, u32), u32>,
+    number: usize,
+    row: &Value,
+) -> Result<(), Memory>
+    ensures { OnOk result
+        ((q : Pair) → get_by (pair_eq q) pairs.new
+        ≡ or_else (get_by (pair_eq q) pairs.old)
+        (lookup (pair_eq q)
+        (with_number number (pairs_of (λ q. get_by_text points.now q) (view row.now))))) }
+{
+    match (point_at(points, row, "src"), point_at(points, row, "dst")) {
+        (Some(a), Some(b)) => {
+            add_pair(pairs, (a, b), number)?;
+            if is_symmetrical(row) {
+                add_pair(pairs, (b, a), number)?;
+            }
+            Ok(())
+        }
+        _ => Ok(()),
+    }
+}
+
+/// Gives the pairs of routes the numbers of their rows.
+#[tactic(auto, using(sg_tree::proofs::NameLemmas::along_turn))]
+fn add_routes(
+    points: &IndexMap<String, u32>,
+    pairs: &mut IndexMap<(u32, u32), u32>,
+    rows: &[Value],
+) -> Result<(), Memory>
+    ensures { OnOk result
+        ((q : Pair) → get_by (pair_eq q) pairs.new
+        ≡ or_else (get_by (pair_eq q) pairs.old)
+        (lookup (pair_eq q)
+        (along (λ i row.
+        with_number i (pairs_of (λ q. get_by_text points.now q) (view row))) 0 rows.now))) }
+{
+    for (i, row) in rows.iter().enumerate() {
+        add_route(points, pairs, i, row)?;
+    }
+    Ok(())
+}
+
+/// The pairs that route rows give, under the numbers of the rows.
+pub fn pairs_in(
+    alloc: Global,
+    points: &IndexMap<String, u32>,
+    rows: &[Value],
+) -> Result<IndexMap<(u32, u32), u32>, Memory>
+    ensures { IfOk result
+        (λ made. (q : Pair)
+        → get_by (pair_eq q) made
+        ≡ lookup (pair_eq q) (pair_numbers (λ q. get_by_text points.now q) (map view rows.now))) }
+{
+    let mut made = IndexMap::new(alloc);
+    add_routes(points, &mut made, rows)?;
+    Ok(made)
+}
