@@ -7,4 +7,5 @@ pub mod PartSources
 pub mod RefusalLines
 pub mod Requests
 pub mod Settings
+pub mod WholeCall
 pub mod kept

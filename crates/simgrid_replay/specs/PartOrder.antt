@@ -1,17 +1,39 @@
--- How far the parts are read, and which are not begun.
-use Rattle.std.specs.Prelude.{◌≡◌, ◌+◌, ◌⊎◌}
+-- What a call does to the parts: how far they are read, and which are not begun.
+use Rattle.std.specs.Prelude.{◌≡◌, ◌+◌, ◌⊎◌, ℕ, false, IsErr}
 use Rattle.sg_base.specs.declared.status.Status.{Status}
 use Rattle.sg_base.specs.declared.status.Status.TheVariants as status
 use Rattle.sg_platform.specs.PlatformOf.{greatest_text}
-use Rattle.sg_edge.specs.Files.{PartView, SameFrom, TakesUpTo}
+use Rattle.sg_edge.specs.Files.{KeepsTelling, PartView, SameFrom, TakesUpTo}
+use Rattle.sg_edge.specs.Sources.{Source, Gives}
 use Rattle.sg_edge.specs.declared.files.Part.{Part}
 use Rattle.sg_edge.specs.declared.files.Part.TheVariants as part
 use Rattle.sg_edge.specs.declared.files.Stage.TheVariants.{Broken}
+use Rattle.sg_words.specs.CommandLine.{Request}
+use Rattle.simgrid_replay.specs.PartSources.{IsNamedBy, TextsGive}
+use Rattle.simgrid_replay.specs.Requests.{has_parts, has_script}
+use Rattle.simgrid_replay.specs.Settings.{platform_given, setting}
 
 -- of a platform and of a deployment one byte more than the greatest has is taken at most
 pub record AreBounded (old new : Part → PartView) : Type 0 where
   pub platform : TakesUpTo (greatest_text + 1) (old part.Platform) (new part.Platform)
   pub deployment : TakesUpTo (greatest_text + 1) (old part.Deployment) (new part.Deployment)
+
+-- No part is begun behind one that can't be read or is refused, and no script where the request has none.
+pub record AreInOrder (request : Request) (contexts : ℕ) (old new : Part → PartView) : Type 0 where
+  pub platform_first : (new part.Platform).stage ≡ Broken → SameFrom part.Deployment old new
+  pub deployment_first : (new part.Deployment).stage ≡ Broken → SameFrom part.Script old new
+  pub platform_refused : (p : Source) → Gives (old part.Platform) (new part.Platform) p → IsErr (platform_given p) → SameFrom part.Deployment old new
+  pub refused_first : (p d : Source) → TextsGive request old new p d → IsErr (setting request contexts p d) → SameFrom part.Script old new
+  pub unscripted : has_script request ≡ false → SameFrom part.Script old new
+
+-- What a call has done to the parts: each is begun under its name, one that tells its bytes still does, and nothing is
+-- read where the request has no parts.
+pub record TakesParts {F : Type 0} (shows : F → Part → PartView) (request : Request) (contexts : ℕ) (old new : F) : Type 0 where
+  pub named : (which : Part) → IsNamedBy request which (shows new which)
+  pub bounded : AreBounded (shows old) (shows new)
+  pub order : AreInOrder request contexts (shows old) (shows new)
+  pub telling : (which : Part) → KeepsTelling (shows old which) (shows new which)
+  pub unread : has_parts request ≡ false → new ≡ old
 
 -- the platform or the deployment couldn't be begun or read
 abbrev pub IsTextBroken : (Part → PartView) → Type 0

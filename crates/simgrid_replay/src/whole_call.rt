@@ -1,20 +1,19 @@
 //! The whole program as one call.
-ghost use Rattle.std.specs.Prelude.{◌≡◌, ◌≢◌, [], length, map, All, None, false, IsTrue, IsErr, string_bytes};
+ghost use Rattle.std.specs.Prelude.{◌≡◌, ◌≢◌, [], length, map, All, None, IsTrue, string_bytes};
 ghost use Rattle.sg_edge.specs.declared.files.Part.{Part};
-ghost use Rattle.sg_edge.specs.declared.files.Stage.TheVariants.{Fresh, Broken};
-ghost use Rattle.sg_edge.specs.Files.{KeepsTelling, SameFrom, SomeBroke};
-ghost use Rattle.sg_edge.specs.Sources.{Source, Gives};
-ghost use Rattle.sg_engine.specs.RunContract.{IsReadOnDemand};
+ghost use Rattle.sg_edge.specs.declared.files.Stage.TheVariants.{Fresh};
+ghost use Rattle.sg_edge.specs.Files.{SomeBroke};
+ghost use Rattle.sg_edge.specs.Sources.{Source};
 ghost use Rattle.sg_words.specs.CommandLine.{Asked, refusals};
 ghost use Rattle.sg_words.specs.Views.{job_view};
 ghost use Rattle.sg_edge.specs.Cause.{HasCause};
-ghost use Rattle.simgrid_replay.specs.PartSources.{request_of, AskFor, IsNamedBy, PartsGive, TextsGive};
-ghost use Rattle.simgrid_replay.specs.PartOrder.{AreBounded, IsTextBroken, SparesRest};
-ghost use Rattle.simgrid_replay.specs.kept.Reading.{ComesTo, IsCallCause, IsStart, SeatsJob, TakesParts};
-ghost use Rattle.simgrid_replay.specs.Contexts.{TakesContexts, TakesFirst, TakesFront};
-ghost use Rattle.simgrid_replay.specs.Outcome.{is_refusal, outcome, HasOutcome, ReportsWords};
-ghost use Rattle.simgrid_replay.specs.Settings.{platform_given, setting};
-ghost use Rattle.simgrid_replay.specs.Requests.{has_parts, has_script};
+ghost use Rattle.simgrid_replay.specs.PartSources.{request_of, AskFor, PartsGive, TextsGive};
+ghost use Rattle.simgrid_replay.specs.PartOrder.{IsTextBroken, SparesRest, TakesParts};
+ghost use Rattle.simgrid_replay.specs.kept.Reading.{ComesTo, IsCallCause, IsStart, SeatsJob};
+ghost use Rattle.simgrid_replay.specs.Contexts.{TakesFirst, TakesFront};
+ghost use Rattle.simgrid_replay.specs.Outcome.{is_refusal, outcome};
+ghost use Rattle.simgrid_replay.specs.Settings.{setting};
+ghost use Rattle.simgrid_replay.specs.WholeCall.{DoesJob, RefusesWords};
 
 use crate::host::Host;
 use crate::job_run::{JobSetup, run_job};
@@ -84,27 +83,17 @@ pub fn simgrid<R: Threads + Sync, F: Files, O: Sinks, L: Ledger>(
     ensures job { refusals (map string_bytes words.now) ≡ []
         → (job : Asked) × AskFor (map string_bytes words.now) job }
 
-    // What was written, and the status, are those of the definition, for what the parts gave that
-    // were asked, and the count of looks went on by no more than the work.
+    // What happened is what the definition has, for what the parts gave that were asked.
     ensures output { (job : Asked) → AskFor (map string_bytes words.now) job
         → (p d s : Source) → PartsGive job.request (F.shows files.old) (F.shows files.new) p d s
-        → HasOutcome (outcome job (length crew.old.items) p d s) result
-        (O.contents out.old) (O.contents out.new) steps.old steps.new }
+        → DoesJob (outcome job (length crew.old.items) p d s) result
+        (O.contents out.old) (O.contents out.new) steps.old steps.new
+        (F.shows files.old) (F.shows files.new) crew.old.items crew.new.items }
 
-    // Of the script at most 4,095 bytes more were taken than the Asks of the run need.
-    ensures needed { (job : Asked) → AskFor (map string_bytes words.now) job
-        → (p d s : Source) → PartsGive job.request (F.shows files.old) (F.shows files.new) p d s
-        → IsReadOnDemand (outcome job (length crew.old.items) p d s).need
-        (F.shows files.old) (F.shows files.new) }
-
-    // A part that told its bytes still does.
-    ensures telling { (q : Part) → KeepsTelling (F.shows files.old q) (F.shows files.new q) }
-
-    // Each part was begun under its name of the words, and of a platform or a deployment at most
-    // one byte more was taken than the greatest has.
-    ensures named { (job : Asked) → AskFor (map string_bytes words.now) job
-        → (part : Part) → IsNamedBy job.request part (F.shows files.new part) }
-    ensures bounded { AreBounded (F.shows files.old) (F.shows files.new) }
+    // Each part was begun under its name of the words, none behind one that is refused or can't be
+    // read, and none that the job doesn't have.
+    ensures parts { (job : Asked) → AskFor (map string_bytes words.now) job
+        → TakesParts F.shows job.request (length crew.old.items) files.old files.new }
 
     // The actors of a run have taken the first contexts: each that begins with the run has one, and
     // where there was no run nobody has.
@@ -113,40 +102,11 @@ pub fn simgrid<R: Threads + Sync, F: Files, O: Sinks, L: Ledger>(
         → TakesFirst (setting job.request (length crew.old.items) p d) result
         crew.old.items crew.new.items }
 
-    // They have taken as many as the definition has, and no more where the call was cut off.
-    ensures taken { (job : Asked) → AskFor (map string_bytes words.now) job
-        → (p d s : Source) → PartsGive job.request (F.shows files.old) (F.shows files.new) p d s
-        → TakesContexts (outcome job (length crew.old.items) p d s) result
-        crew.old.items crew.new.items }
-
-    // Help, the version, and what is wrong with the words: no part is begun, nobody takes a context,
-    // and nothing is looked at.
+    // Words that ask for no job are told why, and nothing else is done.
     ensures refused { refusals (map string_bytes words.now) ≢ []
-        → ReportsWords (refusals (map string_bytes words.now))
-        result (O.contents out.old) (O.contents out.new) }
-    ensures untouched { refusals (map string_bytes words.now) ≢ [] → files.new ≡ files.old }
-    ensures spared { refusals (map string_bytes words.now) ≢ [] → crew.new.items ≡ crew.old.items }
-    ensures unlooked { refusals (map string_bytes words.now) ≢ [] → steps.new ≡ steps.old }
-
-    // No part is begun behind one that is refused or can't be read, and none that the job doesn't
-    // have.
-    ensures platform_first { (F.shows files.new Part.Platform).stage ≡ Broken
-        → SameFrom Part.Deployment (F.shows files.old) (F.shows files.new) }
-    ensures deployment_first { (F.shows files.new Part.Deployment).stage ≡ Broken
-        → SameFrom Part.Script (F.shows files.old) (F.shows files.new) }
-    ensures platform_refused { (p : Source)
-        → Gives (F.shows files.old Part.Platform) (F.shows files.new Part.Platform) p
-        → IsErr (platform_given p)
-        → SameFrom Part.Deployment (F.shows files.old) (F.shows files.new) }
-    ensures refused_first { (job : Asked) → AskFor (map string_bytes words.now) job
-        → (p d : Source) → TextsGive job.request (F.shows files.old) (F.shows files.new) p d
-        → IsErr (setting job.request (length crew.old.items) p d)
-        → SameFrom Part.Script (F.shows files.old) (F.shows files.new) }
-    ensures unscripted { (job : Asked) → AskFor (map string_bytes words.now) job
-        → has_script job.request ≡ false
-        → SameFrom Part.Script (F.shows files.old) (F.shows files.new) }
-    ensures unread { (job : Asked) → AskFor (map string_bytes words.now) job
-        → has_parts job.request ≡ false → files.new ≡ files.old }
+        → RefusesWords (refusals (map string_bytes words.now)) result
+        (O.contents out.old) (O.contents out.new) files.old files.new
+        crew.old.items crew.new.items steps.old steps.new }
 
     // The same of the status alone, also of parts that don't tell their bytes.
     ensures words { result ≡ Status.Words → refusals (map string_bytes words.now) ≢ [] }

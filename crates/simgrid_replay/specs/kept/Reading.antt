@@ -4,7 +4,7 @@ use Rattle.sg_base.specs.Mind.{Mind}
 use Rattle.sg_base.specs.declared.status.Status.{Status}
 use Rattle.sg_base.specs.declared.status.Status.TheVariants as status
 use Rattle.sg_edge.specs.Cause.{HasCause}
-use Rattle.sg_edge.specs.Files.{PartView, KeepsTelling, Only, SameFrom, SomeBroke}
+use Rattle.sg_edge.specs.Files.{PartView, KeepsTelling, Only, SomeBroke}
 use Rattle.sg_edge.specs.Sources.{Source, Gives}
 use Rattle.sg_edge.specs.declared.files.Part.{Part}
 use Rattle.sg_edge.specs.declared.files.Part.TheVariants as part
@@ -12,12 +12,12 @@ use Rattle.sg_edge.specs.declared.files.Stage.TheVariants.{Fresh, Broken}
 use Rattle.sg_edge.specs.declared.sinks.Stream.{Stream}
 use Rattle.sg_engine.specs.RunContract.{IsReadOnDemand}
 use Rattle.sg_words.specs.CommandLine.{Asked, Request}
-use Rattle.simgrid_replay.specs.PartOrder.{AreBounded, IsTextBroken}
+use Rattle.simgrid_replay.specs.PartOrder.{IsTextBroken}
 use Rattle.simgrid_replay.specs.PartSources.{IsNamedBy, TextsGive}
 use Rattle.simgrid_replay.specs.Contexts.{TakesFirst, TakesFront}
 use Rattle.simgrid_replay.specs.Outcome.{Outcome, HasOutcome, is_cut, is_refusal}
 use Rattle.simgrid_replay.specs.Settings.{platform_given, setting}
-use Rattle.simgrid_replay.specs.Requests.{has_parts, has_script}
+use Rattle.simgrid_replay.specs.Requests.{has_script}
 use Rattle.simgrid_replay.specs.declared.refusal.Refusal.{Refusal}
 use Rattle.simgrid_replay.specs.declared.refusal.Refusal.TheVariants as refusal
 use Rattle.sg_engine.specs.declared.setup.Setup.{Setup}
@@ -45,14 +45,6 @@ pub record ComesTo (want : Outcome) (how : Status) (old new : Stream → Option 
 -- this part is broken, and its count rose
 abbrev pub Broke : Part → (Part → PartView) → (Part → PartView) → Type 0
 Broke part old new = ((new part).stage ≡ Broken) × ((old part).faults < (new part).faults)
-
--- No part is begun behind one that can't be read or is refused, and no script where the request has none.
-pub record AreInOrder (request : Request) (contexts : ℕ) (old new : Part → PartView) : Type 0 where
-  pub platform_first : (new part.Platform).stage ≡ Broken → SameFrom part.Deployment old new
-  pub deployment_first : (new part.Deployment).stage ≡ Broken → SameFrom part.Script old new
-  pub platform_refused : (p : Source) → Gives (old part.Platform) (new part.Platform) p → IsErr (platform_given p) → SameFrom part.Deployment old new
-  pub refused_first : (p d : Source) → TextsGive request old new p d → IsErr (setting request contexts p d) → SameFrom part.Script old new
-  pub unscripted : has_script request ≡ false → SameFrom part.Script old new
 
 -- a refusal of the platform, or a failed read of it
 abbrev pub IsOfPlatform : Refusal → Type 0
@@ -84,15 +76,6 @@ pub record AreRead (result : Result Setup Refusal) (old new : Part → PartView)
 pub record PlatformDecides (parts : Bool) (result : Result Setup Refusal) (old new : Part → PartView) : Type 0 where
   pub refused : (p : Source) → Gives (old part.Platform) (new part.Platform) p → IsErr (platform_given p) → IsOk result → parts ≡ false
   pub behind : (p : Source) → Gives (old part.Platform) (new part.Platform) p → IsErr (platform_given p) → new part.Deployment ≡ old part.Deployment
-
--- What a call has done to the parts: each is begun under its name, one that tells its bytes still does, and nothing is
--- read where the request has no parts.
-pub record TakesParts {F : Type 0} (shows : F → Part → PartView) (request : Request) (contexts : ℕ) (old new : F) : Type 0 where
-  pub named : (which : Part) → IsNamedBy request which (shows new which)
-  pub bounded : AreBounded (shows old) (shows new)
-  pub order : AreInOrder request contexts (shows old) (shows new)
-  pub telling : (which : Part) → KeepsTelling (shows old which) (shows new which)
-  pub unread : has_parts request ≡ false → new ≡ old
 
 -- Of all parts the script alone was begun and read, and without a script none; it was begun under its name, and where it
 -- tells its bytes it still does.

@@ -1,13 +1,13 @@
 use Rattle.std.proofs.Common.{◌≡◌, ◌∙◌, sym, ap, subst, refl, length, map, true, false, arith}
-use Rattle.std.specs.Prelude.{IsErr, string_bytes}
-use Rattle.sg_engine.specs.RunContract.{IsReadOnDemand}
+use Rattle.std.specs.Prelude.{string_bytes}
 use Rattle.sg_words.specs.CommandLine.{Asked, asked_of, refusals}
 use Rattle.sg_words.specs.Views.{job_view}
-use Rattle.simgrid_replay.specs.PartSources.{IsNamedBy, PartsGive, TextsGive}
-use Rattle.simgrid_replay.specs.Contexts.{TakesContexts, TakesFirst}
-use Rattle.simgrid_replay.specs.Outcome.{HasOutcome, is_cut, outcome}
+use Rattle.simgrid_replay.specs.Contexts.{TakesFirst}
+use Rattle.simgrid_replay.specs.Outcome.{is_cut, outcome}
+use Rattle.simgrid_replay.specs.PartOrder.{TakesParts}
+use Rattle.simgrid_replay.specs.PartSources.{PartsGive, TextsGive}
 use Rattle.simgrid_replay.specs.Settings.{setting}
-use Rattle.simgrid_replay.specs.Requests.{has_parts, has_script}
+use Rattle.simgrid_replay.specs.WholeCall.{DoesJob}
 use Rattle.simgrid_replay.proofs.PartLemmas.{nameless_by, takes_none}
 use Rattle.simgrid_replay.proofs.TopLemmas.{prints_nothing, takes_contexts}
 use Rattle.simgrid_replay.proofs.WordLemmas.{fault_is, job_is}
@@ -16,49 +16,63 @@ use Rattle.simgrid_replay.proofs.whole_call.simgrid.Goals as goal
 pub returns-in-Ok-clause-output : goal.returns-in-Ok-clause-output
 returns-in-Ok-clause-output g c = λ job asks p d s gives.
     let same : job_view c.in-Ok.job ≡ job = job_is _ _ c.read_words.result c.in-Ok.job job c.read_words.ensures c.in-Ok.is asks.job in
-    subst (λ (j : Asked). PartsGive j.request (g.F.Files.shows c.args.files.now) (g.F.Files.shows c.do_job.new.files) p d s →
-    HasOutcome (outcome j (length c.args.crew.now.items) p d s) c.do_job.result (g.O.Sinks.contents c.args.out.now) (g.O.Sinks.contents c.do_job.new.out) c.args.steps.now c.do_job.new.steps) same
-    (λ given. (c.do_job.ensures.output p d s given).outcome) gives
+    let old = g.F.Files.shows c.args.files.now in
+    let new = g.F.Files.shows c.do_job.new.files in
+    let had = c.args.crew.now.items in
+    let has = c.do_job.new.crew.items in
+    subst (λ (j : Asked). PartsGive j.request old new p d s →
+    DoesJob (outcome j (length had) p d s) c.do_job.result (g.O.Sinks.contents c.args.out.now) (g.O.Sinks.contents c.do_job.new.out) c.args.steps.now c.do_job.new.steps old new had has) same
+    (λ given.
+    let done = c.do_job.ensures.output p d s given in
+    record {
+      outcome = done.outcome;
+      needed = done.needed;
+      taken = takes_contexts (setting (job_view c.in-Ok.job).request (length had) p d) (outcome (job_view c.in-Ok.job) (length had) p d s) c.do_job.result had has
+          (c.do_job.ensures.crew.first p d given.texts) done.contexts;
+    }) gives
 
-pub returns-in-Ok-clause-needed : goal.returns-in-Ok-clause-needed
-returns-in-Ok-clause-needed g c = λ job asks p d s gives.
+pub returns-in-Err-clause-output : goal.returns-in-Err-clause-output
+returns-in-Err-clause-output g c = λ job asks p d s gives.
+    let silent = c.report_words.ensures.silent (asked_of (map string_bytes c.args.words.now)) (fault_is _ _ (asked_of (map string_bytes c.args.words.now)) c.read_words.result c.in-Err.fault c.read_words.ensures c.in-Err.is asks.accepted) in
+    record {
+      outcome = record {
+        prints = prints_nothing (outcome job (length c.args.crew.now.items) p d s) c.report_words.result _ _ silent.1;
+        counts = omega (arith);
+      };
+      needed = takes_none _ _ _ refl;
+      taken = record {
+        taken = 0;
+        most = omega (arith);
+        all = λ uncut. absurd (let cut : true ≡ false = sym (ap is_cut silent.0) ∙ uncut in cc);
+        left = refl;
+      };
+    }
+
+pub returns-in-Ok-clause-parts : goal.returns-in-Ok-clause-parts
+returns-in-Ok-clause-parts g c = λ job asks.
     let same : job_view c.in-Ok.job ≡ job = job_is _ _ c.read_words.result c.in-Ok.job job c.read_words.ensures c.in-Ok.is asks.job in
-    subst (λ (j : Asked). PartsGive j.request (g.F.Files.shows c.args.files.now) (g.F.Files.shows c.do_job.new.files) p d s →
-    IsReadOnDemand (outcome j (length c.args.crew.now.items) p d s).need (g.F.Files.shows c.args.files.now) (g.F.Files.shows c.do_job.new.files)) same
-    (λ given. (c.do_job.ensures.output p d s given).needed) gives
+    subst (λ (j : Asked). TakesParts g.F.Files.shows j.request (length c.args.crew.now.items) c.args.files.now c.do_job.new.files) same c.do_job.ensures.parts
 
-pub returns-in-Err-clause-needed : goal.returns-in-Err-clause-needed
-returns-in-Err-clause-needed g c = λ job asks p d s gives. takes_none _ _ _ refl
+pub returns-in-Err-clause-parts : goal.returns-in-Err-clause-parts
+returns-in-Err-clause-parts g c = λ job asks. record {
+  named = λ part. nameless_by job.request part (g.F.Files.shows c.args.files.now part) (g.met.F.Files.unnamed c.args.files.now part (c.requires.fresh part));
+  bounded = record { platform = takes_none _ _ _ refl; deployment = takes_none _ _ _ refl };
+  order = record {
+    platform_first = λ broken. (refl, refl);
+    deployment_first = λ broken. refl;
+    platform_refused = λ p gives err. (refl, refl);
+    refused_first = λ p d texts err. refl;
+    unscripted = λ none. refl;
+  };
+  telling = λ part told. told;
+  unread = λ none. refl;
+}
 
 pub returns-in-Ok-clause-crew : goal.returns-in-Ok-clause-crew
 returns-in-Ok-clause-crew g c = λ job asks p d texts.
     let same : job_view c.in-Ok.job ≡ job = job_is _ _ c.read_words.result c.in-Ok.job job c.read_words.ensures c.in-Ok.is asks.job in
     subst (λ (j : Asked). TextsGive j.request (g.F.Files.shows c.args.files.now) (g.F.Files.shows c.do_job.new.files) p d → TakesFirst (setting j.request (length c.args.crew.now.items) p d) c.do_job.result c.args.crew.now.items c.do_job.new.crew.items) same
     (λ given. c.do_job.ensures.crew.first p d given) texts
-
-pub returns-in-Ok-clause-taken : goal.returns-in-Ok-clause-taken
-returns-in-Ok-clause-taken g c = λ job asks p d s gives.
-    let same : job_view c.in-Ok.job ≡ job = job_is _ _ c.read_words.result c.in-Ok.job job c.read_words.ensures c.in-Ok.is asks.job in
-    let had = c.args.crew.now.items in
-    subst (λ (j : Asked). PartsGive j.request (g.F.Files.shows c.args.files.now) (g.F.Files.shows c.do_job.new.files) p d s →
-    TakesContexts (outcome j (length had) p d s) c.do_job.result had c.do_job.new.crew.items) same
-    (λ given. takes_contexts (setting (job_view c.in-Ok.job).request (length had) p d) (outcome (job_view c.in-Ok.job) (length had) p d s) c.do_job.result had c.do_job.new.crew.items
-    (c.do_job.ensures.crew.first p d given.texts) (c.do_job.ensures.output p d s given).contexts) gives
-
-pub returns-in-Ok-clause-refused_first : goal.returns-in-Ok-clause-refused_first
-returns-in-Ok-clause-refused_first g c = λ job asks p d texts refused.
-    let same : job_view c.in-Ok.job ≡ job = job_is _ _ c.read_words.result c.in-Ok.job job c.read_words.ensures c.in-Ok.is asks.job in
-    c.do_job.ensures.parts.order.refused_first p d
-    (subst (λ (j : Asked). TextsGive j.request (g.F.Files.shows c.args.files.now) (g.F.Files.shows c.do_job.new.files) p d) (sym same) texts)
-    (subst (λ (j : Asked). IsErr (setting j.request (length c.args.crew.now.items) p d)) (sym same) refused)
-
-pub returns-in-Err-clause-output : goal.returns-in-Err-clause-output
-returns-in-Err-clause-output g c = λ job asks p d s gives.
-    let silent = c.report_words.ensures.silent (asked_of (map string_bytes c.args.words.now)) (fault_is _ _ (asked_of (map string_bytes c.args.words.now)) c.read_words.result c.in-Err.fault c.read_words.ensures c.in-Err.is asks.accepted) in
-    record {
-      prints = prints_nothing (outcome job (length c.args.crew.now.items) p d s) c.report_words.result _ _ silent.1;
-      counts = omega (arith);
-    }
 
 pub returns-in-Err-clause-crew : goal.returns-in-Err-clause-crew
 returns-in-Err-clause-crew g c = λ job asks p d texts. record {
@@ -69,43 +83,18 @@ returns-in-Err-clause-crew g c = λ job asks p d texts. record {
   left = refl;
 }
 
-pub returns-in-Err-clause-taken : goal.returns-in-Err-clause-taken
-returns-in-Err-clause-taken g c = λ job asks p d s gives.
-    let silent = c.report_words.ensures.silent (asked_of (map string_bytes c.args.words.now)) (fault_is _ _ (asked_of (map string_bytes c.args.words.now)) c.read_words.result c.in-Err.fault c.read_words.ensures c.in-Err.is asks.accepted) in
-    record {
-      taken = 0;
-      most = omega (arith);
-      all = λ uncut. absurd (let cut : true ≡ false = sym (ap is_cut silent.0) ∙ uncut in cc);
-      left = refl;
-    }
-
 pub returns-in-Err-clause-refused : goal.returns-in-Err-clause-refused
-returns-in-Err-clause-refused g c = λ some.
-    c.report_words.ensures.tells (refusals (map string_bytes c.args.words.now)) (asked_of (map string_bytes c.args.words.now)) (fault_is _ _ (asked_of (map string_bytes c.args.words.now)) c.read_words.result c.in-Err.fault c.read_words.ensures c.in-Err.is refl) some
+returns-in-Err-clause-refused g c = λ some. record {
+  told = c.report_words.ensures.tells (refusals (map string_bytes c.args.words.now)) (asked_of (map string_bytes c.args.words.now)) (fault_is _ _ (asked_of (map string_bytes c.args.words.now)) c.read_words.result c.in-Err.fault c.read_words.ensures c.in-Err.is refl) some;
+  untouched = refl;
+  spared = refl;
+  unlooked = refl;
+}
 
 pub returns-in-Err-clause-words : goal.returns-in-Err-clause-words
 returns-in-Err-clause-words g c = λ told none.
     let silent = c.report_words.ensures.silent (asked_of (map string_bytes c.args.words.now)) (fault_is _ _ (asked_of (map string_bytes c.args.words.now)) c.read_words.result c.in-Err.fault c.read_words.ensures c.in-Err.is none) in
     cc (silent.0, told)
-
-pub returns-in-Ok-clause-unscripted : goal.returns-in-Ok-clause-unscripted
-returns-in-Ok-clause-unscripted g c = λ job asks none.
-    let same : job_view c.in-Ok.job ≡ job = job_is _ _ c.read_words.result c.in-Ok.job job c.read_words.ensures c.in-Ok.is asks.job in
-    c.do_job.ensures.parts.order.unscripted (subst (λ (j : Asked). has_script j.request ≡ false) (sym same) none)
-
-pub returns-in-Ok-clause-unread : goal.returns-in-Ok-clause-unread
-returns-in-Ok-clause-unread g c = λ job asks none.
-    let same : job_view c.in-Ok.job ≡ job = job_is _ _ c.read_words.result c.in-Ok.job job c.read_words.ensures c.in-Ok.is asks.job in
-    c.do_job.ensures.parts.unread (subst (λ (j : Asked). has_parts j.request ≡ false) (sym same) none)
-
-pub returns-in-Ok-clause-platform_first : goal.returns-in-Ok-clause-platform_first
-returns-in-Ok-clause-platform_first g c = c.do_job.ensures.parts.order.platform_first
-
-pub returns-in-Ok-clause-deployment_first : goal.returns-in-Ok-clause-deployment_first
-returns-in-Ok-clause-deployment_first g c = c.do_job.ensures.parts.order.deployment_first
-
-pub returns-in-Ok-clause-platform_refused : goal.returns-in-Ok-clause-platform_refused
-returns-in-Ok-clause-platform_refused g c = c.do_job.ensures.parts.order.platform_refused
 
 pub returns-in-Err-clause-cause : goal.returns-in-Err-clause-cause
 returns-in-Err-clause-cause g c = record {
@@ -123,23 +112,6 @@ pub returns-in-Err-clause-job : goal.returns-in-Err-clause-job
 returns-in-Err-clause-job g c = λ none.
     let asked = c.accepted_words_have_a_job.ensures (map string_bytes c.args.words.now) none in
     (asked.0, record { accepted = none; job = asked.1 })
-
-pub returns-in-Ok-clause-named : goal.returns-in-Ok-clause-named
-returns-in-Ok-clause-named g c = λ job asks part.
-    let same : job_view c.in-Ok.job ≡ job = job_is _ _ c.read_words.result c.in-Ok.job job c.read_words.ensures c.in-Ok.is asks.job in
-    subst (λ (j : Asked). IsNamedBy j.request part (g.F.Files.shows c.do_job.new.files part)) same (c.do_job.ensures.parts.named part)
-
-pub returns-in-Err-clause-named : goal.returns-in-Err-clause-named
-returns-in-Err-clause-named g c = λ job asks part. nameless_by job.request part (g.F.Files.shows c.args.files.now part) (g.met.F.Files.unnamed c.args.files.now part (c.requires.fresh part))
-
-pub returns-in-Err-clause-bounded : goal.returns-in-Err-clause-bounded
-returns-in-Err-clause-bounded g c = record { platform = takes_none _ _ _ refl; deployment = takes_none _ _ _ refl }
-
-pub returns-in-Ok-clause-bounded : goal.returns-in-Ok-clause-bounded
-returns-in-Ok-clause-bounded g c = c.do_job.ensures.parts.bounded
-
-pub returns-in-Ok-clause-telling : goal.returns-in-Ok-clause-telling
-returns-in-Ok-clause-telling g c = c.do_job.ensures.parts.telling
 
 pub returns-in-Ok-clause-unseated : goal.returns-in-Ok-clause-unseated
 returns-in-Ok-clause-unseated g c = c.do_job.ensures.crew.refused

@@ -1,0 +1,25 @@
+-- What the whole call does: a job, or the refusal of words.
+use Rattle.std.specs.Prelude.{◌≡◌, ℕ, List, Option}
+use Rattle.sg_base.specs.declared.status.Status.{Status}
+use Rattle.sg_edge.specs.declared.files.Part.{Part}
+use Rattle.sg_edge.specs.declared.sinks.Stream.{Stream}
+use Rattle.sg_edge.specs.Files.{PartView}
+use Rattle.sg_engine.specs.RunContract.{IsReadOnDemand}
+use Rattle.clap.specs.Words.{Kinds}
+use Rattle.simgrid_replay.specs.Contexts.{TakesContexts}
+use Rattle.simgrid_replay.specs.Outcome.{HasOutcome, Outcome, ReportsWords}
+
+-- What was written, the status and the count of looks are those of the outcome; of the script at most 4,095 bytes more were
+-- taken than the Asks of the run need, and of the crew as many contexts as the outcome takes.
+pub record DoesJob {A : Type 0} (want : Outcome) (how : Status) (old new : Stream → Option (List ℕ)) (start count : ℕ) (before after : Part → PartView) (had has : List A) : Type 0 where
+  pub outcome : HasOutcome want how old new start count
+  pub needed : IsReadOnDemand want.need before after
+  pub taken : TakesContexts want how had has
+
+-- Help, the version, or what is wrong with the words was told: no part is begun, nobody takes a context, and nothing is
+-- looked at.
+pub record RefusesWords {F A : Type 0} (kinds : Kinds) (how : Status) (old new : Stream → Option (List ℕ)) (before after : F) (had has : List A) (start count : ℕ) : Type 0 where
+  pub told : ReportsWords kinds how old new
+  pub untouched : after ≡ before
+  pub spared : has ≡ had
+  pub unlooked : count ≡ start
