@@ -9,3 +9,4 @@ pub mod Standings
 pub mod Begins
 pub mod MadeRecords
 pub mod Keeping
+pub mod Turning

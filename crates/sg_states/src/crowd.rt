@@ -1,14 +1,15 @@
 //! The actors, and who of them is to take a turn or waits for another to end.
 ghost use Rattle.std.specs.Prelude.{◌≡◌, ◌-◌, ◌<◌, ◌≤◌, ◌+◌, ◌^◌, [], false, true, if◌then◌else◌, IfOk, IsTrue, MatchOption, None, length, map, replicate};
 ghost use Rattle.std.specs.List.{list_all, list_any};
-ghost use Rattle.sg_states.specs.Actors.{actor_at, first_actor, is_over, is_ready, joined_in, joiners, put_state, put_suspended, IsActor, IsJoiner};
+ghost use Rattle.sg_states.specs.declared.state.State.TheVariants.{Blocked, Ready};
+ghost use Rattle.sg_states.specs.Actors.{actor_at, first_actor, is_answered, is_blocked, is_over, is_ready, joined_in, joiners, put_state, put_suspended, state_at, IsActor, IsJoiner};
 ghost use Rattle.sg_states.specs.Queue.{is_ready_in, IsQueue};
 ghost use Rattle.sg_states.specs.kept.Waiting.{is_joining};
 
 use crate::joiners::{self, Joiner};
 use crate::queue;
 use crate::state::{Actor, State};
-use sg_base::{ActorId, Answer, Memory};
+use sg_base::{ActorId, Answer, Await, Call, Memory};
 use std::alloc::Global;
 use std::marker::Model;
 
@@ -61,6 +62,22 @@ fn counted(count: usize, was: bool, is: bool) -> usize
         return count;
     }
     if is { count + 1 } else { count - 1 }
+}
+
+// How many are ready without one that was, unless it is suspended.
+fn without_one(ready: usize, suspended: bool) -> usize
+    requires { suspended ≡ false → 0 < ready }
+    ensures { result + (if suspended then 0 else 1) ≡ ready }
+{
+    if suspended { ready } else { ready - 1 }
+}
+
+// How many are ready with one more, unless it is suspended.
+fn with_one(ready: usize, suspended: bool) -> usize
+    requires { ready < 2 ^ 63 }
+    ensures { result ≡ ready + (if suspended then 0 else 1) }
+{
+    if suspended { ready } else { ready + 1 }
 }
 
 // So many actors, none of which has started.
@@ -151,6 +168,52 @@ impl Crowd {
         self.ready = counted(self.ready, old.is_ready(), next.is_ready());
         self.over = counted(self.over, old.is_over(), next.is_over());
         self.actors[actor.index()] = next;
+    }
+
+    /// An actor that has an answer has this one from now on. It is ready as before, so only its state is touched.
+    pub(crate) fn put_answer(&mut self, actor: ActorId, answer: Answer)
+        requires actor { IsActor self.old.actors actor.0 }
+        requires answered { IsTrue (is_answered (state_at self.old.actors actor.0)) }
+        requires round { self.old.passing ≡ false }
+        ensures { self.new
+            ≡ record self.old { actors = put_state self.old.actors actor.0 (Ready answer) } }
+    {
+        self.actors[actor.index()].state = State::Ready(answer);
+    }
+
+    /// An actor that has an answer is blocked from now on.
+    pub(crate) fn put_blocked(&mut self, actor: ActorId, what: Call, since: u128, on: Option<Await>)
+        requires actor { IsActor self.old.actors actor.0 }
+        requires answered { IsTrue (is_answered (state_at self.old.actors actor.0)) }
+        requires round { self.old.passing ≡ false }
+        ensures { self.new ≡ record self.old {
+          actors = put_state self.old.actors actor.0 (Blocked what since on);
+        } }
+    {
+        joiners::enter_by(&mut self.joiners, &self.actors, actor, what);
+        let suspended = self.actors[actor.index()].suspended;
+        self.ready = without_one(self.ready, suspended);
+        self.actors[actor.index()].state = State::Blocked(what, since, on);
+    }
+
+    /// An actor that is blocked has this answer from now on.
+    pub(crate) fn put_reply(&mut self, actor: ActorId, answer: Answer)
+        requires actor { IsActor self.old.actors actor.0 }
+        requires blocked { IsTrue (is_blocked (state_at self.old.actors actor.0)) }
+        ensures { self.new
+            ≡ record self.old { actors = put_state self.old.actors actor.0 (Ready answer) } }
+    {
+        let suspended = self.actors[actor.index()].suspended;
+        queue::join_unless(
+            &mut self.queue,
+            &self.actors,
+            self.passing,
+            actor,
+            suspended,
+        );
+        joiners::let_go(&mut self.joiners, &self.actors, actor);
+        self.ready = with_one(self.ready, suspended);
+        self.actors[actor.index()].state = State::Ready(answer);
     }
 
     /// An actor is suspended from now on, or isn't any more.

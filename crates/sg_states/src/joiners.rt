@@ -3,13 +3,13 @@ ghost use Rattle.std.specs.Prelude.{◌≡◌, ◌^◌, ◌<◌, ◌≤◌, [], 
 ghost use Rattle.sg_base.specs.declared.ids.ActorId.{ActorId};
 ghost use Rattle.sg_states.specs.declared.joiners.Joiner.{Joiner};
 ghost use Rattle.sg_states.specs.declared.state.Actor.{Actor};
-ghost use Rattle.sg_states.specs.Actors.{actor_at, joined_in, joiners, put_actor, state_at, IsJoiner};
+ghost use Rattle.sg_states.specs.Actors.{actor_at, joined_by as joined_by_spec, joined_in, joiners, put_actor, state_at, IsJoiner};
 ghost use Rattle.sg_states.specs.Queue.{IsIdOf};
 ghost use Rattle.sg_states.specs.kept.Places.{IsPlace};
 ghost use Rattle.sg_states.specs.kept.Waiting.{is_joining, rank as rank_spec, AreWaiting};
 
 use crate::state::Actor;
-use sg_base::ActorId;
+use sg_base::{ActorId, Call};
 
 /// An actor that is blocked by the join of another.
 #[derive(Clone, Copy)]
@@ -65,6 +65,49 @@ fn leave(list: &mut Vec<Joiner>, of: ActorId, actor: ActorId)
 {
     let place = place_of(list, Joiner { of, actor });
     let _ = list.remove(place);
+}
+
+// Whom a call joins.
+fn joined_by(what: Call) -> Option<ActorId>
+    ensures { result ≡ joined_by_spec what }
+{
+    match what {
+        Call::Join(of) => Some(of),
+        _ => None,
+    }
+}
+
+/// The actor, which waits for nobody's end, is blocked by a call: it enters the list where that is a join.
+#[tactic(auto, using(crate::proofs::Waits::waiting_room, crate::proofs::Waits::waiting_same))]
+pub(crate) fn enter_by(list: &mut Vec<Joiner>, actors: &[Actor], actor: ActorId, what: Call)
+    requires actor { IsIdOf actors.now actor }
+    requires few { length actors.now < 2 ^ 32 }
+    requires idle { is_joining (actor_at actors.now actor.0) ≡ false }
+    requires waiting { AreWaiting actors.now list.old.items }
+    requires room { length actors.now ≤ vec_capacity list.old }
+    ensures waiting { (next : Actor) → joined_in next.state ≡ joined_by_spec what
+        → AreWaiting (put_actor actors.now actor.0 next) list.new.items }
+    ensures capacity { vec_capacity list.new ≡ vec_capacity list.old }
+{
+    match joined_by(what) {
+        Some(of) => enter(list, of, actor),
+        None => {}
+    }
+}
+
+/// The actor is blocked no longer: it leaves the list where it waited for the end of another.
+#[tactic(auto, using(crate::proofs::Waits::waiting_same))]
+pub(crate) fn let_go(list: &mut Vec<Joiner>, actors: &[Actor], actor: ActorId)
+    requires actor { IsIdOf actors.now actor }
+    requires waiting { AreWaiting actors.now list.old.items }
+    ensures waiting { (next : Actor) → joined_in next.state ≡ None
+        → AreWaiting (put_actor actors.now actor.0 next) list.new.items }
+    ensures capacity { vec_capacity list.new ≡ vec_capacity list.old }
+{
+    match actors[actor.index()].state.joined() {
+        Some(of) => leave(list, of, actor),
+        None => {}
+    }
 }
 
 /// The actor becomes the next one: it enters the list where it begins to wait, and leaves it where it goes on.

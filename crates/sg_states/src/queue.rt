@@ -1,5 +1,5 @@
 //! Who is to take a turn.
-ghost use Rattle.std.specs.Prelude.{◌≡◌, ◌-◌, ◌<◌, ◌≤◌, AllPairs, Contains, IsTrue, List, MatchOption, false, true, length, filter, slice_set, vec_len, vec_capacity};
+ghost use Rattle.std.specs.Prelude.{◌≡◌, ◌-◌, ◌<◌, ◌≤◌, AllPairs, Contains, IsTrue, List, MatchOption, false, true, not, length, filter, slice_set, vec_len, vec_capacity};
 ghost use Rattle.std.specs.List.Sorted.{IsNonDecreasingBy, IsPermutation};
 ghost use Rattle.sg_base.specs.declared.ids.ActorId.{ActorId};
 ghost use Rattle.sg_states.specs.declared.state.Actor.{Actor};
@@ -82,6 +82,28 @@ fn join(queue: &mut Vec<ActorId>, actors: &[Actor], passing: bool, actor: ActorI
         queue.push_reserved(actor)
     } else {
         join_in_order(queue, actor)
+    }
+}
+
+/// One that isn't ready has an answer from now on: it is to take a turn, unless it is suspended.
+#[tactic(auto, using(crate::proofs::Turning::queued_idle))]
+pub(crate) fn join_unless(
+    queue: &mut Vec<ActorId>,
+    actors: &[Actor],
+    passing: bool,
+    actor: ActorId,
+    suspended: bool,
+)
+    requires actor { IsIdOf actors.now actor }
+    requires idle { is_ready_in_spec actors.now actor.0 ≡ false }
+    requires queued { IsQueued passing actors.now queue.old.items }
+    requires room { length actors.now ≤ vec_capacity queue.old }
+    ensures queued { (next : Actor) → is_ready next ≡ not suspended
+        → IsQueued passing (put_actor actors.now actor.0 next) queue.new.items }
+    ensures capacity { vec_capacity queue.new ≡ vec_capacity queue.old }
+{
+    if !suspended {
+        join(queue, actors, passing, actor);
     }
 }
 

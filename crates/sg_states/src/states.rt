@@ -98,6 +98,14 @@ impl States {
         Ok(())
     }
 
+    /// A round begins for which there is room: lets those go from the run queue that aren't ready.
+    pub fn keep_ready(&mut self)
+        requires { self.old.passing ≡ false }
+        ensures { self.new ≡ self.old }
+    {
+        self.crowd.keep_ready();
+    }
+
     /// For how many calls there is room.
     pub fn room(&self) -> usize
         ensures { result ≡ self.now.room }
@@ -111,7 +119,7 @@ impl States {
         requires answer { IsAnswer self.old.extent answer }
         ensures { self.new ≡ by_call actor.0 (Ready answer) self.old }
     {
-        self.crowd.put_state(actor, State::Ready(answer));
+        self.crowd.put_answer(actor, answer);
         self.room -= 1;
     }
 
@@ -121,7 +129,7 @@ impl States {
         requires what { IsTellable self.old.extent what }
         ensures { self.new ≡ by_call actor.0 (Blocked what date on) self.old }
     {
-        self.crowd.put_state(actor, State::Blocked(what, date, on));
+        self.crowd.put_blocked(actor, what, date, on);
         self.room -= 1;
     }
 
@@ -147,7 +155,7 @@ impl States {
     {
         self.records
             .push_reserved(record_of(actor, what, date, bytes, answer, date));
-        self.crowd.put_state(actor, State::Ready(answer));
+        self.crowd.put_answer(actor, answer);
         self.room -= 1;
     }
 
@@ -173,7 +181,7 @@ impl States {
         let Blocking { what, since, .. } = blocking;
         self.records
             .push_reserved(record_of(actor, what, since, bytes, answer, date));
-        self.crowd.put_state(actor, State::Ready(answer));
+        self.crowd.put_reply(actor, answer);
     }
 
     /// Another starts the actor: it is to take a turn, with the answer Start.
