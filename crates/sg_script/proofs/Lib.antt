@@ -8,11 +8,13 @@ pub mod KnownLemmas
 pub mod LimitLemmas
 pub mod Meeting
 pub mod Needs
+pub mod PlainLemmas
 pub mod QueueLemmas
 pub mod Repeating
 pub mod Spending
 pub mod Splits
 pub mod StandLemmas
 pub mod Steps
+pub mod Taking
 pub mod Whole
 pub mod WordLemmas

@@ -1,7 +1,6 @@
 -- The lines that wait keep to the limits.
-use Rattle.std.proofs.Common.{◌≡◌, ◌<◌, ℕ, List, [], ◌∷◌, ◌++◌, length}
-use Rattle.std.specs.Prelude.{replicate, slice_set}
-use Rattle.std.specs.List.{All}
+use Rattle.std.proofs.Common.{◌≡◌, ◌<◌, ℕ, [], ◌∷◌, ◌++◌, length}
+use Rattle.std.specs.Prelude.{replicate}
 use Rattle.std.proofs.lemmas.List.Elements.{All-append, All-get_or, All-nil, All-replicate, All-set}
 use Rattle.sg_base.specs.Limits.{Extent}
 use Rattle.sg_script.specs.declared.operation.Operation.{Operation}

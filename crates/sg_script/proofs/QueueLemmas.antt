@@ -1,5 +1,5 @@
 -- One queue of a list of queues changes, and what is left of its lines.
-use Rattle.std.proofs.Common.{◌≡◌, ◌≢◌, ◌<◌, ◌≤◌, ◌+◌, ◌∙◌, sym, subst, ap, Bool, eqb, cond, ℕ, List, [], ◌∷◌, ◌++◌, length, get_or, drop, refl, zero, Option, None, Some, suc, arith, append_assoc, inl, inr}
+use Rattle.std.proofs.Common.{◌≡◌, ◌≢◌, ◌<◌, ◌+◌, ◌∙◌, sym, subst, ap, eqb, ℕ, List, [], ◌∷◌, ◌++◌, length, get_or, drop, refl, zero, Option, None, Some, suc, arith, inl, inr}
 use Rattle.std.specs.Prelude.{map, replicate, slice_get, slice_set}
 use Rattle.std.specs.List.{All, flat_map}
 use Rattle.std.proofs.Math.Seq.{map-set_same}
@@ -12,11 +12,12 @@ use Rattle.std.proofs.lemmas.List.Elements.{All-cons, All-drop, All-get_or, All-
 use Rattle.std.proofs.lemmas.Option.{get_or_from_slice_get, slice_get_cases, slice_get_within}
 use Rattle.sg_base.specs.declared.call.Action.{Action}
 use Rattle.sg_base.specs.declared.ids.ActorId.{ActorId}
-use Rattle.sg_base.specs.Limits.{Extent}
+use Rattle.sg_base.specs.Limits.{Extent, IsAction}
 use Rattle.sg_script.specs.declared.line.Entry.{Entry}
 use Rattle.sg_script.specs.declared.operation.Operation.{Operation}
+use Rattle.sg_script.specs.declared.operation.Operation.TheVariants.{Alone}
 use Rattle.sg_script.specs.declared.waiting.Waiting.{Waiting}
-use Rattle.sg_script.specs.kept.Queues.{AreOperations, left_of, queue_at, waits, with_first, with_line}
+use Rattle.sg_script.specs.kept.Queues.{AreOperations, left_of, queue_at, waits, with_first}
 use Rattle.sg_script.specs.kept.Steps.{HasQueue, queues_with}
 use Rattle.sg_script.specs.Known.{Known}
 use Rattle.sg_script.specs.Operation.{actions_for, IsOperation, line_actions}
@@ -56,6 +57,18 @@ limited_taken extent (x ∷ lines) line new is same all =
 pub limited_popped : (extent : Extent) (lines popped : List Waiting) (line new : Waiting) → line ≡ get_or lines 0 line → new.operation ≡ line.operation → popped ≡ drop 1 (slice_set lines 0 new) → AreOperations extent lines → AreOperations extent popped
 limited_popped extent lines popped line new is same popped_is all =
     subst (AreOperations extent) (sym popped_is) (All-drop (λ (l : Waiting). IsOperation extent l.operation) 1 (slice_set lines 0 new) (limited_taken extent lines line new is same all))
+
+-- it asks for an action alone, which is taken with it
+pub alone_first : (members : List ActorId) (actor : ℕ) (lines left : List Waiting) (action : Action) → lines ≡ record { operation = Alone action; place = 0 } ∷ left
+    → flat_map (left_of members actor) lines ≡ with_first (Some action) (flat_map (left_of members actor) left)
+alone_first members actor lines left action is =
+    ap (flat_map (left_of members actor)) is ∙ flat_map-cons (left_of members actor) (record { operation = Alone action; place = 0 }) left
+
+pub limited_alone : (extent : Extent) (lines left : List Waiting) (action : Action) → lines ≡ record { operation = Alone action; place = 0 } ∷ left → AreOperations extent lines → IsAction extent action × AreOperations extent left
+limited_alone extent lines left action is all =
+    let alone : Waiting = record { operation = Alone action; place = 0 } in
+    let now : AreOperations extent (alone ∷ left) = subst (AreOperations extent) is all in
+    (now 0 alone (omega arith), All-tail (λ (l : Waiting). IsOperation extent l.operation) alone left now)
 
 -- nothing is left of it
 pub left_popped : (members : List ActorId) (actor : ℕ) (lines popped : List Waiting) (line new : Waiting) → line ≡ get_or lines 0 line → left_of members actor line ≡ [] → popped ≡ drop 1 (slice_set lines 0 new) → flat_map (left_of members actor) popped ≡ flat_map (left_of members actor) lines

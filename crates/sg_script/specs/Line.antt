@@ -46,11 +46,6 @@ abbrev pub two_words : List (List ℕ) → Result (List ℕ × List ℕ) LineFau
 two_words (first ∷ second ∷ []) = Ok (first, second)
 two_words other = Err ArgumentCount
 
--- the only three arguments
-abbrev pub three_words : List (List ℕ) → Result (List ℕ × List ℕ × List ℕ) LineFault
-three_words (first ∷ second ∷ third ∷ []) = Ok (first, second, third)
-three_words other = Err ArgumentCount
-
 -- an argument that a reader of units refuses is a bad amount
 abbrev pub or_bad_amount : Result ℕ AmountFault → Result ℕ LineFault
 or_bad_amount (Ok n) = Ok n

@@ -1,4 +1,5 @@
 -- How a script keeps what was read, and the steps by which an Ask is answered.
+pub mod Arguments
 pub mod Front
 pub mod Queues
 pub mod Spending

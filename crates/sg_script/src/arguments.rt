@@ -3,12 +3,12 @@ ghost use Rattle.std.specs.Prelude.{◌≡◌, IfOk, Ok};
 ghost use Rattle.sg_base.specs.Limits.{IsActorIn, IsAmount, IsMutexIn, IsPriority, IsRate, IsSemaphoreIn, IsTime};
 ghost use Rattle.sg_rows.specs.Deployment.{extent_of};
 ghost use Rattle.sg_script.specs.Known.{known_in};
-ghost use Rattle.sg_script.specs.Line.{actor_in, alone, amount_in, amounts_of, anyone_in, anyone_of, computing_of, message_of, mutex_in, no_words, priority_in, rate_in, receiving_of, semaphore_in, sending_of, then_go, time_in};
+ghost use Rattle.sg_script.specs.Line.{actor_in, alone, amount_in, amounts_of, anyone_in, anyone_of, computing_of, mutex_in, no_words, priority_in, rate_in, receiving_of, semaphore_in, sending_of, then_go, time_in};
 ghost use Rattle.sg_script.specs.Words.{words};
 
 use crate::fault::LineFault;
 use crate::operation::Operation;
-use crate::words::{none, one, three, two};
+use crate::words::{Arguments, cut_arguments, none, one, two};
 use sg_base::{Action, ActorId};
 use sg_rows::Deployment;
 use sg_units::{read_amount, read_bandwidth, read_time};
@@ -109,21 +109,13 @@ pub fn computing(text: &[u8]) -> Result<(u64, u32), LineFault>
     ensures said { result ≡ computing_of (words text.now) }
     ensures limits { IfOk result (λ both. IsAmount both.0 × IsPriority both.1) }
 {
-    let Ok((flops, second)) = two(text) else {
-        return Ok((amount(one(text)?)?, 1));
-    };
-    Ok((amount(flops)?, priority(second)?))
-}
-
-/// A peer and an amount.
-fn message(text: &[u8], deployment: &Deployment) -> Result<(ActorId, u64), LineFault>
-    ensures said { result ≡ message_of (known_in deployment.now) (words text.now) }
-    ensures limits { IfOk result
-        (λ both. IsActorIn (extent_of deployment.now) both.0 × IsAmount both.1) }
-{
-    let (name, bytes) = two(text)?;
-    let peer = actor(name, deployment)?;
-    Ok((peer, amount(bytes)?))
+    match cut_arguments(text) {
+        Arguments::One(flops) => Ok((amount(flops)?, 1)),
+        Arguments::Two(flops, second) => Ok((amount(flops)?, priority(second)?)),
+        Arguments::Zero => Err(LineFault::ArgumentCount),
+        Arguments::Three(_, _, _) => Err(LineFault::ArgumentCount),
+        Arguments::More => Err(LineFault::ArgumentCount),
+    }
 }
 
 /// A peer, an amount, and a rate, which is 0 where there is none.
@@ -132,12 +124,19 @@ pub fn sending(text: &[u8], deployment: &Deployment) -> Result<(ActorId, u64, u6
     ensures limits { IfOk result
         (λ all. IsActorIn (extent_of deployment.now) all.0 × IsAmount all.1 × IsRate all.2) }
 {
-    let Ok((name, bytes, most)) = three(text) else {
-        let (peer, bytes) = message(text, deployment)?;
-        return Ok((peer, bytes, 0));
-    };
-    let to = actor(name, deployment)?;
-    Ok((to, amount(bytes)?, rate(most)?))
+    match cut_arguments(text) {
+        Arguments::Two(name, bytes) => {
+            let to = actor(name, deployment)?;
+            Ok((to, amount(bytes)?, 0))
+        }
+        Arguments::Three(name, bytes, most) => {
+            let to = actor(name, deployment)?;
+            Ok((to, amount(bytes)?, rate(most)?))
+        }
+        Arguments::Zero => Err(LineFault::ArgumentCount),
+        Arguments::One(_) => Err(LineFault::ArgumentCount),
+        Arguments::More => Err(LineFault::ArgumentCount),
+    }
 }
 
 /// A peer, and an amount that is read where there is one, and has no effect.
@@ -145,11 +144,17 @@ pub fn receiving(text: &[u8], deployment: &Deployment) -> Result<ActorId, LineFa
     ensures said { result ≡ receiving_of (known_in deployment.now) (words text.now) }
     ensures exists { IfOk result (IsActorIn (extent_of deployment.now)) }
 {
-    let Ok(name) = one(text) else {
-        let (peer, _) = message(text, deployment)?;
-        return Ok(peer);
-    };
-    actor(name, deployment)
+    match cut_arguments(text) {
+        Arguments::One(name) => actor(name, deployment),
+        Arguments::Two(name, bytes) => {
+            let peer = actor(name, deployment)?;
+            amount(bytes)?;
+            Ok(peer)
+        }
+        Arguments::Zero => Err(LineFault::ArgumentCount),
+        Arguments::Three(_, _, _) => Err(LineFault::ArgumentCount),
+        Arguments::More => Err(LineFault::ArgumentCount),
+    }
 }
 
 /// An actor, whatever it does.

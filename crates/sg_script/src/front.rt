@@ -3,7 +3,7 @@ ghost use Rattle.std.specs.Prelude.{ℕ, ◌≡◌, ◌≢◌, ◌≤◌, ◌<�
 ghost use Rattle.std.specs.List.{position};
 ghost use Rattle.sg_edge.specs.declared.files.Stage.TheVariants.{Fresh, Over};
 ghost use Rattle.sg_script.specs.Answer.{is_newline, is_last_line};
-ghost use Rattle.sg_script.specs.kept.Front.{FrontIs};
+ghost use Rattle.sg_script.specs.kept.Front.{FrontIs, IsUnbroken};
 
 use crate::judging::MOST_LINES;
 use crate::line::LONGEST_LINE;
@@ -37,10 +37,11 @@ fn is_bad(bytes: &[u8], before: u64) -> bool
 }
 
 // What stands behind the last newline, where no more is to come.
-#[tactic(auto, using(crate::proofs::FrontLemmas::leads_last))]
+#[tactic(auto, using(crate::proofs::FrontLemmas::leads_last, crate::proofs::PlainLemmas::unbroken_none))]
 fn last_line(bytes: &[u8]) -> Front
     requires { position is_newline bytes.now ≡ None }
-    ensures { (before : ℕ) → FrontIs Over before bytes.now result }
+    ensures front { (before : ℕ) → FrontIs Over before bytes.now result }
+    ensures unbroken { IsUnbroken bytes.now result }
 {
     let len = bytes.len();
     if len == 0 {
@@ -50,11 +51,12 @@ fn last_line(bytes: &[u8]) -> Front
 }
 
 // What stands behind the last newline.
-#[tactic(auto, using(crate::proofs::FrontLemmas::leads_bad, crate::proofs::FrontLemmas::is_short))]
+#[tactic(auto, using(crate::proofs::FrontLemmas::leads_bad, crate::proofs::FrontLemmas::is_short, crate::proofs::PlainLemmas::unbroken_none))]
 fn behind_newlines(bytes: &[u8], before: u64, stage: Stage) -> Front
     requires begun { stage ≢ Fresh }
     requires newline { position is_newline bytes.now ≡ None }
-    ensures { FrontIs stage before bytes.now result }
+    ensures front { FrontIs stage before bytes.now result }
+    ensures unbroken { IsUnbroken bytes.now result }
 {
     let len = bytes.len();
     if is_bad(bytes, before) {
@@ -68,10 +70,11 @@ fn behind_newlines(bytes: &[u8], before: u64, stage: Stage) -> Front
 }
 
 /// What stands at the front of these bytes, before which so many lines were.
-#[tactic(auto, using(crate::proofs::FrontLemmas::leads_newline, crate::proofs::FrontLemmas::below))]
+#[tactic(auto, using(crate::proofs::FrontLemmas::leads_newline, crate::proofs::FrontLemmas::below, crate::proofs::PlainLemmas::unbroken_some))]
 pub fn front_of(bytes: &[u8], before: u64, stage: Stage) -> Front
     requires { stage ≢ Fresh }
-    ensures { FrontIs stage before bytes.now result }
+    ensures front { FrontIs stage before bytes.now result }
+    ensures unbroken { IsUnbroken bytes.now result }
 {
     match newline_at(bytes) {
         Some(len) => Front::Line { len, end: len + 1 },

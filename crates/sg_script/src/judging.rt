@@ -1,25 +1,32 @@
 //! The judgement of a line by its number too.
-ghost use Rattle.std.specs.Prelude.{◌≡◌, ◌≤◌, ◌+◌};
+ghost use Rattle.std.specs.Prelude.{◌≡◌, ◌≤◌, ◌+◌, IsTrue, true};
+ghost use Rattle.std.specs.List.{list_all};
 ghost use Rattle.sg_rows.specs.Deployment.{extent_of};
 ghost use Rattle.sg_script.specs.Answer.{judgement_of};
 ghost use Rattle.sg_script.specs.Known.{known_in};
-ghost use Rattle.sg_script.specs.Line.{KeepsLimits};
+ghost use Rattle.sg_script.specs.Line.{is_plain, KeepsLimits};
 
 use crate::fault::LineFault;
-use crate::line::{Entry, read_line};
+use crate::line::{Entry, read_known_line};
 use sg_rows::Deployment;
 
 /// The most lines of a script.
 pub const MOST_LINES: u64 = 100_000_000;
 
-/// The judgement of a line before which so many lines stand.
-pub fn judge(line: &[u8], before: u64, deployment: &Deployment) -> Result<Option<Entry>, LineFault>
-    requires { before ≤ 100000000 }
+/// The judgement of a line before which so many lines stand, of which it may be known that it is plain.
+pub fn judge(
+    line: &[u8],
+    before: u64,
+    plain: bool,
+    deployment: &Deployment,
+) -> Result<Option<Entry>, LineFault>
+    requires few { before ≤ 100000000 }
+    requires plain { IsTrue plain → list_all is_plain line.now ≡ true }
     ensures said { result ≡ judgement_of (known_in deployment.now) (before + 1) line.now }
     ensures limits { KeepsLimits (extent_of deployment.now) result }
 {
     if before >= MOST_LINES {
         return Err(LineFault::TooManyLines);
     }
-    read_line(line, deployment)
+    read_known_line(line, plain, deployment)
 }

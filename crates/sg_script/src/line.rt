@@ -1,5 +1,5 @@
 //! What one line of a script says.
-ghost use Rattle.std.specs.Prelude.{◌≡◌, IfOk};
+ghost use Rattle.std.specs.Prelude.{◌≡◌, IfOk, IsTrue, true};
 ghost use Rattle.std.specs.List.{list_all};
 ghost use Rattle.sg_rows.specs.Deployment.{extent_of};
 ghost use Rattle.sg_script.specs.Known.{known_in};
@@ -126,6 +126,14 @@ fn is_ascii(text: &[u8]) -> bool
         .all(|b| *b == b'\t' || (b' '..=b'~').contains(b))
 }
 
+// Whether all bytes are plain, where it may be known already.
+fn all_plain(text: &[u8], plain: bool) -> bool
+    requires { IsTrue plain → list_all is_plain text.now ≡ true }
+    ensures { result ≡ list_all is_plain text.now }
+{
+    plain || is_ascii(text)
+}
+
 fn without_end(line: &[u8]) -> &[u8]
     ensures { result.now ≡ without_return line.entry.now }
 {
@@ -135,7 +143,8 @@ fn without_end(line: &[u8]) -> &[u8]
     }
 }
 
-fn read_text(text: &[u8], deployment: &Deployment) -> Result<Option<Entry>, LineFault>
+fn read_text(text: &[u8], plain: bool, deployment: &Deployment) -> Result<Option<Entry>, LineFault>
+    requires { IsTrue plain → list_all is_plain text.now ≡ true }
     ensures said { result ≡ text_of (known_in deployment.now) text.now }
     ensures limits { KeepsLimits (extent_of deployment.now) result }
 {
@@ -145,10 +154,27 @@ fn read_text(text: &[u8], deployment: &Deployment) -> Result<Option<Entry>, Line
     if let [b'#', ..] = first {
         return Ok(None);
     }
-    if !is_ascii(text) {
+    if !all_plain(text, plain) {
         return Err(LineFault::NotAscii);
     }
     read_entry(first, rest, deployment)
+}
+
+/// The same as `read_line`, where it may be known that the bytes are plain.
+#[tactic(auto, using(crate::proofs::PlainLemmas::plain_without))]
+pub fn read_known_line(
+    line: &[u8],
+    plain: bool,
+    deployment: &Deployment,
+) -> Result<Option<Entry>, LineFault>
+    requires { IsTrue plain → list_all is_plain line.now ≡ true }
+    ensures said { result ≡ line_of (known_in deployment.now) line.now }
+    ensures limits { KeepsLimits (extent_of deployment.now) result }
+{
+    if line.len() > LONGEST_LINE {
+        return Err(LineFault::TooLong);
+    }
+    read_text(without_end(line), plain, deployment)
 }
 
 /// What a line says, without its newline: `None` where it is passed over.
@@ -160,8 +186,5 @@ pub fn read_line(line: &[u8], deployment: &Deployment) -> Result<Option<Entry>, 
     ensures said { result ≡ line_of (known_in deployment.now) line.now }
     ensures limits { KeepsLimits (extent_of deployment.now) result }
 {
-    if line.len() > LONGEST_LINE {
-        return Err(LineFault::TooLong);
-    }
-    read_text(without_end(line), deployment)
+    read_known_line(line, false, deployment)
 }

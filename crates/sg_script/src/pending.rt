@@ -1,5 +1,7 @@
 //! Bytes that were read and belong to no line yet.
-ghost use Rattle.std.specs.Prelude.{◌≡◌, ◌≤◌, ◌++◌, [], length, drop, IfOk};
+ghost use Rattle.std.specs.Prelude.{◌≡◌, ◌≤◌, ◌++◌, [], length, drop, IfOk, IsTrue, true};
+ghost use Rattle.std.specs.List.{list_all};
+ghost use Rattle.sg_script.specs.kept.Front.{is_text as is_text_spec};
 
 use sg_base::Memory;
 use std::alloc::Global;
@@ -13,18 +15,40 @@ pub const PIECE: usize = 4096;
 pub struct Pending {
     buffer: Vec<u8>,
     at: usize,
+    /// Whether each byte of the buffer may stand in a line, or ends one.
+    plain: bool,
 }
 
 impl Model for Pending {
-    ghost use Rattle.std.specs.Prelude.{ℕ, List, length, drop, ◌≤◌};
+    ghost use Rattle.std.specs.Prelude.{ℕ, List, length, drop, ◌≡◌, ◌≤◌};
+    ghost use Rattle.std.specs.List.{list_all};
     ghost use Rattle.std.specs.Vec.{vec_capacity};
+    ghost use Rattle.sg_script.specs.kept.Front.{is_text};
 
     ghost Value = { List ℕ };
 
     ghost view = { λ p. drop p.at p.buffer.items };
 
     ghost invariant = { λ p. (p.at ≤ length p.buffer.items)
-        × (length p.buffer.items ≤ 8192) × (8192 ≤ vec_capacity p.buffer) };
+        × (length p.buffer.items ≤ 8192) × (8192 ≤ vec_capacity p.buffer)
+        × (p.plain ≡ list_all is_text p.buffer.items) };
+}
+
+fn is_text(b: u8) -> bool
+    ensures { result ≡ is_text_spec b }
+{
+    b == b'\t' || b == b'\n' || (b' ' <= b && b <= b'~')
+}
+
+// Whether each of these bytes may stand in a line, or ends one. It looks at all of them, many at a time.
+fn are_text(bytes: &[u8]) -> bool
+    ensures { result ≡ list_all is_text_spec bytes.now }
+{
+    let mut all = true;
+    for b in bytes {
+        all = all & is_text(*b);
+    }
+    all
 }
 
 impl Pending {
@@ -34,6 +58,7 @@ impl Pending {
         Ok(Pending {
             buffer: Vec::with_capacity(alloc, 2 * PIECE)?,
             at: 0,
+            plain: true,
         })
     }
 
@@ -42,6 +67,14 @@ impl Pending {
         ensures few { length result.now ≤ 8192 }
     {
         &self.buffer[self.at..]
+    }
+
+    /// Whether it is known that each byte may stand in a line, or ends one.
+    #[tactic(auto, using(crate::proofs::PlainLemmas::all_dropped))]
+    pub fn is_plain(&self) -> bool
+        ensures { IsTrue result → list_all is_text_spec self.now ≡ true }
+    {
+        self.plain
     }
 
     /// Takes so many bytes off the front.
@@ -65,5 +98,6 @@ impl Pending {
         self.buffer.clear();
         let _ = self.buffer.extend_from_slice(&bytes[..n]);
         let _ = self.buffer.extend_from_slice(piece);
+        self.plain = are_text(&self.buffer);
     }
 }

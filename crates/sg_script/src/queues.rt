@@ -1,6 +1,7 @@
 //! The lines that wait for each actor, first in, first out.
-ghost use Rattle.std.specs.Prelude.{◌≡◌, ◌<◌, [], length, replicate, slice_set, All, IfOk, IfNone, IfSome, OnOk, OnErr};
+ghost use Rattle.std.specs.Prelude.{◌≡◌, ◌<◌, [], ◌∷◌, length, replicate, slice_set, All, IfOk, IfNone, IfSome, MatchOption, OnOk, OnErr};
 ghost use Rattle.std.specs.List.{flat_map};
+ghost use Rattle.sg_script.specs.declared.operation.Operation.TheVariants.{Alone};
 ghost use Rattle.sg_base.specs.Limits.{Extent, IsAction, IsActorIn};
 ghost use Rattle.sg_script.specs.kept.Queues.{AreOperations, left_of, queue_at, waits, with_first, with_line};
 
@@ -27,8 +28,27 @@ impl Model for Queues {
     ghost view = { λ q. map (λ list. list.items) q.lists.items };
 }
 
+// Takes the line at the front, where it asks for an action alone.
+fn take_alone(lines: &mut VecDeque<Waiting>) -> Option<Action>
+    ensures { MatchOption result (lines.new.items ≡ lines.old.items)
+        (λ action. lines.old.items
+        ≡ record { operation = Alone action; place = 0 } ∷ lines.new.items) }
+{
+    let action = match lines.front() {
+        Some(
+            Waiting {
+                operation: Operation::Alone(action),
+                place: 0,
+            },
+        ) => *action,
+        _ => return None,
+    };
+    lines.pop_front();
+    Some(action)
+}
+
 // Takes the next action of the lines of an actor, and lets the lines before it go, of which nothing is left.
-fn take_first(lines: &mut VecDeque<Waiting>, actor: ActorId, members: &Members) -> Option<Action>
+fn take_next(lines: &mut VecDeque<Waiting>, actor: ActorId, members: &Members) -> Option<Action>
     ensures first { flat_map (left_of members.now actor.0) lines.old.items
         ≡ with_first result (flat_map (left_of members.now actor.0) lines.new.items) }
     ensures empty { IfNone result (flat_map (left_of members.now actor.0) lines.old.items ≡ []) }
@@ -43,6 +63,22 @@ fn take_first(lines: &mut VecDeque<Waiting>, actor: ActorId, members: &Members) 
         lines.pop_front();
     }
     None
+}
+
+// The same. An action alone goes with its line, so that no line is looked at of which nothing is left.
+#[tactic(auto, using(crate::proofs::QueueLemmas::alone_first))]
+fn take_first(lines: &mut VecDeque<Waiting>, actor: ActorId, members: &Members) -> Option<Action>
+    ensures first { flat_map (left_of members.now actor.0) lines.old.items
+        ≡ with_first result (flat_map (left_of members.now actor.0) lines.new.items) }
+    ensures empty { IfNone result (flat_map (left_of members.now actor.0) lines.old.items ≡ []) }
+    ensures limited { (extent : Extent) → All (IsActorIn extent) members.now
+        → AreOperations extent lines.old.items
+        → IfSome result (IsAction extent) × AreOperations extent lines.new.items }
+{
+    match take_alone(lines) {
+        Some(action) => Some(action),
+        None => take_next(lines, actor, members),
+    }
 }
 
 impl Queues {

@@ -1,17 +1,21 @@
 //! A script of which lines are read when an actor asks for one.
-ghost use Rattle.std.specs.Prelude.{◌≡◌, ◌≢◌, ◌<◌, ◌≤◌, ◌+◌, ℕ, List, [], length, take, drop, IfOk, IfSome, Ok};
+ghost use Rattle.std.specs.Prelude.{◌≡◌, ◌≢◌, ◌<◌, ◌≤◌, ◌+◌, ℕ, ⊤, List, [], length, take, drop, IfOk, IfSome, MatchOption, Ok, Some, true};
+ghost use Rattle.std.specs.List.{list_all};
 ghost use Rattle.sg_base.specs.Limits.{Extent, IsAction};
 ghost use Rattle.sg_edge.specs.declared.files.Stage.TheVariants.{Fresh, Begun};
 ghost use Rattle.sg_edge.specs.Files.{Only};
 ghost use Rattle.sg_rows.specs.Deployment.{extent_of, members_of};
 ghost use Rattle.sg_script.specs.Answer.{judgement_of};
 ghost use Rattle.sg_script.specs.Known.{known_in, actors_in};
+ghost use Rattle.sg_script.specs.declared.operation.Operation.TheVariants.{Alone};
 ghost use Rattle.sg_script.specs.Operation.{IsOperation};
+ghost use Rattle.sg_script.specs.kept.Front.{is_within};
 
 use crate::fault::ScriptFault;
 use crate::front::{Front, front_of};
 use crate::judging::judge;
 use crate::line::Entry;
+use crate::operation::Operation;
 use crate::pending::{PIECE, Pending};
 use crate::queues::Queues;
 use sg_base::{Action, ActorId, Memory};
@@ -21,6 +25,17 @@ use std::alloc::Global;
 
 // What an Ask is answered.
 type Answer = Result<Option<Action>, ScriptFault>;
+
+// What a line of this actor asks for, where it is an action alone.
+fn own_action(entry: Entry, actor: ActorId) -> Option<Action>
+    ensures { MatchOption result ⊤
+        (λ action. (entry.actor.0 ≡ actor.0) × (entry.operation ≡ Alone action)) }
+{
+    match entry.operation {
+        Operation::Alone(action) if entry.actor.0 == actor.0 => Some(action),
+        _ => None,
+    }
+}
 
 /// A script that is read as far as the answers to Asks need it.
 ///
@@ -91,27 +106,6 @@ impl Script {
         }
     }
 
-    // Takes the line at the front, which has `len` bytes and takes `end`: the fault, where there is one.
-    #[tactic(auto, using(crate::proofs::LimitLemmas::limited_same))]
-    fn take_line(&mut self, len: usize, end: usize, deployment: &Deployment) -> Option<ScriptFault>
-        requires len { len ≤ end }
-        requires end { end ≤ length self.old.pending }
-        requires actors { actors_in deployment.now < length self.old.queues }
-        requires waiting { AreLimited (extent_of deployment.now) (kept_of self.old) }
-        ensures line { LineIs (judgement_of (known_in deployment.now) (self.old.before + 1)
-            (take len self.old.pending)) end result (kept_of self.old) (kept_of self.new) }
-        ensures waiting { AreLimited (extent_of deployment.now) (kept_of self.new) }
-    {
-        match judge(&self.pending.bytes()[..len], self.before, deployment) {
-            Err(kind) => Some(ScriptFault::Line(self.before + 1, kind)),
-            Ok(None) => {
-                self.pass(end);
-                None
-            }
-            Ok(Some(entry)) => self.take_entry(entry, end),
-        }
-    }
-
     // Takes the first action that waits for the actor.
     fn take_waiting(&mut self, actor: ActorId, deployment: &Deployment) -> Option<Action>
         requires actor { actor.0 < length self.old.queues }
@@ -124,7 +118,44 @@ impl Script {
         self.queues.pop(actor, deployment.members())
     }
 
-    // Takes the line at the front: the answer is the first action that then waits for the actor, where one does.
+    // Takes a good line, where no action waits for the actor that asks: the answer is the first one that then waits for
+    // it, where one does. An action alone of that actor never goes into its queue.
+    #[tactic(auto, using(crate::proofs::LimitLemmas::limited_same))]
+    fn answer_by_entry(
+        &mut self,
+        entry: Entry,
+        end: usize,
+        actor: ActorId,
+        deployment: &Deployment,
+    ) -> Option<Answer>
+        requires end { end ≤ length self.old.pending }
+        requires few { self.old.before < 100000000 }
+        requires within { entry.actor.0 < length self.old.queues }
+        requires actor { actor.0 < length self.old.queues }
+        requires empty { waits (members_of deployment.now) self.old.queues actor.0 ≡ [] }
+        requires limited { IsOperation (extent_of deployment.now) entry.operation }
+        requires waiting { AreLimited (extent_of deployment.now) (kept_of self.old) }
+        ensures line { LineTells (known_in deployment.now) (Ok (Some entry)) end actor.0 result
+            (kept_of self.old) (kept_of self.new) }
+        ensures limited { IfSome result (IsLimited (extent_of deployment.now)) }
+        ensures waiting { AreLimited (extent_of deployment.now) (kept_of self.new) }
+    {
+        if let Some(action) = own_action(entry, actor) {
+            self.pass(end);
+            return Some(Ok(Some(action)));
+        }
+        if let Some(fault) = self.take_entry(entry, end) {
+            return Some(Err(fault));
+        }
+        match self.take_waiting(actor, deployment) {
+            Some(action) => Some(Ok(Some(action))),
+            None => None,
+        }
+    }
+
+    // Takes the line at the front, which has `len` bytes and takes `end`, where no action waits for the actor that asks:
+    // the answer is the first one that then waits for it, where one does.
+    #[tactic(auto, using(crate::proofs::LimitLemmas::limited_same, crate::proofs::PlainLemmas::plain_line))]
     fn answer_by_line(
         &mut self,
         len: usize,
@@ -134,8 +165,10 @@ impl Script {
     ) -> Option<Answer>
         requires len { len ≤ end }
         requires end { end ≤ length self.old.pending }
+        requires unbroken { list_all is_within (take len self.old.pending) ≡ true }
         requires actors { actors_in deployment.now < length self.old.queues }
         requires actor { actor.0 < length self.old.queues }
+        requires empty { waits (members_of deployment.now) self.old.queues actor.0 ≡ [] }
         requires waiting { AreLimited (extent_of deployment.now) (kept_of self.old) }
         ensures line { LineTells (known_in deployment.now)
             (judgement_of (known_in deployment.now) (self.old.before + 1)
@@ -143,12 +176,14 @@ impl Script {
         ensures limited { IfSome result (IsLimited (extent_of deployment.now)) }
         ensures waiting { AreLimited (extent_of deployment.now) (kept_of self.new) }
     {
-        if let Some(fault) = self.take_line(len, end, deployment) {
-            return Some(Err(fault));
-        }
-        match self.take_waiting(actor, deployment) {
-            Some(action) => Some(Ok(Some(action))),
-            None => None,
+        let plain = self.pending.is_plain();
+        match judge(&self.pending.bytes()[..len], self.before, plain, deployment) {
+            Err(kind) => Some(Err(ScriptFault::Line(self.before + 1, kind))),
+            Ok(None) => {
+                self.pass(end);
+                None
+            }
+            Ok(Some(entry)) => self.answer_by_entry(entry, end, actor, deployment),
         }
     }
 

@@ -1,6 +1,6 @@
 //! The actions of a script by their words.
 ghost use Rattle.std.specs.Prelude.{◌≡◌};
-ghost use Rattle.sg_script.specs.Verbs.{rows, verb_in, verb_of};
+ghost use Rattle.sg_script.specs.Verbs.{rarer_verbs, verb_in, verb_of};
 
 /// An action without its arguments.
 #[derive(Clone, Copy)]
@@ -29,43 +29,44 @@ pub enum Verb {
     Alltoall,
 }
 
-/// An action and its word.
-type VerbRow = (&'static [u8], Verb);
+// Each word is of a length that is known where it is compared, so that most are told apart by their lengths alone.
 
-const VERBS: [VerbRow; 22] = [
-    (b"compute", Verb::Compute),
-    (b"sleep", Verb::Sleep),
-    (b"send", Verb::Send),
-    (b"isend", Verb::ISend),
-    (b"recv", Verb::Recv),
-    (b"irecv", Verb::IRecv),
-    (b"wait", Verb::Wait),
-    (b"barrier", Verb::Barrier),
-    (b"yield", Verb::Yield),
-    (b"lock", Verb::Lock),
-    (b"unlock", Verb::Unlock),
-    (b"acquire", Verb::Acquire),
-    (b"release", Verb::Release),
-    (b"create", Verb::Create),
-    (b"join", Verb::Join),
-    (b"kill", Verb::Kill),
-    (b"suspend", Verb::Suspend),
-    (b"resume", Verb::Resume),
-    (b"bcast", Verb::Bcast),
-    (b"reduce", Verb::Reduce),
-    (b"allreduce", Verb::Allreduce),
-    (b"alltoall", Verb::Alltoall),
-];
-
-// The action of that word in a table.
-fn verb_in(mut table: &[VerbRow], word: &[u8]) -> Option<Verb>
-    ensures { result ≡ verb_in (rows table.entry.now) word.now }
+// The action of a word that is none of the usual ones.
+fn read_rarer_verb(word: &[u8]) -> Option<Verb>
+    ensures { result ≡ verb_in rarer_verbs word.now }
 {
-    while let [(name, verb), rest @ ..] = table {
-        if *name == word {
-            return Some(*verb);
-        }
-        table = rest;
+    if b"acquire".as_slice() == word {
+        return Some(Verb::Acquire);
+    }
+    if b"release".as_slice() == word {
+        return Some(Verb::Release);
+    }
+    if b"create".as_slice() == word {
+        return Some(Verb::Create);
+    }
+    if b"join".as_slice() == word {
+        return Some(Verb::Join);
+    }
+    if b"kill".as_slice() == word {
+        return Some(Verb::Kill);
+    }
+    if b"suspend".as_slice() == word {
+        return Some(Verb::Suspend);
+    }
+    if b"resume".as_slice() == word {
+        return Some(Verb::Resume);
+    }
+    if b"bcast".as_slice() == word {
+        return Some(Verb::Bcast);
+    }
+    if b"reduce".as_slice() == word {
+        return Some(Verb::Reduce);
+    }
+    if b"allreduce".as_slice() == word {
+        return Some(Verb::Allreduce);
+    }
+    if b"alltoall".as_slice() == word {
+        return Some(Verb::Alltoall);
     }
     None
 }
@@ -74,5 +75,38 @@ fn verb_in(mut table: &[VerbRow], word: &[u8]) -> Option<Verb>
 pub fn read_verb(word: &[u8]) -> Option<Verb>
     ensures { result ≡ verb_of word.now }
 {
-    verb_in(&VERBS, word)
+    if b"compute".as_slice() == word {
+        return Some(Verb::Compute);
+    }
+    if b"sleep".as_slice() == word {
+        return Some(Verb::Sleep);
+    }
+    if b"send".as_slice() == word {
+        return Some(Verb::Send);
+    }
+    if b"isend".as_slice() == word {
+        return Some(Verb::ISend);
+    }
+    if b"recv".as_slice() == word {
+        return Some(Verb::Recv);
+    }
+    if b"irecv".as_slice() == word {
+        return Some(Verb::IRecv);
+    }
+    if b"wait".as_slice() == word {
+        return Some(Verb::Wait);
+    }
+    if b"barrier".as_slice() == word {
+        return Some(Verb::Barrier);
+    }
+    if b"yield".as_slice() == word {
+        return Some(Verb::Yield);
+    }
+    if b"lock".as_slice() == word {
+        return Some(Verb::Lock);
+    }
+    if b"unlock".as_slice() == word {
+        return Some(Verb::Unlock);
+    }
+    read_rarer_verb(word)
 }

@@ -2,7 +2,8 @@
 ghost use Rattle.std.specs.Prelude.{◌≡◌, ◌∷◌, ◌<◌, [], length, IfSome, MatchOption, MatchResult, Ok, Err};
 ghost use Rattle.std.specs.List.{position, slice_split};
 ghost use Rattle.sg_script.specs.Words.{is_blank, words};
-ghost use Rattle.sg_script.specs.Line.{no_words, one_word, three_words, two_words};
+ghost use Rattle.sg_script.specs.Line.{no_words, one_word, two_words};
+ghost use Rattle.sg_script.specs.kept.Arguments.{AreArguments};
 
 use crate::fault::LineFault;
 
@@ -46,6 +47,36 @@ pub fn next_word(text: &[u8]) -> Option<(&[u8], &[u8])>
     }
 }
 
+/// The words of a text, as far as an action can have arguments.
+#[derive(Clone, Copy)]
+pub enum Arguments<'a> {
+    Zero,
+    One(&'a [u8]),
+    Two(&'a [u8], &'a [u8]),
+    Three(&'a [u8], &'a [u8], &'a [u8]),
+    /// More than three.
+    More,
+}
+
+/// The words of a text, in one walk.
+pub fn cut_arguments(text: &[u8]) -> Arguments<'_>
+    ensures { AreArguments result (words text.entry.now) }
+{
+    let Some((first, text)) = next_word(text) else {
+        return Arguments::Zero;
+    };
+    let Some((second, text)) = next_word(text) else {
+        return Arguments::One(first);
+    };
+    let Some((third, text)) = next_word(text) else {
+        return Arguments::Two(first, second);
+    };
+    match next_word(text) {
+        None => Arguments::Three(first, second, third),
+        Some(_) => Arguments::More,
+    }
+}
+
 /// No word.
 pub fn none(text: &[u8]) -> Result<(), LineFault>
     ensures { result ≡ no_words (words text.now) }
@@ -80,17 +111,4 @@ pub fn two(text: &[u8]) -> Result<(&[u8], &[u8]), LineFault>
         return Err(LineFault::ArgumentCount);
     };
     Ok((first, one(rest)?))
-}
-
-/// The only three words.
-pub fn three(text: &[u8]) -> Result<(&[u8], &[u8], &[u8]), LineFault>
-    ensures { MatchResult result
-        (λ all. three_words (words text.entry.now) ≡ Ok (all.0.now, all.1.now, all.2.now))
-        (λ e. three_words (words text.entry.now) ≡ Err e) }
-{
-    let Some((first, rest)) = next_word(text) else {
-        return Err(LineFault::ArgumentCount);
-    };
-    let (second, third) = two(rest)?;
-    Ok((first, second, third))
 }

@@ -1,6 +1,6 @@
 -- What stands at the front of bytes that were read, whatever is still to come.
-use Rattle.std.specs.Prelude.{◌≡◌, Option, Ok, ◌≤◌, ◌<◌, ℕ, Bool, true, false, ◌+◌, ◌++◌, List, [], ◌∷◌, length, take, drop, None, IsOk}
-use Rattle.std.specs.List.{position}
+use Rattle.std.specs.Prelude.{◌≡◌, Option, Ok, ◌≤◌, ◌<◌, ℕ, Bool, true, false, not, ◌||◌, ◌+◌, ◌++◌, List, [], ◌∷◌, length, take, drop, None, IsOk, ⊤}
+use Rattle.std.specs.List.{list_all, position}
 use Rattle.sg_edge.specs.declared.files.Stage.{Stage}
 use Rattle.sg_edge.specs.declared.files.Stage.TheVariants.{Begun, Over, Broken as IsBroken}
 use Rattle.sg_script.specs.declared.line.Entry.{Entry}
@@ -8,7 +8,7 @@ use Rattle.sg_script.specs.Known.{Known}
 use Rattle.sg_script.specs.Needed.{need_from, own_actions}
 use Rattle.sg_script.specs.Rest.{May}
 use Rattle.sg_script.specs.Answer.{is_newline, is_last_line, judgement_of, judgements}
-use Rattle.sg_script.specs.Line.{Judgement}
+use Rattle.sg_script.specs.Line.{is_plain, Judgement}
 use Rattle.sg_script.specs.declared.front.Front.{Front}
 use Rattle.sg_script.specs.declared.front.Front.TheVariants.{Line, Unread, End, Broken}
 
@@ -39,3 +39,17 @@ FrontIs stage before bytes (Line len end) = (len ≤ end) × (end ≤ length byt
 FrontIs stage before bytes Unread = (stage ≡ Begun) × IsOpen before bytes
 FrontIs stage before bytes End = (stage ≡ Over) × (bytes ≡ [])
 FrontIs stage before bytes Broken = (stage ≡ IsBroken) × IsOpen before bytes
+
+-- a byte that may stand in a line, or ends one
+abbrev pub is_text : ℕ → Bool
+is_text b = is_plain b || is_newline b
+
+abbrev pub is_within : ℕ → Bool
+is_within b = not (is_newline b)
+
+-- no newline stands in the line at the front
+abbrev pub IsUnbroken : List ℕ → Front → Type 0
+IsUnbroken bytes (Line len end) = list_all is_within (take len bytes) ≡ true
+IsUnbroken bytes Unread = ⊤
+IsUnbroken bytes End = ⊤
+IsUnbroken bytes Broken = ⊤

@@ -1,4 +1,4 @@
 use Rattle.sg_script.proofs.front.behind_newlines.Goals as goal
 
-pub returns-in-Over : goal.returns-in-Over
-returns-in-Over c = rw c.in-Over.is (c.last_line.ensures c.args.before)
+pub returns-in-Over-clause-front : goal.returns-in-Over-clause-front
+returns-in-Over-clause-front c = rw c.in-Over.is (c.last_line.ensures.front c.args.before)

@@ -1,6 +1,6 @@
 use Rattle.std.proofs.Common.{◌<◌, ◌∙◌, length, refl, arith}
 use Rattle.sg_script.proofs.QueueLemmas.{left_popped, limited_front, limited_popped, limited_taken}
-use Rattle.sg_script.proofs.queues.take_first.Goals as goal
+use Rattle.sg_script.proofs.queues.take_next.Goals as goal
 
 pub returns-in-Some-take-clause-limited : goal.returns-in-Some-take-clause-limited
 returns-in-Some-take-clause-limited c = λ extent exist all.

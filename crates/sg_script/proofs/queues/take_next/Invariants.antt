@@ -1,8 +1,8 @@
 use Rattle.std.proofs.Common.{◌≡◌, length}
-use Rattle.std.specs.List.{All, flat_map}
+use Rattle.std.specs.List.{flat_map}
 use Rattle.sg_base.specs.Limits.{Extent}
 use Rattle.sg_script.specs.kept.Queues.{AreOperations, left_of}
-use Rattle.sg_script.proofs.queues.take_first.Given as goal
+use Rattle.sg_script.proofs.queues.take_next.Given as goal
 
 abbrev pub invariant-loop-line : goal.invariant-loop-line
 invariant-loop-line l = record {

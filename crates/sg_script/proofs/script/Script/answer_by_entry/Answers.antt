@@ -1,0 +1,13 @@
+use Rattle.sg_rows.specs.Deployment.{extent_of}
+use Rattle.sg_script.specs.Known.{known_in}
+use Rattle.sg_script.specs.Stands.{kept_of}
+use Rattle.sg_script.proofs.Taking.{own_tells}
+use Rattle.sg_script.proofs.script.Script.answer_by_entry.Goals as goal
+
+pub returns-in-Some-clause-line : goal.returns-in-Some-clause-line
+returns-in-Some-clause-line c =
+    own_tells (known_in c.args.deployment.now) c.args.entry c.in-Some.action c.args.end c.args.actor.0 (kept_of c.args.self.now) (kept_of c.pass.new.self) c.in-Some.ensures.0 c.in-Some.ensures.1 c.requires.within c.requires.empty
+    record { queued = c.pass.ensures.queues; lines = c.pass.ensures.lines; pending = c.pass.ensures.pending }
+
+pub take_waiting-requires-clause-waiting : goal.take_waiting-requires-clause-waiting
+take_waiting-requires-clause-waiting c = c.take_entry.ensures.waiting (extent_of c.args.deployment.now) c.requires.limited c.requires.waiting

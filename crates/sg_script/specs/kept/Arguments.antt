@@ -1,0 +1,20 @@
+-- The words of a text, as far as an action can have arguments.
+use Rattle.std.specs.Prelude.{◌≡◌, ℕ, List, [], ◌∷◌}
+use Rattle.sg_script.specs.declared.words.Arguments.{Arguments}
+use Rattle.sg_script.specs.declared.words.Arguments.TheVariants.{Zero, One, Two, Three, More}
+
+-- the first four words, where there are so many
+pub record HasFour (words : List (List ℕ)) : Type 0 where
+  pub first : List ℕ
+  pub second : List ℕ
+  pub third : List ℕ
+  pub fourth : List ℕ
+  pub rest : List (List ℕ)
+  pub are : words ≡ first ∷ second ∷ third ∷ fourth ∷ rest
+
+abbrev pub AreArguments : Arguments → List (List ℕ) → Type 0
+AreArguments Zero words = words ≡ []
+AreArguments (One a) words = words ≡ a.now ∷ []
+AreArguments (Two a b) words = words ≡ a.now ∷ b.now ∷ []
+AreArguments (Three a b c) words = words ≡ a.now ∷ b.now ∷ c.now ∷ []
+AreArguments More words = HasFour words
