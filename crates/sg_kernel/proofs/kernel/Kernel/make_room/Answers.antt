@@ -4,7 +4,7 @@ use Rattle.sg_requests.specs.Requested.{Requested}
 use Rattle.sg_states.specs.States.{ActorStates}
 use Rattle.sg_kernel.specs.kept.Owners.{Owned}
 use Rattle.sg_kernel.proofs.Rooms.{whole_roomier}
-use Rattle.sg_kernel.proofs.kernel.Kernel.reserve_round.Goals as goal
+use Rattle.sg_kernel.proofs.kernel.Kernel.make_room.Goals as goal
 
 pub invariant_of-self-2 : goal.invariant_of-self-2
 invariant_of-self-2 c =
