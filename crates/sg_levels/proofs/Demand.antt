@@ -1,18 +1,16 @@
--- The demand on a resource: what it says of the hold, and how it changes with a flow's level.
-use Rattle.std.proofs.Common.{◌≡◌, ◌≢◌, ℕ, zero, suc, ◌+◌, ◌-◌, ◌*◌, ◌^◌, ◌<◌, ◌≤◌, ◌⊎◌, inl, inr, Bool, true, false, cond, eqb, eq-eqb, ne_eqb, min, is_none, Option, None, Some, List, [], ◌∷◌, length, get_or, set, get_or-set_same, get_or-set_other, sum_by, slice_index, lit<, refl, sym, ap, ap₂, subst, ◌∙◌, arith, mul-le-mul_right}
+-- The demand on a resource: what it says of the hold, and how it changes with a flow's part.
+use Rattle.std.proofs.Common.{◌≡◌, ◌≢◌, ℕ, ◌+◌, ◌-◌, ◌*◌, ◌^◌, ◌<◌, ◌≤◌, ◌⊎◌, inl, inr, Bool, true, false, cond, eqb, eq-eqb, ne_eqb, min, is_none, Option, None, Some, IsSome, List, [], ◌∷◌, length, set, get_or-set_same, get_or-set_other, sum_by, slice_index, lit<, refl, sym, ap, subst, ◌∙◌, arith, mul-le-mul_right}
 use Rattle.std.specs.List.{list_any}
 use Rattle.std.proofs.lemmas.List.Sums.{sum_by-cons}
-use Rattle.sg_base.specs.MarkSet.{is_in}
 use Rattle.sg_chains.specs.Chained.{times, users_on}
 use Rattle.sg_maxmin.specs.Fill.{Flow, share_at, share_of_fixed}
-use Rattle.sg_maxmin.specs.Sharing.{Sharing, IsSound, uses_at}
+use Rattle.sg_maxmin.specs.Sharing.{Sharing, IsSound, flow_at, uses_at}
+use Rattle.sg_maxmin.proofs.Sums.{sum_by_same}
 use Rattle.sg_levels.specs.Numbered.{flow_in, level_at, row_taken, row_waiting, weight_at}
-use Rattle.sg_levels.specs.Held.{IsHold}
-use Rattle.sg_levels.specs.Changes.{AreWithin}
 use Rattle.sg_levels.specs.Demand.{DemandHoldsNone, demand_of, row_demand}
 use Rattle.sg_levels.proofs.Listed.{eq_cases, times-cons, times-once}
-use Rattle.sg_levels.proofs.Users.{rows_once, weighs}
-use Rattle.sg_levels.proofs.OnRow.{row_le}
+use Rattle.sg_levels.proofs.Users.{in_is, on_below, on_held, rows_once, weighs}
+use Rattle.sg_levels.proofs.OnRow.{row_le, sum_weighed}
 use Rattle.sg_levels.proofs.Changing.{slack_holds_none_lem}
 
 -- ---- a demand that fits 64 bits is the shares and twice the weights
@@ -44,7 +42,7 @@ demand_holds_none_lem s levels c sound within fits less =
     slack_holds_none_lem s levels c sound within is.1 (omega (arith, is.0, less))
 
 -- ---- it fits 128 bits
-part_le : (f : Flow) (o : Option ℕ) → f.weight < 2 ^ 32 → demand_of f o ≤ 2 ^ 65
+pub part_le : (f : Flow) (o : Option ℕ) → f.weight < 2 ^ 32 → demand_of f o ≤ 2 ^ 65
 part_le f None light = lit≤
   where
     lit≤ : 2 ^ 64 ≤ 2 ^ 65
@@ -60,19 +58,12 @@ few n d h m =
     let big : 2 ^ 32 * 2 ^ 65 < 2 ^ 127 = lit< tt in
     omega (arith, h, top, big)
 
-demand_fits : (s : Sharing) → IsSound s → (levels : List (Option ℕ)) (c : ℕ) → row_demand s.slots levels (users_on s.users c) < 2 ^ 127
-unfolding row_demand
-demand_fits s sound levels c =
-    few (length s.slots) (sum_by (λ id. demand_of (flow_in s.slots id) (level_at levels id)) (users_on s.users c))
-    (row_le s sound c (λ id. demand_of (flow_in s.slots id) (level_at levels id)) (2 ^ 65) (λ id. part_le (flow_in s.slots id) (level_at levels id) (weighs s sound id).1)) sound.few
-
 -- also with one part more at each of a flow's resources
-pub part_fits : (s : Sharing) → IsSound s → (levels : List (Option ℕ)) (id : ℕ) (level : Option ℕ) (c : ℕ) → row_demand s.slots levels (users_on s.users c) + times c (uses_at s.slots id) * demand_of (flow_in s.slots id) level < 2 ^ 128
-part_fits s sound levels id level c =
-    let part = demand_of (flow_in s.slots id) level in
-    let once : times c (uses_at s.slots id) * part ≤ 2 ^ 65 = subst (λ n. n * part ≤ 2 ^ 65) (sym (times-once (uses_at s.slots id) c (rows_once s sound id))) (cond_le (list_any (λ d. eqb d c) (uses_at s.slots id)) part (part_le (flow_in s.slots id) level (weighs s sound id).1)) in
+pub parts_fit : (s : Sharing) → IsSound s → (parts : List ℕ) → ((id : ℕ) → slice_index parts id ≤ 2 ^ 65) → (id part : ℕ) → part ≤ 2 ^ 65 → (c : ℕ) → sum_by (slice_index parts) (users_on s.users c) + times c (uses_at s.slots id) * part < 2 ^ 128
+parts_fit s sound parts fit id part le c =
+    let once : times c (uses_at s.slots id) * part ≤ 2 ^ 65 = subst (λ n. n * part ≤ 2 ^ 65) (sym (times-once (uses_at s.slots id) c (rows_once s sound id))) (cond_le (list_any (λ d. eqb d c) (uses_at s.slots id)) part le) in
     let big : 2 ^ 127 + 2 ^ 65 < 2 ^ 128 = lit< tt in
-    omega (arith, demand_fits s sound levels c, once, big)
+    omega (arith, few (length s.slots) (sum_by (slice_index parts) (users_on s.users c)) (row_le s sound c (slice_index parts) (2 ^ 65) fit) sound.few, once, big)
   where
     cond_le : (b : Bool) (x : ℕ) → x ≤ 2 ^ 65 → cond b 1 0 * x ≤ 2 ^ 65
     cond_le true x h = omega (arith, h)
@@ -115,21 +106,34 @@ sum_has f id (x ∷ row) =
     ]
 
 -- the part of a flow is in the demand on each of its resources
-pub part_in : (s : Sharing) → IsSound s → (levels : List (Option ℕ)) (id c : ℕ) → times c (uses_at s.slots id) * demand_of (flow_in s.slots id) (level_at levels id) ≤ row_demand s.slots levels (users_on s.users c)
-unfolding row_demand
-part_in s sound levels id c =
-    let f : ℕ → ℕ = λ other. demand_of (flow_in s.slots other) (level_at levels other) in
-    omega (arith, sum_has f id (users_on s.users c), ap (λ n. n * f id) (sound.both id c))
+pub part_in : (s : Sharing) → IsSound s → (parts : List ℕ) (id c : ℕ) → times c (uses_at s.slots id) * slice_index parts id ≤ sum_by (slice_index parts) (users_on s.users c)
+part_in s sound parts id c = omega (arith, sum_has (slice_index parts) id (users_on s.users c), ap (λ n. n * slice_index parts id) (sound.both id c))
 
--- the demand on each resource, as the flow has another level
-pub demand_moves : (s : Sharing) → IsSound s → (levels : List (Option ℕ)) (id : ℕ) (level : Option ℕ) → id < length levels → (c : ℕ) →
+-- the demand on each resource, as the flow has another part
+pub parts_move : (s : Sharing) → IsSound s → (parts : List ℕ) (id part : ℕ) → id < length parts → (c : ℕ) →
     let n = times c (uses_at s.slots id) in
-    row_demand s.slots (set levels id level) (users_on s.users c) + n * demand_of (flow_in s.slots id) (level_at levels id) ≡ row_demand s.slots levels (users_on s.users c) + n * demand_of (flow_in s.slots id) level
+    sum_by (slice_index (set parts id part)) (users_on s.users c) + n * slice_index parts id ≡ sum_by (slice_index parts) (users_on s.users c) + n * part
+parts_move s sound parts id part below c =
+    let f : ℕ → ℕ = slice_index parts in
+    let g : ℕ → ℕ = slice_index (set parts id part) in
+    let moves = sum_moves f g id (users_on s.users c) (λ other ne. get_or-set_other parts id other part 0 ne) in
+    omega (arith, moves, ap (λ n. n * f id) (sound.both id c), ap (λ n. n * g id) (sound.both id c), ap (λ x. times c (uses_at s.slots id) * x) (get_or-set_same parts id part 0 below))
+
+-- where each flow's part is what it asks for
+pub parts_demand : (s : Sharing) → IsSound s → (parts : List ℕ) (levels : List (Option ℕ)) → ((id : ℕ) → IsSome (flow_at s.slots id) → slice_index parts id ≡ demand_of (flow_in s.slots id) (level_at levels id)) → (c : ℕ) →
+    sum_by (slice_index parts) (users_on s.users c) ≡ row_demand s.slots levels (users_on s.users c)
 unfolding row_demand
-demand_moves s sound levels id level below c =
-    let row = users_on s.users c in
-    let f : ℕ → ℕ = λ other. demand_of (flow_in s.slots other) (level_at levels other) in
-    let g : ℕ → ℕ = λ other. demand_of (flow_in s.slots other) (level_at (set levels id level) other) in
-    let here : g id ≡ demand_of (flow_in s.slots id) level = ap (demand_of (flow_in s.slots id)) (get_or-set_same levels id level None below) in
-    let moves = sum_moves f g id row (λ other ne. ap (demand_of (flow_in s.slots other)) (get_or-set_other levels id other level None ne)) in
-    omega (arith, moves, ap (λ n. n * f id) (sound.both id c), ap (λ n. n * g id) (sound.both id c), ap (λ x. times c (uses_at s.slots id) * x) here)
+parts_demand s sound parts levels are c =
+    sum_by_same (slice_index parts) (λ id. demand_of (flow_in s.slots id) (level_at levels id)) (users_on s.users c) (λ id i. are id (let f = on_held s sound c id (in_is id (users_on s.users c) i) in subst IsSome (sym f.1) refl))
+
+-- another system: a flow with a part uses what it used
+pub rows_same : (s t : Sharing) → IsSound s → IsSound t → (parts : List ℕ) → ((id : ℕ) → (uses_at t.slots id ≡ uses_at s.slots id) ⊎ (slice_index parts id ≡ 0)) → (c : ℕ) → sum_by (slice_index parts) (users_on t.users c) ≡ sum_by (slice_index parts) (users_on s.users c)
+rows_same s t sound sound' parts same c =
+    let n = length s.slots + length t.slots in
+    sum_weighed n (slice_index parts) (users_on s.users c) (users_on t.users c) (λ i h. omega (arith, on_below s sound c i h)) (λ i h. omega (arith, on_below t sound' c i h)) (λ id. elim (same id) [
+      | inl e ↦ ap (λ n. n * slice_index parts id) (sound'.both id c ∙ ap (times c) e ∙ sym (sound.both id c))
+      | inr z ↦ ap (λ p. times id (users_on t.users c) * p) z ∙ sym (ap (λ p. times id (users_on s.users c) * p) z ∙ nothing (times id (users_on s.users c)) (times id (users_on t.users c)))
+    ])
+  where
+    nothing : (a b : ℕ) → a * 0 ≡ b * 0
+    nothing a b = omega arith

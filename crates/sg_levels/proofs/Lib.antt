@@ -13,3 +13,6 @@ pub mod Steps
 pub mod Marked
 pub mod Noted
 pub mod Moving
+pub mod Keeping
+pub mod Between
+pub mod Changed

@@ -142,3 +142,7 @@ weights_fit s sound c =
 -- two rows in which each number stands as often have the same sums
 pub sum_listed : (n : ℕ) (h : ℕ → ℕ) (row row' : List ℕ) → ((i : ℕ) → i < length row → get_or row i 0 < n) → ((i : ℕ) → i < length row' → get_or row' i 0 < n) → ((id : ℕ) → times id row' ≡ times id row) → sum_by h row' ≡ sum_by h row
 sum_listed n h row row' b b' same = by_times n h row' b' ∙ total_same n (λ id. times id row' * h id) (λ id. times id row * h id) (λ id l. ap (λ m. m * h id) (same id)) ∙ sym (by_times n h row b)
+
+-- and two rows in which each number that counts stands as often
+pub sum_weighed : (n : ℕ) (h : ℕ → ℕ) (row row' : List ℕ) → ((i : ℕ) → i < length row → get_or row i 0 < n) → ((i : ℕ) → i < length row' → get_or row' i 0 < n) → ((id : ℕ) → times id row' * h id ≡ times id row * h id) → sum_by h row' ≡ sum_by h row
+sum_weighed n h row row' b b' same = by_times n h row' b' ∙ total_same n (λ id. times id row' * h id) (λ id. times id row * h id) (λ id l. same id) ∙ sym (by_times n h row b)

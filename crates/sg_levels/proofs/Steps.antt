@@ -9,7 +9,7 @@ use Rattle.sg_levels.specs.Numbered.{all_uses, below_at, bound_of, flow_in, leve
 use Rattle.sg_levels.specs.Held.{IsAtMost, IsCause, IsHold, IsUnder, by_bound, by_resource}
 use Rattle.sg_levels.specs.Changes.{ChangesFrom, IsFrom, IsSameRow}
 use Rattle.sg_levels.specs.Settling.{AreSettlingOn, HasCause, HeldSettles, SettlingEnds, at_bound, at_hold, is_active}
-use Rattle.sg_levels.proofs.Listed.{bool_cases, eq_cases, none_some, part_next, some_same}
+use Rattle.sg_levels.proofs.Listed.{bool_cases, eq_cases, none_some, part_next, same_in, some_same}
 use Rattle.sg_levels.proofs.Users.{on_held, in_is, is_in_In, weighs, flow_in_is, flow_below, rows_exist}
 use Rattle.sg_levels.proofs.HeldLevels.{waiting_some, users_of, exists_of}
 use Rattle.sg_levels.proofs.RowRise.{level_le}
@@ -28,6 +28,9 @@ set_other levels id other v ne = get_or-set_other levels id other v None ne
 
 pub user_uses : (s : Sharing) → IsSound s → (r id : ℕ) (flow : Flow) → flow_at s.slots id ≡ Some flow → is_in id (users_on s.users r) ≡ true → is_in r flow.uses ≡ true
 user_uses s sound r id flow e i = let f = on_held s sound r id i in subst (λ g. is_in r g.uses ≡ true) (some_same f.0 flow (sym f.1 ∙ e)) f.2
+
+pub uses_row : (s : Sharing) → IsSound s → (r id : ℕ) → is_in id (users_on s.users r) ≡ true → is_in r (uses_at s.slots id) ≡ true
+uses_row s sound r id i = same_in id r (users_on s.users r) (uses_at s.slots id) (sound.both id r) i
 
 off_row : (s : Sharing) (levels : List (Option ℕ)) (r id : ℕ) (v : Option ℕ) → is_in id (users_on s.users r) ≡ false → IsSameRow (users_on s.users r) s.slots s.slots levels (set levels id v)
 off_row s levels r id v off other i = (refl, set_other levels id other v (λ e. true≢false (sym i ∙ ap (λ n. is_in n (users_on s.users r)) e ∙ off)))

@@ -36,7 +36,7 @@ pub held_below : (slots : List (Option Flow)) (id : ℕ) → IsSome (flow_at slo
 held_below slots id some = let f = some_of (flow_at slots id) some in flow_below slots id f.0 f.1
 
 -- what has uses is held
-in_uses : (slots : List (Option Flow)) (id c : ℕ) → is_in c (uses_at slots id) ≡ true → (flow : Flow) × (flow_at slots id ≡ Some flow) × (is_on c flow ≡ true)
+pub in_uses : (slots : List (Option Flow)) (id c : ℕ) → is_in c (uses_at slots id) ≡ true → (flow : Flow) × (flow_at slots id ≡ Some flow) × (is_on c flow ≡ true)
 in_uses slots id c i = from (flow_at slots id) refl
   where
     from : (o : Option Flow) → flow_at slots id ≡ o → (flow : Flow) × (flow_at slots id ≡ Some flow) × (is_on c flow ≡ true)

@@ -1,5 +1,5 @@
 -- The demand on a resource: a sum over its flows by which a resource that holds none is known without a look.
-use Rattle.std.specs.Prelude.{◌≡◌, ℕ, ◌+◌, ◌-◌, ◌*◌, ◌^◌, ◌<◌, min, Option, None, Some, List, sum_by, slice_index}
+use Rattle.std.specs.Prelude.{ℕ, ◌+◌, ◌-◌, ◌*◌, ◌^◌, ◌<◌, min, Option, None, Some, List, sum_by, slice_index}
 use Rattle.sg_chains.specs.Chained.{users_on}
 use Rattle.sg_maxmin.specs.Fill.{Flow, share_at}
 use Rattle.sg_maxmin.specs.Sharing.{Sharing, IsSound}

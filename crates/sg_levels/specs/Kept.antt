@@ -1,56 +1,138 @@
--- What a `Levels` keeps, and what a look at a resource does to it.
-use Rattle.std.specs.Prelude.{◌≡◌, ◌≢◌, ℕ, ◌+◌, ◌*◌, ◌≤◌, Bool, true, false, Option, None, Some, List, length, slice_index, slice_set}
+-- What a `Levels` keeps, and what a change and a look at a resource do to it.
+use Rattle.std.specs.Prelude.{◌≡◌, ℕ, ◌+◌, ◌*◌, ◌^◌, ◌<◌, ◌≤◌, Bool, true, false, Option, None, Some, IsSome, List, [], length, sum_by, slice_index, slice_set}
 use Rattle.sg_base.specs.MarkSet.{is_in, with_mark}
 use Rattle.sg_chains.specs.Chained.{times, users_on}
-use Rattle.sg_maxmin.specs.Sharing.{Sharing, uses_at}
+use Rattle.sg_maxmin.specs.Fill.{Flow}
+use Rattle.sg_maxmin.specs.Sharing.{Sharing, IsSound, Changes, flow_at, uses_at}
 use Rattle.sg_levels.specs.declared.levels.Levels.{Levels}
-use Rattle.sg_levels.specs.Numbered.{all_uses, level_at}
-use Rattle.sg_levels.specs.Demand.{row_demand}
-use Rattle.sg_levels.specs.Settling.{AreNoted, AreSettling, AreSettlingOn, is_active}
-
--- each resource has the demand of its flows at these levels
-abbrev pub AreDemands : Sharing → List (Option ℕ) → List ℕ → Type 0
-AreDemands s levels demands = (c : ℕ) → slice_index demands c ≡ row_demand s.slots levels (users_on s.users c)
+use Rattle.sg_levels.specs.Numbered.{all_uses, flow_in, level_at}
+use Rattle.sg_levels.specs.Demand.{demand_of}
+use Rattle.sg_levels.specs.Settling.{AreNoted, AreSettling, AreSettlingBut, AreSettlingOn, is_active}
 
 -- there is a place for each flow and each resource
 pub record HasPlaces (s : Sharing) (kept : Levels) : Type 0 where
   pub levels : length s.slots ≤ length kept.levels.items
+  pub parts : length s.slots ≤ length kept.parts.items
   pub moved : length s.slots ≤ kept.moved.room
+  pub stale : length s.slots ≤ kept.stale.room
   pub holds : length kept.holds.items ≡ length s.capacities
   pub demands : length kept.demands.items ≡ length s.capacities
   pub active : length kept.active.items ≡ length s.capacities
 
--- and each resource has the demand of its flows at their levels
+-- The demand on each resource is the sum of its flows' parts in it; where there is no flow there is no part; and no flow has more
+-- uses than the longest.
 pub record IsKept (s : Sharing) (kept : Levels) : Type 0 where
   pub places : HasPlaces s kept
-  pub demands : (c : ℕ) → slice_index kept.demands.items c ≡ row_demand s.slots kept.levels.items (users_on s.users c)
+  pub demands : (c : ℕ) → slice_index kept.demands.items c ≡ sum_by (slice_index kept.parts.items) (users_on s.users c)
+  pub fit : (id : ℕ) → slice_index kept.parts.items id ≤ 2 ^ 65
+  pub none : (id : ℕ) → flow_at s.slots id ≡ None → slice_index kept.parts.items id ≡ 0
+  pub longest : (id : ℕ) → length (uses_at s.slots id) ≤ kept.longest
+
+-- a flow's part is what it asks for at its level, but for some flows
+abbrev pub AreParts : Sharing → Levels → List ℕ → Type 0
+AreParts s kept but = (id : ℕ) → IsSome (flow_at s.slots id) → is_in id but ≡ false → slice_index kept.parts.items id ≡ demand_of (flow_in s.slots id) (level_at kept.levels.items id)
 
 -- what is written is right of what isn't active
 pub record IsSettling (s : Sharing) (all : Levels) : Type 0 where
   pub kept : IsKept s all
+  pub parts : AreParts s all []
   pub written : AreSettling s all.levels.items all.holds.items all.active.items
 
 -- the same while the users of a resource are looked at
-abbrev pub IsSettlingOn : Sharing → Levels → ℕ → Option ℕ → List ℕ → Type 0
-IsSettlingOn s kept resource was todo = AreSettlingOn s kept.levels.items kept.holds.items kept.active.items resource was todo
+pub record IsSettlingOn (s : Sharing) (all : Levels) (resource : ℕ) (was : Option ℕ) (todo : List ℕ) : Type 0 where
+  pub parts : AreParts s all []
+  pub written : AreSettlingOn s all.levels.items all.holds.items all.active.items resource was todo
+
+-- the same between settlings, where these flows have another bound than when they were given their levels
+pub record IsBetweenBut (s : Sharing) (all : Levels) (stale : List ℕ) : Type 0 where
+  pub kept : IsKept s all
+  pub parts : AreParts s all stale
+  pub some : (id : ℕ) → IsSome (flow_at s.slots id) → 0 < slice_index all.parts.items id
+  pub written : AreSettlingBut s all.levels.items all.holds.items all.active.items stale
+
+-- and these are noted
+abbrev pub IsBetween : Sharing → Levels → Type 0
+IsBetween s all = IsBetweenBut s all all.stale.members
 
 -- a flow whose level changed is noted, and those that were noted stay so
 abbrev pub NotesMoved : Levels → Levels → Type 0
 NotesMoved old new = AreNoted old.moved new.moved old.levels.items new.levels.items
 
--- the flow has this level and is noted, and no other level and no hold changes
-pub record IsMoved (old new : Levels) (flow : ℕ) (level : Option ℕ) : Type 0 where
+-- A flow that isn't noted is as it was, with its level; and those that were noted stay so.
+pub record NotesChanged (s t : Sharing) (old new : Levels) : Type 0 where
+  pub grows : (id : ℕ) → is_in id old.moved.members ≡ true → is_in id new.moved.members ≡ true
+  pub same : (id : ℕ) (flow : Flow) → flow_at t.slots id ≡ Some flow → is_in id new.moved.members ≡ false → (flow_at s.slots id ≡ Some flow) × (level_at new.levels.items id ≡ level_at old.levels.items id)
+
+-- the flow has this level, with its part, and is noted, and no other level and no hold changes
+pub record IsMoved (s : Sharing) (old new : Levels) (flow : ℕ) (level : Option ℕ) : Type 0 where
   pub level_is : new.levels.items ≡ slice_set old.levels.items flow level
+  pub part_is : new.parts.items ≡ slice_set old.parts.items flow (demand_of (flow_in s.slots flow) level)
   pub noted : new.moved ≡ record old.moved { members = with_mark flow old.moved.members }
+  pub stale : new.stale ≡ old.stale
   pub holds : new.holds.items ≡ old.holds.items
 
 -- nothing changes but the demands, and which resources are active
 pub record KeepsLevels (old new : Levels) : Type 0 where
   pub levels : new.levels.items ≡ old.levels.items
+  pub parts : new.parts.items ≡ old.parts.items
   pub moved : new.moved ≡ old.moved
+  pub stale : new.stale ≡ old.stale
+  pub longest : new.longest ≡ old.longest
   pub holds : new.holds.items ≡ old.holds.items
   pub demands : length new.demands.items ≡ length old.demands.items
   pub active : length new.active.items ≡ length old.active.items
+
+-- nothing changes but the room, which doesn't shrink
+pub record KeepsAll (old new : Levels) : Type 0 where
+  pub levels : (id : ℕ) → level_at new.levels.items id ≡ level_at old.levels.items id
+  pub parts : (id : ℕ) → slice_index new.parts.items id ≡ slice_index old.parts.items id
+  pub moved : new.moved.members ≡ old.moved.members
+  pub stale : new.stale.members ≡ old.stale.members
+  pub longest : new.longest ≡ old.longest
+  pub holds : new.holds.items ≡ old.holds.items
+  pub demands : new.demands.items ≡ old.demands.items
+  pub active : new.active.items ≡ old.active.items
+  pub levels_room : length old.levels.items ≤ length new.levels.items
+  pub parts_room : length old.parts.items ≤ length new.parts.items
+  pub moved_room : old.moved.room ≤ new.moved.room
+  pub stale_room : old.stale.room ≤ new.stale.room
+
+-- there is room for so many numbers of flows
+pub record HasRoom (n : ℕ) (kept : Levels) : Type 0 where
+  pub levels : n ≤ length kept.levels.items
+  pub parts : n ≤ length kept.parts.items
+  pub moved : n ≤ kept.moved.room
+  pub stale : n ≤ kept.stale.room
+
+-- right of each system of so many resources without a flow
+abbrev pub IsFresh : ℕ → Levels → Type 0
+IsFresh resources kept = (s : Sharing) → IsSound s → s.slots ≡ [] → length s.capacities ≡ resources → IsBetween s kept
+
+-- a flow more, under a number that was free
+pub record IsStarted (s t : Sharing) (id : ℕ) (flow : Flow) : Type 0 where
+  pub free : flow_at s.slots id ≡ None
+  pub in_range : id < length s.slots
+  pub added : Changes s.slots t.slots id (Some flow)
+  pub numbers : length t.slots ≡ length s.slots
+  pub capacities : t.capacities ≡ s.capacities
+  pub flow_room : t.flow_room + 1 ≡ s.flow_room
+  pub use_room : t.use_room + length flow.uses ≡ s.use_room
+
+-- a flow less
+pub record IsEnded (s t : Sharing) (id : ℕ) : Type 0 where
+  pub removed : Changes s.slots t.slots id None
+  pub numbers : length t.slots ≡ length s.slots
+  pub capacities : t.capacities ≡ s.capacities
+  pub flow_room : t.flow_room ≡ s.flow_room + 1
+  pub use_room : t.use_room ≡ s.use_room + length (uses_at s.slots id)
+
+-- a flow has no part any more, and no level and no hold changes
+pub record HasLeft (old new : Levels) (flow : ℕ) : Type 0 where
+  pub levels : new.levels.items ≡ old.levels.items
+  pub parts : new.parts.items ≡ slice_set old.parts.items flow 0
+  pub moved : new.moved ≡ old.moved
+  pub stale : new.stale ≡ old.stale
+  pub holds : new.holds.items ≡ old.holds.items
 
 -- at each of these resources one part of the demand stands for another
 abbrev pub Shifts : ℕ → ℕ → List ℕ → List ℕ → List ℕ → Type 0

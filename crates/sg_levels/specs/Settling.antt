@@ -3,7 +3,7 @@ use Rattle.std.specs.Prelude.{◌≡◌, ℕ, ◌<◌, ◌⊎◌, Bool, true, fa
 use Rattle.sg_base.specs.MarkSet.{MarkSet, is_in}
 use Rattle.sg_chains.specs.Chained.{users_on}
 use Rattle.sg_maxmin.specs.Fill.{Flow}
-use Rattle.sg_maxmin.specs.Sharing.{Sharing, IsSound, flow_at}
+use Rattle.sg_maxmin.specs.Sharing.{Sharing, IsSound, flow_at, uses_at}
 use Rattle.sg_levels.specs.Numbered.{bound_of, level_at}
 use Rattle.sg_levels.specs.Held.{IsHold, AreHeld, IsAtMost}
 
@@ -40,24 +40,44 @@ HeldSettles =
     (s : Sharing) (levels holds : List (Option ℕ)) (active : List Bool) → AreHeld s levels (level_at holds) →
     AreSettling s levels holds active
 
--- a flow that came, went or has another bound: the resources that it used or uses are active, and its level is that of its bound
+-- The same between settlings, where some flows have another bound than when they were given their levels. Of these, and of the holds
+-- of what they use, nothing is said.
+pub record AreSettlingBut (s : Sharing) (levels holds : List (Option ℕ)) (active : List Bool) (stale : List ℕ) : Type 0 where
+  pub resources : (r : ℕ) → r < length s.capacities → is_active active r ≡ false → ((id : ℕ) → is_in id stale ≡ true → is_in r (uses_at s.slots id) ≡ false) → IsHold (slice_index s.capacities r) s.slots levels (users_on s.users r) (level_at holds r)
+  pub within : (id : ℕ) (flow : Flow) → flow_at s.slots id ≡ Some flow → is_in id stale ≡ false → IsAtMost (level_at levels id) (bound_of flow)
+  pub under : (id r : ℕ) (flow : Flow) → flow_at s.slots id ≡ Some flow → is_in r flow.uses ≡ true → is_active active r ≡ false → IsAtMost (level_at levels id) (level_at holds r)
+  pub cause : (id : ℕ) (flow : Flow) → flow_at s.slots id ≡ Some flow → is_in id stale ≡ false → HasCause holds flow (level_at levels id)
+
+-- a flow that is as it was, with its level, and isn't stale where it wasn't
+pub record IsSame (s t : Sharing) (old new : List (Option ℕ)) (stale stale' : List ℕ) (id : ℕ) : Type 0 where
+  pub flow : flow_at t.slots id ≡ flow_at s.slots id
+  pub level : level_at new id ≡ level_at old id
+  pub still : is_in id stale' ≡ false → is_in id stale ≡ false
+
+-- a flow with its level that has another bound, which is stale
+pub record IsStale (s t : Sharing) (old new : List (Option ℕ)) (stale : List ℕ) (id : ℕ) : Type 0 where
+  pub uses : uses_at t.slots id ≡ uses_at s.slots id
+  pub level : level_at new id ≡ level_at old id
+  pub now : is_in id stale ≡ true
+
+-- a flow that came or went, or is given the level of its bound: the resources that it used or uses are active
 pub record IsChanged (old new : Option Flow) (level : Option ℕ) (active : List Bool) : Type 0 where
   pub before : (flow : Flow) (r : ℕ) → old ≡ Some flow → is_in r flow.uses ≡ true → is_active active r ≡ true
   pub after : (flow : Flow) (r : ℕ) → new ≡ Some flow → is_in r flow.uses ≡ true → is_active active r ≡ true
   pub level_is : (flow : Flow) → new ≡ Some flow → level ≡ bound_of flow
 
--- Flows came, went or have other bounds, and resources have other capacities: what they touch is active, and all else is as it was.
-pub record AreMarked (s t : Sharing) (old new : List (Option ℕ)) (active active' : List Bool) : Type 0 where
+-- Flows came, went or have other bounds, and resources have other capacities: what they touch is active or stale, and all else is as it was.
+pub record AreMarked (s t : Sharing) (old new : List (Option ℕ)) (active active' : List Bool) (stale stale' : List ℕ) : Type 0 where
   pub as_many : length t.capacities ≡ length s.capacities
   pub capacities : (r : ℕ) → is_active active' r ≡ false → slice_index t.capacities r ≡ slice_index s.capacities r
   pub marks : (r : ℕ) → is_active active' r ≡ false → is_active active r ≡ false
-  pub flows : (id : ℕ) → ((flow_at t.slots id ≡ flow_at s.slots id) × (level_at new id ≡ level_at old id)) ⊎ IsChanged (flow_at s.slots id) (flow_at t.slots id) (level_at new id) active'
+  pub flows : (id : ℕ) → IsSame s t old new stale stale' id ⊎ (IsStale s t old new stale' id ⊎ IsChanged (flow_at s.slots id) (flow_at t.slots id) (level_at new id) active')
 
--- What is written stays right of what isn't active.
+-- What is written stays right of what is neither active nor stale.
 abbrev pub ChangesKeep : Type 0
 ChangesKeep =
-    (s t : Sharing) (old new holds : List (Option ℕ)) (active active' : List Bool) → IsSound s → IsSound t → AreMarked s t old new active active' →
-    AreSettling s old holds active → AreSettling t new holds active'
+    (s t : Sharing) (old new holds : List (Option ℕ)) (active active' : List Bool) (stale stale' : List ℕ) → IsSound s → IsSound t → AreMarked s t old new active active' stale stale' →
+    AreSettlingBut s old holds active stale → AreSettlingBut t new holds active' stale'
 
 -- the members stay, and a flow whose level changed is one
 pub record AreNoted (old new : MarkSet) (levels levels' : List (Option ℕ)) : Type 0 where

@@ -1,32 +1,124 @@
 //! What is kept of flows and resources from one settling to the next.
-ghost use Rattle.std.specs.Prelude.{◌≡◌, ◌≢◌, ◌<◌, AllPairs, length};
+ghost use Rattle.std.specs.Prelude.{◌≡◌, ◌≢◌, ◌<◌, ◌≤◌, ℕ, [], AllPairs, IfOk, OnOk, length, slice_index};
+ghost use Rattle.sg_maxmin.specs.Sharing.{IsExtended, Sharing};
+ghost use Rattle.sg_levels.specs.Kept.{HasRoom, IsBetween, IsFresh, KeepsAll, NotesChanged};
 ghost use Rattle.sg_levels.specs.Numbered.{level_at};
 ghost use Rattle.sg_levels.specs.Settling.{is_active};
 
-use sg_base::Marks;
+use sg_base::{Marks, Memory};
+use sg_maxmin::System;
+use std::alloc::Global;
 
 /// The level of each flow and the hold of each resource, and which of these are still to be made right.
 #[derive(Drop)]
 pub struct Levels {
     // under each flow its level; None: nothing holds it yet
     pub(crate) levels: Vec<Option<u64>>,
+    // and its part in the demand on each of its resources; 0 where there is no flow
+    pub(crate) parts: Vec<u128>,
     // under each resource the level at which it holds its flows; None: at none
     pub(crate) holds: Vec<Option<u64>>,
     // under each resource the demand on it
     pub(crate) demands: Vec<u128>,
     // under each resource whether it waits to be looked at
     pub(crate) active: Vec<bool>,
-    // the flows whose levels changed
+    // the flows whose levels or bounds changed
     pub(crate) moved: Marks,
+    // the flows that have another bound than when they were given their levels
+    pub(crate) stale: Marks,
+    // no flow has more uses
+    pub(crate) longest: usize,
+}
+
+// Places for the flows of numbers below n.
+fn grow_rows(n: usize, levels: &mut Vec<Option<u64>>, parts: &mut Vec<u128>) -> Result<(), Memory>
+    ensures levels { (id : ℕ) → level_at levels.new.items id ≡ level_at levels.old.items id }
+    ensures parts { (id : ℕ) → slice_index parts.new.items id ≡ slice_index parts.old.items id }
+    ensures levels_grow { length levels.old.items ≤ length levels.new.items }
+    ensures parts_grow { length parts.old.items ≤ length parts.new.items }
+    ensures room { OnOk result ((n ≤ length levels.new.items) × (n ≤ length parts.new.items)) }
+{
+    for _number in levels.len()..n {
+        levels.push(None)?;
+    }
+    for _number in parts.len()..n {
+        parts.push(0)?;
+    }
+    Ok(())
 }
 
 impl Levels {
+    /// Nothing is written yet, of so many resources.
+    pub fn new(alloc: Global, resources: usize) -> Result<Levels, Memory>
+        ensures { IfOk result (IsFresh resources) }
+    {
+        let mut holds = Vec::new(alloc);
+        let mut demands = Vec::new(alloc);
+        let mut active = Vec::new(alloc);
+        for _resource in 0..resources {
+            holds.push(None)?;
+            demands.push(0)?;
+            active.push(false)?;
+        }
+        Ok(Levels {
+            levels: Vec::new(alloc),
+            parts: Vec::new(alloc),
+            holds,
+            demands,
+            active,
+            moved: Marks::new(alloc),
+            stale: Marks::new(alloc),
+            longest: 0,
+        })
+    }
+
+    // Room for flows of numbers below n.
+    fn grow(&mut self, n: usize) -> Result<(), Memory>
+        ensures kept { KeepsAll self.old self.new }
+        ensures room { OnOk result (HasRoom n self.new) }
+    {
+        grow_rows(n, &mut self.levels, &mut self.parts)?;
+        self.moved.reserve(n)?;
+        self.stale.reserve(n)
+    }
+
+    /// Makes room for so many flows more in the system, with so many uses in all, and for their levels. Nothing but the
+    /// room changes, also where there is no memory, and the room doesn't shrink.
+    pub fn reserve(&mut self, system: &mut System, flows: usize, uses: usize) -> Result<(), Memory>
+        requires { IsBetween system.old self.old }
+        ensures between { IsBetween system.new self.new }
+        ensures changed { NotesChanged system.old system.new self.old self.new }
+        ensures flow_room { OnOk result (flows ≤ system.new.flow_room) }
+        ensures use_room { OnOk result (uses ≤ system.new.use_room) }
+        ensures grows { (system.old.flow_room ≤ system.new.flow_room)
+            × (system.old.use_room ≤ system.new.use_room) }
+        ensures slots { IsExtended system.old.slots system.new.slots flows }
+        ensures capacities { system.new.capacities ≡ system.old.capacities }
+    {
+        system.is_sound();
+        let Some(n) = system.numbers().checked_add(flows) else {
+            return Err(Memory);
+        };
+        self.grow(n)?;
+        let reserved = system.reserve(flows, uses);
+        system.is_sound();
+        reserved
+    }
+
     /// The level of a flow, where something holds it.
     pub fn level(&self, flow: usize) -> Option<u64>
         requires { flow < length self.now.levels.items }
         ensures { result ≡ level_at self.now.levels.items flow }
     {
         self.levels[flow]
+    }
+
+    // The part of a flow in the demand on each of its resources.
+    pub(crate) fn part(&self, flow: usize) -> u128
+        requires { flow < length self.now.parts.items }
+        ensures { result ≡ slice_index self.now.parts.items flow }
+    {
+        self.parts[flow]
     }
 
     /// The level at which a resource holds its flows, as it was written last; None: at none.
@@ -45,11 +137,21 @@ impl Levels {
         self.active[resource]
     }
 
-    /// The flows whose levels changed, each once.
+    /// The flows that began, and those whose levels or bounds changed, since `forget_moved`, each once. A number may be
+    /// that of a flow that has ended.
     pub fn moved(&self) -> &[usize]
         ensures members { result.now ≡ self.now.moved.members }
         ensures once { AllPairs (λ a b. a ≢ b) result.now }
     {
         self.moved.members()
+    }
+
+    /// None is told as moved any more.
+    pub fn forget_moved(&mut self)
+        ensures none { self.new.moved.members ≡ [] }
+        ensures between { (s : Sharing) → IsBetween s self.old → IsBetween s self.new }
+        ensures levels { self.new.levels.items ≡ self.old.levels.items }
+    {
+        self.moved.clear();
     }
 }

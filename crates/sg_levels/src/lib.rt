@@ -4,6 +4,7 @@
 //! It stands on `sg_base`, on the filling and the `System` of `sg_maxmin`, and on `sg_chains`.
 #![tactic(auto)]
 
+mod changes;
 mod hold;
 mod laws;
 mod levels;

@@ -17,7 +17,7 @@ use sg_maxmin::System;
 use std::sync::ledger::Ledger;
 
 // Whether two levels are the same.
-fn is_same(one: Option<u64>, other: Option<u64>) -> bool
+pub(crate) fn is_same(one: Option<u64>, other: Option<u64>) -> bool
     ensures same { IsTrue result → one ≡ other }
     ensures told { one ≡ other → IsTrue result }
 {
@@ -56,7 +56,7 @@ fn bound_level(weight: u32, bound: Option<u64>) -> Option<u64>
 }
 
 // The level of a flow's bound.
-fn bound_of(system: &System, flow: usize) -> Option<u64>
+pub(crate) fn bound_of(system: &System, flow: usize) -> Option<u64>
     requires sound { IsSound system.now }
     requires held { IsSome (flow_at system.now.slots flow) }
     ensures { result ≡ bound_of_flow (flow_in system.now.slots flow) }
@@ -65,7 +65,7 @@ fn bound_of(system: &System, flow: usize) -> Option<u64>
 }
 
 // What a flow adds to the demand on each of its resources, at this level.
-fn part_of(system: &System, flow: usize, level: Option<u64>) -> u128
+pub(crate) fn part_of(system: &System, flow: usize, level: Option<u64>) -> u128
     requires { IsSome (flow_at system.now.slots flow) }
     ensures { result ≡ demand_of (flow_in system.now.slots flow) level }
 {
@@ -79,7 +79,7 @@ fn part_of(system: &System, flow: usize, level: Option<u64>) -> u128
 }
 
 // A resource of a flow that moves is active, and in the demand on it one part stands for another.
-fn visit(resource: usize, before: u128, after: u128, kept: &mut Levels)
+pub(crate) fn visit(resource: usize, before: u128, after: u128, kept: &mut Levels)
     requires active { resource < length kept.old.active.items }
     requires demand { resource < length kept.old.demands.items }
     requires some { before ≤ slice_index kept.old.demands.items resource }
@@ -94,7 +94,7 @@ fn visit(resource: usize, before: u128, after: u128, kept: &mut Levels)
 }
 
 // The same of each resource of the flow.
-fn visit_uses<L: Ledger>(
+pub(crate) fn visit_uses<L: Ledger>(
     system: &System,
     flow: usize,
     before: u128,
@@ -163,15 +163,16 @@ fn move_flow<L: Ledger>(
     requires sound { IsSound system.now }
     requires held { IsSome (flow_at system.now.slots flow) }
     requires kept { IsKept system.now kept.old }
-    ensures moved { IsMoved kept.old kept.new flow level }
+    ensures moved { IsMoved system.now kept.old kept.new flow level }
     ensures activates { ActivatesAll (uses_at system.now.slots flow)
         kept.old.active.items kept.new.active.items }
     ensures kept { IsKept system.now kept.new }
     ensures looks { steps.new ≡ steps.old + length (uses_at system.now.slots flow) }
 {
-    let before = part_of(system, flow, kept.level(flow));
+    let before = kept.part(flow);
     let after = part_of(system, flow, level);
     kept.levels[flow] = level;
+    kept.parts[flow] = after;
     kept.moved.insert(flow);
     visit_uses(system, flow, before, after, kept, steps);
 }
@@ -189,7 +190,7 @@ fn lower<L: Ledger>(
     requires kept { IsKept system.now kept.old }
     requires resource { resource < length system.now.capacities }
     requires user { is_in flow (users_on system.now.users resource) ≡ true }
-    ensures moved { IsMoved kept.old kept.new flow (Some hold) }
+    ensures moved { IsMoved system.now kept.old kept.new flow (Some hold) }
     ensures activates { ActivatesBut resource (uses_at system.now.slots flow)
         kept.old.active.items kept.new.active.items }
     ensures kept { IsKept system.now kept.new }

@@ -8,7 +8,7 @@ pub move_flow-requires-clause-held : goal.move_flow-requires-clause-held
 move_flow-requires-clause-held g c = subst IsSome (sym (held_user c.args.system.now c.requires.sound c.args.resource c.args.flow c.requires.user)) refl
 
 pub returns-clause-moved : goal.returns-clause-moved
-returns-clause-moved g c = let m = c.move_flow.ensures.moved in record { level_is = m.level_is; noted = m.noted; holds = m.holds }
+returns-clause-moved g c = let m = c.move_flow.ensures.moved in record { level_is = m.level_is; part_is = m.part_is; noted = m.noted; stale = m.stale; holds = m.holds }
 
 pub returns-clause-kept : goal.returns-clause-kept
 returns-clause-kept g c =
@@ -17,12 +17,17 @@ returns-clause-kept g c =
     record {
       places = record {
         levels = places.levels;
+        parts = places.parts;
         moved = places.moved;
+        stale = places.stale;
         holds = places.holds;
         demands = places.demands;
         active = length-set c.move_flow.new.kept.active.items c.args.resource c.is_active-was.result ∙ places.active;
       };
       demands = kept.demands;
+      fit = kept.fit;
+      none = kept.none;
+      longest = kept.longest;
     }
 
 pub returns-clause-activates : goal.returns-clause-activates

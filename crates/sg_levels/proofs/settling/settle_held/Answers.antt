@@ -29,7 +29,7 @@ returns-then-is_same-clause-settles g c = λ was todo are.
 
 pub returns-then-not-has_cause-clause-settles : goal.returns-then-not-has_cause-clause-settles
 returns-then-not-has_cause-clause-settles g c = λ was todo are.
-    let moved = subst (IsMoved c.args.kept.now c.move_flow.new.kept c.args.flow) c.bound_of.ensures c.move_flow.ensures.moved in
+    let moved = subst (IsMoved c.args.system.now c.args.kept.now c.move_flow.new.kept c.args.flow) c.bound_of.ensures c.move_flow.ensures.moved in
     raised c.args.system.now c.requires.sound c.args.resource c.args.flow c.requires.user c.args.kept.now c.move_flow.new.kept was todo c.requires.kept moved c.move_flow.ensures.activates are
 
 pub returns-else-not-has_cause-clause-settles : goal.returns-else-not-has_cause-clause-settles
@@ -40,7 +40,7 @@ returns-else-not-has_cause-clause-settles g c = λ was todo are.
     (λ e. subst (HasCause c.args.kept.now.holds.items (flow_in s.slots f)) c.level-level.ensures (c.has_cause.ensures.cause c.if-not-has_cause.false)) are
 
 pub returns-then-not-has_cause-clause-moved : goal.returns-then-not-has_cause-clause-moved
-returns-then-not-has_cause-clause-moved g c = moved_notes c.args.kept.now c.move_flow.new.kept c.args.flow c.bound_of.result c.move_flow.ensures.moved
+returns-then-not-has_cause-clause-moved g c = moved_notes c.args.system.now c.args.kept.now c.move_flow.new.kept c.args.flow c.bound_of.result c.move_flow.ensures.moved
 
 pub returns-then-is_same-clause-moved : goal.returns-then-is_same-clause-moved
 returns-then-is_same-clause-moved g c = noted_none c.args.kept.now.moved c.args.kept.now.levels.items

@@ -19,7 +19,7 @@ returns-in-Some-clause-settles g c = λ todo are.
     (sym c.hold.ensures ∙ told.0) (subst (IsUnder c.in-Some.hold) c.level-level.ensures told.1) are
 
 pub returns-in-Some-clause-moved : goal.returns-in-Some-clause-moved
-returns-in-Some-clause-moved g c = moved_notes c.args.kept.now c.lower.new.kept c.args.flow (Some c.in-Some.hold) c.lower.ensures.moved
+returns-in-Some-clause-moved g c = moved_notes c.args.system.now c.args.kept.now c.lower.new.kept c.args.flow (Some c.in-Some.hold) c.lower.ensures.moved
 
 pub returns-else-is_same-clause-settles : goal.returns-else-is_same-clause-settles
 returns-else-is_same-clause-settles g c = λ todo are.

@@ -1,4 +1,4 @@
-use Rattle.std.proofs.Common.{◌≡◌, inl, inr, true, false, true≢false, set, get_or-set_same, get_or-set_other, length-set, refl, sym, ap, ◌∙◌}
+use Rattle.std.proofs.Common.{inl, inr, true, false, true≢false, set, get_or-set_same, get_or-set_other, sym, ap, ◌∙◌}
 use Rattle.sg_levels.specs.Settling.{is_active}
 use Rattle.sg_levels.proofs.Listed.{eq_cases, one_off}
 use Rattle.sg_levels.proofs.settling.visit.Goals as goal

@@ -1,4 +1,4 @@
-use Rattle.std.proofs.Common.{◌≡◌, ◌≢◌, ◌<◌, ◌+◌, ◌-◌, ◌*◌, ℕ, inl, inr, suc, false, length, get_or, take, below_more, refl, sym, ap, subst, ◌∙◌, arith}
+use Rattle.std.proofs.Common.{◌≡◌, ◌≢◌, ◌<◌, ◌+◌, ◌*◌, ℕ, inl, inr, suc, false, length, get_or, take, below_more, refl, sym, ap, subst, ◌∙◌, arith}
 use Rattle.std.proofs.lemmas.List.Elements.{All-get_or}
 use Rattle.sg_base.specs.MarkSet.{is_in}
 use Rattle.sg_chains.specs.Chained.{times}
@@ -22,7 +22,7 @@ loop-at-init g c =
         stays = λ r off. off;
         done = λ i h. absurd (omega (arith, h));
         shifts = λ x. let none : times x (take 0 row) ≡ 0 = refl in omega (arith, ap (λ n. n * c.args.before) none, ap (λ n. n * c.args.after) none);
-        levels = record { levels = refl; moved = refl; holds = refl; demands = refl; active = refl };
+        levels = record { levels = refl; parts = refl; moved = refl; stale = refl; longest = refl; holds = refl; demands = refl; active = refl };
         looks = omega arith;
       },
     )
@@ -100,7 +100,10 @@ loop-at-preserved g c =
         shifts = λ x. ap (λ xs. get_or xs x 0 + times x (take (suc k) row) * before) out.demands ∙ shift_more before after first.demands.items old.demands.items row k one r.less r.is inv.1.shifts some here x;
         levels = record {
           levels = out.levels.levels ∙ inv.1.levels.levels;
+          parts = out.levels.parts ∙ inv.1.levels.parts;
           moved = out.levels.moved ∙ inv.1.levels.moved;
+          stale = out.levels.stale ∙ inv.1.levels.stale;
+          longest = out.levels.longest ∙ inv.1.levels.longest;
           holds = out.levels.holds ∙ inv.1.levels.holds;
           demands = out.levels.demands ∙ inv.1.levels.demands;
           active = out.levels.active ∙ inv.1.levels.active;

@@ -1,8 +1,8 @@
-use Rattle.std.proofs.Common.{slice_index, subst, arith}
+use Rattle.std.proofs.Common.{slice_index, refl, subst, arith}
 use Rattle.sg_chains.specs.Chained.{users_on}
 use Rattle.sg_levels.specs.Numbered.{flow_in}
 use Rattle.sg_levels.specs.Held.{IsHold}
-use Rattle.sg_levels.proofs.Demand.{demand_holds_none_lem}
+use Rattle.sg_levels.proofs.Demand.{demand_holds_none_lem, parts_demand}
 use Rattle.sg_levels.proofs.Steps.{held_user}
 use Rattle.sg_levels.proofs.levels.Levels.find_hold.Goals as goal
 
@@ -11,7 +11,7 @@ returns-then-has_slack-clause-hold g c =
     let s = c.args.system.now in
     let n = c.args.resource in
     let told = c.has_slack.ensures c.if-has_slack.true in
-    demand_holds_none_lem s c.args.self.now.levels.items n c.requires.sound (λ id i. c.requires.settling.written.within id (flow_in s.slots id) (held_user s c.requires.sound n id i)) told.1 (omega (arith, told.0, c.requires.settling.kept.demands n))
+    demand_holds_none_lem s c.args.self.now.levels.items n c.requires.sound (λ id i. c.requires.settling.written.within id (flow_in s.slots id) (held_user s c.requires.sound n id i)) told.1 (omega (arith, told.0, c.requires.settling.kept.demands n, parts_demand s c.requires.sound c.args.self.now.parts.items c.args.self.now.levels.items (λ id held. c.requires.settling.parts id held refl) n))
 
 pub returns-clause-hold : goal.returns-clause-hold
 returns-clause-hold g c =

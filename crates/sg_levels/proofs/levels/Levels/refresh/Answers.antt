@@ -1,4 +1,4 @@
-use Rattle.std.proofs.Common.{◌≡◌, ℕ, Bool, Option, None, false, length, length-set, set, slice_index, sym, subst, ◌∙◌, arith}
+use Rattle.std.proofs.Common.{ℕ, Bool, Option, None, false, length-set, set, slice_index, sym, subst, ◌∙◌, arith}
 use Rattle.sg_chains.specs.Chained.{users_on}
 use Rattle.sg_levels.specs.Held.{IsHold}
 use Rattle.sg_levels.specs.Settling.{AreSettlingOn}
@@ -12,12 +12,17 @@ settle_users-requires-clause-kept g c =
     record {
       places = record {
         levels = places.levels;
+        parts = places.parts;
         moved = places.moved;
+        stale = places.stale;
         holds = omega (arith, places.holds, length-set {A = Option ℕ});
         demands = places.demands;
         active = omega (arith, places.active, length-set {A = Bool});
       };
       demands = c.requires.settling.kept.demands;
+      fit = c.requires.settling.kept.fit;
+      none = c.requires.settling.kept.none;
+      longest = c.requires.settling.kept.longest;
     }
 
 pub returns-then-not-are_none-clause-settling : goal.returns-then-not-are_none-clause-settling
@@ -32,9 +37,14 @@ returns-then-not-are_none-clause-settling g c =
     let places = c.requires.settling.kept.places in
     let is = c.find_hold-hold.ensures.hold in
     let start = start_keeps s sound kept.levels.items kept.holds.items kept.active.items 0 None n c.find_hold-hold.result c.requires.settling.written (omega (arith, c.requires.resource, places.holds)) (omega (arith, c.requires.resource, places.active)) is in
+    let on = c.settle_users.ensures.settles (record {
+      parts = c.requires.settling.parts;
+      written = subst (λ o. AreSettlingOn s kept.levels.items (set kept.holds.items n c.find_hold-hold.result) (set kept.active.items n false) n o row) (sym c.hold-was.ensures) start;
+    }) in
     record {
       kept = c.settle_users.ensures.kept;
-      written = any_end s new.levels.items new.holds.items new.active.items n 0 c.hold-was.result None (c.settle_users.ensures.settles (subst (λ o. AreSettlingOn s kept.levels.items (set kept.holds.items n c.find_hold-hold.result) (set kept.active.items n false) n o row) (sym c.hold-was.ensures) start));
+      parts = on.parts;
+      written = any_end s new.levels.items new.holds.items new.active.items n 0 c.hold-was.result None on.written;
     }
 
 pub returns-else-not-are_none-clause-settling : goal.returns-else-not-are_none-clause-settling
@@ -49,9 +59,13 @@ returns-else-not-are_none-clause-settling g c =
     let is = c.find_hold-hold.ensures.hold in
     record {
       kept = record {
-        places = record { levels = places.levels; moved = places.moved; holds = places.holds; demands = places.demands; active = omega (arith, places.active, length-set kept.active.items n false) };
+        places = record { levels = places.levels; parts = places.parts; moved = places.moved; stale = places.stale; holds = places.holds; demands = places.demands; active = omega (arith, places.active, length-set kept.active.items n false) };
         demands = c.requires.settling.kept.demands;
+        fit = c.requires.settling.kept.fit;
+        none = c.requires.settling.kept.none;
+        longest = c.requires.settling.kept.longest;
       };
+      parts = c.requires.settling.parts;
       written = rest_keeps s c.is_sound.ensures kept.levels.items kept.holds.items kept.active.items 0 None n c.requires.settling.written (sym c.hold-was.ensures ∙ none.0) (subst (IsHold cap s.slots kept.levels.items row) none.1 is);
     }
 

@@ -1,0 +1,62 @@
+use Rattle.std.proofs.Common.{◌*◌, ◌<◌, ◌≤◌, length, length-set, slice_index, sym, ap, subst, ◌∙◌, arith}
+use Rattle.sg_base.specs.MarkSet.{MarkSet}
+use Rattle.sg_chains.specs.Chained.{times}
+use Rattle.sg_maxmin.specs.Sharing.{uses_at}
+use Rattle.sg_levels.specs.Kept.{Shifts}
+use Rattle.sg_levels.proofs.Users.{held_below}
+use Rattle.sg_levels.proofs.Demand.{parts_fit, part_in}
+use Rattle.sg_levels.proofs.Keeping.{moved_kept}
+use Rattle.sg_levels.proofs.changes.leave.Goals as goal
+
+pub part-part-requires : goal.part-part-requires
+part-part-requires g c = omega (arith, held_below c.args.system.now.slots c.args.flow c.requires.held, c.requires.kept.places.parts)
+
+pub visit_uses-requires-clause-places : goal.visit_uses-requires-clause-places
+visit_uses-requires-clause-places g c =
+    let places = c.requires.kept.places in
+    record {
+      levels = places.levels;
+      parts = omega (arith, places.parts, length-set c.args.kept.now.parts.items c.args.flow 0);
+      moved = places.moved;
+      stale = places.stale;
+      holds = places.holds;
+      demands = places.demands;
+      active = places.active;
+    }
+
+pub visit_uses-requires-clause-some : goal.visit_uses-requires-clause-some
+visit_uses-requires-clause-some g c = λ x.
+    let s = c.args.system.now in
+    let f = c.args.flow in
+    subst (λ b. times x (uses_at s.slots f) * b ≤ slice_index c.args.kept.now.demands.items x) (sym c.part-part.ensures) (omega (arith, part_in s c.requires.sound c.args.kept.now.parts.items f x, c.requires.kept.demands x))
+
+pub visit_uses-requires-clause-fits : goal.visit_uses-requires-clause-fits
+visit_uses-requires-clause-fits g c = λ x.
+    let s = c.args.system.now in
+    omega (arith, parts_fit s c.requires.sound c.args.kept.now.parts.items c.requires.kept.fit c.args.flow 0 (omega arith) x, c.requires.kept.demands x)
+
+pub returns-clause-left : goal.returns-clause-left
+returns-clause-left g c =
+    let out = c.visit_uses.ensures.levels in
+    record { levels = out.levels; parts = out.parts; moved = out.moved; stale = out.stale; holds = out.holds }
+
+pub returns-clause-kept : goal.returns-clause-kept
+returns-clause-kept g c =
+    let s = c.args.system.now in
+    let f = c.args.flow in
+    let old = c.args.kept.now in
+    let new = c.visit_uses.new.kept in
+    let out = c.visit_uses.ensures.levels in
+    let places = c.requires.kept.places in
+    let below : f < length old.parts.items = omega (arith, held_below s.slots f c.requires.held, places.parts) in
+    moved_kept s c.requires.sound old new f 0 c.requires.held below (omega arith) c.requires.kept
+    (record {
+      levels = omega (arith, places.levels, ap length out.levels);
+      parts = omega (arith, places.parts, ap length out.parts, length-set old.parts.items f 0);
+      moved = omega (arith, places.moved, ap (λ (m : MarkSet). m.room) out.moved);
+      stale = omega (arith, places.stale, ap (λ (m : MarkSet). m.room) out.stale);
+      holds = ap length out.holds ∙ places.holds;
+      demands = out.demands ∙ places.demands;
+      active = out.active ∙ places.active;
+    }) out.parts out.longest
+    (subst (λ b. Shifts b 0 (uses_at s.slots f) old.demands.items new.demands.items) c.part-part.ensures c.visit_uses.ensures.shifts)

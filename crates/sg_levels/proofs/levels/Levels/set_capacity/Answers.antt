@@ -1,0 +1,47 @@
+use Rattle.std.proofs.Common.{◌≡◌, inl, inr, true, length, length-set, get_or-set_same, get_or-set_other, set, slice_index, refl, sym, ap, subst, ◌∙◌, arith}
+use Rattle.sg_maxmin.specs.Sharing.{Sharing, flow_at}
+use Rattle.sg_levels.proofs.Listed.{eq_cases}
+use Rattle.sg_levels.proofs.Between.{between_extended}
+use Rattle.sg_levels.proofs.Changed.{offered_between}
+use Rattle.sg_levels.proofs.levels.Levels.set_capacity.Goals as goal
+
+pub returns-then-before-capacity-clause-between : goal.returns-then-before-capacity-clause-between
+returns-then-before-capacity-clause-between c =
+    let s = c.args.system.now in
+    let n = c.args.resource in
+    let cap = c.args.capacity in
+    let caps = ap (λ (x : Sharing). x.capacities) c.set_capacity.ensures in
+    let kept = c.requires.between.kept in
+    let places = kept.places in
+    let active = c.args.self.now.active.items in
+    offered_between s c.set_capacity.new.self c.is_sound.ensures c.is_sound-2.ensures n (ap (λ (x : Sharing). x.slots) c.set_capacity.ensures) (ap length caps ∙ length-set s.capacities n cap)
+    (λ r ne. ap (λ cs. slice_index cs r) caps ∙ get_or-set_other s.capacities n r cap 0 ne) c.args.self.now _ c.requires.between
+    (record {
+      places = record { levels = places.levels; parts = places.parts; moved = places.moved; stale = places.stale; holds = places.holds; demands = places.demands; active = length-set active n true ∙ places.active };
+      demands = kept.demands;
+      fit = kept.fit;
+      none = kept.none;
+      longest = kept.longest;
+    }) (omega (arith, c.requires.resource, places.active)) refl refl refl refl refl refl
+
+pub returns-else-before-capacity-clause-between : goal.returns-else-before-capacity-clause-between
+returns-else-before-capacity-clause-between c =
+    let s = c.args.system.now in
+    let n = c.args.resource in
+    let cap = c.args.capacity in
+    let caps = ap (λ (x : Sharing). x.capacities) c.set_capacity.ensures in
+    let slots = ap (λ (x : Sharing). x.slots) c.set_capacity.ensures in
+    let numbers = ap length slots in
+    let places = c.requires.between.kept.places in
+    between_extended s c.set_capacity.new.self c.is_sound.ensures c.is_sound-2.ensures c.args.self.now (ap length caps ∙ length-set s.capacities n cap)
+    (λ r. ap (λ cs. slice_index cs r) caps ∙ elim (eq_cases r n) [
+      | inl e ↦ subst (λ m. slice_index (set s.capacities n cap) m ≡ slice_index s.capacities m) (sym e) (get_or-set_same s.capacities n cap 0 c.requires.resource ∙ omega (arith, c.if-before-capacity.false, c.capacity-before.ensures))
+      | inr ne ↦ get_or-set_other s.capacities n r cap 0 ne
+    ])
+    (λ id. ap (λ xs. flow_at xs id) slots)
+    (record {
+      levels = omega (arith, numbers, places.levels);
+      parts = omega (arith, numbers, places.parts);
+      moved = omega (arith, numbers, places.moved);
+      stale = omega (arith, numbers, places.stale);
+    }) c.requires.between

@@ -1,0 +1,150 @@
+//! What changes between settlings: flows begin and end, and have other bounds, and resources have other capacities.
+ghost use Rattle.std.specs.Prelude.{◌≡◌, ◌≤◌, ◌<◌, ◌+◌, ◌*◌, ◌^◌, ℕ, All, IsSome, IfSome, Some, length, slice_index, slice_set};
+ghost use Rattle.sg_chains.specs.Chained.{times};
+ghost use Rattle.sg_maxmin.specs.Fill.{flow};
+ghost use Rattle.sg_maxmin.specs.Sharing.{IsFlow, IsSound, flow_at, uses_at};
+ghost use Rattle.sg_levels.specs.Kept.{ActivatesAll, HasLeft, IsBetween, IsEnded, IsKept, IsMoved, IsStarted, KeepsLevels, NotesChanged, Shifts};
+ghost use Rattle.sg_levels.specs.Numbered.{bound_of as bound_of_flow, flow_in};
+
+use crate::levels::Levels;
+use crate::settling::{bound_of, is_same, part_of, visit, visit_uses};
+use sg_base::Steps;
+use sg_maxmin::{FlowId, System};
+use std::sync::ledger::Ledger;
+
+// Each of these resources is active, and in the demand on it one part stands for another.
+fn visit_all(uses: &[usize], before: u128, after: u128, kept: &mut Levels)
+    requires active { All (λ c. c < length kept.old.active.items) uses.now }
+    requires demand { All (λ c. c < length kept.old.demands.items) uses.now }
+    requires some { (c : ℕ) → times c uses.now * before ≤ slice_index kept.old.demands.items c }
+    requires fits { (c : ℕ) → slice_index kept.old.demands.items c
+        + times c uses.now * after < 2 ^ 128 }
+    ensures activates { ActivatesAll uses.now kept.old.active.items kept.new.active.items }
+    ensures shifts { Shifts before after uses.now
+        kept.old.demands.items kept.new.demands.items }
+    ensures levels { KeepsLevels kept.old kept.new }
+{
+    for resource in uses {
+        visit(*resource, before, after, kept);
+    }
+}
+
+// A flow that began has the level of its bound, and is noted; its resources are active.
+fn enter(system: &System, flow: usize, uses: &[usize], kept: &mut Levels)
+    requires sound { IsSound system.now }
+    requires held { IsSome (flow_at system.now.slots flow) }
+    requires uses { uses_at system.now.slots flow ≡ uses.now }
+    requires kept { IsKept system.now kept.old }
+    ensures moved { IsMoved system.now kept.old kept.new flow
+        (bound_of_flow (flow_in system.now.slots flow)) }
+    ensures activates { ActivatesAll uses.now kept.old.active.items kept.new.active.items }
+    ensures kept { IsKept system.now kept.new }
+{
+    let level = bound_of(system, flow);
+    let before = kept.part(flow);
+    let after = part_of(system, flow, level);
+    kept.levels[flow] = level;
+    kept.parts[flow] = after;
+    kept.moved.insert(flow);
+    visit_all(uses, before, after, kept);
+}
+
+// A flow that ends has no part any more; its resources are active.
+fn leave<L: Ledger>(system: &System, flow: usize, kept: &mut Levels, steps: &mut Steps<L>)
+    requires sound { IsSound system.now }
+    requires held { IsSome (flow_at system.now.slots flow) }
+    requires kept { IsKept system.now kept.old }
+    ensures left { HasLeft kept.old kept.new flow }
+    ensures activates { ActivatesAll (uses_at system.now.slots flow)
+        kept.old.active.items kept.new.active.items }
+    ensures kept { IsKept system.now kept.new }
+    ensures looks { steps.new ≡ steps.old + length (uses_at system.now.slots flow) }
+{
+    let part = kept.part(flow);
+    kept.parts[flow] = 0;
+    visit_uses(system, flow, part, 0, kept, steps);
+}
+
+impl Levels {
+    /// A flow begins, as `System::add` adds it. It is noted as moved, and its resources are active; nothing is looked
+    /// at.
+    pub fn start(
+        &mut self,
+        system: &mut System,
+        uses: &[usize],
+        weight: u32,
+        bound: Option<u64>,
+    ) -> FlowId
+        requires flow { IsFlow system.old.capacities (flow uses.now weight bound) }
+        requires flow_room { 0 < system.old.flow_room }
+        requires use_room { length uses.now ≤ system.old.use_room }
+        requires between { IsBetween system.old self.old }
+        ensures started { IsStarted system.old system.new result (flow uses.now weight bound) }
+        ensures between { IsBetween system.new self.new }
+        ensures changed { NotesChanged system.old system.new self.old self.new }
+    {
+        system.is_sound();
+        self.longest = self.longest.max(uses.len());
+        let flow = system.add(uses, weight, bound);
+        system.is_sound();
+        enter(system, flow, uses, self);
+        flow
+    }
+
+    /// A flow ends, as `System::remove` removes it. The resources that it used are active; each of its uses is looked
+    /// at.
+    pub fn end<L: Ledger>(&mut self, system: &mut System, flow: FlowId, steps: &mut Steps<L>)
+        requires held { IsSome (flow_at system.old.slots flow) }
+        requires between { IsBetween system.old self.old }
+        ensures ended { IsEnded system.old system.new flow }
+        ensures between { IsBetween system.new self.new }
+        ensures changed { NotesChanged system.old system.new self.old self.new }
+        ensures looks { steps.new ≡ steps.old + length (uses_at system.old.slots flow) }
+    {
+        system.is_sound();
+        leave(system, flow, self, steps);
+        system.remove(flow);
+        system.is_sound();
+    }
+
+    /// A flow has another bound. It is noted as moved, and keeps its level until the next settling; nothing is looked
+    /// at. Where the bound is the one that it has, nothing changes.
+    pub fn set_bound(&mut self, system: &mut System, flow: FlowId, bound: u64)
+        requires held { IsSome (flow_at system.old.slots flow) }
+        requires between { IsBetween system.old self.old }
+        ensures bounded { IfSome (flow_at system.old.slots flow) (λ held.
+            system.new ≡ record system.old {
+              slots = slice_set system.old.slots flow (Some (record held { bound = Some bound }));
+            }) }
+        ensures between { IsBetween system.new self.new }
+        ensures changed { NotesChanged system.old system.new self.old self.new }
+    {
+        system.is_sound();
+        let before = system.bound(flow);
+        system.set_bound(flow, bound);
+        system.is_sound();
+        if !is_same(before, Some(bound)) {
+            self.stale.insert(flow);
+            self.moved.insert(flow);
+        }
+    }
+
+    /// A resource has another capacity, and is active. Where the capacity is the one that it has, nothing changes.
+    pub fn set_capacity(&mut self, system: &mut System, resource: usize, capacity: u64)
+        requires resource { resource < length system.old.capacities }
+        requires between { IsBetween system.old self.old }
+        ensures offered { system.new ≡ record system.old {
+          capacities = slice_set system.old.capacities resource capacity;
+        } }
+        ensures between { IsBetween system.new self.new }
+        ensures changed { NotesChanged system.old system.new self.old self.new }
+    {
+        system.is_sound();
+        let before = system.capacity(resource);
+        system.set_capacity(resource, capacity);
+        system.is_sound();
+        if before != capacity {
+            self.active[resource] = true;
+        }
+    }
+}
