@@ -2,16 +2,16 @@
 use Rattle.std.proofs.Common.{◌≡◌, ◌≢◌, ℕ, ◌+◌, ◌<◌, ◌≤◌, inl, inr, true, false, true≢false, cond, eq-eqb, Option, None, Some, IsSome, List, [], ◌∷◌, length, slice_index, sum_by, refl, sym, ap, ap₂, subst, ◌∙◌, arith}
 use Rattle.sg_base.specs.MarkSet.{is_in, with_mark}
 use Rattle.sg_chains.specs.Chained.{times, users_on}
-use Rattle.sg_maxmin.specs.Fill.{Flow, flow}
-use Rattle.sg_maxmin.specs.Sharing.{Sharing, IsSound, Changes, flow_at, uses_at, uses_in}
+use Rattle.sg_maxmin.specs.Fill.{Flow, flow, level_of, share_at}
+use Rattle.sg_maxmin.specs.Sharing.{Sharing, IsSound, Changes, flow_at, held, uses_at, uses_in}
 use Rattle.sg_maxmin.proofs.Sums.{sum_by_same}
 use Rattle.sg_levels.specs.declared.levels.Levels.{Levels}
 use Rattle.sg_levels.specs.Numbered.{flow_in, level_at, row_waiting, slot_bound, slot_weight}
 use Rattle.sg_levels.specs.Demand.{demand_of}
 use Rattle.sg_levels.specs.Held.{IsHold}
 use Rattle.sg_levels.specs.Settling.{AreMarked, AreSettlingBut, is_active}
-use Rattle.sg_levels.specs.Kept.{AreParts, HasRoom, IsBetween, IsBetweenBut, IsFresh, IsKept, KeepsAll, NotesChanged, NotesMoved}
-use Rattle.sg_levels.proofs.Listed.{bool_cases, eq_cases, mark_stays, mark_there, none_some, times-cons}
+use Rattle.sg_levels.specs.Kept.{AreParts, HasRoom, IsBetween, IsBetweenBut, IsFresh, IsKept, KeepsAll, NotesChanged, NotesMoved, SharesAreNoted}
+use Rattle.sg_levels.proofs.Listed.{bool_cases, eq_cases, mark_stays, mark_there, none_some, some_same, times-cons}
 use Rattle.sg_levels.proofs.Keeping.{system_kept}
 use Rattle.sg_levels.proofs.Marked.{changes_keep_lem}
 
@@ -176,3 +176,9 @@ notes_on s t u a b c first then = record {
       let before = first.same id f last.0 off' in
       (before.0, last.1 ∙ before.1);
 }
+
+pub shares_noted : SharesAreNoted
+shares_noted s t old new notes before after id flow e off =
+    let was = notes.same id flow e off in
+    let same : level_of s.capacities (held s.slots) flow ≡ level_of t.capacities (held t.slots) flow = some_same _ _ (sym (before id flow was.0) ∙ sym was.1 ∙ after id flow e) in
+    (was.0, ap (share_at flow) same)

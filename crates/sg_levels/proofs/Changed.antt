@@ -21,7 +21,7 @@ demand_pos f (Some l) pos = more (min (share_at f l) (2 ^ 64 - 1)) f.weight pos
     more a w h = omega (arith, h)
 
 -- what the flow uses is active
-marks_used : (id : ℕ) (slots : List (Option Flow)) (old new : List Bool) → ActivatesAll (uses_at slots id) old new → (flow : Flow) (r : ℕ) → flow_at slots id ≡ Some flow → is_in r flow.uses ≡ true → is_active new r ≡ true
+pub marks_used : (id : ℕ) (slots : List (Option Flow)) (old new : List Bool) → ActivatesAll (uses_at slots id) old new → (flow : Flow) (r : ℕ) → flow_at slots id ≡ Some flow → is_in r flow.uses ≡ true → is_active new r ≡ true
 marks_used id slots old new activates flow r e u = elim (bool_cases (is_active new r)) [
   | inl on ↦ on
   | inr off ↦ absurd (true≢false (sym u ∙ ap (is_in r) (sym (uses_held slots id flow e)) ∙ (activates r off).1))

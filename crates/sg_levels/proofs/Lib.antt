@@ -5,6 +5,7 @@ pub mod Balance
 pub mod OnRow
 pub mod HeldLevels
 pub mod RowRise
+pub mod Passes
 pub mod Changing
 pub mod Converse
 pub mod Demand
@@ -16,3 +17,4 @@ pub mod Moving
 pub mod Keeping
 pub mod Between
 pub mod Changed
+pub mod Renewing

@@ -1,5 +1,5 @@
 -- As flows of higher levels are fixed, the level of a resource doesn't fall.
-use Rattle.std.proofs.Common.{◌≡◌, ℕ, suc, ◌+◌, ◌-◌, ◌*◌, ◌/◌, ◌<◌, ◌≤◌, ◌⊎◌, inl, inr, true, cond, lt-ltb, le-ltb, is_none, Option, None, Some, List, [], ◌∷◌, length, mul-le-mul_right, get_or, take, sum_by, refl, sym, ap, subst, ◌∙◌, arith, div-mul-le_self, le_trans, div-le_self}
+use Rattle.std.proofs.Common.{◌≡◌, ℕ, suc, ◌+◌, ◌-◌, ◌*◌, ◌/◌, ◌<◌, ◌≤◌, ◌⊎◌, inl, inr, true, cond, lt-ltb, le-ltb, is_none, Option, None, Some, IfSome, List, [], ◌∷◌, length, mul-le-mul_right, get_or, take, sum_by, refl, sym, ap, ap₂, subst, ◌∙◌, arith, div-mul-le_self, le_trans, div-le_self}
 use Rattle.std.proofs.lemmas.List.Sums.{sum_by-cons}
 use Rattle.sg_maxmin.specs.Fill.{Flow, share_of_fixed}
 use Rattle.sg_maxmin.proofs.Members.{In}
@@ -127,6 +127,11 @@ level_le capacity slots fixed row = le_trans (div-le_self (capacity - row_taken 
   where
     less : (a b : ℕ) → a - b ≤ a
     less a b = omega arith
+
+pub level_from : (capacity : ℕ) (slots : List (Option Flow)) (fixed : ℕ → Option ℕ) (left waiting : ℕ) (row : List ℕ) (level : Option ℕ) → left ≡ capacity - row_taken slots fixed row → waiting ≡ row_waiting slots fixed row → IfSome level (λ x. (0 < waiting) × (x ≡ left / waiting)) → IfSome level (λ x. (0 < row_waiting slots fixed row) × (x ≡ row_level capacity slots fixed row))
+unfolding row_level
+level_from capacity slots fixed left waiting row None l w is = tt
+level_from capacity slots fixed left waiting row (Some x) l w is = (subst (λ n. 0 < n) w is.0, is.1 ∙ ap₂ (λ a b. a / b) l w)
 
 -- ---- how many flows of a row wait
 abbrev pub waits : List (Option ℕ) → ℕ → ℕ → ℕ

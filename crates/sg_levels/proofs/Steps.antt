@@ -16,7 +16,7 @@ use Rattle.sg_levels.proofs.RowRise.{level_le}
 use Rattle.sg_levels.proofs.Changing.{hold_is_local_lem, hold_stays_lem}
 
 -- ---- the first of a list, or another
-head_or : (id id' : ℕ) (todo : List ℕ) → is_in id' (id ∷ todo) ≡ true → (id' ≡ id) ⊎ (is_in id' todo ≡ true)
+pub head_or : (id id' : ℕ) (todo : List ℕ) → is_in id' (id ∷ todo) ≡ true → (id' ≡ id) ⊎ (is_in id' todo ≡ true)
 head_or id id' todo h = elim (is_in_In id' (id ∷ todo) h) [ inl e ↦ inl (sym e) | inr i ↦ inr (in_is id' todo i) ]
 
 -- ---- what a step reads and writes

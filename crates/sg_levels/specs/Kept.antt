@@ -1,12 +1,13 @@
 -- What a `Levels` keeps, and what a change and a look at a resource do to it.
-use Rattle.std.specs.Prelude.{◌≡◌, ℕ, ◌+◌, ◌*◌, ◌^◌, ◌<◌, ◌≤◌, Bool, true, false, Option, None, Some, IsSome, List, [], length, sum_by, slice_index, slice_set}
+use Rattle.std.specs.Prelude.{◌≡◌, ℕ, ◌+◌, ◌-◌, ◌*◌, ◌^◌, ◌<◌, ◌≤◌, Bool, true, false, Option, None, Some, IsSome, IfSome, List, [], length, sum_by, slice_index, slice_set}
 use Rattle.sg_base.specs.MarkSet.{is_in, with_mark}
 use Rattle.sg_chains.specs.Chained.{times, users_on}
-use Rattle.sg_maxmin.specs.Fill.{Flow}
-use Rattle.sg_maxmin.specs.Sharing.{Sharing, IsSound, Changes, flow_at, uses_at}
+use Rattle.sg_maxmin.specs.Fill.{Flow, share_of}
+use Rattle.sg_maxmin.specs.Sharing.{Sharing, IsSound, Changes, flow_at, held, uses_at}
 use Rattle.sg_levels.specs.declared.levels.Levels.{Levels}
-use Rattle.sg_levels.specs.Numbered.{all_uses, flow_in, level_at}
+use Rattle.sg_levels.specs.Numbered.{all_uses, below_at, flow_in, level_at, row_level, row_taken, row_waiting}
 use Rattle.sg_levels.specs.Demand.{demand_of}
+use Rattle.sg_levels.specs.Held.{AreFilled}
 use Rattle.sg_levels.specs.Settling.{AreNoted, AreSettling, AreSettlingBut, AreSettlingOn, is_active}
 
 -- there is a place for each flow and each resource
@@ -146,9 +147,38 @@ ActivatesAll resources old new = (r : ℕ) → is_active new r ≡ false → (is
 abbrev pub ActivatesBut : ℕ → List ℕ → List Bool → List Bool → Type 0
 ActivatesBut but resources old new = (r : ℕ) → is_active new r ≡ false → (is_active old r ≡ false) × (is_in r resources ≡ true → r ≡ but)
 
--- so many looks suffice for the hold of a resource with so many users, and for a look at the resource
+-- what the flows of levels below this one leave of a resource, and the weight of the others
+pub record IsRest (s : Sharing) (resource : ℕ) (levels : List (Option ℕ)) (low left waiting : ℕ) : Type 0 where
+  pub left_is : left ≡ slice_index s.capacities resource - row_taken s.slots (below_at levels low) (users_on s.users resource)
+  pub waiting_is : waiting ≡ row_waiting s.slots (below_at levels low) (users_on s.users resource)
+
+-- the level of a resource with the flows of levels below this one fixed, if a flow waits there
+pub record IsLevelAbove (s : Sharing) (resource : ℕ) (levels : List (Option ℕ)) (low : ℕ) (level : Option ℕ) : Type 0 where
+  pub none : level ≡ None → row_waiting s.slots (below_at levels low) (users_on s.users resource) ≡ 0
+  pub some : IfSome level (λ x. (0 < row_waiting s.slots (below_at levels low) (users_on s.users resource)) × (x ≡ row_level (slice_index s.capacities resource) s.slots (below_at levels low) (users_on s.users resource)))
+
+-- a pass over the users of a resource takes a look at each, and so many suffice
+pub record IsPass (s : Sharing) (resource looks users : ℕ) : Type 0 where
+  pub all : users ≡ length (users_on s.users resource)
+  pub few : users ≤ looks
+
+-- so many looks suffice for the hold of a resource with so many users, for a look at the resource, and for it to be undertaken
 abbrev pub hold_looks : ℕ → ℕ
 hold_looks users = (users + 2) * users
 
 abbrev pub refresh_looks : Sharing → ℕ → ℕ
 refresh_looks s resource = let row = users_on s.users resource in hold_looks (length row) + length row + 2 * all_uses s.slots row
+
+abbrev pub enough_looks : Sharing → Levels → ℕ → ℕ
+enough_looks s kept resource = let users = length (users_on s.users resource) in hold_looks users + users * (2 * kept.longest + 1)
+
+-- What two stretches of time note, they note together.
+abbrev pub NotesAddUp : Type 0
+NotesAddUp = (s t u : Sharing) (a b c : Levels) → NotesChanged s t a b → NotesChanged t u b c → NotesChanged s u a c
+
+-- Where the levels before and after are those of the filling, a flow that isn't noted was there before, with the share that it has now.
+abbrev pub SharesAreNoted : Type 0
+SharesAreNoted =
+    (s t : Sharing) (old new : Levels) → NotesChanged s t old new → AreFilled s old.levels.items → AreFilled t new.levels.items →
+    (id : ℕ) (flow : Flow) → flow_at t.slots id ≡ Some flow → is_in id new.moved.members ≡ false →
+    (flow_at s.slots id ≡ Some flow) × (share_of s.capacities (held s.slots) flow ≡ share_of t.capacities (held t.slots) flow)

@@ -4,18 +4,34 @@ ghost use Rattle.sg_chains.specs.Chained.{users_on};
 ghost use Rattle.sg_maxmin.specs.Fill.{bounded, share_of_fixed};
 ghost use Rattle.sg_maxmin.specs.Sharing.{IsSound, flow_at};
 ghost use Rattle.sg_levels.specs.Held.{IsHold};
-ghost use Rattle.sg_levels.specs.Kept.{hold_looks};
+ghost use Rattle.sg_levels.specs.Kept.{IsLevelAbove, IsPass, IsRest, hold_looks};
 ghost use Rattle.sg_levels.specs.Numbered.{below_at, flow_in, level_at, row_level, row_taken, row_waiting, weight_at, when_below};
 
 use sg_base::Steps;
 use sg_maxmin::System;
 use std::sync::ledger::Ledger;
 
-// What fixed flows leave of a resource, and the weight of the others.
+// What fixed flows leave of a resource, the weight of the others, and how many flows there are in all.
 #[derive(Clone, Copy)]
 struct Rest {
     left: u64,
     waiting: u64,
+    users: u64,
+}
+
+// The level of a resource, where a flow waits there, and how many flows use it.
+#[derive(Clone, Copy)]
+struct Above {
+    level: Option<u64>,
+    users: u64,
+}
+
+/// The level at which a resource holds its flows, if at any, how many flows use it, and how many looks are left.
+#[derive(Clone, Copy)]
+pub struct Found {
+    pub hold: Option<u64>,
+    pub users: u64,
+    pub looks: u64,
 }
 
 // The level of a flow, where it is below another.
@@ -52,76 +68,69 @@ fn with_flow(system: &System, flow: usize, fixed: Option<u64>, rest: Rest) -> Re
     requires sound { IsSound system.now }
     requires held { IsSome (flow_at system.now.slots flow) }
     requires fits { rest.waiting + weight_at system.now.slots flow < 2 ^ 64 }
+    requires few { rest.users + 1 < 2 ^ 64 }
     ensures left { result.left ≡ rest.left - share_of_fixed (flow_in system.now.slots flow) fixed }
     ensures waiting { result.waiting ≡ rest.waiting
         + (if is_none fixed then weight_at system.now.slots flow else 0) }
+    ensures users { result.users ≡ rest.users + 1 }
 {
     let weight = system.weight(flow);
     match fixed {
         None => Rest {
             left: rest.left,
             waiting: rest.waiting + weight as u64,
+            users: rest.users + 1,
         },
         Some(level) => Rest {
             left: less(rest.left, weight, system.bound(flow), level),
             waiting: rest.waiting,
+            users: rest.users + 1,
         },
     }
 }
 
-// What the flows of levels below this one leave, and the weight of the others.
+// What the flows of levels below this one leave, and the weight of the others; None where so many looks don't suffice.
 fn rest_of<L: Ledger>(
     system: &System,
     resource: usize,
     levels: &[Option<u64>],
     low: u64,
+    looks: u64,
     steps: &mut Steps<L>,
-) -> Rest
+) -> Option<Rest>
     requires sound { IsSound system.now }
     requires resource { resource < length system.now.capacities }
     requires levels { length system.now.slots ≤ length levels.now }
-    ensures left { result.left ≡ slice_index system.now.capacities resource
-        - row_taken system.now.slots (below_at levels.now low)
-        (users_on system.now.users resource) }
-    ensures waiting { result.waiting
-        ≡ row_waiting system.now.slots (below_at levels.now low)
-        (users_on system.now.users resource) }
-    ensures looks { steps.new ≡ steps.old + length (users_on system.now.users resource) }
+    ensures rest { IfSome result (λ rest.
+        IsRest system.now resource levels.now low rest.left rest.waiting) }
+    ensures users { IfSome result (λ rest. IsPass system.now resource looks rest.users) }
+    ensures spent { IfSome result (λ rest. steps.new ≡ steps.old + rest.users) }
+    ensures looks { steps.new ≤ steps.old + looks }
+    ensures enough { result ≡ None → looks < length (users_on system.now.users resource) }
 {
     let mut rest = Rest {
         left: system.capacity(resource),
         waiting: 0,
+        users: 0,
     };
     let mut at = system.first_on(resource);
     while let Some(i) = at {
+        if rest.users == looks {
+            return None;
+        }
         let one = system.look(i, steps);
         rest = with_flow(system, one.flow, below(levels, one.flow, low), rest);
         at = one.next_on;
     }
-    rest
+    Some(rest)
 }
 
-// The level of a resource with the flows of levels below this one fixed; None where no flow waits there.
-fn level_above<L: Ledger>(
-    system: &System,
-    resource: usize,
-    levels: &[Option<u64>],
-    low: u64,
-    steps: &mut Steps<L>,
-) -> Option<u64>
-    requires sound { IsSound system.now }
-    requires resource { resource < length system.now.capacities }
-    requires levels { length system.now.slots ≤ length levels.now }
-    ensures none { result ≡ None
-        → row_waiting system.now.slots (below_at levels.now low)
-        (users_on system.now.users resource) ≡ 0 }
-    ensures some { IfSome result (λ level. (0 < row_waiting system.now.slots
-        (below_at levels.now low) (users_on system.now.users resource))
-        × (level ≡ row_level (slice_index system.now.capacities resource) system.now.slots
-        (below_at levels.now low) (users_on system.now.users resource))) }
-    ensures looks { steps.new ≡ steps.old + length (users_on system.now.users resource) }
+// The level of a resource, if a flow waits there.
+fn level_of(rest: Rest) -> Option<u64>
+    ensures none { result ≡ None → rest.waiting ≡ 0 }
+    ensures some { IfSome result (λ level. (0 < rest.waiting)
+        × (level ≡ rest.left / rest.waiting)) }
 {
-    let rest = rest_of(system, resource, levels, low, steps);
     if rest.waiting == 0 {
         None
     } else {
@@ -129,30 +138,80 @@ fn level_above<L: Ledger>(
     }
 }
 
-/// The level at which a resource holds its flows, where these have these levels; None where it holds none. It takes
-/// a pass over its users for each step of the levels below, and one more.
+// The level of a resource with the flows of levels below this one fixed, if a flow waits there; None where so many looks
+// don't suffice.
+fn level_above<L: Ledger>(
+    system: &System,
+    resource: usize,
+    levels: &[Option<u64>],
+    low: u64,
+    looks: u64,
+    steps: &mut Steps<L>,
+) -> Option<Above>
+    requires sound { IsSound system.now }
+    requires resource { resource < length system.now.capacities }
+    requires levels { length system.now.slots ≤ length levels.now }
+    ensures level { IfSome result (λ above.
+        IsLevelAbove system.now resource levels.now low above.level) }
+    ensures users { IfSome result (λ above. IsPass system.now resource looks above.users) }
+    ensures spent { IfSome result (λ above. steps.new ≡ steps.old + above.users) }
+    ensures looks { steps.new ≤ steps.old + looks }
+    ensures enough { result ≡ None → looks < length (users_on system.now.users resource) }
+{
+    let Some(rest) = rest_of(system, resource, levels, low, looks, steps) else {
+        return None;
+    };
+    Some(Above {
+        level: level_of(rest),
+        users: rest.users,
+    })
+}
+
+/// The level at which a resource holds its flows, where these have these levels; None where so many looks don't suffice.
+/// It takes a pass over its users for each step of the levels below, and one more.
 pub fn hold_of<L: Ledger>(
     system: &System,
     resource: usize,
     levels: &[Option<u64>],
+    looks: u64,
     steps: &mut Steps<L>,
-) -> Option<u64>
+) -> Option<Found>
     requires resource { resource < length system.now.capacities }
     requires levels { length system.now.slots ≤ length levels.now }
-    ensures hold { IsHold (slice_index system.now.capacities resource) system.now.slots levels.now
-        (users_on system.now.users resource) result }
-    ensures looks { steps.new
+    ensures hold { IfSome result (λ found. IsHold (slice_index system.now.capacities resource)
+        system.now.slots levels.now (users_on system.now.users resource) found.hold) }
+    ensures users { IfSome result (λ found.
+        found.users ≡ length (users_on system.now.users resource)) }
+    ensures spent { IfSome result (λ found. steps.new + found.looks ≡ steps.old + looks) }
+    ensures looks { steps.new ≤ steps.old + looks }
+    ensures most { steps.new
         ≤ steps.old + hold_looks (length (users_on system.now.users resource)) }
+    ensures enough { result ≡ None
+        → looks < hold_looks (length (users_on system.now.users resource)) }
 {
     system.is_sound();
     let mut low = 0;
-    let mut next = level_above(system, resource, levels, 0, steps);
-    while let Some(level) = next {
+    let mut left = looks;
+    let mut next = level_above(system, resource, levels, 0, looks, steps);
+    while let Some(above) = next {
+        let users = above.users;
+        left -= users;
+        let Some(level) = above.level else {
+            return Some(Found {
+                hold: None,
+                users,
+                looks: left,
+            });
+        };
         if level == low {
-            return Some(low);
+            return Some(Found {
+                hold: Some(low),
+                users,
+                looks: left,
+            });
         }
         low = level;
-        next = level_above(system, resource, levels, low, steps);
+        next = level_above(system, resource, levels, low, left, steps);
     }
     None
 }

@@ -3,6 +3,7 @@ ghost use Rattle.sg_levels.specs.Balanced.{BalanceIsFilling, FillingBalances};
 ghost use Rattle.sg_levels.specs.Changes.{FullHolds, HoldIsLocal, HoldIsOne, HoldStays, HoldStaysFrom, OthersHoldNone, SlackHoldsNone, SlackIsAbove};
 ghost use Rattle.sg_levels.specs.Demand.{DemandHoldsNone};
 ghost use Rattle.sg_levels.specs.Held.{FillingIsHeld, HeldIsFilling};
+ghost use Rattle.sg_levels.specs.Kept.{NotesAddUp, SharesAreNoted};
 ghost use Rattle.sg_levels.specs.Numbered.{RowTells};
 ghost use Rattle.sg_levels.specs.Settling.{ChangesKeep, HeldSettles, SettlingEnds};
 
@@ -90,4 +91,14 @@ pub fn held_settles()
 /// A change that makes active what it touches leaves what is written of all else right.
 pub fn changes_keep()
     ensures { ChangesKeep }
+{}
+
+/// What two stretches of time note, they note together.
+pub fn notes_add_up()
+    ensures { NotesAddUp }
+{}
+
+/// A flow that isn't noted was there before, with the share that it has now.
+pub fn shares_are_noted()
+    ensures { SharesAreNoted }
 {}

@@ -10,7 +10,7 @@ ghost use Rattle.sg_levels.specs.Kept.{ActivatesAll, ActivatesBut, HasPlaces, Is
 ghost use Rattle.sg_levels.specs.Numbered.{all_uses, bound_of as bound_of_flow, flow_in, level_at};
 ghost use Rattle.sg_levels.specs.Settling.{HasCause, is_active};
 
-use crate::hold::{capped_share, hold_of};
+use crate::hold::capped_share;
 use crate::levels::Levels;
 use sg_base::Steps;
 use sg_maxmin::System;
@@ -153,7 +153,7 @@ fn has_cause<L: Ledger>(
 }
 
 // Gives a flow another level, and notes it; its resources are active.
-fn move_flow<L: Ledger>(
+pub(crate) fn move_flow<L: Ledger>(
     system: &System,
     flow: usize,
     level: Option<u64>,
@@ -264,7 +264,7 @@ fn settle_user<L: Ledger>(
 
 // The users of a resource come down to the hold that is written of it, and those that it held before and that nothing
 // holds now go up to their bounds.
-fn settle_users<L: Ledger>(
+pub(crate) fn settle_users<L: Ledger>(
     system: &System,
     resource: usize,
     was: Option<u64>,
@@ -287,97 +287,5 @@ fn settle_users<L: Ledger>(
         let one = system.look(i, steps);
         settle_user(system, resource, was, one.flow, kept, steps);
         at = one.next_on;
-    }
-}
-
-// Whether there is neither.
-fn are_none(one: Option<u64>, other: Option<u64>) -> bool
-    ensures { IsTrue result → (one ≡ None) × (other ≡ None) }
-{
-    one.is_none() && other.is_none()
-}
-
-// The first active resource.
-fn first_active(active: &[bool]) -> Option<usize>
-    ensures none { result ≡ None → ((r : ℕ) → is_active active.now r ≡ false) }
-    ensures some { IfSome result (λ r. r < length active.now) }
-{
-    for i in 0..active.len() {
-        if active[i] {
-            return Some(i);
-        }
-    }
-    None
-}
-
-impl Levels {
-    // Whether a resource offers more than the demand on it.
-    fn has_slack(&self, system: &System, resource: usize) -> bool
-        requires resource { resource < length system.now.capacities }
-        requires demand { resource < length self.now.demands.items }
-        ensures { IsTrue result
-            → (slice_index self.now.demands.items resource
-            < slice_index system.now.capacities resource)
-            × (slice_index system.now.capacities resource < 2 ^ 64) }
-    {
-        self.demands[resource] < u128::from(system.capacity(resource))
-    }
-
-    // The hold of a resource, without a look where it offers more than the demand on it.
-    fn find_hold<L: Ledger>(
-        &self,
-        system: &System,
-        resource: usize,
-        steps: &mut Steps<L>,
-    ) -> Option<u64>
-        requires sound { IsSound system.now }
-        requires resource { resource < length system.now.capacities }
-        requires settling { IsSettling system.now self.now }
-        ensures hold { IsHold (slice_index system.now.capacities resource) system.now.slots
-            self.now.levels.items (users_on system.now.users resource) result }
-        ensures looks { steps.new
-            ≤ steps.old + hold_looks (length (users_on system.now.users resource)) }
-    {
-        if self.has_slack(system, resource) {
-            return None;
-        }
-        hold_of(system, resource, &self.levels, steps)
-    }
-
-    /// Looks at a resource, or finds without a look that it holds none: its hold is written, its flows above it come
-    /// down to it, and those that it held before and that nothing holds now go up to their bounds. The other resources
-    /// of flows that moved are active.
-    pub fn refresh<L: Ledger>(&mut self, system: &System, resource: usize, steps: &mut Steps<L>)
-        requires resource { resource < length system.now.capacities }
-        requires settling { IsSettling system.now self.old }
-        ensures settling { IsSettling system.now self.new }
-        ensures moved { NotesMoved self.old self.new }
-        ensures looks { steps.new ≤ steps.old + refresh_looks system.now resource }
-    {
-        system.is_sound();
-        let was = self.hold(resource);
-        let hold = self.find_hold(system, resource, steps);
-        self.active[resource] = false;
-        if !are_none(was, hold) {
-            self.holds[resource] = hold;
-            settle_users(system, resource, was, self, steps);
-        }
-    }
-
-    /// Looks at active resources, so many at most. True: none is left, and each flow has its level of the filling.
-    pub fn settle<L: Ledger>(&mut self, system: &System, rounds: u64, steps: &mut Steps<L>) -> bool
-        requires { IsSettling system.now self.old }
-        ensures settling { IsSettling system.now self.new }
-        ensures moved { NotesMoved self.old self.new }
-        ensures levels { IsTrue result → AreFilled system.now self.new.levels.items }
-    {
-        system.is_sound();
-        for _ in 0..rounds {
-            match first_active(&self.active) {
-                None => return true,
-                Some(resource) => self.refresh(system, resource, steps),
-            }
-        }
-        false
     }
 }

@@ -1,7 +1,9 @@
-use Rattle.std.proofs.Common.{◌/◌, ap₂, arith}
-use Rattle.sg_levels.specs.Numbered.{row_level}
+use Rattle.std.proofs.Common.{sym, ◌∙◌}
+use Rattle.sg_levels.proofs.RowRise.{level_from}
 use Rattle.sg_levels.proofs.hold.level_above.Goals as goal
 
-pub returns-else-rest-eq0-clause-some : goal.returns-else-rest-eq0-clause-some
-unfolding row_level
-returns-else-rest-eq0-clause-some g c = (omega (arith, c.if-rest-eq0.false, c.rest_of-rest.ensures.waiting), ap₂ (λ a b. a / b) c.rest_of-rest.ensures.left c.rest_of-rest.ensures.waiting)
+pub returns-clause-level : goal.returns-clause-level
+returns-clause-level g c = record {
+  none = λ e. sym c.in-Some.ensures.rest.waiting_is ∙ c.level_of.ensures.none e;
+  some = level_from _ _ _ c.in-Some.rest.left c.in-Some.rest.waiting _ c.level_of.result c.in-Some.ensures.rest.left_is c.in-Some.ensures.rest.waiting_is c.level_of.ensures.some;
+}

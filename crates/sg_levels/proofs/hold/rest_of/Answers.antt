@@ -4,7 +4,7 @@ use Rattle.sg_chains.specs.Walk.{next_on, user_of}
 use Rattle.sg_maxmin.specs.Fill.{share_of_fixed}
 use Rattle.sg_levels.specs.Numbered.{below_at, flow_in, row_taken, row_waiting, weight_at}
 use Rattle.sg_levels.proofs.Listed.{in_at, take_all}
-use Rattle.sg_levels.proofs.Walked.{can_look, looked, walk_from, walk_on, nearer, walked}
+use Rattle.sg_levels.proofs.Walked.{can_look, goes, looked, walk_from, walk_on, nearer, walked}
 use Rattle.sg_levels.proofs.Users.{on_held, flow_below}
 use Rattle.sg_levels.proofs.OnRow.{weights_fit}
 use Rattle.sg_levels.proofs.RowRise.{taken_next, waiting_next, room_next, taken_none, waiting_none}
@@ -20,6 +20,8 @@ loop-at-init g c =
         walk = walk_from next_on user_of s.uses row c.first_on-at.result c.first_on-at.ensures.leads c.first_on-at.ensures.few;
         left = omega (arith, c.capacity.ensures, taken_none s.slots fixed row);
         waiting = sym (waiting_none s.slots fixed row);
+        users = refl;
+        few = omega arith;
         looks = omega arith;
       },
     )
@@ -77,29 +79,37 @@ loop-at-preserved g c =
         walk = walk_on next_on user_of s.uses row k c.loop-at.at inv.1.walk c.in-Some.i c.look-one.result c.in-Some.is c.look-one.ensures.there;
         left = omega (arith, c.with_flow-rest.ensures.left, inv.1.left, taken_next s.slots fixed row k r.less, share);
         waiting = omega (arith, c.with_flow-rest.ensures.waiting, inv.1.waiting, waiting_next s.slots fixed row k r.less, weight);
+        users = omega (arith, c.with_flow-rest.ensures.users, inv.1.users);
+        few = omega (arith, c.with_flow-rest.ensures.users, inv.1.few, c.if-rest-looks.false);
         looks = omega (arith, inv.1.looks, c.look-one.ensures.looks);
       },
     )
 
-pub returns-clause-left : goal.returns-clause-left
-returns-clause-left g c =
+pub with_flow-rest-requires-clause-few : goal.with_flow-rest-requires-clause-few
+with_flow-rest-requires-clause-few g c = omega (arith, c.loop-at.invariant.1.few, c.if-rest-looks.false, c.ranges.looks.fits)
+
+pub returns-clause-rest : goal.returns-clause-rest
+returns-clause-rest g c =
     let s = c.args.system.now in
     let row = users_on s.users c.args.resource in
     let inv = c.loop-at.invariant in
     let all = take_all row inv.0 (walked next_on user_of s.uses row inv.0 c.loop-at.at inv.1.walk c.in_default.not-Some) in
-    inv.1.left ∙ ap (λ xs. slice_index s.capacities c.args.resource - row_taken s.slots (below_at c.args.levels.now c.args.low) xs) all
+    record {
+      left_is = inv.1.left ∙ ap (λ xs. slice_index s.capacities c.args.resource - row_taken s.slots (below_at c.args.levels.now c.args.low) xs) all;
+      waiting_is = inv.1.waiting ∙ ap (λ xs. row_waiting s.slots (below_at c.args.levels.now c.args.low) xs) all;
+    }
 
-pub returns-clause-waiting : goal.returns-clause-waiting
-returns-clause-waiting g c =
+pub returns-clause-users : goal.returns-clause-users
+returns-clause-users g c =
     let s = c.args.system.now in
     let row = users_on s.users c.args.resource in
     let inv = c.loop-at.invariant in
-    let all = take_all row inv.0 (walked next_on user_of s.uses row inv.0 c.loop-at.at inv.1.walk c.in_default.not-Some) in
-    inv.1.waiting ∙ ap (λ xs. row_waiting s.slots (below_at c.args.levels.now c.args.low) xs) all
+    record { all = inv.1.users ∙ walked next_on user_of s.uses row inv.0 c.loop-at.at inv.1.walk c.in_default.not-Some; few = inv.1.few }
 
-pub returns-clause-looks : goal.returns-clause-looks
-returns-clause-looks g c =
+pub returns-then-rest-looks-clause-enough : goal.returns-then-rest-looks-clause-enough
+returns-then-rest-looks-clause-enough g c = λ none.
     let s = c.args.system.now in
     let row = users_on s.users c.args.resource in
     let inv = c.loop-at.invariant in
-    omega (arith, inv.1.looks, walked next_on user_of s.uses row inv.0 c.loop-at.at inv.1.walk c.in_default.not-Some)
+    let r = goes next_on user_of s.uses row inv.0 c.in-Some.i c.loop-at.at c.in-Some.is inv.1.walk.leads in
+    omega (arith, r.1.less, inv.1.users, c.if-rest-looks.true)

@@ -1,4 +1,4 @@
-use Rattle.std.proofs.Common.{◌≡◌, ◌+◌, ◌-◌, ℕ, length, take, slice_index}
+use Rattle.std.proofs.Common.{◌≡◌, ◌+◌, ◌-◌, ◌≤◌, ℕ, length, take, slice_index}
 use Rattle.sg_chains.specs.Chained.{users_on}
 use Rattle.sg_chains.specs.Walk.{next_on, user_of, left_from}
 use Rattle.sg_levels.specs.Numbered.{below_at, row_taken, row_waiting}
@@ -10,6 +10,8 @@ invariant-loop-at g l = (k : ℕ) × record {
   walk : IsWalk next_on user_of l.system.uses (users_on l.system.users l.resource) k l.at;
   left : l.rest.left ≡ slice_index l.system.capacities l.resource - row_taken l.system.slots (below_at l.levels l.low) (take k (users_on l.system.users l.resource));
   waiting : l.rest.waiting ≡ row_waiting l.system.slots (below_at l.levels l.low) (take k (users_on l.system.users l.resource));
+  users : l.rest.users ≡ k;
+  few : l.rest.users ≤ l.looks;
   looks : l.steps ≡ l.fn.steps + k;
 }
 

@@ -1,0 +1,24 @@
+use Rattle.std.proofs.Common.{None, false, set, sym, subst, arith}
+use Rattle.sg_chains.specs.Chained.{users_on}
+use Rattle.sg_levels.specs.Settling.{AreSettlingOn}
+use Rattle.sg_levels.proofs.Steps.{any_end, start_keeps}
+use Rattle.sg_levels.proofs.levels.Levels.write_hold.Goals as goal
+
+pub returns-clause-settling : goal.returns-clause-settling
+returns-clause-settling g c =
+    let s = c.args.system.now in
+    let n = c.args.resource in
+    let kept = c.args.self.now in
+    let new = c.settle_users.new.kept in
+    let row = users_on s.users n in
+    let places = c.requires.settling.kept.places in
+    let start = start_keeps s c.is_sound.ensures kept.levels.items kept.holds.items kept.active.items 0 None n c.args.hold c.requires.settling.written (omega (arith, c.requires.resource, places.holds)) (omega (arith, c.requires.resource, places.active)) c.requires.hold in
+    let on = c.settle_users.ensures.settles (record {
+      parts = c.requires.settling.parts;
+      written = subst (λ o. AreSettlingOn s kept.levels.items (set kept.holds.items n c.args.hold) (set kept.active.items n false) n o row) (sym c.hold-was.ensures) start;
+    }) in
+    record {
+      kept = c.settle_users.ensures.kept;
+      parts = on.parts;
+      written = any_end s new.levels.items new.holds.items new.active.items n 0 c.hold-was.result None on.written;
+    }
