@@ -18,3 +18,4 @@ pub mod Keeping
 pub mod Between
 pub mod Changed
 pub mod Renewing
+pub mod Within

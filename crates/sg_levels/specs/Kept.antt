@@ -1,5 +1,5 @@
 -- What a `Levels` keeps, and what a change and a look at a resource do to it.
-use Rattle.std.specs.Prelude.{◌≡◌, ℕ, ◌+◌, ◌-◌, ◌*◌, ◌^◌, ◌<◌, ◌≤◌, Bool, true, false, Option, None, Some, IsSome, IfSome, List, [], length, sum_by, slice_index, slice_set}
+use Rattle.std.specs.Prelude.{◌≡◌, ℕ, ◌+◌, ◌-◌, ◌*◌, ◌^◌, ◌<◌, ◌≤◌, Bool, true, false, Option, None, Some, IsTrue, IsSome, IfSome, List, [], length, sum_by, slice_index, slice_set}
 use Rattle.sg_base.specs.MarkSet.{is_in, with_mark}
 use Rattle.sg_chains.specs.Chained.{times, users_on}
 use Rattle.sg_maxmin.specs.Fill.{Flow, share_of}
@@ -143,9 +143,37 @@ Shifts before after resources old new = (c : ℕ) → slice_index new c + times 
 abbrev pub ActivatesAll : List ℕ → List Bool → List Bool → Type 0
 ActivatesAll resources old new = (r : ℕ) → is_active new r ≡ false → (is_active old r ≡ false) × (is_in r resources ≡ false)
 
+-- and no others are that weren't
+abbrev pub ActivatesOnly : List ℕ → List Bool → List Bool → Type 0
+ActivatesOnly resources old new = (r : ℕ) → is_active new r ≡ true → is_in r resources ≡ false → is_active old r ≡ true
+
 -- the same but for one of them, which stays as it was
 abbrev pub ActivatesBut : ℕ → List ℕ → List Bool → List Bool → Type 0
 ActivatesBut but resources old new = (r : ℕ) → is_active new r ≡ false → (is_active old r ≡ false) × (is_in r resources ≡ true → r ≡ but)
+
+-- a test of flows and one of resources hold along all uses, where the one or the other holds
+pub record PassAlong (s : Sharing) (flows resources : ℕ → Bool) : Type 0 where
+  pub uses : (id r : ℕ) → IsTrue (flows id) → is_in r (uses_at s.slots id) ≡ true → IsTrue (resources r)
+  pub users : (r id : ℕ) → IsTrue (resources r) → is_in id (users_on s.users r) ≡ true → IsTrue (flows id)
+
+-- they hold of all that is active, noted or stale
+pub record IsWithin (flows resources : ℕ → Bool) (all : Levels) : Type 0 where
+  pub active : (r : ℕ) → is_active all.active.items r ≡ true → IsTrue (resources r)
+  pub moved : (id : ℕ) → is_in id all.moved.members ≡ true → IsTrue (flows id)
+  pub stale : (id : ℕ) → is_in id all.stale.members ≡ true → IsTrue (flows id)
+
+-- where they hold of this flow, of this resource or of these, and of all that was active, noted or stale, they hold of all that is
+abbrev pub FlowStaysWithin : Sharing → ℕ → Levels → Levels → Type 0
+FlowStaysWithin s flow old new = (p q : ℕ → Bool) → PassAlong s p q → IsTrue (p flow) → IsWithin p q old → IsWithin p q new
+
+abbrev pub ResourceStaysWithin : Sharing → ℕ → Levels → Levels → Type 0
+ResourceStaysWithin s resource old new = (p q : ℕ → Bool) → PassAlong s p q → IsTrue (q resource) → IsWithin p q old → IsWithin p q new
+
+abbrev pub UsesStayWithin : List ℕ → Levels → Levels → Type 0
+UsesStayWithin resources old new = (p q : ℕ → Bool) → ((r : ℕ) → is_in r resources ≡ true → IsTrue (q r)) → IsWithin p q old → IsWithin p q new
+
+abbrev pub StaysWithin : Sharing → Levels → Levels → Type 0
+StaysWithin s old new = (p q : ℕ → Bool) → PassAlong s p q → IsWithin p q old → IsWithin p q new
 
 -- what the flows of levels below this one leave of a resource, and the weight of the others
 pub record IsRest (s : Sharing) (resource : ℕ) (levels : List (Option ℕ)) (low left waiting : ℕ) : Type 0 where

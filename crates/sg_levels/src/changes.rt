@@ -3,7 +3,7 @@ ghost use Rattle.std.specs.Prelude.{◌≡◌, ◌≤◌, ◌<◌, ◌+◌, ◌*
 ghost use Rattle.sg_chains.specs.Chained.{times};
 ghost use Rattle.sg_maxmin.specs.Fill.{flow};
 ghost use Rattle.sg_maxmin.specs.Sharing.{IsFlow, IsSound, flow_at, uses_at};
-ghost use Rattle.sg_levels.specs.Kept.{ActivatesAll, HasLeft, IsBetween, IsEnded, IsKept, IsMoved, IsStarted, KeepsLevels, NotesChanged, Shifts};
+ghost use Rattle.sg_levels.specs.Kept.{ActivatesAll, ActivatesOnly, FlowStaysWithin, HasLeft, IsBetween, IsEnded, IsKept, IsMoved, IsStarted, KeepsLevels, NotesChanged, ResourceStaysWithin, Shifts, UsesStayWithin};
 ghost use Rattle.sg_levels.specs.Numbered.{bound_of as bound_of_flow, flow_in};
 
 use crate::levels::Levels;
@@ -20,6 +20,7 @@ fn visit_all(uses: &[usize], before: u128, after: u128, kept: &mut Levels)
     requires fits { (c : ℕ) → slice_index kept.old.demands.items c
         + times c uses.now * after < 2 ^ 128 }
     ensures activates { ActivatesAll uses.now kept.old.active.items kept.new.active.items }
+    ensures only { ActivatesOnly uses.now kept.old.active.items kept.new.active.items }
     ensures shifts { Shifts before after uses.now
         kept.old.demands.items kept.new.demands.items }
     ensures levels { KeepsLevels kept.old kept.new }
@@ -38,6 +39,7 @@ fn enter(system: &System, flow: usize, uses: &[usize], kept: &mut Levels)
     ensures moved { IsMoved system.now kept.old kept.new flow
         (bound_of_flow (flow_in system.now.slots flow)) }
     ensures activates { ActivatesAll uses.now kept.old.active.items kept.new.active.items }
+    ensures only { ActivatesOnly uses.now kept.old.active.items kept.new.active.items }
     ensures kept { IsKept system.now kept.new }
 {
     let level = bound_of(system, flow);
@@ -56,6 +58,8 @@ fn leave<L: Ledger>(system: &System, flow: usize, kept: &mut Levels, steps: &mut
     requires kept { IsKept system.now kept.old }
     ensures left { HasLeft kept.old kept.new flow }
     ensures activates { ActivatesAll (uses_at system.now.slots flow)
+        kept.old.active.items kept.new.active.items }
+    ensures only { ActivatesOnly (uses_at system.now.slots flow)
         kept.old.active.items kept.new.active.items }
     ensures kept { IsKept system.now kept.new }
     ensures looks { steps.new ≡ steps.old + length (uses_at system.now.slots flow) }
@@ -82,6 +86,7 @@ impl Levels {
         ensures started { IsStarted system.old system.new result (flow uses.now weight bound) }
         ensures between { IsBetween system.new self.new }
         ensures changed { NotesChanged system.old system.new self.old self.new }
+        ensures within { FlowStaysWithin system.new result self.old self.new }
     {
         system.is_sound();
         self.longest = self.longest.max(uses.len());
@@ -99,6 +104,7 @@ impl Levels {
         ensures ended { IsEnded system.old system.new flow }
         ensures between { IsBetween system.new self.new }
         ensures changed { NotesChanged system.old system.new self.old self.new }
+        ensures within { UsesStayWithin (uses_at system.old.slots flow) self.old self.new }
         ensures looks { steps.new ≡ steps.old + length (uses_at system.old.slots flow) }
     {
         system.is_sound();
@@ -118,6 +124,7 @@ impl Levels {
             }) }
         ensures between { IsBetween system.new self.new }
         ensures changed { NotesChanged system.old system.new self.old self.new }
+        ensures within { FlowStaysWithin system.new flow self.old self.new }
     {
         system.is_sound();
         let before = system.bound(flow);
@@ -138,6 +145,7 @@ impl Levels {
         } }
         ensures between { IsBetween system.new self.new }
         ensures changed { NotesChanged system.old system.new self.old self.new }
+        ensures within { ResourceStaysWithin system.new resource self.old self.new }
     {
         system.is_sound();
         let before = system.capacity(resource);

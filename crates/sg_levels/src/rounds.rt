@@ -1,9 +1,9 @@
 //! A settling: looks at active resources, one at a time in whatever order, until none is left or the looks run out.
-ghost use Rattle.std.specs.Prelude.{◌≡◌, ◌≤◌, ◌<◌, ◌+◌, ◌*◌, ◌^◌, ℕ, [], ◌∷◌, false, IsTrue, List, Option, None, IfSome, length, slice_index};
+ghost use Rattle.std.specs.Prelude.{◌≡◌, ◌≤◌, ◌<◌, ◌+◌, ◌*◌, ◌^◌, ℕ, [], ◌∷◌, true, false, IsTrue, List, Option, None, IfSome, length, slice_index};
 ghost use Rattle.sg_chains.specs.Chained.{users_on};
 ghost use Rattle.sg_maxmin.specs.Sharing.{IsSound, uses_at};
 ghost use Rattle.sg_levels.specs.Held.{AreFilled, IsHold};
-ghost use Rattle.sg_levels.specs.Kept.{IsBetween, IsBetweenBut, IsKept, IsSettling, NotesChanged, NotesMoved, enough_looks, refresh_looks};
+ghost use Rattle.sg_levels.specs.Kept.{FlowStaysWithin, IsBetween, IsBetweenBut, IsKept, IsSettling, NotesChanged, NotesMoved, ResourceStaysWithin, StaysWithin, enough_looks, refresh_looks};
 ghost use Rattle.sg_levels.specs.Numbered.{all_uses, level_at};
 ghost use Rattle.sg_levels.specs.Settling.{is_active};
 
@@ -25,6 +25,7 @@ fn are_none(one: Option<u64>, other: Option<u64>) -> bool
 fn first_active(active: &[bool]) -> Option<usize>
     ensures none { result ≡ None → ((r : ℕ) → is_active active.now r ≡ false) }
     ensures some { IfSome result (λ r. r < length active.now) }
+    ensures active { IfSome result (λ r. is_active active.now r ≡ true) }
 {
     for i in 0..active.len() {
         if active[i] {
@@ -66,6 +67,7 @@ fn renew<L: Ledger>(system: &System, flow: usize, kept: &mut Levels, steps: &mut
     ensures kept { IsKept system.now kept.new }
     ensures stale { kept.new.stale ≡ kept.old.stale }
     ensures moved { NotesMoved kept.old kept.new }
+    ensures within { FlowStaysWithin system.now flow kept.old kept.new }
     ensures looks { steps.new ≤ steps.old + length (uses_at system.now.slots flow) }
 {
     if has_part(&kept.parts, flow) {
@@ -79,6 +81,7 @@ fn renew_all<L: Ledger>(system: &System, kept: &mut Levels, steps: &mut Steps<L>
     requires between { IsBetween system.now kept.old }
     ensures settling { IsSettling system.now kept.new }
     ensures moved { NotesMoved kept.old kept.new }
+    ensures within { StaysWithin system.now kept.old kept.new }
     ensures looks { steps.new
         ≤ steps.old + all_uses system.now.slots kept.old.stale.members }
 {
@@ -109,6 +112,7 @@ impl Levels {
             self.old.levels.items (users_on system.now.users resource) None }
         ensures settling { IsSettling system.now self.new }
         ensures moved { NotesMoved self.old self.new }
+        ensures within { StaysWithin system.now self.old self.new }
     {
         system.is_sound();
         self.active[resource] = false;
@@ -129,6 +133,7 @@ impl Levels {
             self.old.levels.items (users_on system.now.users resource) hold }
         ensures settling { IsSettling system.now self.new }
         ensures moved { NotesMoved self.old self.new }
+        ensures within { ResourceStaysWithin system.now resource self.old self.new }
         ensures looks { let users = users_on system.now.users resource in
             steps.new ≤ steps.old + length users + 2 * all_uses system.now.slots users }
     {
@@ -153,6 +158,7 @@ impl Levels {
         requires settling { IsSettling system.now self.old }
         ensures settling { IsSettling system.now self.new }
         ensures moved { NotesMoved self.old self.new }
+        ensures within { ResourceStaysWithin system.now resource self.old self.new }
         ensures spent { IfSome result (λ left. steps.new + left ≤ steps.old + looks) }
         ensures looks { steps.new ≤ steps.old + looks }
         ensures most { steps.new ≤ steps.old + refresh_looks system.now resource }
@@ -183,6 +189,7 @@ impl Levels {
         requires { IsSettling system.now self.old }
         ensures settling { IsSettling system.now self.new }
         ensures moved { NotesMoved self.old self.new }
+        ensures within { StaysWithin system.now self.old self.new }
         ensures levels { IsTrue result → AreFilled system.now self.new.levels.items }
         ensures looks { steps.new ≤ steps.old + looks }
     {
@@ -211,6 +218,7 @@ impl Levels {
         ensures between { IsBetween system.now self.new }
         ensures none_stale { self.new.stale.members ≡ [] }
         ensures changed { NotesChanged system.now system.now self.old self.new }
+        ensures within { StaysWithin system.now self.old self.new }
         ensures levels { IsTrue result → AreFilled system.now self.new.levels.items }
         ensures looks { steps.new
             ≤ steps.old + all_uses system.now.slots self.old.stale.members + looks }

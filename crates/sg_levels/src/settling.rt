@@ -6,7 +6,7 @@ ghost use Rattle.sg_maxmin.specs.Fill.{bound_level as level_of_bound};
 ghost use Rattle.sg_maxmin.specs.Sharing.{IsSound, flow_at, uses_at};
 ghost use Rattle.sg_levels.specs.Demand.{demand_of};
 ghost use Rattle.sg_levels.specs.Held.{AreFilled, IsAtMost, IsHold, IsUnder};
-ghost use Rattle.sg_levels.specs.Kept.{ActivatesAll, ActivatesBut, HasPlaces, IsKept, IsMoved, IsSettling, IsSettlingOn, KeepsLevels, NotesMoved, Shifts, hold_looks, refresh_looks};
+ghost use Rattle.sg_levels.specs.Kept.{ActivatesAll, ActivatesBut, ActivatesOnly, FlowStaysWithin, HasPlaces, IsKept, IsMoved, IsSettling, IsSettlingOn, KeepsLevels, NotesMoved, ResourceStaysWithin, Shifts, hold_looks, refresh_looks};
 ghost use Rattle.sg_levels.specs.Numbered.{all_uses, bound_of as bound_of_flow, flow_in, level_at};
 ghost use Rattle.sg_levels.specs.Settling.{HasCause, is_active};
 
@@ -85,6 +85,7 @@ pub(crate) fn visit(resource: usize, before: u128, after: u128, kept: &mut Level
     requires some { before ≤ slice_index kept.old.demands.items resource }
     requires fits { slice_index kept.old.demands.items resource + after < 2 ^ 128 + before }
     ensures activates { ActivatesAll (resource ∷ []) kept.old.active.items kept.new.active.items }
+    ensures only { ActivatesOnly (resource ∷ []) kept.old.active.items kept.new.active.items }
     ensures demands { kept.new.demands.items ≡ slice_set kept.old.demands.items resource
         (slice_index kept.old.demands.items resource - before + after) }
     ensures levels { KeepsLevels kept.old kept.new }
@@ -109,6 +110,8 @@ pub(crate) fn visit_uses<L: Ledger>(
     requires fits { (c : ℕ) → slice_index kept.old.demands.items c
         + times c (uses_at system.now.slots flow) * after < 2 ^ 128 }
     ensures activates { ActivatesAll (uses_at system.now.slots flow)
+        kept.old.active.items kept.new.active.items }
+    ensures only { ActivatesOnly (uses_at system.now.slots flow)
         kept.old.active.items kept.new.active.items }
     ensures shifts { Shifts before after (uses_at system.now.slots flow)
         kept.old.demands.items kept.new.demands.items }
@@ -166,6 +169,8 @@ pub(crate) fn move_flow<L: Ledger>(
     ensures moved { IsMoved system.now kept.old kept.new flow level }
     ensures activates { ActivatesAll (uses_at system.now.slots flow)
         kept.old.active.items kept.new.active.items }
+    ensures only { ActivatesOnly (uses_at system.now.slots flow)
+        kept.old.active.items kept.new.active.items }
     ensures kept { IsKept system.now kept.new }
     ensures looks { steps.new ≡ steps.old + length (uses_at system.now.slots flow) }
 {
@@ -192,6 +197,8 @@ fn lower<L: Ledger>(
     requires user { is_in flow (users_on system.now.users resource) ≡ true }
     ensures moved { IsMoved system.now kept.old kept.new flow (Some hold) }
     ensures activates { ActivatesBut resource (uses_at system.now.slots flow)
+        kept.old.active.items kept.new.active.items }
+    ensures only { ActivatesOnly (uses_at system.now.slots flow)
         kept.old.active.items kept.new.active.items }
     ensures kept { IsKept system.now kept.new }
     ensures looks { steps.new ≡ steps.old + length (uses_at system.now.slots flow) }
@@ -220,6 +227,7 @@ fn settle_held<L: Ledger>(
         → IsSettlingOn system.now kept.new resource was todo }
     ensures kept { IsKept system.now kept.new }
     ensures moved { NotesMoved kept.old kept.new }
+    ensures within { FlowStaysWithin system.now flow kept.old kept.new }
     ensures looks { steps.new ≤ steps.old + 2 * length (uses_at system.now.slots flow) }
 {
     let level = kept.level(flow);
@@ -249,6 +257,7 @@ fn settle_user<L: Ledger>(
         → IsSettlingOn system.now kept.new resource was todo }
     ensures kept { IsKept system.now kept.new }
     ensures moved { NotesMoved kept.old kept.new }
+    ensures within { FlowStaysWithin system.now flow kept.old kept.new }
     ensures looks { steps.new ≤ steps.old + 2 * length (uses_at system.now.slots flow) }
 {
     let level = kept.level(flow);
@@ -279,6 +288,7 @@ pub(crate) fn settle_users<L: Ledger>(
         → IsSettlingOn system.now kept.new resource was [] }
     ensures kept { IsKept system.now kept.new }
     ensures moved { NotesMoved kept.old kept.new }
+    ensures within { ResourceStaysWithin system.now resource kept.old kept.new }
     ensures looks { let users = users_on system.now.users resource in
         steps.new ≤ steps.old + length users + 2 * all_uses system.now.slots users }
 {

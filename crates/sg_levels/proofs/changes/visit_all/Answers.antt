@@ -1,16 +1,17 @@
-use Rattle.std.proofs.Common.{◌≡◌, ◌≢◌, ◌<◌, ◌+◌, ◌*◌, ℕ, inl, inr, suc, false, length, get_or, take, below_more, refl, sym, ap, subst, ◌∙◌, arith}
+use Rattle.std.proofs.Common.{◌≡◌, ◌≢◌, ◌<◌, ◌+◌, ◌*◌, ℕ, inl, inr, suc, false, length, get_or, take, below_more, refl, sym, ap, subst, ◌∙◌, arith, true≢false}
 use Rattle.std.proofs.lemmas.List.Elements.{All-get_or}
 use Rattle.sg_base.specs.MarkSet.{is_in}
 use Rattle.sg_chains.specs.Chained.{times}
 use Rattle.sg_levels.specs.Settling.{is_active}
 use Rattle.sg_levels.specs.Kept.{Shifts}
-use Rattle.sg_levels.proofs.Listed.{at_in, bool_cases, off_one, take_all}
+use Rattle.sg_levels.proofs.Listed.{at_in, bool_cases, off_one, take_all, in_at, one_off}
 use Rattle.sg_levels.proofs.Shifting.{shift_fits, shift_more, shift_some}
 use Rattle.sg_levels.proofs.changes.visit_all.Goals as goal
 
 pub loop-resource-init : goal.loop-resource-init
 loop-resource-init c = record {
   stays = λ r off. off;
+  only = λ r on off. on;
   done = λ i h. absurd (omega (arith, h));
   shifts = λ x. let none : times x (take 0 c.args.uses.now) ≡ 0 = refl in omega (arith, ap (λ n. n * c.args.before) none, ap (λ n. n * c.args.after) none);
   levels = record { levels = refl; parts = refl; moved = refl; stale = refl; longest = refl; holds = refl; demands = refl; active = refl };
@@ -56,6 +57,7 @@ loop-resource-preserved c =
     let next : suc k ≡ k + 1 = omega arith in
     record {
       stays = λ n d. inv.stays n (out.activates n d).0;
+      only = λ n on off. inv.only n (out.only n on (one_off n one (λ e. true≢false (sym (in_at n row k c.loop-resource-test.true (sym e)) ∙ off)))) off;
       done = below_more (λ i. (n : ℕ) → is_active new.active.items n ≡ false → n ≢ get_or row i 0) k (λ i h n d. inv.done i h n (out.activates n d).0) (λ n d e. off_one n one (out.activates n d).1 e);
       shifts = subst (λ m. Shifts before after (take m row) first.demands.items new.demands.items) next
           (λ x. ap (λ xs. get_or xs x 0 + times x (take (suc k) row) * before) out.demands ∙ shift_more before after first.demands.items old.demands.items row k one c.loop-resource-test.true refl inv.shifts some here x);
@@ -87,3 +89,6 @@ returns-clause-shifts c =
     let row = c.args.uses.now in
     let all = take_all row c.loop-resource.resource-index (omega (arith, c.loop-resource-test.false, c.loop-resource.auto.resource-index-end)) in
     subst (λ xs. Shifts c.args.before c.args.after xs c.args.kept.now.demands.items c.loop-resource.kept.demands.items) all c.loop-resource.invariant.shifts
+
+pub returns-clause-only : goal.returns-clause-only
+returns-clause-only c = c.loop-resource.invariant.only

@@ -2,6 +2,7 @@ use Rattle.std.proofs.Common.{◌≡◌, ◌<◌, ℕ, List, length, slice_index
 use Rattle.sg_levels.specs.Kept.{IsMoved}
 use Rattle.sg_levels.proofs.Users.{held_below}
 use Rattle.sg_levels.proofs.Renewing.{gone_between, part_held, renewed_between}
+use Rattle.sg_levels.proofs.Within.{moved_within}
 use Rattle.sg_levels.proofs.rounds.renew.Goals as goal
 
 pub returns-then-has_part-clause-renewed : goal.returns-then-has_part-clause-renewed
@@ -17,3 +18,9 @@ returns-then-has_part-clause-renewed g c = λ rest before.
 pub returns-else-has_part-clause-renewed : goal.returns-else-has_part-clause-renewed
 returns-else-has_part-clause-renewed g c = λ rest before.
     gone_between c.args.system.now c.args.kept.now c.args.flow rest (subst (λ (ps : List ℕ). slice_index ps c.args.flow ≡ 0) c.deref.ensures.value (c.has_part.ensures.no c.if-has_part.false)) before
+
+pub returns-then-has_part-clause-within : goal.returns-then-has_part-clause-within
+returns-then-has_part-clause-within g c = moved_within c.args.system.now c.args.kept.now c.move_flow.new.kept c.args.flow c.bound_of.result c.move_flow.ensures.moved c.move_flow.ensures.only
+
+pub returns-else-has_part-clause-within : goal.returns-else-has_part-clause-within
+returns-else-has_part-clause-within g c = λ p q along here are. are

@@ -2,7 +2,7 @@ use Rattle.std.proofs.Common.{◌≡◌, ◌+◌, ◌<◌, ◌∷◌, ℕ, List,
 use Rattle.sg_base.specs.MarkSet.{MarkSet}
 use Rattle.sg_maxmin.specs.Sharing.{uses_at}
 use Rattle.sg_levels.specs.Kept.{IsBetweenBut}
-use Rattle.sg_levels.proofs.Listed.{part_next}
+use Rattle.sg_levels.proofs.Listed.{part_next, in_at}
 use Rattle.sg_levels.proofs.Noted.{noted_on}
 use Rattle.sg_levels.proofs.Steps.{drop_end, drop_step}
 use Rattle.sg_levels.proofs.Renewing.{settling_from}
@@ -26,6 +26,7 @@ loop-k-preserved g c =
       between = subst (λ n. IsBetweenBut s after (drop n stale)) next (c.renew.ensures.renewed rest (subst (IsBetweenBut s before) row inv.between));
       stale = c.renew.ensures.stale ∙ inv.stale;
       moved = noted_on first.moved before.moved after.moved first.levels.items before.levels.items after.levels.items inv.moved c.renew.ensures.moved;
+      within = λ p q along are. c.renew.ensures.within p q along (are.stale (get_or c.members.result.now k 0) (in_at (get_or c.members.result.now k 0) stale k less (sym is))) (inv.within p q along are);
       looks = omega (arith, inv.looks, c.renew.ensures.looks, part_next (λ id. length (uses_at s.slots id)) stale k less, ap (λ id. length (uses_at s.slots id)) is);
     }
 

@@ -45,3 +45,17 @@ returns-clause-activates g c = λ r off.
           let step = c.move_flow.ensures.activates r (sym (get_or-set_other mid n r was false ne) ∙ off) in
           (step.0, λ i. absurd (true≢false (sym i ∙ step.1)))
     ]
+
+pub returns-clause-only : goal.returns-clause-only
+returns-clause-only g c = λ r on unused.
+    let n = c.args.resource in
+    let old = c.args.kept.now.active.items in
+    let mid = c.move_flow.new.kept.active.items in
+    let was = c.is_active-was.result in
+    elim (eq_cases r n) [
+      | inl e ↦
+          let below : n < length mid = omega (arith, c.requires.resource, c.move_flow.ensures.kept.places.active) in
+          let read : is_active (set mid n was) n ≡ was = get_or-set_same mid n was false below in
+          ap (is_active old) e ∙ sym c.is_active-was.ensures ∙ sym read ∙ ap (is_active (set mid n was)) (sym e) ∙ on
+      | inr ne ↦ c.move_flow.ensures.only r (sym (get_or-set_other mid n r was false ne) ∙ on) unused
+    ]

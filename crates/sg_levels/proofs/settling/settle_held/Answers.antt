@@ -5,6 +5,7 @@ use Rattle.sg_levels.specs.Kept.{IsMoved}
 use Rattle.sg_levels.proofs.Noted.{noted_none}
 use Rattle.sg_levels.proofs.Steps.{held_user, user_below}
 use Rattle.sg_levels.proofs.Moving.{moved_notes, raised, skipped, uses_it}
+use Rattle.sg_levels.proofs.Within.{moved_within}
 use Rattle.sg_levels.proofs.settling.settle_held.Goals as goal
 
 pub level-level-requires : goal.level-level-requires
@@ -47,3 +48,12 @@ returns-then-is_same-clause-moved g c = noted_none c.args.kept.now.moved c.args.
 
 pub returns-else-not-has_cause-clause-moved : goal.returns-else-not-has_cause-clause-moved
 returns-else-not-has_cause-clause-moved g c = noted_none c.args.kept.now.moved c.args.kept.now.levels.items
+
+pub returns-then-not-has_cause-clause-within : goal.returns-then-not-has_cause-clause-within
+returns-then-not-has_cause-clause-within g c = moved_within c.args.system.now c.args.kept.now c.move_flow.new.kept c.args.flow c.bound_of.result c.move_flow.ensures.moved c.move_flow.ensures.only
+
+pub returns-then-is_same-clause-within : goal.returns-then-is_same-clause-within
+returns-then-is_same-clause-within g c = λ p q along here are. are
+
+pub returns-else-not-has_cause-clause-within : goal.returns-else-not-has_cause-clause-within
+returns-else-not-has_cause-clause-within g c = λ p q along here are. are

@@ -4,6 +4,7 @@ use Rattle.sg_levels.specs.Held.{IsAtMost, IsUnder}
 use Rattle.sg_levels.proofs.Noted.{noted_none}
 use Rattle.sg_levels.proofs.Steps.{user_below}
 use Rattle.sg_levels.proofs.Moving.{lowered, moved_notes, skipped}
+use Rattle.sg_levels.proofs.Within.{moved_within}
 use Rattle.sg_levels.proofs.settling.settle_user.Goals as goal
 
 pub level-level-requires : goal.level-level-requires
@@ -29,3 +30,9 @@ returns-else-is_same-clause-settles g c = λ todo are.
 
 pub returns-else-is_same-clause-moved : goal.returns-else-is_same-clause-moved
 returns-else-is_same-clause-moved g c = noted_none c.args.kept.now.moved c.args.kept.now.levels.items
+
+pub returns-in-Some-clause-within : goal.returns-in-Some-clause-within
+returns-in-Some-clause-within g c = moved_within c.args.system.now c.args.kept.now c.lower.new.kept c.args.flow (Some c.in-Some.hold) c.lower.ensures.moved c.lower.ensures.only
+
+pub returns-else-is_same-clause-within : goal.returns-else-is_same-clause-within
+returns-else-is_same-clause-within g c = λ p q along here are. are

@@ -20,6 +20,7 @@ loop-at-init g c =
         settling = λ are. are;
         kept = c.requires.kept;
         moved = noted_none c.args.kept.now.moved c.args.kept.now.levels.items;
+        within = λ p q along here are. are;
         looks = omega arith;
       },
     )
@@ -64,6 +65,7 @@ loop-at-preserved g c =
         settling = λ are. c.settle_user.ensures.settles (drop (suc k) row) (subst (IsSettlingOn s before n was) first (inv.1.settling are));
         kept = c.settle_user.ensures.kept;
         moved = noted_on c.args.kept.now.moved before.moved after.moved c.args.kept.now.levels.items before.levels.items after.levels.items inv.1.moved c.settle_user.ensures.moved;
+        within = λ p q along here are. c.settle_user.ensures.within p q along (along.users n c.look-one.result.flow here (in_at c.look-one.result.flow row k r.less (sym r.is))) (inv.1.within p q along here are);
         looks = omega (arith, inv.1.looks, c.look-one.ensures.looks, c.settle_user.ensures.looks, uses_next s.slots row k r.less, ap (λ id. length (uses_at s.slots id)) r.is);
       },
     )
@@ -86,3 +88,6 @@ returns-clause-looks g c =
     let inv = c.loop-at.invariant in
     let end = walked next_on user_of s.uses row inv.0 c.loop-at.at inv.1.walk c.in_default.not-Some in
     omega (arith, inv.1.looks, end, ap (all_uses s.slots) (take_all row inv.0 end))
+
+pub returns-clause-within : goal.returns-clause-within
+returns-clause-within g c = c.loop-at.invariant.1.within

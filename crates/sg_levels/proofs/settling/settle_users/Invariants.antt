@@ -2,7 +2,7 @@ use Rattle.std.proofs.Common.{ℕ, ◌+◌, ◌*◌, ◌≤◌, length, drop, ta
 use Rattle.sg_chains.specs.Chained.{users_on}
 use Rattle.sg_chains.specs.Walk.{next_on, user_of, left_from}
 use Rattle.sg_levels.specs.Numbered.{all_uses}
-use Rattle.sg_levels.specs.Kept.{IsKept, IsSettlingOn, NotesMoved}
+use Rattle.sg_levels.specs.Kept.{IsKept, IsSettlingOn, NotesMoved, ResourceStaysWithin}
 use Rattle.sg_levels.proofs.Walked.{IsWalk}
 use Rattle.sg_levels.proofs.settling.settle_users.Given as goal
 
@@ -12,6 +12,7 @@ invariant-loop-at g l = (k : ℕ) × record {
   settling : IsSettlingOn l.system l.fn.kept l.resource l.was (users_on l.system.users l.resource) → IsSettlingOn l.system l.kept l.resource l.was (drop k (users_on l.system.users l.resource));
   kept : IsKept l.system l.kept;
   moved : NotesMoved l.fn.kept l.kept;
+  within : ResourceStaysWithin l.system l.resource l.fn.kept l.kept;
   looks : l.steps ≤ l.fn.steps + k + 2 * all_uses l.system.slots (take k (users_on l.system.users l.resource));
 }
 

@@ -1,4 +1,4 @@
-use Rattle.std.proofs.Common.{◌≡◌, ◌≢◌, ◌<◌, ◌+◌, ◌*◌, ℕ, inl, inr, suc, false, length, get_or, take, below_more, refl, sym, ap, subst, ◌∙◌, arith}
+use Rattle.std.proofs.Common.{◌≡◌, ◌≢◌, ◌<◌, ◌+◌, ◌*◌, ℕ, inl, inr, suc, false, length, get_or, take, below_more, refl, sym, ap, subst, ◌∙◌, arith, true≢false}
 use Rattle.std.proofs.lemmas.List.Elements.{All-get_or}
 use Rattle.sg_base.specs.MarkSet.{is_in}
 use Rattle.sg_chains.specs.Chained.{times}
@@ -6,7 +6,7 @@ use Rattle.sg_maxmin.specs.Sharing.{uses_at}
 use Rattle.sg_chains.specs.Walk.{next_of_flow, resource_of}
 use Rattle.sg_levels.specs.Settling.{is_active}
 use Rattle.sg_levels.specs.Kept.{Shifts}
-use Rattle.sg_levels.proofs.Listed.{at_in, bool_cases, off_one, take_all}
+use Rattle.sg_levels.proofs.Listed.{at_in, bool_cases, off_one, take_all, in_at, one_off}
 use Rattle.sg_levels.proofs.Users.{rows_exist}
 use Rattle.sg_levels.proofs.Walked.{can_look, looked, walk_from, walk_on, nearer, walked}
 use Rattle.sg_levels.proofs.Shifting.{shift_fits, shift_more, shift_some}
@@ -20,6 +20,7 @@ loop-at-init g c =
       record {
         walk = walk_from next_of_flow resource_of s.uses row c.first_of-at.result c.first_of-at.ensures.leads c.first_of-at.ensures.few;
         stays = λ r off. off;
+        only = λ r on off. on;
         done = λ i h. absurd (omega (arith, h));
         shifts = λ x. let none : times x (take 0 row) ≡ 0 = refl in omega (arith, ap (λ n. n * c.args.before) none, ap (λ n. n * c.args.after) none);
         levels = record { levels = refl; parts = refl; moved = refl; stale = refl; longest = refl; holds = refl; demands = refl; active = refl };
@@ -96,6 +97,7 @@ loop-at-preserved g c =
       record {
         walk = walk_on next_of_flow resource_of s.uses row k c.loop-at.at inv.1.walk c.in-Some.i c.look-one.result c.in-Some.is c.look-one.ensures.there;
         stays = λ n d. inv.1.stays n (out.activates n d).0;
+        only = λ n on off. inv.1.only n (out.only n on (one_off n one (λ e. true≢false (sym (in_at n row k r.less (sym r.is ∙ sym e)) ∙ off)))) off;
         done = λ i h. below_more (λ i. (n : ℕ) → is_active new.active.items n ≡ false → n ≢ get_or row i 0) k (λ i h n d. inv.1.done i h n (out.activates n d).0) (λ n d e. off_one n one (out.activates n d).1 (e ∙ sym r.is)) i (omega (arith, h));
         shifts = λ x. ap (λ xs. get_or xs x 0 + times x (take (suc k) row) * before) out.demands ∙ shift_more before after first.demands.items old.demands.items row k one r.less r.is inv.1.shifts some here x;
         levels = record {
@@ -142,3 +144,6 @@ returns-clause-looks g c =
     let row = uses_at s.slots c.args.flow in
     let inv = c.loop-at.invariant in
     omega (arith, inv.1.looks, walked next_of_flow resource_of s.uses row inv.0 c.loop-at.at inv.1.walk c.in_default.not-Some)
+
+pub returns-clause-only : goal.returns-clause-only
+returns-clause-only g c = c.loop-at.invariant.1.only

@@ -1,4 +1,5 @@
-use Rattle.std.proofs.Common.{◌≡◌, ◌≢◌, ◌+◌, ◌<◌, ℕ, false, length, slice_index, take}
+use Rattle.std.proofs.Common.{◌≡◌, ◌≢◌, ◌+◌, ◌<◌, ℕ, true, false, length, slice_index, take}
+use Rattle.sg_base.specs.MarkSet.{is_in}
 use Rattle.sg_maxmin.specs.Sharing.{uses_at}
 use Rattle.sg_chains.specs.Walk.{next_of_flow, resource_of, left_from}
 use Rattle.sg_levels.specs.Settling.{is_active}
@@ -11,6 +12,7 @@ invariant-loop-at g l = (k : ℕ) × record {
   walk : IsWalk next_of_flow resource_of l.system.uses (uses_at l.system.slots l.flow) k l.at;
   stays : (r : ℕ) → is_active l.kept.active.items r ≡ false → is_active l.fn.kept.active.items r ≡ false;
   done : (i : ℕ) → i < k → (r : ℕ) → is_active l.kept.active.items r ≡ false → r ≢ slice_index (uses_at l.system.slots l.flow) i;
+  only : (r : ℕ) → is_active l.kept.active.items r ≡ true → is_in r (uses_at l.system.slots l.flow) ≡ false → is_active l.fn.kept.active.items r ≡ true;
   shifts : Shifts l.before l.after (take k (uses_at l.system.slots l.flow)) l.fn.kept.demands.items l.kept.demands.items;
   levels : KeepsLevels l.fn.kept l.kept;
   looks : l.steps ≡ l.fn.steps + k;

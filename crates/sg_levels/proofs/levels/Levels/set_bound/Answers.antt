@@ -1,9 +1,10 @@
-use Rattle.std.proofs.Common.{◌≡◌, Some, IsSome, IfSome, length, slice_index, refl, sym, ap, subst, ◌∙◌, arith}
-use Rattle.sg_base.specs.MarkSet.{MarkSet}
+use Rattle.std.proofs.Common.{◌≡◌, Some, IsSome, IfSome, length, slice_index, refl, sym, ap, subst, ◌∙◌, arith, inl, inr, true, IsTrue}
+use Rattle.sg_base.specs.MarkSet.{MarkSet, is_in}
 use Rattle.sg_maxmin.specs.Fill.{Flow}
 use Rattle.sg_levels.proofs.Users.{uses_held}
 use Rattle.sg_levels.proofs.Between.{between_extended, notes_same}
 use Rattle.sg_levels.proofs.Changed.{bounded_between, rebound, same_flow}
+use Rattle.sg_levels.proofs.Within.{marked_or}
 use Rattle.sg_levels.proofs.levels.Levels.set_bound.Goals as goal
 
 pub returns-then-not-is_same-clause-between : goal.returns-then-not-is_same-clause-between
@@ -54,3 +55,13 @@ returns-else-not-is_same-clause-changed c =
     let is = rebound s t c.args.flow c.args.bound c.requires.held c.set_bound.ensures in
     let told = subst (λ o. IfSome o (λ (f : Flow). c.bound-before.result ≡ f.bound)) is.was c.bound-before.ensures in
     notes_same s t c.args.self.now c.args.self.now (same_flow s t c.args.flow c.args.bound is (sym told ∙ c.is_same.ensures.same c.if-not-is_same.false)) (λ id. refl) refl
+
+pub returns-then-not-is_same-clause-within : goal.returns-then-not-is_same-clause-within
+returns-then-not-is_same-clause-within c = λ p q along here are. record {
+  active = are.active;
+  moved = λ id i. elim (marked_or id c.args.flow c.args.self.now.moved.members (subst (λ (m : MarkSet). is_in id m.members ≡ true) c.insert-then-not-is_same.ensures i)) [ inl e ↦ subst (λ n. IsTrue (p n)) (sym e) here | inr j ↦ are.moved id j ];
+  stale = λ id i. elim (marked_or id c.args.flow c.args.self.now.stale.members (subst (λ (m : MarkSet). is_in id m.members ≡ true) c.insert.ensures i)) [ inl e ↦ subst (λ n. IsTrue (p n)) (sym e) here | inr j ↦ are.stale id j ];
+}
+
+pub returns-else-not-is_same-clause-within : goal.returns-else-not-is_same-clause-within
+returns-else-not-is_same-clause-within c = λ p q along here are. are

@@ -1,4 +1,4 @@
-use Rattle.std.proofs.Common.{◌≡◌, inl, inr, true, length, length-set, get_or-set_same, get_or-set_other, set, slice_index, refl, sym, ap, subst, ◌∙◌, arith}
+use Rattle.std.proofs.Common.{◌≡◌, inl, inr, true, length, length-set, get_or-set_same, get_or-set_other, set, slice_index, refl, sym, ap, subst, ◌∙◌, arith, false, IsTrue}
 use Rattle.sg_maxmin.specs.Sharing.{Sharing, flow_at}
 use Rattle.sg_levels.proofs.Listed.{eq_cases}
 use Rattle.sg_levels.proofs.Between.{between_extended}
@@ -45,3 +45,13 @@ returns-else-before-capacity-clause-between c =
       moved = omega (arith, numbers, places.moved);
       stale = omega (arith, numbers, places.stale);
     }) c.requires.between
+
+pub returns-then-before-capacity-clause-within : goal.returns-then-before-capacity-clause-within
+returns-then-before-capacity-clause-within c = λ p q along here are. record {
+  active = λ r on. elim (eq_cases r c.args.resource) [ inl e ↦ subst (λ n. IsTrue (q n)) (sym e) here | inr ne ↦ are.active r (sym (get_or-set_other c.args.self.now.active.items c.args.resource r true false ne) ∙ on) ];
+  moved = are.moved;
+  stale = are.stale;
+}
+
+pub returns-else-before-capacity-clause-within : goal.returns-else-before-capacity-clause-within
+returns-else-before-capacity-clause-within c = λ p q along here are. are

@@ -2,6 +2,7 @@ use Rattle.std.proofs.Common.{None, false, set, sym, subst, arith}
 use Rattle.sg_chains.specs.Chained.{users_on}
 use Rattle.sg_levels.specs.Settling.{AreSettlingOn}
 use Rattle.sg_levels.proofs.Steps.{any_end, start_keeps}
+use Rattle.sg_levels.proofs.Within.{less_active}
 use Rattle.sg_levels.proofs.levels.Levels.write_hold.Goals as goal
 
 pub returns-clause-settling : goal.returns-clause-settling
@@ -22,3 +23,11 @@ returns-clause-settling g c =
       parts = on.parts;
       written = any_end s new.levels.items new.holds.items new.active.items n 0 c.hold-was.result None on.written;
     }
+
+pub returns-clause-within : goal.returns-clause-within
+returns-clause-within g c = λ p q along here are.
+    c.settle_users.ensures.within p q along here (record {
+      active = λ r on. are.active r (less_active c.args.self.now.active.items c.args.resource r (omega (arith, c.requires.resource, c.requires.settling.kept.places.active)) on);
+      moved = are.moved;
+      stale = are.stale;
+    })
