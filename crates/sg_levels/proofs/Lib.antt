@@ -19,3 +19,4 @@ pub mod Between
 pub mod Changed
 pub mod Renewing
 pub mod Within
+pub mod WayBack

@@ -2,12 +2,12 @@
 use Rattle.std.specs.Prelude.{◌≡◌, ℕ, ◌+◌, ◌-◌, ◌*◌, ◌^◌, ◌<◌, ◌≤◌, Bool, true, false, Option, None, Some, IsTrue, IsSome, IfSome, List, [], length, sum_by, slice_index, slice_set}
 use Rattle.sg_base.specs.MarkSet.{is_in, with_mark}
 use Rattle.sg_chains.specs.Chained.{times, users_on}
-use Rattle.sg_maxmin.specs.Fill.{Flow, share_of}
+use Rattle.sg_maxmin.specs.Fill.{Flow, level_of, share_of}
 use Rattle.sg_maxmin.specs.Sharing.{Sharing, IsSound, Changes, flow_at, held, uses_at}
 use Rattle.sg_levels.specs.declared.levels.Levels.{Levels}
 use Rattle.sg_levels.specs.Numbered.{all_uses, below_at, flow_in, level_at, row_level, row_taken, row_waiting}
 use Rattle.sg_levels.specs.Demand.{demand_of}
-use Rattle.sg_levels.specs.Held.{AreFilled}
+use Rattle.sg_levels.specs.Held.{AreFilled, AreHeld, IsHold}
 use Rattle.sg_levels.specs.Settling.{AreNoted, AreSettling, AreSettlingBut, AreSettlingOn, is_active}
 
 -- there is a place for each flow and each resource
@@ -210,3 +210,16 @@ SharesAreNoted =
     (s t : Sharing) (old new : Levels) → NotesChanged s t old new → AreFilled s old.levels.items → AreFilled t new.levels.items →
     (id : ℕ) (flow : Flow) → flow_at t.slots id ≡ Some flow → is_in id new.moved.members ≡ false →
     (flow_at s.slots id ≡ Some flow) × (share_of s.capacities (held s.slots) flow ≡ share_of t.capacities (held t.slots) flow)
+
+-- What is joined has its levels of the filling, and holds that are right of them; all else is as it was.
+pub record IsRefilled (s : Sharing) (flows resources : ℕ → Bool) (old new : Levels) : Type 0 where
+  pub filled : (id : ℕ) (flow : Flow) → flow_at s.slots id ≡ Some flow → IsTrue (flows id) → level_at new.levels.items id ≡ Some (level_of s.capacities (held s.slots) flow)
+  pub other_flows : (id : ℕ) → flows id ≡ false → level_at new.levels.items id ≡ level_at old.levels.items id
+  pub held_at : (r : ℕ) → r < length s.capacities → IsTrue (resources r) → IsHold (slice_index s.capacities r) s.slots new.levels.items (users_on s.users r) (level_at new.holds.items r)
+  pub other_resources : (r : ℕ) → resources r ≡ false → level_at new.holds.items r ≡ level_at old.holds.items r
+
+-- The way back, where a settling has no looks left: what is joined to all that is active or stale is filled, and then all flows are held.
+abbrev pub WayBack : Type 0
+WayBack =
+    (s : Sharing) (old new : Levels) (flows resources : ℕ → Bool) → IsSound s → IsBetween s old → PassAlong s flows resources → IsWithin flows resources old →
+    IsRefilled s flows resources old new → AreHeld s new.levels.items (level_at new.holds.items)

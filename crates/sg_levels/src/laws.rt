@@ -3,7 +3,7 @@ ghost use Rattle.sg_levels.specs.Balanced.{BalanceIsFilling, FillingBalances};
 ghost use Rattle.sg_levels.specs.Changes.{FullHolds, HoldIsLocal, HoldIsOne, HoldStays, HoldStaysFrom, OthersHoldNone, SlackHoldsNone, SlackIsAbove};
 ghost use Rattle.sg_levels.specs.Demand.{DemandHoldsNone};
 ghost use Rattle.sg_levels.specs.Held.{FillingIsHeld, HeldIsFilling};
-ghost use Rattle.sg_levels.specs.Kept.{NotesAddUp, SharesAreNoted};
+ghost use Rattle.sg_levels.specs.Kept.{NotesAddUp, SharesAreNoted, WayBack};
 ghost use Rattle.sg_levels.specs.Numbered.{RowTells};
 ghost use Rattle.sg_levels.specs.Settling.{ChangesKeep, HeldSettles, SettlingEnds};
 
@@ -101,4 +101,9 @@ pub fn notes_add_up()
 /// A flow that isn't noted was there before, with the share that it has now.
 pub fn shares_are_noted()
     ensures { SharesAreNoted }
+{}
+
+/// Where what is joined to all that is active or stale is filled, all flows are held.
+pub fn way_back()
+    ensures { WayBack }
 {}

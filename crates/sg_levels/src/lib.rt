@@ -16,6 +16,6 @@ pub use laws::{
     balance_is_filling, changes_keep, demand_holds_none, filling_balances, filling_is_held,
     full_holds, held_is_filling, held_settles, hold_is_local, hold_is_one, hold_stays,
     hold_stays_from, notes_add_up, others_hold_none, row_tells, settling_ends, shares_are_noted,
-    slack_holds_none, slack_is_above,
+    slack_holds_none, slack_is_above, way_back,
 };
 pub use levels::Levels;
