@@ -20,3 +20,4 @@ pub mod Changed
 pub mod Renewing
 pub mod Within
 pub mod WayBack
+pub mod Refilling

@@ -58,14 +58,14 @@ one_off number x ne = elim (bool_cases (is_in number (x ∷ []))) [
     one (suc i) h e = absurd (omega arith)
 
 -- ---- one mark more
-in_more : (id number : ℕ) (xs : List ℕ) → is_in id xs ≡ true → is_in id (xs ++ number ∷ []) ≡ true
+pub in_more : (id number : ℕ) (xs : List ℕ) → is_in id xs ≡ true → is_in id (xs ++ number ∷ []) ≡ true
 in_more id number [] h = absurd (true≢false (sym h))
 in_more id number (x ∷ xs) h = elim (eqb x id) as (λ b. (b || is_in id xs) ≡ true → (b || is_in id (xs ++ number ∷ [])) ≡ true) [ true ↦ λ k. refl | false ↦ λ k. in_more id number xs k ] h
 
 pub mark_stays : (id number : ℕ) (xs : List ℕ) → is_in id xs ≡ true → is_in id (with_mark number xs) ≡ true
 mark_stays id number xs h = elim (is_in number xs) as (λ b. is_in id (cond b xs (xs ++ number ∷ [])) ≡ true) [ true ↦ h | false ↦ in_more id number xs h ]
 
-in_end : (number : ℕ) (xs : List ℕ) → is_in number (xs ++ number ∷ []) ≡ true
+pub in_end : (number : ℕ) (xs : List ℕ) → is_in number (xs ++ number ∷ []) ≡ true
 in_end number xs = in_at number (xs ++ number ∷ []) (length xs) (omega (arith, length-append xs (number ∷ []))) (at_end xs)
   where
     at_end : (xs : List ℕ) → get_or (xs ++ number ∷ []) (length xs) 0 ≡ number

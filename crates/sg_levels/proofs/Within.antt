@@ -9,7 +9,7 @@ use Rattle.sg_levels.specs.Kept.{ActivatesOnly, FlowStaysWithin, IsMoved}
 use Rattle.sg_levels.proofs.Listed.{bool_cases, eq_cases}
 use Rattle.sg_levels.proofs.Users.{in_is, is_in_In}
 
-in_append : (id x : ℕ) (xs : List ℕ) → In id (xs ++ x ∷ []) → (id ≡ x) ⊎ In id xs
+pub in_append : (id x : ℕ) (xs : List ℕ) → In id (xs ++ x ∷ []) → (id ≡ x) ⊎ In id xs
 in_append id x [] (inl e) = inl (sym e)
 in_append id x [] (inr i) = absurd i
 in_append id x (y ∷ xs) (inl e) = inr (inl e)

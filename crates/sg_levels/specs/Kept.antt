@@ -1,5 +1,5 @@
 -- What a `Levels` keeps, and what a change and a look at a resource do to it.
-use Rattle.std.specs.Prelude.{◌≡◌, ℕ, ◌+◌, ◌-◌, ◌*◌, ◌^◌, ◌<◌, ◌≤◌, Bool, true, false, Option, None, Some, IsTrue, IsSome, IfSome, List, [], length, sum_by, slice_index, slice_set}
+use Rattle.std.specs.Prelude.{◌≡◌, ℕ, ◌+◌, ◌-◌, ◌*◌, ◌^◌, ◌<◌, ◌≤◌, Bool, true, false, Option, None, Some, IsTrue, IsSome, IfSome, List, [], All, length, sum_by, slice_index, slice_set}
 use Rattle.sg_base.specs.MarkSet.{is_in, with_mark}
 use Rattle.sg_chains.specs.Chained.{times, users_on}
 use Rattle.sg_maxmin.specs.Fill.{Flow, level_of, share_of}
@@ -223,3 +223,43 @@ abbrev pub WayBack : Type 0
 WayBack =
     (s : Sharing) (old new : Levels) (flows resources : ℕ → Bool) → IsSound s → IsBetween s old → PassAlong s flows resources → IsWithin flows resources old →
     IsRefilled s flows resources old new → AreHeld s new.levels.items (level_at new.holds.items)
+
+-- these flows have these levels, with their parts, and no other level, no other part and no hold changes
+pub record AreGiven (s : Sharing) (flows : List ℕ) (levels : List (Option ℕ)) (old new : Levels) : Type 0 where
+  pub here : (id : ℕ) → is_in id flows ≡ true → level_at new.levels.items id ≡ level_at levels id
+  pub parts : (id : ℕ) → is_in id flows ≡ true → slice_index new.parts.items id ≡ demand_of (flow_in s.slots id) (level_at levels id)
+  pub others : (id : ℕ) → is_in id flows ≡ false → level_at new.levels.items id ≡ level_at old.levels.items id
+  pub other_parts : (id : ℕ) → is_in id flows ≡ false → slice_index new.parts.items id ≡ slice_index old.parts.items id
+  pub holds : new.holds.items ≡ old.holds.items
+  pub stale : new.stale ≡ old.stale
+
+-- nothing changes but the holds, and which resources are active
+pub record KeepsFlows (old new : Levels) : Type 0 where
+  pub levels : new.levels.items ≡ old.levels.items
+  pub parts : new.parts.items ≡ old.parts.items
+  pub moved : new.moved ≡ old.moved
+  pub stale : new.stale ≡ old.stale
+  pub longest : new.longest ≡ old.longest
+  pub demands : new.demands.items ≡ old.demands.items
+  pub holds : length new.holds.items ≡ length old.holds.items
+  pub active : length new.active.items ≡ length old.active.items
+
+-- these resources hold their flows there, and aren't active; all else is as it was
+pub record AreHeldAt (resources : List ℕ) (holds : List (Option ℕ)) (old new : Levels) : Type 0 where
+  pub here : (r : ℕ) → is_in r resources ≡ true → level_at new.holds.items r ≡ level_at holds r
+  pub inactive : (r : ℕ) → is_in r resources ≡ true → is_active new.active.items r ≡ false
+  pub others : (r : ℕ) → is_in r resources ≡ false → level_at new.holds.items r ≡ level_at old.holds.items r
+  pub other_active : (r : ℕ) → is_in r resources ≡ false → is_active new.active.items r ≡ is_active old.active.items r
+  pub flows : KeepsFlows old new
+
+-- these flows are held and have these levels in the filling, and these resources hold their flows at these
+pub record IsFound (s : Sharing) (flows resources : List ℕ) (levels holds : List (Option ℕ)) : Type 0 where
+  pub flows_held : All (λ id. IsSome (flow_at s.slots id)) flows
+  pub places : length s.slots ≤ length levels
+  pub exist : All (λ r. r < length s.capacities) resources
+  pub as_many : length holds ≡ length s.capacities
+  pub filled : (id : ℕ) (flow : Flow) → flow_at s.slots id ≡ Some flow → is_in id flows ≡ true → level_at levels id ≡ Some (level_of s.capacities (held s.slots) flow)
+  pub holds_are : (r : ℕ) → is_in r resources ≡ true → IsHold (slice_index s.capacities r) s.slots levels (users_on s.users r) (level_at holds r)
+
+abbrev pub FlowsStayWithin : Sharing → List ℕ → Levels → Levels → Type 0
+FlowsStayWithin s flows old new = (p q : ℕ → Bool) → PassAlong s p q → ((id : ℕ) → is_in id flows ≡ true → IsTrue (p id)) → IsWithin p q old → IsWithin p q new

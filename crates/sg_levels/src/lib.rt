@@ -8,6 +8,7 @@ mod changes;
 mod hold;
 mod laws;
 mod levels;
+mod refill;
 mod rounds;
 mod settling;
 
@@ -19,3 +20,4 @@ pub use laws::{
     slack_holds_none, slack_is_above, way_back,
 };
 pub use levels::Levels;
+pub use refill::Filled;

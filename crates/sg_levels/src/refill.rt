@@ -1,0 +1,105 @@
+//! The way back of a settling: the levels and the holds that a filling found are written.
+ghost use Rattle.std.specs.Prelude.{◌≡◌, ◌≤◌, ◌<◌, ◌+◌, ℕ, [], false, All, IsSome, length, slice_set};
+ghost use Rattle.sg_base.specs.MarkSet.{is_in};
+ghost use Rattle.sg_maxmin.specs.Sharing.{IsSound, flow_at};
+ghost use Rattle.sg_levels.specs.Held.{AreFilled};
+ghost use Rattle.sg_levels.specs.Kept.{AreGiven, AreHeldAt, FlowsStayWithin, IsBetween, IsFound, IsKept, IsWithin, KeepsFlows, NotesMoved, PassAlong};
+ghost use Rattle.sg_levels.specs.Numbered.{all_uses, level_at};
+ghost use Rattle.sg_levels.specs.Settling.{is_active};
+
+use crate::levels::Levels;
+use crate::settling::move_flow;
+use sg_base::Steps;
+use sg_maxmin::System;
+use std::sync::ledger::Ledger;
+
+/// What a filling of some flows and resources found: under the number of each flow its level, and under that of each
+/// resource its hold.
+#[derive(Clone, Copy)]
+pub struct Filled<'a> {
+    pub flows: &'a [usize],
+    pub resources: &'a [usize],
+    pub levels: &'a [Option<u64>],
+    pub holds: &'a [Option<u64>],
+}
+
+// What stands under a number.
+fn under(list: &[Option<u64>], number: usize) -> Option<u64>
+    requires { number < length list.now }
+    ensures { result ≡ level_at list.now number }
+{
+    list[number]
+}
+
+// Each of these flows has the level that was found.
+fn give_all<L: Ledger>(
+    system: &System,
+    flows: &[usize],
+    levels: &[Option<u64>],
+    kept: &mut Levels,
+    steps: &mut Steps<L>,
+)
+    requires sound { IsSound system.now }
+    requires held { All (λ id. IsSome (flow_at system.now.slots id)) flows.now }
+    requires places { length system.now.slots ≤ length levels.now }
+    requires kept { IsKept system.now kept.old }
+    ensures given { AreGiven system.now flows.now levels.now kept.old kept.new }
+    ensures kept { IsKept system.now kept.new }
+    ensures moved { NotesMoved kept.old kept.new }
+    ensures within { FlowsStayWithin system.now flows.now kept.old kept.new }
+    ensures looks { steps.new ≡ steps.old + all_uses system.now.slots flows.now }
+{
+    for flow in flows {
+        move_flow(system, *flow, under(levels, *flow), kept, steps);
+    }
+}
+
+// A resource holds its flows there, and isn't active.
+fn put_hold(resource: usize, hold: Option<u64>, kept: &mut Levels)
+    requires hold { resource < length kept.old.holds.items }
+    requires active { resource < length kept.old.active.items }
+    ensures hold { kept.new.holds.items ≡ slice_set kept.old.holds.items resource hold }
+    ensures active { kept.new.active.items ≡ slice_set kept.old.active.items resource false }
+    ensures flows { KeepsFlows kept.old kept.new }
+{
+    kept.holds[resource] = hold;
+    kept.active[resource] = false;
+}
+
+// The same of each of these resources.
+fn put_holds(resources: &[usize], holds: &[Option<u64>], kept: &mut Levels)
+    requires exist { All (λ r. r < length holds.now) resources.now }
+    requires holds { length kept.old.holds.items ≡ length holds.now }
+    requires active { length kept.old.active.items ≡ length holds.now }
+    ensures { AreHeldAt resources.now holds.now kept.old kept.new }
+{
+    for resource in resources {
+        put_hold(*resource, under(holds, *resource), kept);
+    }
+}
+
+impl Levels {
+    /// Writes what a filling of some flows and resources found, where all that is active, or whose bounds changed, is
+    /// among them and sharing joins none to others. Each use of the flows is looked at.
+    pub fn refill<L: Ledger>(&mut self, system: &System, filled: Filled<'_>, steps: &mut Steps<L>)
+        requires between { IsBetween system.now self.old }
+        requires joined { PassAlong system.now (λ id. is_in id filled.flows.now)
+            (λ r. is_in r filled.resources.now) }
+        requires within { IsWithin (λ id. is_in id filled.flows.now)
+            (λ r. is_in r filled.resources.now) self.old }
+        requires found { IsFound system.now filled.flows.now filled.resources.now
+            filled.levels.now filled.holds.now }
+        ensures between { IsBetween system.now self.new }
+        ensures levels { AreFilled system.now self.new.levels.items }
+        ensures none_active { (r : ℕ) → is_active self.new.active.items r ≡ false }
+        ensures none_stale { self.new.stale.members ≡ [] }
+        ensures moved { NotesMoved self.old self.new }
+        ensures looks { steps.new
+            ≡ steps.old + all_uses system.now.slots filled.entry.flows.now }
+    {
+        system.is_sound();
+        give_all(system, filled.flows, filled.levels, self, steps);
+        put_holds(filled.resources, filled.holds, self);
+        self.stale.clear();
+    }
+}
