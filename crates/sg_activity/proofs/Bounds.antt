@@ -119,5 +119,6 @@ flows_still old mid keys has a =
       places = has.places;
       runs = λ key live at full. subst IsSome (sym (a.runs key live at full)) (some_kept (asked_by (state_of old) key live).bound (is_in key keys) (running_at old.lazy.slots live.flow) (has.runs key live at full));
       own = has.own;
-      ways_long = has.ways_long;
+      rows = has.rows;
+      rows_long = has.rows_long;
     })

@@ -5,7 +5,7 @@ use Rattle.sg_chains.specs.declared.uses.Use.{Use}
 use Rattle.sg_chains.specs.Chain.{IsChain, IsSameChain, KeepsChains, resources}
 use Rattle.sg_chains.specs.Chained.{Chained, GainsUses, times, users_on}
 use Rattle.sg_activity.specs.declared.index.Uses.{Uses}
-use Rattle.sg_activity.specs.kept.Index.{IsIndex, IsRow, IsWider, row_at, things_of, uses_at}
+use Rattle.sg_activity.specs.kept.Rows.{IsIndex, IsRow, IsWider, row_at, things_of, uses_at}
 use Rattle.sg_activity.proofs.Listing.{eq_cases}
 
 abbrev pub no_uses : Uses

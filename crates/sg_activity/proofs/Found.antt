@@ -1,7 +1,7 @@
 -- The key of each serial, as an activity comes, changes and goes.
-use Rattle.std.proofs.Common.{◌≡◌, ◌≢◌, ℕ, ◌<◌, inl, inr, nat_eq, true, false, Option, None, Some, List, length, set, refl, sym, ap, ◌∙◌, arith}
+use Rattle.std.proofs.Common.{◌≡◌, ◌≢◌, ℕ, ◌<◌, inl, inr, nat_eq, true, false, Option, None, Some, List, length, set, sym, ap, ◌∙◌, arith}
 use Rattle.sg_activity.specs.declared.lives.Live.{Live}
-use Rattle.sg_activity.specs.kept.Pool.{slot_at, IsMissing, IsFound, FindsEach}
+use Rattle.sg_activity.specs.kept.Pool.{slot_at, IsMissing, FindsEach}
 use Rattle.sg_activity.proofs.Listing.{eq_cases, some_same}
 use Rattle.sg_activity.proofs.Pairing.{set_cases}
 use Rattle.sg_activity.proofs.Starts.{set_here, set_there}

@@ -142,6 +142,7 @@ module _ (s : State) (is : IsKept s) (set : IsTrue s.settled) where
             weighs = h.weighs;
             paced = h.paced;
             placed = h.placed;
+            counted = h.counted;
             flow = λ full. let f = h.flow full in record { runs = f.runs; limit = f.limit; within = f.within; known = f.known };
             dated = h.dated;
           };

@@ -12,8 +12,9 @@ use Rattle.sg_activity.specs.Links.{capacities_of, machines}
 use Rattle.sg_activity.specs.kept.Grows.{Grows}
 use Rattle.sg_activity.specs.Slots.{passes, serials}
 use Rattle.sg_activity.specs.kept.Pool.{slot_at}
-use Rattle.sg_activity.specs.kept.State.{State, state_of, links_at, task_from, task_of, is_now, is_dated, is_so, told_at, told_by, began_at, began_by, under_of, doing_of}
-use Rattle.sg_activity.specs.kept.Sound.{AreApart, IsKept, IsSound, slot_ahead}
+use Rattle.sg_activity.specs.kept.State.{State, state_of, links_at, task_from, task_of, is_now, is_dated, is_so, told_at, told_by, began_at, began_by, under_of, doing_of, ways_of}
+use Rattle.sg_activity.specs.kept.Sound.{AreApart, IsKept, IsSound, slot_ahead, slot_uses}
+use Rattle.sg_activity.proofs.Indexing.{ways_grown}
 use Rattle.sg_activity.proofs.Listing.{same_listed}
 use Rattle.sg_activity.proofs.Lookup.{told_alike}
 use Rattle.sg_activity.proofs.Told.{doing_same, made_same}
@@ -30,7 +31,7 @@ flows_same [] new h = none_in new h
 flows_same (o ∷ old) [] h = sym (none_in (o ∷ old) (λ id. sym (h id)))
 flows_same (o ∷ old) (n ∷ new) h = ap₂ (λ x l. cons_option (option_map (λ (r : RunningFlow). r.flow) x) l) (h 0) (flows_same old new (λ id. h (suc id)))
 
-module _ (s : State) (slots : List (Option Live)) (ways : List (List LinkId)) (keys : List (Option Key)) (runs : List (Option RunningFlow)) (by_flow : List ℕ) (is : IsKept s)
+module _ (s : State) (slots : List (Option Live)) (ways : ℕ → List LinkId) (keys : List (Option Key)) (runs : List (Option RunningFlow)) (by_flow : List ℕ) (is : IsKept s)
     (same_slots : (k : ℕ) → slot_at slots k ≡ slot_at s.slots k) (same_links : (k : ℕ) → links_at ways k ≡ links_at s.ways k) (same_keys : (k : ℕ) → key_at keys k ≡ key_at s.keys k) (same_runs : (id : ℕ) → running_at runs id ≡ running_at s.runs id) (same_flows : (id : ℕ) → slice_index by_flow id ≡ slice_index s.by_flow id)
     (longer : length s.by_flow ≤ length by_flow) (more_slots : length s.slots ≤ length slots) where
   abbrev pub grown : State
@@ -64,43 +65,46 @@ module _ (s : State) (slots : List (Option Live)) (ways : List (List LinkId)) (k
       (ap (map (passes is_so)) (tell_same (began_at s.fresh) (began_at s.fresh) (λ k live. refl))) refl refl)
       (ap (λ l. cond s.arrived (serials is_so 1 l) []) (tell_same (is_now s) (is_now grown) (λ k live. ap (is_dated s.date) (same_keys k)))) refl refl
 
-no_ahead : (slots : List (Option Live)) → ((k : ℕ) → slot_at slots k ≡ None) → sum_by slot_ahead slots ≡ 0
-no_ahead [] h = refl
-no_ahead (None ∷ slots) h = omega (arith, sum_by-cons slot_ahead None slots, no_ahead slots (λ k. h (suc k)))
-no_ahead (Some x ∷ slots) h = absurd (cc (h 0))
+-- what free keys don't add to
+module _ (f : Option Live → ℕ) (free : f None ≡ 0) where
+  no_sum : (slots : List (Option Live)) → ((k : ℕ) → slot_at slots k ≡ None) → sum_by f slots ≡ 0
+  no_sum [] h = refl
+  no_sum (None ∷ slots) h = omega (arith, sum_by-cons f None slots, free, no_sum slots (λ k. h (suc k)))
+  no_sum (Some x ∷ slots) h = absurd (cc (h 0))
 
-ahead_same : (old new : List (Option Live)) → ((k : ℕ) → slot_at new k ≡ slot_at old k) → sum_by slot_ahead new ≡ sum_by slot_ahead old
-ahead_same [] new h = no_ahead new h
-ahead_same (o ∷ old) [] h = sym (no_ahead (o ∷ old) (λ k. sym (h k)))
-ahead_same (o ∷ old) (n ∷ new) h = omega (arith, sum_by-cons slot_ahead o old, sum_by-cons slot_ahead n new, ap slot_ahead (h 0), ahead_same old new (λ k. h (suc k)))
+  sum_same : (old new : List (Option Live)) → ((k : ℕ) → slot_at new k ≡ slot_at old k) → sum_by f new ≡ sum_by f old
+  sum_same [] new h = no_sum new h
+  sum_same (o ∷ old) [] h = sym (no_sum (o ∷ old) (λ k. sym (h k)))
+  sum_same (o ∷ old) (n ∷ new) h = omega (arith, sum_by-cons f o old, sum_by-cons f n new, ap f (h 0), sum_same old new (λ k. h (suc k)))
 
-module _ (kept new : Kept) (room flows : ℕ) (sound : IsSound kept) (g : Grows kept new) where
+module _ (kept new : Kept) (room flows uses : ℕ) (sound : IsSound kept) (g : Grows kept new) where
   abbrev s : State
   s = state_of kept
 
-  state_is : state_of (record new { room = room; flows = flows }) ≡ grown s new.lives.slots new.ways.items new.agenda new.lazy.slots new.by_flow.items sound.are g.slots g.links g.keys g.runs g.by_flow g.longer g.slots_long
+  state_is : state_of (record new { room = room; flows = flows; uses = uses }) ≡ grown s new.lives.slots (ways_of new) new.agenda new.lazy.slots new.by_flow.items sound.are g.slots (ways_grown kept new g) g.keys g.runs g.by_flow g.longer g.slots_long
   state_is =
-      ap (λ (k : Kept). record (state_of k) { slots = new.lives.slots; ways = new.ways.items; keys = new.agenda; runs = new.lazy.slots; by_flow = new.by_flow.items; fresh = new.fresh.members; ended = new.lazy.ended; resources = new.lazy.resources }) g.rest
-      ∙ ap₂ (λ f e. record s { slots = new.lives.slots; ways = new.ways.items; keys = new.agenda; runs = new.lazy.slots; by_flow = new.by_flow.items; fresh = f; ended = e; resources = new.lazy.resources }) g.fresh g.ended
-      ∙ ap (λ r. record s { slots = new.lives.slots; ways = new.ways.items; keys = new.agenda; runs = new.lazy.slots; by_flow = new.by_flow.items; resources = r }) g.resources
+      ap (λ (k : Kept). record (state_of k) { slots = new.lives.slots; ways = ways_of new; keys = new.agenda; runs = new.lazy.slots; by_flow = new.by_flow.items; fresh = new.fresh.members; ended = new.lazy.ended; resources = new.lazy.resources }) g.rest
+      ∙ ap₂ (λ f e. record s { slots = new.lives.slots; ways = ways_of new; keys = new.agenda; runs = new.lazy.slots; by_flow = new.by_flow.items; fresh = f; ended = e; resources = new.lazy.resources }) g.fresh g.ended
+      ∙ ap (λ r. record s { slots = new.lives.slots; ways = ways_of new; keys = new.agenda; runs = new.lazy.slots; by_flow = new.by_flow.items; resources = r }) g.resources
 
-  pub sound_grown : flows ≡ room + sum_by slot_ahead kept.lives.slots → flows ≤ new.lazy.flow_room → 64 * flows ≤ new.lazy.use_room → room ≤ new.lives.room → IsSound (record new { room = room; flows = flows })
-  sound_grown count flow_room use_room keys_free = record {
-    are = subst IsKept (sym state_is) (grown_kept s new.lives.slots new.ways.items new.agenda new.lazy.slots new.by_flow.items sound.are g.slots g.links g.keys g.runs g.by_flow g.longer g.slots_long);
+  pub sound_grown : flows ≡ room + sum_by slot_ahead kept.lives.slots → flows ≤ new.lazy.flow_room → uses ≡ 64 * room + sum_by slot_uses kept.lives.slots → uses ≤ new.lazy.use_room → room ≤ new.lives.room → IsSound (record new { room = room; flows = flows; uses = uses })
+  sound_grown count flow_room uses_count use_room keys_free = record {
+    are = subst IsKept (sym state_is) (grown_kept s new.lives.slots (ways_of new) new.agenda new.lazy.slots new.by_flow.items sound.are g.slots (ways_grown kept new g) g.keys g.runs g.by_flow g.longer g.slots_long);
     room = record {
       capacities = g.capacities ∙ sound.room.capacities ∙ sym (ap (λ (k : Kept). capacities_of (machines k.hosts.items k.links.items)) g.rest);
       few = omega (arith, sound.room.few, ap (λ (k : Kept). k.drawn) g.rest);
       early = omega (arith, sound.room.early, ap (λ (k : Kept). k.date) g.rest);
-      flows = count ∙ ap (λ n. room + n) (sym (ahead_same kept.lives.slots new.lives.slots g.slots));
+      flows = count ∙ ap (λ n. room + n) (sym (sum_same slot_ahead refl kept.lives.slots new.lives.slots g.slots));
+      uses = uses_count ∙ ap (λ n. 64 * room + n) (sym (sum_same slot_uses refl kept.lives.slots new.lives.slots g.slots));
       flow_room = flow_room;
       use_room = use_room;
       keys_free = keys_free;
-      ways_long = g.ways_long;
+      rows_long = g.rows_long;
       agenda_long = g.agenda_long;
       fresh_room = g.fresh_room;
       by_flow_long = g.by_flow_long;
     };
   }
 
-  pub grown_doing : (n : ℕ) → doing_of (state_of (record new { room = room; flows = flows })) n ≡ doing_of s n
-  grown_doing n = ap (λ st. doing_of st n) state_is ∙ grown_told s new.lives.slots new.ways.items new.agenda new.lazy.slots new.by_flow.items sound.are g.slots g.links g.keys g.runs g.by_flow g.longer g.slots_long n
+  pub grown_doing : (n : ℕ) → doing_of (state_of (record new { room = room; flows = flows; uses = uses })) n ≡ doing_of s n
+  grown_doing n = ap (λ st. doing_of st n) state_is ∙ grown_told s new.lives.slots (ways_of new) new.agenda new.lazy.slots new.by_flow.items sound.are g.slots (ways_grown kept new g) g.keys g.runs g.by_flow g.longer g.slots_long n

@@ -12,23 +12,25 @@ use Rattle.sg_activity.specs.Task.{uses_off}
 use Rattle.sg_activity.specs.kept.Grows.{Grows}
 use Rattle.sg_activity.specs.kept.Hits.{AreHit, AreHits, hit_in}
 use Rattle.sg_activity.specs.kept.Pool.{slot_at}
+use Rattle.sg_activity.specs.kept.Rows.{Indexed, IsRow, way_in}
 use Rattle.sg_activity.specs.kept.Renewal.{is_among, rate_in, restamped}
 use Rattle.sg_activity.specs.kept.Stamps.{left_at}
-use Rattle.sg_activity.specs.kept.State.{links_at, place_of, state_of}
+use Rattle.sg_activity.specs.kept.State.{links_at, place_of, state_of, ways_of}
+use Rattle.sg_activity.proofs.Indexing.{ways_grown}
 use Rattle.sg_activity.proofs.Listing.{eq_cases}
 use Rattle.sg_activity.proofs.Pairing.{there_within}
 use Rattle.sg_activity.proofs.Starts.{set_here, set_there}
 
-module _ (on : Switches) (slots : List (Option Live)) (ways : List (List LinkId)) (hits : List (Option Key)) (is : AreHits on slots ways hits) where
+module _ (on : Switches) (slots : List (Option Live)) (ways : ℕ → List LinkId) (hits : List (Option Key)) (is : AreHits on slots ways hits) where
   -- the same are hit
-  pub hits_still : (others : List (Option Live)) (paths : List (List LinkId)) → ((key : ℕ) → hit_in on (links_at paths key) (slot_at others key) ≡ hit_in on (links_at ways key) (slot_at slots key)) → length others ≡ length slots → AreHits on others paths hits
+  pub hits_still : (others : List (Option Live)) (paths : ℕ → List LinkId) → ((key : ℕ) → hit_in on (links_at paths key) (slot_at others key) ≡ hit_in on (links_at ways key) (slot_at slots key)) → length others ≡ length slots → AreHits on others paths hits
   hits_still others paths same long = record {
     each = λ key. is.each key ∙ sym (same key);
     long = omega (arith, is.long, long);
   }
 
   -- one that was idle begins, and is not hit
-  pub hits_more : (key : ℕ) (live : Live) (others : List (Option Live)) (paths : List (List LinkId)) → slot_at slots key ≡ None → key < length slots → uses_off on (place_of live.kind live.host live.peer (links_at paths key)) ≡ false → others ≡ set slots key (Some live) → ((k : ℕ) → k ≢ key → links_at paths k ≡ links_at ways k) →
+  pub hits_more : (key : ℕ) (live : Live) (others : List (Option Live)) (paths : ℕ → List LinkId) → slot_at slots key ≡ None → key < length slots → uses_off on (place_of live.kind live.host live.peer (links_at paths key)) ≡ false → others ≡ set slots key (Some live) → ((k : ℕ) → k ≢ key → links_at paths k ≡ links_at ways k) →
       AreHits on others paths hits
   hits_more key live others paths free within off others_are same = hits_still others paths (λ k. elim (eq_cases k key) [
     | inl e ↦
@@ -39,13 +41,13 @@ module _ (on : Switches) (slots : List (Option Live)) (ways : List (List LinkId)
   ]) (ap length others_are ∙ length-set slots key (Some live))
 
   -- one goes
-  pub hits_gone : (key : ℕ) (others : List (Option Live)) → key < length slots → others ≡ set slots key None → AreHits on others ways (set hits key None)
-  hits_gone key others within others_are = record {
+  pub hits_gone : (key : ℕ) (others : List (Option Live)) (paths : ℕ → List LinkId) → key < length slots → others ≡ set slots key None → ((k : ℕ) → k ≢ key → links_at paths k ≡ links_at ways k) → AreHits on others paths (set hits key None)
+  hits_gone key others paths within others_are same = record {
     each = λ k. elim (eq_cases k key) [
       | inl e ↦
           ap (key_at (set hits key None)) e ∙ set_here hits key None (omega (arith, within, is.long))
-          ∙ sym (ap (λ n. hit_in on (links_at ways n) (slot_at others n)) e ∙ ap (hit_in on (links_at ways key)) (ap (λ l. slot_at l key) others_are ∙ set_here slots key None within))
-      | inr ne ↦ set_there hits key k None ne ∙ is.each k ∙ sym (ap (hit_in on (links_at ways k)) (ap (λ l. slot_at l k) others_are ∙ set_there slots key k None ne))
+          ∙ sym (ap (λ n. hit_in on (links_at paths n) (slot_at others n)) e ∙ ap (hit_in on (links_at paths key)) (ap (λ l. slot_at l key) others_are ∙ set_here slots key None within))
+      | inr ne ↦ set_there hits key k None ne ∙ is.each k ∙ sym (ap₂ (hit_in on) (same k ne) (ap (λ l. slot_at l k) others_are ∙ set_there slots key k None ne))
     ];
     long = omega (arith, is.long, ap length others_are, length-set slots key None, length-set hits key None);
   }
@@ -76,8 +78,8 @@ hits_wider kept hits n is = record {
 
 -- there is room for more
 pub hits_grown : (kept new : Kept) (hits : List (Option Key)) → AreHit kept hits → Grows kept new → length new.lives.slots ≤ length hits → AreHit new hits
-hits_grown kept new hits is g long = subst (λ o. AreHits o new.lives.slots new.ways.items hits) (sym (ap (λ (k : Kept). (state_of k).on) g.rest)) (record {
-  each = λ key. is.each key ∙ ap₂ (hit_in (state_of kept).on) (sym (g.links key)) (sym (g.slots key));
+hits_grown kept new hits is g long = subst (λ o. AreHits o new.lives.slots (ways_of new) hits) (sym (ap (λ (k : Kept). (state_of k).on) g.rest)) (record {
+  each = λ key. is.each key ∙ ap₂ (hit_in (state_of kept).on) (sym (ways_grown kept new g key)) (sym (g.slots key));
   long = long;
 })
 
@@ -98,7 +100,10 @@ hit_on on links old live was rest is =
     ∙ sym (ap (λ k. cond (uses_off on (place_of k old.host old.peer links)) (Some (record { date = 0; serial = old.serial })) None) was)
 
 -- an activity is done, and isn't hit any more
-pub hits_left : (kept mid : Kept) (lazy : Lazily) (slots : List (Option Live)) (hits : List (Option Key)) (key : ℕ) (live : Live) → AreHit kept hits → slot_at kept.lives.slots key ≡ Some live → mid ≡ record kept { lazy = lazy } → slots ≡ set mid.lives.slots key None → AreHits (state_of mid).on slots mid.ways.items (set hits key None)
-hits_left kept mid lazy slots hits key live is at e slots_are =
-    subst (λ (m : Kept). AreHits (state_of m).on slots m.ways.items (set hits key None)) (sym e)
-    (hits_gone (state_of kept).on kept.lives.slots kept.ways.items hits is key slots (there_within kept.lives.slots key live at) (slots_are ∙ ap (λ (m : Kept). set m.lives.slots key None) e))
+pub hits_left : (kept mid : Kept) (lazy : Lazily) (index : Indexed) (slots : List (Option Live)) (hits : List (Option Key)) (key : ℕ) (live : Live) → AreHit kept hits → slot_at kept.lives.slots key ≡ Some live → mid ≡ record kept { lazy = lazy } → slots ≡ set mid.lives.slots key None → IsRow mid.index.rows index.rows key [] →
+    AreHits (state_of mid).on slots (ways_of (record mid { index = index })) (set hits key None)
+hits_left kept mid lazy index slots hits key live is at e slots_are row =
+    let rows = subst (λ (m : Kept). IsRow m.index.rows index.rows key []) e row in
+    subst (λ (m : Kept). AreHits (state_of m).on slots (ways_of (record m { index = index })) (set hits key None)) (sym e)
+    (hits_gone (state_of kept).on kept.lives.slots (ways_of kept) hits is key slots (ways_of (record kept { index = index })) (there_within kept.lives.slots key live at) (slots_are ∙ ap (λ (m : Kept). set m.lives.slots key None) e)
+    (λ k ne. ap (way_in (length kept.hosts.items)) (rows.others k ne)))

@@ -1,6 +1,6 @@
 -- The load of a host is the sum over those that the index has there.
-use Rattle.std.proofs.Common.{◌≡◌, ◌≢◌, ℕ, zero, suc, ◌+◌, ◌-◌, ◌*◌, ◌==◌, ◌^◌, ◌<◌, ◌≤◌, ne_eqb, Bool, true, false, cond, not, ◌&&◌, Option, None, Some, List, [], ◌∷◌, ◌++◌, All, IfSome, IsTrue, length, map, take, get_or, filter_map, sum_by, unwrap_or, refl, sym, ap, ap₂, subst, ◌∙◌, arith}
-use Rattle.std.specs.List.{cons_option, list_any}
+use Rattle.std.proofs.Common.{◌≡◌, ℕ, zero, suc, ◌+◌, ◌-◌, ◌*◌, ◌==◌, ◌^◌, ◌<◌, ◌≤◌, ne_eqb, Bool, true, false, cond, not, ◌&&◌, Option, None, Some, List, [], ◌∷◌, ◌++◌, All, IfSome, IsTrue, length, map, take, get_or, sum_by, unwrap_or, refl, sym, ap, ap₂, ◌∙◌, arith}
+use Rattle.std.specs.List.{cons_option}
 use Rattle.std.proofs.Math.Nat.{mul-le-mul}
 use Rattle.std.proofs.lemmas.List.Sums.{sum_by-cons}
 use Rattle.sg_base.specs.declared.ids.LinkId.{LinkId}
@@ -15,17 +15,18 @@ use Rattle.sg_activity.specs.Laws.{IsHostOf}
 use Rattle.sg_activity.specs.Power.{is_there, load_by, loads, part_of_load}
 use Rattle.sg_activity.specs.Slots.{passes}
 use Rattle.sg_activity.specs.Task.{Task, takes_share}
-use Rattle.sg_activity.specs.Underway.{Underway, load, rate}
-use Rattle.sg_activity.specs.kept.Index.{Indexed, row_at, used_at, used_by}
+use Rattle.sg_activity.specs.Underway.{load, rate}
+use Rattle.sg_activity.specs.kept.Index.{used_at, used_by}
+use Rattle.sg_activity.specs.kept.Rows.{Indexed}
 use Rattle.sg_activity.specs.kept.Metered.{rate_of, rates_of, sum_of, total, with_one}
 use Rattle.sg_activity.specs.kept.Pool.{slot_at}
 use Rattle.sg_activity.specs.kept.Sound.{IsKept, IsSound}
-use Rattle.sg_activity.specs.kept.State.{State, links_at, place_of, serial_at, serial_in, state_of, task_of, told_at, under_of}
+use Rattle.sg_activity.specs.kept.State.{State, links_at, place_of, serial_at, serial_in, state_of, task_of, told_at, under_of, ways_of}
 use Rattle.sg_activity.specs.kept.Whole.{IsUsed}
-use Rattle.sg_activity.proofs.Listing.{at_listed, length-listed, some_same}
+use Rattle.sg_activity.proofs.Listing.{at_listed}
 use Rattle.sg_activity.proofs.Loads.{load_fits_lem}
 use Rattle.sg_activity.proofs.Lookup.{told_from}
-use Rattle.sg_activity.proofs.Pairing.{ArePaired, paired_sums, part, sum_by-there, there_within}
+use Rattle.sg_activity.proofs.Pairing.{paired_sums, part, sum_by-there, there_within}
 use Rattle.sg_activity.proofs.Rates.{drawn_told, limits, rate_told, task_there}
 use Rattle.sg_activity.proofs.Reset.{AreBothWays, users_below}
 use Rattle.sg_activity.proofs.Summed.{sum_by_places}
@@ -196,8 +197,8 @@ module _ (kept : Kept) (sound : IsSound kept) (index : Indexed) (used : IsUsed k
       go key None at =
           ap (λ o. times key users * part amount (rate_of o)) at ∙ nothing (times key users) ∙ sym (ap (part (added s sound.are set host amount)) at)
       go key (Some live) at =
-          ap₂ (λ n o. n * part amount (rate_of o)) (both key host ∙ ap (times host) (used.rows key ∙ ap (used_by (length kept.hosts.items) (length kept.links.items) (links_at kept.ways.items key)) at)) at
-          ∙ kind_adds s sound.are set host (length kept.hosts.items) (length kept.links.items) exists amount live.kind live.host live.peer live.rate (links_at kept.ways.items key)
+          ap₂ (λ n o. n * part amount (rate_of o)) (both key host ∙ ap (times host) (used.rows key ∙ ap (used_by (length kept.hosts.items) (length kept.links.items) (links_at (ways_of kept) key)) at)) at
+          ∙ kind_adds s sound.are set host (length kept.hosts.items) (length kept.links.items) exists amount live.kind live.host live.peer live.rate (links_at (ways_of kept) key)
           ∙ sym (ap (part (added s sound.are set host amount)) at)
 
   all_sum : (amount : ℕ → ℕ) → sum_by amount (rates_of kept.lives.slots users) ≡ sum_by (part (task_adds s sound.are set host amount)) (under_of s).tasks

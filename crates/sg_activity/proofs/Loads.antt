@@ -1,5 +1,5 @@
 -- A host's load follows from the host and its executions.
-use Rattle.std.proofs.Common.{◌≡◌, ◌≢◌, ℕ, zero, suc, ◌+◌, ◌==◌, ◌<◌, ◌≤◌, ◌⊎◌, inl, inr, eq-eqb, ne_eqb, Bool, true, false, cond, not, ◌&&◌, ◌||◌, true≢false, Option, None, Some, List, [], ◌∷◌, ◌++◌, length, map, filter, get_or, filter_map, sum_by, slice_index, Contains, IsTrue, refl, sym, ap, ap₂, subst, ◌∙◌, arith}
+use Rattle.std.proofs.Common.{◌≡◌, ◌≢◌, ℕ, ◌+◌, ◌==◌, ◌<◌, ◌≤◌, ◌⊎◌, inl, inr, eq-eqb, ne_eqb, Bool, true, false, cond, not, ◌&&◌, ◌||◌, true≢false, Option, None, Some, List, [], ◌∷◌, length, map, filter, filter_map, sum_by, slice_index, refl, sym, ap, ap₂, subst, ◌∙◌, arith}
 use Rattle.std.specs.List.{cons_option, list_any}
 use Rattle.std.proofs.Math.Bool.{or-false}
 use Rattle.std.proofs.lemmas.Option.{cond_some}
@@ -9,7 +9,7 @@ use Rattle.sg_maxmin.specs.Fill.{Flow, is_on, share_of}
 use Rattle.sg_maxmin.proofs.Members.{In, In-from_contains, contains_from_In, In-filter, In-filter_back}
 use Rattle.sg_maxmin.proofs.Proved.{is_fair_lem}
 use Rattle.sg_maxmin.proofs.Sums.{sum_by_same, sum_by-filter}
-use Rattle.sg_lazy.specs.Touch.{has_uses, touches}
+use Rattle.sg_lazy.specs.Touch.{touches}
 use Rattle.sg_lazy.proofs.Parts.{keeps_rate_lem}
 use Rattle.sg_activity.specs.declared.kinds.HostCap.{HostCap}
 use Rattle.sg_activity.specs.Hosts.{host_at, offer_of, offers_of}

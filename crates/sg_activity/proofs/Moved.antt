@@ -136,6 +136,7 @@ module _ (c new : Capacities) (resource : ℕ) (moved : IsMoved c new resource) 
       apart = is.links.apart;
       exist = subst (λ n. All (λ (link : LinkId). link.0 < n) way.links) (sym moved.links) is.links.exist;
       few = is.links.few;
+      small = omega (arith, is.links.small, moved.links);
     };
     sender = omega (arith, is.sender, moved.hosts);
     receiver = omega (arith, is.receiver, moved.hosts);

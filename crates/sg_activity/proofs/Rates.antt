@@ -1,5 +1,5 @@
 -- The flows that are kept are those of the phases under way, and go at their rates.
-use Rattle.std.proofs.Common.{◌≡◌, ◌≢◌, ℕ, zero, suc, ◌+◌, ◌-◌, ◌==◌, ◌<◌, ◌≤◌, ◌⊎◌, inl, inr, Bool, true, false, cond, ◌||◌, Option, None, Some, option_map, List, [], ◌∷◌, length, map, get_or, filter_map, slice_index, IsTrue, IsSome, refl, sym, ap, ap₂, subst, ◌∙◌, arith}
+use Rattle.std.proofs.Common.{◌≡◌, ℕ, zero, suc, ◌+◌, ◌-◌, ◌<◌, ◌≤◌, ◌⊎◌, inl, inr, Bool, true, false, cond, ◌||◌, Option, None, Some, option_map, List, [], ◌∷◌, length, map, get_or, filter_map, slice_index, IsTrue, refl, sym, ap, subst, ◌∙◌, arith}
 use Rattle.std.specs.List.{cons_option}
 use Rattle.std.specs.Prelude.{Contains}
 use Rattle.std.proofs.lemmas.Option.{cond_some}
@@ -21,7 +21,7 @@ use Rattle.sg_activity.specs.Underway.{is_rebound, rate, wait, wait_in, running_
 use Rattle.sg_activity.specs.kept.Stamps.{left_at}
 use Rattle.sg_activity.specs.kept.Pool.{slot_at, IsMissing}
 use Rattle.sg_activity.specs.kept.State.{State, task_of, asked_by, serial_in, serial_at, is_so, told_at, told_by, began_at, under_of}
-use Rattle.sg_activity.specs.kept.Sound.{AreApart, IsFlowOf, IsKept, run_of}
+use Rattle.sg_activity.specs.kept.Sound.{IsFlowOf, IsKept, run_of}
 use Rattle.sg_activity.proofs.Listing.{some_same, length-listed, at_listed, past_listed}
 use Rattle.sg_activity.proofs.Lookup.{Sought, told_found, told_from, told_missed}
 use Rattle.sg_activity.proofs.Pairing.{part, paired_sums, there_within, sum_by-there, sum_alike}

@@ -11,11 +11,12 @@ use Rattle.sg_activity.specs.declared.kept.Kept.{Kept}
 use Rattle.sg_activity.specs.declared.lives.Live.{Live}
 use Rattle.sg_activity.specs.Links.{Capacities, capacities_of, machines}
 use Rattle.sg_activity.specs.Task.{Task, flow_of, is_rebound_at, takes_share}
-use Rattle.sg_activity.specs.kept.Index.{Indexed, IsIndexed, row_at, used_at, used_by}
+use Rattle.sg_activity.specs.kept.Index.{IsIndexed, used_at, used_by}
+use Rattle.sg_activity.specs.kept.Rows.{Indexed, row_at, way_in}
 use Rattle.sg_activity.specs.kept.Pool.{slot_at}
 use Rattle.sg_activity.specs.kept.Bounds.{HasFlows, Rebounds, Resets, rebound_to}
 use Rattle.sg_activity.specs.kept.Sound.{HasFlow, HasRoom, IsKept, IsPlace, IsSound, place_at}
-use Rattle.sg_activity.specs.kept.State.{State, asked_by, links_at, state_of, task_of}
+use Rattle.sg_activity.specs.kept.State.{State, asked_by, place_of, task_from, links_at, state_of, task_of, ways_of}
 use Rattle.sg_activity.specs.kept.Whole.{IsUsed}
 use Rattle.sg_activity.proofs.Moved.{IsMoved, bound_moved, flow_bound, in_times, place_moved, rebound_moved, rebound_more, rebound_some, uses_moved, weight_moved, bound_at}
 use Rattle.sg_activity.proofs.Pooled.{within_there}
@@ -37,14 +38,14 @@ module _ (kept : Kept) (index : Indexed) (used : IsUsed kept index) (both : AreB
       subst (λ n. n < length kept.lives.slots) (get_or_default users k 0 d within) (within_there kept.lives.slots key (go key (slot_at kept.lives.slots key) refl there))
     where
       go : (key : ℕ) (o : Option Live) → slot_at kept.lives.slots key ≡ o → is_in thing (row_at index.rows key) ≡ true → IsSome (slot_at kept.lives.slots key)
-      go key None e there = absurd (true≢false (sym there ∙ ap (is_in thing) (used.rows key ∙ ap (used_by (length kept.hosts.items) (length kept.links.items) (links_at kept.ways.items key)) e)))
+      go key None e there = absurd (true≢false (sym there ∙ ap (is_in thing) (used.rows key ∙ ap (used_by (length kept.hosts.items) (length kept.links.items) (links_at (ways_of kept) key)) e)))
       go key (Some live) e there = subst IsSome (sym e) refl
 
   -- and each that uses it is there
   pub is_user : (key : ℕ) (live : Live) → slot_at kept.lives.slots key ≡ Some live → is_in key (users_on index.users thing) ≡ is_in thing (used_at (length kept.hosts.items) (length kept.links.items) (place_at (state_of kept) key live))
   is_user key live at =
       in_times key thing (users_on index.users thing) (row_at index.rows key) (both key thing)
-      ∙ ap (is_in thing) (used.rows key ∙ ap (used_by (length kept.hosts.items) (length kept.links.items) (links_at kept.ways.items key)) at)
+      ∙ ap (is_in thing) (used.rows key ∙ ap (used_by (length kept.hosts.items) (length kept.links.items) (links_at (ways_of kept) key)) at)
 
 or_true : (b : Bool) → (b || true) ≡ true
 or_true true = refl
@@ -136,6 +137,7 @@ module _ (s : State) (capacities : Capacities) (resource : ℕ) (runs : List (Op
           weighs = h.weighs;
           paced = h.paced;
           placed = place_moved s.capacities capacities resource moved (place_at s key live) h.placed;
+          counted = h.counted;
           flow = λ full. flow_held key live at full (h.flow full);
           dated = h.dated;
         };
@@ -151,17 +153,27 @@ module _ (s : State) (capacities : Capacities) (resource : ℕ) (runs : List (Op
   }
 
 -- ---- what is kept
-module _ (kept mid : Kept) (capacities : Capacities) (resource value : ℕ) (sound : IsSound kept) (moved : IsMoved (state_of kept).capacities capacities resource) (rest : mid ≡ record kept { hosts = mid.hosts; links = mid.links; lazy = mid.lazy })
+module _ (kept mid : Kept) (capacities : Capacities) (resource value : ℕ) (sound : IsSound kept) (used : IsUsed kept kept.index) (moved : IsMoved (state_of kept).capacities capacities resource) (rest : mid ≡ record kept { hosts = mid.hosts; links = mid.links; lazy = mid.lazy })
     (caps : machines mid.hosts.items mid.links.items ≡ capacities) (lazy : mid.lazy ≡ with_capacity kept.lazy resource value) (offered : set (capacities_of (state_of kept).capacities) resource value ≡ capacities_of capacities) where
   abbrev s : State
   s = state_of kept
 
+  -- as many hosts are there
+  hosts_long : length mid.hosts.items ≡ length kept.hosts.items
+  hosts_long = ap (λ (c : Capacities). length c.hosts) caps ∙ moved.hosts
+
   pub flows_reset : HasFlows mid
   flows_reset = subst HasFlows (sym rest) (record {
-    places = λ key live at. subst (λ c. IsPlace c (place_at s key live)) (sym caps) (place_moved s.capacities capacities resource moved (place_at s key live) (sound.are.each key live at).placed);
+    places = λ key live at.
+        subst (λ n. IsPlace (machines mid.hosts.items mid.links.items) (place_of live.kind live.host live.peer (way_in n (row_at kept.index.rows key)))) (sym hosts_long)
+        (subst (λ c. IsPlace c (place_at s key live)) (sym caps) (place_moved s.capacities capacities resource moved (place_at s key live) (sound.are.each key live at).placed));
     runs = λ key live at full. subst IsSome (sym (ap (λ (l : Lazily). running_at l.slots live.flow) lazy ∙ ((sound.are.each key live at).flow full).runs)) refl;
     own = λ key live at full. ((sound.are.each key live at).flow full).known;
-    ways_long = sound.room.ways_long;
+    rows = λ key live at.
+        used.rows key ∙ ap (used_by (length kept.hosts.items) (length kept.links.items) (links_at s.ways key)) at
+        ∙ ap₂ (λ n m. used_by n m (links_at s.ways key) (Some live)) (sym moved.hosts) (sym moved.links)
+        ∙ ap₂ (λ (c : Capacities) (n : ℕ). used_by (length c.hosts) (length c.links) (way_in n (row_at kept.index.rows key)) (Some live)) (sym caps) (sym hosts_long);
+    rows_long = sound.room.rows_long;
   })
 
   module _ (new : Kept) (keys : List ℕ) (by : Rebounds mid new keys) (covers : (key : ℕ) (live : Live) → slot_at kept.lives.slots key ≡ Some live → is_in key keys ≡ is_rebound_at s.capacities (resource ∷ []) (place_at s key live)) where
@@ -178,7 +190,9 @@ module _ (kept mid : Kept) (capacities : Capacities) (resource value : ℕ) (sou
         running_at new.lazy.slots live.flow ≡ cond (is_rebound_at s.capacities (resource ∷ []) (place_at s key live)) (option_map (rebound_to (flow_of capacities (task_of s key live)).bound) (running_at s.runs live.flow)) (running_at s.runs live.flow)
     rebound key live at full =
         let bound : (asked_by (state_of mid) key live).bound ≡ (flow_of capacities (task_of s key live)).bound =
-        ap (λ (m : Kept). (asked_by (state_of m) key live).bound) rest ∙ ap (λ c. (flow_of c (task_of s key live)).bound) caps in
+        ap (λ (m : Kept). (asked_by (state_of m) key live).bound) rest
+        ∙ ap (λ n. (flow_of (machines mid.hosts.items mid.links.items) (task_from s.date (way_in n (row_at kept.index.rows key)) live)).bound) hosts_long
+        ∙ ap (λ c. (flow_of c (task_of s key live)).bound) caps in
         let same : running_at mid.lazy.slots live.flow ≡ running_at s.runs live.flow = ap (λ (l : Lazily). running_at l.slots live.flow) lazy in
         by.runs key live (ap (λ (m : Kept). slot_at m.lives.slots key) rest ∙ at) full
         ∙ ap₂ (λ b o. cond (is_in key keys) (option_map (rebound_to b) o) o) bound same
@@ -190,6 +204,7 @@ module _ (kept mid : Kept) (capacities : Capacities) (resource value : ℕ) (sou
     state_is : state_of (record new { settled = false }) ≡ record s { capacities = capacities; runs = new.lazy.slots; resources = with_mark resource kept.lazy.resources; settled = false }
     state_is =
         ap state_of new_rest
+        ∙ ap (λ n. record s { capacities = machines mid.hosts.items mid.links.items; ways = λ key. way_in n (row_at kept.index.rows key); runs = new.lazy.slots; ended = new.lazy.ended; resources = new.lazy.resources; settled = false }) hosts_long
         ∙ ap₂ (λ c e. record s { capacities = c; runs = new.lazy.slots; ended = e; resources = new.lazy.resources; settled = false }) caps (ap (λ (l : Lazily). l.ended) new_lazy)
         ∙ ap (λ r. record s { capacities = capacities; runs = new.lazy.slots; resources = r; settled = false }) (ap (λ (l : Lazily). l.resources) new_lazy)
 
@@ -200,9 +215,10 @@ module _ (kept mid : Kept) (capacities : Capacities) (resource value : ℕ) (sou
       early = sound.room.early;
       flows = sound.room.flows;
       flow_room = omega (arith, sound.room.flow_room, ap (λ (l : Lazily). l.flow_room) new_lazy);
+      uses = sound.room.uses;
       use_room = omega (arith, sound.room.use_room, ap (λ (l : Lazily). l.use_room) new_lazy);
       keys_free = sound.room.keys_free;
-      ways_long = sound.room.ways_long;
+      rows_long = sound.room.rows_long;
       agenda_long = sound.room.agenda_long;
       fresh_room = sound.room.fresh_room;
       by_flow_long = omega (arith, sound.room.by_flow_long, by.long, ap (λ (l : Lazily). length l.slots) lazy);
@@ -215,15 +231,16 @@ module _ (kept mid : Kept) (capacities : Capacities) (resource value : ℕ) (sou
         are = subst IsKept (sym state_is) (reset_kept s capacities resource new.lazy.slots sound.are moved rebound back);
         room = subst HasRoom (sym new_rest) room;
       };
+      index = ap (λ (k : Kept). k.index) new_rest;
       room = ap (λ (k : Kept). k.room) new_rest;
     }
 
 -- what is used stays
-pub used_reset : (kept new : Kept) (capacities : Capacities) (resource : ℕ) (index : Indexed) → IsMoved (state_of kept).capacities capacities resource → Resets kept new capacities resource → IsUsed kept index → IsUsed new index
-used_reset kept new capacities resource index moved by is =
-    subst (λ (s : State). IsIndexed s.capacities s.slots s.ways new.room index) (sym by.state) (record {
-      rows = λ key. is.rows key ∙ ap₂ (λ n m. used_by n m (links_at kept.ways.items key) (slot_at kept.lives.slots key)) (sym moved.hosts) (sym moved.links);
+pub used_reset : (kept new : Kept) (capacities : Capacities) (resource : ℕ) → IsMoved (state_of kept).capacities capacities resource → Resets kept new capacities resource → IsUsed kept kept.index → IsUsed new new.index
+used_reset kept new capacities resource moved by is =
+    subst (λ (s : State). IsIndexed s.capacities s.slots s.ways new.room new.index) (sym by.state) (subst (IsIndexed capacities kept.lives.slots (ways_of kept) new.room) (sym by.index) (record {
+      rows = λ key. is.rows key ∙ ap₂ (λ n m. used_by n m (links_at (ways_of kept) key) (slot_at kept.lives.slots key)) (sym moved.hosts) (sym moved.links);
       long = is.long;
       things = is.things ∙ ap₂ (λ h l. h + l + h) (sym moved.hosts) (sym moved.links);
       uses_free = omega (arith, is.uses_free, by.room);
-    })
+    }))

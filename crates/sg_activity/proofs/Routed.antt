@@ -79,6 +79,18 @@ shared_once hosts links (link ∷ route) once = cases (link_at links link).fatpi
     cases true more = more
     cases false more = AllPairs-cons (λ a c. a ≢ c) (hosts + link.0) (shared_of hosts links route) (shared_other hosts links link route (pairs_head (λ a c. a ≢ c) link route once)) more
 
+-- as many as links at most
+pub shared_few : (hosts : ℕ) (links : List LinkCap) (route : List LinkId) → length (shared_of hosts links route) ≤ length route
+shared_few hosts links [] = omega arith
+shared_few hosts links (link ∷ route) = cases (link_at links link).fatpipe (shared_few hosts links route)
+  where
+    rest : List LinkId
+    rest = filter (λ l. not (link_at links l).fatpipe) route
+
+    cases : (b : Bool) → length (shared_of hosts links route) ≤ length route → length (map (λ (l : LinkId). hosts + l.0) (cond (not b) (link ∷ rest) rest)) ≤ suc (length route)
+    cases true fewer = omega (arith, fewer)
+    cases false fewer = omega (arith, fewer)
+
 pub sooner_some : (n : ℕ) (o : Option ℕ) → IsSome (sooner (Some n) o)
 sooner_some n None = refl
 sooner_some n (Some m) = refl

@@ -1,10 +1,10 @@
 -- Whether something is under way.
-use Rattle.std.proofs.Common.{◌≡◌, ℕ, zero, suc, ◌+◌, ◌-◌, ◌==◌, ◌<◌, ◌≤◌, ◌⊎◌, inl, inr, Bool, true, false, true≢false, not, ◌||◌, count_by, Option, None, Some, List, [], ◌∷◌, get_or, refl, sym, ap, ap₂, ◌∙◌, arith}
+use Rattle.std.proofs.Common.{◌≡◌, ℕ, zero, suc, ◌+◌, ◌-◌, ◌==◌, ◌<◌, ◌≤◌, ◌⊎◌, inl, inr, Bool, true, false, true≢false, not, ◌||◌, count_by, Option, None, List, [], ◌∷◌, get_or, refl, sym, ap, ap₂, ◌∙◌, arith}
 use Rattle.std.specs.List.{list_any}
 use Rattle.sg_activity.specs.Slots.{passes}
 use Rattle.sg_activity.specs.Task.{Task, goes}
 use Rattle.sg_activity.specs.Underway.{is_running}
-use Rattle.sg_activity.specs.kept.Pool.{goes_on, slot_at}
+use Rattle.sg_activity.specs.kept.Pool.{goes_on}
 use Rattle.sg_activity.specs.kept.State.{State, task_of, told_at, told_by, under_of}
 use Rattle.sg_activity.specs.kept.Sound.{IsKept}
 use Rattle.sg_activity.proofs.Listing.{at_listed, past_listed}

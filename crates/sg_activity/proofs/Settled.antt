@@ -1,7 +1,6 @@
 -- The rates are brought up to date: all stays of one mind, and what is left of each activity is told as before.
-use Rattle.std.proofs.Common.{◌≡◌, ℕ, zero, suc, map, replicate, option_and_then, ◌+◌, ◌-◌, ◌*◌, ◌^◌, ◌<◌, ◌≤◌, ◌⊎◌, inl, inr, Bool, true, false, cond, ◌||◌, ◌&&◌, true≢false, Option, None, Some, option_map, List, [], ◌∷◌, length, get_or, slice_index, sum_by, All, IsTrue, IsSome, refl, sym, ap, ap₂, subst, ◌∙◌, arith}
+use Rattle.std.proofs.Common.{◌≡◌, ℕ, zero, suc, map, replicate, option_and_then, ◌+◌, ◌-◌, ◌*◌, ◌^◌, ◌<◌, ◌⊎◌, inl, inr, Bool, true, false, cond, ◌||◌, ◌&&◌, true≢false, Option, None, Some, option_map, List, [], ◌∷◌, length, get_or, slice_index, sum_by, All, IsTrue, IsSome, refl, sym, ap, ap₂, subst, ◌∙◌, arith}
 use Rattle.std.specs.List.{list_any}
-use Rattle.std.specs.Option.{IfSome}
 use Rattle.sg_base.specs.declared.ids.LinkId.{LinkId}
 use Rattle.sg_base.specs.MarkSet.{MarkSet, is_in}
 use Rattle.sg_heap.specs.Agenda.{Key, key_at}
@@ -11,13 +10,12 @@ use Rattle.sg_lazy.specs.RunningFlow.{RunningFlow, running_at, flow_under, flows
 use Rattle.sg_activity.specs.declared.lives.Live.{Live}
 use Rattle.sg_activity.specs.Links.{Capacities, capacities_of, link_at}
 use Rattle.sg_activity.specs.Task.{Place, nowhere, on_host, over, takes_share, is_rebound_at}
-use Rattle.sg_activity.specs.Underway.{wait, settled}
+use Rattle.sg_activity.specs.Underway.{settled}
 use Rattle.sg_activity.specs.Doing.{settled_in}
-use Rattle.sg_activity.specs.kept.Stamps.{left_at, due_of}
+use Rattle.sg_activity.specs.kept.Stamps.{left_at}
 use Rattle.sg_activity.specs.kept.Pool.{Pool, slot_at}
 use Rattle.sg_activity.specs.kept.State.{State, links_at, task_from, task_of, asked_by, date_of, is_so, key_from, told_at, told_by, began_at, began_by, under_of, doing_of}
-use Rattle.sg_activity.specs.kept.Sound.{IsHeld, AreApart, IsKept, slot_ahead, place_at, run_of}
-use Rattle.sg_activity.specs.Task.{flows_ahead}
+use Rattle.sg_activity.specs.kept.Sound.{IsHeld, AreApart, IsKept, slot_ahead, slot_uses, place_at, run_of}
 use Rattle.sg_activity.specs.kept.Renewal.{IsKeyed, HaveKeys, rate_in, is_among, restamped, is_renewed, AreRestamped, AreSmall, date_in, AreRenewed}
 use Rattle.sg_activity.proofs.Listing.{eq_cases, length-listed, some_same, same_listed}
 use Rattle.sg_activity.specs.Slots.{listed, passes}
@@ -159,6 +157,7 @@ module _ (s : State) (lazy new : Lazily) (pool : Pool) (marks more : MarkSet) (k
               weighs = h.weighs;
               paced = λ empty. absurd (true≢false (sym full.0 ∙ empty));
               placed = h.placed;
+              counted = h.counted;
               flow = λ _.
                   let has = h.flow full.0 in
                   let r = runs_now w.old.flow (run_of s key w.old) has.runs in
@@ -183,6 +182,7 @@ module _ (s : State) (lazy new : Lazily) (pool : Pool) (marks more : MarkSet) (k
               weighs = h.weighs;
               paced = h.paced;
               placed = h.placed;
+              counted = h.counted;
               flow = λ full.
                   let has = h.flow full in
                   let r = runs_now w.old.flow (run_of s key w.old) has.runs in
@@ -346,14 +346,22 @@ marked_below s flows members slots is marked long k d within =
     let less : key < length slots = omega (arith, there, long) in
     subst (λ n. n < length slots) (get_or_default members k 0 d within) less
 
-ahead_same : (flows : List ℕ) (runs : List (Option RunningFlow)) (date : ℕ) (o : Option Live) → slot_ahead (option_map (restamped flows runs date) o) ≡ slot_ahead o
-ahead_same flows runs date None = refl
-ahead_same flows runs date (Some live) = go (is_among flows live)
-  where
-    go : (b : Bool) → flows_ahead (cond b (record live { kept = left_at live.kept live.rate live.stamp date; stamp = date; rate = rate_in (running_at runs live.flow) }) live).kind ≡ flows_ahead live.kind
-    go true = refl
-    go false = refl
+-- what a slot adds to a sum doesn't change as its rate does
+module _ (f : Option Live → ℕ) (same : (live : Live) (kept stamp rate : ℕ) → f (Some (record live { kept = kept; stamp = stamp; rate = rate })) ≡ f (Some live)) where
+  slot_same : (flows : List ℕ) (runs : List (Option RunningFlow)) (date : ℕ) (o : Option Live) → f (option_map (restamped flows runs date) o) ≡ f o
+  slot_same flows runs date None = refl
+  slot_same flows runs date (Some live) = go (is_among flows live)
+    where
+      go : (b : Bool) → f (Some (cond b (record live { kept = left_at live.kept live.rate live.stamp date; stamp = date; rate = rate_in (running_at runs live.flow) }) live)) ≡ f (Some live)
+      go true = same live (left_at live.kept live.rate live.stamp date) date (rate_in (running_at runs live.flow))
+      go false = refl
 
--- as many flows are to come
+  sum_stamped : (flows : List ℕ) (runs : List (Option RunningFlow)) (date : ℕ) (old new : List (Option Live)) → ((key : ℕ) → slot_at new key ≡ option_map (restamped flows runs date) (slot_at old key)) → length new ≡ length old → sum_by f new ≡ sum_by f old
+  sum_stamped flows runs date old new stamped long = sum_alike f f new old None None long (λ i. ap f (stamped i) ∙ slot_same flows runs date (slot_at old i))
+
+-- as many flows are to come, over as many links
 pub ahead_stamped : (flows : List ℕ) (runs : List (Option RunningFlow)) (date : ℕ) (old new : List (Option Live)) → ((key : ℕ) → slot_at new key ≡ option_map (restamped flows runs date) (slot_at old key)) → length new ≡ length old → sum_by slot_ahead new ≡ sum_by slot_ahead old
-ahead_stamped flows runs date old new stamped long = sum_alike slot_ahead slot_ahead new old None None long (λ i. ap slot_ahead (stamped i) ∙ ahead_same flows runs date (slot_at old i))
+ahead_stamped = sum_stamped slot_ahead (λ live kept stamp rate. refl)
+
+pub uses_stamped : (flows : List ℕ) (runs : List (Option RunningFlow)) (date : ℕ) (old new : List (Option Live)) → ((key : ℕ) → slot_at new key ≡ option_map (restamped flows runs date) (slot_at old key)) → length new ≡ length old → sum_by slot_uses new ≡ sum_by slot_uses old
+uses_stamped = sum_stamped slot_uses (λ live kept stamp rate. refl)

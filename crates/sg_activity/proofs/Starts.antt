@@ -6,10 +6,11 @@ use Rattle.sg_base.specs.MarkSet.{is_in}
 use Rattle.sg_heap.specs.Agenda.{key_at}
 use Rattle.sg_maxmin.specs.Sharing.{HasLimit}
 use Rattle.sg_lazy.specs.RunningFlow.{RunningFlow, running_at}
+use Rattle.sg_activity.specs.declared.kinds.PhaseKind.TheVariants as phase
 use Rattle.sg_activity.specs.declared.lives.Live.{Live}
 use Rattle.sg_activity.specs.Task.{takes_share, pace, is_rebound_at}
 use Rattle.sg_activity.specs.kept.Pool.{slot_at}
-use Rattle.sg_activity.specs.kept.State.{State, task_of, asked_by, date_of, dated, due_at, told_at}
+use Rattle.sg_activity.specs.kept.State.{State, links_at, task_of, asked_by, date_of, dated, due_at, told_at}
 use Rattle.sg_activity.specs.kept.Sound.{IsPlace, IsHeld, IsFlowOf, IsKept, place_at}
 use Rattle.sg_activity.proofs.Listing.{some_same}
 use Rattle.sg_activity.proofs.Lookup.{told_none}
@@ -23,8 +24,8 @@ undated fresh key live e = ap (λ b. cond b None (date_of live)) e
 
 -- of an activity that takes no share
 pub held_unfilled : (new : State) (key : ℕ) (live : Live) → takes_share live.kind ≡ false → 0 < live.serial → live.serial ≤ new.drawn → live.stamp ≡ new.date → live.rate ≡ pace live.kind → live.kept ≤ 10 ^ 24 → live.bytes ≤ 10 ^ 15 → IsPriority live.weight →
-    IsPlace new.capacities (place_at new key live) → is_in key new.fresh ≡ true → key_at new.keys key ≡ None → IsHeld new key live
-held_unfilled new key live empty from to stamp rate small bytes weighs placed fresh no_key = record {
+    IsPlace new.capacities (place_at new key live) → (live.kind ≡ phase.Latency → length (links_at new.ways key) ≤ live.links) → is_in key new.fresh ≡ true → key_at new.keys key ≡ None → IsHeld new key live
+held_unfilled new key live empty from to stamp rate small bytes weighs placed counted fresh no_key = record {
   from = from;
   to = to;
   stamped = omega (arith, stamp);
@@ -34,6 +35,7 @@ held_unfilled new key live empty from to stamp rate small bytes weighs placed fr
   weighs = weighs;
   paced = λ _. rate;
   placed = placed;
+  counted = counted;
   flow = λ full. absurd (true≢false (sym full ∙ empty));
   dated = no_key ∙ sym (undated new.fresh key live fresh);
 }
@@ -51,6 +53,7 @@ held_filled new key live full from to stamp small bytes weighs runs limit placed
   weighs = weighs;
   paced = λ empty. absurd (true≢false (sym full ∙ empty));
   placed = placed;
+  counted = λ latency. absurd (true≢false (sym full ∙ ap takes_share latency));
   flow = λ _. record {
     runs = runs ∙ ap (λ b. Some (record { flow = asked_by new key live; rate = live.rate; began = b; marked = b || is_rebound_at new.capacities new.resources (place_at new key live) })) (sym fresh);
     limit = limit;

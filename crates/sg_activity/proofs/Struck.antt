@@ -1,6 +1,5 @@
 -- The first that uses something that is off, and what is told of it.
-use Rattle.std.proofs.Common.{◌≡◌, ◌≢◌, ℕ, zero, suc, ◌+◌, ◌-◌, ◌==◌, ◌<◌, ◌≤◌, ◌⊎◌, inl, inr, Bool, true, false, cond, not, Option, None, Some, List, [], ◌∷◌, map, set, get_or, refl, sym, ap, ◌∙◌, arith}
-use Rattle.sg_base.specs.MarkSet.{is_in}
+use Rattle.std.proofs.Common.{◌≡◌, ◌≢◌, ℕ, zero, suc, ◌+◌, ◌-◌, ◌==◌, ◌<◌, ◌≤◌, ◌⊎◌, inl, inr, Bool, true, false, cond, not, Option, None, Some, List, [], ◌∷◌, set, get_or, refl, sym, ap, ◌∙◌, arith}
 use Rattle.sg_heap.specs.Agenda.{Key, IsLeast, IsNoLater, key_at}
 use Rattle.sg_activity.specs.declared.lives.Live.{Live}
 use Rattle.sg_activity.specs.Slots.{passes, serials}
@@ -9,7 +8,7 @@ use Rattle.sg_activity.specs.Underway.{hits, with_task}
 use Rattle.sg_activity.specs.Doing.{IsHit, without}
 use Rattle.sg_activity.specs.kept.Hits.{AreHits, hit_in}
 use Rattle.sg_activity.specs.kept.Pool.{IsMissing, slot_at}
-use Rattle.sg_activity.specs.kept.State.{State, links_at, task_of, serial_at, is_now, is_so, told_at, told_by, under_of, doing_of}
+use Rattle.sg_activity.specs.kept.State.{State, links_at, task_of, is_now, is_so, told_at, told_by, under_of, doing_of}
 use Rattle.sg_activity.specs.kept.Sound.{IsKept, place_at}
 use Rattle.sg_activity.specs.kept.Turns.{Turns}
 use Rattle.sg_activity.proofs.Listing.{bool_cases, some_same, length-listed, at_listed, past_listed, serials_none, serials_first}

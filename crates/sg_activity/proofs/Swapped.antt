@@ -1,11 +1,12 @@
 -- An activity takes the place of one that goes on there: the same is used, and hit.
-use Rattle.std.proofs.Common.{◌≡◌, ℕ, ◌≤◌, inl, inr, Option, None, Some, List, length, length-set, set, refl, sym, ap, ap₂, ◌∙◌}
+use Rattle.std.proofs.Common.{◌≡◌, ℕ, ◌≤◌, inl, inr, Option, Some, List, length, length-set, set, sym, ap, ◌∙◌}
 use Rattle.sg_base.specs.declared.ids.LinkId.{LinkId}
 use Rattle.sg_heap.specs.Agenda.{Key}
 use Rattle.sg_activity.specs.declared.lives.Live.{Live}
 use Rattle.sg_activity.specs.Links.{Capacities, Switches}
 use Rattle.sg_activity.specs.kept.Hits.{AreHits, hit_in}
-use Rattle.sg_activity.specs.kept.Index.{Indexed, IsIndexed, used_by}
+use Rattle.sg_activity.specs.kept.Index.{IsIndexed, used_by}
+use Rattle.sg_activity.specs.kept.Rows.{Indexed}
 use Rattle.sg_activity.specs.kept.Pool.{slot_at}
 use Rattle.sg_activity.specs.kept.State.{links_at}
 use Rattle.sg_activity.proofs.Hitting.{hits_still}
@@ -28,9 +29,9 @@ module _ (slots others : List (Option Live)) (key : ℕ) (old live : Live) (at :
   long : length others ≡ length slots
   long = ap length swapped ∙ length-set slots key (Some live)
 
-  pub used_swapped : (c : Capacities) (ways : List (List LinkId)) (room more : ℕ) (index : Indexed) → IsIndexed c slots ways room index → used_by (length c.hosts) (length c.links) (links_at ways key) (Some live) ≡ used_by (length c.hosts) (length c.links) (links_at ways key) (Some old) → more ≤ room →
+  pub used_swapped : (c : Capacities) (ways : ℕ → List LinkId) (room more : ℕ) (index : Indexed) → IsIndexed c slots ways room index → used_by (length c.hosts) (length c.links) (links_at ways key) (Some live) ≡ used_by (length c.hosts) (length c.links) (links_at ways key) (Some old) → more ≤ room →
       IsIndexed c others ways more index
   used_swapped c ways room more index is same fewer = used_still c slots ways room index is others ways more (alike (λ k o. used_by (length c.hosts) (length c.links) (links_at ways k) o) same) long fewer
 
-  pub hits_swapped : (on : Switches) (ways : List (List LinkId)) (hits : List (Option Key)) → AreHits on slots ways hits → hit_in on (links_at ways key) (Some live) ≡ hit_in on (links_at ways key) (Some old) → AreHits on others ways hits
+  pub hits_swapped : (on : Switches) (ways : ℕ → List LinkId) (hits : List (Option Key)) → AreHits on slots ways hits → hit_in on (links_at ways key) (Some live) ≡ hit_in on (links_at ways key) (Some old) → AreHits on others ways hits
   hits_swapped on ways hits is same = hits_still on slots ways hits is others ways (alike (λ k o. hit_in on (links_at ways k) o) same) long

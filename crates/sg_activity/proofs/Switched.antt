@@ -10,10 +10,11 @@ use Rattle.sg_activity.specs.declared.lives.Live.{Live}
 use Rattle.sg_activity.specs.Links.{Switches, is_off}
 use Rattle.sg_activity.specs.Task.{Place, nowhere, on_host, over, uses_off}
 use Rattle.sg_activity.specs.kept.Hits.{AreHit, AreHits, AreLooked, AreOn, ArePlaced, hit_in}
-use Rattle.sg_activity.specs.kept.Index.{Indexed, used_at}
+use Rattle.sg_activity.specs.kept.Index.{used_at}
+use Rattle.sg_activity.specs.kept.Rows.{Indexed}
 use Rattle.sg_activity.specs.kept.Pool.{slot_at}
 use Rattle.sg_activity.specs.kept.Sound.{HasRoom, IsKept, IsSound, place_at}
-use Rattle.sg_activity.specs.kept.State.{State, links_at, state_of}
+use Rattle.sg_activity.specs.kept.State.{State, links_at, state_of, ways_of}
 use Rattle.sg_activity.proofs.Listing.{eq_cases}
 use Rattle.sg_activity.proofs.Told.{in_last, in_more}
 use Rattle.sg_activity.proofs.Reset.{AreBothWays, is_user}
@@ -72,6 +73,7 @@ flipped_kept s on is = record {
         weighs = h.weighs;
         paced = h.paced;
         placed = h.placed;
+        counted = h.counted;
         flow = λ full. let f = h.flow full in record { runs = f.runs; limit = f.limit; within = f.within; known = f.known };
         dated = h.dated;
       };
@@ -92,9 +94,10 @@ flipped_sound kept new on is rest state = record {
     early = is.room.early;
     flows = is.room.flows;
     flow_room = is.room.flow_room;
+    uses = is.room.uses;
     use_room = is.room.use_room;
     keys_free = is.room.keys_free;
-    ways_long = is.room.ways_long;
+    rows_long = is.room.rows_long;
     agenda_long = is.room.agenda_long;
     fresh_room = is.room.fresh_room;
     by_flow_long = is.room.by_flow_long;
@@ -107,7 +110,7 @@ all_placed kept is key live at = (is.are.each key live at).placed
 -- as many are on or off
 pub switches_alike : (s new : State) → new.on ≡ s.on → length new.capacities.hosts ≡ length s.capacities.hosts → length new.capacities.links ≡ length s.capacities.links → AreOn s → AreOn new
 switches_alike s new on hosts links is =
-    (ap (λ (o : Switches). length o.hosts) on ∙ is.0 ∙ sym hosts, (ap (λ (o : Switches). length o.links) on ∙ is.1.0 ∙ sym links, omega (arith, hosts, links, is.1.1)))
+    (ap (λ (o : Switches). length o.hosts) on ∙ is.0 ∙ sym hosts, (ap (λ (o : Switches). length o.links) on ∙ is.1.0 ∙ sym links, (omega (arith, hosts, links, is.1.1.0), omega (arith, links, is.1.1.1))))
 
 -- ---- who is hit
 last : (x y : Bool) (p q : Option Key) → (x ≡ false → y ≡ false → q ≡ p) → cond y p (cond x p q) ≡ p
@@ -124,20 +127,20 @@ module _ (kept : Kept) (index : Indexed) (used : IsUsed kept index) (both : AreB
 
   -- what is hit under a key
   abbrev hit_now : Switches → ℕ → Option Key
-  hit_now on key = hit_in on (links_at kept.ways.items key) (slot_at kept.lives.slots key)
+  hit_now on key = hit_in on (links_at (ways_of kept) key) (slot_at kept.lives.slots key)
 
   -- what stays as it was
   stays : (on : Switches) (key : ℕ) → ((live : Live) → slot_at kept.lives.slots key ≡ Some live → uses_off on (place_at (state_of kept) key live) ≡ uses_off (state_of kept).on (place_at (state_of kept) key live)) → key_at hits key ≡ hit_now on key
   stays on key same = are.each key ∙ go (slot_at kept.lives.slots key) refl
     where
-      go : (o : Option Live) → slot_at kept.lives.slots key ≡ o → hit_in (state_of kept).on (links_at kept.ways.items key) (slot_at kept.lives.slots key) ≡ hit_in on (links_at kept.ways.items key) (slot_at kept.lives.slots key)
-      go None e = ap (hit_in (state_of kept).on (links_at kept.ways.items key)) e ∙ sym (ap (hit_in on (links_at kept.ways.items key)) e)
+      go : (o : Option Live) → slot_at kept.lives.slots key ≡ o → hit_in (state_of kept).on (links_at (ways_of kept) key) (slot_at kept.lives.slots key) ≡ hit_in on (links_at (ways_of kept) key) (slot_at kept.lives.slots key)
+      go None e = ap (hit_in (state_of kept).on (links_at (ways_of kept) key)) e ∙ sym (ap (hit_in on (links_at (ways_of kept) key)) e)
       go (Some live) e =
-          ap (hit_in (state_of kept).on (links_at kept.ways.items key)) e ∙ ap (λ b. cond b (Some (record { date = 0; serial = live.serial })) None) (sym (same live e))
-          ∙ sym (ap (hit_in on (links_at kept.ways.items key)) e)
+          ap (hit_in (state_of kept).on (links_at (ways_of kept) key)) e ∙ ap (λ b. cond b (Some (record { date = 0; serial = live.serial })) None) (sym (same live e))
+          ∙ sym (ap (hit_in on (links_at (ways_of kept) key)) e)
 
-  pub hosts_looked : (host : ℕ) (b : Bool) (first second : List (Option Key)) → AreLooked (record (state_of kept).on { hosts = set kept.hosts_on.items host b }) kept.lives.slots kept.ways.items hits first (users_on index.users host) →
-      AreLooked (record (state_of kept).on { hosts = set kept.hosts_on.items host b }) kept.lives.slots kept.ways.items first second (users_on index.users (hosts + links + host)) → AreHits (record (state_of kept).on { hosts = set kept.hosts_on.items host b }) kept.lives.slots kept.ways.items second
+  pub hosts_looked : (host : ℕ) (b : Bool) (first second : List (Option Key)) → AreLooked (record (state_of kept).on { hosts = set kept.hosts_on.items host b }) kept.lives.slots (ways_of kept) hits first (users_on index.users host) →
+      AreLooked (record (state_of kept).on { hosts = set kept.hosts_on.items host b }) kept.lives.slots (ways_of kept) first second (users_on index.users (hosts + links + host)) → AreHits (record (state_of kept).on { hosts = set kept.hosts_on.items host b }) kept.lives.slots (ways_of kept) second
   hosts_looked host b first second a c =
       let on : Switches = record (state_of kept).on { hosts = set kept.hosts_on.items host b } in
       record {
@@ -148,8 +151,8 @@ module _ (kept : Kept) (index : Indexed) (used : IsUsed kept index) (both : AreB
         long = omega (arith, are.long, a.long, c.long);
       }
 
-  pub link_looked : (link : ℕ) (b : Bool) (first : List (Option Key)) → AreLooked (record (state_of kept).on { links = set kept.links_on.items link b }) kept.lives.slots kept.ways.items hits first (users_on index.users (hosts + link)) →
-      AreHits (record (state_of kept).on { links = set kept.links_on.items link b }) kept.lives.slots kept.ways.items first
+  pub link_looked : (link : ℕ) (b : Bool) (first : List (Option Key)) → AreLooked (record (state_of kept).on { links = set kept.links_on.items link b }) kept.lives.slots (ways_of kept) hits first (users_on index.users (hosts + link)) →
+      AreHits (record (state_of kept).on { links = set kept.links_on.items link b }) kept.lives.slots (ways_of kept) first
   link_looked link b first a =
       let on : Switches = record (state_of kept).on { links = set kept.links_on.items link b } in
       record {
@@ -159,11 +162,11 @@ module _ (kept : Kept) (index : Indexed) (used : IsUsed kept index) (both : AreB
         long = omega (arith, are.long, a.long);
       }
 
-abbrev hit_at : Switches → List (Option Live) → List (List LinkId) → ℕ → Option Key
+abbrev hit_at : Switches → List (Option Live) → (ℕ → List LinkId) → ℕ → Option Key
 hit_at on slots ways key = hit_in on (links_at ways key) (slot_at slots key)
 
 -- one more is looked at
-pub looked_on : (on : Switches) (slots : List (Option Live)) (ways : List (List LinkId)) (old mid new : List (Option Key)) (keys : List ℕ) (key : ℕ) → AreLooked on slots ways old mid keys → key < length mid → new ≡ set mid key (hit_in on (links_at ways key) (slot_at slots key)) → AreLooked on slots ways old new (keys ++ key ∷ [])
+pub looked_on : (on : Switches) (slots : List (Option Live)) (ways : ℕ → List LinkId) (old mid new : List (Option Key)) (keys : List ℕ) (key : ℕ) → AreLooked on slots ways old mid keys → key < length mid → new ≡ set mid key (hit_in on (links_at ways key) (slot_at slots key)) → AreLooked on slots ways old new (keys ++ key ∷ [])
 looked_on on slots ways old mid new keys key a within by = record {
   each = λ k. elim (eq_cases k key) [
     | inl e ↦

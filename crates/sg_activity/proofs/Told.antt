@@ -1,5 +1,5 @@
 -- What is kept stands for what the definitions say, as a phase comes, as one follows another and as one goes.
-use Rattle.std.proofs.Common.{◌≡◌, ◌≢◌, ℕ, zero, suc, ◌+◌, ◌-◌, ◌==◌, ◌<◌, ◌≤◌, inl, inr, Bool, true, false, cond, ◌||◌, true≢false, is_some, Option, None, Some, option_to_list, List, [], ◌∷◌, ◌++◌, length, map, set, get_or, IsTrue, refl, sym, ap, ap₂, ◌∙◌, arith}
+use Rattle.std.proofs.Common.{◌≡◌, ◌≢◌, ℕ, zero, suc, ◌+◌, ◌-◌, ◌==◌, ◌<◌, ◌≤◌, inl, inr, Bool, true, false, cond, ◌||◌, is_some, Option, None, Some, option_to_list, List, [], ◌∷◌, ◌++◌, length, map, set, get_or, refl, sym, ap, ap₂, ◌∙◌, arith}
 use Rattle.std.proofs.lemmas.List.{map-append, map-set, append-nil}
 use Rattle.std.proofs.lemmas.List.Folds.{list_any-append}
 use Rattle.sg_base.specs.MarkSet.{is_in, with_mark}
@@ -14,7 +14,7 @@ use Rattle.sg_activity.specs.kept.Pool.{slot_at}
 use Rattle.sg_activity.specs.kept.State.{State, task_of, is_now, is_so, told_at, told_by, began_at, began_by, under_of, doing_of}
 use Rattle.sg_activity.specs.kept.Sound.{IsKept}
 use Rattle.sg_activity.specs.kept.Turns.{Turns}
-use Rattle.sg_activity.proofs.Listing.{bool_cases, length-listed, at_listed}
+use Rattle.sg_activity.proofs.Listing.{bool_cases, at_listed}
 use Rattle.sg_activity.proofs.Turned.{told_here, told_gone, told_set, told_pushed, tasks_set, tasks_pushed, due_pushed, due_stays}
 
 -- ---- marks

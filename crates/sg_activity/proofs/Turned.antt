@@ -1,5 +1,5 @@
 -- One activity makes way for another: all is of one mind still, and what is told changes at its serial alone.
-use Rattle.std.proofs.Common.{◌≡◌, ◌≢◌, ℕ, ◌+◌, ◌-◌, ◌<◌, ◌≤◌, inl, inr, true, false, cond, ◌||◌, true≢false, Option, None, Some, List, [], ◌∷◌, ◌++◌, length, map, set, get_or, slice_index, IsTrue, IsSome, refl, sym, ap, ap₂, subst, ◌∙◌, arith}
+use Rattle.std.proofs.Common.{◌≡◌, ◌≢◌, ℕ, ◌+◌, ◌-◌, ◌<◌, ◌≤◌, inl, inr, false, cond, ◌||◌, true≢false, Option, None, Some, List, [], ◌∷◌, ◌++◌, length, set, slice_index, IsTrue, IsSome, refl, sym, ap, ap₂, subst, ◌∙◌, arith}
 use Rattle.sg_base.specs.declared.ids.LinkId.{LinkId}
 use Rattle.sg_base.specs.MarkSet.{is_in}
 use Rattle.sg_heap.specs.Agenda.{key_at}
@@ -44,6 +44,7 @@ held_still s new k live caps resources date drawn ways keys fresh long flows is 
       weighs = is.weighs;
       paced = is.paced;
       placed = subst (λ c. IsPlace c (place_at new k live)) (sym caps) (subst (λ l. IsPlace s.capacities (place_of live.kind live.host live.peer l)) (sym ways) is.placed);
+      counted = λ latency. omega (arith, is.counted latency, ap length ways);
       flow = λ full.
           let has = is.flow full in
           let stays = flows full in

@@ -37,7 +37,7 @@ nothing_there : {X : Type 0} (o : Option X) → o ≡ None → (x : X) → o ≡
 nothing_there o none x e = cc (sym none ∙ e)
 
 -- ---- states
-abbrev pub begun_state : State → ℕ → ℕ → Live → List (List LinkId) → List (Option Key) → List (Option RunningFlow) → List ℕ → State
+abbrev pub begun_state : State → ℕ → ℕ → Live → (ℕ → List LinkId) → List (Option Key) → List (Option RunningFlow) → List ℕ → State
 begun_state s drawn key live ways keys runs by_flow = record s {
   drawn = drawn;
   slots = set s.slots key (Some live);
@@ -49,9 +49,10 @@ begun_state s drawn key live ways keys runs by_flow = record s {
   settled = false;
 }
 
-abbrev pub ended_state : State → ℕ → List (Option RunningFlow) → List Flow → State
-ended_state s key runs ended = record s {
+abbrev pub ended_state : State → ℕ → (ℕ → List LinkId) → List (Option RunningFlow) → List Flow → State
+ended_state s key ways runs ended = record s {
   slots = set s.slots key None;
+  ways = ways;
   keys = set s.keys key None;
   runs = runs;
   ended = ended;
@@ -131,9 +132,9 @@ flow_turns s drawn key live keys is b full rate idle id_in by_in limit placed = 
     others k ne = set_there s.slots key k (Some live) ne
 
 -- a sleep or a latency begins
-pub time_turns : (s : State) (drawn key : ℕ) (live : Live) (ways : List (List LinkId)) → IsKept s → Begins s drawn key live s.keys → slot_at s.slots key ≡ None → takes_share live.kind ≡ false → live.rate ≡ pace live.kind → ((k : ℕ) → k ≢ key → links_at ways k ≡ links_at s.ways k) →
-    IsPlace s.capacities (place_of live.kind live.host live.peer (links_at ways key)) → Turns s (begun_state s drawn key live ways s.keys s.runs s.by_flow) key live.serial (Some live)
-time_turns s drawn key live ways is b free empty rate ways_same placed = record {
+pub time_turns : (s : State) (drawn key : ℕ) (live : Live) (ways : ℕ → List LinkId) → IsKept s → Begins s drawn key live s.keys → slot_at s.slots key ≡ None → takes_share live.kind ≡ false → live.rate ≡ pace live.kind → ((k : ℕ) → k ≢ key → links_at ways k ≡ links_at s.ways k) →
+    IsPlace s.capacities (place_of live.kind live.host live.peer (links_at ways key)) → (live.kind ≡ phase.Latency → length (links_at ways key) ≤ live.links) → Turns s (begun_state s drawn key live ways s.keys s.runs s.by_flow) key live.serial (Some live)
+time_turns s drawn key live ways is b free empty rate ways_same placed counted = record {
   capacities = refl;
   resources = refl;
   on = refl;
@@ -152,7 +153,7 @@ time_turns s drawn key live ways is b free empty rate ways_same placed = record 
   by_flow_long = omega arith;
   flows = λ k other ne at filled. (refl, refl);
   back = λ id r e. back_still s new key id (λ old at. absurd (nothing_there (slot_at s.slots key) free old at)) others refl (is.back id r e);
-  holds = λ l e. subst (IsHeld new key) (some_same e) (held_unfilled new key live empty b.from b.to b.stamp rate b.small b.bytes b.weighs placed (mark_self key s.fresh) b.no_key);
+  holds = λ l e. subst (IsHeld new key) (some_same e) (held_unfilled new key live empty b.from b.to b.stamp rate b.small b.bytes b.weighs placed counted (mark_self key s.fresh) b.no_key);
   was = b.was;
   is = λ l e. ap (λ (x : Live). x.serial) (sym (some_same e));
   alone = b.alone;
@@ -170,8 +171,8 @@ pub data Went (s : State) (live : Live) (runs : List (Option RunningFlow)) : Typ
   without : takes_share live.kind ≡ false → runs ≡ s.runs → Went s live runs
 
 -- an activity is done
-pub end_turns : (s : State) (key : ℕ) (live : Live) (runs : List (Option RunningFlow)) (ended : List Flow) → IsKept s → slot_at s.slots key ≡ Some live → key < length s.slots → key < length s.keys → Went s live runs → Turns s (ended_state s key runs ended) key live.serial None
-end_turns s key live runs ended is at key_in keys_in went = record {
+pub end_turns : (s : State) (key : ℕ) (live : Live) (ways : ℕ → List LinkId) (runs : List (Option RunningFlow)) (ended : List Flow) → IsKept s → slot_at s.slots key ≡ Some live → key < length s.slots → key < length s.keys → ((k : ℕ) → k ≢ key → links_at ways k ≡ links_at s.ways k) → Went s live runs → Turns s (ended_state s key ways runs ended) key live.serial None
+end_turns s key live ways runs ended is at key_in keys_in ways_same went = record {
   capacities = refl;
   resources = refl;
   on = refl;
@@ -183,7 +184,7 @@ end_turns s key live runs ended is at key_in keys_in went = record {
   within = omega (arith, key_in, length-set s.slots key None);
   here = set_here s.slots key None key_in;
   others = others;
-  ways = λ k ne. refl;
+  ways = ways_same;
   keys = λ k ne. set_there s.keys key k None ne;
   no_key = set_here s.keys key None keys_in;
   fresh = λ k ne. refl;
@@ -203,9 +204,9 @@ end_turns s key live runs ended is at key_in keys_in went = record {
     flows (with_flow full e) k other ne at' filled = (ap (λ l. running_at l other.flow) e ∙ flows_went s key live.flow is live at full refl k other ne at' filled, refl)
     flows (without empty e) k other ne at' filled = (ap (λ l. running_at l other.flow) e, refl)
 
-    back : Went s live runs → (id : ℕ) (r : RunningFlow) → running_at runs id ≡ Some r → IsFlowOf (ended_state s key runs ended) id
-    back (with_flow full e) id r z = back_went s key live.flow is (ended_state s key runs ended) live at full refl e refl others id r z
-    back (without empty e) id r z = back_still s (ended_state s key runs ended) key id (λ old at' filled. absurd (true≢false (sym filled ∙ ap (λ (l : Live). takes_share l.kind) (some_same (sym at' ∙ at)) ∙ empty))) others refl (is.back id r (ap (λ l. running_at l id) (sym e) ∙ z))
+    back : Went s live runs → (id : ℕ) (r : RunningFlow) → running_at runs id ≡ Some r → IsFlowOf (ended_state s key ways runs ended) id
+    back (with_flow full e) id r z = back_went s key live.flow is (ended_state s key ways runs ended) live at full refl e refl others id r z
+    back (without empty e) id r z = back_still s (ended_state s key ways runs ended) key id (λ old at' filled. absurd (true≢false (sym filled ∙ ap (λ (l : Live). takes_share l.kind) (some_same (sym at' ∙ at)) ∙ empty))) others refl (is.back id r (ap (λ l. running_at l id) (sym e) ∙ z))
 
 -- ---- what follows
 latency_next : (kind : PhaseKind) (task : Task) → kind ≡ phase.Latency → next_phase kind task ≡ Some (record task { kind = phase.Flow; left = task.bytes * 1000000000 })
@@ -269,10 +270,10 @@ resumed_under s key old live runs by_flow is at kept live_is by =
     ∙ ap (λ t. with_task old.serial (Some t) (under_of s)) (ap (task_from s.date (links_at s.ways key)) live_is ∙ place)
 
 -- the activity is done, or given up
-pub end_under : (s : State) (key : ℕ) (live : Live) (runs : List (Option RunningFlow)) (ended : List Flow) → IsKept s → slot_at s.slots key ≡ Some live →
-    ended ≡ s.ended ++ option_to_list (flow_in s.capacities (Some (task_of s key live))) → Turns s (ended_state s key runs ended) key live.serial None → under_of (ended_state s key runs ended) ≡ with_task live.serial None (under_of s)
-end_under s key live runs ended is at ended_is by =
-    let new = ended_state s key runs ended in
+pub end_under : (s : State) (key : ℕ) (live : Live) (ways : ℕ → List LinkId) (runs : List (Option RunningFlow)) (ended : List Flow) → IsKept s → slot_at s.slots key ≡ Some live →
+    ended ≡ s.ended ++ option_to_list (flow_in s.capacities (Some (task_of s key live))) → Turns s (ended_state s key ways runs ended) key live.serial None → under_of (ended_state s key ways runs ended) ≡ with_task live.serial None (under_of s)
+end_under s key live ways runs ended is at ended_is by =
+    let new = ended_state s key ways runs ended in
     let h = is.each key live at in
     let before = told_found (task_of s) s.slots live.serial key live is.apart at refl in
     under_set s new key live.serial None is by None refl h.from h.to (told_gone s new key live.serial None is by (task_of new) refl) (ap (λ o. is_some o || false) before) (began_gone s new key live.serial None is by refl)
@@ -422,10 +423,10 @@ resumed_begins s key old live is at held within serial stamp kept bytes weight =
     }
 
 -- ---- states whose parts are the same
-abbrev pub state_with : State → ℕ → Bool → List (Option Live) → List (List LinkId) → List (Option Key) → List (Option RunningFlow) → List ℕ → List ℕ → List Flow → List ℕ → State
+abbrev pub state_with : State → ℕ → Bool → List (Option Live) → (ℕ → List LinkId) → List (Option Key) → List (Option RunningFlow) → List ℕ → List ℕ → List Flow → List ℕ → State
 state_with s drawn settled slots ways keys runs by_flow fresh ended resources = record s { drawn = drawn; settled = settled; slots = slots; ways = ways; keys = keys; runs = runs; by_flow = by_flow; fresh = fresh; ended = ended; resources = resources }
 
-pub state_same : (s : State) (drawn : ℕ) (settled : Bool) (a a' : List (Option Live)) (b b' : List (List LinkId)) (c c' : List (Option Key)) (d d' : List (Option RunningFlow)) (e e' f f' : List ℕ) (g g' : List Flow) (h h' : List ℕ) →
+pub state_same : (s : State) (drawn : ℕ) (settled : Bool) (a a' : List (Option Live)) (b b' : ℕ → List LinkId) (c c' : List (Option Key)) (d d' : List (Option RunningFlow)) (e e' f f' : List ℕ) (g g' : List Flow) (h h' : List ℕ) →
     a ≡ a' → b ≡ b' → c ≡ c' → d ≡ d' → e ≡ e' → f ≡ f' → g ≡ g' → h ≡ h' → state_with s drawn settled a b c d e f g h ≡ state_with s drawn settled a' b' c' d' e' f' g' h'
 state_same s drawn settled a a' b b' c c' d d' e e' f f' g g' h h' p q r t u v w x =
     ap (λ y. state_with s drawn settled y b c d e f g h) p ∙ ap (λ y. state_with s drawn settled a' y c d e f g h) q ∙ ap (λ y. state_with s drawn settled a' b' y d e f g h) r ∙ ap (λ y. state_with s drawn settled a' b' c' y e f g h) t

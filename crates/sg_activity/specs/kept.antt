@@ -1,6 +1,7 @@
 -- How `Activities` keeps what is under way.
 pub mod Stamps
 pub mod Pool
+pub mod Rows
 pub mod State
 pub mod Sound
 pub mod Index

@@ -11,7 +11,6 @@ ghost use Rattle.sg_activity.specs.Doing.{idle_on, started_in, drawn_in, begun_i
 
 use crate::beginning::first_parts;
 use crate::capacities::{set_bandwidth, set_speed};
-use crate::index::Index;
 use crate::kept::Kept;
 use crate::kinds::{HostCap, LinkCap, Phase, PhaseKind, Transfer};
 use crate::lives::{Live, Lives, is_exec, is_held};
@@ -50,8 +49,6 @@ use std::sync::ledger::Ledger;
 #[derive(Drop)]
 pub struct Activities {
     kept: Kept,
-    // by things, the hosts, then the links, then the hosts as ends, the activities under way that use them
-    index: Index,
     // by key the serials of the activities that use something that is off
     hits: Agenda,
     // what each host used, and the power that it had last
@@ -71,7 +68,7 @@ impl Model for Activities {
     ghost view = { λ s. metered_in (energies s.kept.date s.meter)
         (doing_of (state_of s.kept) s.kept.room) };
 
-    ghost invariant = { λ s. IsWhole s.kept s.index s.hits s.meter s.touched };
+    ghost invariant = { λ s. IsWhole s.kept s.hits s.meter s.touched };
 }
 
 impl Activities {
@@ -85,7 +82,6 @@ impl Activities {
         let parts = first_parts(alloc, hosts, links)?;
         Ok(Activities {
             kept: parts.kept,
-            index: parts.index,
             hits: parts.hits,
             meter,
             touched,
@@ -100,21 +96,25 @@ impl Activities {
         ensures kept { self.new ≡ record self.old { room = self.new.room } }
     {
         let n = n.max(self.kept.room);
-        // each latency that passes is followed by a flow
-        let Some(flows) = n.checked_add(self.kept.flows - self.kept.room) else {
+        let more = n - self.kept.room;
+        // each latency that passes is followed by a flow, over the links of its own way
+        let Some(flows) = self.kept.flows.checked_add(more) else {
             return Err(Memory);
         };
-        let Some(uses) = flows.checked_mul(66) else {
+        let Some(room) = more.checked_mul(64) else {
+            return Err(Memory);
+        };
+        let Some(uses) = self.kept.uses.checked_add(room) else {
             return Err(Memory);
         };
         let Some(keys) = self.kept.lives.numbers().checked_add(n) else {
             return Err(Memory);
         };
-        self.index.reserve(keys, 66 * n)?;
         self.hits.reserve(keys)?;
         grow(&mut self.kept, n, flows, uses)?;
         self.kept.room = n;
         self.kept.flows = flows;
+        self.kept.uses = uses;
         Ok(())
     }
 
@@ -137,6 +137,7 @@ impl Activities {
         let key = self.kept.lives.put(Live {
             serial: serial.0,
             kind: PhaseKind::Exec,
+            links: 0,
             kept: u128::from(flops) * 1_000_000_000,
             stamp: self.kept.date,
             rate: 0,
@@ -147,13 +148,14 @@ impl Activities {
             peer: 0,
             flow,
         });
-        self.index.enter(key, &[host]);
+        self.kept.index.enter(key, &[host]);
         self.kept.by_flow[flow] = key;
         self.kept.fresh.insert(key);
         self.kept.drawn += 1;
         self.kept.settled = false;
         self.kept.room -= 1;
         self.kept.flows -= 1;
+        self.kept.uses -= 64;
         self.touched.insert(host);
         serial
     }
@@ -170,6 +172,7 @@ impl Activities {
         let key = self.kept.lives.put(Live {
             serial: serial.0,
             kind: PhaseKind::Timer,
+            links: 0,
             kept: u128::from(ns),
             stamp: self.kept.date,
             rate: 1,
@@ -185,6 +188,7 @@ impl Activities {
         self.kept.settled = false;
         self.kept.room -= 1;
         self.kept.flows -= 1;
+        self.kept.uses -= 64;
         serial
     }
 
@@ -200,11 +204,13 @@ impl Activities {
             (comm_of (way_of links.now transfer) transfer.latency transfer.bytes transfer.bound)
             self.old }
     {
+        let count = links.len();
         let sender = transfer.sender.0 as usize;
         let receiver = transfer.receiver.0 as usize;
         let key = self.kept.lives.put(Live {
             serial: serial.0,
             kind: PhaseKind::Latency,
+            links: count as u32,
             kept: transfer.latency,
             stamp: self.kept.date,
             rate: 1,
@@ -215,7 +221,6 @@ impl Activities {
             peer: receiver,
             flow: 0,
         });
-        self.kept.ways[key].follow(links);
         let things = things_of(
             self.kept.hosts.len(),
             self.kept.links.len(),
@@ -223,10 +228,11 @@ impl Activities {
             sender,
             receiver,
         );
-        self.index.enter(key, things.as_slice());
+        self.kept.index.enter(key, things.as_slice());
         self.kept.fresh.insert(key);
         self.kept.settled = false;
         self.kept.room -= 1;
+        self.kept.uses -= 64 - count;
     }
 
     /// Gives each core of a host this speed, from now on. How fast its executions go is brought up to date by
@@ -236,7 +242,7 @@ impl Activities {
         requires speed { speed ≤ 10 ^ 15 }
         ensures { self.new ≡ set_in (with_speed host.0 speed) self.old }
     {
-        set_speed(&mut self.kept, &self.index, host.0 as usize, speed);
+        set_speed(&mut self.kept, host.0 as usize, speed);
         self.touched.insert(host.0 as usize);
     }
 
@@ -246,7 +252,7 @@ impl Activities {
         requires bandwidth { bandwidth ≤ 10 ^ 18 }
         ensures { self.new ≡ set_in (with_bandwidth link.0 bandwidth) self.old }
     {
-        set_bandwidth(&mut self.kept, &self.index, link.0 as usize, bandwidth);
+        set_bandwidth(&mut self.kept, link.0 as usize, bandwidth);
     }
 
     /// Whether a host is off.
@@ -274,13 +280,7 @@ impl Activities {
         requires { host.0 < length self.old.under.capacities.hosts }
         ensures { self.new ≡ switched_in (with_host_on host.0 on) self.old }
     {
-        set_host_on(
-            &mut self.kept,
-            &self.index,
-            &mut self.hits,
-            host.0 as usize,
-            on,
-        );
+        set_host_on(&mut self.kept, &mut self.hits, host.0 as usize, on);
         self.touched.insert(host.0 as usize);
     }
 
@@ -289,13 +289,7 @@ impl Activities {
         requires { link.0 < length self.old.under.capacities.links }
         ensures { self.new ≡ switched_in (with_link_on link.0 on) self.old }
     {
-        set_link_on(
-            &mut self.kept,
-            &self.index,
-            &mut self.hits,
-            link.0 as usize,
-            on,
-        );
+        set_link_on(&mut self.kept, &mut self.hits, link.0 as usize, on);
     }
 
     /// The least serial of an activity that uses a host or a link that is off.
@@ -319,7 +313,7 @@ impl Activities {
             unreachable!()
         };
         note(&mut self.touched, &live);
-        leave(&mut self.kept, &mut self.index, &mut self.hits, key, live);
+        leave(&mut self.kept, &mut self.hits, key, live);
     }
 
     /// Whether an execution is under way under a serial, and goes on.
@@ -449,7 +443,7 @@ impl Activities {
         requires small { date < 10 ^ 34 }
         ensures { self.new ≡ later_in (date - self.old.under.date) self.old }
     {
-        set_powers(&self.kept, &self.index, &mut self.meter, &mut self.touched);
+        set_powers(&self.kept, &mut self.meter, &mut self.touched);
         self.kept.date = date;
         self.kept.arrived = true;
     }
@@ -476,7 +470,7 @@ impl Activities {
             unreachable!()
         };
         note(&mut self.touched, &live);
-        end_phase(&mut self.kept, &mut self.index, &mut self.hits, key, live);
+        end_phase(&mut self.kept, &mut self.hits, key, live);
     }
 
     /// What the executions of a host that go on get together, as flops a second; `None` where there is none.
@@ -485,7 +479,7 @@ impl Activities {
         requires host { host.0 < length self.now.under.capacities.hosts }
         ensures { result ≡ load_spec self.now.under host.0 }
     {
-        load(&self.kept, &self.index, host.0 as usize)
+        load(&self.kept, host.0 as usize)
     }
 
     /// The energy that a host used: whole joules, and the milliwatt-nanoseconds below a joule.

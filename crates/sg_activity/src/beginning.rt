@@ -18,7 +18,6 @@ use std::alloc::Global;
 #[derive(Drop)]
 pub(crate) struct Parts {
     pub(crate) kept: Kept,
-    pub(crate) index: Index,
     pub(crate) hits: Agenda,
 }
 
@@ -119,8 +118,12 @@ pub(crate) fn first_parts(
 ) -> Result<Parts, Memory>
     requires hosts { All IsHost hosts.now }
     requires links { All IsLink links.now }
-    ensures { IfOk result (λ parts. AreIdle parts.kept parts.index parts.hits hosts.now links.now) }
+    ensures { IfOk result (λ parts. AreIdle parts.kept parts.hits hosts.now links.now) }
 {
+    // links are counted in 32 bits
+    if links.len() > 1 << 32 {
+        return Err(Memory);
+    }
     let capacities = capacities(alloc, hosts, links)?;
     let machines = own_machines(alloc, hosts, links)?;
     let (agenda, hits) = agendas(alloc)?;
@@ -134,7 +137,7 @@ pub(crate) fn first_parts(
             links_on: machines.links_on,
             lazy,
             lives: Lives::new(alloc),
-            ways: Vec::new(alloc),
+            index,
             agenda,
             by_flow: Vec::new(alloc),
             fresh: Marks::new(alloc),
@@ -144,8 +147,8 @@ pub(crate) fn first_parts(
             arrived: false,
             room: 0,
             flows: 0,
+            uses: 0,
         },
-        index,
         hits,
     })
 }

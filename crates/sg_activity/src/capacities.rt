@@ -4,26 +4,28 @@ ghost use Rattle.std.specs.Prelude.{◌≡◌, ◌≤◌, ◌<◌, ◌^◌, ◌+
 ghost use Rattle.sg_chains.specs.Chained.{users_on};
 ghost use Rattle.sg_activity.specs.Hosts.{IsHost};
 ghost use Rattle.sg_activity.specs.Links.{at_bandwidth, at_speed};
-ghost use Rattle.sg_activity.specs.kept.Pool.{slot_at};
 ghost use Rattle.sg_activity.specs.kept.Bounds.{HasFlows, Rebounds, Resets};
+ghost use Rattle.sg_activity.specs.kept.Index.{used_in};
+ghost use Rattle.sg_activity.specs.kept.Pool.{slot_at};
+ghost use Rattle.sg_activity.specs.kept.Rows.{row_at};
 ghost use Rattle.sg_activity.specs.kept.Sound.{IsPlace, IsSound, place_at};
 ghost use Rattle.sg_activity.specs.kept.State.{asked_by, state_of};
 ghost use Rattle.sg_activity.specs.kept.Whole.{IsUsed};
 
-use crate::index::Index;
 use crate::kept::Kept;
 use crate::kinds::{HostCap, LinkCap, PhaseKind};
 use crate::lives::{Live, takes_share};
-use crate::routes::{bound_of, tighter};
+use crate::routes::{bound_of, tighter, way_of};
 use sg_base::Steps;
 use std::marker::Brand;
 use std::sync::ledger::{Blank, Ledger};
 
 // What bounds the activity under a key, as its host or the links of its way are now.
 fn bound_now(kept: &Kept, key: usize, live: &Live) -> Option<u64>
-    requires key { key < length kept.now.ways.items }
+    requires key { key < length kept.now.index.rows }
     requires place { IsPlace (state_of kept.now).capacities
         (place_at (state_of kept.now) key live.now) }
+    requires row { row_at kept.now.index.rows key ≡ used_in kept.now key live.now }
     ensures { result ≡ (asked_by (state_of kept.now) key live.now).bound }
 {
     match live.kind {
@@ -31,7 +33,8 @@ fn bound_now(kept: &Kept, key: usize, live: &Live) -> Option<u64>
             tighter(Some(kept.hosts[live.host].speed), live.bound)
         }
         PhaseKind::Latency | PhaseKind::Flow => {
-            tighter(bound_of(&kept.links, kept.ways[key].route()), live.bound)
+            let way = way_of(&kept.index, key, kept.hosts.len());
+            tighter(bound_of(&kept.links, way.as_slice()), live.bound)
         }
         PhaseKind::Timer => live.bound,
     }
@@ -56,59 +59,59 @@ fn update_bound(kept: &mut Kept, key: usize)
 }
 
 // The flows of the activities that use a thing get the bounds that hold now.
-fn update_bounds<L: Ledger>(kept: &mut Kept, index: &Index, thing: usize, blank: Blank)
+fn update_bounds<L: Ledger>(kept: &mut Kept, thing: usize, blank: Blank)
     requires name { blank.name ≡ L.name }
     requires parts { blank.parts ≡ L.parts }
     requires some { 0 < blank.parts }
-    requires thing { thing < length index.now.users }
+    requires thing { thing < length kept.old.index.users }
     requires keys { All (λ key. key < length kept.old.lives.slots)
-        (users_on index.now.users thing) }
+        (users_on kept.old.index.users thing) }
     requires flows { HasFlows kept.old }
-    ensures { Rebounds kept.old kept.new (users_on index.now.users thing) }
+    ensures { Rebounds kept.old kept.new (users_on kept.old.index.users thing) }
 {
     let mut steps = Steps::<L>::new(blank);
-    let mut at = index.first_on(thing);
+    let mut at = kept.index.first_on(thing);
     while let Some(i) = at {
-        let one = index.look(i, &mut steps);
+        let one = kept.index.look(i, &mut steps);
         update_bound(kept, one.flow);
         at = one.next_on;
     }
 }
 
 /// Each core of a host has this speed from now on.
-pub(crate) fn set_speed(kept: &mut Kept, index: &Index, host: usize, speed: u64)
+pub(crate) fn set_speed(kept: &mut Kept, host: usize, speed: u64)
     requires host { host < length kept.old.hosts.items }
     requires speed { speed ≤ 10 ^ 15 }
     requires hosts { All IsHost kept.old.hosts.items }
     requires sound { IsSound kept.old }
-    requires used { IsUsed kept.old index.now }
+    requires used { IsUsed kept.old kept.old.index }
     ensures { Resets kept.old kept.new
         (at_speed host speed (state_of kept.old).capacities) host }
 {
-    index.is_both_ways();
+    kept.index.is_both_ways();
     let cap = kept.hosts[host];
     kept.hosts[host] = HostCap { speed, ..cap };
     kept.lazy.set_capacity(host, speed * u64::from(cap.cores));
-    update_bounds::<Brand>(kept, index, host, Blank::new(1));
+    update_bounds::<Brand>(kept, host, Blank::new(1));
     kept.settled = false;
 }
 
 /// A link has this bandwidth from now on.
-pub(crate) fn set_bandwidth(kept: &mut Kept, index: &Index, link: usize, bandwidth: u64)
+pub(crate) fn set_bandwidth(kept: &mut Kept, link: usize, bandwidth: u64)
     requires link { link < length kept.old.links.items }
     requires sound { IsSound kept.old }
-    requires used { IsUsed kept.old index.now }
+    requires used { IsUsed kept.old kept.old.index }
     ensures { Resets kept.old kept.new
         (at_bandwidth link bandwidth (state_of kept.old).capacities)
         (length kept.old.hosts.items + link) }
 {
-    index.is_both_ways();
+    kept.index.is_both_ways();
     let resource = kept.hosts.len() + link;
     let fatpipe = kept.links[link].fatpipe;
     kept.links[link] = LinkCap { bandwidth, fatpipe };
     kept.lazy.set_capacity(resource, bandwidth);
     if fatpipe {
-        update_bounds::<Brand>(kept, index, resource, Blank::new(1));
+        update_bounds::<Brand>(kept, resource, Blank::new(1));
     }
     kept.settled = false;
 }

@@ -2,8 +2,8 @@
 
 ghost use Rattle.std.specs.Prelude.{◌≡◌, ◌≤◌, ◌<◌, ◌+◌, ℕ, [], All, IfOk, IsSome, None, OnOk, Some, length, slice_index_or};
 ghost use Rattle.sg_chains.specs.Chained.{times, users_on};
-ghost use Rattle.sg_chains.specs.Walk.{Leads, next_on, user_of};
-ghost use Rattle.sg_activity.specs.kept.Index.{IsRow, IsWider, row_at, uses_at};
+ghost use Rattle.sg_chains.specs.Walk.{Leads, next_of_flow, next_on, resource_of, user_of};
+ghost use Rattle.sg_activity.specs.kept.Rows.{IsRow, IsWider, row_at, uses_at};
 
 use sg_base::{Memory, Steps};
 use sg_chains::{Chains, Use};
@@ -33,12 +33,12 @@ pub(crate) struct Index {
 }
 
 impl Model for Index {
-    ghost use Rattle.sg_activity.specs.kept.Index.{Indexed};
+    ghost use Rattle.sg_activity.specs.kept.Rows.{Indexed};
 
     ghost Value = { Indexed };
 
     ghost use Rattle.std.specs.Prelude.{map};
-    ghost use Rattle.sg_activity.specs.kept.Index.{IsIndex, things_of};
+    ghost use Rattle.sg_activity.specs.kept.Rows.{IsIndex, things_of};
 
     ghost view = { λ s. record {
       rows = map (things_of s.chains.uses) s.rows.items;
@@ -114,6 +114,16 @@ impl Index {
         let row = self.rows[key];
         self.chains.remove(key, row.count, row.first);
         self.rows[key] = NO_USES;
+    }
+
+    /// The first use of the activity under a key; `None` where it uses nothing.
+    pub(crate) fn first_of(&self, key: usize) -> Option<usize>
+        requires { key < length self.now.rows }
+        ensures leads { Leads next_of_flow resource_of self.now.uses result
+            (row_at self.now.rows key) }
+        ensures few { length (row_at self.now.rows key) ≤ length self.now.uses }
+    {
+        self.rows[key].first
     }
 
     /// The first use of a thing; `None` where nothing uses it.

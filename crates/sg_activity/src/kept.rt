@@ -1,7 +1,7 @@
 //! What `Activities` keeps.
+use crate::index::Index;
 use crate::kinds::{HostCap, LinkCap};
 use crate::lives::Lives;
-use crate::routes::Way;
 use sg_base::Marks;
 use sg_heap::Agenda;
 use sg_lazy::Lazy;
@@ -17,8 +17,9 @@ pub(crate) struct Kept {
     pub(crate) lazy: Lazy,
     /// The activities under way, by key.
     pub(crate) lives: Lives,
-    /// By key the way of each communication.
-    pub(crate) ways: Vec<Way>,
+    /// By things, the hosts, then the links, then the hosts as ends, the activities under way that use them, and by key
+    /// what each uses: the ends of a communication, and then the links of its way.
+    pub(crate) index: Index,
     /// By key when each phase is due, unless it is never or began since the rates were brought up to date.
     pub(crate) agenda: Agenda,
     /// By the number of a flow the key of its activity.
@@ -36,4 +37,6 @@ pub(crate) struct Kept {
     /// For so many flows there is room: one for each start that there is room for, and one for each latency that
     /// passes.
     pub(crate) flows: usize,
+    /// For so many uses by these flows there is room: 64 for each start, and one for each link of a latency's way.
+    pub(crate) uses: usize,
 }

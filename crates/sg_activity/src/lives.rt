@@ -3,7 +3,7 @@
 ghost use Rattle.std.specs.Prelude.{◌≡◌, ◌<◌, ◌≤◌, ◌+◌, ◌-◌, ◌==◌, None, Some, IfSome, IsSome, MatchOption, OnOk, [], if◌then◌else◌, count_by, length, slice_set};
 ghost use Rattle.sg_activity.specs.Slots.{passes};
 ghost use Rattle.sg_activity.specs.Task.{goes_by, is_exec as is_exec_spec, is_held as is_held_spec, takes_share as takes_share_spec};
-ghost use Rattle.sg_activity.specs.kept.Pool.{IsFound, IsMissing, SameSlots, goes_on, slot_at};
+ghost use Rattle.sg_activity.specs.kept.Pool.{IsFound, IsMissing, SameSlots, goes_on, slot_at, uses_ahead as uses_ahead_spec};
 ghost use Rattle.sg_activity.specs.Task.{flows_ahead as flows_ahead_spec};
 
 use crate::kinds::PhaseKind;
@@ -17,6 +17,8 @@ use std::marker::Model;
 pub(crate) struct Live {
     pub(crate) serial: u64,
     pub(crate) kind: PhaseKind,
+    /// How many links the way of a communication has.
+    pub(crate) links: u32,
     /// What was left of its phase at the stamp.
     pub(crate) kept: u128,
     /// A date.
@@ -53,6 +55,16 @@ pub(crate) fn flows_ahead(kind: PhaseKind) -> usize
 {
     match kind {
         PhaseKind::Latency => 1,
+        PhaseKind::Flow | PhaseKind::Exec | PhaseKind::Timer | PhaseKind::Kept => 0,
+    }
+}
+
+/// How many uses the flow takes that begins once the phase of this activity is over.
+pub(crate) fn uses_ahead(live: &Live) -> usize
+    ensures { result ≡ uses_ahead_spec live.now.kind live.now.links }
+{
+    match live.kind {
+        PhaseKind::Latency => live.links as usize,
         PhaseKind::Flow | PhaseKind::Exec | PhaseKind::Timer | PhaseKind::Kept => 0,
     }
 }

@@ -9,15 +9,13 @@ ghost use Rattle.sg_heap.specs.Agenda.{Key};
 ghost use Rattle.sg_activity.specs.kept.Hits.{AreHit};
 ghost use Rattle.sg_activity.specs.kept.Sound.{IsSound};
 ghost use Rattle.sg_activity.specs.kept.Ends.{Ends, GoesOn, IsFirst, IsIdle};
-ghost use Rattle.sg_activity.specs.kept.Index.{Indexed};
 ghost use Rattle.sg_activity.specs.kept.Whole.{IsUsed};
 
-use crate::index::Index;
 use crate::kept::Kept;
 use crate::kinds::PhaseKind;
-use crate::lives::{Live, flows_ahead, takes_share};
+use crate::lives::{Live, flows_ahead, takes_share, uses_ahead};
 use crate::renewal::left_at;
-use crate::routes::{bound_of, tighter, uses_of};
+use crate::routes::{bound_of, tighter, uses_of, way_of};
 use sg_heap::Agenda;
 
 /// The activity whose phase is due first, and its key.
@@ -45,14 +43,15 @@ fn begin_flow(kept: &mut Kept, key: usize, live: Live)
     requires kind { live.kind ≡ phase.Latency }
     requires at { slot_at kept.old.lives.slots key ≡ Some live }
     requires sound { IsSound kept.old }
+    requires used { IsUsed kept.old kept.old.index }
     ensures ends { Ends kept.old kept.new key live
         (next_phase live.kind (task_of (state_of kept.old) key live)) }
-    ensures used { (index : Indexed) → IsUsed kept.old index → IsUsed kept.new index }
+    ensures used { IsUsed kept.new kept.new.index }
     ensures hit { (hits : List (Option Key)) → AreHit kept.old hits → AreHit kept.new hits }
 {
-    let route = kept.ways[key].route();
-    let uses = uses_of(kept.hosts.len(), &kept.links, route);
-    let bound = tighter(bound_of(&kept.links, route), live.bound);
+    let way = way_of(&kept.index, key, kept.hosts.len());
+    let uses = uses_of(kept.hosts.len(), &kept.links, way.as_slice());
+    let bound = tighter(bound_of(&kept.links, way.as_slice()), live.bound);
     let flow = kept.lazy.start(uses.as_slice(), live.weight, bound);
     kept.lives.set(
         key,
@@ -69,51 +68,47 @@ fn begin_flow(kept: &mut Kept, key: usize, live: Live)
     kept.by_flow[flow] = key;
     kept.fresh.insert(key);
     kept.flows -= 1;
+    kept.uses -= uses_ahead(&live);
     kept.settled = false;
 }
 
 /// The activity is done, or given up: its flow ends, it uses nothing, and its key is free.
-pub(crate) fn leave(kept: &mut Kept, index: &mut Index, hits: &mut Agenda, key: usize, live: Live)
+pub(crate) fn leave(kept: &mut Kept, hits: &mut Agenda, key: usize, live: Live)
     requires at { slot_at kept.old.lives.slots key ≡ Some live }
     requires sound { IsSound kept.old }
-    requires used { IsUsed kept.old index.old }
+    requires used { IsUsed kept.old kept.old.index }
     requires hit { AreHit kept.old hits.old }
     ensures ends { Ends kept.old kept.new key live None }
-    ensures used { IsUsed kept.new index.new }
+    ensures used { IsUsed kept.new kept.new.index }
     ensures hit { AreHit kept.new hits.new }
 {
-    index.leave(key);
     hits.clear(key);
     if takes_share(live.kind) {
         kept.lazy.end(live.flow);
     }
+    kept.index.leave(key);
     kept.lives.remove(key);
     kept.agenda.clear(key);
     kept.flows -= flows_ahead(live.kind);
+    kept.uses -= uses_ahead(&live);
     kept.settled = false;
 }
 
 /// Ends the phase of the activity under a key: a latency becomes a flow, and else the activity is done.
-pub(crate) fn end_phase(
-    kept: &mut Kept,
-    index: &mut Index,
-    hits: &mut Agenda,
-    key: usize,
-    live: Live,
-)
+pub(crate) fn end_phase(kept: &mut Kept, hits: &mut Agenda, key: usize, live: Live)
     requires at { slot_at kept.old.lives.slots key ≡ Some live }
     requires sound { IsSound kept.old }
-    requires used { IsUsed kept.old index.old }
+    requires used { IsUsed kept.old kept.old.index }
     requires hit { AreHit kept.old hits.old }
     ensures ends { Ends kept.old kept.new key live
         (next_phase live.kind (task_of (state_of kept.old) key live)) }
-    ensures used { IsUsed kept.new index.new }
+    ensures used { IsUsed kept.new kept.new.index }
     ensures hit { AreHit kept.new hits.new }
 {
     match live.kind {
         PhaseKind::Latency => begin_flow(kept, key, live),
         PhaseKind::Flow | PhaseKind::Exec | PhaseKind::Timer | PhaseKind::Kept => {
-            leave(kept, index, hits, key, live);
+            leave(kept, hits, key, live);
         }
     }
 }
@@ -125,7 +120,7 @@ pub(crate) fn hold(kept: &mut Kept, key: usize, live: Live)
     requires sound { IsSound kept.old }
     ensures ends { Ends kept.old kept.new key live
         (Some (rekinded phase.Kept (task_of (state_of kept.old) key live))) }
-    ensures used { (index : Indexed) → IsUsed kept.old index → IsUsed kept.new index }
+    ensures used { IsUsed kept.old kept.old.index → IsUsed kept.new kept.new.index }
     ensures hit { (hits : List (Option Key)) → AreHit kept.old hits → AreHit kept.new hits }
 {
     kept.lazy.end(live.flow);
@@ -151,7 +146,7 @@ pub(crate) fn go_on(kept: &mut Kept, key: usize, live: Live)
     requires room { 0 < kept.old.room }
     requires sound { IsSound kept.old }
     ensures goes_on { GoesOn kept.old kept.new key live }
-    ensures used { (index : Indexed) → IsUsed kept.old index → IsUsed kept.new index }
+    ensures used { IsUsed kept.old kept.old.index → IsUsed kept.new kept.new.index }
     ensures hit { (hits : List (Option Key)) → AreHit kept.old hits → AreHit kept.new hits }
 {
     let bound = tighter(Some(kept.hosts[live.host].speed), live.bound);
@@ -171,4 +166,5 @@ pub(crate) fn go_on(kept: &mut Kept, key: usize, live: Live)
     kept.settled = false;
     kept.room -= 1;
     kept.flows -= 1;
+    kept.uses -= 64;
 }

@@ -13,7 +13,6 @@ ghost use Rattle.sg_activity.specs.kept.Pool.{slot_at};
 ghost use Rattle.sg_activity.specs.kept.State.{state_of, under_of};
 ghost use Rattle.sg_activity.specs.kept.Whole.{CanTell};
 
-use crate::index::Index;
 use crate::kept::Kept;
 use crate::kinds::{PhaseKind, Power};
 use crate::lives::{Live, takes_share};
@@ -37,22 +36,22 @@ fn with_rate(kept: &Kept, key: usize, sum: Option<u64>) -> Option<u64>
 }
 
 // The sum of the rates of those that use a thing and take shares.
-fn sum_on<L: Ledger>(kept: &Kept, index: &Index, thing: usize, blank: Blank) -> Option<u64>
+fn sum_on<L: Ledger>(kept: &Kept, thing: usize, blank: Blank) -> Option<u64>
     requires name { blank.name ≡ L.name }
     requires parts { blank.parts ≡ L.parts }
     requires some { 0 < blank.parts }
-    requires thing { thing < length index.now.users }
+    requires thing { thing < length kept.now.index.users }
     requires keys { All (λ key. key < length kept.now.lives.slots)
-        (users_on index.now.users thing) }
-    requires fits { sum_of (rates_of kept.now.lives.slots (users_on index.now.users thing))
+        (users_on kept.now.index.users thing) }
+    requires fits { sum_of (rates_of kept.now.lives.slots (users_on kept.now.index.users thing))
         < 2 ^ 64 }
-    ensures { result ≡ total (rates_of kept.now.lives.slots (users_on index.now.users thing)) }
+    ensures { result ≡ total (rates_of kept.now.lives.slots (users_on kept.now.index.users thing)) }
 {
     let mut steps = Steps::<L>::new(blank);
     let mut sum = None;
-    let mut at = index.first_on(thing);
+    let mut at = kept.index.first_on(thing);
     while let Some(i) = at {
-        let one = index.look(i, &mut steps);
+        let one = kept.index.look(i, &mut steps);
         sum = with_rate(kept, one.flow, sum);
         at = one.next_on;
     }
@@ -60,14 +59,14 @@ fn sum_on<L: Ledger>(kept: &Kept, index: &Index, thing: usize, blank: Blank) -> 
 }
 
 /// What the executions of a host get together; `None` where none takes a share.
-pub(crate) fn load(kept: &Kept, index: &Index, host: usize) -> Option<u64>
+pub(crate) fn load(kept: &Kept, host: usize) -> Option<u64>
     requires host { host < length kept.now.hosts.items }
-    requires tell { CanTell kept.now index.now }
+    requires tell { CanTell kept.now }
     ensures load { result ≡ load_spec (under_of (state_of kept.now)) host }
     ensures fits { IfSome result (λ load. load ≤ offer_of (host_at kept.now.hosts.items host)) }
 {
-    index.is_both_ways();
-    sum_on::<Brand>(kept, index, host, Blank::new(1))
+    kept.index.is_both_ways();
+    sum_on::<Brand>(kept, host, Blank::new(1))
 }
 
 // The power of a host that is on, at its capacity and load.
@@ -88,9 +87,9 @@ fn power_by(power: Power, capacity: u64, load: Option<u64>) -> u64
 }
 
 // The power of a host.
-fn power_of(kept: &Kept, index: &Index, host: usize) -> u64
+fn power_of(kept: &Kept, host: usize) -> u64
     requires host { host < length kept.now.hosts.items }
-    requires tell { CanTell kept.now index.now }
+    requires tell { CanTell kept.now }
     ensures power { result ≡ power_at (under_of (state_of kept.now)) host }
     ensures few { result ≤ 10 ^ 9 }
 {
@@ -102,47 +101,47 @@ fn power_of(kept: &Kept, index: &Index, host: usize) -> u64
         return power.off;
     }
     let capacity = cap.speed * u64::from(cap.cores);
-    power_by(power, capacity, load(kept, index, host))
+    power_by(power, capacity, load(kept, host))
 }
 
 // Tells the meter the power of a host.
-fn set_power(kept: &Kept, index: &Index, meter: &mut Meter, host: usize)
+fn set_power(kept: &Kept, meter: &mut Meter, host: usize)
     requires host { host < length kept.now.hosts.items }
     requires few { length kept.now.hosts.items < 2 ^ 32 }
-    requires tell { CanTell kept.now index.now }
+    requires tell { CanTell kept.now }
     requires meters { length meter.old ≡ length kept.now.hosts.items }
     requires past { (meter_of meter.old host).since ≤ kept.now.date }
     ensures { meter.new ≡ slice_set meter.old host
         (with_power (power_at (under_of (state_of kept.now)) host) kept.now.date
         (meter_of meter.old host)) }
 {
-    let power = power_of(kept, index, host);
+    let power = power_of(kept, host);
     meter.set(PointId(host as u32), power, kept.date);
 }
 
 // The same of all these hosts.
-fn set_each(kept: &Kept, index: &Index, meter: &mut Meter, hosts: &[usize])
+fn set_each(kept: &Kept, meter: &mut Meter, hosts: &[usize])
     requires hosts { All (λ host. host < length kept.now.hosts.items) hosts.now }
     requires few { length kept.now.hosts.items < 2 ^ 32 }
-    requires tell { CanTell kept.now index.now }
+    requires tell { CanTell kept.now }
     requires meters { length meter.old ≡ length kept.now.hosts.items }
     requires past { (host : ℕ) → (meter_of meter.old host).since ≤ kept.now.date }
     ensures { AreTold (under_of (state_of kept.now)) meter.old meter.new hosts.now }
 {
     for host in hosts {
-        set_power(kept, index, meter, *host);
+        set_power(kept, meter, *host);
     }
 }
 
 /// Tells the meter the power of each touched host; none is touched any more.
-pub(crate) fn set_powers(kept: &Kept, index: &Index, meter: &mut Meter, touched: &mut Marks)
-    requires tell { CanTell kept.now index.now }
+pub(crate) fn set_powers(kept: &Kept, meter: &mut Meter, touched: &mut Marks)
+    requires tell { CanTell kept.now }
     requires metered { IsMetered kept.now meter.old touched.old }
     ensures told { AreTold (under_of (state_of kept.now)) meter.old meter.new
         touched.old.members }
     ensures none { touched.new ≡ record touched.old { members = [] } }
 {
-    set_each(kept, index, meter, touched.members());
+    set_each(kept, meter, touched.members());
     touched.clear();
 }
 

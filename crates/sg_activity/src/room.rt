@@ -1,27 +1,10 @@
 //! Room for more activities.
-ghost use Rattle.std.specs.Prelude.{◌≡◌, ◌≤◌, ◌+◌, ℕ, [], OnOk, length, slice_index, slice_index_or};
+ghost use Rattle.std.specs.Prelude.{◌≡◌, ◌≤◌, ◌+◌, ◌*◌, ℕ, OnOk, length, slice_index};
 ghost use Rattle.sg_activity.specs.kept.Sound.{IsSound};
 ghost use Rattle.sg_activity.specs.kept.Grows.{Grows};
 
 use crate::kept::Kept;
-use crate::routes::Way;
 use sg_base::Memory;
-
-// Makes so many ways, the new ones without links.
-fn grow_ways(ways: &mut Vec<Way>, n: usize) -> Result<(), Memory>
-    ensures same { (key : ℕ) →
-        slice_index_or ways.new.items key [] ≡ slice_index_or ways.old.items key [] }
-    ensures longer { length ways.old.items ≤ length ways.new.items }
-    ensures long { OnOk result (n ≤ length ways.new.items) }
-{
-    for _key in ways.len()..n {
-        match ways.push(Way::new()) {
-            Ok(()) => {}
-            Err(_) => return Err(Memory),
-        }
-    }
-    Ok(())
-}
 
 // Makes so many keys, the new ones 0.
 fn grow_keys(keys: &mut Vec<usize>, n: usize) -> Result<(), Memory>
@@ -38,7 +21,7 @@ fn grow_keys(keys: &mut Vec<usize>, n: usize) -> Result<(), Memory>
     Ok(())
 }
 
-/// Makes so many keys free, and room for so many flows with so many uses.
+/// Makes so many keys free, each with room for a way in the index, and room for so many flows with so many uses.
 pub(crate) fn grow(kept: &mut Kept, n: usize, flows: usize, uses: usize) -> Result<(), Memory>
     requires { IsSound kept.old }
     ensures grows { Grows kept.old kept.new }
@@ -46,6 +29,7 @@ pub(crate) fn grow(kept: &mut Kept, n: usize, flows: usize, uses: usize) -> Resu
     ensures keys { OnOk result (n ≤ kept.new.lives.room) }
     ensures flows { OnOk result (flows ≤ kept.new.lazy.flow_room) }
     ensures uses { OnOk result (uses ≤ kept.new.lazy.use_room) }
+    ensures ways { OnOk result (66 * n ≤ kept.new.index.room) }
 {
     let Some(keys) = kept.lives.numbers().checked_add(n) else {
         return Err(Memory);
@@ -53,7 +37,10 @@ pub(crate) fn grow(kept: &mut Kept, n: usize, flows: usize, uses: usize) -> Resu
     let Some(numbers) = kept.lazy.numbers().checked_add(flows) else {
         return Err(Memory);
     };
-    grow_ways(&mut kept.ways, keys)?;
+    let Some(ways) = n.checked_mul(66) else {
+        return Err(Memory);
+    };
+    kept.index.reserve(keys, ways)?;
     grow_keys(&mut kept.by_flow, numbers)?;
     kept.agenda.reserve(keys)?;
     kept.fresh.reserve(keys)?;

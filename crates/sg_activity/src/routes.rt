@@ -1,60 +1,19 @@
 //! Routes: what the flows over them use, and what bounds them.
 
-ghost use Rattle.std.specs.Prelude.{◌≡◌, ◌+◌, ◌<◌, ◌≤◌, ◌^◌, [], All, length};
+ghost use Rattle.std.specs.Prelude.{◌≡◌, ◌+◌, ◌-◌, ◌<◌, ◌≤◌, ◌^◌, [], ◌∷◌, ◌++◌, All, length};
 ghost use Rattle.sg_base.specs.declared.ids.LinkId.{LinkId};
 ghost use Rattle.sg_activity.specs.Slots.{sooner};
 ghost use Rattle.sg_activity.specs.Task.{over};
 ghost use Rattle.sg_activity.specs.kept.Index.{used_at};
+ghost use Rattle.sg_activity.specs.kept.Rows.{IsWayRow, link_of, row_at, way_in};
 ghost use Rattle.sg_activity.specs.Links.{bound_of_link, route_bound, shared_of};
 
+use crate::index::Index;
 use crate::kinds::LinkCap;
 use arrayvec::ArrayVec;
-use sg_base::LinkId;
-use std::marker::Model;
-
-/// The links of a route, FATPIPE links too.
-#[derive(Drop)]
-pub(crate) struct Way {
-    links: ArrayVec<LinkId, 64>,
-}
-
-impl Model for Way {
-    ghost use Rattle.std.specs.Prelude.{List};
-    ghost use Rattle.sg_base.specs.declared.ids.LinkId.{LinkId};
-
-    ghost Value = { List LinkId };
-
-    ghost view = { λ w. w.links.items };
-}
-
-impl Way {
-    /// No links.
-    pub(crate) fn new() -> Way
-        ensures { result ≡ [] }
-    {
-        Way {
-            links: ArrayVec::new(),
-        }
-    }
-
-    /// Takes the links of this route in place of its own.
-    pub(crate) fn follow(&mut self, route: &[LinkId])
-        requires { length route.now ≤ 64 }
-        ensures { self.new ≡ route.now }
-    {
-        self.links.clear();
-        for link in route {
-            self.links.push(*link);
-        }
-    }
-
-    /// The links.
-    pub(crate) fn route(&self) -> &[LinkId]
-        ensures { result.now ≡ self.now }
-    {
-        self.links.as_slice()
-    }
-}
+use sg_base::{LinkId, Steps};
+use std::marker::Brand;
+use std::sync::ledger::{Blank, Ledger};
 
 /// The less of two bounds.
 pub(crate) fn tighter(bound: Option<u64>, other: Option<u64>) -> Option<u64>
@@ -129,4 +88,54 @@ pub(crate) fn things_of(
         things.push(hosts + link.0 as usize);
     }
     things
+}
+
+// What stands at a place of what a communication uses comes to the end of its links, unless it is one of the two ends.
+fn put_link(links: &mut ArrayVec<LinkId, 64>, hosts: usize, place: usize, thing: usize)
+    requires room { 2 ≤ place → length links.old.items < 64 }
+    requires behind { 2 ≤ place → hosts ≤ thing }
+    requires small { 2 ≤ place → thing - hosts < 2 ^ 32 }
+    ensures end { place < 2 → links.new.items ≡ links.old.items }
+    ensures link { 2 ≤ place → links.new.items ≡ links.old.items ++ link_of hosts thing ∷ [] }
+{
+    if place >= 2 {
+        links.push(LinkId((thing - hosts) as u32));
+    }
+}
+
+// The links of a way, as the index has it.
+fn read_way<L: Ledger>(
+    index: &Index,
+    key: usize,
+    hosts: usize,
+    blank: Blank,
+) -> ArrayVec<LinkId, 64>
+    requires name { blank.name ≡ L.name }
+    requires parts { blank.parts ≡ L.parts }
+    requires some { 0 < blank.parts }
+    requires key { key < length index.now.rows }
+    requires way { IsWayRow hosts (row_at index.now.rows key) }
+    ensures { result.items ≡ way_in hosts (row_at index.now.rows key) }
+{
+    let mut steps = Steps::<L>::new(blank);
+    let mut links = ArrayVec::new();
+    let mut place = 0;
+    let mut at = index.first_of(key);
+    while let Some(i) = at {
+        let one = index.look(i, &mut steps);
+        put_link(&mut links, hosts, place, one.resource);
+        place += 1;
+        at = one.next_of_flow;
+    }
+    links
+}
+
+/// The links of the way of the communication under a key, which the index has. In front of the links stand so many
+/// hosts.
+pub(crate) fn way_of(index: &Index, key: usize, hosts: usize) -> ArrayVec<LinkId, 64>
+    requires key { key < length index.now.rows }
+    requires way { IsWayRow hosts (row_at index.now.rows key) }
+    ensures { result.items ≡ way_in hosts (row_at index.now.rows key) }
+{
+    read_way::<Brand>(index, key, hosts, Blank::new(1))
 }

@@ -7,15 +7,17 @@ ghost use Rattle.sg_chains.specs.Chained.{users_on};
 ghost use Rattle.sg_activity.specs.Links.{is_off};
 ghost use Rattle.sg_activity.specs.Task.{is_cut, uses_off as uses_off_spec};
 ghost use Rattle.sg_activity.specs.kept.Hits.{AreHit, AreLooked, ArePlaced, AreSwitches, Flips, hit_in};
+ghost use Rattle.sg_activity.specs.kept.Index.{used_in};
 ghost use Rattle.sg_activity.specs.kept.Pool.{slot_at};
+ghost use Rattle.sg_activity.specs.kept.Rows.{row_at};
 ghost use Rattle.sg_activity.specs.kept.Sound.{IsPlace, IsSound, place_at};
-ghost use Rattle.sg_activity.specs.kept.State.{links_at, state_of};
+ghost use Rattle.sg_activity.specs.kept.State.{links_at, state_of, ways_of};
 ghost use Rattle.sg_activity.specs.kept.Whole.{IsUsed};
 
-use crate::index::Index;
 use crate::kept::Kept;
 use crate::kinds::PhaseKind;
 use crate::lives::Live;
+use crate::routes::way_of;
 use sg_base::{LinkId, Serial, Steps};
 use sg_heap::Agenda;
 use std::marker::Brand;
@@ -47,17 +49,19 @@ pub(crate) fn is_way_cut(kept: &Kept, links: &[LinkId], sender: usize, receiver:
 
 // Whether the activity under a key uses something that is off.
 fn uses_off(kept: &Kept, key: usize, live: &Live) -> bool
-    requires key { key < length kept.now.ways.items }
+    requires key { key < length kept.now.index.rows }
     requires switches { AreSwitches kept.now }
     requires place { IsPlace (state_of kept.now).capacities
         (place_at (state_of kept.now) key live.now) }
+    requires row { row_at kept.now.index.rows key ≡ used_in kept.now key live.now }
     ensures { result ≡ uses_off_spec (state_of kept.now).on
         (place_at (state_of kept.now) key live.now) }
 {
     match live.kind {
         PhaseKind::Exec | PhaseKind::Kept => !kept.hosts_on[live.host],
         PhaseKind::Latency | PhaseKind::Flow => {
-            is_way_cut(kept, kept.ways[key].route(), live.host, live.peer)
+            let way = way_of(&kept.index, key, kept.hosts.len());
+            is_way_cut(kept, way.as_slice(), live.host, live.peer)
         }
         PhaseKind::Timer => false,
     }
@@ -66,12 +70,12 @@ fn uses_off(kept: &Kept, key: usize, live: &Live) -> bool
 // Notes whether the activity under a key uses something that is off.
 fn update_hit(kept: &Kept, hits: &mut Agenda, key: usize)
     requires key { key < length kept.now.lives.slots }
-    requires ways { length kept.now.lives.slots ≤ length kept.now.ways.items }
+    requires used { IsUsed kept.now kept.now.index }
     requires hits { length kept.now.lives.slots ≤ length hits.old }
     requires switches { AreSwitches kept.now }
     requires placed { ArePlaced kept.now }
     ensures { hits.new ≡ slice_set hits.old key
-        (hit_in (state_of kept.now).on (links_at kept.now.ways.items key)
+        (hit_in (state_of kept.now).on (links_at (ways_of kept.now) key)
         (slot_at kept.now.lives.slots key)) }
 {
     let Some(live) = kept.lives.get(key) else {
@@ -86,34 +90,34 @@ fn update_hit(kept: &Kept, hits: &mut Agenda, key: usize)
 }
 
 // The same of each activity that uses a thing.
-fn update_hits<L: Ledger>(kept: &Kept, index: &Index, hits: &mut Agenda, thing: usize, blank: Blank)
+fn update_hits<L: Ledger>(kept: &Kept, hits: &mut Agenda, thing: usize, blank: Blank)
     requires name { blank.name ≡ L.name }
     requires parts { blank.parts ≡ L.parts }
     requires some { 0 < blank.parts }
-    requires thing { thing < length index.now.users }
+    requires thing { thing < length kept.now.index.users }
     requires keys { All (λ key. key < length kept.now.lives.slots)
-        (users_on index.now.users thing) }
-    requires ways { length kept.now.lives.slots ≤ length kept.now.ways.items }
+        (users_on kept.now.index.users thing) }
+    requires used { IsUsed kept.now kept.now.index }
     requires hits { length kept.now.lives.slots ≤ length hits.old }
     requires switches { AreSwitches kept.now }
     requires placed { ArePlaced kept.now }
-    ensures { AreLooked (state_of kept.now).on kept.now.lives.slots kept.now.ways.items
-        hits.old hits.new (users_on index.now.users thing) }
+    ensures { AreLooked (state_of kept.now).on kept.now.lives.slots (ways_of kept.now)
+        hits.old hits.new (users_on kept.now.index.users thing) }
 {
     let mut steps = Steps::<L>::new(blank);
-    let mut at = index.first_on(thing);
+    let mut at = kept.index.first_on(thing);
     while let Some(i) = at {
-        let one = index.look(i, &mut steps);
+        let one = kept.index.look(i, &mut steps);
         update_hit(kept, hits, one.flow);
         at = one.next_on;
     }
 }
 
 /// Puts a host on or off: an execution there uses it, and a communication from it or to it.
-pub(crate) fn set_host_on(kept: &mut Kept, index: &Index, hits: &mut Agenda, host: usize, on: bool)
+pub(crate) fn set_host_on(kept: &mut Kept, hits: &mut Agenda, host: usize, on: bool)
     requires host { host < length kept.old.hosts.items }
     requires sound { IsSound kept.old }
-    requires used { IsUsed kept.old index.now }
+    requires used { IsUsed kept.old kept.old.index }
     requires switches { AreSwitches kept.old }
     requires hit { AreHit kept.old hits.old }
     ensures flips { Flips kept.old kept.new
@@ -121,18 +125,18 @@ pub(crate) fn set_host_on(kept: &mut Kept, index: &Index, hits: &mut Agenda, hos
     ensures switches { AreSwitches kept.new }
     ensures hit { AreHit kept.new hits.new }
 {
-    index.is_both_ways();
+    kept.index.is_both_ways();
     let end = kept.hosts.len() + kept.links.len() + host;
     kept.hosts_on[host] = on;
-    update_hits::<Brand>(kept, index, hits, host, Blank::new(1));
-    update_hits::<Brand>(kept, index, hits, end, Blank::new(1));
+    update_hits::<Brand>(kept, hits, host, Blank::new(1));
+    update_hits::<Brand>(kept, hits, end, Blank::new(1));
 }
 
 /// Puts a link on or off.
-pub(crate) fn set_link_on(kept: &mut Kept, index: &Index, hits: &mut Agenda, link: usize, on: bool)
+pub(crate) fn set_link_on(kept: &mut Kept, hits: &mut Agenda, link: usize, on: bool)
     requires link { link < length kept.old.links.items }
     requires sound { IsSound kept.old }
-    requires used { IsUsed kept.old index.now }
+    requires used { IsUsed kept.old kept.old.index }
     requires switches { AreSwitches kept.old }
     requires hit { AreHit kept.old hits.old }
     ensures flips { Flips kept.old kept.new
@@ -140,8 +144,8 @@ pub(crate) fn set_link_on(kept: &mut Kept, index: &Index, hits: &mut Agenda, lin
     ensures switches { AreSwitches kept.new }
     ensures hit { AreHit kept.new hits.new }
 {
-    index.is_both_ways();
+    kept.index.is_both_ways();
     let thing = kept.hosts.len() + link;
     kept.links_on[link] = on;
-    update_hits::<Brand>(kept, index, hits, thing, Blank::new(1));
+    update_hits::<Brand>(kept, hits, thing, Blank::new(1));
 }

@@ -6,7 +6,9 @@ use Rattle.sg_activity.specs.declared.kept.Kept.{Kept}
 use Rattle.sg_activity.specs.declared.lives.Live.{Live}
 use Rattle.sg_activity.specs.Links.{Capacities}
 use Rattle.sg_activity.specs.Task.{takes_share}
+use Rattle.sg_activity.specs.kept.Index.{used_in}
 use Rattle.sg_activity.specs.kept.Pool.{slot_at}
+use Rattle.sg_activity.specs.kept.Rows.{row_at}
 use Rattle.sg_activity.specs.kept.State.{state_of, asked_by}
 use Rattle.sg_activity.specs.kept.Sound.{IsPlace, IsSound, place_at}
 
@@ -20,12 +22,13 @@ abbrev pub rebound_by : Kept → ℕ → Live → Option RunningFlow → Option 
 rebound_by kept key live slot =
     option_map (rebound_to (asked_by (state_of kept) key live).bound) slot
 
--- Each activity is where something exists, and what takes a share has a flow of its own.
+-- Each activity is where something exists, which the index has, and what takes a share has a flow of its own.
 pub record HasFlows (kept : Kept) : Type 0 where
   pub places : (key : ℕ) (live : Live) → slot_at kept.lives.slots key ≡ Some live → IsPlace (state_of kept).capacities (place_at (state_of kept) key live)
   pub runs : (key : ℕ) (live : Live) → slot_at kept.lives.slots key ≡ Some live → IsTrue (takes_share live.kind) → IsSome (running_at kept.lazy.slots live.flow)
   pub own : (key : ℕ) (live : Live) → slot_at kept.lives.slots key ≡ Some live → IsTrue (takes_share live.kind) → slice_index kept.by_flow.items live.flow ≡ key
-  pub ways_long : length kept.lives.slots ≤ length kept.ways.items
+  pub rows : (key : ℕ) (live : Live) → slot_at kept.lives.slots key ≡ Some live → row_at kept.index.rows key ≡ used_in kept key live
+  pub rows_long : length kept.lives.slots ≤ length kept.index.rows
 
 -- The flows of the activities under these keys have the bounds that hold now, and nothing else changed.
 pub record Rebounds (old new : Kept) (keys : List ℕ) : Type 0 where
@@ -40,4 +43,5 @@ pub record Rebounds (old new : Kept) (keys : List ℕ) : Type 0 where
 pub record Resets (old new : Kept) (capacities : Capacities) (resource : ℕ) : Type 0 where
   pub state : state_of new ≡ record (state_of old) { capacities = capacities; runs = new.lazy.slots; resources = with_mark resource old.lazy.resources; settled = false }
   pub sound : IsSound new
+  pub index : new.index ≡ old.index
   pub room : new.room ≡ old.room

@@ -4,13 +4,13 @@ use Rattle.sg_heap.specs.Agenda.{key_at}
 use Rattle.sg_lazy.specs.RunningFlow.{running_at}
 use Rattle.sg_activity.specs.declared.kept.Kept.{Kept}
 use Rattle.sg_activity.specs.kept.Pool.{slot_at}
-use Rattle.sg_activity.specs.kept.State.{links_at}
+use Rattle.sg_activity.specs.kept.Rows.{IsWider}
 
 pub record Grows (old new : Kept) : Type 0 where
-  pub rest : new ≡ record old { lazy = new.lazy; lives = new.lives; ways = new.ways; agenda = new.agenda; by_flow = new.by_flow; fresh = new.fresh }
+  pub rest : new ≡ record old { lazy = new.lazy; lives = new.lives; index = new.index; agenda = new.agenda; by_flow = new.by_flow; fresh = new.fresh }
   pub slots : (key : ℕ) → slot_at new.lives.slots key ≡ slot_at old.lives.slots key
   pub slots_long : length old.lives.slots ≤ length new.lives.slots
-  pub links : (key : ℕ) → links_at new.ways.items key ≡ links_at old.ways.items key
+  pub wider : IsWider old.index new.index
   pub keys : (key : ℕ) → key_at new.agenda key ≡ key_at old.agenda key
   pub runs : (id : ℕ) → running_at new.lazy.slots id ≡ running_at old.lazy.slots id
   pub by_flow : (id : ℕ) → slice_index new.by_flow.items id ≡ slice_index old.by_flow.items id
@@ -22,7 +22,7 @@ pub record Grows (old new : Kept) : Type 0 where
   pub flow_room : old.lazy.flow_room ≤ new.lazy.flow_room
   pub use_room : old.lazy.use_room ≤ new.lazy.use_room
   pub longer : length old.by_flow.items ≤ length new.by_flow.items
-  pub ways_long : length new.lives.slots ≤ length new.ways.items
+  pub rows_long : length new.lives.slots ≤ length new.index.rows
   pub agenda_long : length new.lives.slots ≤ length new.agenda
   pub fresh_room : length new.lives.slots ≤ new.fresh.room
   pub by_flow_long : length new.lazy.slots ≤ length new.by_flow.items

@@ -1,5 +1,5 @@
 -- How the energy of hosts is kept.
-use Rattle.std.specs.Prelude.{◌≡◌, ℕ, ◌+◌, ◌<◌, ◌≤◌, ◌^◌, false, Option, None, Some, if◌then◌else◌, List, [], ◌∷◌, All, IsTrue, filter_map, length, map, replicate, sum_by, unwrap_or}
+use Rattle.std.specs.Prelude.{◌≡◌, ℕ, ◌+◌, ◌<◌, ◌≤◌, ◌^◌, false, Option, None, Some, if◌then◌else◌, List, [], ◌∷◌, IsTrue, filter_map, length, map, replicate, sum_by, unwrap_or}
 use Rattle.sg_base.specs.MarkSet.{MarkSet, is_in, with_mark}
 use Rattle.sg_energy.specs.Meter.{Metered, energy_at, first_meter, meter_of}
 use Rattle.sg_activity.specs.declared.kept.Kept.{Kept}

@@ -1,5 +1,7 @@
 -- What contracts see of `Lives`.
 use Rattle.std.specs.Prelude.{◌≡◌, ◌≢◌, ℕ, ◌+◌, ◌<◌, ◌≤◌, Bool, Option, None, Some, is_some, List, All, AllPairs, length, count_by, slice_index_or}
+use Rattle.sg_activity.specs.declared.kinds.PhaseKind.{PhaseKind}
+use Rattle.sg_activity.specs.declared.kinds.PhaseKind.TheVariants as phase
 use Rattle.sg_activity.specs.declared.lives.Live.{Live}
 use Rattle.sg_activity.specs.Slots.{passes}
 use Rattle.sg_activity.specs.Task.{goes_by}
@@ -20,6 +22,14 @@ SameSlots old new = (key : ℕ) → slot_at new key ≡ slot_at old key
 
 abbrev pub goes_on : Live → Bool
 goes_on live = goes_by live.kind
+
+-- over how many links a flow goes that begins once a phase of this kind is over, which is over a way of so many
+abbrev pub uses_ahead : PhaseKind → ℕ → ℕ
+uses_ahead phase.Latency links = links
+uses_ahead phase.Flow links = 0
+uses_ahead phase.Exec links = 0
+uses_ahead phase.Timer links = 0
+uses_ahead phase.Kept links = 0
 
 -- no activity is of this serial
 abbrev pub IsMissing : List (Option Live) → ℕ → Type 0

@@ -1,5 +1,5 @@
 -- What `Activities` keeps is of one mind.
-use Rattle.std.specs.Prelude.{◌≡◌, ◌≢◌, ℕ, ◌+◌, ◌*◌, ◌^◌, ◌<◌, ◌≤◌, ◌||◌, false, Option, None, Some, IfSome, List, [], length, slice_index, sum_by, All, AllPairs, IsTrue, IsSome}
+use Rattle.std.specs.Prelude.{◌≡◌, ◌≢◌, ℕ, ◌+◌, ◌*◌, ◌^◌, ◌<◌, ◌≤◌, ◌||◌, false, Option, None, Some, IfSome, List, [], length, slice_index, sum_by, All, AllPairs, IsTrue}
 use Rattle.sg_base.specs.declared.ids.LinkId.{LinkId}
 use Rattle.sg_base.specs.Limits.{IsPriority}
 use Rattle.sg_base.specs.MarkSet.{is_in}
@@ -8,18 +8,20 @@ use Rattle.sg_maxmin.specs.Fill.{share_of}
 use Rattle.sg_maxmin.specs.Sharing.{HasLimit}
 use Rattle.sg_lazy.specs.RunningFlow.{RunningFlow, running_at, flows_in}
 use Rattle.sg_activity.specs.declared.kept.Kept.{Kept}
+use Rattle.sg_activity.specs.declared.kinds.PhaseKind.TheVariants as phase
 use Rattle.sg_activity.specs.declared.lives.Live.{Live}
 use Rattle.sg_activity.specs.Links.{Capacities, capacities_of}
 use Rattle.sg_activity.specs.Task.{Place, Way, nowhere, on_host, over, flows_ahead, takes_share, pace, is_rebound_at}
-use Rattle.sg_activity.specs.kept.Pool.{slot_at}
+use Rattle.sg_activity.specs.kept.Pool.{slot_at, uses_ahead}
 use Rattle.sg_activity.specs.kept.State.{State, state_of, links_at, place_of, asked_by, dated, due_at}
 
--- all different links that exist, one at least and 64 at most
+-- all different links that exist, one at least and 64 at most; links are counted in 32 bits
 pub record IsWay (capacities : Capacities) (way : List LinkId) : Type 0 where
   pub some : way ≢ []
   pub apart : AllPairs (λ a b. a ≢ b) way
   pub exist : All (λ (link : LinkId). link.0 < length capacities.links) way
   pub few : length way ≤ 64
+  pub small : length capacities.links ≤ 2 ^ 32
 
 -- the links of a way exist, and the hosts at its ends
 pub record IsPath (capacities : Capacities) (way : Way) : Type 0 where
@@ -53,7 +55,7 @@ pub record HasFlow (s : State) (key : ℕ) (live : Live) : Type 0 where
   pub within : live.flow < length s.by_flow
   pub known : slice_index s.by_flow live.flow ≡ key
 
--- The activity under a key: its stamp isn't ahead, its date isn't past, and the agenda has it there.
+-- The activity under a key: its stamp isn't ahead, its date isn't past, and the agenda has it there. A latency knows of as many links as it has.
 pub record IsHeld (s : State) (key : ℕ) (live : Live) : Type 0 where
   pub from : 0 < live.serial
   pub to : live.serial ≤ s.drawn
@@ -64,6 +66,7 @@ pub record IsHeld (s : State) (key : ℕ) (live : Live) : Type 0 where
   pub weighs : IsPriority live.weight
   pub paced : takes_share live.kind ≡ false → live.rate ≡ pace live.kind
   pub placed : IsPlace s.capacities (place_at s key live)
+  pub counted : live.kind ≡ phase.Latency → length (links_at s.ways key) ≤ live.links
   pub flow : IsTrue (takes_share live.kind) → HasFlow s key live
   pub dated : key_at s.keys key ≡ dated s.fresh key live
 
@@ -94,16 +97,21 @@ abbrev pub slot_ahead : Option Live → ℕ
 slot_ahead None = 0
 slot_ahead (Some live) = flows_ahead live.kind
 
--- There is room for the starts that were asked for, and for the flows that follow latencies.
+abbrev pub slot_uses : Option Live → ℕ
+slot_uses None = 0
+slot_uses (Some live) = uses_ahead live.kind live.links
+
+-- There is room for the starts that were asked for, whose ways may have 64 links, and for the flows that follow latencies, over the links of theirs.
 pub record HasRoom (kept : Kept) : Type 0 where
   pub capacities : kept.lazy.capacities ≡ capacities_of (state_of kept).capacities
   pub few : kept.drawn ≤ 10 ^ 9
   pub early : kept.date < 10 ^ 34
   pub flows : kept.flows ≡ kept.room + sum_by slot_ahead kept.lives.slots
   pub flow_room : kept.flows ≤ kept.lazy.flow_room
-  pub use_room : 64 * kept.flows ≤ kept.lazy.use_room
+  pub uses : kept.uses ≡ 64 * kept.room + sum_by slot_uses kept.lives.slots
+  pub use_room : kept.uses ≤ kept.lazy.use_room
   pub keys_free : kept.room ≤ kept.lives.room
-  pub ways_long : length kept.lives.slots ≤ length kept.ways.items
+  pub rows_long : length kept.lives.slots ≤ length kept.index.rows
   pub agenda_long : length kept.lives.slots ≤ length kept.agenda
   pub fresh_room : length kept.lives.slots ≤ kept.fresh.room
   pub by_flow_long : length kept.lazy.slots ≤ length kept.by_flow.items

@@ -1,5 +1,5 @@
 -- What is kept, and what it stands for.
-use Rattle.std.specs.Prelude.{ℕ, suc, ◌+◌, ◌==◌, Bool, false, Option, None, Some, option_map, option_and_then, if◌then◌else◌, List, [], ◌∷◌, map, slice_index_or}
+use Rattle.std.specs.Prelude.{ℕ, suc, ◌+◌, ◌==◌, Bool, false, Option, None, Some, option_map, option_and_then, if◌then◌else◌, List, [], ◌∷◌, length, map}
 use Rattle.sg_base.specs.declared.ids.LinkId.{LinkId}
 use Rattle.sg_base.specs.MarkSet.{is_in}
 use Rattle.sg_heap.specs.Agenda.{Key, key_at}
@@ -16,6 +16,7 @@ use Rattle.sg_activity.specs.Task.{Place, nowhere, on_host, over, Task, flow_of,
 use Rattle.sg_activity.specs.Underway.{Underway}
 use Rattle.sg_activity.specs.kept.Stamps.{left_at, due_of}
 use Rattle.sg_activity.specs.kept.Pool.{slot_at}
+use Rattle.sg_activity.specs.kept.Rows.{row_at, way_in}
 
 -- What is kept: by key the activities, the links of their ways and their dates; by number the flows, and the keys of these; the keys under which phases began since the rates were brought up to date, the flows that ended since, and the resources whose capacity changed since; and whether those whose date is now are due.
 pub record State : Type 0 where
@@ -24,7 +25,7 @@ pub record State : Type 0 where
   pub date : ℕ
   pub drawn : ℕ
   pub slots : List (Option Live)
-  pub ways : List (List LinkId)
+  pub ways : ℕ → List LinkId
   pub keys : List (Option Key)
   pub runs : List (Option RunningFlow)
   pub by_flow : List ℕ
@@ -34,6 +35,10 @@ pub record State : Type 0 where
   pub settled : Bool
   pub arrived : Bool
 
+-- by key the links of the way of each communication
+abbrev pub ways_of : Kept → ℕ → List LinkId
+ways_of kept = λ key. way_in (length kept.hosts.items) (row_at kept.index.rows key)
+
 abbrev pub state_of : Kept → State
 state_of kept = record {
   capacities = machines kept.hosts.items kept.links.items;
@@ -41,7 +46,7 @@ state_of kept = record {
   date = kept.date;
   drawn = kept.drawn;
   slots = kept.lives.slots;
-  ways = kept.ways.items;
+  ways = ways_of kept;
   keys = kept.agenda;
   runs = kept.lazy.slots;
   by_flow = kept.by_flow.items;
@@ -54,8 +59,8 @@ state_of kept = record {
 
 -- ---- by key
 -- the links of the way under a key
-abbrev pub links_at : List (List LinkId) → ℕ → List LinkId
-links_at ways key = slice_index_or ways key []
+abbrev pub links_at : (ℕ → List LinkId) → ℕ → List LinkId
+links_at ways key = ways key
 
 -- where a phase goes on: an execution on its host, a latency and a flow over these links from the host to its peer
 abbrev pub place_of : PhaseKind → ℕ → ℕ → List LinkId → Place

@@ -9,36 +9,37 @@ use Rattle.sg_activity.specs.declared.kinds.LinkCap.{LinkCap}
 use Rattle.sg_activity.specs.Doing.{idle_on}
 use Rattle.sg_activity.specs.Hosts.{IsHost}
 use Rattle.sg_activity.specs.kept.Hits.{AreHit, AreSwitches}
-use Rattle.sg_activity.specs.kept.Index.{Indexed, IsIndexed}
+use Rattle.sg_activity.specs.kept.Index.{IsIndexed}
 use Rattle.sg_activity.specs.kept.Metered.{IsMetered, metered_in}
+use Rattle.sg_activity.specs.kept.Rows.{Indexed}
 use Rattle.sg_activity.specs.kept.Sound.{IsSound}
-use Rattle.sg_activity.specs.kept.State.{doing_of, state_of}
+use Rattle.sg_activity.specs.kept.State.{doing_of, state_of, ways_of}
 
 -- the index has what the activities use
 abbrev pub IsUsed : Kept → Indexed → Type 0
-IsUsed kept index = IsIndexed (state_of kept).capacities kept.lives.slots kept.ways.items kept.room index
+IsUsed kept index = IsIndexed (state_of kept).capacities kept.lives.slots (ways_of kept) kept.room index
 
-pub record IsWhole (kept : Kept) (index : Indexed) (hits : List (Option Key)) (meters : List Metered) (touched : MarkSet) : Type 0 where
+pub record IsWhole (kept : Kept) (hits : List (Option Key)) (meters : List Metered) (touched : MarkSet) : Type 0 where
   pub sound : IsSound kept
   pub hosts : All IsHost kept.hosts.items
-  pub used : IsUsed kept index
+  pub used : IsUsed kept kept.index
   pub switches : AreSwitches kept
   pub hit : AreHit kept hits
   pub metered : IsMetered kept meters touched
 
 -- The rates are up to date, and the index has what the activities use: so loads can be told.
-pub record CanTell (kept : Kept) (index : Indexed) : Type 0 where
+pub record CanTell (kept : Kept) : Type 0 where
   pub sound : IsSound kept
   pub hosts : All IsHost kept.hosts.items
-  pub used : IsUsed kept index
+  pub used : IsUsed kept kept.index
   pub switches : AreSwitches kept
   pub settled : IsTrue kept.settled
 
 -- Nothing is under way on these hosts and links.
-pub record AreIdle (kept : Kept) (index : Indexed) (hits : List (Option Key)) (hosts : List HostCap) (links : List LinkCap) : Type 0 where
+pub record AreIdle (kept : Kept) (hits : List (Option Key)) (hosts : List HostCap) (links : List LinkCap) : Type 0 where
   pub sound : IsSound kept
   pub are_hosts : All IsHost kept.hosts.items
-  pub used : IsUsed kept index
+  pub used : IsUsed kept kept.index
   pub switches : AreSwitches kept
   pub hit : AreHit kept hits
   pub hosts_are : kept.hosts.items ≡ hosts

@@ -16,7 +16,7 @@ use Rattle.sg_activity.proofs.capacities.set_bandwidth.Goals as goal
 use Rattle.sg_activity.proofs.capacities.set_bandwidth.Goals.{then-fatpipe, else-fatpipe}
 
 pub update_bounds-requires-clause-keys : goal.update_bounds-requires-clause-keys
-update_bounds-requires-clause-keys c = users_below c.args.kept.now c.args.index.now c.requires.used c.is_both_ways.ensures (c.len.result + c.args.link)
+update_bounds-requires-clause-keys c = users_below c.args.kept.now c.args.kept.now.index c.requires.used c.is_both_ways.ensures (c.len.result + c.args.link)
 
 pub update_bounds-requires-clause-flows : goal.update_bounds-requires-clause-flows
 update_bounds-requires-clause-flows c =
@@ -25,7 +25,7 @@ update_bounds-requires-clause-flows c =
     let link = c.args.link in
     let fat : c.index.result.now.fatpipe ≡ (cap_at kept.links.items link).fatpipe = ap (λ (l : LinkCap). l.fatpipe) (c.index.ensures ∙ get_or_default kept.links.items link _ _ c.requires.link) in
     let hosts : c.len.result ≡ length kept.hosts.items = c.len.ensures ∙ kept.hosts.ok.0 in
-    flows_reset kept _ (at_bandwidth link c.args.bandwidth s.capacities) (length kept.hosts.items + link) c.args.bandwidth c.requires.sound (bandwidth_moved s.capacities link c.args.bandwidth c.requires.link) refl
+    flows_reset kept _ (at_bandwidth link c.args.bandwidth s.capacities) (length kept.hosts.items + link) c.args.bandwidth c.requires.sound c.requires.used (bandwidth_moved s.capacities link c.args.bandwidth c.requires.link) refl
     (ap (λ b. machines kept.hosts.items (set kept.links.items link (record { bandwidth = c.args.bandwidth; fatpipe = b }))) fat) (c.set_capacity.ensures ∙ ap (λ n. with_capacity kept.lazy (n + link) c.args.bandwidth) hosts)
     (bandwidth_capacities s.capacities link c.args.bandwidth)
 
@@ -35,19 +35,19 @@ returns c =
     let s : State = state_of kept in
     let link = c.args.link in
     let new = c.if-fatpipe.kept in
-    let index = c.args.index.now in
+    let index = c.args.kept.now.index in
     let fat : c.index.result.now.fatpipe ≡ (cap_at kept.links.items link).fatpipe = ap (λ (l : LinkCap). l.fatpipe) (c.index.ensures ∙ get_or_default kept.links.items link _ _ c.requires.link) in
     let hosts : c.len.result ≡ length kept.hosts.items = c.len.ensures ∙ kept.hosts.ok.0 in
     let capacities = ap (λ b. machines kept.hosts.items (set kept.links.items link (record { bandwidth = c.args.bandwidth; fatpipe = b }))) fat in
     let lazy = c.set_capacity.ensures ∙ ap (λ n. with_capacity kept.lazy (n + link) c.args.bandwidth) hosts in
     elim c.if-fatpipe.branch [
       | then-fatpipe w ↦
-          resets kept _ (at_bandwidth link c.args.bandwidth s.capacities) (length kept.hosts.items + link) c.args.bandwidth c.requires.sound (bandwidth_moved s.capacities link c.args.bandwidth c.requires.link) refl capacities lazy
+          resets kept _ (at_bandwidth link c.args.bandwidth s.capacities) (length kept.hosts.items + link) c.args.bandwidth c.requires.sound c.requires.used (bandwidth_moved s.capacities link c.args.bandwidth c.requires.link) refl capacities lazy
           (bandwidth_capacities s.capacities link c.args.bandwidth) new (users_on index.users (c.len.result + link)) (subst (λ k. Rebounds _ k (users_on index.users (c.len.result + link))) (sym w.kept-is) w.update_bounds.ensures)
           (λ key live at. is_user kept index c.requires.used c.is_both_ways.ensures (c.len.result + link) key live at ∙ ap (λ n. is_in (n + link) (used_at (length kept.hosts.items) (length kept.links.items) (place_at s key live))) hosts
           ∙ fatpipe_users s.capacities link c.args.bandwidth c.requires.link (sym fat ∙ w.if-fatpipe.true) (place_at s key live))
       | else-fatpipe w ↦
-          resets kept _ (at_bandwidth link c.args.bandwidth s.capacities) (length kept.hosts.items + link) c.args.bandwidth c.requires.sound (bandwidth_moved s.capacities link c.args.bandwidth c.requires.link) refl capacities lazy
+          resets kept _ (at_bandwidth link c.args.bandwidth s.capacities) (length kept.hosts.items + link) c.args.bandwidth c.requires.sound c.requires.used (bandwidth_moved s.capacities link c.args.bandwidth c.requires.link) refl capacities lazy
           (bandwidth_capacities s.capacities link c.args.bandwidth) new [] (rebound_none _ new w.kept-is)
           (λ key live at. sym (shared_users s.capacities link c.args.bandwidth c.requires.link (sym fat ∙ w.if-fatpipe.false) (place_at s key live) (c.requires.sound.are.each key live at).placed))
     ]

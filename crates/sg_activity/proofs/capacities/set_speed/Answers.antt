@@ -11,7 +11,7 @@ use Rattle.sg_activity.proofs.Reset.{flows_reset, is_user, resets, users_below}
 use Rattle.sg_activity.proofs.capacities.set_speed.Goals as goal
 
 pub update_bounds-requires-clause-keys : goal.update_bounds-requires-clause-keys
-update_bounds-requires-clause-keys c = users_below c.args.kept.now c.args.index.now c.requires.used c.is_both_ways.ensures c.args.host
+update_bounds-requires-clause-keys c = users_below c.args.kept.now c.args.kept.now.index c.requires.used c.is_both_ways.ensures c.args.host
 
 pub update_bounds-requires-clause-flows : goal.update_bounds-requires-clause-flows
 update_bounds-requires-clause-flows c =
@@ -19,7 +19,7 @@ update_bounds-requires-clause-flows c =
     let s : State = state_of kept in
     let host = c.args.host in
     let is : c.index-cap.result.now ≡ host_at kept.hosts.items host = c.index-cap.ensures ∙ get_or_default kept.hosts.items host _ _ c.requires.host in
-    flows_reset kept _ (at_speed host c.args.speed s.capacities) host (c.args.speed * c.from.result) c.requires.sound (speed_moved s.capacities host c.args.speed) refl
+    flows_reset kept _ (at_speed host c.args.speed s.capacities) host (c.args.speed * c.from.result) c.requires.sound c.requires.used (speed_moved s.capacities host c.args.speed) refl
     (ap (λ (h : HostCap). machines (set kept.hosts.items host (record h { speed = c.args.speed })) kept.links.items) is) c.set_capacity.ensures
     (ap (λ n. set (capacities_of s.capacities) host (c.args.speed * n)) (c.from.ensures ∙ ap (λ (h : HostCap). h.cores) is) ∙ speed_capacities s.capacities host c.args.speed c.requires.host)
 
@@ -29,8 +29,8 @@ returns c =
     let s : State = state_of kept in
     let host = c.args.host in
     let is : c.index-cap.result.now ≡ host_at kept.hosts.items host = c.index-cap.ensures ∙ get_or_default kept.hosts.items host _ _ c.requires.host in
-    resets kept _ (at_speed host c.args.speed s.capacities) host (c.args.speed * c.from.result) c.requires.sound (speed_moved s.capacities host c.args.speed) refl
+    resets kept _ (at_speed host c.args.speed s.capacities) host (c.args.speed * c.from.result) c.requires.sound c.requires.used (speed_moved s.capacities host c.args.speed) refl
     (ap (λ (h : HostCap). machines (set kept.hosts.items host (record h { speed = c.args.speed })) kept.links.items) is) c.set_capacity.ensures
     (ap (λ n. set (capacities_of s.capacities) host (c.args.speed * n)) (c.from.ensures ∙ ap (λ (h : HostCap). h.cores) is) ∙ speed_capacities s.capacities host c.args.speed c.requires.host)
-    c.update_bounds.new.kept (users_on c.args.index.now.users host) c.update_bounds.ensures
-    (λ key live at. is_user kept c.args.index.now c.requires.used c.is_both_ways.ensures host key live at ∙ host_users s.capacities host c.requires.host (place_at s key live))
+    c.update_bounds.new.kept (users_on c.args.kept.now.index.users host) c.update_bounds.ensures
+    (λ key live at. is_user kept c.args.kept.now.index c.requires.used c.is_both_ways.ensures host key live at ∙ host_users s.capacities host c.requires.host (place_at s key live))

@@ -1,5 +1,5 @@
 use Rattle.std.proofs.Common.{◌≡◌, ℕ, ◌≤◌, length}
-use Rattle.sg_activity.specs.kept.Index.{uses_at}
+use Rattle.sg_activity.specs.kept.Rows.{uses_at}
 use Rattle.sg_activity.proofs.index.grow_rows.Given as goal
 
 abbrev pub invariant-loop-key : goal.invariant-loop-key

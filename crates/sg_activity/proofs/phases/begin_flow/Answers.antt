@@ -1,5 +1,4 @@
-use Rattle.std.proofs.Common.{◌≡◌, ◌*◌, ◌<◌, ℕ, All, true, false, is_some, None, Some, List, [], ◌∷◌, ◌++◌, length, length-set, get_or, set, sum_by, sym, ap, ap₂, subst, ◌∙◌, refl, arith}
-use Rattle.std.proofs.lemmas.List.{get_or_default}
+use Rattle.std.proofs.Common.{◌≡◌, ◌*◌, ◌<◌, ◌≤◌, ℕ, All, true, false, is_some, None, Some, List, length, length-set, get_or, set, sum_by, sym, ap, ap₂, subst, ◌∙◌, refl, arith}
 use Rattle.std.specs.Option.{IfSome}
 use Rattle.sg_base.specs.declared.ids.LinkId.{LinkId}
 use Rattle.sg_base.specs.MarkSet.{MarkSet, with_mark}
@@ -12,73 +11,101 @@ use Rattle.sg_activity.specs.declared.kinds.PhaseKind.TheVariants as phase
 use Rattle.sg_activity.specs.declared.lives.Live.{Live}
 use Rattle.sg_activity.specs.Links.{capacities_of, route_bound, shared_of}
 use Rattle.sg_activity.specs.Slots.{sooner}
-use Rattle.sg_activity.specs.kept.State.{State, state_of, links_at, place_of, under_of}
-use Rattle.sg_activity.specs.kept.Sound.{IsKept, IsPath, IsPlace, IsSound, IsWay, slot_ahead}
+use Rattle.sg_activity.specs.kept.State.{State, state_of, links_at, place_of, under_of, ways_of}
+use Rattle.sg_activity.specs.kept.Sound.{IsKept, IsPath, IsPlace, IsSound, IsWay, slot_ahead, slot_uses}
 use Rattle.sg_activity.specs.Task.{flows_ahead}
+use Rattle.sg_activity.specs.kept.Pool.{uses_ahead}
 use Rattle.sg_activity.specs.kept.Turns.{Turns}
 use Rattle.sg_activity.proofs.Pairing.{there_within}
-use Rattle.sg_activity.proofs.Roomy.{ahead_set, ahead_counted}
-use Rattle.sg_activity.proofs.Routed.{way_is_flow}
+use Rattle.sg_activity.proofs.Roomy.{ahead_set, ahead_counted, uses_set, uses_counted}
+use Rattle.sg_activity.proofs.Routed.{shared_few, way_is_flow}
 use Rattle.sg_activity.proofs.Turned.{turned}
 use Rattle.sg_activity.proofs.Turning.{begun_state, state_same, flow_turns, flow_begins, flow_under}
 use Rattle.std.proofs.Common.{inl, inr}
 use Rattle.sg_activity.specs.kept.Index.{used_by}
+use Rattle.sg_activity.specs.kept.Rows.{IsWayRow, row_at, way_in}
+use Rattle.sg_activity.specs.kept.Whole.{IsUsed}
 use Rattle.sg_activity.specs.kept.Hits.{hit_in}
 use Rattle.sg_activity.proofs.Hitting.{hits_still, hit_on}
-use Rattle.sg_activity.proofs.Indexing.{used_still, used_on}
+use Rattle.sg_activity.proofs.Indexing.{place_row, used_still, used_on}
 use Rattle.sg_activity.proofs.Listing.{eq_cases}
 use Rattle.sg_activity.proofs.Starts.{set_here, set_there}
 use Rattle.sg_activity.proofs.phases.begin_flow.Goals as goal
 
 -- the way of a latency, and its ends
-path_of : (kept : Kept) (key : ℕ) (live : Live) → IsSound kept → get_or kept.lives.slots key None ≡ Some live → live.kind ≡ phase.Latency → IsPath (state_of kept).capacities (record { links = links_at kept.ways.items key; sender = live.host; receiver = live.peer })
+path_of : (kept : Kept) (key : ℕ) (live : Live) → IsSound kept → get_or kept.lives.slots key None ≡ Some live → live.kind ≡ phase.Latency → IsPath (state_of kept).capacities (record { links = links_at (ways_of kept) key; sender = live.host; receiver = live.peer })
 path_of kept key live sound at latency =
-    subst (λ k. IsPlace (state_of kept).capacities (place_of k live.host live.peer (links_at kept.ways.items key))) latency (sound.are.each key live at).placed
+    subst (λ k. IsPlace (state_of kept).capacities (place_of k live.host live.peer (links_at (ways_of kept) key))) latency (sound.are.each key live at).placed
 
-way_of : (kept : Kept) (key : ℕ) (live : Live) → IsSound kept → get_or kept.lives.slots key None ≡ Some live → live.kind ≡ phase.Latency → IsWay (state_of kept).capacities (links_at kept.ways.items key)
+way_of : (kept : Kept) (key : ℕ) (live : Live) → IsSound kept → get_or kept.lives.slots key None ≡ Some live → live.kind ≡ phase.Latency → IsWay (state_of kept).capacities (links_at (ways_of kept) key)
 way_of kept key live sound at latency = (path_of kept key live sound at latency).links
 
--- what is read is what stands there
-read : (kept : Kept) (key : ℕ) (live : Live) (links : List LinkId) → IsSound kept → get_or kept.lives.slots key None ≡ Some live → links ≡ get_or kept.ways.items key links → links ≡ links_at kept.ways.items key
-read kept key live links sound at is = is ∙ get_or_default kept.ways.items key links [] (omega (arith, there_within kept.lives.slots key live at, sound.room.ways_long))
+-- the way of a latency can be read
+row_of : (kept : Kept) (key : ℕ) (live : Live) → IsSound kept → IsUsed kept kept.index → get_or kept.lives.slots key None ≡ Some live → live.kind ≡ phase.Latency → IsWayRow (length kept.hosts.items) (row_at kept.index.rows key)
+row_of kept key live sound used at latency =
+    place_row (state_of kept).capacities (row_at kept.index.rows key) (place_of live.kind live.host live.peer (links_at (ways_of kept) key)) (record { links = links_at (ways_of kept) key; sender = live.host; receiver = live.peer })
+    (ap (λ k. place_of k live.host live.peer (links_at (ways_of kept) key)) latency) (sound.are.each key live at).placed
+    (used.rows key ∙ ap (used_by (length kept.hosts.items) (length kept.links.items) (links_at (ways_of kept) key)) at)
+
+-- and what is read is what stands there
+read : (kept : Kept) (key hosts : ℕ) (links : List LinkId) → hosts ≡ length kept.hosts.items → links ≡ way_in hosts (row_at kept.index.rows key) → links ≡ links_at (ways_of kept) key
+read kept key hosts links many is = is ∙ ap (λ n. way_in n (row_at kept.index.rows key)) many
+
+pub way_of-way-requires-clause-key : goal.way_of-way-requires-clause-key
+way_of-way-requires-clause-key c = omega (arith, there_within c.args.kept.now.lives.slots c.args.key c.args.live c.requires.at, c.requires.sound.room.rows_long)
+
+pub way_of-way-requires-clause-way : goal.way_of-way-requires-clause-way
+way_of-way-requires-clause-way c =
+    let kept = c.args.kept.now in
+    subst (λ n. IsWayRow n (row_at kept.index.rows c.args.key)) (sym (c.len.ensures ∙ kept.hosts.ok.0)) (row_of kept c.args.key c.args.live c.requires.sound c.requires.used c.requires.at c.requires.kind)
 
 pub uses_of-uses-requires-clause-exist : goal.uses_of-uses-requires-clause-exist
 uses_of-uses-requires-clause-exist c =
     let kept = c.args.kept.now in
-    let route = c.route-route.ensures ∙ read kept c.args.key c.args.live c.index.result.now c.requires.sound c.requires.at c.index.ensures in
+    let route = c.as_slice.ensures.value ∙ read kept c.args.key c.len.result c.way_of-way.result.items (c.len.ensures ∙ kept.hosts.ok.0) c.way_of-way.ensures in
     let way = way_of kept c.args.key c.args.live c.requires.sound c.requires.at c.requires.kind in
-    subst (λ l. All (λ (link : LinkId). link.0 < length l) c.route-route.result.now) (sym c.deref.ensures.value)
+    subst (λ l. All (λ (link : LinkId). link.0 < length l) c.as_slice.result.now) (sym c.deref.ensures.value)
     (subst (All (λ (link : LinkId). link.0 < length kept.links.items)) (sym route) way.exist)
 
 pub uses_of-uses-requires-clause-few : goal.uses_of-uses-requires-clause-few
 uses_of-uses-requires-clause-few c =
     let kept = c.args.kept.now in
-    let route = c.route-route.ensures ∙ read kept c.args.key c.args.live c.index.result.now c.requires.sound c.requires.at c.index.ensures in
+    let route = c.as_slice.ensures.value ∙ read kept c.args.key c.len.result c.way_of-way.result.items (c.len.ensures ∙ kept.hosts.ok.0) c.way_of-way.ensures in
     let way = way_of kept c.args.key c.args.live c.requires.sound c.requires.at c.requires.kind in
     omega (arith, way.few, ap length route)
 
 pub bound_of-requires : goal.bound_of-requires
 bound_of-requires c =
     let kept = c.args.kept.now in
-    let route = c.route-route.ensures ∙ read kept c.args.key c.args.live c.index.result.now c.requires.sound c.requires.at c.index.ensures in
+    let route = c.as_slice-2.ensures.value ∙ read kept c.args.key c.len.result c.way_of-way.result.items (c.len.ensures ∙ kept.hosts.ok.0) c.way_of-way.ensures in
     let way = way_of kept c.args.key c.args.live c.requires.sound c.requires.at c.requires.kind in
-    subst (λ l. All (λ (link : LinkId). link.0 < length l) c.route-route.result.now) (sym c.deref-2.ensures.value)
+    subst (λ l. All (λ (link : LinkId). link.0 < length l) c.as_slice-2.result.now) (sym c.deref-2.ensures.value)
     (subst (All (λ (link : LinkId). link.0 < length kept.links.items)) (sym route) way.exist)
 
 pub start-flow-requires-clause-flow : goal.start-flow-requires-clause-flow
 start-flow-requires-clause-flow c =
     let kept = c.args.kept.now in
     let s : State = state_of kept in
-    let links = links_at kept.ways.items c.args.key in
-    let route = c.route-route.ensures ∙ read kept c.args.key c.args.live c.index.result.now c.requires.sound c.requires.at c.index.ensures in
+    let links = links_at (ways_of kept) c.args.key in
+    let way_is = read kept c.args.key c.len.result c.way_of-way.result.items (c.len.ensures ∙ kept.hosts.ok.0) c.way_of-way.ensures in
     let way = way_of kept c.args.key c.args.live c.requires.sound c.requires.at c.requires.kind in
-    let hosts : c.len.result ≡ length kept.hosts.items = c.len.ensures ∙ kept.hosts.ok.0 in
-    let uses : c.as_slice.result.now ≡ shared_of (length kept.hosts.items) kept.links.items links = c.as_slice.ensures.value ∙ c.uses_of-uses.ensures ∙ ap (λ n. shared_of n c.deref.result.now c.route-route.result.now) hosts
-    ∙ ap₂ (shared_of (length kept.hosts.items)) c.deref.ensures.value route in
-    let bound : c.tighter-bound.result ≡ sooner (route_bound kept.links.items links) c.args.live.bound = c.tighter-bound.ensures ∙ ap (λ b. sooner b c.args.live.bound) (c.bound_of.ensures ∙ ap₂ route_bound c.deref-2.ensures.value route) in
+    let hosts : c.len-2.result ≡ length kept.hosts.items = c.len-2.ensures ∙ kept.hosts.ok.0 in
+    let uses : c.as_slice-3.result.now ≡ shared_of (length kept.hosts.items) kept.links.items links = c.as_slice-3.ensures.value ∙ c.uses_of-uses.ensures ∙ ap (λ n. shared_of n c.deref.result.now c.as_slice.result.now) hosts
+    ∙ ap₂ (shared_of (length kept.hosts.items)) c.deref.ensures.value (c.as_slice.ensures.value ∙ way_is) in
+    let bound : c.tighter-bound.result ≡ sooner (route_bound kept.links.items links) c.args.live.bound = c.tighter-bound.ensures ∙ ap (λ b. sooner b c.args.live.bound) (c.bound_of.ensures ∙ ap₂ route_bound c.deref-2.ensures.value (c.as_slice-2.ensures.value ∙ way_is)) in
     let weighs = (c.requires.sound.are.each c.args.key c.args.live c.requires.at).weighs in
-    subst (λ l. IsFlow l (flow c.as_slice.result.now c.args.live.weight c.tighter-bound.result)) (sym c.requires.sound.room.capacities)
+    subst (λ l. IsFlow l (flow c.as_slice-3.result.now c.args.live.weight c.tighter-bound.result)) (sym c.requires.sound.room.capacities)
     (subst (IsFlow (capacities_of s.capacities)) (sym (ap₂ (λ u b. flow u c.args.live.weight b) uses bound)) (way_is_flow s.capacities links c.args.live.weight c.args.live.bound way weighs))
+
+pub start-flow-requires-clause-use_room : goal.start-flow-requires-clause-use_room
+start-flow-requires-clause-use_room c =
+    let kept = c.args.kept.now in
+    let old = c.args.live in
+    let links = links_at (ways_of kept) c.args.key in
+    let way_is = read kept c.args.key c.len.result c.way_of-way.result.items (c.len.ensures ∙ kept.hosts.ok.0) c.way_of-way.ensures in
+    let uses : c.as_slice-3.result.now ≡ shared_of c.len-2.result kept.links.items links = c.as_slice-3.ensures.value ∙ c.uses_of-uses.ensures ∙ ap₂ (shared_of c.len-2.result) c.deref.ensures.value (c.as_slice.ensures.value ∙ way_is) in
+    let sound = c.requires.sound in
+    omega (arith, ap length uses, shared_few c.len-2.result kept.links.items links, (sound.are.each c.args.key old c.requires.at).counted c.requires.kind, ap (λ k. uses_ahead k old.links) c.requires.kind, uses_counted kept.lives.slots c.args.key old (there_within kept.lives.slots c.args.key old c.requires.at) c.requires.at, sound.room.uses, sound.room.use_room)
 
 pub set-requires-clause-there : goal.set-requires-clause-there
 set-requires-clause-there c = ap is_some c.requires.at
@@ -99,13 +126,13 @@ returns-clause-ends c =
     let key = c.args.key in
     let old = c.args.live in
     let id = c.start-flow.result in
-    let links = links_at kept.ways.items key in
-    let route = c.route-route.ensures ∙ read kept key old c.index.result.now sound c.requires.at c.index.ensures in
+    let links = links_at (ways_of kept) key in
+    let way_is = read kept c.args.key c.len.result c.way_of-way.result.items (c.len.ensures ∙ kept.hosts.ok.0) c.way_of-way.ensures in
     let way = way_of kept key old sound c.requires.at c.requires.kind in
-    let hosts : c.len.result ≡ length kept.hosts.items = c.len.ensures ∙ kept.hosts.ok.0 in
-    let uses : c.as_slice.result.now ≡ shared_of (length kept.hosts.items) kept.links.items links = c.as_slice.ensures.value ∙ c.uses_of-uses.ensures ∙ ap (λ n. shared_of n c.deref.result.now c.route-route.result.now) hosts
-    ∙ ap₂ (shared_of (length kept.hosts.items)) c.deref.ensures.value route in
-    let bound : c.tighter-bound.result ≡ sooner (route_bound kept.links.items links) c.args.live.bound = c.tighter-bound.ensures ∙ ap (λ b. sooner b c.args.live.bound) (c.bound_of.ensures ∙ ap₂ route_bound c.deref-2.ensures.value route) in
+    let hosts : c.len-2.result ≡ length kept.hosts.items = c.len-2.ensures ∙ kept.hosts.ok.0 in
+    let uses : c.as_slice-3.result.now ≡ shared_of (length kept.hosts.items) kept.links.items links = c.as_slice-3.ensures.value ∙ c.uses_of-uses.ensures ∙ ap (λ n. shared_of n c.deref.result.now c.as_slice.result.now) hosts
+    ∙ ap₂ (shared_of (length kept.hosts.items)) c.deref.ensures.value (c.as_slice.ensures.value ∙ way_is) in
+    let bound : c.tighter-bound.result ≡ sooner (route_bound kept.links.items links) c.args.live.bound = c.tighter-bound.ensures ∙ ap (λ b. sooner b c.args.live.bound) (c.bound_of.ensures ∙ ap₂ route_bound c.deref-2.ensures.value (c.as_slice-2.ensures.value ∙ way_is)) in
     let weighs = (sound.are.each key old c.requires.at).weighs in
     let asked : Flow = flow (shared_of (length kept.hosts.items) kept.links.items links) old.weight (sooner (route_bound kept.links.items links) old.bound) in
     let run : RunningFlow = record { flow = asked; rate = 0; began = true; marked = true } in
@@ -122,6 +149,7 @@ returns-clause-ends c =
     let state_is = state_same s s.drawn false c.set.new.self.slots (set s.slots key (Some live)) s.ways s.ways c.clear.new.self (set s.keys key None) c.start-flow.new.self.slots (set s.runs id (Some run)) (set s.by_flow id key) (set s.by_flow id key) c.insert.new.self.members (with_mark key s.fresh) c.start-flow.new.self.ended s.ended c.start-flow.new.self.resources s.resources
     lives refl c.clear.ensures runs refl (ap (λ (m : MarkSet). m.members) c.insert.ensures) (ap (λ (l : Lazily). l.ended) starts) (ap (λ (l : Lazily). l.resources) starts) in
     let counted = ahead_counted s.slots key old within c.requires.at in
+    let few : length c.as_slice-3.result.now ≤ uses_ahead old.kind old.links = omega (arith, ap length uses, shared_few (length kept.hosts.items) kept.links.items links, (sound.are.each key old c.requires.at).counted c.requires.kind, ap (λ k. uses_ahead k old.links) c.requires.kind) in
     record {
       slot = Some live;
       turns = subst (λ st. Turns s st key live.serial (Some live)) (sym state_is) turns;
@@ -135,9 +163,10 @@ returns-clause-ends c =
           early = sound.room.early;
           flows = omega (arith, sound.room.flows, counted, ap flows_ahead c.requires.kind, ahead_set s.slots key (Some live) within, ap slot_ahead c.requires.at, ap (sum_by slot_ahead) lives);
           flow_room = omega (arith, sound.room.flow_room, ap (λ (l : Lazily). l.flow_room) starts);
-          use_room = omega (arith, sound.room.use_room, sound.room.flows, counted, ap flows_ahead c.requires.kind, ap (λ (l : Lazily). l.use_room) starts, c.as_slice.ensures.fits);
+          uses = omega (arith, sound.room.uses, c.uses_ahead.ensures, uses_counted s.slots key old within c.requires.at, uses_set s.slots key (Some live) within, ap slot_uses c.requires.at, ap (sum_by slot_uses) lives);
+          use_room = omega (arith, sound.room.use_room, c.uses_ahead.ensures, few, ap (λ (l : Lazily). l.use_room) starts);
           keys_free = omega (arith, sound.room.keys_free, c.set.ensures.room);
-          ways_long = omega (arith, sound.room.ways_long, ap length lives, length-set s.slots key (Some live));
+          rows_long = omega (arith, sound.room.rows_long, ap length lives, length-set s.slots key (Some live));
           agenda_long = omega (arith, sound.room.agenda_long, ap length lives, length-set s.slots key (Some live), ap length c.clear.ensures, length-set s.keys key None);
           fresh_room = omega (arith, sound.room.fresh_room, ap length lives, length-set s.slots key (Some live), ap (λ (m : MarkSet). m.room) c.insert.ensures);
           by_flow_long = omega (arith, sound.room.by_flow_long, ap length runs, length-set s.runs id (Some run), length-set s.by_flow id key);
@@ -147,14 +176,14 @@ returns-clause-ends c =
     }
 
 pub returns-clause-used : goal.returns-clause-used
-returns-clause-used c index is =
+returns-clause-used c =
     let kept = c.args.kept.now in
     let s : State = state_of kept in
     let key = c.args.key in
     let old = c.args.live in
     let live : Live = record old { kind = phase.Flow; kept = c.from.result * 1000000000; stamp = kept.date; rate = 0; flow = c.start-flow.result } in
     let within = there_within s.slots key old c.requires.at in
-    used_still s.capacities s.slots s.ways kept.room index is c.set.new.self.slots s.ways kept.room
+    used_still s.capacities s.slots s.ways kept.room kept.index c.requires.used c.set.new.self.slots s.ways kept.room
     (λ k. ap (λ l. used_by (length s.capacities.hosts) (length s.capacities.links) (links_at s.ways k) (get_or l k None)) c.set.ensures.slots ∙ elim (eq_cases k key) [
       | inl e ↦ ap (λ n. used_by (length s.capacities.hosts) (length s.capacities.links) (links_at s.ways k) (get_or (set s.slots key (Some live)) n None)) e ∙ ap (used_by (length s.capacities.hosts) (length s.capacities.links) (links_at s.ways k)) (set_here s.slots key (Some live) within)
           ∙ used_on (length s.capacities.hosts) (length s.capacities.links) (links_at s.ways k) old live c.requires.kind refl refl

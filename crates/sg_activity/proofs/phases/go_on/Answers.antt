@@ -1,4 +1,4 @@
-use Rattle.std.proofs.Common.{◌≡◌, ◌≤◌, ◌+◌, ◌-◌, ◌*◌, ◌<◌, ◌^◌, ◌∷◌, [], ℕ, false, true, IsSome, Some, length, length-set, set, sum_by, refl, sym, ap, ap₂, subst, ◌∙◌, arith}
+use Rattle.std.proofs.Common.{◌≡◌, ◌<◌, ◌∷◌, [], ℕ, false, true, IsSome, Some, length, length-set, set, sum_by, refl, sym, ap, subst, ◌∙◌, arith}
 use Rattle.std.proofs.lemmas.List.{get_or_default}
 use Rattle.sg_base.specs.MarkSet.{MarkSet, with_mark}
 use Rattle.sg_maxmin.specs.Fill.{Flow, flow}
@@ -10,16 +10,15 @@ use Rattle.sg_activity.specs.declared.kinds.PhaseKind.TheVariants as phase
 use Rattle.sg_activity.specs.declared.kept.Kept.{Kept}
 use Rattle.sg_activity.specs.declared.lives.Live.{Live}
 use Rattle.sg_activity.specs.Hosts.{host_at}
-use Rattle.sg_activity.specs.Links.{capacities_of}
 use Rattle.sg_activity.specs.Slots.{sooner}
 use Rattle.sg_activity.specs.Task.{flows_ahead}
 use Rattle.sg_activity.specs.kept.Hits.{hit_in}
-use Rattle.sg_activity.specs.kept.Pool.{slot_at}
-use Rattle.sg_activity.specs.kept.Sound.{IsKept, IsPlace, IsSound, slot_ahead}
-use Rattle.sg_activity.specs.kept.State.{State, links_at, place_of, state_of, under_of}
+use Rattle.sg_activity.specs.kept.Pool.{slot_at, uses_ahead}
+use Rattle.sg_activity.specs.kept.Sound.{IsKept, IsPlace, IsSound, slot_ahead, slot_uses}
+use Rattle.sg_activity.specs.kept.State.{State, links_at, place_of, state_of, under_of, ways_of}
 use Rattle.sg_activity.specs.kept.Turns.{Turns}
 use Rattle.sg_activity.proofs.Pairing.{there_within}
-use Rattle.sg_activity.proofs.Roomy.{ahead_set}
+use Rattle.sg_activity.proofs.Roomy.{ahead_set, uses_set}
 use Rattle.sg_activity.proofs.Routed.{host_is_flow, sooner_some}
 use Rattle.sg_activity.proofs.Swapped.{hits_swapped}
 use Rattle.sg_activity.proofs.Turned.{turned}
@@ -28,7 +27,7 @@ use Rattle.sg_activity.proofs.phases.go_on.Goals as goal
 
 -- the host of an execution that is held
 host_there : (kept : Kept) (key : ℕ) (live : Live) → IsSound kept → slot_at kept.lives.slots key ≡ Some live → live.kind ≡ phase.Kept → live.host < length kept.hosts.items
-host_there kept key live sound at held = subst (λ k. IsPlace (state_of kept).capacities (place_of k live.host live.peer (links_at kept.ways.items key))) held (sound.are.each key live at).placed
+host_there kept key live sound at held = subst (λ k. IsPlace (state_of kept).capacities (place_of k live.host live.peer (links_at (ways_of kept) key))) held (sound.are.each key live at).placed
 
 pub index-requires : goal.index-requires
 index-requires c = omega (arith, host_there c.args.kept.now c.args.key c.args.live c.requires.sound c.requires.at c.requires.kind, c.args.kept.now.hosts.ok.0)
@@ -80,9 +79,10 @@ returns-clause-goes_on c =
           early = sound.room.early;
           flows = omega (arith, sound.room.flows, c.requires.room, ap flows_ahead c.requires.kind, ahead_set s.slots key (Some live) within, ap slot_ahead c.requires.at, ap (sum_by slot_ahead) lives);
           flow_room = omega (arith, sound.room.flow_room, sound.room.flows, c.requires.room, ap (λ (l : Lazily). l.flow_room) starts);
-          use_room = omega (arith, sound.room.use_room, sound.room.flows, c.requires.room, ap (λ (l : Lazily). l.use_room) starts);
+          uses = omega (arith, sound.room.uses, c.requires.room, ap (λ k. uses_ahead k old.links) c.requires.kind, uses_set s.slots key (Some live) within, ap slot_uses c.requires.at, ap (sum_by slot_uses) lives);
+          use_room = omega (arith, sound.room.use_room, sound.room.uses, c.requires.room, ap (λ (l : Lazily). l.use_room) starts);
           keys_free = omega (arith, sound.room.keys_free, c.set.ensures.room);
-          ways_long = omega (arith, sound.room.ways_long, ap length lives, length-set s.slots key (Some live));
+          rows_long = omega (arith, sound.room.rows_long, ap length lives, length-set s.slots key (Some live));
           agenda_long = omega (arith, sound.room.agenda_long, ap length lives, length-set s.slots key (Some live));
           fresh_room = omega (arith, sound.room.fresh_room, ap length lives, length-set s.slots key (Some live), ap (λ (m : MarkSet). m.room) c.insert.ensures);
           by_flow_long = omega (arith, sound.room.by_flow_long, ap length runs, length-set s.runs id (Some run), length-set s.by_flow id key);

@@ -1,4 +1,4 @@
-use Rattle.std.proofs.Common.{◌≡◌, ◌≤◌, ◌+◌, ◌-◌, ◌<◌, ◌^◌, ◌++◌, ◌∷◌, [], ℕ, false, true, IsSome, None, Some, is_some, length, length-set, option_to_list, set, sum_by, refl, sym, ap, ap₂, subst, ◌∙◌, arith}
+use Rattle.std.proofs.Common.{◌≡◌, ◌<◌, ◌++◌, ℕ, false, true, IsSome, None, Some, length, length-set, option_to_list, set, sum_by, refl, sym, ap, subst, ◌∙◌, arith}
 use Rattle.std.specs.Option.{IfSome}
 use Rattle.sg_base.specs.MarkSet.{MarkSet, with_mark}
 use Rattle.sg_lazy.specs.Lazily.{Lazily, without_flow}
@@ -6,13 +6,14 @@ use Rattle.sg_lazy.specs.RunningFlow.{RunningFlow, running_at}
 use Rattle.sg_activity.specs.declared.kinds.PhaseKind.TheVariants as phase
 use Rattle.sg_activity.specs.declared.lives.Live.{Live}
 use Rattle.sg_activity.specs.Task.{flow_in, flows_ahead, takes_share}
+use Rattle.sg_activity.specs.kept.Pool.{uses_ahead}
 use Rattle.sg_activity.specs.kept.Hits.{hit_in}
-use Rattle.sg_activity.specs.kept.Sound.{IsHeld, IsKept, IsPlace, run_of, slot_ahead}
+use Rattle.sg_activity.specs.kept.Sound.{IsHeld, IsKept, IsPlace, run_of, slot_ahead, slot_uses}
 use Rattle.sg_activity.specs.kept.Stamps.{left_at}
 use Rattle.sg_activity.specs.kept.State.{State, links_at, place_of, state_of, task_of, under_of}
 use Rattle.sg_activity.specs.kept.Turns.{Turns}
 use Rattle.sg_activity.proofs.Pairing.{there_within}
-use Rattle.sg_activity.proofs.Roomy.{ahead_set}
+use Rattle.sg_activity.proofs.Roomy.{ahead_set, uses_set}
 use Rattle.sg_activity.proofs.Starts.{held_unfilled, set_here}
 use Rattle.sg_activity.proofs.Swapped.{hits_swapped}
 use Rattle.sg_activity.proofs.Told.{mark_self}
@@ -52,7 +53,7 @@ returns-clause-ends c =
     let more = s.ended ++ option_to_list (flow_in s.capacities (Some (task_of s key old))) in
     let new : State = held_state s key live (set s.runs old.flow None) more in
     let placed : IsPlace s.capacities (place_of phase.Kept old.host old.peer (links_at s.ways key)) = subst (λ k. IsPlace s.capacities (place_of k old.host old.peer (links_at s.ways key))) c.requires.kind h.placed in
-    let held : IsHeld new key live = held_unfilled new key live refl h.from h.to refl refl (omega (arith, h.small)) h.few_bytes h.weighs placed (mark_self key s.fresh) (set_here s.keys key None keys_in) in
+    let held : IsHeld new key live = held_unfilled new key live refl h.from h.to refl refl (omega (arith, h.small)) h.few_bytes h.weighs placed (λ e. absurd (cc e)) (mark_self key s.fresh) (set_here s.keys key None keys_in) in
     let turns : Turns s new key live.serial (Some live) = held_turns s key old live more sound.are c.requires.at full within keys_in refl held in
     let state_is = state_same s s.drawn false c.set.new.self.slots (set s.slots key (Some live)) s.ways s.ways c.clear.new.self (set s.keys key None) c.end.new.self.slots (set s.runs old.flow None) s.by_flow s.by_flow c.insert.new.self.members (with_mark key s.fresh) c.end.new.self.ended more c.end.new.self.resources s.resources
     lives refl c.clear.ensures runs refl (ap (λ (m : MarkSet). m.members) c.insert.ensures) ended (ap (λ (l : Lazily). l.resources) is) in
@@ -69,9 +70,10 @@ returns-clause-ends c =
           early = sound.room.early;
           flows = omega (arith, sound.room.flows, ap flows_ahead c.requires.kind, ahead_set s.slots key (Some live) within, ap slot_ahead c.requires.at, ap (sum_by slot_ahead) lives);
           flow_room = omega (arith, sound.room.flow_room, ap (λ (l : Lazily). l.flow_room) is);
+          uses = omega (arith, sound.room.uses, ap (λ k. uses_ahead k old.links) c.requires.kind, uses_set s.slots key (Some live) within, ap slot_uses c.requires.at, ap (sum_by slot_uses) lives);
           use_room = omega (arith, sound.room.use_room, ap (λ (l : Lazily). l.use_room) is);
           keys_free = omega (arith, sound.room.keys_free, c.set.ensures.room);
-          ways_long = omega (arith, sound.room.ways_long, ap length lives, length-set s.slots key (Some live));
+          rows_long = omega (arith, sound.room.rows_long, ap length lives, length-set s.slots key (Some live));
           agenda_long = omega (arith, sound.room.agenda_long, ap length lives, length-set s.slots key (Some live), ap length c.clear.ensures, length-set s.keys key None);
           fresh_room = omega (arith, sound.room.fresh_room, ap length lives, length-set s.slots key (Some live), ap (λ (m : MarkSet). m.room) c.insert.ensures);
           by_flow_long = omega (arith, sound.room.by_flow_long, ap length runs, length-set s.runs old.flow None);

@@ -3,17 +3,19 @@ use Rattle.std.specs.Option.{IfSome}
 use Rattle.sg_lazy.specs.Lazily.{Lazily, without_flow}
 use Rattle.sg_lazy.specs.RunningFlow.{RunningFlow, running_at}
 use Rattle.sg_activity.specs.Task.{takes_share}
-use Rattle.sg_activity.specs.kept.State.{State, state_of}
+use Rattle.sg_activity.specs.kept.State.{State, state_of, ways_of}
 use Rattle.sg_activity.specs.kept.Sound.{run_of}
 use Rattle.std.proofs.Common.{◌-◌}
 use Rattle.sg_activity.specs.Task.{flows_ahead}
+use Rattle.sg_activity.specs.kept.Pool.{uses_ahead}
 use Rattle.sg_activity.specs.kept.Ends.{Ends}
-use Rattle.sg_activity.proofs.Roomy.{ahead_counted}
+use Rattle.sg_activity.proofs.Roomy.{ahead_counted, uses_counted}
 use Rattle.sg_activity.proofs.Ending.{Goes, ends_from}
 use Rattle.sg_activity.proofs.Turning.{with_flow, without, ended_filled, ended_unfilled}
-use Rattle.std.proofs.Common.{◌≤◌, arith}
+use Rattle.std.proofs.Common.{◌≤◌, ◌<◌, [], arith}
 use Rattle.sg_activity.specs.declared.kept.Kept.{Kept}
 use Rattle.sg_activity.specs.kept.Index.{IsIndexed}
+use Rattle.sg_activity.specs.kept.Rows.{IsRow}
 use Rattle.sg_activity.specs.kept.Hits.{AreHits}
 use Rattle.sg_activity.proofs.Hitting.{hits_left}
 use Rattle.sg_activity.proofs.Indexing.{used_gone}
@@ -37,7 +39,7 @@ returns-clause-ends c =
     let key = c.args.key in
     let live = c.args.live in
     let sound = c.requires.sound in
-    let after : ℕ → Type 0 = λ n. Ends kept (record c.if-takes_share.kept { lives = c.remove.new.self; agenda = c.clear-2.new.self; settled = false; flows = c.if-takes_share.kept.flows - n }) key live None in
+    let after : ℕ → ℕ → Type 0 = λ n u. Ends kept (record c.if-takes_share.kept { lives = c.remove.new.self; agenda = c.clear-2.new.self; index = c.leave.new.self; settled = false; flows = c.if-takes_share.kept.flows - n; uses = c.if-takes_share.kept.uses - u }) key live None in
     elim c.if-takes_share.branch [
       | then-takes_share w ↦
           let full : takes_share live.kind ≡ true = sym c.takes_share.ensures ∙ w.if-takes_share.true in
@@ -52,7 +54,7 @@ returns-clause-ends c =
             use_room = ap (λ (l : Lazily). l.use_room) is;
             long = ap (λ (l : Lazily). length l.slots) is ∙ length-set s.runs live.flow None;
           } in
-          subst after (sym c.flows_ahead.ensures) (ends_from kept c.if-takes_share.kept w.end.new.self c.remove.new.self c.clear-2.new.self key live sound c.requires.at goes w.kept-is c.remove.ensures.slots c.remove.ensures.room c.clear-2.ensures)
+          subst (λ n. after n c.uses_ahead.result) (sym c.flows_ahead.ensures) (subst (after (flows_ahead live.kind)) (sym c.uses_ahead.ensures) (ends_from kept c.if-takes_share.kept w.end.new.self c.remove.new.self c.clear-2.new.self c.leave.new.self key live sound c.requires.at goes w.kept-is c.remove.ensures.slots c.remove.ensures.room c.clear-2.ensures c.leave.ensures.row))
       | else-takes_share w ↦
           let empty : takes_share live.kind ≡ false = sym c.takes_share.ensures ∙ w.if-takes_share.false in
           let goes : Goes kept kept.lazy key live = record {
@@ -64,22 +66,29 @@ returns-clause-ends c =
             use_room = refl;
             long = refl;
           } in
-          subst after (sym c.flows_ahead.ensures) (ends_from kept c.if-takes_share.kept kept.lazy c.remove.new.self c.clear-2.new.self key live sound c.requires.at goes w.kept-is c.remove.ensures.slots c.remove.ensures.room c.clear-2.ensures)
+          subst (λ n. after n c.uses_ahead.result) (sym c.flows_ahead.ensures) (subst (after (flows_ahead live.kind)) (sym c.uses_ahead.ensures) (ends_from kept c.if-takes_share.kept kept.lazy c.remove.new.self c.clear-2.new.self c.leave.new.self key live sound c.requires.at goes w.kept-is c.remove.ensures.slots c.remove.ensures.room c.clear-2.ensures c.leave.ensures.row))
     ]
 
 pub leave-requires : goal.leave-requires
-leave-requires c = omega (arith, there_within c.args.kept.now.lives.slots c.args.key c.args.live c.requires.at, c.requires.used.long)
+leave-requires c =
+    let kept = c.args.kept.now in
+    let within : c.args.key < length kept.index.rows = omega (arith, there_within kept.lives.slots c.args.key c.args.live c.requires.at, c.requires.used.long) in
+    elim c.if-takes_share.branch [
+      | then-takes_share w ↦ omega (arith, within, ap (λ (k : Kept). length k.index.rows) w.kept-is)
+      | else-takes_share w ↦ omega (arith, within, ap (λ (k : Kept). length k.index.rows) w.kept-is)
+    ]
 
 pub returns-clause-used : goal.returns-clause-used
 returns-clause-used c =
     let kept = c.args.kept.now in
     let key = c.args.key in
     let row = c.leave.ensures in
-    let from : (mid : Kept) (lazy : Lazily) → mid ≡ record kept { lazy = lazy } → c.remove.new.self.slots ≡ set mid.lives.slots key None → IsIndexed (state_of mid).capacities c.remove.new.self.slots mid.ways.items mid.room c.leave.new.self =
-    λ mid lazy e slots. used_gone kept mid lazy c.remove.new.self.slots c.args.index.now c.leave.new.self key c.args.live c.requires.used c.requires.at e slots row.row row.users (omega (arith, row.room)) in
+    let from : (mid : Kept) (lazy : Lazily) → mid ≡ record kept { lazy = lazy } → c.remove.new.self.slots ≡ set mid.lives.slots key None → IsRow mid.index.rows c.leave.new.self.rows key [] → length c.leave.new.self.users ≡ length mid.index.users → mid.index.room ≤ c.leave.new.self.room →
+    IsIndexed (state_of mid).capacities c.remove.new.self.slots (ways_of (record mid { index = c.leave.new.self })) mid.room c.leave.new.self =
+    λ mid lazy e slots here users room. used_gone kept mid lazy c.remove.new.self.slots c.leave.new.self key c.args.live c.requires.used c.requires.at e slots here users room in
     elim c.if-takes_share.branch [
-      | then-takes_share w ↦ from c.if-takes_share.kept w.end.new.self w.kept-is c.remove.ensures.slots
-      | else-takes_share w ↦ from c.if-takes_share.kept kept.lazy w.kept-is c.remove.ensures.slots
+      | then-takes_share w ↦ from c.if-takes_share.kept w.end.new.self w.kept-is c.remove.ensures.slots row.row row.users (omega (arith, row.room))
+      | else-takes_share w ↦ from c.if-takes_share.kept kept.lazy w.kept-is c.remove.ensures.slots row.row row.users (omega (arith, row.room))
     ]
 
 pub clear-requires : goal.clear-requires
@@ -97,9 +106,19 @@ overflow_sub-kept c =
 pub returns-clause-hit : goal.returns-clause-hit
 returns-clause-hit c =
     let kept = c.args.kept.now in
-    let from : (mid : Kept) (lazy : Lazily) → mid ≡ record kept { lazy = lazy } → c.remove.new.self.slots ≡ set mid.lives.slots c.args.key None → AreHits (state_of mid).on c.remove.new.self.slots mid.ways.items c.clear.new.self =
-    λ mid lazy e slots. subst (AreHits (state_of mid).on c.remove.new.self.slots mid.ways.items) (sym c.clear.ensures) (hits_left kept mid lazy c.remove.new.self.slots c.args.hits.now c.args.key c.args.live c.requires.hit c.requires.at e slots) in
+    let from : (mid : Kept) (lazy : Lazily) → mid ≡ record kept { lazy = lazy } → c.remove.new.self.slots ≡ set mid.lives.slots c.args.key None → IsRow mid.index.rows c.leave.new.self.rows c.args.key [] →
+    AreHits (state_of mid).on c.remove.new.self.slots (ways_of (record mid { index = c.leave.new.self })) c.clear.new.self =
+    λ mid lazy e slots row. subst (AreHits (state_of mid).on c.remove.new.self.slots (ways_of (record mid { index = c.leave.new.self }))) (sym c.clear.ensures) (hits_left kept mid lazy c.leave.new.self c.remove.new.self.slots c.args.hits.now c.args.key c.args.live c.requires.hit c.requires.at e slots row) in
     elim c.if-takes_share.branch [
-      | then-takes_share w ↦ from c.if-takes_share.kept w.end.new.self w.kept-is c.remove.ensures.slots
-      | else-takes_share w ↦ from c.if-takes_share.kept kept.lazy w.kept-is c.remove.ensures.slots
+      | then-takes_share w ↦ from c.if-takes_share.kept w.end.new.self w.kept-is c.remove.ensures.slots c.leave.ensures.row
+      | else-takes_share w ↦ from c.if-takes_share.kept kept.lazy w.kept-is c.remove.ensures.slots c.leave.ensures.row
+    ]
+
+pub overflow_sub-kept-2 : goal.overflow_sub-kept-2
+overflow_sub-kept-2 c =
+    let kept = c.args.kept.now in
+    let counted : uses_ahead c.args.live.kind c.args.live.links ≤ kept.uses = omega (arith, c.requires.sound.room.uses, uses_counted kept.lives.slots c.args.key c.args.live (there_within kept.lives.slots c.args.key c.args.live c.requires.at) c.requires.at) in
+    elim c.if-takes_share.branch [
+      | then-takes_share w ↦ omega (arith, c.uses_ahead.ensures, counted, ap (λ (k : Kept). k.uses) w.kept-is)
+      | else-takes_share w ↦ omega (arith, c.uses_ahead.ensures, counted, ap (λ (k : Kept). k.uses) w.kept-is)
     ]

@@ -1,24 +1,24 @@
-use Rattle.std.proofs.Common.{◌≡◌, ◌+◌, ◌<◌, ◌≤◌, ◌^◌, suc, [], ◌∷◌, ◌++◌, length, take, get_or, unwrap_or, sym, ap, ap₂, subst, ◌∙◌, arith}
+use Rattle.std.proofs.Common.{◌≡◌, ◌<◌, suc, [], ◌∷◌, ◌++◌, length, take, get_or, unwrap_or, sym, ap, ◌∙◌, arith}
 use Rattle.std.proofs.Math.Seq.{take-suc}
 use Rattle.std.proofs.lemmas.List.{take_all}
 use Rattle.std.proofs.lemmas.List.Elements.{All-get_or}
 use Rattle.sg_chains.specs.Chained.{users_on}
 use Rattle.sg_chains.specs.Walk.{next_on, user_of}
 use Rattle.sg_lazy.proofs.Led.{can_look, looked, walk_on, nearer, walked}
-use Rattle.sg_activity.specs.kept.Metered.{rate_of, rates_of, sum_of, total, with_one}
+use Rattle.sg_activity.specs.kept.Metered.{rate_of, rates_of, total, with_one}
 use Rattle.sg_activity.specs.kept.Pool.{slot_at}
 use Rattle.sg_activity.proofs.Loaded.{sum_within, total_on}
 use Rattle.sg_activity.proofs.power.sum_on.Goals as goal
 
 pub look-one-requires : goal.look-one-requires
 look-one-requires g c =
-    let i = c.args.index.now in
+    let i = c.args.kept.now.index in
     let inv = c.loop-at.invariant in
     can_look next_on user_of i.uses (users_on i.users c.args.thing) inv.0 c.loop-at.at inv.1.walk c.in-Some.i c.in-Some.is
 
 pub with_rate-sum-requires-clause-key : goal.with_rate-sum-requires-clause-key
 with_rate-sum-requires-clause-key g c =
-    let i = c.args.index.now in
+    let i = c.args.kept.now.index in
     let inv = c.loop-at.invariant in
     let r = looked next_on user_of i.uses (users_on i.users c.args.thing) inv.0 c.loop-at.at inv.1.walk c.in-Some.i c.look-one.result c.in-Some.is c.look-one.ensures in
     let below : get_or (users_on i.users c.args.thing) inv.0 0 < length c.args.kept.now.lives.slots = All-get_or (λ n. n < length c.args.kept.now.lives.slots) (users_on i.users c.args.thing) inv.0 0 r.less c.requires.keys in
@@ -26,7 +26,7 @@ with_rate-sum-requires-clause-key g c =
 
 pub with_rate-sum-requires-clause-fits : goal.with_rate-sum-requires-clause-fits
 with_rate-sum-requires-clause-fits g c =
-    let i = c.args.index.now in
+    let i = c.args.kept.now.index in
     let slots = c.args.kept.now.lives.slots in
     let row = users_on i.users c.args.thing in
     let inv = c.loop-at.invariant in
@@ -37,13 +37,13 @@ with_rate-sum-requires-clause-fits g c =
 
 pub loop-at-smaller : goal.loop-at-smaller
 loop-at-smaller g c =
-    let i = c.args.index.now in
+    let i = c.args.kept.now.index in
     let inv = c.loop-at.invariant in
     nearer next_on user_of i.uses (users_on i.users c.args.thing) inv.0 c.loop-at.at inv.1.walk c.in-Some.i c.look-one.result c.in-Some.is c.look-one.ensures
 
 pub loop-at-preserved : goal.loop-at-preserved
 loop-at-preserved g c =
-    let i = c.args.index.now in
+    let i = c.args.kept.now.index in
     let slots = c.args.kept.now.lives.slots in
     let row = users_on i.users c.args.thing in
     let inv = c.loop-at.invariant in
@@ -63,7 +63,7 @@ loop-at-preserved g c =
 
 pub returns : goal.returns
 returns g c =
-    let i = c.args.index.now in
+    let i = c.args.kept.now.index in
     let row = users_on i.users c.args.thing in
     let inv = c.loop-at.invariant in
     let end = walked next_on user_of i.uses row inv.0 c.loop-at.at inv.1.walk c.in_default.not-Some in

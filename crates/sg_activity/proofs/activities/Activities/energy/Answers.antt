@@ -1,4 +1,4 @@
-use Rattle.std.proofs.Common.{◌≡◌, ◌<◌, ◌≤◌, length, get_or, sym, ap, subst, ◌∙◌, arith}
+use Rattle.std.proofs.Common.{◌<◌, length, get_or, sym, ap, subst, ◌∙◌, arith}
 use Rattle.sg_activity.specs.Doing.{Doing}
 use Rattle.sg_activity.proofs.Metering.{energy_told}
 use Rattle.sg_activity.proofs.activities.Activities.energy.Goals as goal

@@ -1,4 +1,4 @@
-use Rattle.std.proofs.Common.{◌≡◌, ◌-◌, All, Some, refl, arith, true, length, true≢false, sym, ap, subst, ◌∙◌}
+use Rattle.std.proofs.Common.{◌≡◌, All, Some, refl, arith, length, true≢false, sym, ap, subst, ◌∙◌}
 use Rattle.sg_activity.specs.declared.kinds.PhaseKind.TheVariants as phase
 use Rattle.sg_activity.specs.Hosts.{IsHost}
 use Rattle.sg_activity.specs.Links.{Capacities}
@@ -42,7 +42,7 @@ invariant_of-self c =
     record {
       sound = ends.sound;
       hosts = subst (λ (d : Capacities). All IsHost d.hosts) (sym ends.turns.capacities) c.self.invariant.hosts;
-      used = c.hold.ensures.used c.self.inside.index c.self.invariant.used;
+      used = c.hold.ensures.used c.self.invariant.used;
       switches = switches_alike (state_of kept) (state_of c.hold.new.kept) ends.turns.on (ap (λ (d : Capacities). length d.hosts) ends.turns.capacities) (ap (λ (d : Capacities). length d.links) ends.turns.capacities) c.self.invariant.switches;
       hit = c.hold.ensures.hit c.self.inside.hits c.self.invariant.hit;
       metered = subst (IsMetered c.hold.new.kept c.self.inside.meter) (sym c.note.ensures)

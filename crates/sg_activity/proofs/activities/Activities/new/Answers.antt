@@ -1,4 +1,4 @@
-use Rattle.std.proofs.Common.{◌≡◌, length, replicate, sym, ap, ap₂, subst, ◌∙◌}
+use Rattle.std.proofs.Common.{length, sym, ap, ap₂, subst, ◌∙◌}
 use Rattle.sg_activity.specs.kept.Metered.{AreFirst, energies, metered_in}
 use Rattle.sg_activity.specs.kept.State.{doing_of, state_of}
 use Rattle.sg_activity.proofs.Metering.{first_energies, first_metered}

@@ -24,7 +24,7 @@ invariant_of-self c =
     record {
       sound = r.sound;
       hosts = subst (λ (st : State). All IsHost st.capacities.hosts) (sym r.state) c.self.invariant.hosts;
-      used = used_reset kept c.set_bandwidth.new.kept (at_bandwidth c.args.link.0 c.args.bandwidth s.capacities) (length kept.hosts.items + c.args.link.0) c.self.inside.index (bandwidth_moved s.capacities c.args.link.0 c.args.bandwidth there) r c.self.invariant.used;
+      used = used_reset kept c.set_bandwidth.new.kept (at_bandwidth c.args.link.0 c.args.bandwidth s.capacities) (length kept.hosts.items + c.args.link.0) (bandwidth_moved s.capacities c.args.link.0 c.args.bandwidth there) r c.self.invariant.used;
       switches = switches_alike s (state_of c.set_bandwidth.new.kept) (ap (λ (st : State). st.on) r.state) (ap (λ (st : State). length st.capacities.hosts) r.state ∙ (bandwidth_moved s.capacities c.args.link.0 c.args.bandwidth there).hosts) (ap (λ (st : State). length st.capacities.links) r.state ∙ (bandwidth_moved s.capacities c.args.link.0 c.args.bandwidth there).links) c.self.invariant.switches;
       hit = subst (λ (st : State). AreHits st.on st.slots st.ways c.self.inside.hits) (sym r.state) c.self.invariant.hit;
       metered = metered_kept kept c.set_bandwidth.new.kept c.self.inside.meter c.self.inside.touched c.self.invariant.metered (ap (λ (st : State). length st.capacities.hosts) r.state ∙ (bandwidth_moved s.capacities c.args.link.0 c.args.bandwidth there).hosts) (ap (λ (st : State). st.date) r.state) c.self.invariant.sound.are r.sound.are

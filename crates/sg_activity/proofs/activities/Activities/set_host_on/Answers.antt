@@ -18,7 +18,7 @@ invariant_of-self c =
     record {
       sound = r.sound;
       hosts = subst (λ (st : State). All IsHost st.capacities.hosts) (sym r.state) c.self.invariant.hosts;
-      used = subst (λ (st : State). IsIndexed st.capacities st.slots st.ways c.set_host_on.new.kept.room c.self.inside.index) (sym r.state) (subst (λ n. IsIndexed s.capacities s.slots s.ways n c.self.inside.index) (sym r.room) c.self.invariant.used);
+      used = subst (λ (st : State). IsIndexed st.capacities st.slots st.ways c.set_host_on.new.kept.room c.set_host_on.new.kept.index) (sym r.state) (subst (λ n. IsIndexed s.capacities s.slots s.ways n c.set_host_on.new.kept.index) (sym r.room) (subst (IsIndexed s.capacities s.slots s.ways c.self.inside.kept.room) (sym r.index) c.self.invariant.used));
       switches = c.set_host_on.ensures.switches;
       hit = c.set_host_on.ensures.hit;
       metered = subst (IsMetered c.set_host_on.new.kept c.self.inside.meter) (sym c.insert.ensures)

@@ -5,7 +5,7 @@ use Rattle.sg_activity.specs.Underway.{with_link_on}
 use Rattle.sg_activity.specs.kept.Index.{IsIndexed}
 use Rattle.sg_activity.specs.kept.State.{State, state_of, doing_of}
 use Rattle.sg_activity.specs.Laws.{IsSameHost}
-use Rattle.sg_activity.specs.kept.Metered.{IsMetered, energies, metered_in}
+use Rattle.sg_activity.specs.kept.Metered.{energies, metered_in}
 use Rattle.sg_activity.specs.kept.State.{under_of}
 use Rattle.sg_activity.proofs.Elsewhere.{same_link_on}
 use Rattle.sg_activity.proofs.Metering.{metered_kept}
@@ -18,7 +18,7 @@ invariant_of-self c =
     record {
       sound = r.sound;
       hosts = subst (λ (st : State). All IsHost st.capacities.hosts) (sym r.state) c.self.invariant.hosts;
-      used = subst (λ (st : State). IsIndexed st.capacities st.slots st.ways c.set_link_on.new.kept.room c.self.inside.index) (sym r.state) (subst (λ n. IsIndexed s.capacities s.slots s.ways n c.self.inside.index) (sym r.room) c.self.invariant.used);
+      used = subst (λ (st : State). IsIndexed st.capacities st.slots st.ways c.set_link_on.new.kept.room c.set_link_on.new.kept.index) (sym r.state) (subst (λ n. IsIndexed s.capacities s.slots s.ways n c.set_link_on.new.kept.index) (sym r.room) (subst (IsIndexed s.capacities s.slots s.ways c.self.inside.kept.room) (sym r.index) c.self.invariant.used));
       switches = c.set_link_on.ensures.switches;
       hit = c.set_link_on.ensures.hit;
       metered = metered_kept c.self.inside.kept c.set_link_on.new.kept c.self.inside.meter c.self.inside.touched c.self.invariant.metered (ap (λ (st : State). length st.capacities.hosts) r.state) (ap (λ (st : State). st.date) r.state) c.self.invariant.sound.are r.sound.are

@@ -27,7 +27,7 @@ invariant_of-self c =
     record {
       sound = r.sound;
       hosts = subst (λ (st : State). All IsHost st.capacities.hosts) (sym r.state) (All-set IsHost kept.hosts.items c.args.host.0 (record (host_at kept.hosts.items c.args.host.0) { speed = c.args.speed }) (record { speed = c.requires.speed; cores = was.cores; power = was.power }) c.self.invariant.hosts);
-      used = used_reset kept c.set_speed.new.kept (at_speed c.args.host.0 c.args.speed s.capacities) c.args.host.0 c.self.inside.index (speed_moved s.capacities c.args.host.0 c.args.speed) r c.self.invariant.used;
+      used = used_reset kept c.set_speed.new.kept (at_speed c.args.host.0 c.args.speed s.capacities) c.args.host.0 (speed_moved s.capacities c.args.host.0 c.args.speed) r c.self.invariant.used;
       switches = switches_alike s (state_of c.set_speed.new.kept) (ap (λ (st : State). st.on) r.state) (ap (λ (st : State). length st.capacities.hosts) r.state ∙ (speed_moved s.capacities c.args.host.0 c.args.speed).hosts) (ap (λ (st : State). length st.capacities.links) r.state ∙ (speed_moved s.capacities c.args.host.0 c.args.speed).links) c.self.invariant.switches;
       hit = subst (λ (st : State). AreHits st.on st.slots st.ways c.self.inside.hits) (sym r.state) c.self.invariant.hit;
       metered = subst (IsMetered c.set_speed.new.kept c.self.inside.meter) (sym c.insert.ensures)

@@ -1,4 +1,4 @@
-use Rattle.std.proofs.Common.{◌+◌, ◌<◌, true, false, length, All, sym, ap, subst, ◌∙◌, refl, arith}
+use Rattle.std.proofs.Common.{◌+◌, ◌*◌, ◌<◌, true, false, length, All, sym, ap, subst, ◌∙◌, refl, arith}
 use Rattle.sg_base.specs.MarkSet.{MarkSet}
 use Rattle.sg_activity.specs.Underway.{work_of}
 use Rattle.sg_activity.specs.Doing.{Doing, settled_in}
@@ -6,7 +6,7 @@ use Rattle.sg_activity.specs.kept.Renewal.{HaveKeys, AreRenewed}
 use Rattle.sg_activity.specs.kept.Sound.{IsKept}
 use Rattle.sg_activity.specs.kept.State.{State, state_of, doing_of}
 use Rattle.sg_activity.proofs.Rates.{work_told}
-use Rattle.sg_activity.proofs.Settled.{keyed_flows, small_lives, marked_below, ahead_stamped, settled_kept, settled_told}
+use Rattle.sg_activity.proofs.Settled.{keyed_flows, small_lives, marked_below, ahead_stamped, uses_stamped, settled_kept, settled_told}
 use Rattle.sg_activity.specs.kept.Index.{used_by}
 use Rattle.sg_activity.specs.kept.Pool.{slot_at}
 use Rattle.sg_activity.specs.kept.State.{links_at}
@@ -63,16 +63,17 @@ invariant_of-self g c =
           early = is.room.early;
           flows = is.room.flows ∙ ap (λ n. kept.room + n) (sym (ahead_stamped new.changed new.slots s.date s.slots pool.slots c.restamp.ensures.slots c.restamp.ensures.long));
           flow_room = omega (arith, is.room.flow_room, by.flow_room_back);
+          uses = is.room.uses ∙ ap (λ n. 64 * kept.room + n) (sym (uses_stamped new.changed new.slots s.date s.slots pool.slots c.restamp.ensures.slots c.restamp.ensures.long));
           use_room = omega (arith, is.room.use_room, by.use_room_back);
           keys_free = omega (arith, is.room.keys_free, c.restamp.ensures.room);
-          ways_long = omega (arith, is.room.ways_long, c.restamp.ensures.long);
+          rows_long = omega (arith, is.room.rows_long, c.restamp.ensures.long);
           agenda_long = omega (arith, is.room.agenda_long, c.restamp.ensures.long, c.renew.ensures.long);
           fresh_room = omega (arith, is.room.fresh_room, c.restamp.ensures.long, c.restamp.ensures.fresh_room, ap (λ (m : MarkSet). m.room) c.clear.ensures);
           by_flow_long = omega (arith, is.room.by_flow_long, by.numbers);
         };
       };
       hosts = c.self.invariant.hosts;
-      used = used_still s.capacities s.slots s.ways kept.room c.self.inside.index c.self.invariant.used pool.slots s.ways kept.room
+      used = used_still s.capacities s.slots s.ways kept.room c.self.inside.kept.index c.self.invariant.used pool.slots s.ways kept.room
           (λ key. ap (used_by (length s.capacities.hosts) (length s.capacities.links) (links_at s.ways key)) (c.restamp.ensures.slots key) ∙ used_stamped (length s.capacities.hosts) (length s.capacities.links) (links_at s.ways key) new.changed new.slots s.date (slot_at s.slots key))
           c.restamp.ensures.long (omega arith);
       switches = c.self.invariant.switches;

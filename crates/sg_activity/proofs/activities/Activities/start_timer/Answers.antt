@@ -1,14 +1,14 @@
-use Rattle.std.proofs.Common.{◌≡◌, ◌+◌, ◌-◌, ◌≤◌, ◌^◌, false, None, Some, [], ◌∷◌, ◌++◌, length, length-set, set, sum_by, sym, ap, subst, ◌∙◌, refl, arith}
+use Rattle.std.proofs.Common.{◌≡◌, ◌+◌, ◌-◌, ◌≤◌, ◌^◌, false, None, Some, length, length-set, set, sum_by, sym, ap, subst, ◌∙◌, refl, arith}
 use Rattle.sg_base.specs.MarkSet.{MarkSet, with_mark}
 use Rattle.sg_activity.specs.declared.kinds.PhaseKind.TheVariants as phase
 use Rattle.sg_activity.specs.declared.lives.Live.{Live}
 use Rattle.sg_activity.specs.Task.{timer_of, nowhere}
 use Rattle.sg_activity.specs.Doing.{Doing, started_in}
 use Rattle.sg_activity.specs.kept.State.{State, state_of, told_at, task_of, doing_of}
-use Rattle.sg_activity.specs.kept.Sound.{IsKept, slot_ahead}
+use Rattle.sg_activity.specs.kept.Sound.{IsKept, slot_ahead, slot_uses}
 use Rattle.sg_activity.specs.kept.Turns.{Turns}
 use Rattle.sg_activity.proofs.Listing.{length-listed}
-use Rattle.sg_activity.proofs.Roomy.{ahead_set}
+use Rattle.sg_activity.proofs.Roomy.{ahead_set, uses_set}
 use Rattle.sg_activity.proofs.Told.{mark_self, started_told}
 use Rattle.sg_activity.proofs.Turned.{turned}
 use Rattle.sg_activity.proofs.Turning.{begun_state, state_same, time_turns, new_begins, left_fresh}
@@ -38,7 +38,7 @@ invariant_of-self c =
     let s : State = state_of kept in
     let is = c.self.invariant.sound in
     let key = c.put-key.result in
-    let live : Live = record { serial = c.next_serial-serial.result.0; kind = phase.Timer; kept = c.from.result; stamp = kept.date; rate = 1; weight = 1; bound = None; bytes = 0; host = 0; peer = 0; flow = 0 } in
+    let live : Live = record { serial = c.next_serial-serial.result.0; kind = phase.Timer; links = 0; kept = c.from.result; stamp = kept.date; rate = 1; weight = 1; bound = None; bytes = 0; host = 0; peer = 0; flow = 0 } in
     let room = ap (λ (d : Doing). d.room) c.self.view_is in
     let drawn : length c.args.self.now.under.tasks ≡ s.drawn = sym (ap (λ (d : Doing). length d.under.tasks) c.self.view_is) ∙ length-listed s.drawn (λ i. told_at (task_of s) s.slots (i + 1)) in
     let free = c.put-key.ensures.free in
@@ -46,7 +46,7 @@ invariant_of-self c =
     let serial : live.serial ≡ s.drawn + 1 = omega (arith, c.next_serial-serial.ensures, drawn) in
     let small : live.kept ≤ 10 ^ 24 = omega (arith, c.from.ensures, c.requires.ns) in
     let new : State = begun_state s (s.drawn + 1) key live s.ways s.keys s.runs s.by_flow in
-    let turns : Turns s new key live.serial (Some live) = time_turns s (s.drawn + 1) key live s.ways is.are (new_begins s key live is.are within free serial refl small (omega arith) (omega arith, omega arith)) free refl refl (λ k ne. refl) tt in
+    let turns : Turns s new key live.serial (Some live) = time_turns s (s.drawn + 1) key live s.ways is.are (new_begins s key live is.are within free serial refl small (omega arith) (omega arith, omega arith)) free refl refl (λ k ne. refl) tt (λ e. absurd (cc e)) in
     let state_is = state_same s (s.drawn + 1) false c.put-key.new.self.slots (set s.slots key (Some live)) s.ways s.ways s.keys s.keys s.runs s.runs s.by_flow s.by_flow c.insert.new.self.members (with_mark key s.fresh) s.ended s.ended s.resources s.resources
     c.put-key.ensures.slots refl refl refl refl (ap (λ (m : MarkSet). m.members) c.insert.ensures) refl refl in
     let are = subst IsKept (sym state_is) (turned s new key live.serial (Some live) is.are turns) in
@@ -63,16 +63,17 @@ invariant_of-self c =
           early = is.room.early;
           flows = omega (arith, is.room.flows, room, c.requires.room, ahead_set s.slots key (Some live) within, ap slot_ahead free, ap (sum_by slot_ahead) c.put-key.ensures.slots);
           flow_room = omega (arith, is.room.flow_room);
+          uses = omega (arith, is.room.uses, room, c.requires.room, uses_set s.slots key (Some live) within, ap slot_uses free, ap (sum_by slot_uses) c.put-key.ensures.slots);
           use_room = omega (arith, is.room.use_room);
           keys_free = omega (arith, is.room.keys_free, room, c.requires.room, c.put-key.ensures.room);
-          ways_long = omega (arith, is.room.ways_long, ap length c.put-key.ensures.slots, length-set s.slots key (Some live));
+          rows_long = omega (arith, is.room.rows_long, ap length c.put-key.ensures.slots, length-set s.slots key (Some live));
           agenda_long = omega (arith, is.room.agenda_long, ap length c.put-key.ensures.slots, length-set s.slots key (Some live));
           fresh_room = omega (arith, is.room.fresh_room, ap length c.put-key.ensures.slots, length-set s.slots key (Some live), ap (λ (m : MarkSet). m.room) c.insert.ensures);
           by_flow_long = is.room.by_flow_long;
         };
       };
       hosts = c.self.invariant.hosts;
-      used = used_still s.capacities s.slots s.ways kept.room c.self.inside.index c.self.invariant.used c.put-key.new.self.slots s.ways (kept.room - 1)
+      used = used_still s.capacities s.slots s.ways kept.room c.self.inside.kept.index c.self.invariant.used c.put-key.new.self.slots s.ways (kept.room - 1)
           (λ k. ap (λ l. used_by (length s.capacities.hosts) (length s.capacities.links) (links_at s.ways k) (get_or l k None)) c.put-key.ensures.slots ∙ elim (eq_cases k key) [
             | inl e ↦ ap (λ n. used_by (length s.capacities.hosts) (length s.capacities.links) (links_at s.ways k) (get_or (set s.slots key (Some live)) n None)) e ∙ ap (used_by (length s.capacities.hosts) (length s.capacities.links) (links_at s.ways k)) (set_here s.slots key (Some live) within)
                 ∙ sym (ap (λ n. used_by (length s.capacities.hosts) (length s.capacities.links) (links_at s.ways k) (get_or s.slots n None)) e ∙ ap (used_by (length s.capacities.hosts) (length s.capacities.links) (links_at s.ways k)) free)
@@ -91,14 +92,14 @@ returns-clause-starts c =
     let s : State = state_of kept in
     let is = c.self.invariant.sound in
     let key = c.put-key.result in
-    let live : Live = record { serial = c.next_serial-serial.result.0; kind = phase.Timer; kept = c.from.result; stamp = kept.date; rate = 1; weight = 1; bound = None; bytes = 0; host = 0; peer = 0; flow = 0 } in
+    let live : Live = record { serial = c.next_serial-serial.result.0; kind = phase.Timer; links = 0; kept = c.from.result; stamp = kept.date; rate = 1; weight = 1; bound = None; bytes = 0; host = 0; peer = 0; flow = 0 } in
     let drawn : length c.args.self.now.under.tasks ≡ s.drawn = sym (ap (λ (d : Doing). length d.under.tasks) c.self.view_is) ∙ length-listed s.drawn (λ i. told_at (task_of s) s.slots (i + 1)) in
     let free = c.put-key.ensures.free in
     let within = c.put-key.ensures.in_range in
     let serial : live.serial ≡ s.drawn + 1 = omega (arith, c.next_serial-serial.ensures, drawn) in
     let small : live.kept ≤ 10 ^ 24 = omega (arith, c.from.ensures, c.requires.ns) in
     let new : State = begun_state s (s.drawn + 1) key live s.ways s.keys s.runs s.by_flow in
-    let turns : Turns s new key live.serial (Some live) = time_turns s (s.drawn + 1) key live s.ways is.are (new_begins s key live is.are within free serial refl small (omega arith) (omega arith, omega arith)) free refl refl (λ k ne. refl) tt in
+    let turns : Turns s new key live.serial (Some live) = time_turns s (s.drawn + 1) key live s.ways is.are (new_begins s key live is.are within free serial refl small (omega arith) (omega arith, omega arith)) free refl refl (λ k ne. refl) tt (λ e. absurd (cc e)) in
     let state_is = state_same s (s.drawn + 1) false c.put-key.new.self.slots (set s.slots key (Some live)) s.ways s.ways s.keys s.keys s.runs s.runs s.by_flow s.by_flow c.insert.new.self.members (with_mark key s.fresh) s.ended s.ended s.resources s.resources
     c.put-key.ensures.slots refl refl refl refl (ap (λ (m : MarkSet). m.members) c.insert.ensures) refl refl in
     let told =

@@ -1,7 +1,7 @@
 use Rattle.std.proofs.Common.{◌≡◌, ◌<◌, [], length, map, set, subst, ap, ◌∙◌, arith}
 use Rattle.std.proofs.lemmas.List.{length-map}
 use Rattle.sg_activity.specs.declared.index.Uses.{Uses}
-use Rattle.sg_activity.specs.kept.Index.{Indexed, IsRow, row_at, things_of}
+use Rattle.sg_activity.specs.kept.Rows.{Indexed, IsRow, row_at, things_of}
 use Rattle.sg_activity.proofs.Chained.{enter_indexed, put_row}
 use Rattle.sg_activity.proofs.index.Index.enter.Goals as goal
 

@@ -1,5 +1,5 @@
 use Rattle.std.proofs.Common.{map, refl, subst, arith}
-use Rattle.sg_activity.specs.kept.Index.{Indexed, IsWider, things_of}
+use Rattle.sg_activity.specs.kept.Rows.{Indexed, IsWider, things_of}
 use Rattle.sg_activity.proofs.Chained.{rows_wider}
 use Rattle.sg_activity.proofs.index.Index.reserve.Goals as goal
 

@@ -1,4 +1,4 @@
-use Rattle.std.proofs.Common.{◌≡◌, ◌≢◌, ◌++◌, [], ◌∷◌, ℕ, cond, nat_eq, Option, None, Some, get_or, ◌<◌, ◌+◌, length, subst, sym, ap, ◌∙◌, arith}
+use Rattle.std.proofs.Common.{◌≡◌, ◌++◌, [], ◌∷◌, ℕ, cond, nat_eq, Option, None, Some, get_or, ◌<◌, ◌+◌, length, subst, sym, ap, ◌∙◌, arith}
 use Rattle.std.specs.HashMap as hash
 use Rattle.std.specs.Prelude.{vec_capacity}
 use Rattle.std.specs.Option.{option_to_list}

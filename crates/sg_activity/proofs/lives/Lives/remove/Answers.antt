@@ -1,4 +1,4 @@
-use Rattle.std.proofs.Common.{◌≡◌, ◌≢◌, ◌<◌, ◌+◌, ◌++◌, [], ◌∷◌, ℕ, cond, nat_eq, IsSome, Option, None, Some, length, set, subst, sym, ap, ◌∙◌, arith}
+use Rattle.std.proofs.Common.{◌≡◌, ◌<◌, ◌++◌, [], ◌∷◌, ℕ, cond, nat_eq, IsSome, Option, None, Some, length, set, subst, sym, ap, ◌∙◌, arith}
 use Rattle.std.specs.HashMap as hash
 use Rattle.std.specs.Prelude.{vec_capacity}
 use Rattle.std.proofs.lemmas.List.{get_or_default, length-append}

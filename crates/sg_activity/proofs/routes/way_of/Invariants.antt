@@ -1,0 +1,4 @@
+use Rattle.sg_activity.proofs.routes.way_of.Given as goal
+
+abbrev pub ghosts-read_way : goal.ghosts-read_way
+ghosts-read_way a = record { name = a.blank.name; parts = a.blank.parts }
