@@ -10,6 +10,7 @@ use Rattle.sg_maxmin.specs.Sharing.{Sharing, IsSound, flow_at, uses_at}
 use Rattle.sg_lazy.specs.declared.component.Component.{Component}
 use Rattle.sg_lazy.specs.declared.filling.Filling.{Filling}
 use Rattle.sg_lazy.specs.kept.Component.{AllPass, AreIn, AreVisited, Grows, IsClosure, IsClosedBy, IsOpen, PassAlong, Passes, StaysWithin, lengths, touched_uses}
+use Rattle.sg_lazy.specs.kept.Dates.{IsIdle}
 use Rattle.sg_lazy.specs.kept.Filling.{AreJoined, AreLeveled, HasPlaces, KeepsOthers, bound_at, flow_in, flows_at}
 use Rattle.sg_lazy.specs.kept.Parts.{FillsOn, HasShare, IsFilled, fill_looks}
 use Rattle.sg_lazy.proofs.Apart.{came, came_closed, shares_on}
@@ -101,13 +102,14 @@ module _ (s : Sharing) (sound : IsSound s) (a z : Component) (f : Filling) (old 
   pub looks_are : fill_looks s z ≡ length a.touched.members + length part + 3 * (touched_uses s a + lengths (uses_at s.slots) part) + (length a.touched.members + length part) * (3 * (touched_uses s a + lengths (uses_at s.slots) part))
   looks_are = ap₂ (λ n u. n + 3 * u + n * (3 * u)) (length_came a.touched.members z.touched.members gt) (lengths_came (uses_at s.slots) a.touched.members z.touched.members gt)
 
-  pub filled_on : (f' : Filling) → IsOpen s z → HasPlaces s f' → KeepsOthers part f f' → AreLeveled s part f' →
+  pub filled_on : (f' : Filling) → IsOpen s z → HasPlaces s f' → IsIdle f' → KeepsOthers part f f' → AreLeveled s part f' →
       ((i : ℕ) → i < length part → bound_at s.slots (get_or part i 0) ≡ None → share_of s.capacities (flows_at s.slots part) (flow_in s.slots (get_or part i 0)) < 2 ^ 64) → IsFilled s z f'
-  filled_on f' ready places kept leveled fits = record {
+  filled_on f' ready places idle kept leveled fits = record {
     ready = ready;
     closed = closed;
     held = live;
     places = places;
+    idle = idle;
     shares = subst (λ xs. (id : ℕ) → is_in id xs ≡ true → HasShare s xs f' id) t_is
         (shares_on s sound a.touched.members part a.reached.members resources old.closed whole whole_once whole_distinct (subst (AllPass (λ id. is_some (flow_at s.slots id))) (sym t_is) live) f f' old.shares kept leveled fits);
   }
@@ -158,5 +160,6 @@ reached_more s a f c r old none e =
       };
       held = old.held;
       places = old.places;
+      idle = old.idle;
       shares = old.shares;
     }

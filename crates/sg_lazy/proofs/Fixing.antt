@@ -21,7 +21,7 @@ apart x xs once y i e = let r = at_in y xs (in_is y xs i) in once 0 (suc r.0) 0 
 rest : (x : ℕ) (xs : List ℕ) → AllPairs (λ a b. a ≢ b) (x ∷ xs) → AllPairs (λ a b. a ≢ b) xs
 rest x xs once = λ i j d a b. once (suc i) (suc j) d (omega (arith, a)) (omega (arith, b))
 
-sum_one : (a b : ℕ → ℕ) (f : ℕ) (xs : List ℕ) → AllPairs (λ x y. x ≢ y) xs → In f xs → ((x : ℕ) → x ≢ f → b x ≡ a x) → sum_by b xs + a f ≡ sum_by a xs + b f
+pub sum_one : (a b : ℕ → ℕ) (f : ℕ) (xs : List ℕ) → AllPairs (λ x y. x ≢ y) xs → In f xs → ((x : ℕ) → x ≢ f → b x ≡ a x) → sum_by b xs + a f ≡ sum_by a xs + b f
 sum_one a b f [] once i same = absurd i
 sum_one a b f (x ∷ xs) once (inl e) same =
     let others = sum_by_same b a xs (λ y i. same y (λ q. apart x xs once y i (e ∙ sym q))) in
@@ -70,7 +70,9 @@ partly_same s low a places = record {
   places = places;
   levels = refl;
   flows = λ id. may_stay low (IsLeast (Some low) (limits_at s.slots a.levels.items id)) (fixed_at a.fixed.items id);
-  stays = λ c h. record { fresh = h; left = refl; waiting = refl };
+  stays = λ c h. record { fresh = h; left = refl; waiting = refl; key = refl };
+  fewer = λ c. omega arith;
+  gone = λ c e. e;
 }
 
 pub partly_on : (s : Sharing) (low : ℕ) (a b c : Filling) → StepsPartly s low a b → StepsPartly s low b c → StepsPartly s low a c
@@ -82,7 +84,9 @@ partly_on s low a b c p q = record {
   stays = λ n h.
       let y = q.stays n h in
       let x = p.stays n y.fresh in
-      record { fresh = x.fresh; left = y.left ∙ x.left; waiting = y.waiting ∙ x.waiting };
+      record { fresh = x.fresh; left = y.left ∙ x.left; waiting = y.waiting ∙ x.waiting; key = y.key ∙ x.key };
+  fewer = λ n. omega (arith, p.fewer n, q.fewer n);
+  gone = λ n e. q.gone n (p.gone n e);
 }
 
 pub fixed_stay : (s : Sharing) (low : ℕ) (row : List ℕ) (a b : Filling) → StepsPartly s low a b → AreFixed row a → AreFixed row b

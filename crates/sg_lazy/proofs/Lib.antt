@@ -20,6 +20,7 @@ pub mod Whole
 pub mod Looks
 pub mod Fixing
 pub mod Waited
+pub mod Keyed
 pub mod Floors
 pub mod Apart
 pub mod Filled

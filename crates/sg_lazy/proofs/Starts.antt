@@ -53,7 +53,7 @@ module _ (s : Sharing) (touched reached : List ℕ) (part : ArePart s touched) (
   few : (c : ℕ) → weight_of s.slots touched c ≤ length touched * (2 ^ 32 - 1)
   few c = subst (λ n. weight_of s.slots touched c ≤ n) (sum-each (2 ^ 32 - 1) touched) (sum-at (λ id. weight_on s.slots id c) (λ id. 2 ^ 32 - 1) touched (λ i h. light (get_or touched i 0) c))
 
-  nowhere : (c : ℕ) → is_in c reached ≡ false → weight_of s.slots touched c ≡ 0
+  pub nowhere : (c : ℕ) → is_in c reached ≡ false → weight_of s.slots touched c ≡ 0
   nowhere c off = le_both (subst (λ n. weight_of s.slots touched c ≤ n) (sum-each 0 touched ∙ none (length touched)) (sum-at (λ id. weight_on s.slots id c) (λ id. 0) touched (λ i h. not_there (get_or touched i 0) (in_at (get_or touched i 0) touched i h refl)))) (omega arith)
     where
       none : (n : ℕ) → n * 0 ≡ 0

@@ -62,7 +62,7 @@ module _ (s : Sharing) (fixed : List (Option ℕ)) (touched reached left waiting
       ]
 
   -- where an unfixed flow is, something waits
-  there_waits : (c id : ℕ) → is_in c reached ≡ true → In id touched → is_none (fixed_at fixed id) ≡ true → is_in c (uses_at s.slots id) ≡ true → get_or waiting c 0 ≡ 0 → ⊥
+  pub there_waits : (c id : ℕ) → is_in c reached ≡ true → In id touched → is_none (fixed_at fixed id) ≡ true → is_in c (uses_at s.slots id) ≡ true → get_or waiting c 0 ≡ 0 → ⊥
   there_waits c id r i none used z =
       let w = (weighs s joined.part.sound id).0 in
       let is : part c id ≡ times c (uses_at s.slots id) * weight_at s.slots id = ap {B = ℕ} (λ b. times c (uses_at s.slots id) * cond b (weight_at s.slots id) 0) none in

@@ -6,10 +6,13 @@ ghost use Rattle.sg_maxmin.specs.Fill.{bound_level as level_of_bound, level_of, 
 ghost use Rattle.sg_maxmin.specs.Laws.{HaveLimits};
 ghost use Rattle.sg_maxmin.specs.Sharing.{IsSound, flow_at, uses_at};
 ghost use Rattle.sg_lazy.specs.kept.Component.{AreIn, MarksRow, lengths};
+ghost use Rattle.sg_lazy.specs.kept.Dates.{AreDated, HaveKeys, IsIdle, StayDated};
 ghost use Rattle.sg_lazy.specs.kept.Filling.{AreAbove, AreCounted, AreFixed, AreJoined, AreLeveled, AreLevels, ArePart, FlowSteps, HasPlaces, HasResources, IsFloor, IsLeast, IsLessBy, IsLow, IsMoreBy, IsOver, KeepsCount, KeepsFixed, KeepsOthers, StepsPartly, bound_at, bound_limit, fixed_at, flow_in, flows_at, least_with, level_where, limits_at, unfixed_bounds, unfixed_limits, waited_levels, weight_of, weight_on};
 
 use crate::component::mark_uses;
+use crate::dates::{date_all, due, has_keys, is_late};
 use sg_base::{Marks, Memory, Steps};
+use sg_heap::Agenda;
 use sg_maxmin::System;
 use std::alloc::Global;
 use std::sync::ledger::Ledger;
@@ -25,6 +28,8 @@ pub struct Filling {
     pub levels: Vec<u64>,
     // the resources whose levels must be divided again
     pub stale: Marks,
+    // in a long filling, the levels of the resources on which a flow waits
+    pub agenda: Agenda,
 }
 
 impl Filling {
@@ -34,12 +39,15 @@ impl Filling {
     {
         let mut stale = Marks::new(alloc);
         stale.reserve(capacities.len())?;
+        let mut agenda = Agenda::new(alloc)?;
+        agenda.reserve(capacities.len())?;
         Ok(Filling {
             fixed: Vec::new(alloc),
             left: Vec::from_slice(alloc, capacities)?,
-            waiting: Vec::from_slice(alloc, capacities)?,
+            waiting: vec![in alloc; 0; capacities.len()]?,
             levels: Vec::from_slice(alloc, capacities)?,
             stale,
+            agenda,
         })
     }
 }
@@ -213,7 +221,7 @@ fn least_with_level(waiting: u64, level: u64, least: Option<u64>) -> Option<u64>
     }
 }
 
-// The least level of a resource on which a flow waits.
+// The least level of a resource on which a flow waits, by looking through all.
 fn lowest_level(reached: &[usize], waiting: &[u64], levels: &[u64]) -> Option<u64>
     requires waiting { All (λ c. c < length waiting.now) reached.now }
     requires levels { All (λ c. c < length levels.now) reached.now }
@@ -224,6 +232,21 @@ fn lowest_level(reached: &[usize], waiting: &[u64], levels: &[u64]) -> Option<u6
         least = least_with_level(waiting[*c], levels[*c], least);
     }
     least
+}
+
+// The least level of a resource on which a flow waits.
+fn least_level(reached: &[usize], filling: &Filling) -> Option<u64>
+    requires dated { AreDated reached.now filling.now }
+    requires slots { length filling.now.agenda ≡ length filling.now.levels.items }
+    requires waiting { All (λ c. c < length filling.now.waiting.items) reached.now }
+    requires levels { All (λ c. c < length filling.now.levels.items) reached.now }
+    ensures { IsLeast result
+        (waited_levels filling.now.waiting.items filling.now.levels.items reached.now) }
+{
+    match filling.agenda.least() {
+        None => lowest_level(reached, &filling.waiting, &filling.levels),
+        Some((c, _, _)) => Some(filling.levels[c]),
+    }
 }
 
 // The lesser of the level of a flow's bound, and of what was found before.
@@ -327,6 +350,7 @@ fn lowest(
     requires places { HasPlaces system.now filling.now }
     requires counted { AreCounted system.now filling.now.fixed.items touched.now
         filling.now.left.items filling.now.waiting.items (λ c. is_in c reached.now) }
+    requires dated { AreDated reached.now filling.now }
     requires floor { IsFloor floor
         (unfixed_bounds system.now.slots filling.now.fixed.items touched.now) }
     ensures { IsLow result
@@ -334,7 +358,7 @@ fn lowest(
         touched.now)
         (unfixed_bounds system.now.slots filling.now.fixed.items touched.now) }
 {
-    let level = lowest_level(reached, &filling.waiting, &filling.levels);
+    let level = least_level(reached, filling);
     match below_bounds(level, floor) {
         Some(low) => Some(low),
         None => lesser(level, lowest_bound(system, touched, &filling.fixed)),
@@ -354,6 +378,7 @@ fn fix<L: Ledger>(
     requires places { HasPlaces system.now filling.old }
     ensures places { HasPlaces system.now filling.new }
     ensures levels { filling.new.levels.items ≡ filling.old.levels.items }
+    ensures agenda { filling.new.agenda ≡ filling.old.agenda }
     ensures fixed { filling.new.fixed.items ≡ slice_set filling.old.fixed.items flow (Some low) }
     ensures left { IsLessBy (λ c. times c (uses_at system.now.slots flow)
         * share_at (flow_in system.now.slots flow) low)
@@ -389,6 +414,7 @@ fn fix_flow<L: Ledger>(
     requires at { fixed_at filling.old.fixed.items flow ≡ None
         → IsLeast (Some low) (limits_at system.now.slots filling.old.levels.items flow) }
     ensures partly { StepsPartly system.now low filling.old filling.new }
+    ensures agenda { filling.new.agenda ≡ filling.old.agenda }
     ensures done { IsSome (fixed_at filling.new.fixed.items flow) }
     ensures count { (touched : List ℕ) → AllPairs (λ a b. a ≢ b) touched
         → is_in flow touched ≡ true
@@ -413,6 +439,7 @@ fn fix_users<L: Ledger>(
     requires level { slice_index filling.old.levels.items resource ≡ low }
     requires above { AreAbove system.now (users_on system.now.users resource) low filling.old }
     ensures partly { StepsPartly system.now low filling.old filling.new }
+    ensures agenda { filling.new.agenda ≡ filling.old.agenda }
     ensures done { AreFixed (users_on system.now.users resource) filling.new }
     ensures count { (touched : List ℕ) → AllPairs (λ a b. a ≢ b) touched
         → AreIn (users_on system.now.users resource) touched
@@ -440,6 +467,7 @@ fn fix_on<L: Ledger>(
     requires resource { resource < length system.now.capacities }
     requires above { AreAbove system.now (users_on system.now.users resource) low filling.old }
     ensures partly { StepsPartly system.now low filling.old filling.new }
+    ensures agenda { filling.new.agenda ≡ filling.old.agenda }
     ensures done { slice_index filling.old.levels.items resource ≡ low
         → AreFixed (users_on system.now.users resource) filling.new }
     ensures count { (touched : List ℕ) → AllPairs (λ a b. a ≢ b) touched
@@ -522,8 +550,8 @@ fn fix_all_bounded<L: Ledger>(
     }
 }
 
-// Fixes the unfixed flows on the resources that are at this level.
-fn fix_all_users<L: Ledger>(
+// Fixes the unfixed flows on the resources that are at this level, by looking through all.
+fn fix_each<L: Ledger>(
     system: &System,
     touched: &[usize],
     reached: &[usize],
@@ -546,6 +574,65 @@ fn fix_all_users<L: Ledger>(
     }
 }
 
+// Fixes the unfixed flows on the resources that are at this level, by their keys, and takes these.
+fn fix_due<L: Ledger>(
+    system: &System,
+    touched: &[usize],
+    reached: &[usize],
+    low: u64,
+    filling: &mut Filling,
+    steps: &mut Steps<L>,
+)
+    requires joined { AreJoined system.now touched.now reached.now }
+    requires places { HasPlaces system.now filling.old }
+    requires above { AreAbove system.now touched.now low filling.old }
+    requires counted { AreCounted system.now filling.old.fixed.items touched.now
+        filling.old.left.items filling.old.waiting.items (λ c. is_in c reached.now) }
+    requires dated { AreDated reached.now filling.old }
+    requires keys { HaveKeys filling.old.agenda }
+    ensures partly { StepsPartly system.now low filling.old filling.new }
+    ensures on { (i : ℕ) → i < length reached.now
+        → slice_index filling.old.levels.items (slice_index reached.now i) ≡ low
+        → AreFixed (users_on system.now.users (slice_index reached.now i)) filling.new }
+    ensures count { KeepsCount system.now touched.now filling.old filling.new
+        (steps.old + lengths (users_on system.now.users) reached.now) steps.new }
+{
+    while let Some(c) = due(&filling.agenda, low) {
+        fix_on(system, c, low, filling, steps);
+        filling.stale.insert(c);
+        filling.agenda.clear(c);
+    }
+}
+
+// Fixes the unfixed flows on the resources that are at this level.
+fn fix_all_users<L: Ledger>(
+    system: &System,
+    touched: &[usize],
+    reached: &[usize],
+    low: u64,
+    filling: &mut Filling,
+    steps: &mut Steps<L>,
+)
+    requires joined { AreJoined system.now touched.now reached.now }
+    requires places { HasPlaces system.now filling.old }
+    requires above { AreAbove system.now touched.now low filling.old }
+    requires counted { AreCounted system.now filling.old.fixed.items touched.now
+        filling.old.left.items filling.old.waiting.items (λ c. is_in c reached.now) }
+    requires dated { AreDated reached.now filling.old }
+    ensures partly { StepsPartly system.now low filling.old filling.new }
+    ensures on { (i : ℕ) → i < length reached.now
+        → slice_index filling.old.levels.items (slice_index reached.now i) ≡ low
+        → AreFixed (users_on system.now.users (slice_index reached.now i)) filling.new }
+    ensures count { KeepsCount system.now touched.now filling.old filling.new
+        (steps.old + lengths (users_on system.now.users) reached.now) steps.new }
+{
+    if has_keys(&filling.agenda) {
+        fix_due(system, touched, reached, low, filling, steps);
+    } else {
+        fix_each(system, touched, reached, low, filling, steps);
+    }
+}
+
 // Fixes each unfixed flow that is at this level.
 fn fix_all<L: Ledger>(
     system: &System,
@@ -558,6 +645,9 @@ fn fix_all<L: Ledger>(
     requires joined { AreJoined system.now touched.now reached.now }
     requires places { HasPlaces system.now filling.old }
     requires above { AreAbove system.now touched.now low.level filling.old }
+    requires counted { AreCounted system.now filling.old.fixed.items touched.now
+        filling.old.left.items filling.old.waiting.items (λ c. is_in c reached.now) }
+    requires dated { AreDated reached.now filling.old }
     requires floor { IsFloor low.floor
         (unfixed_bounds system.now.slots filling.old.fixed.items touched.now) }
     ensures partly { StepsPartly system.now low.level filling.old filling.new }
@@ -581,12 +671,20 @@ fn renew(system: &System, filling: &mut Filling)
     ensures levels { AreLevels filling.old.stale.members filling.new }
     ensures others { (c : ℕ) → is_in c filling.old.stale.members ≡ false
         → slice_index filling.new.levels.items c ≡ slice_index filling.old.levels.items c }
+    ensures dated { StayDated filling.old.stale.members filling.old.agenda filling.new }
 {
     set_levels(
         filling.stale.members(),
         &filling.left,
         &filling.waiting,
         &mut filling.levels,
+    );
+    date_all(
+        has_keys(&filling.agenda),
+        filling.stale.members(),
+        &filling.waiting,
+        &filling.levels,
+        &mut filling.agenda,
     );
     filling.stale.clear();
 }
@@ -604,6 +702,9 @@ fn step<L: Ledger>(
     requires places { HasPlaces system.now filling.old }
     requires levels { AreLevels reached.now filling.old }
     requires above { AreAbove system.now touched.now low.level filling.old }
+    requires counted { AreCounted system.now filling.old.fixed.items touched.now
+        filling.old.left.items filling.old.waiting.items (λ c. is_in c reached.now) }
+    requires dated { AreDated reached.now filling.old }
     requires floor { IsFloor low.floor
         (unfixed_bounds system.now.slots filling.old.fixed.items touched.now) }
     ensures places { HasPlaces system.now filling.new }
@@ -611,6 +712,7 @@ fn step<L: Ledger>(
         → FlowSteps system.now.slots filling.old.levels.items low.level
         filling.old.fixed.items filling.new.fixed.items (slice_index touched.now i) }
     ensures levels { AreLevels reached.now filling.new }
+    ensures dated { AreDated reached.now filling.new }
     ensures kept { KeepsFixed filling.old filling.new }
     ensures count { KeepsCount system.now touched.now filling.old filling.new
         (steps.old + lengths (users_on system.now.users) reached.now) steps.new }
@@ -634,7 +736,9 @@ fn fill_steps<L: Ledger>(
     requires counted { AreCounted system.now filling.old.fixed.items touched.now
         filling.old.left.items filling.old.waiting.items (λ c. is_in c reached.now) }
     requires levels { AreLevels reached.now filling.old }
+    requires dated { AreDated reached.now filling.old }
     ensures places { HasPlaces system.now filling.new }
+    ensures idle { IsIdle filling.new }
     ensures kept { KeepsFixed filling.old filling.new }
     ensures fixed { AreLeveled system.now touched.now filling.new }
     ensures looks { steps.new ≤ steps.old + length touched.now
@@ -642,6 +746,13 @@ fn fill_steps<L: Ledger>(
 {
     let mut floor = Some(0);
     for n in 0..touched.len() {
+        date_all(
+            is_late(n, reached),
+            reached,
+            &filling.waiting,
+            &filling.levels,
+            &mut filling.agenda,
+        );
         match lowest(system, touched, reached, filling, floor) {
             None => return,
             Some(low) => {
@@ -652,23 +763,18 @@ fn fill_steps<L: Ledger>(
     }
 }
 
-// All of the reached resources is left, and nobody waits there.
-fn reset(system: &System, reached: &[usize], left: &mut [u64], waiting: &mut [u64])
+// All of the reached resources is left.
+fn reset(system: &System, reached: &[usize], left: &mut [u64])
     requires exist { All (λ c. c < length system.now.capacities) reached.now }
     requires left { length left.old ≡ length system.now.capacities }
-    requires waiting { length waiting.old ≡ length system.now.capacities }
     ensures left { (i : ℕ) → i < length reached.now
         → slice_index left.new (slice_index reached.now i)
         ≡ slice_index system.now.capacities (slice_index reached.now i) }
-    ensures waiting { (i : ℕ) → i < length reached.now
-        → slice_index waiting.new (slice_index reached.now i) ≡ 0 }
-    ensures small { (c : ℕ) → slice_index waiting.new c < 2 ^ 64 }
     ensures fit { (i : ℕ) → i < length reached.now
         → slice_index system.now.capacities (slice_index reached.now i) < 2 ^ 64 }
 {
     for c in reached {
         left[*c] = system.capacity(*c);
-        waiting[*c] = 0;
     }
 }
 
@@ -710,7 +816,9 @@ pub fn fill<L: Ledger>(
 )
     requires joined { AreJoined system.now touched.now reached.now }
     requires places { HasPlaces system.now filling.old }
+    requires idle { IsIdle filling.old }
     ensures places { HasPlaces system.now filling.new }
+    ensures idle { IsIdle filling.new }
     ensures kept { KeepsOthers touched.now filling.old filling.new }
     ensures fixed { AreLeveled system.now touched.now filling.new }
     ensures fits { (i : ℕ) → i < length touched.now
@@ -721,7 +829,7 @@ pub fn fill<L: Ledger>(
         ≤ steps.old + lengths (uses_at system.now.slots) touched.now
         + length touched.now * (3 * lengths (uses_at system.now.slots) touched.now) }
 {
-    reset(system, reached, &mut filling.left, &mut filling.waiting);
+    reset(system, reached, &mut filling.left);
     unfix(
         system,
         touched,

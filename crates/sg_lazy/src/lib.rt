@@ -6,6 +6,7 @@
 
 mod by_part;
 mod component;
+mod dates;
 mod filling;
 mod laws;
 mod lazy;

@@ -4,10 +4,12 @@ use Rattle.sg_maxmin.specs.Fill.{Flow, flow, share_at, bound_level, level_of}
 use Rattle.sg_chains.specs.Chained.{times}
 use Rattle.sg_maxmin.specs.Sharing.{Sharing, IsSound, flow_at, uses_at}
 use Rattle.sg_base.specs.MarkSet.{is_in}
+use Rattle.sg_heap.specs.Agenda.{key_at}
 use Rattle.sg_chains.specs.Chained.{users_on}
 use Rattle.sg_lazy.specs.declared.filling.Filling.{Filling}
 use Rattle.sg_lazy.specs.declared.filling.Low.{Low}
 use Rattle.sg_lazy.specs.kept.Component.{IsClosure}
+use Rattle.sg_lazy.specs.kept.Dates.{IsIdle}
 
 -- the weight and the bound of the flow in a slot; a slot without a flow weighs 1
 abbrev pub slot_weight : Option Flow → ℕ
@@ -119,13 +121,16 @@ pub record HasPlaces (s : Sharing) (filling : Filling) : Type 0 where
   pub waiting_len : length filling.waiting.items ≡ length s.capacities
   pub levels_len : length filling.levels.items ≡ length s.capacities
   pub stale_room : filling.stale.room ≡ length s.capacities
+  pub slots : length filling.agenda ≡ length s.capacities
 
--- a place for each of so many resources
+-- a place for each of so many resources, and nobody waits
 pub record HasResources (resources : ℕ) (filling : Filling) : Type 0 where
   pub left_len : length filling.left.items ≡ resources
   pub waiting_len : length filling.waiting.items ≡ resources
   pub levels_len : length filling.levels.items ≡ resources
   pub stale_room : filling.stale.room ≡ resources
+  pub slots : length filling.agenda ≡ resources
+  pub idle : IsIdle filling
 
 -- the level of a flow's bound
 abbrev pub bound_limit : List (Option Flow) → ℕ → Option ℕ
@@ -176,18 +181,21 @@ abbrev pub MayStep : ℕ → Type 0 → Option ℕ → Option ℕ → Type 0
 MayStep low at (Some level) after = after ≡ Some level
 MayStep low at None after = (at × (after ≡ Some low)) ⊎ (after ≡ None)
 
--- nothing was taken off what is left of the resource
+-- nothing was taken off what is left of the resource, nor was its key
 pub record StaysAt (c : ℕ) (old new : Filling) : Type 0 where
   pub fresh : is_in c old.stale.members ≡ false
   pub left : slice_index new.left.items c ≡ slice_index old.left.items c
   pub waiting : slice_index new.waiting.items c ≡ slice_index old.waiting.items c
+  pub key : key_at new.agenda c ≡ key_at old.agenda c
 
--- a part of a step at this level: the levels stay, and resources where a flow was fixed are noted as stale
+-- a part of a step at this level: the levels stay, no flow waits anew, no key comes, and resources where a flow was fixed are noted as stale
 pub record StepsPartly (s : Sharing) (low : ℕ) (old new : Filling) : Type 0 where
   pub places : HasPlaces s new
   pub levels : new.levels.items ≡ old.levels.items
   pub flows : (id : ℕ) → MayStep low (IsLeast (Some low) (limits_at s.slots old.levels.items id)) (fixed_at old.fixed.items id) (fixed_at new.fixed.items id)
   pub stays : (c : ℕ) → is_in c new.stale.members ≡ false → StaysAt c old new
+  pub fewer : (c : ℕ) → slice_index new.waiting.items c ≤ slice_index old.waiting.items c
+  pub gone : (c : ℕ) → key_at old.agenda c ≡ None → key_at new.agenda c ≡ None
 
 -- how many uses the unfixed flows have
 abbrev pub unfixed_uses : List (Option Flow) → List (Option ℕ) → List ℕ → ℕ

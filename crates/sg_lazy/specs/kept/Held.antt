@@ -9,6 +9,7 @@ use Rattle.sg_lazy.specs.declared.settle.Pending.{Pending}
 use Rattle.sg_lazy.specs.declared.settle.Rated.{Rated}
 use Rattle.sg_lazy.specs.RunningFlow.{RunningFlow, flows_in}
 use Rattle.sg_lazy.specs.kept.Component.{lengths}
+use Rattle.sg_lazy.specs.kept.Dates.{IsIdle}
 use Rattle.sg_lazy.specs.kept.Keeping.{AreKept}
 use Rattle.sg_lazy.specs.kept.Filling.{HasPlaces}
 
@@ -39,7 +40,7 @@ pub record IsNothing (resources : ℕ) (pending : Pending) : Type 0 where
   pub changed : pending.resources.members ≡ []
   pub room : pending.resources.room ≡ resources
 
--- there is room for all flows, and for all resources
+-- there is room for all flows, and for all resources, and nobody waits
 pub record HasRoom (s : Sharing) (pending : Pending) (component : Component) (filling : Filling) (rated : Rated) : Type 0 where
   pub began : length s.slots ≤ pending.began.room
   pub marked : length s.slots ≤ pending.marked.room
@@ -48,6 +49,7 @@ pub record HasRoom (s : Sharing) (pending : Pending) (component : Component) (fi
   pub touched : length s.slots ≤ component.touched.room
   pub reached : component.reached.room ≡ length s.capacities
   pub places : HasPlaces s filling
+  pub idle : IsIdle filling
   pub rates : length s.slots ≤ length rated.rates.items
   pub changed : length s.slots ≤ rated.changed.room
 

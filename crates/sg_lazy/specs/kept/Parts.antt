@@ -6,6 +6,7 @@ use Rattle.sg_maxmin.specs.Sharing.{Sharing, flow_at}
 use Rattle.sg_lazy.specs.declared.component.Component.{Component}
 use Rattle.sg_lazy.specs.declared.filling.Filling.{Filling}
 use Rattle.sg_lazy.specs.kept.Component.{AllPass, Grows, IsClosedBy, IsOpen, touched_uses}
+use Rattle.sg_lazy.specs.kept.Dates.{IsIdle}
 use Rattle.sg_lazy.specs.kept.Filling.{HasPlaces, bound_at, fixed_at, flow_in, flows_at, given_at}
 
 -- the flow is fixed, and what it is given is its share among the touched flows
@@ -14,12 +15,13 @@ pub record HasShare (s : Sharing) (touched : List ℕ) (filling : Filling) (id :
   pub share : given_at s.slots filling.fixed.items id ≡ share_of s.capacities (flows_at s.slots touched) (flow_in s.slots id)
   pub fits : bound_at s.slots id ≡ None → given_at s.slots filling.fixed.items id < 2 ^ 64
 
--- what is touched and reached shares with no other, and each of its flows has its share
+-- what is touched and reached shares with no other, and each of its flows has its share, so that nobody waits
 pub record IsFilled (s : Sharing) (component : Component) (filling : Filling) : Type 0 where
   pub ready : IsOpen s component
   pub closed : IsClosedBy s component
   pub held : AllPass (λ id. is_some (flow_at s.slots id)) component.touched.members
   pub places : HasPlaces s filling
+  pub idle : IsIdle filling
   pub shares : (id : ℕ) → is_in id component.touched.members ≡ true → HasShare s component.touched.members filling id
 
 -- looks that suffice for the touched flows: one to find each, three at each use, and three a step, with no more steps than touched flows

@@ -70,7 +70,7 @@ returns-clause-filled g c =
     let kept = subst (λ xs. KeepsOthers xs f f') part c.fill.ensures.kept in
     let leveled = subst (λ xs. AreLeveled s xs f') part c.fill.ensures.fixed in
     let fits = subst (λ (xs : List ℕ). (i : ℕ) → i < length xs → bound_at s.slots (get_or xs i 0) ≡ None → share_of s.capacities (flows_at s.slots xs) (flow_in s.slots (get_or xs i 0)) < 2 ^ 64) part c.fill.ensures.fits in
-    filled_on s c.requires.sound a z f c.requires.filled gt gr c.reach.ensures.closed live once distinct f' ready c.fill.ensures.places kept leveled fits
+    filled_on s c.requires.sound a z f c.requires.filled gt gr c.reach.ensures.closed live once distinct f' ready c.fill.ensures.places c.fill.ensures.idle kept leveled fits
 
 pub returns-clause-on : goal.returns-clause-on
 returns-clause-on g c =

@@ -1,4 +1,4 @@
-use Rattle.std.proofs.Common.{◌≡◌, ℕ, zero, suc, ◌+◌, ◌*◌, ◌<◌, ◌≤◌, ◌⊎◌, inl, inr, Bool, true, false, is_none, cond, Option, None, Some, List, [], ◌∷◌, length, get_or, sum_by, refl, sym, ap, subst, ◌∙◌, arith}
+use Rattle.std.proofs.Common.{◌≡◌, ℕ, zero, suc, ◌+◌, ◌*◌, ◌<◌, ◌≤◌, ◌⊎◌, inl, inr, Bool, true, false, is_none, cond, Option, None, Some, IsSome, List, [], ◌∷◌, length, get_or, sum_by, refl, sym, ap, ap₂, subst, ◌∙◌, arith}
 use Rattle.std.proofs.lemmas.List.{length-map}
 use Rattle.std.proofs.lemmas.List.Sums.{count_by-le-length, sum_by-cons}
 use Rattle.sg_base.specs.MarkSet.{is_in}
@@ -9,8 +9,10 @@ use Rattle.sg_maxmin.proofs.Members.{In, In-map, In-flat_map, In-from_contains, 
 use Rattle.sg_maxmin.proofs.Leveled.{all_fixed}
 use Rattle.sg_maxmin.proofs.Proved.{level_fixed, limited_from, steps-next}
 use Rattle.sg_lazy.specs.kept.Component.{Covers, lengths}
+use Rattle.sg_lazy.specs.kept.Dates.{key_where}
 use Rattle.sg_lazy.specs.kept.Filling.{IsLeast, IsStepped, fixed_at, flow_in, flows_at, limits_at, unfixed_limits, unfixed_uses}
 use Rattle.sg_lazy.proofs.Floors.{floor_fewer, floor_zero}
+use Rattle.sg_lazy.proofs.Keyed.{dated_late, idle_then}
 use Rattle.sg_lazy.proofs.Rows.{in_is, into, is_in_In, rows_once}
 use Rattle.sg_lazy.proofs.Starts.{part_limits}
 use Rattle.sg_lazy.proofs.Stepped.{limits_are, next_fixed}
@@ -67,7 +69,7 @@ unfixed_before low at (Some x) new h e = sym h ∙ e
 
 pub loop-n-init : goal.loop-n-init
 unfolding steps_from
-loop-n-init g c = record { places = c.requires.places; kept = λ id x e. e; fixed_are = λ i h. sym (c.requires.unfixed i h); counted = c.requires.counted; levels = c.requires.levels; floor = floor_zero _; looks = omega arith }
+loop-n-init g c = record { places = c.requires.places; kept = λ id x e. e; fixed_are = λ i h. sym (c.requires.unfixed i h); counted = c.requires.counted; levels = c.requires.levels; dated = c.requires.dated; floor = floor_zero _; looks = omega arith }
 
 pub step-requires-clause-above : goal.step-requires-clause-above
 step-requires-clause-above g c = λ id i none x k.
@@ -99,6 +101,7 @@ loop-n-preserved g c =
       fixed_are = λ i h. ap (λ (k : Fixed). k (flow_in s.slots (get_or touched i 0))) (steps-next c.loop-n.n s.capacities flows unfixed) ∙ next (get_or touched i 0) (in_index touched i h);
       counted = c.step.ensures.count.counted (λ x. is_in x reached) inv.counted;
       levels = c.step.ensures.levels;
+      dated = c.step.ensures.dated;
       floor = floor_fewer c.in-Some.low.floor s old new.fixed.items touched (λ f i e. unfixed_before low (IsLeast (Some low) (limits_at s.slots levels f)) (fixed_at old f) (fixed_at new.fixed.items f) (stepped f i) e) c.in-Some.ensures.1;
       looks = more c.loop-n.n (lengths (uses_at s.slots) touched) c.loop-n.steps c.step.new.steps c.args.steps.now (lengths (users_on s.users) reached) (unfixed_uses s.slots old touched) (unfixed_uses s.slots new.fixed.items touched) inv.looks c.step.ensures.count.looks twice (few_unfixed (uses_at s.slots) old touched);
     }
@@ -142,3 +145,30 @@ returns-clause-fixed g c = λ i h.
 
 pub step-requires-clause-floor : goal.step-requires-clause-floor
 step-requires-clause-floor g c = c.in-Some.ensures.1
+
+pub lowest-requires-clause-dated : goal.lowest-requires-clause-dated
+lowest-requires-clause-dated g c =
+    let out = c.date_all.ensures in
+    dated_late c.args.reached.now c.loop-n.filling c.date_all.new.agenda c.is_late.result c.loop-n.invariant.dated
+    (λ e x r. out.listed e x r ∙ ap₂ (λ (ws ls : List ℕ). key_where (get_or ws x 0) (get_or ls x 0)) c.deref.ensures.value c.deref-in-loop-n.ensures.value) out.others out.none
+
+pub step-requires-clause-dated : goal.step-requires-clause-dated
+step-requires-clause-dated g c =
+    let out = c.date_all.ensures in
+    dated_late c.args.reached.now c.loop-n.filling c.date_all.new.agenda c.is_late.result c.loop-n.invariant.dated
+    (λ e x r. out.listed e x r ∙ ap₂ (λ (ws ls : List ℕ). key_where (get_or ws x 0) (get_or ls x 0)) c.deref.ensures.value c.deref-in-loop-n.ensures.value) out.others out.none
+
+pub returns-in-None-clause-idle : goal.returns-in-None-clause-idle
+returns-in-None-clause-idle g c =
+    let inv = c.loop-n.invariant in
+    let out = c.date_all.ensures in
+    let f = c.loop-n.filling in
+    idle_then c.args.system.now c.args.touched.now c.args.reached.now (record f { agenda = c.date_all.new.agenda }) inv.counted
+    (dated_late c.args.reached.now f c.date_all.new.agenda c.is_late.result inv.dated
+    (λ e x r. out.listed e x r ∙ ap₂ (λ (ws ls : List ℕ). key_where (get_or ws x 0) (get_or ls x 0)) c.deref.ensures.value c.deref-in-loop-n.ensures.value) out.others out.none)
+    (λ i h. subst IsSome (sym (returns-in-None-clause-fixed g c i h)) refl)
+
+pub returns-clause-idle : goal.returns-clause-idle
+returns-clause-idle g c =
+    let inv = c.loop-n.invariant in
+    idle_then c.args.system.now c.args.touched.now c.args.reached.now c.loop-n.filling inv.counted inv.dated (λ i h. subst IsSome (sym (returns-clause-fixed g c i h)) refl)

@@ -3,6 +3,7 @@ use Rattle.sg_base.specs.MarkSet.{is_in}
 use Rattle.sg_maxmin.specs.Fill.{steps_from, unfixed}
 use Rattle.sg_maxmin.specs.Sharing.{uses_at}
 use Rattle.sg_lazy.specs.kept.Component.{lengths}
+use Rattle.sg_lazy.specs.kept.Dates.{AreDated}
 use Rattle.sg_lazy.specs.kept.Filling.{AreCounted, AreLevels, HasPlaces, IsFloor, KeepsFixed, fixed_at, flow_in, flows_at, unfixed_bounds}
 use Rattle.sg_lazy.proofs.filling.fill_steps.Given as goal
 
@@ -13,6 +14,7 @@ invariant-loop-n g l = record {
   fixed_are : (i : ℕ) → i < length l.touched → steps_from l.n l.system.capacities (flows_at l.system.slots l.touched) unfixed (flow_in l.system.slots (slice_index l.touched i)) ≡ fixed_at l.filling.fixed.items (slice_index l.touched i);
   counted : AreCounted l.system l.filling.fixed.items l.touched l.filling.left.items l.filling.waiting.items (λ c. is_in c l.reached);
   levels : AreLevels l.reached l.filling;
+  dated : AreDated l.reached l.filling;
   floor : IsFloor l.floor (unfixed_bounds l.system.slots l.filling.fixed.items l.touched);
   looks : l.steps ≤ l.fn.steps + l.n * (3 * lengths (uses_at l.system.slots) l.touched);
 }

@@ -1,5 +1,6 @@
 use Rattle.std.proofs.Common.{◌≡◌, ◌+◌, ◌*◌, ◌<◌, ◌≤◌, ℕ, inl, inr, Option, None, Some, IsSome, is_some, not, true, false, true≢false, List, refl, length, get_or, get_or-set_same, sym, ap, subst, ◌∙◌, arith}
 use Rattle.sg_base.specs.MarkSet.{is_in}
+use Rattle.sg_heap.specs.Agenda.{key_at}
 use Rattle.sg_maxmin.specs.Fill.{share_at}
 use Rattle.sg_maxmin.specs.Sharing.{uses_at}
 use Rattle.sg_lazy.specs.kept.Filling.{AreCounted, IsLeast, MayStep, fixed_at, flow_in, limits_at, unfixed_uses, weight_at}
@@ -37,7 +38,10 @@ returns-then-is_none-clause-partly g c =
         fresh = elim (bool_cases (is_in n f.stale.members)) [ inr e ↦ e | inl e ↦ absurd (true≢false (sym (stays n f.stale.members new.stale.members out.stale.grows e) ∙ h)) ];
         left = off_stays f.left.items new.left.items (uses_at s.slots flow) new.stale.members (share_at (flow_in s.slots flow) low) n (out.left n) out.stale.marked h;
         waiting = off_stays f.waiting.items new.waiting.items (uses_at s.slots flow) new.stale.members (weight_at s.slots flow) n (out.waiting n) out.stale.marked h;
+        key = ap (λ ks. key_at ks n) out.agenda;
       };
+      fewer = λ n. omega (arith, out.waiting n);
+      gone = λ n e. ap (λ ks. key_at ks n) out.agenda ∙ e;
     }
 
 pub returns-then-is_none-clause-done : goal.returns-then-is_none-clause-done

@@ -10,10 +10,9 @@ returns-in-Some c =
     let touched = c.args.touched.now in
     let reached = c.args.reached.now in
     let low = c.in-Some.low in
-    let level = c.lowest_level-level.result in
+    let level = c.least_level-level.result in
     let bounds = unfixed_bounds s.slots f.fixed.items touched in
-    let h = subst (λ (ws : List ℕ). IsLeast level (waited_levels ws f.levels.items reached)) c.deref.ensures.value
-    (subst (λ (ls : List ℕ). IsLeast level (waited_levels c.deref.result.now ls reached)) c.deref-2.ensures.value c.lowest_level-level.ensures) in
+    let h = c.least_level-level.ensures in
     let least = over_least low.level c.args.floor (waited_levels f.waiting.items f.levels.items reached) bounds (subst (λ (o : Option ℕ). IsLeast o (waited_levels f.waiting.items f.levels.items reached)) c.in-Some.ensures.0 h) c.requires.floor c.in-Some.ensures.2 in
     low_waited s f.fixed.items touched reached f.left.items f.waiting.items f.levels.items c.requires.joined c.requires.counted (Some low) (least, subst (λ (o : Option ℕ). IsFloor o bounds) (sym c.in-Some.ensures.1) c.requires.floor)
 
@@ -23,9 +22,8 @@ returns-in-None c =
     let f = c.args.filling.now in
     let touched = c.args.touched.now in
     let reached = c.args.reached.now in
-    let level = c.lowest_level-level.result in
+    let level = c.least_level-level.result in
     let bounds = unfixed_bounds s.slots f.fixed.items touched in
-    let h = subst (λ (ws : List ℕ). IsLeast level (waited_levels ws f.levels.items reached)) c.deref.ensures.value
-    (subst (λ (ls : List ℕ). IsLeast level (waited_levels c.deref.result.now ls reached)) c.deref-2.ensures.value c.lowest_level-level.ensures) in
+    let h = c.least_level-level.ensures in
     low_waited s f.fixed.items touched reached f.left.items f.waiting.items f.levels.items c.requires.joined c.requires.counted c.lesser.result
-    (c.lesser.ensures (waited_levels f.waiting.items f.levels.items reached) bounds h (subst (λ (fs : List (Option ℕ)). IsLeast c.lowest_bound.result (unfixed_bounds s.slots fs touched)) c.deref-in-None.ensures.value c.lowest_bound.ensures))
+    (c.lesser.ensures (waited_levels f.waiting.items f.levels.items reached) bounds h (subst (λ (fs : List (Option ℕ)). IsLeast c.lowest_bound.result (unfixed_bounds s.slots fs touched)) c.deref.ensures.value c.lowest_bound.ensures))

@@ -1,8 +1,10 @@
-use Rattle.std.proofs.Common.{◌≡◌, ◌/◌, ℕ, List, true, false, get_or, sym, ap, subst, ◌∙◌}
+use Rattle.std.proofs.Common.{◌≡◌, ◌/◌, ℕ, List, true, false, inl, inr, get_or, sym, ap, ap₂, subst, ◌∙◌}
 use Rattle.std.specs.Vec.{with_items}
 use Rattle.std.proofs.lemmas.List.{with_items_is}
 use Rattle.sg_base.specs.MarkSet.{is_in}
+use Rattle.sg_lazy.specs.kept.Dates.{key_where}
 use Rattle.sg_lazy.proofs.Growing.{at_in}
+use Rattle.sg_lazy.proofs.Listing.{bool_cases}
 use Rattle.sg_lazy.proofs.filling.renew.Goals as goal
 
 pub returns-clause-levels : goal.returns-clause-levels
@@ -21,3 +23,16 @@ returns-clause-others c = λ x off.
     let levels = c.set_levels.new.levels in
     let kept : (with_items f.levels levels).items ≡ levels = with_items_is f.levels levels (c.set_levels.auto.levels ∙ c.deref_mut.ensures.len) in
     ap (λ xs. get_or xs x 0) kept ∙ c.set_levels.ensures.others x (subst (λ xs. is_in x xs ≡ false) (sym c.members.ensures.members) off) ∙ ap (λ xs. get_or xs x 0) c.deref_mut.ensures.value
+
+pub returns-clause-dated : goal.returns-clause-dated
+returns-clause-dated c = elim (bool_cases c.has_keys.result) [
+  | inl e ↦ inl (
+    c.has_keys.ensures.some e,
+    record {
+      listed_are = λ x i. c.date_all.ensures.listed e x (subst (λ xs. is_in x xs ≡ true) (sym c.members-2.ensures.members) i)
+          ∙ ap₂ (λ (w l : List ℕ). key_where (get_or w x 0) (get_or l x 0)) c.deref-3.ensures.value c.deref-4.ensures.value;
+      others = λ x o. c.date_all.ensures.others x (subst (λ xs. is_in x xs ≡ false) (sym c.members-2.ensures.members) o);
+    },
+  )
+  | inr e ↦ inr (c.has_keys.ensures.none e, c.date_all.ensures.none e)
+]

@@ -3,6 +3,7 @@ use Rattle.sg_base.specs.MarkSet.{is_in}
 use Rattle.sg_lazy.proofs.Listing.{bool_cases}
 use Rattle.sg_lazy.specs.kept.Filling.{IsLeast, fixed_at, limits_at}
 use Rattle.sg_lazy.proofs.Fixing.{count_kept, level_stays}
+use Rattle.sg_lazy.proofs.Keyed.{dated_on}
 use Rattle.sg_lazy.proofs.filling.step.Goals as goal
 
 pub returns-clause-stepped : goal.returns-clause-stepped
@@ -32,3 +33,7 @@ returns-clause-kept g c = λ id x e.
     let low = c.args.low.level in
     ap (λ xs. fixed_at xs id) c.renew.ensures.kept.0
     ∙ level_stays low (IsLeast (Some low) (limits_at c.args.system.now.slots old.levels.items id)) (fixed_at old.fixed.items id) (fixed_at mid.fixed.items id) x (c.fix_all.ensures.partly.flows id) e
+
+pub returns-clause-dated : goal.returns-clause-dated
+returns-clause-dated g c =
+    dated_on c.args.system.now c.args.low.level c.args.reached.now c.args.filling.now c.fix_all.new.filling c.renew.new.filling c.requires.dated c.fix_all.ensures.partly c.renew.ensures.kept.2 c.renew.ensures.others c.renew.ensures.dated

@@ -60,7 +60,9 @@ fill_marked-requires-clause-filled g c =
         waiting_len = omega (arith, room.places.waiting_len, caps);
         levels_len = omega (arith, room.places.levels_len, caps);
         stale_room = omega (arith, room.places.stale_room, caps);
+        slots = omega (arith, room.places.slots, caps);
       };
+      idle = room.idle;
       shares = λ id h. absurd (true≢false (sym h ∙ ap (is_in id) no_flow));
     }
 

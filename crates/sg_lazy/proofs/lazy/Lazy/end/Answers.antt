@@ -31,6 +31,7 @@ invariant_of-self c =
         touched = inv.1.touched;
         reached = inv.1.reached;
         places = inv.1.places;
+        idle = inv.1.idle;
         rates = inv.1.rates;
         changed = inv.1.changed;
       },

@@ -24,7 +24,9 @@ invariant_of-result c =
           waiting_len = omega (arith, places.waiting_len, caps);
           levels_len = omega (arith, places.levels_len, caps);
           stale_room = omega (arith, places.stale_room, caps);
+          slots = omega (arith, places.slots, caps);
         };
+        idle = places.idle;
         rates = omega (arith, none);
         changed = omega (arith, none);
       },

@@ -34,7 +34,9 @@ invariant_of-self-2 c =
           waiting_len = omega (arith, inv.1.places.waiting_len, caps);
           levels_len = omega (arith, inv.1.places.levels_len, caps);
           stale_room = omega (arith, inv.1.places.stale_room, caps);
+          slots = omega (arith, inv.1.places.slots, caps);
         };
+        idle = record { waiting = inv.1.idle.waiting; keys = inv.1.idle.keys };
         rates = omega (arith, n, c.in_ok-grow_rows.ensures.room.0);
         changed = omega (arith, n, c.in_ok-grow_marks.ensures.room.rates);
       },

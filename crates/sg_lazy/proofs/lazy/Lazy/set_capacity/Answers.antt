@@ -29,7 +29,9 @@ invariant_of-self c =
           waiting_len = omega (arith, inv.1.places.waiting_len, caps);
           levels_len = omega (arith, inv.1.places.levels_len, caps);
           stale_room = omega (arith, inv.1.places.stale_room, caps);
+          slots = omega (arith, inv.1.places.slots, caps);
         };
+        idle = inv.1.idle;
         rates = omega (arith, inv.1.rates, numbers);
         changed = omega (arith, inv.1.changed, numbers);
       },

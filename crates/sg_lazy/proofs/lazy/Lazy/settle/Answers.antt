@@ -25,6 +25,7 @@ invariant_of-self g c =
         touched = room.touched;
         reached = room.reached;
         places = room.places;
+        idle = room.idle;
         rates = room.rates;
         changed = room.changed;
       },

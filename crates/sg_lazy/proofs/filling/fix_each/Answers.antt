@@ -5,7 +5,7 @@ use Rattle.sg_lazy.proofs.Growing.{in_at}
 use Rattle.sg_lazy.proofs.Prefix.{part_next}
 use Rattle.sg_lazy.proofs.Rows.{into, take_all}
 use Rattle.sg_lazy.proofs.Fixing.{above_still, fixed_stay, partly_on, partly_same}
-use Rattle.sg_lazy.proofs.filling.fix_all_users.Goals as goal
+use Rattle.sg_lazy.proofs.filling.fix_each.Goals as goal
 
 pub loop-c-init : goal.loop-c-init
 loop-c-init g c = record {

@@ -2,7 +2,7 @@ use Rattle.std.proofs.Common.{◌+◌, ◌≡◌, ℕ, ◌<◌, take, slice_inde
 use Rattle.sg_chains.specs.Chained.{users_on}
 use Rattle.sg_lazy.specs.kept.Component.{lengths}
 use Rattle.sg_lazy.specs.kept.Filling.{AreFixed, KeepsCount, StepsPartly}
-use Rattle.sg_lazy.proofs.filling.fix_all_users.Given as goal
+use Rattle.sg_lazy.proofs.filling.fix_each.Given as goal
 
 abbrev pub invariant-loop-c : goal.invariant-loop-c
 invariant-loop-c g l = record {
