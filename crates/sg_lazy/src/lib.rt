@@ -1,7 +1,7 @@
 //! Rates of flows, of which only those that a change touches are filled anew.
 //! One enters by `Lazy`: `start`, `end`, `set_capacity` and `set_bound` mark what changes, `settle` brings all rates up
 //! to date, `changed` lists those that are other than before.
-//! It stands on `sg_base`, on the `System` of `sg_maxmin`, and on `sg_chains`.
+//! It stands on `sg_base`, on the `System` of `sg_maxmin`, on `sg_chains`, and on the `Agenda` of `sg_heap`.
 #![tactic(auto)]
 
 mod by_part;
