@@ -28,9 +28,15 @@ const BLANK: Post = Post {
 /// A side that comes meets the one that has waited longest, where the other kind waits; else it waits itself. No
 /// other mailbox is looked at. What a call costs depends on no number of mailboxes or of sides that wait, and only
 /// `new` and `reserve` take memory.
-#[derive(Drop)]
 pub struct Boxes {
     kept: Kept,
+}
+
+// A function of its own, so that a proof in which one is dropped doesn't go into its parts.
+impl Drop for Boxes {
+    fn drop(self) {
+        let Boxes { kept: _ } = self;
+    }
 }
 
 impl Model for Boxes {

@@ -24,7 +24,6 @@ use toml::{Table, Value};
 
 /// What is known of the names of a whole tree: under which number each stands first. Zones, hosts and routers are
 /// numbered one after the other.
-#[derive(Drop)]
 pub struct Names {
     /// How many rows zones have.
     pub zones: u32,
@@ -50,6 +49,28 @@ pub struct Names {
     pub workers: IndexMap<String, u32>,
     pub mutexes: IndexMap<String, u32>,
     pub semaphores: IndexMap<String, u32>,
+}
+
+// A function of its own, so that a proof in which one is dropped doesn't go into its parts.
+impl Drop for Names {
+    fn drop(self) {
+        let Names {
+            zones: _,
+            hosts: _,
+            points: _,
+            taken: _,
+            links: _,
+            pairs: _,
+            zone_pairs: _,
+            children: _,
+            profiles: _,
+            state_profiles: _,
+            actors: _,
+            workers: _,
+            mutexes: _,
+            semaphores: _,
+        } = self;
+    }
 }
 
 // The parts of `Names`. They are made apart: a function that holds many maps while a call may still fail is dear to

@@ -18,7 +18,6 @@ const BLANK: Await = Await {
 ///
 /// Pushing and taking cost the same however many actors and requests there are, and letting go as much as sorting what
 /// the actor awaited. Only `new` and `reserve` take memory.
-#[derive(Drop)]
 pub struct Requests {
     /// A queue for each actor.
     queues: Queues<Await>,
@@ -30,6 +29,19 @@ pub struct Requests {
     room: usize,
     /// The serials of what the actor awaited that was let go last.
     awaited: Vec<u64>,
+}
+
+// A function of its own, so that a proof in which one is dropped doesn't go into its parts.
+impl Drop for Requests {
+    fn drop(self) {
+        let Requests {
+            queues: _,
+            asked: _,
+            standing: _,
+            room: _,
+            awaited: _,
+        } = self;
+    }
 }
 
 impl Model for Requests {

@@ -17,13 +17,25 @@ use sg_zones::Zones;
 use std::marker::Model;
 
 /// The zone tree, the local routes and spokes that rows declare, and the links.
-#[derive(Drop)]
 pub(crate) struct Ways {
     pub(crate) zones: Zones,
     pub(crate) locals: Locals,
     pub(crate) spokes: Spokes,
     pub(crate) ends: Vec<LinkEnd>,
     pub(crate) loopback: LinkId,
+}
+
+// A function of its own, so that a proof in which one is dropped doesn't go into its parts.
+impl Drop for Ways {
+    fn drop(self) {
+        let Ways {
+            zones: _,
+            locals: _,
+            spokes: _,
+            ends: _,
+            loopback: _,
+        } = self;
+    }
 }
 
 impl Model for Ways {

@@ -14,7 +14,6 @@ use std::alloc::Global;
 use std::marker::Model;
 
 /// A deployment, which contracts see as its rows.
-#[derive(Drop)]
 pub struct Deployment {
     actors: Vec<ActorRow>,
     mutexes: Vec<MutexRow>,
@@ -24,6 +23,22 @@ pub struct Deployment {
     named_mutexes: IndexMap<Vec<u8>, u32>,
     named_semaphores: IndexMap<Vec<u8>, u32>,
     members: Members,
+}
+
+// A function of its own, so that a proof in which one is dropped doesn't go into its parts.
+impl Drop for Deployment {
+    fn drop(self) {
+        let Deployment {
+            actors: _,
+            mutexes: _,
+            semaphores: _,
+            named_actors: _,
+            replay: _,
+            named_mutexes: _,
+            named_semaphores: _,
+            members: _,
+        } = self;
+    }
 }
 
 impl Model for Deployment {

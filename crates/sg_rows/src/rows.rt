@@ -145,7 +145,6 @@ pub struct StateProfileRow {
 }
 
 /// The rows of a platform's tables, in declared order.
-#[derive(Drop)]
 pub struct PlatformRows {
     pub zones: Vec<ZoneRow>,
     pub hosts: Vec<HostRow>,
@@ -159,6 +158,24 @@ pub struct PlatformRows {
     pub network: Network,
     pub profiles: Vec<ProfileRow>,
     pub state_profiles: Vec<StateProfileRow>,
+}
+
+// A function of its own, so that a proof in which one is dropped doesn't go into its parts.
+impl Drop for PlatformRows {
+    fn drop(self) {
+        let PlatformRows {
+            zones: _,
+            hosts: _,
+            routers: _,
+            links: _,
+            routes: _,
+            zone_routes: _,
+            spokes: _,
+            network: _,
+            profiles: _,
+            state_profiles: _,
+        } = self;
+    }
 }
 
 /// What an actor does.

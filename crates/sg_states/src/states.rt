@@ -22,7 +22,6 @@ use std::marker::Model;
 /// and whether a pass goes on. No call costs more with more actors, but for a binary search in the run queue where one
 /// gets to take a turn in a round, the same among the joiners where one joins another or goes on, with the shift of
 /// those behind it, and for the sorting of the queue at the end of a pass.
-#[derive(Drop)]
 pub struct States {
     crowd: Crowd,
     /// The records that aren't cleared.
@@ -32,6 +31,20 @@ pub struct States {
     actors: usize,
     mutexes: usize,
     semaphores: usize,
+}
+
+// A function of its own, so that a proof in which one is dropped doesn't go into its parts.
+impl Drop for States {
+    fn drop(self) {
+        let States {
+            crowd: _,
+            records: _,
+            room: _,
+            actors: _,
+            mutexes: _,
+            semaphores: _,
+        } = self;
+    }
 }
 
 impl Model for States {

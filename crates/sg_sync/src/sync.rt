@@ -15,7 +15,6 @@ use std::marker::Model;
 ///
 /// An actor that waits goes on by a later call of another: `others` tells who does. All queues are first in, first
 /// out. An actor that waits makes no call; so it waits in one queue at most, and no call takes memory.
-#[derive(Drop)]
 pub struct Sync {
     owners: Vec<Option<ActorId>>,
     locking: Queues,
@@ -24,6 +23,21 @@ pub struct Sync {
     members: u32,
     arrived: Arrivals,
     others: Vec<ActorId>,
+}
+
+// A function of its own, so that a proof in which one is dropped doesn't go into its parts.
+impl Drop for Sync {
+    fn drop(self) {
+        let Sync {
+            owners: _,
+            locking: _,
+            counts: _,
+            acquiring: _,
+            members: _,
+            arrived: _,
+            others: _,
+        } = self;
+    }
 }
 
 impl Model for Sync {
