@@ -11,13 +11,13 @@ use Rattle.sg_maxmin.proofs.Members.{In, In-map, list_any_in}
 use Rattle.sg_lazy.specs.Touch.{touches, spread, reach}
 use Rattle.sg_lazy.specs.RunningFlow.{RunningFlow, running_at, running_flows}
 use Rattle.sg_lazy.specs.Work.{is_marked, is_joined, touched_count, work}
-use Rattle.sg_lazy.specs.declared.component.Component.{Component}
-use Rattle.sg_lazy.specs.kept.Component.{AllPass, MarksRows, PassAlong, StaysWithin, lengths}
+use Rattle.sg_filling.specs.declared.component.Component.{Component}
+use Rattle.sg_filling.specs.Component.{AllPass, MarksRows, PassAlong, StaysWithin, lengths}
 use Rattle.sg_lazy.specs.kept.Held.{IsWithout, running_in, flow_or_none, ended_in}
-use Rattle.sg_lazy.proofs.Growing.{in_at}
-use Rattle.sg_lazy.proofs.Listing.{some_of}
+use Rattle.sg_filling.proofs.Growing.{in_at}
+use Rattle.sg_filling.proofs.Listing.{some_of}
 use Rattle.sg_lazy.proofs.Reached.{all_reached_lem}
-use Rattle.sg_lazy.proofs.Rows.{in_uses, is_in_In, on_held, uses_held}
+use Rattle.sg_filling.proofs.Rows.{in_uses, is_in_In, on_held, uses_held}
 use Rattle.sg_lazy.proofs.Settled.{held_runs, runs_held}
 use Rattle.sg_lazy.proofs.Whole.{lengths-ended}
 use Rattle.sg_lazy.proofs.Works.{suffices_lem}

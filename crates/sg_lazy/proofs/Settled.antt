@@ -13,17 +13,18 @@ use Rattle.sg_maxmin.proofs.Same.{IsPart, share_of_part}
 use Rattle.sg_maxmin.proofs.Proved.{limited_from}
 use Rattle.sg_lazy.specs.Touch.{IsClosed}
 use Rattle.sg_lazy.specs.RunningFlow.{RunningFlow, running_at, flows_in}
-use Rattle.sg_lazy.specs.kept.Component.{AreIn, IsClosure, AllPass}
+use Rattle.sg_filling.specs.Component.{AreIn, IsClosure, AllPass}
 use Rattle.sg_lazy.specs.kept.Changes.{WritesRates, did_change}
-use Rattle.sg_lazy.specs.kept.Filling.{flow_in, flows_at}
+use Rattle.sg_filling.specs.Filling.{flow_in, flows_at}
 use Rattle.sg_lazy.specs.kept.Keeping.{IsUnmarked}
 use Rattle.sg_lazy.specs.kept.Held.{IsLazy, IsWithout, running_of, running_in, flow_or_none, ended_in}
-use Rattle.sg_lazy.proofs.Growing.{at_in, in_at}
+use Rattle.sg_filling.proofs.Growing.{at_in, in_at}
 use Rattle.sg_lazy.proofs.Keeps.{settles_rates_lem}
 use Rattle.sg_lazy.proofs.Parts.{free_rate_lem}
 use Rattle.sg_lazy.proofs.Slots.{In-flows, In-flows_back, sum_written}
-use Rattle.sg_lazy.proofs.Listing.{bool_cases, eq_cases, at_listed, some_of}
-use Rattle.sg_lazy.proofs.Rows.{flow_below, flow_in_is, in_is, into, is_in_In, none_some, same_in, uses_in_row}
+use Rattle.sg_filling.proofs.Listing.{bool_cases, eq_cases, some_of}
+use Rattle.sg_lazy.proofs.Listed.{at_listed}
+use Rattle.sg_filling.proofs.Rows.{flow_below, flow_in_is, in_is, into, is_in_In, none_some, same_in, uses_in_row}
 use Rattle.sg_lazy.proofs.Starting.{is_here}
 
 -- ---- a sum over flows by their numbers

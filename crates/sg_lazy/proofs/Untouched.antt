@@ -10,7 +10,7 @@ use Rattle.sg_lazy.specs.RunningFlow.{RunningFlow, running_at, running_flows, fl
 use Rattle.sg_lazy.specs.Work.{is_marked, is_joined}
 use Rattle.sg_lazy.specs.kept.Keeping.{AreKept, IsUnmarked}
 use Rattle.sg_lazy.proofs.Keeps.{settles_rates_lem}
-use Rattle.sg_lazy.proofs.Listing.{bool_cases, some_of}
+use Rattle.sg_filling.proofs.Listing.{bool_cases, some_of}
 use Rattle.sg_lazy.proofs.Looks.{In-held, first_reached, next_reached, both_true}
 use Rattle.sg_lazy.proofs.Parts.{free_rate_lem}
 use Rattle.sg_lazy.proofs.Reached.{all_reached_lem}

@@ -5,11 +5,10 @@ ghost use Rattle.sg_maxmin.specs.Sharing.{IsFlow};
 ghost use Rattle.sg_lazy.specs.RunningFlow.{running_at};
 ghost use Rattle.sg_lazy.specs.Lazily.{IsFresh, IsRoomier, IsSettled, KeepUntouched, looks_of, with_bound, with_capacity, with_flow, without_flow};
 
-use crate::component::Component;
-use crate::filling::Filling;
 use crate::room::{grow_marks, grow_rows};
 use crate::settle::{Pending, Rated, settle_flows};
 use sg_base::{Marks, Memory, Steps};
+use sg_filling::{Component, Filling};
 use sg_maxmin::System;
 use std::alloc::Global;
 use std::marker::Model;

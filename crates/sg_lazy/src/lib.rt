@@ -1,13 +1,9 @@
 //! Rates of flows, of which only those that a change touches are filled anew.
 //! One enters by `Lazy`: `start`, `end`, `set_capacity` and `set_bound` mark what changes, `settle` brings all rates up
 //! to date, `changed` lists those that are other than before.
-//! It stands on `sg_base`, on the `System` of `sg_maxmin`, on `sg_chains`, and on the `Agenda` of `sg_heap`.
+//! It stands on `sg_base`, on the `System` of `sg_maxmin`, on `sg_chains`, and on the filling of `sg_filling`.
 #![tactic(auto)]
 
-mod by_part;
-mod component;
-mod dates;
-mod filling;
 mod laws;
 mod lazy;
 mod room;

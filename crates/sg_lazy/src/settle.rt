@@ -3,14 +3,12 @@ ghost use Rattle.std.specs.Prelude.{◌≡◌, ◌≢◌, ◌≤◌, ◌<◌, �
 ghost use Rattle.sg_maxmin.specs.Sharing.{IsSound, flow_at, uses_at};
 ghost use Rattle.sg_lazy.specs.RunningFlow.{running_flows};
 ghost use Rattle.sg_lazy.specs.Work.{work};
-ghost use Rattle.sg_lazy.specs.kept.Component.{MarksRows, lengths};
+ghost use Rattle.sg_filling.specs.Component.{MarksRows, lengths};
 ghost use Rattle.sg_lazy.specs.kept.Held.{HasRoom, IsLazy, IsNothing, IsRefilled, IsWithout, running_in, ended_in};
 
-use crate::by_part::{fill_marked, fill_on_all};
-use crate::component::{Component, mark_uses};
-use crate::filling::Filling;
 use crate::writing::write_rates;
 use sg_base::{Marks, Memory, Steps};
+use sg_filling::{Component, Filling, fill_marked, fill_on_all, mark_uses};
 use sg_maxmin::System;
 use std::alloc::Global;
 use std::sync::ledger::Ledger;

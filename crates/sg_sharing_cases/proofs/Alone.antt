@@ -12,7 +12,7 @@ use Rattle.sg_lazy.specs.RunningFlow.{RunningFlow, running_at, running_flows, fl
 use Rattle.sg_sharing_cases.specs.OneEach.{users_of}
 use Rattle.sg_lazy.specs.Work.{is_marked, is_joined, touched_count, touched_uses, work}
 use Rattle.sg_lazy.proofs.Reached.{or_true, both_true, spread_cases}
-use Rattle.sg_lazy.proofs.Listing.{eq_cases}
+use Rattle.sg_filling.proofs.Listing.{eq_cases}
 use Rattle.sg_lazy.proofs.Slots.{sum_written}
 
 -- where no flow uses two resources, spreading reaches nothing more

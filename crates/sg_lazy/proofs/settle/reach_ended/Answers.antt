@@ -1,9 +1,9 @@
 use Rattle.std.proofs.Common.{◌<◌, length, get_or, below_more, ◌∙◌, arith}
 use Rattle.std.proofs.lemmas.List.Elements.{All-get_or, All-from_get_or}
 use Rattle.sg_maxmin.specs.Sharing.{uses_at}
-use Rattle.sg_lazy.proofs.Growing.{grows_on, all_stay}
-use Rattle.sg_lazy.proofs.Prefix.{part_next}
-use Rattle.sg_lazy.proofs.Rows.{rows_exist}
+use Rattle.sg_filling.proofs.Growing.{grows_on, all_stay}
+use Rattle.sg_filling.proofs.Prefix.{part_next}
+use Rattle.sg_filling.proofs.Rows.{rows_exist}
 use Rattle.sg_lazy.proofs.settle.reach_ended.Goals as goal
 
 pub mark_uses-requires : goal.mark_uses-requires

@@ -1,6 +1,6 @@
 use Rattle.std.proofs.Common.{◌≡◌, ℕ, Bool, ◌+◌, ◌<◌, ◌≤◌, length, take, slice_index}
 use Rattle.sg_maxmin.specs.Sharing.{uses_at}
-use Rattle.sg_lazy.specs.kept.Component.{AllPass, RowPasses, Grows, AreIn, lengths}
+use Rattle.sg_filling.specs.Component.{AllPass, RowPasses, Grows, AreIn, lengths}
 use Rattle.sg_lazy.proofs.settle.reach_ended.Given as goal
 
 abbrev pub invariant-loop-flow : goal.invariant-loop-flow

@@ -2,9 +2,9 @@ use Rattle.std.proofs.Common.{◌≡◌, ◌+◌, inl, inr, cond, None, IsSome, 
 use Rattle.sg_base.specs.MarkSet.{is_in}
 use Rattle.sg_maxmin.specs.Fill.{Flow}
 use Rattle.sg_maxmin.specs.Sharing.{flow_at, uses_at}
-use Rattle.sg_lazy.proofs.Prefix.{part_next}
-use Rattle.sg_lazy.proofs.Listing.{eq_cases, some_of}
-use Rattle.sg_lazy.proofs.Rows.{uses_held}
+use Rattle.sg_filling.proofs.Prefix.{part_next}
+use Rattle.sg_filling.proofs.Listing.{eq_cases, some_of}
+use Rattle.sg_filling.proofs.Rows.{uses_held}
 use Rattle.sg_lazy.proofs.Taking.{in_take_self, in_take_other, not_before}
 use Rattle.sg_lazy.proofs.settle.remove_all.Goals as goal
 

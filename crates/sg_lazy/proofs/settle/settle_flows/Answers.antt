@@ -5,14 +5,14 @@ use Rattle.std.proofs.lemmas.List.Elements.{All-from_get_or}
 use Rattle.sg_base.specs.MarkSet.{MarkSet, is_in}
 use Rattle.sg_maxmin.specs.Fill.{share_of}
 use Rattle.sg_maxmin.specs.Sharing.{uses_at, flow_at}
-use Rattle.sg_lazy.specs.declared.component.Component.{Component}
-use Rattle.sg_lazy.specs.kept.Component.{AllPass, AreIn, MarksRows, PassAlong, StaysWithin, lengths}
+use Rattle.sg_filling.specs.declared.component.Component.{Component}
+use Rattle.sg_filling.specs.Component.{AllPass, AreIn, MarksRows, PassAlong, StaysWithin, lengths}
 use Rattle.sg_lazy.specs.kept.Changes.{WritesRates}
-use Rattle.sg_lazy.specs.kept.Filling.{flow_in, flows_at, given_at}
+use Rattle.sg_filling.specs.Filling.{flow_in, flows_at, given_at}
 use Rattle.sg_lazy.specs.kept.Held.{IsWithout}
-use Rattle.sg_lazy.proofs.Growing.{at_in, in_at, stays}
+use Rattle.sg_filling.proofs.Growing.{at_in, in_at, stays}
 use Rattle.sg_lazy.proofs.Looks.{touched_joined, within_work}
-use Rattle.sg_lazy.proofs.Rows.{held_below}
+use Rattle.sg_filling.proofs.Rows.{held_below}
 use Rattle.sg_lazy.proofs.Settled.{noted, rated, unnoted}
 use Rattle.sg_lazy.proofs.settle.settle_flows.Goals as goal
 

@@ -1,9 +1,9 @@
 use Rattle.std.proofs.Common.{◌≡◌, ◌≢◌, ℕ, Bool, true, false, true≢false, not, eqb, cond, ◌&&◌, ◌||◌, ◌+◌, inl, inr, List, get_or, take, below_more, AllPairs, refl, ap, ◌∙◌, subst, sym}
 use Rattle.sg_base.specs.MarkSet.{MarkSet, is_in, with_mark}
 use Rattle.sg_lazy.specs.kept.Changes.{did_change}
-use Rattle.sg_lazy.specs.kept.Filling.{given_at}
-use Rattle.sg_lazy.proofs.Growing.{mark_there}
-use Rattle.sg_lazy.proofs.Listing.{eq_cases, is_in_other}
+use Rattle.sg_filling.specs.Filling.{given_at}
+use Rattle.sg_filling.proofs.Growing.{mark_there}
+use Rattle.sg_filling.proofs.Listing.{eq_cases, is_in_other}
 use Rattle.sg_lazy.proofs.Taking.{in_take_self, in_take_other, not_before, mark_once}
 use Rattle.sg_lazy.proofs.writing.write_rates.Goals as goal
 

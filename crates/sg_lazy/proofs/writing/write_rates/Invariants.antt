@@ -1,7 +1,7 @@
 use Rattle.std.proofs.Common.{◌≡◌, ◌≢◌, ℕ, false, ◌&&◌, ◌<◌, take, slice_index, AllPairs}
 use Rattle.sg_base.specs.MarkSet.{is_in}
 use Rattle.sg_lazy.specs.kept.Changes.{did_change}
-use Rattle.sg_lazy.specs.kept.Filling.{given_at}
+use Rattle.sg_filling.specs.Filling.{given_at}
 use Rattle.sg_lazy.proofs.writing.write_rates.Given as goal
 
 abbrev pub invariant-loop-flow : goal.invariant-loop-flow

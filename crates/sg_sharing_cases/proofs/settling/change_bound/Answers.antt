@@ -2,7 +2,7 @@ use Rattle.std.proofs.Common.{ℕ, Option, IsSome, is_some, option_map, length, 
 use Rattle.sg_maxmin.specs.Sharing.{Sharing, flow_at}
 use Rattle.sg_lazy.specs.RunningFlow.{RunningFlow, bounded_by, running_at}
 use Rattle.sg_lazy.specs.Lazily.{Lazily}
-use Rattle.sg_lazy.proofs.Listing.{some_of}
+use Rattle.sg_filling.proofs.Listing.{some_of}
 use Rattle.sg_sharing_cases.proofs.Pairs.{pairs_stay, still_there}
 use Rattle.sg_lazy.proofs.Starting.{bound_told}
 use Rattle.sg_sharing_cases.proofs.settling.change_bound.Goals as goal

@@ -1,7 +1,7 @@
 use Rattle.std.proofs.Common.{length, sym, ap, ◌∙◌}
 use Rattle.sg_lazy.specs.Lazily.{Lazily}
 use Rattle.sg_lazy.specs.kept.Held.{running_of}
-use Rattle.sg_lazy.proofs.Listing.{length_listed}
+use Rattle.sg_lazy.proofs.Listed.{length_listed}
 use Rattle.sg_lazy.proofs.lazy.Lazy.numbers.Goals as goal
 
 pub returns : goal.returns

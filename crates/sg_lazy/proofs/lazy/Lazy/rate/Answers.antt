@@ -2,7 +2,7 @@ use Rattle.std.proofs.Common.{◌≡◌, IfSome, sym, ap, subst, ◌∙◌, arit
 use Rattle.std.proofs.lemmas.Grind.{get_or_default_zero}
 use Rattle.sg_lazy.specs.RunningFlow.{RunningFlow, running_at}
 use Rattle.sg_lazy.specs.Lazily.{Lazily}
-use Rattle.sg_lazy.proofs.Listing.{some_of}
+use Rattle.sg_filling.proofs.Listing.{some_of}
 use Rattle.sg_lazy.proofs.Starting.{is_here}
 use Rattle.sg_lazy.proofs.lazy.Lazy.rate.Goals as goal
 

@@ -3,7 +3,7 @@ use Rattle.sg_base.specs.MarkSet.{MarkSet}
 use Rattle.sg_lazy.specs.RunningFlow.{running_at}
 use Rattle.sg_lazy.specs.Lazily.{Lazily}
 use Rattle.sg_lazy.specs.kept.Held.{IsLazy, running_in, running_of, ended_in}
-use Rattle.sg_lazy.proofs.Listing.{length_listed}
+use Rattle.sg_lazy.proofs.Listed.{length_listed}
 use Rattle.sg_lazy.proofs.Whole.{roomier_lazy, gone_same, runs_same}
 use Rattle.sg_lazy.proofs.lazy.Lazy.reserve.Goals as goal
 

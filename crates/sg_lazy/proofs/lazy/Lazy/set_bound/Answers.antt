@@ -4,7 +4,7 @@ use Rattle.sg_maxmin.specs.Sharing.{Sharing}
 use Rattle.sg_lazy.specs.RunningFlow.{bounded_by, running_at}
 use Rattle.sg_lazy.specs.Lazily.{Lazily, with_bound}
 use Rattle.sg_lazy.specs.kept.Held.{IsLazy, running_in, ended_in}
-use Rattle.sg_lazy.proofs.Listing.{some_of}
+use Rattle.sg_filling.proofs.Listing.{some_of}
 use Rattle.sg_lazy.proofs.Starting.{bound_lazy, bound_slots, bound_told, ended_same, is_here, written}
 use Rattle.sg_lazy.proofs.lazy.Lazy.set_bound.Goals as goal
 

@@ -3,7 +3,7 @@ use Rattle.sg_base.specs.MarkSet.{MarkSet}
 use Rattle.sg_maxmin.specs.Sharing.{flow_at}
 use Rattle.sg_lazy.specs.Lazily.{IsSettled}
 use Rattle.sg_lazy.specs.kept.Held.{running_in, ended_in}
-use Rattle.sg_lazy.proofs.Growing.{in_at}
+use Rattle.sg_filling.proofs.Growing.{in_at}
 use Rattle.sg_lazy.proofs.Whole.{is_settled, settled_lazy}
 use Rattle.sg_lazy.proofs.lazy.Lazy.settle.Goals as goal
 

@@ -4,7 +4,7 @@ use Rattle.sg_maxmin.specs.Fill.{flow}
 use Rattle.sg_lazy.specs.RunningFlow.{running_at}
 use Rattle.sg_lazy.specs.Lazily.{Lazily, with_flow}
 use Rattle.sg_lazy.specs.kept.Held.{IsLazy, running_of, running_in, ended_in}
-use Rattle.sg_lazy.proofs.Listing.{at_listed, length_listed}
+use Rattle.sg_lazy.proofs.Listed.{at_listed, length_listed}
 use Rattle.sg_lazy.proofs.Starting.{start_slots, start_lazy, ended_same, free_not_ended}
 use Rattle.sg_lazy.proofs.lazy.Lazy.start.Goals as goal
 

@@ -1,0 +1,15 @@
+pub mod Growing
+pub mod Listing
+pub mod Rows
+pub mod Twice
+pub mod Prefix
+pub mod Stepped
+pub mod Starts
+pub mod Fixing
+pub mod Waited
+pub mod Walked
+pub mod Keyed
+pub mod Floors
+pub mod Apart
+pub mod Filled
+pub mod Spread

@@ -1,0 +1,113 @@
+use Rattle.std.proofs.Common.{◌≡◌, ◌≢◌, ◌+◌, ◌-◌, ◌*◌, ◌<◌, ◌≤◌, ◌^◌, ℕ, None, List, length, get_or, take, drop, All, AllPairs, sym, ap, subst, ◌∙◌, arith}
+use Rattle.sg_chains.specs.Chained.{users_on}
+use Rattle.sg_maxmin.specs.Fill.{share_of}
+use Rattle.sg_maxmin.specs.Sharing.{uses_at}
+use Rattle.sg_filling.specs.declared.component.Component.{Component}
+use Rattle.sg_filling.specs.Component.{AreVisited, IsOpen, lengths}
+use Rattle.sg_filling.specs.Filling.{AreJoined, AreLeveled, KeepsOthers, bound_at, flow_in, flows_at}
+use Rattle.sg_filling.specs.Parts.{fill_looks}
+use Rattle.sg_filling.proofs.Apart.{first_of}
+use Rattle.sg_filling.proofs.Filled.{filled_on, rest_is, lengths_came, looks_are, part_joined, part_live, part_looks, part_twice, some_came, visited_on}
+use Rattle.sg_filling.proofs.Growing.{grows_on, stays}
+use Rattle.sg_filling.proofs.Rows.{held_below}
+use Rattle.sg_filling.proofs.by_part.fill_part.Goals as goal
+
+pub touch-requires-clause-flow : goal.touch-requires-clause-flow
+touch-requires-clause-flow g c =
+    let s = c.args.system.now in
+    omega (arith, held_below s.slots c.args.flow c.requires.held, c.requires.filled.ready.touched_room)
+
+pub reach-requires-clause-visited : goal.reach-requires-clause-visited
+reach-requires-clause-visited g c =
+    let out = c.touch.ensures.spreads in
+    subst (λ n. AreVisited c.args.system.now n c.touch.new.component) (sym (ap length c.members-reached.ensures.members)) (visited_on c.args.system.now c.args.component.now c.touch.new.component c.requires.filled.closed out.touched out.reached)
+
+pub fill-requires-clause-joined : goal.fill-requires-clause-joined
+fill-requires-clause-joined g c =
+    let s = c.args.system.now in
+    let a : Component = c.args.component.now in
+    let b : Component = c.touch.new.component in
+    let z : Component = c.reach.new.component in
+    let one = c.touch.ensures.spreads in
+    let two = c.reach.ensures.spreads in
+    let gt = grows_on a.touched.members b.touched.members z.touched.members one.touched two.touched in
+    let gr = grows_on a.reached.members b.reached.members z.reached.members one.reached two.reached in
+    let live = part_live s c.requires.sound c.args.flow a b z c.requires.held c.requires.filled.held c.touch.ensures.least c.reach.ensures.least in
+    let once = subst (AllPairs (λ a b. a ≢ b)) c.members.ensures.members c.members.ensures.once in
+    let distinct = subst (AllPairs (λ a b. a ≢ b)) c.members-2.ensures.members c.members-2.ensures.once in
+    let room : z.reached.room ≡ length s.capacities = two.reached_room ∙ one.reached_room ∙ c.requires.filled.ready.reached_room in
+    let exist = subst (λ xs. All (λ x. x < length s.capacities) xs) c.members-2.ensures.members (subst (λ (n : ℕ). All (λ x. x < n) c.members-2.result.now) room c.members-2.ensures.in_range) in
+    let joined = part_joined s c.requires.sound a z c.args.filling.now c.requires.filled gt gr c.reach.ensures.closed live once distinct exist in
+    let part : take (length c.members.result.now - length c.members-touched.result.now) (drop (length c.members-touched.result.now) c.members.result.now) ≡ drop (length a.touched.members) z.touched.members =
+    rest_is (length c.members-touched.result.now) c.members.result.now ∙ ap (λ (xs : List ℕ). drop (length xs) c.members.result.now) c.members-touched.ensures.members ∙ ap (drop (length a.touched.members)) c.members.ensures.members in
+    let resources : take (length c.members-2.result.now - length c.members-reached.result.now) (drop (length c.members-reached.result.now) c.members-2.result.now) ≡ drop (length a.reached.members) z.reached.members =
+    rest_is (length c.members-reached.result.now) c.members-2.result.now ∙ ap (λ (xs : List ℕ). drop (length xs) c.members-2.result.now) c.members-reached.ensures.members ∙ ap (drop (length a.reached.members)) c.members-2.ensures.members in
+    subst (λ xs. AreJoined s xs (take (length c.members-2.result.now - length c.members-reached.result.now) (drop (length c.members-reached.result.now) c.members-2.result.now))) (sym part)
+    (subst (λ xs. AreJoined s (drop (length a.touched.members) z.touched.members) xs) (sym resources) joined)
+
+pub returns-clause-filled : goal.returns-clause-filled
+returns-clause-filled g c =
+    let s = c.args.system.now in
+    let a : Component = c.args.component.now in
+    let b : Component = c.touch.new.component in
+    let z : Component = c.reach.new.component in
+    let one = c.touch.ensures.spreads in
+    let two = c.reach.ensures.spreads in
+    let gt = grows_on a.touched.members b.touched.members z.touched.members one.touched two.touched in
+    let gr = grows_on a.reached.members b.reached.members z.reached.members one.reached two.reached in
+    let live = part_live s c.requires.sound c.args.flow a b z c.requires.held c.requires.filled.held c.touch.ensures.least c.reach.ensures.least in
+    let once = subst (AllPairs (λ a b. a ≢ b)) c.members.ensures.members c.members.ensures.once in
+    let distinct = subst (AllPairs (λ a b. a ≢ b)) c.members-2.ensures.members c.members-2.ensures.once in
+    let part : take (length c.members.result.now - length c.members-touched.result.now) (drop (length c.members-touched.result.now) c.members.result.now) ≡ drop (length a.touched.members) z.touched.members =
+    rest_is (length c.members-touched.result.now) c.members.result.now ∙ ap (λ (xs : List ℕ). drop (length xs) c.members.result.now) c.members-touched.ensures.members ∙ ap (drop (length a.touched.members)) c.members.ensures.members in
+    let f = c.args.filling.now in
+    let f' = c.fill.new.filling in
+    let ready : IsOpen s z = record {
+      touched_room = omega (arith, c.requires.filled.ready.touched_room, one.touched_room, two.touched_room);
+      reached_room = two.reached_room ∙ one.reached_room ∙ c.requires.filled.ready.reached_room;
+      covers = two.covers;
+    } in
+    let kept = subst (λ xs. KeepsOthers xs f f') part c.fill.ensures.kept in
+    let leveled = subst (λ xs. AreLeveled s xs f') part c.fill.ensures.fixed in
+    let fits = subst (λ (xs : List ℕ). (i : ℕ) → i < length xs → bound_at s.slots (get_or xs i 0) ≡ None → share_of s.capacities (flows_at s.slots xs) (flow_in s.slots (get_or xs i 0)) < 2 ^ 64) part c.fill.ensures.fits in
+    filled_on s c.requires.sound a z f c.requires.filled gt gr c.reach.ensures.closed live once distinct f' ready c.fill.ensures.places c.fill.ensures.idle kept leveled fits
+
+pub returns-clause-on : goal.returns-clause-on
+returns-clause-on g c =
+    let s = c.args.system.now in
+    let a : Component = c.args.component.now in
+    let b : Component = c.touch.new.component in
+    let z : Component = c.reach.new.component in
+    let one = c.touch.ensures.spreads in
+    let two = c.reach.ensures.spreads in
+    let gt = grows_on a.touched.members b.touched.members z.touched.members one.touched two.touched in
+    let gr = grows_on a.reached.members b.reached.members z.reached.members one.reached two.reached in
+    let live = part_live s c.requires.sound c.args.flow a b z c.requires.held c.requires.filled.held c.touch.ensures.least c.reach.ensures.least in
+    let once = subst (AllPairs (λ a b. a ≢ b)) c.members.ensures.members c.members.ensures.once in
+    let distinct = subst (AllPairs (λ a b. a ≢ b)) c.members-2.ensures.members c.members-2.ensures.once in
+    let part : take (length c.members.result.now - length c.members-touched.result.now) (drop (length c.members-touched.result.now) c.members.result.now) ≡ drop (length a.touched.members) z.touched.members =
+    rest_is (length c.members-touched.result.now) c.members.result.now ∙ ap (λ (xs : List ℕ). drop (length xs) c.members.result.now) c.members-touched.ensures.members ∙ ap (drop (length a.touched.members)) c.members.ensures.members in
+    let uses = uses_at s.slots in
+    let users = users_on s.users in
+    let t' = drop (length a.touched.members) z.touched.members in
+    let r' = drop (length a.reached.members) z.reached.members in
+    let twice = part_twice s c.requires.sound a z c.args.filling.now c.requires.filled gt gr c.reach.ensures.closed live once distinct in
+    let came = lengths_came uses a.touched.members z.touched.members gt in
+    let reached = lengths_came users a.reached.members z.reached.members gr in
+    let before : lengths users (take (length c.members-reached.result.now) b.reached.members) ≡ lengths users a.reached.members =
+    ap (λ (xs : List ℕ). lengths users (take (length xs) b.reached.members)) c.members-reached.ensures.members ∙ ap (lengths users) (first_of a.reached.members b.reached.members one.reached) in
+    let fill = subst (λ (xs : List ℕ). c.fill.new.steps ≤ c.reach.new.steps + lengths uses xs + length xs * (3 * lengths uses xs)) part c.fill.ensures.looks in
+    let most : c.fill.new.steps ≤ c.args.steps.now + 2 * lengths uses t' + lengths uses t' + length t' * (3 * lengths uses t') = omega (arith, c.touch.ensures.looks, c.reach.ensures.looks, twice, came, reached, before, fill) in
+    let some = some_came a.touched.members z.touched.members c.args.flow gt c.requires.untouched (stays c.args.flow b.touched.members z.touched.members two.touched c.touch.ensures.there) in
+    record {
+      touched = gt;
+      reached = gr;
+      looks = subst (λ w. c.fill.new.steps + 1 + fill_looks s a ≤ c.args.steps.now + w) (sym (looks_are s c.requires.sound a z c.args.filling.now c.requires.filled gt gr c.reach.ensures.closed live once distinct))
+          (part_looks (lengths uses a.touched.members) (lengths uses t') (length a.touched.members) (length t') c.args.steps.now c.fill.new.steps some most);
+    }
+
+pub returns-clause-there : goal.returns-clause-there
+returns-clause-there g c = stays c.args.flow c.touch.new.component.touched.members c.reach.new.component.touched.members c.reach.ensures.spreads.touched c.touch.ensures.there
+
+pub returns-clause-least : goal.returns-clause-least
+returns-clause-least g c = λ p q along its t r. let b = c.touch.ensures.least p q along.uses its t r in c.reach.ensures.least p q along b.0 b.1

@@ -1,0 +1,174 @@
+use Rattle.std.proofs.Common.{◌≡◌, ℕ, zero, suc, ◌+◌, ◌*◌, ◌<◌, ◌≤◌, ◌⊎◌, inl, inr, Bool, true, false, is_none, cond, Option, None, Some, IsSome, List, [], ◌∷◌, length, get_or, sum_by, refl, sym, ap, ap₂, subst, ◌∙◌, arith}
+use Rattle.std.proofs.lemmas.List.{length-map}
+use Rattle.std.proofs.lemmas.List.Sums.{count_by-le-length, sum_by-cons}
+use Rattle.sg_base.specs.MarkSet.{is_in}
+use Rattle.sg_chains.specs.Chained.{users_on}
+use Rattle.sg_maxmin.specs.Fill.{Fixed, steps_from, unfixed, level_of}
+use Rattle.sg_maxmin.specs.Sharing.{Sharing, uses_at}
+use Rattle.sg_maxmin.proofs.Members.{In, In-map, In-flat_map, In-from_contains, contains_from_In}
+use Rattle.sg_maxmin.proofs.Leveled.{all_fixed}
+use Rattle.sg_maxmin.proofs.Proved.{level_fixed, limited_from, steps-next}
+use Rattle.sg_filling.specs.Component.{Covers, lengths}
+use Rattle.sg_filling.specs.Dates.{key_where}
+use Rattle.sg_filling.specs.Filling.{IsLeast, IsStepped, fixed_at, flow_in, flows_at, limits_at, unfixed_limits, unfixed_uses}
+use Rattle.sg_filling.proofs.Floors.{floor_fewer, floor_zero}
+use Rattle.sg_filling.proofs.Keyed.{dated_late, idle_then}
+use Rattle.sg_filling.proofs.Rows.{in_is, into, is_in_In, rows_once}
+use Rattle.sg_filling.proofs.Starts.{part_limits}
+use Rattle.sg_filling.proofs.Stepped.{limits_are, next_fixed}
+use Rattle.sg_filling.proofs.Twice.{counts_twice_lem}
+use Rattle.sg_filling.proofs.filling.fill_steps.Goals as goal
+
+at_index : (xs : List ℕ) (x : ℕ) → In x xs → (i : ℕ) × (i < length xs) × (get_or xs i 0 ≡ x)
+at_index [] x h = absurd h
+at_index (y ∷ xs) x (inl e) = (zero, omega arith, e)
+at_index (y ∷ xs) x (inr h) = let r = at_index xs x h in let s : suc r.0 < length (y ∷ xs) = omega (arith, r.1) in (suc r.0, s, r.2)
+
+in_index : (xs : List ℕ) (i : ℕ) → i < length xs → In (get_or xs i 0) xs
+in_index [] i h = absurd (omega arith)
+in_index (x ∷ xs) zero h = inl refl
+in_index (x ∷ xs) (suc i) h = inr (in_index xs i (omega arith))
+
+-- what holds at each place holds of each member
+of_each : (P : ℕ → Type 0) (xs : List ℕ) → ((i : ℕ) → i < length xs → P (get_or xs i 0)) → (x : ℕ) → In x xs → P x
+of_each P xs h x i = let r = at_index xs x i in subst P r.2 (h r.0 r.1)
+
+fixed_cases : (o : Option ℕ) → (o ≡ None) ⊎ ((x : ℕ) × (o ≡ Some x))
+fixed_cases None = inl refl
+fixed_cases (Some x) = inr (x, refl)
+
+level_at : (s : Sharing) (fixed : List (Option ℕ)) (touched : List ℕ) (n f : ℕ) → n ≤ length touched → steps_from n s.capacities (flows_at s.slots touched) unfixed (flow_in s.slots f) ≡ fixed_at fixed f → (fixed_at fixed f ≡ None → ⊥) →
+    fixed_at fixed f ≡ Some (level_of s.capacities (flows_at s.slots touched) (flow_in s.slots f))
+level_at s fixed touched n f few are some = elim (fixed_cases (fixed_at fixed f)) [
+  | inl z ↦ absurd (some z)
+  | inr k ↦ k.1 ∙ ap Some (sym (level_fixed n s.capacities (flows_at s.slots touched) (flow_in s.slots f) k.0 (subst (λ m. n ≤ m) (sym (length-map touched (flow_in s.slots))) few) (are ∙ k.1)))
+]
+
+covers_in : (rows : ℕ → List ℕ) (touched reached : List ℕ) → Covers rows touched reached → (f x : ℕ) → In f touched → In x (rows f) → is_in x reached ≡ true
+covers_in rows touched reached h f x i k = into (rows f) reached x (h f (in_is f touched i)) (in_is x (rows f) k)
+
+-- the unfixed flows have no more uses than all
+few_unfixed : (rows : ℕ → List ℕ) (fixed : List (Option ℕ)) (xs : List ℕ) → sum_by (λ id. cond (is_none (fixed_at fixed id)) (length (rows id)) 0) xs ≤ lengths rows xs
+few_unfixed rows fixed [] = omega arith
+few_unfixed rows fixed (x ∷ xs) = omega (arith, sum_by-cons (λ id. cond (is_none (fixed_at fixed id)) (length (rows id)) 0) x xs, sum_by-cons (λ id. length (rows id)) x xs, few_unfixed rows fixed xs, at_most (is_none (fixed_at fixed x)) (length (rows x)))
+  where
+    at_most : (b : Bool) (n : ℕ) → cond b n 0 ≤ n
+    at_most true n = omega arith
+    at_most false n = omega arith
+
+-- an unfixed flow's limits are at the least one or above
+above_least : (s : Sharing) (fixed : List (Option ℕ)) (levels touched : List ℕ) (low : ℕ) → IsLeast (Some low) (unfixed_limits s.slots fixed levels touched) → (id : ℕ) → is_in id touched ≡ true → fixed_at fixed id ≡ None → (x : ℕ) → In x (limits_at s.slots levels id) → low ≤ x
+above_least s fixed levels touched low least id i none x k =
+    let part : In x (cond (is_none (fixed_at fixed id)) (limits_at s.slots levels id) []) = subst (λ (o : Option ℕ). In x (cond (is_none o) (limits_at s.slots levels id) [])) (sym none) k in
+    least.1 x (contains_from_In (unfixed_limits s.slots fixed levels touched) x (In-flat_map (λ f. cond (is_none (fixed_at fixed f)) (limits_at s.slots levels f) []) touched id x (is_in_In id touched i) part))
+
+-- what is unfixed after a step was so before
+unfixed_before : (low : ℕ) (at : Type 0) (old new : Option ℕ) → IsStepped low at old new → new ≡ None → old ≡ None
+unfixed_before low at None new h e = refl
+unfixed_before low at (Some x) new h e = sym h ∙ e
+
+pub loop-n-init : goal.loop-n-init
+unfolding steps_from
+loop-n-init g c = record { places = c.requires.places; kept = λ id x e. e; fixed_are = λ i h. sym (c.requires.unfixed i h); counted = c.requires.counted; levels = c.requires.levels; dated = c.requires.dated; floor = floor_zero _; looks = omega arith }
+
+pub step-requires-clause-above : goal.step-requires-clause-above
+step-requires-clause-above g c = λ id i none x k.
+    let s = c.args.system.now in
+    let f = c.loop-n.filling in
+    above_least s f.fixed.items f.levels.items c.args.touched.now c.in-Some.low.level c.in-Some.ensures.0 id i none x (In-from_contains (limits_at s.slots f.levels.items id) x k)
+
+pub loop-n-preserved : goal.loop-n-preserved
+loop-n-preserved g c =
+    let s = c.args.system.now in
+    let touched = c.args.touched.now in
+    let reached = c.args.reached.now in
+    let joined = c.requires.joined in
+    let flows = flows_at s.slots touched in
+    let f = c.loop-n.filling in
+    let old = f.fixed.items in
+    let new = c.step.new.filling in
+    let levels = f.levels.items in
+    let inv = c.loop-n.invariant in
+    let low = c.in-Some.low.level in
+    let stepped = of_each (λ f. IsStepped low (IsLeast (Some low) (limits_at s.slots levels f)) (fixed_at old f) (fixed_at new.fixed.items f)) touched c.step.ensures.stepped in
+    let next = next_fixed s old touched (steps_from c.loop-n.n s.capacities flows unfixed) (λ f i. rows_once s joined.part.sound f)
+    (of_each (λ f. steps_from c.loop-n.n s.capacities flows unfixed (flow_in s.slots f) ≡ fixed_at old f) touched inv.fixed_are) f.left.items f.waiting.items levels (λ x. is_in x reached) inv.counted
+    inv.levels (covers_in (uses_at s.slots) touched reached joined.closed.covers) new.fixed.items low c.in-Some.ensures.0 stepped in
+    let twice = counts_twice_lem (uses_at s.slots) (users_on s.users) touched reached joined.part.sound.both joined.distinct joined.closed.covered in
+    record {
+      places = c.step.ensures.places;
+      kept = λ id x e. c.step.ensures.kept id x (inv.kept id x e);
+      fixed_are = λ i h. ap (λ (k : Fixed). k (flow_in s.slots (get_or touched i 0))) (steps-next c.loop-n.n s.capacities flows unfixed) ∙ next (get_or touched i 0) (in_index touched i h);
+      counted = c.step.ensures.count.counted (λ x. is_in x reached) inv.counted;
+      levels = c.step.ensures.levels;
+      dated = c.step.ensures.dated;
+      floor = floor_fewer c.in-Some.low.floor s old new.fixed.items touched (λ f i e. unfixed_before low (IsLeast (Some low) (limits_at s.slots levels f)) (fixed_at old f) (fixed_at new.fixed.items f) (stepped f i) e) c.in-Some.ensures.1;
+      looks = more c.loop-n.n (lengths (uses_at s.slots) touched) c.loop-n.steps c.step.new.steps c.args.steps.now (lengths (users_on s.users) reached) (unfixed_uses s.slots old touched) (unfixed_uses s.slots new.fixed.items touched) inv.looks c.step.ensures.count.looks twice (few_unfixed (uses_at s.slots) old touched);
+    }
+  where
+    more : (n u x y z w a b : ℕ) → x ≤ z + n * (3 * u) → y + 2 * b ≤ x + w + 2 * a → w ≤ u → a ≤ u → y ≤ z + (n + 1) * (3 * u)
+    more n u x y z w a b h k l m = omega (arith, h, k, l, m)
+
+pub returns-in-None-clause-fixed : goal.returns-in-None-clause-fixed
+returns-in-None-clause-fixed g c = λ i h.
+    let s = c.args.system.now in
+    let touched = c.args.touched.now in
+    let reached = c.args.reached.now in
+    let joined = c.requires.joined in
+    let flows = flows_at s.slots touched in
+    let f = c.loop-n.filling in
+    let old = f.fixed.items in
+    let levels = f.levels.items in
+    let inv = c.loop-n.invariant in
+    let none_left : unfixed_limits s.slots old levels touched ≡ [] = c.in-None.ensures in
+    let id = get_or touched i 0 in
+    let state = steps_from c.loop-n.n s.capacities flows unfixed in
+    level_at s old touched c.loop-n.n id (omega arith) (inv.fixed_are i h) (λ none.
+    let limit = (limited_from s.capacities flows (part_limits s touched joined.part) (flow_in s.slots id) (In-map (flow_in s.slots) touched id (in_index touched i h))).1 state in
+    let same = limits_are s old touched state (λ f i. rows_once s joined.part.sound f) (of_each (λ f. state (flow_in s.slots f) ≡ fixed_at old f) touched inv.fixed_are) f.left.items f.waiting.items levels (λ x. is_in x reached) inv.counted
+    inv.levels (covers_in (uses_at s.slots) touched reached joined.closed.covers) id (in_index touched i h) in
+    let its : In limit.0 (limits_at s.slots levels id) = subst (In limit.0) same limit.1 in
+    let part : In limit.0 (cond (is_none (fixed_at old id)) (limits_at s.slots levels id) []) = subst (λ (o : Option ℕ). In limit.0 (cond (is_none o) (limits_at s.slots levels id) [])) (sym none) its in
+    subst (In limit.0) none_left (In-flat_map (λ f. cond (is_none (fixed_at old f)) (limits_at s.slots levels f) []) touched id limit.0 (in_index touched i h) part))
+
+pub returns-clause-fixed : goal.returns-clause-fixed
+returns-clause-fixed g c = λ i h.
+    let s = c.args.system.now in
+    let touched = c.args.touched.now in
+    let flows = flows_at s.slots touched in
+    let old = c.loop-n.filling.fixed.items in
+    let id = get_or touched i 0 in
+    let all : c.loop-n.n ≡ length flows = omega (arith, length-map touched (flow_in s.slots)) in
+    level_at s old touched c.loop-n.n id (omega arith) (c.loop-n.invariant.fixed_are i h) (λ none.
+    all_fixed (length flows) s.capacities flows unfixed (limited_from s.capacities flows (part_limits s touched c.requires.joined.part)) (count_by-le-length (λ f. true) flows) (flow_in s.slots id) (In-map (flow_in s.slots) touched id (in_index touched i h))
+    (ap (λ k. steps_from k s.capacities flows unfixed (flow_in s.slots id)) (sym all) ∙ c.loop-n.invariant.fixed_are i h ∙ none))
+
+pub step-requires-clause-floor : goal.step-requires-clause-floor
+step-requires-clause-floor g c = c.in-Some.ensures.1
+
+pub lowest-requires-clause-dated : goal.lowest-requires-clause-dated
+lowest-requires-clause-dated g c =
+    let out = c.date_all.ensures in
+    dated_late c.args.reached.now c.loop-n.filling c.date_all.new.agenda c.is_late.result c.loop-n.invariant.dated
+    (λ e x r. out.listed e x r ∙ ap₂ (λ (ws ls : List ℕ). key_where (get_or ws x 0) (get_or ls x 0)) c.deref.ensures.value c.deref-in-loop-n.ensures.value) out.others out.none
+
+pub step-requires-clause-dated : goal.step-requires-clause-dated
+step-requires-clause-dated g c =
+    let out = c.date_all.ensures in
+    dated_late c.args.reached.now c.loop-n.filling c.date_all.new.agenda c.is_late.result c.loop-n.invariant.dated
+    (λ e x r. out.listed e x r ∙ ap₂ (λ (ws ls : List ℕ). key_where (get_or ws x 0) (get_or ls x 0)) c.deref.ensures.value c.deref-in-loop-n.ensures.value) out.others out.none
+
+pub returns-in-None-clause-idle : goal.returns-in-None-clause-idle
+returns-in-None-clause-idle g c =
+    let inv = c.loop-n.invariant in
+    let out = c.date_all.ensures in
+    let f = c.loop-n.filling in
+    idle_then c.args.system.now c.args.touched.now c.args.reached.now (record f { agenda = c.date_all.new.agenda }) inv.counted
+    (dated_late c.args.reached.now f c.date_all.new.agenda c.is_late.result inv.dated
+    (λ e x r. out.listed e x r ∙ ap₂ (λ (ws ls : List ℕ). key_where (get_or ws x 0) (get_or ls x 0)) c.deref.ensures.value c.deref-in-loop-n.ensures.value) out.others out.none)
+    (λ i h. subst IsSome (sym (returns-in-None-clause-fixed g c i h)) refl)
+
+pub returns-clause-idle : goal.returns-clause-idle
+returns-clause-idle g c =
+    let inv = c.loop-n.invariant in
+    idle_then c.args.system.now c.args.touched.now c.args.reached.now c.loop-n.filling inv.counted inv.dated (λ i h. subst IsSome (sym (returns-clause-fixed g c i h)) refl)

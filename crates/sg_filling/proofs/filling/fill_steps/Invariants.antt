@@ -1,0 +1,20 @@
+use Rattle.std.proofs.Common.{◌*◌, ◌+◌, ◌≤◌, ◌≡◌, ℕ, ◌<◌, length, slice_index}
+use Rattle.sg_base.specs.MarkSet.{is_in}
+use Rattle.sg_maxmin.specs.Fill.{steps_from, unfixed}
+use Rattle.sg_maxmin.specs.Sharing.{uses_at}
+use Rattle.sg_filling.specs.Component.{lengths}
+use Rattle.sg_filling.specs.Dates.{AreDated}
+use Rattle.sg_filling.specs.Filling.{AreCounted, AreLevels, HasPlaces, IsFloor, KeepsFixed, fixed_at, flow_in, flows_at, unfixed_bounds}
+use Rattle.sg_filling.proofs.filling.fill_steps.Given as goal
+
+abbrev pub invariant-loop-n : goal.invariant-loop-n
+invariant-loop-n g l = record {
+  places : HasPlaces l.system l.filling;
+  kept : KeepsFixed l.fn.filling l.filling;
+  fixed_are : (i : ℕ) → i < length l.touched → steps_from l.n l.system.capacities (flows_at l.system.slots l.touched) unfixed (flow_in l.system.slots (slice_index l.touched i)) ≡ fixed_at l.filling.fixed.items (slice_index l.touched i);
+  counted : AreCounted l.system l.filling.fixed.items l.touched l.filling.left.items l.filling.waiting.items (λ c. is_in c l.reached);
+  levels : AreLevels l.reached l.filling;
+  dated : AreDated l.reached l.filling;
+  floor : IsFloor l.floor (unfixed_bounds l.system.slots l.filling.fixed.items l.touched);
+  looks : l.steps ≤ l.fn.steps + l.n * (3 * lengths (uses_at l.system.slots) l.touched);
+}

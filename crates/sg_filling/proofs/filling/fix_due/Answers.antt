@@ -1,0 +1,89 @@
+use Rattle.std.proofs.Common.{◌≡◌, ◌<◌, inl, inr, None, List, Option, length, get_or, set, get_or-set_same, get_or-set_other, refl, sym, ap, subst, ◌∙◌, arith}
+use Rattle.sg_chains.specs.Chained.{users_on}
+use Rattle.sg_heap.specs.Agenda.{Key, key_at}
+use Rattle.sg_filling.specs.declared.filling.Filling.{Filling}
+use Rattle.sg_filling.specs.Filling.{AreFixed, StepsPartly}
+use Rattle.sg_filling.proofs.Growing.{in_at}
+use Rattle.sg_filling.proofs.Listing.{eq_cases, some_of}
+use Rattle.sg_filling.proofs.Rows.{into}
+use Rattle.sg_filling.proofs.Fixing.{above_still, fixed_stay, partly_on, partly_same}
+use Rattle.sg_filling.proofs.Keyed.{are_right, has_key, key_is, key_left, key_within, keyed, keyed_few, keyed_less, nobody_waits, none_of, partly_cleared}
+use Rattle.sg_filling.proofs.filling.fix_due.Goals as goal
+
+pub loop-c-init : goal.loop-c-init
+loop-c-init g c = record {
+  partly = partly_same c.args.system.now c.args.low c.args.filling.now c.requires.places;
+  keys = λ n. inl refl;
+  counted = λ reached h. h;
+  looks = omega (arith, keyed_few (users_on c.args.system.now.users) c.args.filling.now.agenda c.args.reached.now);
+}
+
+pub fix_on-requires-clause-above : goal.fix_on-requires-clause-above
+fix_on-requires-clause-above g c =
+    let s = c.args.system.now in
+    let first = c.args.filling.now in
+    let f = c.loop-c.filling in
+    let n = c.in-Some.c in
+    let row = users_on s.users n in
+    let key = some_of (key_at f.agenda n) c.in-Some.ensures.first in
+    let its = key_is c.args.reached.now first c.requires.dated.quiet (are_right c.args.reached.now first c.requires.dated c.requires.keys) n key.0 (key_left (key_at f.agenda n) (key_at first.agenda n) key.0 (c.loop-c.invariant.keys n) key.1) in
+    above_still s c.args.touched.now row c.args.low first f c.loop-c.invariant.partly (λ id i. into row c.args.touched.now id (c.requires.joined.closed.covered n its.0) i) c.requires.above
+
+pub loop-c-preserved : goal.loop-c-preserved
+loop-c-preserved g c =
+    let s = c.args.system.now in
+    let touched = c.args.touched.now in
+    let reached = c.args.reached.now in
+    let low = c.args.low in
+    let first = c.args.filling.now in
+    let f = c.loop-c.filling in
+    let inv = c.loop-c.invariant in
+    let n = c.in-Some.c in
+    let rows = users_on s.users in
+    let key = some_of (key_at f.agenda n) c.in-Some.ensures.first in
+    let its = key_is reached first c.requires.dated.quiet (are_right reached first c.requires.dated c.requires.keys) n key.0 (key_left (key_at f.agenda n) (key_at first.agenda n) key.0 (inv.keys n) key.1) in
+    let below : n < length f.agenda = key_within f.agenda n c.in-Some.ensures.first in
+    let out = c.fix_on.ensures in
+    let mid : Filling = c.fix_on.new.filling in
+    let new : Filling = record { fixed = mid.fixed; left = mid.left; waiting = mid.waiting; levels = mid.levels; stale = c.insert.new.self; agenda = c.clear.new.self } in
+    let agenda : c.clear.new.self ≡ set f.agenda n None = c.clear.ensures ∙ ap (λ (ks : List (Option Key)). set ks n None) out.agenda in
+    let cleared : StepsPartly s low mid new = partly_cleared s low n mid new out.partly.places (omega (arith, below, ap length out.agenda)) refl refl refl refl c.insert.ensures c.clear.ensures in
+    let p = partly_on s low f mid new out.partly cleared in
+    let b = out.count touched c.requires.joined.once (c.requires.joined.closed.covered n its.0) in
+    record {
+      partly = partly_on s low first f new inv.partly p;
+      keys = λ x. elim (eq_cases x n) [
+        | inl e ↦ inr (
+          ap (λ (ks : List (Option Key)). key_at ks x) agenda ∙ ap (key_at (set f.agenda n None)) e ∙ get_or-set_same f.agenda n None None below,
+          λ at. subst (λ m. AreFixed (rows m) mid) (sym e) (out.done (ap (λ xs. get_or xs n 0) inv.partly.levels ∙ ap (λ m. get_or first.levels.items m 0) (sym e) ∙ at)),
+        )
+        | inr ne ↦
+            let same : key_at c.clear.new.self x ≡ key_at f.agenda x = ap (λ (ks : List (Option Key)). key_at ks x) agenda ∙ get_or-set_other f.agenda n x None None ne in
+            elim (inv.keys x) [
+              | inl k ↦ inl (same ∙ k)
+              | inr k ↦ inr (same ∙ k.0, λ at. fixed_stay s low (rows x) f new p (k.1 at))
+            ]
+      ];
+      counted = λ r h. b.counted r (inv.counted r h);
+      looks = omega (arith, inv.looks, b.looks, keyed_less rows f.agenda reached n key.0 c.requires.joined.distinct its.0 below key.1, ap (λ (ks : List (Option Key)). keyed rows ks reached) agenda);
+    }
+
+pub returns-clause-on : goal.returns-clause-on
+returns-clause-on g c = λ i h e.
+    let s = c.args.system.now in
+    let touched = c.args.touched.now in
+    let reached = c.args.reached.now in
+    let first = c.args.filling.now in
+    let f = c.loop-c.filling in
+    let inv = c.loop-c.invariant in
+    let n = get_or reached i 0 in
+    let r = in_at n reached i h refl in
+    let later = none_of c.due.result c.in_default.not-Some c.due.ensures.none in
+    elim (eq_cases (get_or first.waiting.items n 0) 0) [
+      | inl z ↦ fixed_stay s c.args.low (users_on s.users n) first f inv.partly (nobody_waits s touched reached first c.requires.joined c.requires.counted n r z)
+      | inr some ↦
+          elim (inv.keys n) [
+            | inl same ↦ absurd (omega (arith, later n (record { date = get_or first.levels.items n 0; serial = 0 }) (same ∙ has_key reached first c.requires.dated.quiet (are_right reached first c.requires.dated c.requires.keys) n some), e))
+            | inr gone ↦ gone.1 e
+          ]
+    ]

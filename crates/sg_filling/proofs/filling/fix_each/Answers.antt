@@ -1,0 +1,54 @@
+use Rattle.std.proofs.Common.{◌≡◌, take, length, get_or, below_more, refl, ap, ◌∙◌, arith}
+use Rattle.sg_chains.specs.Chained.{users_on}
+use Rattle.sg_filling.specs.Component.{lengths}
+use Rattle.sg_filling.proofs.Growing.{in_at}
+use Rattle.sg_filling.proofs.Prefix.{part_next}
+use Rattle.sg_filling.proofs.Rows.{into, take_all}
+use Rattle.sg_filling.proofs.Fixing.{above_still, fixed_stay, partly_on, partly_same}
+use Rattle.sg_filling.proofs.filling.fix_each.Goals as goal
+
+pub loop-c-init : goal.loop-c-init
+loop-c-init g c = record {
+  partly = partly_same c.args.system.now c.args.low c.args.filling.now c.requires.places;
+  on = λ i h. absurd (omega (arith, h));
+  count = record { counted = λ reached h. h; looks = omega arith };
+}
+
+pub fix_on-requires-clause-above : goal.fix_on-requires-clause-above
+fix_on-requires-clause-above g c =
+    let s = c.args.system.now in
+    let n = get_or c.args.reached.now c.loop-c.c-index 0 in
+    let row = users_on s.users n in
+    above_still s c.args.touched.now row c.args.low c.args.filling.now c.loop-c.filling c.loop-c.invariant.partly
+    (λ id i. into row c.args.touched.now id (c.requires.joined.closed.covered n (in_at n c.args.reached.now c.loop-c.c-index c.loop-c-test.true refl)) i) c.requires.above
+
+pub loop-c-preserved : goal.loop-c-preserved
+loop-c-preserved g c =
+    let s = c.args.system.now in
+    let touched = c.args.touched.now in
+    let reached = c.args.reached.now in
+    let k = c.loop-c.c-index in
+    let n = get_or reached k 0 in
+    let inv = c.loop-c.invariant in
+    let out = c.fix_on.ensures in
+    let first = c.args.filling.now in
+    let old = c.loop-c.filling in
+    let new = c.fix_on.new.filling in
+    let a = inv.count in
+    let b = out.count touched c.requires.joined.once (c.requires.joined.closed.covered n (in_at n reached k c.loop-c-test.true refl)) in
+    record {
+      partly = partly_on s c.args.low first old new inv.partly out.partly;
+      on = below_more _ _ (λ i h e. fixed_stay s c.args.low (users_on s.users (get_or reached i 0)) old new out.partly (inv.on i h e))
+          (λ e. out.done (ap (λ xs. get_or xs n 0) inv.partly.levels ∙ e));
+      count = record { counted = λ r h. b.counted r (a.counted r h); looks = omega (arith, a.looks, b.looks, part_next (λ n. length (users_on s.users n)) reached k c.loop-c-test.true) };
+    }
+
+pub returns-clause-on : goal.returns-clause-on
+returns-clause-on g c = λ i h e. c.loop-c.invariant.on i (omega (arith, h, c.loop-c-test.false)) e
+
+pub returns-clause-count : goal.returns-clause-count
+returns-clause-count g c =
+    let s = c.args.system.now in
+    let inv = c.loop-c.invariant in
+    let all : take c.loop-c.c-index c.args.reached.now ≡ c.args.reached.now = take_all c.args.reached.now c.loop-c.c-index (omega arith) in
+    record { counted = inv.count.counted; looks = omega (arith, inv.count.looks, ap (lengths (users_on s.users)) all) }

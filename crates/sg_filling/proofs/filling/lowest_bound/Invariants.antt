@@ -1,0 +1,6 @@
+use Rattle.std.proofs.Common.{take}
+use Rattle.sg_filling.specs.Filling.{IsLeast, unfixed_bounds}
+use Rattle.sg_filling.proofs.filling.lowest_bound.Given as goal
+
+abbrev pub invariant-loop-flow : goal.invariant-loop-flow
+invariant-loop-flow l = IsLeast l.least (unfixed_bounds l.system.slots l.fixed (take l.flow-index l.touched))

@@ -1,0 +1,5 @@
+pub mod Component
+pub mod Counts
+pub mod Dates
+pub mod Filling
+pub mod Parts

@@ -1,0 +1,149 @@
+//! Filling part by part: what sharing joins to one flow is filled by itself.
+ghost use Rattle.std.specs.Prelude.{◌≡◌, ◌≤◌, ◌<◌, ◌+◌, ℕ, Bool, true, false, IsSome, IsTrue, All, length};
+ghost use Rattle.sg_base.specs.MarkSet.{is_in};
+ghost use Rattle.sg_maxmin.specs.Sharing.{IsSound, flow_at};
+ghost use Rattle.sg_filling.specs.Component.{AllPass, PassAlong, StaysWithin};
+ghost use Rattle.sg_filling.specs.Parts.{AreHeldUnless, FillsOn, IsFilled};
+
+use crate::component::{Component, reach, touch};
+use crate::filling::{Filling, fill};
+use sg_base::{Marks, Steps};
+use sg_maxmin::System;
+use std::sync::ledger::Ledger;
+
+// Fills what sharing joins to a flow that isn't touched. Of the looks that suffice it spares one.
+fn fill_part<L: Ledger>(
+    system: &System,
+    flow: usize,
+    component: &mut Component,
+    filling: &mut Filling,
+    steps: &mut Steps<L>,
+)
+    requires held { IsSome (flow_at system.now.slots flow) }
+    requires untouched { is_in flow component.old.touched.members ≡ false }
+    requires sound { IsSound system.now }
+    requires filled { IsFilled system.now component.old filling.old }
+    ensures filled { IsFilled system.now component.new filling.new }
+    ensures on { FillsOn system.now component.old component.new steps.old (steps.new + 1) }
+    ensures there { IsTrue (is_in flow component.new.touched.members) }
+    ensures least { (p q : ℕ → Bool) → PassAlong system.now p q → IsTrue (p flow)
+        → StaysWithin p q component.old component.new }
+{
+    let touched = component.touched.members().len();
+    let reached = component.reached.members().len();
+    touch(system, flow, component, steps);
+    reach(system, reached, component, steps);
+    fill(
+        system,
+        &component.touched.members()[touched..],
+        &component.reached.members()[reached..],
+        filling,
+        steps,
+    );
+}
+
+// Fills what sharing joins to a marked flow, unless it ended or is filled already.
+fn fill_running<L: Ledger>(
+    system: &System,
+    flow: usize,
+    ended: &Marks,
+    component: &mut Component,
+    filling: &mut Filling,
+    steps: &mut Steps<L>,
+)
+    requires flow { (flow < ended.now.room) × (flow < length system.now.slots) }
+    requires held { is_in flow ended.now.members ≡ false → IsSome (flow_at system.now.slots flow) }
+    requires sound { IsSound system.now }
+    requires filled { IsFilled system.now component.old filling.old }
+    ensures filled { IsFilled system.now component.new filling.new }
+    ensures on { FillsOn system.now component.old component.new steps.old steps.new }
+    ensures there { is_in flow ended.now.members ≡ false
+        → IsTrue (is_in flow component.new.touched.members) }
+    ensures least { (p q : ℕ → Bool) → PassAlong system.now p q
+        → (is_in flow ended.now.members ≡ false → IsTrue (p flow))
+        → StaysWithin p q component.old component.new }
+{
+    if ended.contains(flow) {
+        return;
+    }
+    if component.touched.contains(flow) {
+        return;
+    }
+    fill_part(system, flow, component, filling, steps);
+}
+
+/// Fills what sharing joins to the marked flows, but for those that ended: one part after the other.
+pub fn fill_marked<L: Ledger>(
+    system: &System,
+    marked: &[usize],
+    ended: &Marks,
+    component: &mut Component,
+    filling: &mut Filling,
+    steps: &mut Steps<L>,
+)
+    requires marked { AreHeldUnless system.now ended.now marked.now }
+    requires sound { IsSound system.now }
+    requires filled { IsFilled system.now component.old filling.old }
+    ensures filled { IsFilled system.now component.new filling.new }
+    ensures on { FillsOn system.now component.old component.new steps.old steps.new }
+    ensures there { (id : ℕ) → is_in id marked.now ≡ true → is_in id ended.now.members ≡ false
+        → IsTrue (is_in id component.new.touched.members) }
+    ensures least { (p q : ℕ → Bool) → PassAlong system.now p q
+        → ((id : ℕ) → is_in id marked.now ≡ true → is_in id ended.now.members ≡ false
+        → IsTrue (p id)) → StaysWithin p q component.old component.new }
+{
+    for flow in marked {
+        fill_running(system, *flow, ended, component, filling, steps);
+    }
+}
+
+// Fills what sharing joins to a resource, unless it is filled already.
+fn fill_on<L: Ledger>(
+    system: &System,
+    resource: usize,
+    component: &mut Component,
+    filling: &mut Filling,
+    steps: &mut Steps<L>,
+)
+    requires resource { resource < length system.now.capacities }
+    requires sound { IsSound system.now }
+    requires filled { IsFilled system.now component.old filling.old }
+    ensures filled { IsFilled system.now component.new filling.new }
+    ensures on { FillsOn system.now component.old component.new steps.old steps.new }
+    ensures there { IsTrue (is_in resource component.new.reached.members) }
+    ensures least { (p q : ℕ → Bool) → PassAlong system.now p q → IsTrue (q resource)
+        → StaysWithin p q component.old component.new }
+{
+    if component.reached.contains(resource) {
+        return;
+    }
+    match system.first_on(resource) {
+        None => component.reached.insert(resource),
+        Some(i) => {
+            let one = system.look(i, steps);
+            fill_part(system, one.flow, component, filling, steps);
+        }
+    }
+}
+
+/// Fills what sharing joins to these resources: one part after the other.
+pub fn fill_on_all<L: Ledger>(
+    system: &System,
+    resources: &[usize],
+    component: &mut Component,
+    filling: &mut Filling,
+    steps: &mut Steps<L>,
+)
+    requires resources { All (λ c. c < length system.now.capacities) resources.now }
+    requires sound { IsSound system.now }
+    requires filled { IsFilled system.now component.old filling.old }
+    ensures filled { IsFilled system.now component.new filling.new }
+    ensures on { FillsOn system.now component.old component.new steps.old steps.new }
+    ensures there { AllPass (λ c. is_in c component.new.reached.members) resources.now }
+    ensures least { (p q : ℕ → Bool) → PassAlong system.now p q → AllPass q resources.now
+        → StaysWithin p q component.old component.new }
+{
+    for c in resources {
+        fill_on(system, *c, component, filling, steps);
+    }
+}

@@ -1,0 +1,847 @@
+//! The filling of the touched flows alone.
+ghost use Rattle.std.specs.Prelude.{◌≡◌, ◌≢◌, ◌≤◌, ◌<◌, ◌+◌, ◌-◌, ◌*◌, ◌/◌, ◌^◌, ◌++◌, ◌∷◌, ℕ, List, [], Option, None, Some, IfOk, IfSome, IsSome, true, false, AllPairs, All, length, min, option_map, option_to_list, slice_index, slice_set};
+ghost use Rattle.sg_base.specs.MarkSet.{is_in};
+ghost use Rattle.sg_chains.specs.Chained.{times, users_on};
+ghost use Rattle.sg_maxmin.specs.Fill.{bound_level as level_of_bound, level_of, share_at, share_of, bounded};
+ghost use Rattle.sg_maxmin.specs.Laws.{HaveLimits};
+ghost use Rattle.sg_maxmin.specs.Sharing.{IsSound, flow_at, uses_at};
+ghost use Rattle.sg_filling.specs.Component.{AreIn, MarksRow, lengths};
+ghost use Rattle.sg_filling.specs.Dates.{AreDated, HaveKeys, IsIdle, StayDated};
+ghost use Rattle.sg_filling.specs.Filling.{AreAbove, AreCounted, AreFixed, AreJoined, AreLeveled, AreLevels, ArePart, FlowSteps, HasPlaces, HasResources, IsFloor, IsLeast, IsLessBy, IsLow, IsMoreBy, IsOver, KeepsCount, KeepsFixed, KeepsOthers, StepsPartly, bound_at, bound_limit, fixed_at, flow_in, flows_at, least_with, level_where, limits_at, unfixed_bounds, unfixed_limits, waited_levels, weight_of, weight_on};
+
+use crate::component::mark_uses;
+use crate::dates::{date_all, due, has_keys, is_late};
+use sg_base::{Marks, Memory, Steps};
+use sg_heap::Agenda;
+use sg_maxmin::System;
+use std::alloc::Global;
+use std::sync::ledger::Ledger;
+
+/// What a filling writes down.
+#[derive(Drop)]
+pub struct Filling {
+    // under each flow, the level at which it is fixed
+    pub fixed: Vec<Option<u64>>,
+    // under each resource, what is left of it, the weight of the unfixed flows on it, and its level
+    pub left: Vec<u64>,
+    pub waiting: Vec<u64>,
+    pub levels: Vec<u64>,
+    // the resources whose levels must be divided again
+    pub stale: Marks,
+    // in a long filling, the levels of the resources on which a flow waits
+    pub agenda: Agenda,
+}
+
+impl Filling {
+    /// Places for resources with these capacities, and for no flow yet.
+    pub fn new(alloc: Global, capacities: &[u64]) -> Result<Filling, Memory>
+        ensures { IfOk result (HasResources (length capacities.now)) }
+    {
+        let mut stale = Marks::new(alloc);
+        stale.reserve(capacities.len())?;
+        let mut agenda = Agenda::new(alloc)?;
+        agenda.reserve(capacities.len())?;
+        Ok(Filling {
+            fixed: Vec::new(alloc),
+            left: Vec::from_slice(alloc, capacities)?,
+            waiting: vec![in alloc; 0; capacities.len()]?,
+            levels: Vec::from_slice(alloc, capacities)?,
+            stale,
+            agenda,
+        })
+    }
+}
+
+// The level of a step, and one that no bound of an unfixed flow is below. Where there is none, no such flow has a bound.
+#[derive(Clone, Copy)]
+struct Low {
+    level: u64,
+    floor: Option<u64>,
+}
+
+// The level of a bound.
+fn bound_level(weight: u32, bound: Option<u64>) -> Option<u64>
+    requires { 0 < weight }
+    ensures { result ≡ option_map (level_of_bound weight) bound }
+{
+    match bound {
+        None => None,
+        Some(bound) => Some(bound.div_ceil(weight as u64)),
+    }
+}
+
+// The share at a level, or the greatest number where that is less.
+fn capped_share(weight: u32, bound: Option<u64>, level: u64) -> u64
+    ensures { result ≡ min (bounded bound (weight * level)) (2 ^ 64 - 1) }
+{
+    let share = (weight as u64).saturating_mul(level);
+    match bound {
+        None => share,
+        Some(bound) => share.min(bound),
+    }
+}
+
+/// The share at a level.
+pub fn share_at_level(weight: u32, bound: Option<u64>, level: u64) -> u64
+    requires { bound ≡ None → weight * level < 2 ^ 64 }
+    ensures { result ≡ bounded bound (weight * level) }
+{
+    match bound {
+        None => weight as u64 * level,
+        Some(bound) => (weight as u64).saturating_mul(level).min(bound),
+    }
+}
+
+// More waits at a resource.
+fn add(amounts: &mut [u64], resource: usize, more: u64)
+    requires resource { resource < length amounts.old }
+    requires fits { slice_index amounts.old resource + more < 2 ^ 64 }
+    ensures { amounts.new ≡ slice_set amounts.old resource
+        (slice_index amounts.old resource + more) }
+{
+    amounts[resource] += more;
+}
+
+// Less waits at a resource.
+fn lessen(amounts: &mut [u64], resource: usize, by: u64)
+    requires { resource < length amounts.old }
+    ensures { amounts.new ≡ slice_set amounts.old resource
+        (slice_index amounts.old resource - by) }
+{
+    amounts[resource] = amounts[resource].saturating_sub(by);
+}
+
+// A flow waits with its weight at each of its resources.
+fn add_uses<L: Ledger>(system: &System, flow: usize, waiting: &mut [u64], steps: &mut Steps<L>)
+    requires held { IsSome (flow_at system.now.slots flow) }
+    requires exist { All (λ c. c < length waiting.old) (uses_at system.now.slots flow) }
+    requires fits { (c : ℕ) → slice_index waiting.old c
+        + weight_on system.now.slots flow c < 2 ^ 64 }
+    ensures waiting { IsMoreBy (weight_on system.now.slots flow)
+        waiting.old waiting.new }
+    ensures looks { steps.new ≡ steps.old + length (uses_at system.now.slots flow) }
+{
+    let weight = system.weight(flow) as u64;
+    let mut at = system.first_of(flow);
+    while let Some(i) = at {
+        let one = system.look(i, steps);
+        add(waiting, one.resource, weight);
+        at = one.next_of_flow;
+    }
+}
+
+// What is left where a share is given.
+fn less(left: u64, weight: u32, bound: Option<u64>, level: u64) -> u64
+    ensures { result ≡ left - bounded bound (weight * level) }
+{
+    left.saturating_sub(capped_share(weight, bound, level))
+}
+
+// Takes a share off what is left of a resource.
+fn take_share(left: &mut [u64], resource: usize, weight: u32, bound: Option<u64>, level: u64)
+    requires { resource < length left.old }
+    ensures { left.new ≡ slice_set left.old resource
+        (slice_index left.old resource - bounded bound (weight * level)) }
+{
+    left[resource] = less(left[resource], weight, bound, level);
+}
+
+// A flow waits no more, and its share is taken off what is left of each of its resources.
+fn take_uses<L: Ledger>(
+    system: &System,
+    flow: usize,
+    level: u64,
+    left: &mut [u64],
+    waiting: &mut [u64],
+    steps: &mut Steps<L>,
+)
+    requires held { IsSome (flow_at system.now.slots flow) }
+    requires left { All (λ c. c < length left.old) (uses_at system.now.slots flow) }
+    requires waiting { All (λ c. c < length waiting.old) (uses_at system.now.slots flow) }
+    ensures left { IsLessBy (λ c. times c (uses_at system.now.slots flow)
+        * share_at (flow_in system.now.slots flow) level) left.old left.new }
+    ensures waiting { IsLessBy (weight_on system.now.slots flow)
+        waiting.old waiting.new }
+    ensures looks { steps.new ≡ steps.old + length (uses_at system.now.slots flow) }
+{
+    let weight = system.weight(flow);
+    let bound = system.bound(flow);
+    let mut at = system.first_of(flow);
+    while let Some(i) = at {
+        let one = system.look(i, steps);
+        take_share(left, one.resource, weight, bound, level);
+        lessen(waiting, one.resource, weight as u64);
+        at = one.next_of_flow;
+    }
+}
+
+// What is left, for each unit of weight that waits.
+fn level(left: u64, waiting: u64) -> u64
+    ensures { result ≡ left / waiting }
+{
+    if waiting == 0 { 0 } else { left / waiting }
+}
+
+// The levels of the listed resources.
+fn set_levels(listed: &[usize], left: &[u64], waiting: &[u64], levels: &mut [u64])
+    requires left { All (λ c. c < length left.now) listed.now }
+    requires waiting { All (λ c. c < length waiting.now) listed.now }
+    requires levels { All (λ c. c < length levels.old) listed.now }
+    ensures listed { (i : ℕ) → i < length listed.now
+        → slice_index levels.new (slice_index listed.now i)
+        ≡ slice_index left.now (slice_index listed.now i)
+        / slice_index waiting.now (slice_index listed.now i) }
+    ensures others { (c : ℕ) → is_in c listed.now ≡ false
+        → slice_index levels.new c ≡ slice_index levels.old c }
+{
+    for c in listed {
+        levels[*c] = level(left[*c], waiting[*c]);
+    }
+}
+
+// The smaller of the two, where there are two.
+fn smaller(least: Option<u64>, level: u64) -> Option<u64>
+    ensures { result ≡ Some (least_with least level) }
+{
+    match least {
+        None => Some(level),
+        Some(least) => Some(least.min(level)),
+    }
+}
+
+// The lesser of the level of a resource, where a flow waits there, and of what was found before.
+fn least_with_level(waiting: u64, level: u64, least: Option<u64>) -> Option<u64>
+    ensures { (list : List ℕ) → IsLeast least list
+        → IsLeast result (list ++ level_where waiting level) }
+{
+    if waiting == 0 {
+        least
+    } else {
+        smaller(least, level)
+    }
+}
+
+// The least level of a resource on which a flow waits, by looking through all.
+fn lowest_level(reached: &[usize], waiting: &[u64], levels: &[u64]) -> Option<u64>
+    requires waiting { All (λ c. c < length waiting.now) reached.now }
+    requires levels { All (λ c. c < length levels.now) reached.now }
+    ensures { IsLeast result (waited_levels waiting.now levels.now reached.now) }
+{
+    let mut least = None;
+    for c in reached {
+        least = least_with_level(waiting[*c], levels[*c], least);
+    }
+    least
+}
+
+// The least level of a resource on which a flow waits.
+fn least_level(reached: &[usize], filling: &Filling) -> Option<u64>
+    requires dated { AreDated reached.now filling.now }
+    requires slots { length filling.now.agenda ≡ length filling.now.levels.items }
+    requires waiting { All (λ c. c < length filling.now.waiting.items) reached.now }
+    requires levels { All (λ c. c < length filling.now.levels.items) reached.now }
+    ensures { IsLeast result
+        (waited_levels filling.now.waiting.items filling.now.levels.items reached.now) }
+{
+    match filling.agenda.least() {
+        None => lowest_level(reached, &filling.waiting, &filling.levels),
+        Some((c, _, _)) => Some(filling.levels[c]),
+    }
+}
+
+// The lesser of the level of a flow's bound, and of what was found before.
+fn least_with_bound(system: &System, flow: usize, least: Option<u64>) -> Option<u64>
+    requires sound { IsSound system.now }
+    requires held { IsSome (flow_at system.now.slots flow) }
+    ensures { (list : List ℕ) → IsLeast least list
+        → IsLeast result (list ++ option_to_list (bound_limit system.now.slots flow)) }
+{
+    match bound_level(system.weight(flow), system.bound(flow)) {
+        None => least,
+        Some(limit) => smaller(least, limit),
+    }
+}
+
+// The least level of the bound of an unfixed flow.
+fn lowest_bound(system: &System, touched: &[usize], fixed: &[Option<u64>]) -> Option<u64>
+    requires part { ArePart system.now touched.now }
+    requires fixed { length system.now.slots ≤ length fixed.now }
+    ensures { IsLeast result (unfixed_bounds system.now.slots fixed.now touched.now) }
+{
+    let mut least = None;
+    for flow in touched {
+        if fixed[*flow].is_none() {
+            least = least_with_bound(system, *flow, least);
+        }
+    }
+    least
+}
+
+// Whether the bounds of all unfixed flows are above this level.
+fn is_over(floor: Option<u64>, level: u64) -> bool
+    ensures { result ≡ true → IsOver floor level }
+{
+    match floor {
+        None => true,
+        Some(floor) => level < floor,
+    }
+}
+
+// The level, where it is below all bounds of unfixed flows.
+fn below_bounds(level: Option<u64>, floor: Option<u64>) -> Option<Low>
+    ensures { IfSome result (λ low. (level ≡ Some low.level) × (low.floor ≡ floor)
+        × IsOver floor low.level) }
+{
+    match level {
+        None => None,
+        Some(level) => {
+            if is_over(floor, level) {
+                Some(Low { level, floor })
+            } else {
+                None
+            }
+        }
+    }
+}
+
+// The lesser of a level, where there is one, and of a bound's.
+fn lesser_of(level: Option<u64>, bound: u64) -> u64
+    ensures { result ≡ least_with level bound }
+{
+    match level {
+        None => bound,
+        Some(level) => level.min(bound),
+    }
+}
+
+// The level, where there are no bounds.
+fn unbounded(level: Option<u64>) -> Option<Low>
+    ensures { (levels : List ℕ) → IsLeast level levels → IsLow result levels [] }
+{
+    match level {
+        Some(level) => Some(Low { level, floor: None }),
+        None => None,
+    }
+}
+
+// The lesser of the least level and of the least level of a bound, where there are any.
+fn lesser(level: Option<u64>, floor: Option<u64>) -> Option<Low>
+    ensures { (levels bounds : List ℕ) → IsLeast level levels → IsLeast floor bounds
+        → IsLow result (levels ++ bounds) bounds }
+{
+    match floor {
+        Some(bound) => Some(Low {
+            level: lesser_of(level, bound),
+            floor,
+        }),
+        None => unbounded(level),
+    }
+}
+
+// The least of what limits the unfixed flows. Their bounds are looked at only where the lowest level reaches them.
+fn lowest(
+    system: &System,
+    touched: &[usize],
+    reached: &[usize],
+    filling: &Filling,
+    floor: Option<u64>,
+) -> Option<Low>
+    requires joined { AreJoined system.now touched.now reached.now }
+    requires places { HasPlaces system.now filling.now }
+    requires counted { AreCounted system.now filling.now.fixed.items touched.now
+        filling.now.left.items filling.now.waiting.items (λ c. is_in c reached.now) }
+    requires dated { AreDated reached.now filling.now }
+    requires floor { IsFloor floor
+        (unfixed_bounds system.now.slots filling.now.fixed.items touched.now) }
+    ensures { IsLow result
+        (unfixed_limits system.now.slots filling.now.fixed.items filling.now.levels.items
+        touched.now)
+        (unfixed_bounds system.now.slots filling.now.fixed.items touched.now) }
+{
+    let level = least_level(reached, filling);
+    match below_bounds(level, floor) {
+        Some(low) => Some(low),
+        None => lesser(level, lowest_bound(system, touched, &filling.fixed)),
+    }
+}
+
+// Fixes an unfixed flow at this level.
+fn fix<L: Ledger>(
+    system: &System,
+    flow: usize,
+    low: u64,
+    filling: &mut Filling,
+    steps: &mut Steps<L>,
+)
+    requires sound { IsSound system.now }
+    requires held { IsSome (flow_at system.now.slots flow) }
+    requires places { HasPlaces system.now filling.old }
+    ensures places { HasPlaces system.now filling.new }
+    ensures levels { filling.new.levels.items ≡ filling.old.levels.items }
+    ensures agenda { filling.new.agenda ≡ filling.old.agenda }
+    ensures fixed { filling.new.fixed.items ≡ slice_set filling.old.fixed.items flow (Some low) }
+    ensures left { IsLessBy (λ c. times c (uses_at system.now.slots flow)
+        * share_at (flow_in system.now.slots flow) low)
+        filling.old.left.items filling.new.left.items }
+    ensures waiting { IsLessBy (weight_on system.now.slots flow)
+        filling.old.waiting.items filling.new.waiting.items }
+    ensures stale { MarksRow (uses_at system.now.slots flow) filling.old.stale filling.new.stale }
+    ensures looks { steps.new ≡ steps.old + 2 * length (uses_at system.now.slots flow) }
+{
+    filling.fixed[flow] = Some(low);
+    take_uses(
+        system,
+        flow,
+        low,
+        &mut filling.left,
+        &mut filling.waiting,
+        steps,
+    );
+    mark_uses(system, flow, &mut filling.stale, steps);
+}
+
+// Fixes a flow at this level, where it is unfixed.
+fn fix_flow<L: Ledger>(
+    system: &System,
+    flow: usize,
+    low: u64,
+    filling: &mut Filling,
+    steps: &mut Steps<L>,
+)
+    requires sound { IsSound system.now }
+    requires held { IsSome (flow_at system.now.slots flow) }
+    requires places { HasPlaces system.now filling.old }
+    requires at { fixed_at filling.old.fixed.items flow ≡ None
+        → IsLeast (Some low) (limits_at system.now.slots filling.old.levels.items flow) }
+    ensures partly { StepsPartly system.now low filling.old filling.new }
+    ensures agenda { filling.new.agenda ≡ filling.old.agenda }
+    ensures done { IsSome (fixed_at filling.new.fixed.items flow) }
+    ensures count { (touched : List ℕ) → AllPairs (λ a b. a ≢ b) touched
+        → is_in flow touched ≡ true
+        → KeepsCount system.now touched filling.old filling.new steps.old steps.new }
+{
+    if filling.fixed[flow].is_none() {
+        fix(system, flow, low, filling, steps);
+    }
+}
+
+// Fixes the unfixed flows on a resource that is at this level.
+fn fix_users<L: Ledger>(
+    system: &System,
+    resource: usize,
+    low: u64,
+    filling: &mut Filling,
+    steps: &mut Steps<L>,
+)
+    requires sound { IsSound system.now }
+    requires places { HasPlaces system.now filling.old }
+    requires resource { resource < length system.now.capacities }
+    requires level { slice_index filling.old.levels.items resource ≡ low }
+    requires above { AreAbove system.now (users_on system.now.users resource) low filling.old }
+    ensures partly { StepsPartly system.now low filling.old filling.new }
+    ensures agenda { filling.new.agenda ≡ filling.old.agenda }
+    ensures done { AreFixed (users_on system.now.users resource) filling.new }
+    ensures count { (touched : List ℕ) → AllPairs (λ a b. a ≢ b) touched
+        → AreIn (users_on system.now.users resource) touched
+        → KeepsCount system.now touched filling.old filling.new
+        (steps.old + length (users_on system.now.users resource)) steps.new }
+{
+    let mut at = system.first_on(resource);
+    while let Some(i) = at {
+        let one = system.look(i, steps);
+        fix_flow(system, one.flow, low, filling, steps);
+        at = one.next_on;
+    }
+}
+
+// Fixes the unfixed flows on a resource, where it is at this level.
+fn fix_on<L: Ledger>(
+    system: &System,
+    resource: usize,
+    low: u64,
+    filling: &mut Filling,
+    steps: &mut Steps<L>,
+)
+    requires sound { IsSound system.now }
+    requires places { HasPlaces system.now filling.old }
+    requires resource { resource < length system.now.capacities }
+    requires above { AreAbove system.now (users_on system.now.users resource) low filling.old }
+    ensures partly { StepsPartly system.now low filling.old filling.new }
+    ensures agenda { filling.new.agenda ≡ filling.old.agenda }
+    ensures done { slice_index filling.old.levels.items resource ≡ low
+        → AreFixed (users_on system.now.users resource) filling.new }
+    ensures count { (touched : List ℕ) → AllPairs (λ a b. a ≢ b) touched
+        → AreIn (users_on system.now.users resource) touched
+        → KeepsCount system.now touched filling.old filling.new
+        (steps.old + length (users_on system.now.users resource)) steps.new }
+{
+    if filling.levels[resource] == low {
+        fix_users(system, resource, low, filling, steps);
+    }
+}
+
+// Whether the bound of a flow is at this level.
+fn is_bound_at(system: &System, flow: usize, low: u64) -> bool
+    requires sound { IsSound system.now }
+    requires held { IsSome (flow_at system.now.slots flow) }
+    ensures at { result ≡ true → bound_limit system.now.slots flow ≡ Some low }
+    ensures off { result ≡ false → bound_limit system.now.slots flow ≡ Some low → ⊥ }
+{
+    match bound_level(system.weight(flow), system.bound(flow)) {
+        None => false,
+        Some(limit) => limit == low,
+    }
+}
+
+// Fixes a flow, where it is unfixed and its bound is at this level.
+fn fix_bounded<L: Ledger>(
+    system: &System,
+    flow: usize,
+    low: u64,
+    filling: &mut Filling,
+    steps: &mut Steps<L>,
+)
+    requires sound { IsSound system.now }
+    requires held { IsSome (flow_at system.now.slots flow) }
+    requires places { HasPlaces system.now filling.old }
+    requires above { AreAbove system.now (flow ∷ []) low filling.old }
+    ensures partly { StepsPartly system.now low filling.old filling.new }
+    ensures done { bound_limit system.now.slots flow ≡ Some low
+        → IsSome (fixed_at filling.new.fixed.items flow) }
+    ensures count { (touched : List ℕ) → AllPairs (λ a b. a ≢ b) touched
+        → is_in flow touched ≡ true
+        → KeepsCount system.now touched filling.old filling.new steps.old steps.new }
+{
+    if filling.fixed[flow].is_some() {
+        return;
+    }
+    if is_bound_at(system, flow, low) {
+        fix_flow(system, flow, low, filling, steps);
+    }
+}
+
+// Fixes each unfixed flow whose bound is at this level.
+fn fix_all_bounded<L: Ledger>(
+    system: &System,
+    touched: &[usize],
+    low: u64,
+    floor: Option<u64>,
+    filling: &mut Filling,
+    steps: &mut Steps<L>,
+)
+    requires part { ArePart system.now touched.now }
+    requires once { AllPairs (λ a b. a ≢ b) touched.now }
+    requires places { HasPlaces system.now filling.old }
+    requires above { AreAbove system.now touched.now low filling.old }
+    requires floor { IsFloor floor
+        (unfixed_bounds system.now.slots filling.old.fixed.items touched.now) }
+    ensures partly { StepsPartly system.now low filling.old filling.new }
+    ensures bounds { (i : ℕ) → i < length touched.now
+        → bound_limit system.now.slots (slice_index touched.now i) ≡ Some low
+        → IsSome (fixed_at filling.new.fixed.items (slice_index touched.now i)) }
+    ensures count { KeepsCount system.now touched.now filling.old filling.new
+        steps.old steps.new }
+{
+    if is_over(floor, low) {
+        return;
+    }
+    for flow in touched {
+        fix_bounded(system, *flow, low, filling, steps);
+    }
+}
+
+// Fixes the unfixed flows on the resources that are at this level, by looking through all.
+fn fix_each<L: Ledger>(
+    system: &System,
+    touched: &[usize],
+    reached: &[usize],
+    low: u64,
+    filling: &mut Filling,
+    steps: &mut Steps<L>,
+)
+    requires joined { AreJoined system.now touched.now reached.now }
+    requires places { HasPlaces system.now filling.old }
+    requires above { AreAbove system.now touched.now low filling.old }
+    ensures partly { StepsPartly system.now low filling.old filling.new }
+    ensures on { (i : ℕ) → i < length reached.now
+        → slice_index filling.old.levels.items (slice_index reached.now i) ≡ low
+        → AreFixed (users_on system.now.users (slice_index reached.now i)) filling.new }
+    ensures count { KeepsCount system.now touched.now filling.old filling.new
+        (steps.old + lengths (users_on system.now.users) reached.now) steps.new }
+{
+    for c in reached {
+        fix_on(system, *c, low, filling, steps);
+    }
+}
+
+// Fixes the unfixed flows on the resources that are at this level, by their keys, and takes these.
+fn fix_due<L: Ledger>(
+    system: &System,
+    touched: &[usize],
+    reached: &[usize],
+    low: u64,
+    filling: &mut Filling,
+    steps: &mut Steps<L>,
+)
+    requires joined { AreJoined system.now touched.now reached.now }
+    requires places { HasPlaces system.now filling.old }
+    requires above { AreAbove system.now touched.now low filling.old }
+    requires counted { AreCounted system.now filling.old.fixed.items touched.now
+        filling.old.left.items filling.old.waiting.items (λ c. is_in c reached.now) }
+    requires dated { AreDated reached.now filling.old }
+    requires keys { HaveKeys filling.old.agenda }
+    ensures partly { StepsPartly system.now low filling.old filling.new }
+    ensures on { (i : ℕ) → i < length reached.now
+        → slice_index filling.old.levels.items (slice_index reached.now i) ≡ low
+        → AreFixed (users_on system.now.users (slice_index reached.now i)) filling.new }
+    ensures count { KeepsCount system.now touched.now filling.old filling.new
+        (steps.old + lengths (users_on system.now.users) reached.now) steps.new }
+{
+    while let Some(c) = due(&filling.agenda, low) {
+        fix_on(system, c, low, filling, steps);
+        filling.stale.insert(c);
+        filling.agenda.clear(c);
+    }
+}
+
+// Fixes the unfixed flows on the resources that are at this level.
+fn fix_all_users<L: Ledger>(
+    system: &System,
+    touched: &[usize],
+    reached: &[usize],
+    low: u64,
+    filling: &mut Filling,
+    steps: &mut Steps<L>,
+)
+    requires joined { AreJoined system.now touched.now reached.now }
+    requires places { HasPlaces system.now filling.old }
+    requires above { AreAbove system.now touched.now low filling.old }
+    requires counted { AreCounted system.now filling.old.fixed.items touched.now
+        filling.old.left.items filling.old.waiting.items (λ c. is_in c reached.now) }
+    requires dated { AreDated reached.now filling.old }
+    ensures partly { StepsPartly system.now low filling.old filling.new }
+    ensures on { (i : ℕ) → i < length reached.now
+        → slice_index filling.old.levels.items (slice_index reached.now i) ≡ low
+        → AreFixed (users_on system.now.users (slice_index reached.now i)) filling.new }
+    ensures count { KeepsCount system.now touched.now filling.old filling.new
+        (steps.old + lengths (users_on system.now.users) reached.now) steps.new }
+{
+    if has_keys(&filling.agenda) {
+        fix_due(system, touched, reached, low, filling, steps);
+    } else {
+        fix_each(system, touched, reached, low, filling, steps);
+    }
+}
+
+// Fixes each unfixed flow that is at this level.
+fn fix_all<L: Ledger>(
+    system: &System,
+    touched: &[usize],
+    reached: &[usize],
+    low: Low,
+    filling: &mut Filling,
+    steps: &mut Steps<L>,
+)
+    requires joined { AreJoined system.now touched.now reached.now }
+    requires places { HasPlaces system.now filling.old }
+    requires above { AreAbove system.now touched.now low.level filling.old }
+    requires counted { AreCounted system.now filling.old.fixed.items touched.now
+        filling.old.left.items filling.old.waiting.items (λ c. is_in c reached.now) }
+    requires dated { AreDated reached.now filling.old }
+    requires floor { IsFloor low.floor
+        (unfixed_bounds system.now.slots filling.old.fixed.items touched.now) }
+    ensures partly { StepsPartly system.now low.level filling.old filling.new }
+    ensures stepped { (i : ℕ) → i < length touched.now
+        → FlowSteps system.now.slots filling.old.levels.items low.level
+        filling.old.fixed.items filling.new.fixed.items (slice_index touched.now i) }
+    ensures count { KeepsCount system.now touched.now filling.old filling.new
+        (steps.old + lengths (users_on system.now.users) reached.now) steps.new }
+{
+    fix_all_users(system, touched, reached, low.level, filling, steps);
+    fix_all_bounded(system, touched, low.level, low.floor, filling, steps);
+}
+
+// Divides the levels of the stale resources again.
+fn renew(system: &System, filling: &mut Filling)
+    requires { HasPlaces system.now filling.old }
+    ensures places { HasPlaces system.now filling.new }
+    ensures kept { (filling.new.fixed.items ≡ filling.old.fixed.items)
+        × (filling.new.left.items ≡ filling.old.left.items)
+        × (filling.new.waiting.items ≡ filling.old.waiting.items) }
+    ensures levels { AreLevels filling.old.stale.members filling.new }
+    ensures others { (c : ℕ) → is_in c filling.old.stale.members ≡ false
+        → slice_index filling.new.levels.items c ≡ slice_index filling.old.levels.items c }
+    ensures dated { StayDated filling.old.stale.members filling.old.agenda filling.new }
+{
+    set_levels(
+        filling.stale.members(),
+        &filling.left,
+        &filling.waiting,
+        &mut filling.levels,
+    );
+    date_all(
+        has_keys(&filling.agenda),
+        filling.stale.members(),
+        &filling.waiting,
+        &filling.levels,
+        &mut filling.agenda,
+    );
+    filling.stale.clear();
+}
+
+// One step: each unfixed flow that is at this level is fixed.
+fn step<L: Ledger>(
+    system: &System,
+    touched: &[usize],
+    reached: &[usize],
+    low: Low,
+    filling: &mut Filling,
+    steps: &mut Steps<L>,
+)
+    requires joined { AreJoined system.now touched.now reached.now }
+    requires places { HasPlaces system.now filling.old }
+    requires levels { AreLevels reached.now filling.old }
+    requires above { AreAbove system.now touched.now low.level filling.old }
+    requires counted { AreCounted system.now filling.old.fixed.items touched.now
+        filling.old.left.items filling.old.waiting.items (λ c. is_in c reached.now) }
+    requires dated { AreDated reached.now filling.old }
+    requires floor { IsFloor low.floor
+        (unfixed_bounds system.now.slots filling.old.fixed.items touched.now) }
+    ensures places { HasPlaces system.now filling.new }
+    ensures stepped { (i : ℕ) → i < length touched.now
+        → FlowSteps system.now.slots filling.old.levels.items low.level
+        filling.old.fixed.items filling.new.fixed.items (slice_index touched.now i) }
+    ensures levels { AreLevels reached.now filling.new }
+    ensures dated { AreDated reached.now filling.new }
+    ensures kept { KeepsFixed filling.old filling.new }
+    ensures count { KeepsCount system.now touched.now filling.old filling.new
+        (steps.old + lengths (users_on system.now.users) reached.now) steps.new }
+{
+    fix_all(system, touched, reached, low, filling, steps);
+    renew(system, filling);
+}
+
+// The steps of a filling, from no flow fixed on, until all touched flows are fixed.
+fn fill_steps<L: Ledger>(
+    system: &System,
+    touched: &[usize],
+    reached: &[usize],
+    filling: &mut Filling,
+    steps: &mut Steps<L>,
+)
+    requires joined { AreJoined system.now touched.now reached.now }
+    requires places { HasPlaces system.now filling.old }
+    requires unfixed { (i : ℕ) → i < length touched.now
+        → fixed_at filling.old.fixed.items (slice_index touched.now i) ≡ None }
+    requires counted { AreCounted system.now filling.old.fixed.items touched.now
+        filling.old.left.items filling.old.waiting.items (λ c. is_in c reached.now) }
+    requires levels { AreLevels reached.now filling.old }
+    requires dated { AreDated reached.now filling.old }
+    ensures places { HasPlaces system.now filling.new }
+    ensures idle { IsIdle filling.new }
+    ensures kept { KeepsFixed filling.old filling.new }
+    ensures fixed { AreLeveled system.now touched.now filling.new }
+    ensures looks { steps.new ≤ steps.old + length touched.now
+        * (3 * lengths (uses_at system.now.slots) touched.now) }
+{
+    let mut floor = Some(0);
+    for n in 0..touched.len() {
+        date_all(
+            is_late(n, reached),
+            reached,
+            &filling.waiting,
+            &filling.levels,
+            &mut filling.agenda,
+        );
+        match lowest(system, touched, reached, filling, floor) {
+            None => return,
+            Some(low) => {
+                step(system, touched, reached, low, filling, steps);
+                floor = low.floor;
+            }
+        }
+    }
+}
+
+// All of the reached resources is left.
+fn reset(system: &System, reached: &[usize], left: &mut [u64])
+    requires exist { All (λ c. c < length system.now.capacities) reached.now }
+    requires left { length left.old ≡ length system.now.capacities }
+    ensures left { (i : ℕ) → i < length reached.now
+        → slice_index left.new (slice_index reached.now i)
+        ≡ slice_index system.now.capacities (slice_index reached.now i) }
+    ensures fit { (i : ℕ) → i < length reached.now
+        → slice_index system.now.capacities (slice_index reached.now i) < 2 ^ 64 }
+{
+    for c in reached {
+        left[*c] = system.capacity(*c);
+    }
+}
+
+// No touched flow is fixed, and each waits at its resources.
+fn unfix<L: Ledger>(
+    system: &System,
+    touched: &[usize],
+    fixed: &mut [Option<u64>],
+    waiting: &mut [u64],
+    steps: &mut Steps<L>,
+)
+    requires part { ArePart system.now touched.now }
+    requires fixed { length system.now.slots ≤ length fixed.old }
+    requires waiting { length waiting.old ≡ length system.now.capacities }
+    requires fits { (c : ℕ) → slice_index waiting.old c
+        + weight_of system.now.slots touched.now c < 2 ^ 64 }
+    ensures fixed { (i : ℕ) → i < length touched.now
+        → fixed_at fixed.new (slice_index touched.now i) ≡ None }
+    ensures others { (id : ℕ) → is_in id touched.now ≡ false
+        → fixed_at fixed.new id ≡ fixed_at fixed.old id }
+    ensures waiting { IsMoreBy (weight_of system.now.slots touched.now)
+        waiting.old waiting.new }
+    ensures looks { steps.new
+        ≡ steps.old + lengths (uses_at system.now.slots) touched.now }
+{
+    for flow in touched {
+        fixed[*flow] = None;
+        add_uses(system, *flow, waiting, steps);
+    }
+}
+
+/// Fixes each touched flow at its level among the touched flows.
+pub fn fill<L: Ledger>(
+    system: &System,
+    touched: &[usize],
+    reached: &[usize],
+    filling: &mut Filling,
+    steps: &mut Steps<L>,
+)
+    requires joined { AreJoined system.now touched.now reached.now }
+    requires places { HasPlaces system.now filling.old }
+    requires idle { IsIdle filling.old }
+    ensures places { HasPlaces system.now filling.new }
+    ensures idle { IsIdle filling.new }
+    ensures kept { KeepsOthers touched.now filling.old filling.new }
+    ensures fixed { AreLeveled system.now touched.now filling.new }
+    ensures fits { (i : ℕ) → i < length touched.now
+        → bound_at system.now.slots (slice_index touched.now i) ≡ None
+        → share_of system.now.capacities (flows_at system.now.slots touched.now)
+        (flow_in system.now.slots (slice_index touched.now i)) < 2 ^ 64 }
+    ensures looks { steps.new
+        ≤ steps.old + lengths (uses_at system.now.slots) touched.now
+        + length touched.now * (3 * lengths (uses_at system.now.slots) touched.now) }
+{
+    reset(system, reached, &mut filling.left);
+    unfix(
+        system,
+        touched,
+        &mut filling.fixed,
+        &mut filling.waiting,
+        steps,
+    );
+    set_levels(
+        reached,
+        &filling.left,
+        &filling.waiting,
+        &mut filling.levels,
+    );
+    fill_steps(system, touched, reached, filling, steps);
+}

@@ -1,6 +1,0 @@
-use Rattle.std.proofs.Common.{take}
-use Rattle.sg_lazy.specs.kept.Filling.{IsLeast, unfixed_bounds}
-use Rattle.sg_lazy.proofs.filling.lowest_bound.Given as goal
-
-abbrev pub invariant-loop-flow : goal.invariant-loop-flow
-invariant-loop-flow l = IsLeast l.least (unfixed_bounds l.system.slots l.fixed (take l.flow-index l.touched))
