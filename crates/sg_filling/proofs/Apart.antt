@@ -15,7 +15,8 @@ use Rattle.sg_maxmin.proofs.Same.{IsPart, share_of_part}
 use Rattle.sg_maxmin.proofs.Sums.{sum_by_zero}
 use Rattle.sg_filling.specs.declared.filling.Filling.{Filling}
 use Rattle.sg_filling.specs.Component.{AllPass, Grows, IsClosure}
-use Rattle.sg_filling.specs.Filling.{AreLeveled, KeepsOthers, bound_at, fixed_at, flow_in, flows_at, given, given_at}
+use Rattle.sg_levels.specs.Numbered.{bound_at, flow_in}
+use Rattle.sg_filling.specs.Filling.{AreLeveled, KeepsOthers, fixed_at, flows_at, given, given_at}
 use Rattle.sg_filling.specs.Parts.{HasShare}
 use Rattle.sg_filling.proofs.Growing.{at_in, in_at}
 use Rattle.sg_filling.proofs.Listing.{bool_cases, some_of}
@@ -31,16 +32,16 @@ first_of old new g =
 pub came : (old new : List ℕ) → Grows old new → old ++ drop (length old) new ≡ new
 came old new g = ap (λ xs. xs ++ drop (length old) new) (sym (first_of old new g)) ∙ take-append-drop (length old) new
 
-in_cases : (n : ℕ) (xs ys : List ℕ) → is_in n (xs ++ ys) ≡ true → (is_in n xs ≡ true) ⊎ (is_in n ys ≡ true)
+pub in_cases : (n : ℕ) (xs ys : List ℕ) → is_in n (xs ++ ys) ≡ true → (is_in n xs ≡ true) ⊎ (is_in n ys ≡ true)
 in_cases n xs ys h = elim (In-append_cases xs ys n (is_in_In n (xs ++ ys) h)) [ inl i ↦ inl (in_is n xs i) | inr i ↦ inr (in_is n ys i) ]
 
-in_left : (n : ℕ) (xs ys : List ℕ) → is_in n xs ≡ true → is_in n (xs ++ ys) ≡ true
+pub in_left : (n : ℕ) (xs ys : List ℕ) → is_in n xs ≡ true → is_in n (xs ++ ys) ≡ true
 in_left n xs ys h = in_is n (xs ++ ys) (In-append_left xs ys n (is_in_In n xs h))
 
-in_right : (n : ℕ) (xs ys : List ℕ) → is_in n ys ≡ true → is_in n (xs ++ ys) ≡ true
+pub in_right : (n : ℕ) (xs ys : List ℕ) → is_in n ys ≡ true → is_in n (xs ++ ys) ≡ true
 in_right n xs ys h = in_is n (xs ++ ys) (In-append_right xs ys n (is_in_In n ys h))
 
-in_one : (n : ℕ) (xs ys : List ℕ) → AllPairs (λ a b. a ≢ b) (xs ++ ys) → is_in n xs ≡ true → is_in n ys ≡ true → ⊥
+pub in_one : (n : ℕ) (xs ys : List ℕ) → AllPairs (λ a b. a ≢ b) (xs ++ ys) → is_in n xs ≡ true → is_in n ys ≡ true → ⊥
 in_one n xs ys once i j =
     let a = at_in n xs i in
     let b = at_in n ys j in

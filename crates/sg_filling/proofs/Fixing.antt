@@ -9,7 +9,8 @@ use Rattle.sg_maxmin.proofs.Members.{In, In-from_contains, contains_from_In, In-
 use Rattle.sg_maxmin.proofs.Sums.{sum_by_same}
 use Rattle.sg_filling.specs.declared.filling.Filling.{Filling}
 use Rattle.sg_filling.specs.Component.{AreIn}
-use Rattle.sg_filling.specs.Filling.{AreAbove, AreCounted, AreFixed, AreJoined, HasPlaces, IsLeast, IsLessBy, IsStepped, KeepsCount, MayStep, StepsPartly, bound_limit, fixed_at, flow_in, given, limits_at, taken_on, unfixed_uses, waiting_on, waits_with, weight_on}
+use Rattle.sg_levels.specs.Numbered.{flow_in}
+use Rattle.sg_filling.specs.Filling.{AreAbove, AreCounted, AreFixed, AreJoined, HasPlaces, IsLeast, IsLessBy, IsStepped, KeepsCount, MayStep, StepsPartly, bound_limit, fixed_at, given, limits_at, taken_on, unfixed_uses, waiting_on, waits_with, weight_on}
 use Rattle.sg_filling.proofs.Growing.{at_in, in_at}
 use Rattle.sg_filling.proofs.Listing.{bool_cases, eq_cases}
 use Rattle.sg_filling.proofs.Rows.{in_is, into, is_in_In, same_in, times_out}

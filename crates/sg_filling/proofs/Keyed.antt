@@ -9,7 +9,8 @@ use Rattle.sg_maxmin.proofs.Members.{In, In-from_contains, contains_from_In, In-
 use Rattle.sg_filling.specs.declared.filling.Filling.{Filling}
 use Rattle.sg_filling.specs.Component.{lengths}
 use Rattle.sg_filling.specs.Dates.{AreDated, AreRenewed, AreRight, HaveKeys, HaveNone, IsIdle, StayDated, key_where}
-use Rattle.sg_filling.specs.Filling.{AreCounted, AreFixed, AreJoined, HasPlaces, IsLeast, MayStep, StepsPartly, fixed_at, flow_in, limits_at, waited_levels, waits_with, weight_at}
+use Rattle.sg_levels.specs.Numbered.{flow_in, weight_at}
+use Rattle.sg_filling.specs.Filling.{AreCounted, AreFixed, AreJoined, HasPlaces, IsLeast, MayStep, StepsPartly, fixed_at, limits_at, waited_levels, waits_with}
 use Rattle.sg_filling.proofs.Growing.{grows_mark, in_at, mark_there, stays}
 use Rattle.sg_filling.proofs.Listing.{bool_cases, eq_cases}
 use Rattle.sg_filling.proofs.Rows.{into, is_in_In, none_some, same_in, some_same}
@@ -156,11 +157,12 @@ keyed_less rows keys reached c key once r h e =
     omega (arith, sums, was, is)
 
 -- a key is taken
-pub partly_cleared : (s : Sharing) (low c : ℕ) (a b : Filling) → HasPlaces s a → c < length a.agenda → b.fixed.items ≡ a.fixed.items → b.left.items ≡ a.left.items → b.waiting.items ≡ a.waiting.items → b.levels.items ≡ a.levels.items →
+pub partly_cleared : (s : Sharing) (low c : ℕ) (a b : Filling) → HasPlaces s a → c < length a.agenda → b.fixed.items ≡ a.fixed.items → b.left.items ≡ a.left.items → b.waiting.items ≡ a.waiting.items → b.levels.items ≡ a.levels.items → b.holds.items ≡ a.holds.items →
     b.stale ≡ record a.stale { members = with_mark c a.stale.members } → b.agenda ≡ set a.agenda c None → StepsPartly s low a b
-partly_cleared s low c a b places below fixed left waiting levels stale agenda = record {
+partly_cleared s low c a b places below fixed left waiting levels holds stale agenda = record {
   places = record {
     fixed_len = omega (arith, places.fixed_len, ap length fixed);
+    holds_len = ap length holds ∙ places.holds_len;
     left_len = ap length left ∙ places.left_len;
     waiting_len = ap length waiting ∙ places.waiting_len;
     levels_len = ap length levels ∙ places.levels_len;

@@ -13,3 +13,7 @@ pub mod Floors
 pub mod Apart
 pub mod Filled
 pub mod Spread
+pub mod Notes
+pub mod Joined
+pub mod Noted
+pub mod Holding

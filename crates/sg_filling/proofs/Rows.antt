@@ -9,7 +9,7 @@ use Rattle.sg_chains.specs.Chained.{users_on, times}
 use Rattle.sg_maxmin.specs.Sharing.{Sharing, IsSound, flow_at, uses_at}
 use Rattle.sg_maxmin.proofs.Members.{In, list_any_in, list_any_back}
 use Rattle.sg_filling.specs.Component.{AreIn}
-use Rattle.sg_filling.specs.Filling.{bound_at, flow_in, weight_at}
+use Rattle.sg_levels.specs.Numbered.{bound_at, flow_in, weight_at}
 use Rattle.sg_filling.proofs.Growing.{at_in, in_at}
 use Rattle.sg_filling.proofs.Listing.{bool_cases, some_of}
 

@@ -13,7 +13,8 @@ use Rattle.sg_maxmin.proofs.Sums.{le-sum_by}
 use Rattle.sg_maxmin.proofs.Rises.{is_on_uses}
 use Rattle.sg_maxmin.proofs.Proved.{is_fair_lem}
 use Rattle.sg_filling.specs.Component.{Covers}
-use Rattle.sg_filling.specs.Filling.{AreCounted, ArePart, IsMoreBy, fixed_at, flow_in, flows_at, given, taken_on, waiting_on, waits_with, weight_at, weight_of, weight_on}
+use Rattle.sg_levels.specs.Numbered.{flow_in, weight_at}
+use Rattle.sg_filling.specs.Filling.{AreCounted, ArePart, IsMoreBy, fixed_at, flows_at, given, taken_on, waiting_on, waits_with, weight_of, weight_on}
 use Rattle.sg_filling.proofs.Growing.{at_in, in_at}
 use Rattle.sg_filling.proofs.Listing.{bool_cases, some_of}
 use Rattle.sg_filling.proofs.Rows.{few_held, flow_in_is, into, in_is, rows_once, weighs}

@@ -8,10 +8,11 @@ use Rattle.sg_maxmin.specs.Sharing.{Sharing, uses_at}
 use Rattle.sg_maxmin.proofs.Members.{In, In-map, In-from_contains, contains_from_In}
 use Rattle.sg_maxmin.proofs.Sums.{sum_by_same}
 use Rattle.sg_maxmin.proofs.OneStep.{least_le, least_in, lowest_le, step_fixed, step_at, was, gets, waits, step_cases}
-use Rattle.sg_filling.specs.Filling.{AreCounted, IsLeast, IsStepped, bound_at, fixed_at, flow_in, flows_at, given, limits_at, taken_on, unfixed_limits, waiting_on, waits_with, weight_at}
+use Rattle.sg_levels.specs.Numbered.{bound_at, flow_in, weight_at}
+use Rattle.sg_filling.specs.Filling.{AreCounted, IsLeast, IsStepped, fixed_at, flows_at, given, limits_at, taken_on, unfixed_limits, waiting_on, waits_with}
 use Rattle.sg_filling.proofs.Listing.{eq_cases}
 
-sum_by-map : {X Y : Type 0} (h : Y → ℕ) (f : X → Y) (xs : List X) → sum_by h (map f xs) ≡ sum_by (λ x. h (f x)) xs
+pub sum_by-map : {X Y : Type 0} (h : Y → ℕ) (f : X → Y) (xs : List X) → sum_by h (map f xs) ≡ sum_by (λ x. h (f x)) xs
 sum_by-map h f [] = refl
 sum_by-map h f (x ∷ xs) = sum_by-cons h (f x) (map f xs) ∙ ap (λ s. h (f x) + s) (sum_by-map h f xs) ∙ sym (sum_by-cons (λ y. h (f y)) x xs)
 
@@ -90,7 +91,7 @@ module _ (s : Sharing) (fixed : List (Option ℕ)) (touched : List ℕ) (state :
 
   module _ (left waiting' levels : List ℕ) (reached : ℕ → Bool) (counted : AreCounted s fixed touched left waiting' reached) (leveled : (c : ℕ) → reached c ≡ true → get_or levels c 0 ≡ get_or left c 0 / get_or waiting' c 0)
       (covers : (f c : ℕ) → In f touched → In c (uses_at s.slots f) → reached c ≡ true) where
-    level_is : (c : ℕ) → reached c ≡ true → level s.capacities flows state c ≡ get_or levels c 0
+    pub level_is : (c : ℕ) → reached c ≡ true → level s.capacities flows state c ≡ get_or levels c 0
     unfolding level
     level_is c r = ap₂ (λ a b. (get_or s.capacities c 0 - a) / b) (taken_is c) (waiting_is c) ∙ sym (ap₂ (λ a b. a / b) (counted.left_is c r) (counted.waiting_is c r)) ∙ sym (leveled c r)
 
@@ -115,7 +116,7 @@ module _ (s : Sharing) (fixed : List (Option ℕ)) (touched : List ℕ) (state :
           | false ↦ rest
         ])
 
-    lowest_is : (low : ℕ) → IsLeast (Some low) (unfixed_limits s.slots fixed levels touched) → lowest s.capacities flows state ≡ low
+    pub lowest_is : (low : ℕ) → IsLeast (Some low) (unfixed_limits s.slots fixed levels touched) → lowest s.capacities flows state ≡ low
     unfolding lowest
     lowest_is low h = ap least (all_same touched (λ f i. i)) ∙ is_least (unfixed_limits s.slots fixed levels touched) h
       where

@@ -1,35 +1,18 @@
 -- A filling of the touched flows, by their numbers.
 use Rattle.std.specs.Prelude.{◌≡◌, ◌≢◌, ℕ, ◌+◌, ◌-◌, ◌*◌, ◌/◌, ◌<◌, ◌≤◌, ◌==◌, ◌⊎◌, Bool, true, false, AllPairs, Option, None, Some, IsSome, is_none, option_map, option_to_list, if◌then◌else◌, List, [], ◌∷◌, ◌++◌, map, flat_map, length, sum_by, min, All, Contains, slice_index, slice_index_or}
-use Rattle.sg_maxmin.specs.Fill.{Flow, flow, share_at, bound_level, level_of}
+use Rattle.sg_maxmin.specs.Fill.{Flow, share_at, bound_level, level_of}
 use Rattle.sg_chains.specs.Chained.{times}
 use Rattle.sg_maxmin.specs.Sharing.{Sharing, IsSound, flow_at, uses_at}
 use Rattle.sg_base.specs.MarkSet.{is_in}
 use Rattle.sg_heap.specs.Agenda.{key_at}
 use Rattle.sg_chains.specs.Chained.{users_on}
+use Rattle.sg_levels.specs.Numbered.{bound_at, flow_in, weight_at}
 use Rattle.sg_filling.specs.declared.filling.Filling.{Filling}
 use Rattle.sg_filling.specs.declared.filling.Low.{Low}
 use Rattle.sg_filling.specs.Component.{IsClosure}
 use Rattle.sg_filling.specs.Dates.{IsIdle}
 
--- the weight and the bound of the flow in a slot; a slot without a flow weighs 1
-abbrev pub slot_weight : Option Flow → ℕ
-slot_weight None = 1
-slot_weight (Some flow) = flow.weight
-
-abbrev pub slot_bound : Option Flow → Option ℕ
-slot_bound None = None
-slot_bound (Some flow) = flow.bound
-
-abbrev pub weight_at : List (Option Flow) → ℕ → ℕ
-weight_at slots id = slot_weight (flow_at slots id)
-
-abbrev pub bound_at : List (Option Flow) → ℕ → Option ℕ
-bound_at slots id = slot_bound (flow_at slots id)
-
--- the flow under a number, and the touched flows
-abbrev pub flow_in : List (Option Flow) → ℕ → Flow
-flow_in slots id = flow (uses_at slots id) (weight_at slots id) (bound_at slots id)
-
+-- the touched flows
 abbrev pub flows_at : List (Option Flow) → List ℕ → List Flow
 flows_at slots touched = map (flow_in slots) touched
 
@@ -117,6 +100,7 @@ IsMoreBy amount old new = (c : ℕ) → slice_index new c ≡ slice_index old c 
 -- there is a place for each flow and each resource
 pub record HasPlaces (s : Sharing) (filling : Filling) : Type 0 where
   pub fixed_len : length s.slots ≤ length filling.fixed.items
+  pub holds_len : length filling.holds.items ≡ length s.capacities
   pub left_len : length filling.left.items ≡ length s.capacities
   pub waiting_len : length filling.waiting.items ≡ length s.capacities
   pub levels_len : length filling.levels.items ≡ length s.capacities
@@ -125,6 +109,7 @@ pub record HasPlaces (s : Sharing) (filling : Filling) : Type 0 where
 
 -- a place for each of so many resources, and nobody waits
 pub record HasResources (resources : ℕ) (filling : Filling) : Type 0 where
+  pub holds_len : length filling.holds.items ≡ resources
   pub left_len : length filling.left.items ≡ resources
   pub waiting_len : length filling.waiting.items ≡ resources
   pub levels_len : length filling.levels.items ≡ resources
@@ -162,13 +147,14 @@ abbrev pub IsLow : Option Low → List ℕ → List ℕ → Type 0
 IsLow None limits bounds = limits ≡ []
 IsLow (Some low) limits bounds = IsLeast (Some low.level) limits × IsFloor low.floor bounds
 
--- the touched flows with all resources that they use, and all flows on these
+-- the touched flows with all resources that they use, and all flows on these; each of these has one
 pub record AreJoined (s : Sharing) (touched reached : List ℕ) : Type 0 where
   pub part : ArePart s touched
   pub once : AllPairs (λ a b. a ≢ b) touched
   pub closed : IsClosure (uses_at s.slots) (users_on s.users) touched reached
   pub distinct : AllPairs (λ a b. a ≢ b) reached
   pub exist : All (λ c. c < length s.capacities) reached
+  pub used : (c : ℕ) → is_in c reached ≡ true → 0 < length (users_on s.users c)
 
 -- the levels of the reached resources are those of what is left and waits there
 abbrev pub AreLevels : List ℕ → Filling → Type 0
@@ -231,3 +217,7 @@ abbrev pub KeepsOthers : List ℕ → Filling → Filling → Type 0
 KeepsOthers touched old new =
     (id level : ℕ) → is_in id touched ≡ false →
     fixed_at old.fixed.items id ≡ Some level → fixed_at new.fixed.items id ≡ Some level
+
+-- and the resources that aren't reached hold their flows where they did
+abbrev pub KeepsHolds : List ℕ → Filling → Filling → Type 0
+KeepsHolds reached old new = (c : ℕ) → is_in c reached ≡ false → fixed_at new.holds.items c ≡ fixed_at old.holds.items c

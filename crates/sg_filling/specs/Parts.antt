@@ -1,13 +1,18 @@
 -- What a settling has filled, part by part: a closed set of flows and resources, which grows by closed parts.
-use Rattle.std.specs.Prelude.{◌≡◌, ℕ, ◌+◌, ◌*◌, ◌<◌, ◌≤◌, ◌^◌, true, false, None, List, IsSome, is_some, length, slice_index}
+use Rattle.std.specs.Prelude.{◌≡◌, ℕ, ◌+◌, ◌*◌, ◌<◌, ◌≤◌, ◌^◌, Bool, true, false, None, Some, All, List, IsSome, IsTrue, is_some, length, slice_index}
 use Rattle.sg_base.specs.MarkSet.{MarkSet, is_in}
-use Rattle.sg_maxmin.specs.Fill.{share_of}
-use Rattle.sg_maxmin.specs.Sharing.{Sharing, flow_at}
+use Rattle.sg_chains.specs.Chained.{users_on}
+use Rattle.sg_maxmin.specs.Fill.{level_of, share_of}
+use Rattle.sg_maxmin.specs.Sharing.{Sharing, flow_at, held}
+use Rattle.sg_levels.specs.Held.{IsHold}
+use Rattle.sg_levels.specs.Kept.{PassAlong}
 use Rattle.sg_filling.specs.declared.component.Component.{Component}
 use Rattle.sg_filling.specs.declared.filling.Filling.{Filling}
+use Rattle.sg_filling.specs.declared.parts.Parts.{Parts}
 use Rattle.sg_filling.specs.Component.{AllPass, Grows, IsClosedBy, IsOpen, touched_uses}
 use Rattle.sg_filling.specs.Dates.{IsIdle}
-use Rattle.sg_filling.specs.Filling.{HasPlaces, bound_at, fixed_at, flow_in, flows_at, given_at}
+use Rattle.sg_levels.specs.Numbered.{bound_at, flow_in}
+use Rattle.sg_filling.specs.Filling.{HasPlaces, HasResources, fixed_at, flows_at, given_at}
 
 -- the flow is fixed, and what it is given is its share among the touched flows
 pub record HasShare (s : Sharing) (touched : List ℕ) (filling : Filling) (id : ℕ) : Type 0 where
@@ -15,18 +20,25 @@ pub record HasShare (s : Sharing) (touched : List ℕ) (filling : Filling) (id :
   pub share : given_at s.slots filling.fixed.items id ≡ share_of s.capacities (flows_at s.slots touched) (flow_in s.slots id)
   pub fits : bound_at s.slots id ≡ None → given_at s.slots filling.fixed.items id < 2 ^ 64
 
--- what is touched and reached shares with no other, and each of its flows has its share, so that nobody waits
+-- the level of a flow in the whole
+abbrev pub level_in_all : Sharing → ℕ → ℕ
+level_in_all s id = level_of s.capacities (held s.slots) (flow_in s.slots id)
+
+-- What is touched and reached shares with no other, and nobody waits; each of its flows has its share, and its level in the whole, and each of its resources its hold.
 pub record IsFilled (s : Sharing) (component : Component) (filling : Filling) : Type 0 where
   pub ready : IsOpen s component
   pub closed : IsClosedBy s component
   pub held : AllPass (λ id. is_some (flow_at s.slots id)) component.touched.members
+  pub exist : All (λ c. c < length s.capacities) component.reached.members
   pub places : HasPlaces s filling
   pub idle : IsIdle filling
   pub shares : (id : ℕ) → is_in id component.touched.members ≡ true → HasShare s component.touched.members filling id
+  pub levels : (id : ℕ) → is_in id component.touched.members ≡ true → fixed_at filling.fixed.items id ≡ Some (level_in_all s id)
+  pub holds : (c : ℕ) → is_in c component.reached.members ≡ true → IsHold (slice_index s.capacities c) s.slots filling.fixed.items (users_on s.users c) (fixed_at filling.holds.items c)
 
--- looks that suffice for the touched flows: one to find each, three at each use, and three a step, with no more steps than touched flows
+-- looks that suffice for the touched flows: three at each use, to reach it and to begin, and three a step, with no more steps than touched flows
 abbrev pub fill_looks : Sharing → Component → ℕ
-fill_looks s component = length component.touched.members + 3 * touched_uses s component + length component.touched.members * (3 * touched_uses s component)
+fill_looks s component = 3 * touched_uses s component + length component.touched.members * (3 * touched_uses s component)
 
 -- more is touched and reached, by so many looks
 pub record FillsOn (s : Sharing) (old new : Component) (before after : ℕ) : Type 0 where
@@ -39,3 +51,18 @@ pub record AreHeldUnless (s : Sharing) (ended : MarkSet) (numbers : List ℕ) : 
   pub room : length s.slots ≤ ended.room
   pub below : (i : ℕ) → i < length numbers → slice_index numbers i < length s.slots
   pub held : (i : ℕ) → i < length numbers → is_in (slice_index numbers i) ended.members ≡ false → IsSome (flow_at s.slots (slice_index numbers i))
+
+-- What sharing joins to the marked flows that haven't ended, and to the resources: these, all that a flow or a resource of them leads to, and nothing else.
+pub record IsJoinedTo (s : Sharing) (marked ended resources touched reached : List ℕ) : Type 0 where
+  pub along : PassAlong s (λ id. is_in id touched) (λ r. is_in r reached)
+  pub flows_there : (id : ℕ) → is_in id marked ≡ true → is_in id ended ≡ false → IsTrue (is_in id touched)
+  pub resources_there : (r : ℕ) → is_in r resources ≡ true → IsTrue (is_in r reached)
+  pub least : (p q : ℕ → Bool) → PassAlong s p q → ((id : ℕ) → is_in id marked ≡ true → is_in id ended ≡ false → IsTrue (p id)) → ((r : ℕ) → is_in r resources ≡ true → IsTrue (q r))
+      → ((id : ℕ) → is_in id touched ≡ true → IsTrue (p id)) × ((r : ℕ) → is_in r reached ≡ true → IsTrue (q r))
+
+-- there is room for flows of numbers below so many, and for exactly so many resources, and nobody waits
+pub record IsReady (numbers resources : ℕ) (parts : Parts) : Type 0 where
+  pub touched : numbers ≤ parts.component.touched.room
+  pub fixed : numbers ≤ length parts.filling.fixed.items
+  pub reached : parts.component.reached.room ≡ resources
+  pub filling : HasResources resources parts.filling

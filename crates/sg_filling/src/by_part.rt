@@ -1,6 +1,7 @@
 //! Filling part by part: what sharing joins to one flow is filled by itself.
 ghost use Rattle.std.specs.Prelude.{◌≡◌, ◌≤◌, ◌<◌, ◌+◌, ℕ, Bool, true, false, IsSome, IsTrue, All, length};
-ghost use Rattle.sg_base.specs.MarkSet.{is_in};
+ghost use Rattle.sg_base.specs.MarkSet.{is_in, with_mark};
+ghost use Rattle.sg_chains.specs.Chained.{users_on};
 ghost use Rattle.sg_maxmin.specs.Sharing.{IsSound, flow_at};
 ghost use Rattle.sg_filling.specs.Component.{AllPass, PassAlong, StaysWithin};
 ghost use Rattle.sg_filling.specs.Parts.{AreHeldUnless, FillsOn, IsFilled};
@@ -11,7 +12,7 @@ use sg_base::{Marks, Steps};
 use sg_maxmin::System;
 use std::sync::ledger::Ledger;
 
-// Fills what sharing joins to a flow that isn't touched. Of the looks that suffice it spares one.
+// Fills what sharing joins to a flow that isn't touched.
 fn fill_part<L: Ledger>(
     system: &System,
     flow: usize,
@@ -24,7 +25,7 @@ fn fill_part<L: Ledger>(
     requires sound { IsSound system.now }
     requires filled { IsFilled system.now component.old filling.old }
     ensures filled { IsFilled system.now component.new filling.new }
-    ensures on { FillsOn system.now component.old component.new steps.old (steps.new + 1) }
+    ensures on { FillsOn system.now component.old component.new steps.old steps.new }
     ensures there { IsTrue (is_in flow component.new.touched.members) }
     ensures least { (p q : ℕ → Bool) → PassAlong system.now p q → IsTrue (p flow)
         → StaysWithin p q component.old component.new }
@@ -97,6 +98,52 @@ pub fn fill_marked<L: Ledger>(
     }
 }
 
+// Fills what sharing joins to a resource that isn't reached, and that flows use.
+fn fill_from<L: Ledger>(
+    system: &System,
+    resource: usize,
+    component: &mut Component,
+    filling: &mut Filling,
+    steps: &mut Steps<L>,
+)
+    requires resource { resource < length system.now.capacities }
+    requires used { 0 < length (users_on system.now.users resource) }
+    requires sound { IsSound system.now }
+    requires filled { IsFilled system.now component.old filling.old }
+    ensures filled { IsFilled system.now component.new filling.new }
+    ensures on { FillsOn system.now component.old component.new steps.old steps.new }
+    ensures there { IsTrue (is_in resource component.new.reached.members) }
+    ensures least { (p q : ℕ → Bool) → PassAlong system.now p q → IsTrue (q resource)
+        → StaysWithin p q component.old component.new }
+{
+    let touched = component.touched.members().len();
+    let reached = component.reached.members().len();
+    component.reached.insert(resource);
+    reach(system, reached, component, steps);
+    fill(
+        system,
+        &component.touched.members()[touched..],
+        &component.reached.members()[reached..],
+        filling,
+        steps,
+    );
+}
+
+// Reaches a resource that no flow uses: it holds none.
+fn reach_free(system: &System, resource: usize, component: &mut Component, filling: &mut Filling)
+    requires resource { resource < length system.now.capacities }
+    requires free { length (users_on system.now.users resource) ≡ 0 }
+    requires filled { IsFilled system.now component.old filling.old }
+    ensures filled { IsFilled system.now component.new filling.new }
+    ensures touched { component.new.touched ≡ component.old.touched }
+    ensures reached { component.new.reached ≡ record component.old.reached {
+      members = with_mark resource component.old.reached.members;
+    } }
+{
+    component.reached.insert(resource);
+    filling.holds[resource] = None;
+}
+
 // Fills what sharing joins to a resource, unless it is filled already.
 fn fill_on<L: Ledger>(
     system: &System,
@@ -118,11 +165,8 @@ fn fill_on<L: Ledger>(
         return;
     }
     match system.first_on(resource) {
-        None => component.reached.insert(resource),
-        Some(i) => {
-            let one = system.look(i, steps);
-            fill_part(system, one.flow, component, filling, steps);
-        }
+        None => reach_free(system, resource, component, filling),
+        Some(_) => fill_from(system, resource, component, filling, steps),
     }
 }
 

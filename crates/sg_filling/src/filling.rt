@@ -7,7 +7,9 @@ ghost use Rattle.sg_maxmin.specs.Laws.{HaveLimits};
 ghost use Rattle.sg_maxmin.specs.Sharing.{IsSound, flow_at, uses_at};
 ghost use Rattle.sg_filling.specs.Component.{AreIn, MarksRow, lengths};
 ghost use Rattle.sg_filling.specs.Dates.{AreDated, HaveKeys, IsIdle, StayDated};
-ghost use Rattle.sg_filling.specs.Filling.{AreAbove, AreCounted, AreFixed, AreJoined, AreLeveled, AreLevels, ArePart, FlowSteps, HasPlaces, HasResources, IsFloor, IsLeast, IsLessBy, IsLow, IsMoreBy, IsOver, KeepsCount, KeepsFixed, KeepsOthers, StepsPartly, bound_at, bound_limit, fixed_at, flow_in, flows_at, least_with, level_where, limits_at, unfixed_bounds, unfixed_limits, waited_levels, weight_of, weight_on};
+ghost use Rattle.sg_levels.specs.Numbered.{bound_at, flow_in};
+ghost use Rattle.sg_filling.specs.Filling.{AreAbove, AreCounted, AreFixed, AreJoined, AreLeveled, AreLevels, ArePart, FlowSteps, HasPlaces, HasResources, IsFloor, IsLeast, IsLessBy, IsLow, IsMoreBy, IsOver, KeepsCount, KeepsFixed, KeepsHolds, StepsPartly, bound_limit, fixed_at, flows_at, least_with, level_where, limits_at, unfixed_bounds, unfixed_limits, waited_levels, weight_of, weight_on};
+ghost use Rattle.sg_filling.specs.Holds.{AreNoted, IsBegun, IsEnded, NotesHolds, noted_at};
 
 use crate::component::mark_uses;
 use crate::dates::{date_all, due, has_keys, is_late};
@@ -22,6 +24,8 @@ use std::sync::ledger::Ledger;
 pub struct Filling {
     // under each flow, the level at which it is fixed
     pub fixed: Vec<Option<u64>>,
+    // under each resource, the level at which it was taken: there it holds its flows; None: it holds none
+    pub holds: Vec<Option<u64>>,
     // under each resource, what is left of it, the weight of the unfixed flows on it, and its level
     pub left: Vec<u64>,
     pub waiting: Vec<u64>,
@@ -43,6 +47,7 @@ impl Filling {
         agenda.reserve(capacities.len())?;
         Ok(Filling {
             fixed: Vec::new(alloc),
+            holds: vec![in alloc; None; capacities.len()]?,
             left: Vec::from_slice(alloc, capacities)?,
             waiting: vec![in alloc; 0; capacities.len()]?,
             levels: Vec::from_slice(alloc, capacities)?,
@@ -379,6 +384,7 @@ fn fix<L: Ledger>(
     ensures places { HasPlaces system.now filling.new }
     ensures levels { filling.new.levels.items ≡ filling.old.levels.items }
     ensures agenda { filling.new.agenda ≡ filling.old.agenda }
+    ensures holds { filling.new.holds.items ≡ filling.old.holds.items }
     ensures fixed { filling.new.fixed.items ≡ slice_set filling.old.fixed.items flow (Some low) }
     ensures left { IsLessBy (λ c. times c (uses_at system.now.slots flow)
         * share_at (flow_in system.now.slots flow) low)
@@ -415,6 +421,7 @@ fn fix_flow<L: Ledger>(
         → IsLeast (Some low) (limits_at system.now.slots filling.old.levels.items flow) }
     ensures partly { StepsPartly system.now low filling.old filling.new }
     ensures agenda { filling.new.agenda ≡ filling.old.agenda }
+    ensures holds { filling.new.holds.items ≡ filling.old.holds.items }
     ensures done { IsSome (fixed_at filling.new.fixed.items flow) }
     ensures count { (touched : List ℕ) → AllPairs (λ a b. a ≢ b) touched
         → is_in flow touched ≡ true
@@ -440,6 +447,7 @@ fn fix_users<L: Ledger>(
     requires above { AreAbove system.now (users_on system.now.users resource) low filling.old }
     ensures partly { StepsPartly system.now low filling.old filling.new }
     ensures agenda { filling.new.agenda ≡ filling.old.agenda }
+    ensures holds { filling.new.holds.items ≡ filling.old.holds.items }
     ensures done { AreFixed (users_on system.now.users resource) filling.new }
     ensures count { (touched : List ℕ) → AllPairs (λ a b. a ≢ b) touched
         → AreIn (users_on system.now.users resource) touched
@@ -454,7 +462,7 @@ fn fix_users<L: Ledger>(
     }
 }
 
-// Fixes the unfixed flows on a resource, where it is at this level.
+// Fixes the unfixed flows on a resource, where it is at this level, and notes that.
 fn fix_on<L: Ledger>(
     system: &System,
     resource: usize,
@@ -468,6 +476,7 @@ fn fix_on<L: Ledger>(
     requires above { AreAbove system.now (users_on system.now.users resource) low filling.old }
     ensures partly { StepsPartly system.now low filling.old filling.new }
     ensures agenda { filling.new.agenda ≡ filling.old.agenda }
+    ensures noted { filling.new.holds.items ≡ noted_at low resource filling.old }
     ensures done { slice_index filling.old.levels.items resource ≡ low
         → AreFixed (users_on system.now.users resource) filling.new }
     ensures count { (touched : List ℕ) → AllPairs (λ a b. a ≢ b) touched
@@ -476,6 +485,7 @@ fn fix_on<L: Ledger>(
         (steps.old + length (users_on system.now.users resource)) steps.new }
 {
     if filling.levels[resource] == low {
+        filling.holds[resource] = Some(low);
         fix_users(system, resource, low, filling, steps);
     }
 }
@@ -506,6 +516,7 @@ fn fix_bounded<L: Ledger>(
     requires places { HasPlaces system.now filling.old }
     requires above { AreAbove system.now (flow ∷ []) low filling.old }
     ensures partly { StepsPartly system.now low filling.old filling.new }
+    ensures holds { filling.new.holds.items ≡ filling.old.holds.items }
     ensures done { bound_limit system.now.slots flow ≡ Some low
         → IsSome (fixed_at filling.new.fixed.items flow) }
     ensures count { (touched : List ℕ) → AllPairs (λ a b. a ≢ b) touched
@@ -536,6 +547,7 @@ fn fix_all_bounded<L: Ledger>(
     requires floor { IsFloor floor
         (unfixed_bounds system.now.slots filling.old.fixed.items touched.now) }
     ensures partly { StepsPartly system.now low filling.old filling.new }
+    ensures holds { filling.new.holds.items ≡ filling.old.holds.items }
     ensures bounds { (i : ℕ) → i < length touched.now
         → bound_limit system.now.slots (slice_index touched.now i) ≡ Some low
         → IsSome (fixed_at filling.new.fixed.items (slice_index touched.now i)) }
@@ -563,6 +575,7 @@ fn fix_each<L: Ledger>(
     requires places { HasPlaces system.now filling.old }
     requires above { AreAbove system.now touched.now low filling.old }
     ensures partly { StepsPartly system.now low filling.old filling.new }
+    ensures noted { NotesHolds reached.now low filling.old filling.new }
     ensures on { (i : ℕ) → i < length reached.now
         → slice_index filling.old.levels.items (slice_index reached.now i) ≡ low
         → AreFixed (users_on system.now.users (slice_index reached.now i)) filling.new }
@@ -591,6 +604,7 @@ fn fix_due<L: Ledger>(
     requires dated { AreDated reached.now filling.old }
     requires keys { HaveKeys filling.old.agenda }
     ensures partly { StepsPartly system.now low filling.old filling.new }
+    ensures noted { NotesHolds reached.now low filling.old filling.new }
     ensures on { (i : ℕ) → i < length reached.now
         → slice_index filling.old.levels.items (slice_index reached.now i) ≡ low
         → AreFixed (users_on system.now.users (slice_index reached.now i)) filling.new }
@@ -620,6 +634,7 @@ fn fix_all_users<L: Ledger>(
         filling.old.left.items filling.old.waiting.items (λ c. is_in c reached.now) }
     requires dated { AreDated reached.now filling.old }
     ensures partly { StepsPartly system.now low filling.old filling.new }
+    ensures noted { NotesHolds reached.now low filling.old filling.new }
     ensures on { (i : ℕ) → i < length reached.now
         → slice_index filling.old.levels.items (slice_index reached.now i) ≡ low
         → AreFixed (users_on system.now.users (slice_index reached.now i)) filling.new }
@@ -651,6 +666,7 @@ fn fix_all<L: Ledger>(
     requires floor { IsFloor low.floor
         (unfixed_bounds system.now.slots filling.old.fixed.items touched.now) }
     ensures partly { StepsPartly system.now low.level filling.old filling.new }
+    ensures noted { NotesHolds reached.now low.level filling.old filling.new }
     ensures stepped { (i : ℕ) → i < length touched.now
         → FlowSteps system.now.slots filling.old.levels.items low.level
         filling.old.fixed.items filling.new.fixed.items (slice_index touched.now i) }
@@ -667,7 +683,8 @@ fn renew(system: &System, filling: &mut Filling)
     ensures places { HasPlaces system.now filling.new }
     ensures kept { (filling.new.fixed.items ≡ filling.old.fixed.items)
         × (filling.new.left.items ≡ filling.old.left.items)
-        × (filling.new.waiting.items ≡ filling.old.waiting.items) }
+        × (filling.new.waiting.items ≡ filling.old.waiting.items)
+        × (filling.new.holds.items ≡ filling.old.holds.items) }
     ensures levels { AreLevels filling.old.stale.members filling.new }
     ensures others { (c : ℕ) → is_in c filling.old.stale.members ≡ false
         → slice_index filling.new.levels.items c ≡ slice_index filling.old.levels.items c }
@@ -708,6 +725,7 @@ fn step<L: Ledger>(
     requires floor { IsFloor low.floor
         (unfixed_bounds system.now.slots filling.old.fixed.items touched.now) }
     ensures places { HasPlaces system.now filling.new }
+    ensures noted { NotesHolds reached.now low.level filling.old filling.new }
     ensures stepped { (i : ℕ) → i < length touched.now
         → FlowSteps system.now.slots filling.old.levels.items low.level
         filling.old.fixed.items filling.new.fixed.items (slice_index touched.now i) }
@@ -731,16 +749,13 @@ fn fill_steps<L: Ledger>(
 )
     requires joined { AreJoined system.now touched.now reached.now }
     requires places { HasPlaces system.now filling.old }
-    requires unfixed { (i : ℕ) → i < length touched.now
-        → fixed_at filling.old.fixed.items (slice_index touched.now i) ≡ None }
-    requires counted { AreCounted system.now filling.old.fixed.items touched.now
-        filling.old.left.items filling.old.waiting.items (λ c. is_in c reached.now) }
-    requires levels { AreLevels reached.now filling.old }
-    requires dated { AreDated reached.now filling.old }
+    requires begun { IsBegun system.now touched.now reached.now filling.old }
     ensures places { HasPlaces system.now filling.new }
     ensures idle { IsIdle filling.new }
     ensures kept { KeepsFixed filling.old filling.new }
+    ensures holds_kept { KeepsHolds reached.now filling.old filling.new }
     ensures fixed { AreLeveled system.now touched.now filling.new }
+    ensures noted { AreNoted system.now reached.now filling.new }
     ensures looks { steps.new ≤ steps.old + length touched.now
         * (3 * lengths (uses_at system.now.slots) touched.now) }
 {
@@ -763,18 +778,24 @@ fn fill_steps<L: Ledger>(
     }
 }
 
-// All of the reached resources is left.
-fn reset(system: &System, reached: &[usize], left: &mut [u64])
+// All of the reached resources is left, and none is noted.
+fn reset(system: &System, reached: &[usize], left: &mut [u64], holds: &mut [Option<u64>])
     requires exist { All (λ c. c < length system.now.capacities) reached.now }
     requires left { length left.old ≡ length system.now.capacities }
+    requires holds { length holds.old ≡ length system.now.capacities }
     ensures left { (i : ℕ) → i < length reached.now
         → slice_index left.new (slice_index reached.now i)
         ≡ slice_index system.now.capacities (slice_index reached.now i) }
+    ensures holds { (i : ℕ) → i < length reached.now
+        → fixed_at holds.new (slice_index reached.now i) ≡ None }
+    ensures holds_kept { (c : ℕ) → is_in c reached.now ≡ false
+        → fixed_at holds.new c ≡ fixed_at holds.old c }
     ensures fit { (i : ℕ) → i < length reached.now
         → slice_index system.now.capacities (slice_index reached.now i) < 2 ^ 64 }
 {
     for c in reached {
         left[*c] = system.capacity(*c);
+        holds[*c] = None;
     }
 }
 
@@ -806,7 +827,7 @@ fn unfix<L: Ledger>(
     }
 }
 
-/// Fixes each touched flow at its level among the touched flows.
+/// Fixes each touched flow at its level among the touched flows, and notes at which each reached resource holds them.
 pub fn fill<L: Ledger>(
     system: &System,
     touched: &[usize],
@@ -817,10 +838,7 @@ pub fn fill<L: Ledger>(
     requires joined { AreJoined system.now touched.now reached.now }
     requires places { HasPlaces system.now filling.old }
     requires idle { IsIdle filling.old }
-    ensures places { HasPlaces system.now filling.new }
-    ensures idle { IsIdle filling.new }
-    ensures kept { KeepsOthers touched.now filling.old filling.new }
-    ensures fixed { AreLeveled system.now touched.now filling.new }
+    ensures ended { IsEnded system.now touched.now reached.now filling.old filling.new }
     ensures fits { (i : ℕ) → i < length touched.now
         → bound_at system.now.slots (slice_index touched.now i) ≡ None
         → share_of system.now.capacities (flows_at system.now.slots touched.now)
@@ -829,7 +847,7 @@ pub fn fill<L: Ledger>(
         ≤ steps.old + lengths (uses_at system.now.slots) touched.now
         + length touched.now * (3 * lengths (uses_at system.now.slots) touched.now) }
 {
-    reset(system, reached, &mut filling.left);
+    reset(system, reached, &mut filling.left, &mut filling.holds);
     unfix(
         system,
         touched,

@@ -1,5 +1,6 @@
-//! Filling of the flows and resources that sharing joins to what changed, one part after the other.
-//! One enters by `fill_marked` and `fill_on_all`.
+//! Filling of the flows and resources that sharing joins to what changed, one part after the other: the level of each
+//! such flow, and where each such resource holds its flows.
+//! One enters by `Parts`: `fill` fills, and `filled` tells what it found, for `Levels::refill`.
 //! It stands on `sg_base`, on the `System` of `sg_maxmin`, on `sg_chains`, on the `Agenda` of `sg_heap`, and on the holds
 //! of `sg_levels`.
 #![tactic(auto)]
@@ -8,7 +9,9 @@ mod by_part;
 mod component;
 mod dates;
 mod filling;
+mod parts;
 
 pub use by_part::{fill_marked, fill_on_all};
 pub use component::{Component, mark_uses};
 pub use filling::{Filling, share_at_level};
+pub use parts::Parts;

@@ -15,7 +15,8 @@ use Rattle.sg_lazy.specs.Touch.{IsClosed}
 use Rattle.sg_lazy.specs.RunningFlow.{RunningFlow, running_at, flows_in}
 use Rattle.sg_filling.specs.Component.{AreIn, IsClosure, AllPass}
 use Rattle.sg_lazy.specs.kept.Changes.{WritesRates, did_change}
-use Rattle.sg_filling.specs.Filling.{flow_in, flows_at}
+use Rattle.sg_filling.specs.Filling.{flows_at}
+use Rattle.sg_levels.specs.Numbered.{flow_in}
 use Rattle.sg_lazy.specs.kept.Keeping.{IsUnmarked}
 use Rattle.sg_lazy.specs.kept.Held.{IsLazy, IsWithout, running_of, running_in, flow_or_none, ended_in}
 use Rattle.sg_filling.proofs.Growing.{at_in, in_at}

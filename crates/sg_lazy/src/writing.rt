@@ -3,7 +3,8 @@ ghost use Rattle.std.specs.Prelude.{◌≡◌, ◌≢◌, ◌<◌, ◌≤◌, �
 ghost use Rattle.sg_base.specs.MarkSet.{with_mark};
 ghost use Rattle.sg_maxmin.specs.Sharing.{flow_at};
 ghost use Rattle.sg_lazy.specs.kept.Changes.{WritesRates, did_change};
-ghost use Rattle.sg_filling.specs.Filling.{bound_at, fixed_at, given_at};
+ghost use Rattle.sg_filling.specs.Filling.{fixed_at, given_at};
+ghost use Rattle.sg_levels.specs.Numbered.{bound_at};
 
 use sg_base::Marks;
 use sg_filling::share_at_level;

@@ -1,13 +1,15 @@
-use Rattle.std.proofs.Common.{◌≡◌, ◌≢◌, ◌+◌, ◌-◌, ◌*◌, ◌<◌, ◌≤◌, ◌^◌, ℕ, None, List, length, get_or, take, drop, All, AllPairs, sym, ap, subst, ◌∙◌, arith}
+use Rattle.std.proofs.Common.{◌≡◌, true, refl, ◌≢◌, ◌+◌, ◌-◌, ◌*◌, ◌<◌, ◌≤◌, ◌^◌, ℕ, None, List, length, get_or, take, drop, All, AllPairs, sym, ap, subst, ◌∙◌, arith}
 use Rattle.sg_chains.specs.Chained.{users_on}
 use Rattle.sg_maxmin.specs.Fill.{share_of}
 use Rattle.sg_maxmin.specs.Sharing.{uses_at}
 use Rattle.sg_filling.specs.declared.component.Component.{Component}
 use Rattle.sg_filling.specs.Component.{AreVisited, IsOpen, lengths}
-use Rattle.sg_filling.specs.Filling.{AreJoined, AreLeveled, KeepsOthers, bound_at, flow_in, flows_at}
+use Rattle.sg_levels.specs.Numbered.{bound_at, flow_in}
+use Rattle.sg_filling.specs.Filling.{AreJoined, flows_at}
+use Rattle.sg_filling.specs.Holds.{IsEnded}
 use Rattle.sg_filling.specs.Parts.{fill_looks}
 use Rattle.sg_filling.proofs.Apart.{first_of}
-use Rattle.sg_filling.proofs.Filled.{filled_on, rest_is, lengths_came, looks_are, part_joined, part_live, part_looks, part_twice, some_came, visited_on}
+use Rattle.sg_filling.proofs.Filled.{Leads, filled_on, lengths_came, looks_are, part_joined, part_live, part_looks, part_twice, part_used, rest_is, visited_on}
 use Rattle.sg_filling.proofs.Growing.{grows_on, stays}
 use Rattle.sg_filling.proofs.Rows.{held_below}
 use Rattle.sg_filling.proofs.by_part.fill_part.Goals as goal
@@ -32,16 +34,18 @@ fill-requires-clause-joined g c =
     let two = c.reach.ensures.spreads in
     let gt = grows_on a.touched.members b.touched.members z.touched.members one.touched two.touched in
     let gr = grows_on a.reached.members b.reached.members z.reached.members one.reached two.reached in
-    let live = part_live s c.requires.sound c.args.flow a b z c.requires.held c.requires.filled.held c.touch.ensures.least c.reach.ensures.least in
+    let leads : Leads s (λ p q. p c.args.flow ≡ true) a z = λ p q along start t r. let m = c.touch.ensures.least p q along.uses start t r in c.reach.ensures.least p q along m.0 m.1 in
+    let live = part_live s c.requires.sound (λ p q. p c.args.flow ≡ true) a z leads c.requires.held c.requires.filled.held in
+    let used = part_used s c.requires.sound (λ p q. p c.args.flow ≡ true) a z leads refl in
     let once = subst (AllPairs (λ a b. a ≢ b)) c.members.ensures.members c.members.ensures.once in
     let distinct = subst (AllPairs (λ a b. a ≢ b)) c.members-2.ensures.members c.members-2.ensures.once in
     let room : z.reached.room ≡ length s.capacities = two.reached_room ∙ one.reached_room ∙ c.requires.filled.ready.reached_room in
     let exist = subst (λ xs. All (λ x. x < length s.capacities) xs) c.members-2.ensures.members (subst (λ (n : ℕ). All (λ x. x < n) c.members-2.result.now) room c.members-2.ensures.in_range) in
-    let joined = part_joined s c.requires.sound a z c.args.filling.now c.requires.filled gt gr c.reach.ensures.closed live once distinct exist in
     let part : take (length c.members.result.now - length c.members-touched.result.now) (drop (length c.members-touched.result.now) c.members.result.now) ≡ drop (length a.touched.members) z.touched.members =
     rest_is (length c.members-touched.result.now) c.members.result.now ∙ ap (λ (xs : List ℕ). drop (length xs) c.members.result.now) c.members-touched.ensures.members ∙ ap (drop (length a.touched.members)) c.members.ensures.members in
     let resources : take (length c.members-2.result.now - length c.members-reached.result.now) (drop (length c.members-reached.result.now) c.members-2.result.now) ≡ drop (length a.reached.members) z.reached.members =
     rest_is (length c.members-reached.result.now) c.members-2.result.now ∙ ap (λ (xs : List ℕ). drop (length xs) c.members-2.result.now) c.members-reached.ensures.members ∙ ap (drop (length a.reached.members)) c.members-2.ensures.members in
+    let joined = part_joined s c.requires.sound a z c.args.filling.now c.requires.filled gt gr c.reach.ensures.closed live once distinct exist used in
     subst (λ xs. AreJoined s xs (take (length c.members-2.result.now - length c.members-reached.result.now) (drop (length c.members-reached.result.now) c.members-2.result.now))) (sym part)
     (subst (λ xs. AreJoined s (drop (length a.touched.members) z.touched.members) xs) (sym resources) joined)
 
@@ -55,22 +59,27 @@ returns-clause-filled g c =
     let two = c.reach.ensures.spreads in
     let gt = grows_on a.touched.members b.touched.members z.touched.members one.touched two.touched in
     let gr = grows_on a.reached.members b.reached.members z.reached.members one.reached two.reached in
-    let live = part_live s c.requires.sound c.args.flow a b z c.requires.held c.requires.filled.held c.touch.ensures.least c.reach.ensures.least in
+    let leads : Leads s (λ p q. p c.args.flow ≡ true) a z = λ p q along start t r. let m = c.touch.ensures.least p q along.uses start t r in c.reach.ensures.least p q along m.0 m.1 in
+    let live = part_live s c.requires.sound (λ p q. p c.args.flow ≡ true) a z leads c.requires.held c.requires.filled.held in
+    let used = part_used s c.requires.sound (λ p q. p c.args.flow ≡ true) a z leads refl in
     let once = subst (AllPairs (λ a b. a ≢ b)) c.members.ensures.members c.members.ensures.once in
     let distinct = subst (AllPairs (λ a b. a ≢ b)) c.members-2.ensures.members c.members-2.ensures.once in
+    let room : z.reached.room ≡ length s.capacities = two.reached_room ∙ one.reached_room ∙ c.requires.filled.ready.reached_room in
+    let exist = subst (λ xs. All (λ x. x < length s.capacities) xs) c.members-2.ensures.members (subst (λ (n : ℕ). All (λ x. x < n) c.members-2.result.now) room c.members-2.ensures.in_range) in
     let part : take (length c.members.result.now - length c.members-touched.result.now) (drop (length c.members-touched.result.now) c.members.result.now) ≡ drop (length a.touched.members) z.touched.members =
     rest_is (length c.members-touched.result.now) c.members.result.now ∙ ap (λ (xs : List ℕ). drop (length xs) c.members.result.now) c.members-touched.ensures.members ∙ ap (drop (length a.touched.members)) c.members.ensures.members in
+    let resources : take (length c.members-2.result.now - length c.members-reached.result.now) (drop (length c.members-reached.result.now) c.members-2.result.now) ≡ drop (length a.reached.members) z.reached.members =
+    rest_is (length c.members-reached.result.now) c.members-2.result.now ∙ ap (λ (xs : List ℕ). drop (length xs) c.members-2.result.now) c.members-reached.ensures.members ∙ ap (drop (length a.reached.members)) c.members-2.ensures.members in
     let f = c.args.filling.now in
     let f' = c.fill.new.filling in
     let ready : IsOpen s z = record {
       touched_room = omega (arith, c.requires.filled.ready.touched_room, one.touched_room, two.touched_room);
-      reached_room = two.reached_room ∙ one.reached_room ∙ c.requires.filled.ready.reached_room;
+      reached_room = room;
       covers = two.covers;
     } in
-    let kept = subst (λ xs. KeepsOthers xs f f') part c.fill.ensures.kept in
-    let leveled = subst (λ xs. AreLeveled s xs f') part c.fill.ensures.fixed in
+    let ended = subst (λ xs. IsEnded s xs (drop (length a.reached.members) z.reached.members) f f') part (subst (λ xs. IsEnded s (take (length c.members.result.now - length c.members-touched.result.now) (drop (length c.members-touched.result.now) c.members.result.now)) xs f f') resources c.fill.ensures.ended) in
     let fits = subst (λ (xs : List ℕ). (i : ℕ) → i < length xs → bound_at s.slots (get_or xs i 0) ≡ None → share_of s.capacities (flows_at s.slots xs) (flow_in s.slots (get_or xs i 0)) < 2 ^ 64) part c.fill.ensures.fits in
-    filled_on s c.requires.sound a z f c.requires.filled gt gr c.reach.ensures.closed live once distinct f' ready c.fill.ensures.places c.fill.ensures.idle kept leveled fits
+    filled_on s c.requires.sound a z f c.requires.filled gt gr c.reach.ensures.closed live once distinct f' ready exist used ended fits
 
 pub returns-clause-on : goal.returns-clause-on
 returns-clause-on g c =
@@ -82,15 +91,20 @@ returns-clause-on g c =
     let two = c.reach.ensures.spreads in
     let gt = grows_on a.touched.members b.touched.members z.touched.members one.touched two.touched in
     let gr = grows_on a.reached.members b.reached.members z.reached.members one.reached two.reached in
-    let live = part_live s c.requires.sound c.args.flow a b z c.requires.held c.requires.filled.held c.touch.ensures.least c.reach.ensures.least in
+    let leads : Leads s (λ p q. p c.args.flow ≡ true) a z = λ p q along start t r. let m = c.touch.ensures.least p q along.uses start t r in c.reach.ensures.least p q along m.0 m.1 in
+    let live = part_live s c.requires.sound (λ p q. p c.args.flow ≡ true) a z leads c.requires.held c.requires.filled.held in
+    let used = part_used s c.requires.sound (λ p q. p c.args.flow ≡ true) a z leads refl in
     let once = subst (AllPairs (λ a b. a ≢ b)) c.members.ensures.members c.members.ensures.once in
     let distinct = subst (AllPairs (λ a b. a ≢ b)) c.members-2.ensures.members c.members-2.ensures.once in
+    let room : z.reached.room ≡ length s.capacities = two.reached_room ∙ one.reached_room ∙ c.requires.filled.ready.reached_room in
+    let exist = subst (λ xs. All (λ x. x < length s.capacities) xs) c.members-2.ensures.members (subst (λ (n : ℕ). All (λ x. x < n) c.members-2.result.now) room c.members-2.ensures.in_range) in
     let part : take (length c.members.result.now - length c.members-touched.result.now) (drop (length c.members-touched.result.now) c.members.result.now) ≡ drop (length a.touched.members) z.touched.members =
     rest_is (length c.members-touched.result.now) c.members.result.now ∙ ap (λ (xs : List ℕ). drop (length xs) c.members.result.now) c.members-touched.ensures.members ∙ ap (drop (length a.touched.members)) c.members.ensures.members in
+    let resources : take (length c.members-2.result.now - length c.members-reached.result.now) (drop (length c.members-reached.result.now) c.members-2.result.now) ≡ drop (length a.reached.members) z.reached.members =
+    rest_is (length c.members-reached.result.now) c.members-2.result.now ∙ ap (λ (xs : List ℕ). drop (length xs) c.members-2.result.now) c.members-reached.ensures.members ∙ ap (drop (length a.reached.members)) c.members-2.ensures.members in
     let uses = uses_at s.slots in
     let users = users_on s.users in
     let t' = drop (length a.touched.members) z.touched.members in
-    let r' = drop (length a.reached.members) z.reached.members in
     let twice = part_twice s c.requires.sound a z c.args.filling.now c.requires.filled gt gr c.reach.ensures.closed live once distinct in
     let came = lengths_came uses a.touched.members z.touched.members gt in
     let reached = lengths_came users a.reached.members z.reached.members gr in
@@ -98,12 +112,11 @@ returns-clause-on g c =
     ap (λ (xs : List ℕ). lengths users (take (length xs) b.reached.members)) c.members-reached.ensures.members ∙ ap (lengths users) (first_of a.reached.members b.reached.members one.reached) in
     let fill = subst (λ (xs : List ℕ). c.fill.new.steps ≤ c.reach.new.steps + lengths uses xs + length xs * (3 * lengths uses xs)) part c.fill.ensures.looks in
     let most : c.fill.new.steps ≤ c.args.steps.now + 2 * lengths uses t' + lengths uses t' + length t' * (3 * lengths uses t') = omega (arith, c.touch.ensures.looks, c.reach.ensures.looks, twice, came, reached, before, fill) in
-    let some = some_came a.touched.members z.touched.members c.args.flow gt c.requires.untouched (stays c.args.flow b.touched.members z.touched.members two.touched c.touch.ensures.there) in
     record {
       touched = gt;
       reached = gr;
-      looks = subst (λ w. c.fill.new.steps + 1 + fill_looks s a ≤ c.args.steps.now + w) (sym (looks_are s c.requires.sound a z c.args.filling.now c.requires.filled gt gr c.reach.ensures.closed live once distinct))
-          (part_looks (lengths uses a.touched.members) (lengths uses t') (length a.touched.members) (length t') c.args.steps.now c.fill.new.steps some most);
+      looks = subst (λ w. c.fill.new.steps + fill_looks s a ≤ c.args.steps.now + w) (sym (looks_are s c.requires.sound a z c.args.filling.now c.requires.filled gt gr c.reach.ensures.closed live once distinct))
+          (part_looks (lengths uses a.touched.members) (lengths uses t') (length a.touched.members) (length t') c.args.steps.now c.fill.new.steps most);
     }
 
 pub returns-clause-there : goal.returns-clause-there

@@ -1,19 +1,24 @@
-use Rattle.std.proofs.Common.{◌≡◌, ℕ, zero, suc, ◌+◌, ◌*◌, ◌<◌, ◌≤◌, ◌⊎◌, inl, inr, Bool, true, false, is_none, cond, Option, None, Some, IsSome, List, [], ◌∷◌, length, get_or, sum_by, refl, sym, ap, ap₂, subst, ◌∙◌, arith}
+use Rattle.std.proofs.Common.{◌≡◌, ℕ, zero, suc, ◌+◌, ◌*◌, ◌<◌, ◌≤◌, ◌⊎◌, inl, inr, Bool, true, false, true≢false, is_none, cond, Option, None, Some, IsSome, List, [], ◌∷◌, length, get_or, sum_by, refl, sym, ap, ap₂, subst, ◌∙◌, arith}
 use Rattle.std.proofs.lemmas.List.{length-map}
 use Rattle.std.proofs.lemmas.List.Sums.{count_by-le-length, sum_by-cons}
 use Rattle.sg_base.specs.MarkSet.{is_in}
 use Rattle.sg_chains.specs.Chained.{users_on}
 use Rattle.sg_maxmin.specs.Fill.{Fixed, steps_from, unfixed, level_of}
 use Rattle.sg_maxmin.specs.Sharing.{Sharing, uses_at}
-use Rattle.sg_maxmin.proofs.Members.{In, In-map, In-flat_map, In-from_contains, contains_from_In}
+use Rattle.sg_maxmin.proofs.Members.{In, In-map, In-flat_map, In-from_contains}
 use Rattle.sg_maxmin.proofs.Leveled.{all_fixed}
 use Rattle.sg_maxmin.proofs.Proved.{level_fixed, limited_from, steps-next}
 use Rattle.sg_filling.specs.Component.{Covers, lengths}
 use Rattle.sg_filling.specs.Dates.{key_where}
-use Rattle.sg_filling.specs.Filling.{IsLeast, IsStepped, fixed_at, flow_in, flows_at, limits_at, unfixed_limits, unfixed_uses}
+use Rattle.sg_levels.specs.Numbered.{flow_in}
+use Rattle.sg_filling.specs.Filling.{IsLeast, IsStepped, fixed_at, flows_at, limits_at, unfixed_limits, unfixed_uses}
+use Rattle.sg_filling.specs.Holds.{NotesHolds}
 use Rattle.sg_filling.proofs.Floors.{floor_fewer, floor_zero}
+use Rattle.sg_filling.proofs.Growing.{at_in}
+use Rattle.sg_filling.proofs.Joined.{user_there}
 use Rattle.sg_filling.proofs.Keyed.{dated_late, idle_then}
-use Rattle.sg_filling.proofs.Rows.{in_is, into, is_in_In, rows_once}
+use Rattle.sg_filling.proofs.Noted.{above_least, noted_next, under_next}
+use Rattle.sg_filling.proofs.Rows.{in_is, into, none_some, rows_once}
 use Rattle.sg_filling.proofs.Starts.{part_limits}
 use Rattle.sg_filling.proofs.Stepped.{limits_are, next_fixed}
 use Rattle.sg_filling.proofs.Twice.{counts_twice_lem}
@@ -56,12 +61,6 @@ few_unfixed rows fixed (x ∷ xs) = omega (arith, sum_by-cons (λ id. cond (is_n
     at_most true n = omega arith
     at_most false n = omega arith
 
--- an unfixed flow's limits are at the least one or above
-above_least : (s : Sharing) (fixed : List (Option ℕ)) (levels touched : List ℕ) (low : ℕ) → IsLeast (Some low) (unfixed_limits s.slots fixed levels touched) → (id : ℕ) → is_in id touched ≡ true → fixed_at fixed id ≡ None → (x : ℕ) → In x (limits_at s.slots levels id) → low ≤ x
-above_least s fixed levels touched low least id i none x k =
-    let part : In x (cond (is_none (fixed_at fixed id)) (limits_at s.slots levels id) []) = subst (λ (o : Option ℕ). In x (cond (is_none o) (limits_at s.slots levels id) [])) (sym none) k in
-    least.1 x (contains_from_In (unfixed_limits s.slots fixed levels touched) x (In-flat_map (λ f. cond (is_none (fixed_at fixed f)) (limits_at s.slots levels f) []) touched id x (is_in_In id touched i) part))
-
 -- what is unfixed after a step was so before
 unfixed_before : (low : ℕ) (at : Type 0) (old new : Option ℕ) → IsStepped low at old new → new ≡ None → old ≡ None
 unfixed_before low at None new h e = refl
@@ -69,7 +68,32 @@ unfixed_before low at (Some x) new h e = sym h ∙ e
 
 pub loop-n-init : goal.loop-n-init
 unfolding steps_from
-loop-n-init g c = record { places = c.requires.places; kept = λ id x e. e; fixed_are = λ i h. sym (c.requires.unfixed i h); counted = c.requires.counted; levels = c.requires.levels; dated = c.requires.dated; floor = floor_zero _; looks = omega arith }
+loop-n-init g c =
+    let begun = c.requires.begun in
+    let s = c.args.system.now in
+    let f = c.args.filling.now in
+    let touched = c.args.touched.now in
+    let reached = c.args.reached.now in
+    let unfixed = λ (id : ℕ) (i : is_in id touched ≡ true). let at = at_in id touched i in subst (λ n. fixed_at f.fixed.items n ≡ None) at.2 (begun.unfixed at.0 at.1) in
+    let unnoted = λ (x : ℕ) (r : is_in x reached ≡ true). let at = at_in x reached r in subst (λ n. fixed_at f.holds.items n ≡ None) at.2 (begun.unnoted at.0 at.1) in
+    record {
+      places = c.requires.places;
+      kept = λ id x e. e;
+      holds_kept = λ x off. refl;
+      noted = λ x r. record {
+        user = λ y h. absurd (none_some (sym (unnoted x r) ∙ h));
+        met = λ y h. absurd (none_some (sym (unnoted x r) ∙ h));
+        told = λ id y i e full. absurd (none_some (sym (unfixed id (user_there s touched reached c.requires.joined x id r i)) ∙ e));
+        done = λ some id i. absurd (true≢false (sym (subst IsSome (unnoted x r) some)));
+      };
+      under = λ id x limit i e k. absurd (none_some (sym (unfixed id i) ∙ e));
+      fixed_are = λ i h. sym (begun.unfixed i h);
+      counted = begun.counted;
+      levels = begun.levels;
+      dated = begun.dated;
+      floor = floor_zero _;
+      looks = omega arith;
+    }
 
 pub step-requires-clause-above : goal.step-requires-clause-above
 step-requires-clause-above g c = λ id i none x k.
@@ -94,12 +118,20 @@ loop-n-preserved g c =
     let next = next_fixed s old touched (steps_from c.loop-n.n s.capacities flows unfixed) (λ f i. rows_once s joined.part.sound f)
     (of_each (λ f. steps_from c.loop-n.n s.capacities flows unfixed (flow_in s.slots f) ≡ fixed_at old f) touched inv.fixed_are) f.left.items f.waiting.items levels (λ x. is_in x reached) inv.counted
     inv.levels (covers_in (uses_at s.slots) touched reached joined.closed.covers) new.fixed.items low c.in-Some.ensures.0 stepped in
+    let state = steps_from c.loop-n.n s.capacities flows unfixed in
+    let are = of_each (λ f. state (flow_in s.slots f) ≡ fixed_at old f) touched inv.fixed_are in
+    let counted = c.step.ensures.count.counted (λ x. is_in x reached) inv.counted in
+    let told = c.step.ensures.noted in
+    let notes : NotesHolds reached low f new = record { others = told.others; may = told.may; taken = told.taken } in
     let twice = counts_twice_lem (uses_at s.slots) (users_on s.users) touched reached joined.part.sound.both joined.distinct joined.closed.covered in
     record {
       places = c.step.ensures.places;
       kept = λ id x e. c.step.ensures.kept id x (inv.kept id x e);
+      holds_kept = λ x off. told.others x off ∙ inv.holds_kept x off;
+      noted = noted_next s touched reached joined f new low state are inv.counted inv.levels c.in-Some.ensures.0 stepped inv.under inv.noted notes;
+      under = under_next s touched reached joined f new low state are inv.counted inv.levels c.in-Some.ensures.0 stepped inv.under next counted c.step.ensures.levels;
       fixed_are = λ i h. ap (λ (k : Fixed). k (flow_in s.slots (get_or touched i 0))) (steps-next c.loop-n.n s.capacities flows unfixed) ∙ next (get_or touched i 0) (in_index touched i h);
-      counted = c.step.ensures.count.counted (λ x. is_in x reached) inv.counted;
+      counted = counted;
       levels = c.step.ensures.levels;
       dated = c.step.ensures.dated;
       floor = floor_fewer c.in-Some.low.floor s old new.fixed.items touched (λ f i e. unfixed_before low (IsLeast (Some low) (limits_at s.slots levels f)) (fixed_at old f) (fixed_at new.fixed.items f) (stepped f i) e) c.in-Some.ensures.1;

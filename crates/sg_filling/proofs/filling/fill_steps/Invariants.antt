@@ -4,13 +4,18 @@ use Rattle.sg_maxmin.specs.Fill.{steps_from, unfixed}
 use Rattle.sg_maxmin.specs.Sharing.{uses_at}
 use Rattle.sg_filling.specs.Component.{lengths}
 use Rattle.sg_filling.specs.Dates.{AreDated}
-use Rattle.sg_filling.specs.Filling.{AreCounted, AreLevels, HasPlaces, IsFloor, KeepsFixed, fixed_at, flow_in, flows_at, unfixed_bounds}
+use Rattle.sg_levels.specs.Numbered.{flow_in}
+use Rattle.sg_filling.specs.Filling.{AreCounted, AreLevels, HasPlaces, IsFloor, KeepsFixed, KeepsHolds, fixed_at, flows_at, unfixed_bounds}
+use Rattle.sg_filling.specs.Holds.{AreNoted, AreUnder}
 use Rattle.sg_filling.proofs.filling.fill_steps.Given as goal
 
 abbrev pub invariant-loop-n : goal.invariant-loop-n
 invariant-loop-n g l = record {
   places : HasPlaces l.system l.filling;
   kept : KeepsFixed l.fn.filling l.filling;
+  holds_kept : KeepsHolds l.reached l.fn.filling l.filling;
+  noted : AreNoted l.system l.reached l.filling;
+  under : AreUnder l.system l.touched l.filling;
   fixed_are : (i : ℕ) → i < length l.touched → steps_from l.n l.system.capacities (flows_at l.system.slots l.touched) unfixed (flow_in l.system.slots (slice_index l.touched i)) ≡ fixed_at l.filling.fixed.items (slice_index l.touched i);
   counted : AreCounted l.system l.filling.fixed.items l.touched l.filling.left.items l.filling.waiting.items (λ c. is_in c l.reached);
   levels : AreLevels l.reached l.filling;

@@ -4,7 +4,7 @@ use Rattle.std.proofs.lemmas.List.Elements.{All-get_or, All-from_get_or}
 use Rattle.sg_chains.specs.Chained.{times}
 use Rattle.sg_maxmin.specs.Fill.{share_at}
 use Rattle.sg_maxmin.specs.Sharing.{uses_at}
-use Rattle.sg_filling.specs.Filling.{flow_in, weight_at}
+use Rattle.sg_levels.specs.Numbered.{flow_in, weight_at}
 use Rattle.sg_filling.proofs.Rows.{rows_exist}
 use Rattle.sg_filling.proofs.filling.fix.Goals as goal
 

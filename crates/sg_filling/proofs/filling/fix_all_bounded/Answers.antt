@@ -1,4 +1,4 @@
-use Rattle.std.proofs.Common.{◌≡◌, zero, suc, inl, inr, Option, List, ◌<◌, ℕ, true, IsSome, Some, None, length, [], ◌∷◌, get_or, below_more, refl, sym, subst, arith}
+use Rattle.std.proofs.Common.{◌≡◌, ◌∙◌, zero, suc, inl, inr, Option, List, ◌<◌, ℕ, true, IsSome, Some, None, length, [], ◌∷◌, get_or, below_more, refl, sym, subst, arith}
 use Rattle.sg_base.specs.MarkSet.{is_in}
 use Rattle.sg_filling.specs.Filling.{IsLeast, fixed_at, limits_at}
 use Rattle.sg_filling.proofs.Growing.{in_at}
@@ -19,6 +19,7 @@ in_index (x ∷ xs) (suc i) h = inr (in_index xs i (omega arith))
 pub loop-flow-init : goal.loop-flow-init
 loop-flow-init g c = record {
   partly = partly_same c.args.system.now c.args.low c.args.filling.now c.requires.places;
+  holds = refl;
   bounds = λ i h. absurd (omega (arith, h));
   count = count_same c.args.system.now c.args.touched.now c.args.filling.now c.args.steps.now;
 }
@@ -46,6 +47,7 @@ loop-flow-preserved g c =
     let b = out.count touched c.requires.once (in_at f touched k c.loop-flow-test.true refl) in
     record {
       partly = partly_on s c.args.low first old new inv.partly out.partly;
+      holds = out.holds ∙ inv.holds;
       bounds = below_more _ _
           (λ i h e. let id = get_or touched i 0 in some_stays c.args.low (IsLeast (Some c.args.low) (limits_at s.slots old.levels.items id)) (fixed_at old.fixed.items id) (fixed_at new.fixed.items id) (out.partly.flows id) (inv.bounds i h e))
           out.done;

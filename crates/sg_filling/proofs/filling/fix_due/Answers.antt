@@ -1,19 +1,24 @@
-use Rattle.std.proofs.Common.{◌≡◌, ◌<◌, inl, inr, None, List, Option, length, get_or, set, get_or-set_same, get_or-set_other, refl, sym, ap, subst, ◌∙◌, arith}
+use Rattle.std.proofs.Common.{◌≡◌, ◌<◌, ℕ, true≢false, inl, inr, None, Some, List, Option, length, get_or, set, get_or-set_same, get_or-set_other, refl, sym, ap, subst, ◌∙◌, arith}
 use Rattle.sg_chains.specs.Chained.{users_on}
 use Rattle.sg_heap.specs.Agenda.{Key, key_at}
 use Rattle.sg_filling.specs.declared.filling.Filling.{Filling}
-use Rattle.sg_filling.specs.Filling.{AreFixed, StepsPartly}
+use Rattle.sg_base.specs.MarkSet.{is_in}
+use Rattle.sg_filling.specs.Filling.{AreFixed, StepsPartly, fixed_at}
+use Rattle.sg_filling.specs.Holds.{MayHold, noted_at}
 use Rattle.sg_filling.proofs.Growing.{in_at}
 use Rattle.sg_filling.proofs.Listing.{eq_cases, some_of}
 use Rattle.sg_filling.proofs.Rows.{into}
 use Rattle.sg_filling.proofs.Fixing.{above_still, fixed_stay, partly_on, partly_same}
 use Rattle.sg_filling.proofs.Keyed.{are_right, has_key, key_is, key_left, key_within, keyed, keyed_few, keyed_less, nobody_waits, none_of, partly_cleared}
+use Rattle.sg_filling.proofs.Notes.{may_keep, may_on, noted_here, noted_may, noted_other}
 use Rattle.sg_filling.proofs.filling.fix_due.Goals as goal
 
 pub loop-c-init : goal.loop-c-init
 loop-c-init g c = record {
   partly = partly_same c.args.system.now c.args.low c.args.filling.now c.requires.places;
   keys = λ n. inl refl;
+  others = λ n off. refl;
+  may = λ n. inl refl;
   counted = λ reached h. h;
   looks = omega (arith, keyed_few (users_on c.args.system.now.users) c.args.filling.now.agenda c.args.reached.now);
 }
@@ -45,25 +50,33 @@ loop-c-preserved g c =
     let below : n < length f.agenda = key_within f.agenda n c.in-Some.ensures.first in
     let out = c.fix_on.ensures in
     let mid : Filling = c.fix_on.new.filling in
-    let new : Filling = record { fixed = mid.fixed; left = mid.left; waiting = mid.waiting; levels = mid.levels; stale = c.insert.new.self; agenda = c.clear.new.self } in
+    let new : Filling = record { fixed = mid.fixed; holds = mid.holds; left = mid.left; waiting = mid.waiting; levels = mid.levels; stale = c.insert.new.self; agenda = c.clear.new.self } in
     let agenda : c.clear.new.self ≡ set f.agenda n None = c.clear.ensures ∙ ap (λ (ks : List (Option Key)). set ks n None) out.agenda in
-    let cleared : StepsPartly s low mid new = partly_cleared s low n mid new out.partly.places (omega (arith, below, ap length out.agenda)) refl refl refl refl c.insert.ensures c.clear.ensures in
+    let cleared : StepsPartly s low mid new = partly_cleared s low n mid new out.partly.places (omega (arith, below, ap length out.agenda)) refl refl refl refl refl c.insert.ensures c.clear.ensures in
     let p = partly_on s low f mid new out.partly cleared in
+    let held : n < length f.holds.items = omega (arith, below, inv.partly.places.slots, inv.partly.places.holds_len) in
+    let level = λ (x : ℕ). ap (λ xs. get_or xs x 0) inv.partly.levels in
+    let noted = λ (x : ℕ). ap (λ hs. fixed_at hs x) out.noted in
+    let next = λ (x : ℕ). subst (λ o. MayHold low (get_or first.levels.items x 0) (fixed_at f.holds.items x) o) (sym (noted x)) (subst (λ y. MayHold low y (fixed_at f.holds.items x) (fixed_at (noted_at low n f) x)) (level x) (noted_may low n f held x)) in
     let b = out.count touched c.requires.joined.once (c.requires.joined.closed.covered n its.0) in
     record {
       partly = partly_on s low first f new inv.partly p;
       keys = λ x. elim (eq_cases x n) [
         | inl e ↦ inr (
           ap (λ (ks : List (Option Key)). key_at ks x) agenda ∙ ap (key_at (set f.agenda n None)) e ∙ get_or-set_same f.agenda n None None below,
-          λ at. subst (λ m. AreFixed (rows m) mid) (sym e) (out.done (ap (λ xs. get_or xs n 0) inv.partly.levels ∙ ap (λ m. get_or first.levels.items m 0) (sym e) ∙ at)),
+          λ at.
+              let here = ap (λ xs. get_or xs n 0) inv.partly.levels ∙ ap (λ m. get_or first.levels.items m 0) (sym e) ∙ at in
+              subst (λ m. AreFixed (rows m) mid × (fixed_at mid.holds.items m ≡ Some low)) (sym e) (out.done here, noted n ∙ noted_here low n f held here),
         )
         | inr ne ↦
             let same : key_at c.clear.new.self x ≡ key_at f.agenda x = ap (λ (ks : List (Option Key)). key_at ks x) agenda ∙ get_or-set_other f.agenda n x None None ne in
             elim (inv.keys x) [
               | inl k ↦ inl (same ∙ k)
-              | inr k ↦ inr (same ∙ k.0, λ at. fixed_stay s low (rows x) f new p (k.1 at))
+              | inr k ↦ inr (same ∙ k.0, λ at. (fixed_stay s low (rows x) f new p (k.1 at).0, may_keep low (get_or first.levels.items x 0) (fixed_at f.holds.items x) (fixed_at mid.holds.items x) (next x) (k.1 at).1))
             ]
       ];
+      others = λ x off. noted x ∙ noted_other low n f held x (λ e. true≢false (sym (ap (λ m. is_in m reached) e ∙ its.0) ∙ off)) ∙ inv.others x off;
+      may = λ x. may_on low (get_or first.levels.items x 0) (fixed_at first.holds.items x) (fixed_at f.holds.items x) (fixed_at mid.holds.items x) (inv.may x) (next x);
       counted = λ r h. b.counted r (inv.counted r h);
       looks = omega (arith, inv.looks, b.looks, keyed_less rows f.agenda reached n key.0 c.requires.joined.distinct its.0 below key.1, ap (λ (ks : List (Option Key)). keyed rows ks reached) agenda);
     }
@@ -84,6 +97,23 @@ returns-clause-on g c = λ i h e.
       | inr some ↦
           elim (inv.keys n) [
             | inl same ↦ absurd (omega (arith, later n (record { date = get_or first.levels.items n 0; serial = 0 }) (same ∙ has_key reached first c.requires.dated.quiet (are_right reached first c.requires.dated c.requires.keys) n some), e))
-            | inr gone ↦ gone.1 e
+            | inr gone ↦ (gone.1 e).0
           ]
     ]
+
+pub returns-clause-noted : goal.returns-clause-noted
+returns-clause-noted g c =
+    let reached = c.args.reached.now in
+    let first = c.args.filling.now in
+    let inv = c.loop-c.invariant in
+    let later = none_of c.due.result c.in_default.not-Some c.due.ensures.none in
+    record {
+      others = inv.others;
+      may = inv.may;
+      taken = λ n r e pos.
+          let some : get_or first.waiting.items n 0 ≡ 0 → ⊥ = λ z. omega (arith, z, pos) in
+          elim (inv.keys n) [
+            | inl same ↦ absurd (omega (arith, later n (record { date = get_or first.levels.items n 0; serial = 0 }) (same ∙ has_key reached first c.requires.dated.quiet (are_right reached first c.requires.dated c.requires.keys) n some), e))
+            | inr gone ↦ (gone.1 e).1
+          ];
+    }

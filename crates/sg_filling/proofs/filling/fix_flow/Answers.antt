@@ -3,7 +3,8 @@ use Rattle.sg_base.specs.MarkSet.{is_in}
 use Rattle.sg_heap.specs.Agenda.{key_at}
 use Rattle.sg_maxmin.specs.Fill.{share_at}
 use Rattle.sg_maxmin.specs.Sharing.{uses_at}
-use Rattle.sg_filling.specs.Filling.{AreCounted, IsLeast, MayStep, fixed_at, flow_in, limits_at, unfixed_uses, weight_at}
+use Rattle.sg_levels.specs.Numbered.{flow_in, weight_at}
+use Rattle.sg_filling.specs.Filling.{AreCounted, IsLeast, MayStep, fixed_at, limits_at, unfixed_uses}
 use Rattle.sg_filling.proofs.Growing.{stays}
 use Rattle.sg_filling.proofs.Listing.{bool_cases}
 use Rattle.sg_filling.proofs.Rows.{any_default, held_below, is_in_In}

@@ -18,6 +18,7 @@ loop-at-init g c =
         walk = walk_from next_on user_of s.uses (users_on s.users c.args.resource) c.first_on-at.result c.first_on-at.ensures.leads c.first_on-at.ensures.few;
         partly = partly_same s c.args.low c.args.filling.now c.requires.places;
         agenda = refl;
+        holds = refl;
         done = λ i h. absurd (omega (arith, h));
         count = λ touched once there. record { counted = λ reached h. h; looks = omega arith };
       },
@@ -73,6 +74,7 @@ loop-at-preserved g c =
         walk = walk_on next_on user_of s.uses row k c.loop-at.at inv.1.walk c.in-Some.i c.look-one.result c.in-Some.is c.look-one.ensures.there;
         partly = partly_on s c.args.low first old new inv.1.partly out.partly;
         agenda = out.agenda ∙ inv.1.agenda;
+        holds = out.holds ∙ inv.1.holds;
         done = λ i h. below_more _ _
             (λ i h. let id = get_or row i 0 in some_stays c.args.low (IsLeast (Some c.args.low) (limits_at s.slots old.levels.items id)) (fixed_at old.fixed.items id) (fixed_at new.fixed.items id) (out.partly.flows id) (inv.1.done i h))
             (subst (λ n. IsSome (fixed_at new.fixed.items n)) r.is out.done) i (omega (arith, h));

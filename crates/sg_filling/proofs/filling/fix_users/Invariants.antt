@@ -11,6 +11,7 @@ invariant-loop-at g l = (k : ℕ) × record {
   walk : IsWalk next_on user_of l.system.uses (users_on l.system.users l.resource) k l.at;
   partly : StepsPartly l.system l.low l.fn.filling l.filling;
   agenda : l.filling.agenda ≡ l.fn.filling.agenda;
+  holds : l.filling.holds.items ≡ l.fn.filling.holds.items;
   done : (i : ℕ) → i < k → IsSome (fixed_at l.filling.fixed.items (slice_index (users_on l.system.users l.resource) i));
   count : (touched : List ℕ) → AllPairs (λ a b. a ≢ b) touched → AreIn (users_on l.system.users l.resource) touched → KeepsCount l.system touched l.fn.filling l.filling (l.fn.steps + k) l.steps;
 }

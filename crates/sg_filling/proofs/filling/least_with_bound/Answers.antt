@@ -1,6 +1,7 @@
 use Rattle.std.proofs.Common.{◌≡◌, ◌++◌, ℕ, Option, Some, option_map, option_to_list, sym, ap, subst, ◌∙◌, arith}
 use Rattle.sg_maxmin.specs.Fill.{bound_level}
-use Rattle.sg_filling.specs.Filling.{IsLeast, bound_at, bound_limit, least_with}
+use Rattle.sg_levels.specs.Numbered.{bound_at}
+use Rattle.sg_filling.specs.Filling.{IsLeast, bound_limit, least_with}
 use Rattle.sg_filling.proofs.Rows.{bound_is, weighs, weight_is}
 use Rattle.sg_filling.proofs.Walked.{least_push}
 use Rattle.sg_filling.proofs.filling.least_with_bound.Goals as goal

@@ -4,6 +4,7 @@ use Rattle.sg_filling.proofs.Listing.{bool_cases}
 use Rattle.sg_filling.specs.Filling.{IsLeast, fixed_at, limits_at}
 use Rattle.sg_filling.proofs.Fixing.{count_kept, level_stays}
 use Rattle.sg_filling.proofs.Keyed.{dated_on}
+use Rattle.sg_filling.proofs.Notes.{notes_kept}
 use Rattle.sg_filling.proofs.filling.step.Goals as goal
 
 pub returns-clause-stepped : goal.returns-clause-stepped
@@ -37,3 +38,6 @@ returns-clause-kept g c = λ id x e.
 pub returns-clause-dated : goal.returns-clause-dated
 returns-clause-dated g c =
     dated_on c.args.system.now c.args.low.level c.args.reached.now c.args.filling.now c.fix_all.new.filling c.renew.new.filling c.requires.dated c.fix_all.ensures.partly c.renew.ensures.kept.2 c.renew.ensures.others c.renew.ensures.dated
+
+pub returns-clause-noted : goal.returns-clause-noted
+returns-clause-noted g c = notes_kept c.args.reached.now c.args.low.level c.args.filling.now c.fix_all.new.filling c.renew.new.filling c.fix_all.ensures.noted c.renew.ensures.kept.3

@@ -5,7 +5,7 @@ use Rattle.sg_maxmin.specs.Sharing.{uses_at}
 use Rattle.sg_chains.specs.Walk.{next_of_flow, resource_of}
 use Rattle.sg_levels.proofs.Walked.{can_look, looked, walk_on, nearer, walked}
 use Rattle.sg_maxmin.specs.Fill.{bounded, share_at}
-use Rattle.sg_filling.specs.Filling.{weight_at}
+use Rattle.sg_levels.specs.Numbered.{weight_at}
 use Rattle.sg_filling.proofs.Rows.{bound_is, take_all, weight_is}
 use Rattle.sg_filling.proofs.Walked.{take_off}
 use Rattle.sg_filling.proofs.filling.take_uses.Goals as goal

@@ -8,7 +8,8 @@ use Rattle.sg_maxmin.specs.Sharing.{uses_at, flow_at}
 use Rattle.sg_filling.specs.declared.component.Component.{Component}
 use Rattle.sg_filling.specs.Component.{AllPass, AreIn, MarksRows, PassAlong, StaysWithin, lengths}
 use Rattle.sg_lazy.specs.kept.Changes.{WritesRates}
-use Rattle.sg_filling.specs.Filling.{flow_in, flows_at, given_at}
+use Rattle.sg_filling.specs.Filling.{flows_at, given_at}
+use Rattle.sg_levels.specs.Numbered.{flow_in}
 use Rattle.sg_lazy.specs.kept.Held.{IsWithout}
 use Rattle.sg_filling.proofs.Growing.{at_in, in_at, stays}
 use Rattle.sg_lazy.proofs.Looks.{touched_joined, within_work}
@@ -54,8 +55,10 @@ fill_marked-requires-clause-filled g c =
         covered = λ x h. absurd (true≢false (sym h ∙ ap (is_in x) no_resource));
       };
       held = λ id h. absurd (true≢false (sym h ∙ ap (is_in id) no_flow));
+      exist = subst (All (λ x. x < length t.capacities)) (sym no_resource) (λ k d less. absurd (omega (arith, less)));
       places = record {
         fixed_len = omega (arith, room.places.fixed_len, without.slots_len);
+        holds_len = omega (arith, room.places.holds_len, caps);
         left_len = omega (arith, room.places.left_len, caps);
         waiting_len = omega (arith, room.places.waiting_len, caps);
         levels_len = omega (arith, room.places.levels_len, caps);
@@ -64,6 +67,8 @@ fill_marked-requires-clause-filled g c =
       };
       idle = room.idle;
       shares = λ id h. absurd (true≢false (sym h ∙ ap (is_in id) no_flow));
+      levels = λ id h. absurd (true≢false (sym h ∙ ap (is_in id) no_flow));
+      holds = λ x h. absurd (true≢false (sym h ∙ ap (is_in x) no_resource));
     }
 
 pub fill_on_all-requires-clause-resources : goal.fill_on_all-requires-clause-resources
@@ -155,6 +160,6 @@ returns-clause-looks g c =
     let least1 = subst (λ (xs : List ℕ). (p q : ℕ → Bool) → PassAlong t p q → ((id : ℕ) → is_in id xs ≡ true → is_in id ended ≡ false → p id ≡ true) → StaysWithin p q a b) c.members-3.ensures.members c.fill_marked.ensures.least in
     let least2 = subst (λ (xs : List ℕ). (p q : ℕ → Bool) → PassAlong t p q → AllPass q xs → StaysWithin p q b z) c.members-4.ensures.members c.fill_on_all.ensures.least in
     let joined = touched_joined s t rates began marked ended resources without c.is_sound.ensures c.requires.lazy.ended_are c.requires.lazy.marked_are c.args.pending.now.resources c.reach_ended.new.reached a b z refl marks no_flow no_resource least1 least2 in
-    let paid : (xs : List ℕ) → xs ≡ [] → length xs + 3 * lengths (uses_at t.slots) xs + length xs * (3 * lengths (uses_at t.slots) xs) ≡ 0 = (λ xs e. ap (λ xs. length xs + 3 * lengths (uses_at t.slots) xs + length xs * (3 * lengths (uses_at t.slots) xs)) e) in
+    let paid : (xs : List ℕ) → xs ≡ [] → 3 * lengths (uses_at t.slots) xs + length xs * (3 * lengths (uses_at t.slots) xs) ≡ 0 = (λ xs e. ap (λ xs. 3 * lengths (uses_at t.slots) xs + length xs * (3 * lengths (uses_at t.slots) xs)) e) in
     within_work s t rates began marked ended resources without c.is_sound.ensures c.requires.lazy.ended_are touched once joined c.args.steps.now c.fill_on_all.new.steps
     (omega (arith, c.reach_ended.ensures.looks, ap (lengths (uses_at s.slots)) c.members.ensures.members, c.fill_marked.ensures.on.looks, paid a.touched.members no_flow, c.fill_on_all.ensures.on.looks))

@@ -1,6 +1,7 @@
 use Rattle.std.proofs.Common.{◌≡◌, ◌*◌, ◌^◌, ◌<◌, None, sym, ap, subst, ◌∙◌}
 use Rattle.sg_maxmin.specs.Fill.{bounded, share_at}
-use Rattle.sg_filling.specs.Filling.{bound_at, flow_in, given, given_at, weight_at}
+use Rattle.sg_filling.specs.Filling.{given, given_at}
+use Rattle.sg_levels.specs.Numbered.{bound_at, flow_in, weight_at}
 use Rattle.sg_filling.proofs.Rows.{bound_is, weight_is}
 use Rattle.sg_lazy.proofs.writing.share.Goals as goal
 

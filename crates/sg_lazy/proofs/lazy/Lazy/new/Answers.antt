@@ -20,6 +20,7 @@ invariant_of-result c =
         reached = omega (arith, c.in_ok-component.ensures, caps);
         places = record {
           fixed_len = omega (arith, none);
+          holds_len = omega (arith, places.holds_len, caps);
           left_len = omega (arith, places.left_len, caps);
           waiting_len = omega (arith, places.waiting_len, caps);
           levels_len = omega (arith, places.levels_len, caps);

@@ -30,6 +30,7 @@ invariant_of-self-2 c =
         reached = omega (arith, inv.1.reached, caps);
         places = record {
           fixed_len = omega (arith, n, c.in_ok-grow_rows.ensures.room.1);
+          holds_len = omega (arith, inv.1.places.holds_len, caps);
           left_len = omega (arith, inv.1.places.left_len, caps);
           waiting_len = omega (arith, inv.1.places.waiting_len, caps);
           levels_len = omega (arith, inv.1.places.levels_len, caps);

@@ -1,0 +1,57 @@
+-- At which level a filling takes each resource: there it holds its flows.
+use Rattle.std.specs.Prelude.{◌≡◌, ℕ, ◌<◌, ◌==◌, ◌⊎◌, true, Option, None, Some, IsSome, if◌then◌else◌, List, Contains, length, slice_index, slice_set}
+use Rattle.sg_base.specs.MarkSet.{is_in}
+use Rattle.sg_chains.specs.Chained.{users_on}
+use Rattle.sg_maxmin.specs.Fill.{Flow}
+use Rattle.sg_maxmin.specs.Sharing.{Sharing}
+use Rattle.sg_levels.specs.Numbered.{below_at, row_level}
+use Rattle.sg_filling.specs.declared.filling.Filling.{Filling}
+use Rattle.sg_filling.specs.Dates.{AreDated, IsIdle}
+use Rattle.sg_filling.specs.Filling.{AreCounted, AreLeveled, AreLevels, HasPlaces, KeepsHolds, KeepsOthers, fixed_at, unfixed_limits}
+
+-- a resource is noted where it is at this level
+abbrev pub noted_at : ℕ → ℕ → Filling → List (Option ℕ)
+noted_at low resource filling = if slice_index filling.levels.items resource == low then slice_set filling.holds.items resource (Some low) else filling.holds.items
+
+-- What is noted of a resource: just the level of a flow on it at which it is with the flows of lower levels fixed. Once it is noted all its flows are fixed.
+pub record IsNoted (capacity : ℕ) (slots : List (Option Flow)) (fixed : List (Option ℕ)) (row : List ℕ) (hold : Option ℕ) : Type 0 where
+  pub user : (x : ℕ) → hold ≡ Some x → (id : ℕ) × (is_in id row ≡ true) × (fixed_at fixed id ≡ Some x)
+  pub met : (x : ℕ) → hold ≡ Some x → row_level capacity slots (below_at fixed x) row ≡ x
+  pub told : (id x : ℕ) → is_in id row ≡ true → fixed_at fixed id ≡ Some x → row_level capacity slots (below_at fixed x) row ≡ x → hold ≡ Some x
+  pub done : IsSome hold → (id : ℕ) → is_in id row ≡ true → IsSome (fixed_at fixed id)
+
+abbrev pub AreNoted : Sharing → List ℕ → Filling → Type 0
+AreNoted s reached filling = (c : ℕ) → is_in c reached ≡ true → IsNoted (slice_index s.capacities c) s.slots filling.fixed.items (users_on s.users c) (fixed_at filling.holds.items c)
+
+-- each fixed flow has a lower level than all that limits the unfixed ones
+abbrev pub AreUnder : Sharing → List ℕ → Filling → Type 0
+AreUnder s touched filling =
+    (id x limit : ℕ) → is_in id touched ≡ true → fixed_at filling.fixed.items id ≡ Some x →
+    Contains (unfixed_limits s.slots filling.fixed.items filling.levels.items touched) limit → x < limit
+
+-- a resource is noted at this level only where it is there
+abbrev pub MayHold : ℕ → ℕ → Option ℕ → Option ℕ → Type 0
+MayHold low level before after = (after ≡ before) ⊎ ((level ≡ low) × (after ≡ Some low))
+
+-- a part of a step: of the reached resources those at this level are noted, where a flow waits there, and no others
+pub record NotesHolds (reached : List ℕ) (low : ℕ) (old new : Filling) : Type 0 where
+  pub others : KeepsHolds reached old new
+  pub may : (c : ℕ) → MayHold low (slice_index old.levels.items c) (fixed_at old.holds.items c) (fixed_at new.holds.items c)
+  pub taken : (c : ℕ) → is_in c reached ≡ true → slice_index old.levels.items c ≡ low → 0 < slice_index old.waiting.items c → fixed_at new.holds.items c ≡ Some low
+
+-- a filling begins: no touched flow is fixed, and no reached resource is noted
+pub record IsBegun (s : Sharing) (touched reached : List ℕ) (filling : Filling) : Type 0 where
+  pub unfixed : (i : ℕ) → i < length touched → fixed_at filling.fixed.items (slice_index touched i) ≡ None
+  pub unnoted : (i : ℕ) → i < length reached → fixed_at filling.holds.items (slice_index reached i) ≡ None
+  pub counted : AreCounted s filling.fixed.items touched filling.left.items filling.waiting.items (λ c. is_in c reached)
+  pub levels : AreLevels reached filling
+  pub dated : AreDated reached filling
+
+-- and has ended: each touched flow has its level, and each reached resource is noted
+pub record IsEnded (s : Sharing) (touched reached : List ℕ) (old new : Filling) : Type 0 where
+  pub places : HasPlaces s new
+  pub idle : IsIdle new
+  pub kept : KeepsOthers touched old new
+  pub holds_kept : KeepsHolds reached old new
+  pub fixed : AreLeveled s touched new
+  pub noted : AreNoted s reached new
