@@ -1,6 +1,6 @@
 //! A set of numbers below a room, in the order in which they came.
 
-ghost use Rattle.std.specs.Prelude.{◌≡◌, ◌≢◌, ◌≤◌, ◌<◌, ◌+◌, OnOk, OnErr, [], length, max, AllPairs, All};
+ghost use Rattle.std.specs.Prelude.{◌≡◌, ◌≢◌, ◌≤◌, ◌<◌, ◌+◌, ℕ, false, OnOk, OnErr, [], length, max, AllPairs, All};
 ghost use Rattle.sg_base.specs.MarkSet.{with_mark, is_in};
 
 use crate::memory::Memory;
@@ -76,6 +76,26 @@ impl Marks {
             self.order[last] = number;
             self.place[number] = last;
             self.count = last + 1;
+        }
+    }
+
+    /// Makes the number no member: the last one takes its place.
+    pub fn remove(&mut self, number: usize)
+        requires { number < self.old.room }
+        ensures gone { is_in number self.new.members ≡ false }
+        ensures others { (other : ℕ) → other ≢ number
+            → is_in other self.new.members ≡ is_in other self.old.members }
+        ensures room { self.new.room ≡ self.old.room }
+    {
+        let at = self.place[number];
+        if at < self.count {
+            let last = self.count - 1;
+            let other = self.order[last];
+            self.order[at] = other;
+            self.place[other] = at;
+            self.order[last] = number;
+            self.place[number] = last;
+            self.count = last;
         }
     }
 
