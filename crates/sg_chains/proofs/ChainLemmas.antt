@@ -1,5 +1,5 @@
 -- Chains of uses.
-use Rattle.std.proofs.Common.{◌≡◌, ◌≢◌, ℕ, zero, suc, ◌+◌, ◌-◌, ◌*◌, ◌<◌, ◌≤◌, ◌==◌, ◌⊎◌, inl, inr, cond, Bool, true, false, le_trans, Option, None, Some, is_some, option_map, List, [], ◌∷◌, length, count_by, replicate, get_or, set, get_or-set_other, drop, drop-cons, refl, sym, ap, ap₂, subst, ◌∙◌, arith}
+use Rattle.std.proofs.Common.{◌≡◌, ◌≢◌, ℕ, zero, suc, ◌+◌, ◌-◌, ◌<◌, ◌≤◌, ◌==◌, ◌⊎◌, inl, inr, cond, Bool, true, false, le_trans, Option, None, Some, is_some, option_map, List, [], ◌∷◌, length, count_by, replicate, get_or, set, get_or-set_other, drop, drop-cons, refl, sym, ap, ap₂, subst, ◌∙◌, arith}
 use Rattle.std.proofs.lemmas.List.Sums.{sum_by-set, sum_by-cons, count_by-le-length}
 use Rattle.sg_chains.specs.declared.uses.Use.{Use}
 use Rattle.sg_chains.specs.Chain.{IsChain, IsSameChain, KeepsChains, resources, resource_at, next_at, IsOf}

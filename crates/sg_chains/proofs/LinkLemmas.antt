@@ -1,10 +1,11 @@
 -- A slot comes in front, or goes away.
-use Rattle.std.proofs.Common.{◌≡◌, ◌≢◌, ℕ, zero, suc, ◌+◌, ◌⊎◌, inl, inr, true, false, true≢false, cond, ◌==◌, Option, None, Some, is_some, option_map, set, map, length, count_by, ◌<◌, ◌≤◌, le_trans, get_or-set_same, get_or-set_other, length-set, List, [], ◌∷◌, ◌++◌, get_or, replicate, refl, sym, ap, ap₂, subst, ◌∙◌, arith}
+use Rattle.std.proofs.Common.{◌≡◌, ◌≢◌, ℕ, zero, suc, ◌+◌, ◌⊎◌, inl, inr, true, true≢false, cond, ◌==◌, Option, None, Some, is_some, option_map, set, map, length, count_by, ◌<◌, ◌≤◌, le_trans, get_or-set_same, get_or-set_other, length-set, List, [], ◌∷◌, ◌++◌, get_or, replicate, refl, sym, ap, ap₂, subst, ◌∙◌, arith}
 use Rattle.std.proofs.lemmas.List.{get_or_past, length-map}
 use Rattle.sg_chains.specs.declared.uses.Use.{Use}
 use Rattle.sg_chains.specs.Walk.{Leads, next_on, resource_of, user_of}
 use Rattle.std.proofs.lemmas.List.Sums.{sum_by-set, sum_by-cons, count_by-le-length}
 use Rattle.sg_chains.specs.Chained.{times, users_on, GainsUses}
+use Rattle.sg_chains.specs.kept.Cells.{IsSmall, nothing}
 use Rattle.sg_chains.specs.kept.Linked.{next_of, IsBehind, Linked, last_of, first_of, In, Distinct, with_prev, with_next, PointsFrom, IsList, AreLists, flow_in, user_in, use_of, uses_of, flow_part, SameBut, walked, users_of, GainsOne, LosesOne, AreGained}
 use Rattle.sg_chains.specs.declared.slots.Slot.{Slot}
 
@@ -631,3 +632,17 @@ none_push [] none zero = refl
 none_push [] none (suc c) = refl
 none_push (o ∷ on) none zero = none 0
 none_push (o ∷ on) none (suc c) = none_push on (λ k. none (suc k)) c
+
+-- what leads to the first slot on a resource has a code
+pub head_small : (slots : List (Option Slot)) (on : List (Option ℕ)) (resource : ℕ) → AreLists slots on → resource < length on → length slots ≤ nothing → IsSmall (get_or on resource None)
+head_small slots on resource are within few =
+    let row = are.lists resource within in
+    by_list row.list row.linked
+  where
+    there : (i : ℕ) (o : Option Slot) → get_or slots i None ≡ o → IsBehind resource None o → i < length slots
+    there i None e h = absurd h
+    there i (Some slot) e h = grind (arith, get_or_past)
+
+    by_list : (list : List ℕ) → Linked resource slots None list (get_or on resource None) → IsSmall (get_or on resource None)
+    by_list [] l = subst IsSmall (sym l) tt
+    by_list (i ∷ list) l = subst IsSmall (sym l.0) (le_trans (there i (get_or slots i None) refl l.1) few)

@@ -1,5 +1,5 @@
 -- The chain of a flow's uses.
-use Rattle.std.specs.Prelude.{◌≡◌, ◌≢◌, ℕ, zero, suc, ◌-◌, Option, None, Some, List, [], ◌∷◌, slice_index_or}
+use Rattle.std.specs.Prelude.{◌≡◌, ◌≢◌, ℕ, zero, suc, Option, None, Some, List, [], ◌∷◌, slice_index_or}
 use Rattle.sg_chains.specs.declared.uses.Use.{Use}
 
 abbrev pub resource_at : Option Use → ℕ

@@ -1,2 +1,3 @@
 -- How `Chains` keeps its uses.
+pub mod Cells
 pub mod Linked

@@ -4,13 +4,13 @@ ghost use Rattle.slab.specs.Slab.{HasRoomFor, slab_len};
 ghost use Rattle.sg_chains.specs.Chain.{IsChain, KeepsChains, resources};
 ghost use Rattle.sg_chains.specs.Chained.{GainsUses, users_on};
 ghost use Rattle.sg_chains.specs.Walk.{Leads, next_on, resource_of, user_of};
+ghost use Rattle.sg_chains.specs.kept.Cells.{nothing};
 ghost use Rattle.sg_chains.specs.kept.Linked.{AreGained, AreLists, uses_of};
 
 use crate::links::{link, unlink};
-use crate::slots::Slot;
+use crate::slots::Slots;
 use crate::uses::Use;
 use sg_base::{Memory, Steps};
-use slab::Slab;
 use std::alloc::Global;
 use std::marker::Model;
 use std::sync::ledger::Ledger;
@@ -21,7 +21,7 @@ use std::sync::ledger::Ledger;
 /// Uses are read by `look` alone, which counts. A use comes and goes in a fixed number of steps.
 #[derive(Drop)]
 pub struct Chains {
-    slots: Slab<Slot>,
+    slots: Slots,
     // the first use on each resource
     on: Vec<Option<usize>>,
 }
@@ -48,13 +48,14 @@ impl Model for Chains {
 
 // Makes a chain of the flow's uses, and returns the number of the first one.
 fn add_uses(
-    slots: &mut Slab<Slot>,
+    slots: &mut Slots,
     on: &mut [Option<usize>],
     flow: usize,
     uses: &[usize],
 ) -> Option<usize>
     requires lists { AreLists slots.old.slots on.old }
     requires exist { All (λ resource. resource < length on.old) uses.now }
+    requires few { length on.old ≤ nothing }
     requires room { HasRoomFor slots.old (length uses.now) }
     ensures is { IsChain flow (length uses.now) (uses_of slots.new.slots) result }
     ensures resources { resources (length uses.now) (uses_of slots.new.slots) result ≡ uses.now }
@@ -75,7 +76,7 @@ fn add_uses(
 
 // Takes a flow's chain of uses away.
 fn remove_uses(
-    slots: &mut Slab<Slot>,
+    slots: &mut Slots,
     on: &mut [Option<usize>],
     flow: usize,
     count: usize,
@@ -118,8 +119,12 @@ impl Chains {
         ensures users { IfOk result (λ chains. (resource : ℕ) →
             users_on chains.users resource ≡ []) }
     {
+        // numbers of resources are of 32 bits
+        if resources > 4_294_967_295 {
+            return Err(Memory);
+        }
         Ok(Chains {
-            slots: Slab::new(alloc),
+            slots: Slots::new(alloc),
             on: nowhere(alloc, resources)?,
         })
     }
@@ -167,9 +172,7 @@ impl Chains {
         ensures there { slice_index_or self.now.uses i None ≡ Some result }
         ensures looks { steps.new ≡ steps.old + 1 }
     {
-        let Some(slot) = self.slots.get(i) else {
-            unreachable!()
-        };
+        let slot = self.slots.at(i);
         steps.tick();
         Use {
             flow: slot.flow,

@@ -1,8 +1,9 @@
 //! Uses of resources by flows, in chains both ways: those of each flow, and those on each resource.
 //! One enters by `Chains`: `add` and `remove` write the uses of a flow, and `look` reads one use and counts it.
-//! It stands on `sg_base`, and keeps its rows in a slab.
+//! It stands on `sg_base`, and keeps its uses as the kit's `slab` does, in less memory.
 #![tactic(auto)]
 
+mod cells;
 mod chains;
 mod links;
 mod slots;

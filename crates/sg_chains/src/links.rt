@@ -1,42 +1,21 @@
 //! Slots come and go in the chain of their resource, in a fixed number of steps each.
-ghost use Rattle.std.specs.Prelude.{◌≡◌, ◌≢◌, ◌<◌, ◌+◌, ℕ, length, None, Some, IsSome, option_map, slice_index_or, slice_set};
+ghost use Rattle.std.specs.Prelude.{◌≡◌, ◌≢◌, ◌<◌, ◌≤◌, ◌+◌, ℕ, length, None, Some, IsSome, option_map, slice_index_or, slice_set};
 ghost use Rattle.slab.specs.Slab.{get, slab_len, HasRoomFor};
+ghost use Rattle.sg_chains.specs.kept.Cells.{IsSmall, nothing};
 ghost use Rattle.sg_chains.specs.kept.Linked.{with_next, with_prev, PointsFrom, AreLists, GainsOne, LosesOne, SameBut, flow_part, use_from, uses_of};
 
-use crate::slots::Slot;
-use slab::Slab;
-
-fn set_next(slots: &mut Slab<Slot>, at: usize, next: Option<usize>)
-    ensures changed { get slots.new at ≡ option_map (with_next next) (get slots.old at) }
-    ensures others { (other : ℕ) → other ≢ at → get slots.new other ≡ get slots.old other }
-    ensures len { slab_len slots.new ≡ slab_len slots.old }
-    ensures capacity { slots.new.capacity ≡ slots.old.capacity }
-{
-    if let Some(slot) = slots.get_mut(at) {
-        slot.next_on = next;
-    }
-}
-
-fn set_prev(slots: &mut Slab<Slot>, at: usize, prev: Option<usize>)
-    ensures changed { get slots.new at ≡ option_map (with_prev prev) (get slots.old at) }
-    ensures others { (other : ℕ) → other ≢ at → get slots.new other ≡ get slots.old other }
-    ensures len { slab_len slots.new ≡ slab_len slots.old }
-    ensures capacity { slots.new.capacity ≡ slots.old.capacity }
-{
-    if let Some(slot) = slots.get_mut(at) {
-        slot.prev_on = prev;
-    }
-}
+use crate::slots::{Slot, Slots};
 
 // What stands before, or the head of the resource where nothing does, leads to the next slot.
 fn point_next(
-    slots: &mut Slab<Slot>,
+    slots: &mut Slots,
     on: &mut [Option<usize>],
     resource: usize,
     prev: Option<usize>,
     next: Option<usize>,
 )
-    requires { resource < length on.old }
+    requires in_range { resource < length on.old }
+    requires small { IsSmall next }
     ensures first { PointsFrom prev (on.new ≡ slice_set on.old resource next) (on.new ≡ on.old) }
     ensures changed { (x : ℕ) → prev ≡ Some x →
         get slots.new x ≡ option_map (with_next next) (get slots.old x) }
@@ -46,12 +25,13 @@ fn point_next(
 {
     match prev {
         None => on[resource] = next,
-        Some(at) => set_next(slots, at, next),
+        Some(at) => slots.set_next(at, next),
     }
 }
 
 // The next slot, where there is one, leads back.
-fn point_prev(slots: &mut Slab<Slot>, next: Option<usize>, prev: Option<usize>)
+fn point_prev(slots: &mut Slots, next: Option<usize>, prev: Option<usize>)
+    requires { IsSmall prev }
     ensures changed { (x : ℕ) → next ≡ Some x →
         get slots.new x ≡ option_map (with_prev prev) (get slots.old x) }
     ensures others { (x : ℕ) → next ≢ Some x → get slots.new x ≡ get slots.old x }
@@ -59,13 +39,13 @@ fn point_prev(slots: &mut Slab<Slot>, next: Option<usize>, prev: Option<usize>)
     ensures capacity { slots.new.capacity ≡ slots.old.capacity }
 {
     if let Some(at) = next {
-        set_prev(slots, at, prev);
+        slots.set_prev(at, prev);
     }
 }
 
 /// Puts a new use in front of those on its resource, and returns its number.
 pub(crate) fn link(
-    slots: &mut Slab<Slot>,
+    slots: &mut Slots,
     on: &mut [Option<usize>],
     flow: usize,
     resource: usize,
@@ -73,17 +53,22 @@ pub(crate) fn link(
 ) -> usize
     requires lists { AreLists slots.old.slots on.old }
     requires in_range { resource < length on.old }
+    requires few { length on.old ≤ nothing }
+    requires next { IsSmall next_of_flow }
     requires room { HasRoomFor slots.old 1 }
     ensures gains { GainsOne slots.old.slots slots.new.slots on.old on.new resource flow }
     ensures free { get slots.old result ≡ None }
+    ensures small { result < nothing }
     ensures made { option_map flow_part (slice_index_or (uses_of slots.new.slots) result None)
         ≡ Some (use_from flow resource next_of_flow) }
     ensures others { SameBut (uses_of slots.old.slots) (uses_of slots.new.slots) result }
     ensures len { slab_len slots.new ≡ slab_len slots.old + 1 }
     ensures capacity { slots.new.capacity ≡ slots.old.capacity }
 {
+    // what leads to a slot is the number of one
+    let _numbers = slots.numbers();
     let next = on[resource];
-    let i = slots.insert_reserved(Slot {
+    let i = slots.insert(Slot {
         flow,
         resource,
         next_of_flow,
@@ -96,7 +81,7 @@ pub(crate) fn link(
 }
 
 /// Takes a use out of those on its resource.
-pub(crate) fn unlink(slots: &mut Slab<Slot>, on: &mut [Option<usize>], i: usize) -> Slot
+pub(crate) fn unlink(slots: &mut Slots, on: &mut [Option<usize>], i: usize) -> Slot
     requires lists { AreLists slots.old.slots on.old }
     requires there { IsSome (get slots.old i) }
     ensures value { get slots.old i ≡ Some result }

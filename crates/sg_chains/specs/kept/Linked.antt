@@ -4,6 +4,7 @@ use Rattle.slab.specs.Slab.{Slab, slab_len}
 use Rattle.sg_chains.specs.declared.uses.Use.{Use}
 use Rattle.sg_chains.specs.declared.slots.Slot.{Slot}
 use Rattle.sg_chains.specs.Chained.{times}
+use Rattle.sg_chains.specs.kept.Cells.{nothing}
 
 abbrev pub next_of : Option Slot → Option ℕ
 next_of None = None
@@ -116,3 +117,4 @@ AreGained fewer more on on' flow uses = (other resource : ℕ) → times other (
 pub record IsChained (slots : Slab Slot) (on : List (Option ℕ)) : Type 0 where
   pub lists : AreLists slots.slots on
   pub fit : slab_len slots ≤ slots.capacity
+  pub few : length on ≤ nothing

@@ -1,8 +1,6 @@
-use Rattle.std.proofs.Common.{◌≡◌, ◌≤◌, ◌<◌, suc, ◌+◌, ◌-◌, None, [], ◌∷◌, option_map, length, get_or, drop, drop_of_length-le, refl, sym, ap, subst, ◌∙◌, arith}
-use Rattle.std.proofs.lemmas.List.Elements.{All-get_or}
+use Rattle.std.proofs.Common.{◌≡◌, suc, ◌-◌, None, [], ◌∷◌, option_map, length, get_or, drop, drop_of_length-le, refl, sym, ap, subst, ◌∙◌, arith}
 use Rattle.sg_chains.specs.declared.uses.Use.{Use}
 use Rattle.sg_chains.specs.kept.Linked.{AreGained, use_of, uses_of}
-use Rattle.sg_chains.specs.Chain.{IsChain, resources}
 use Rattle.sg_chains.proofs.LinkLemmas.{uses_at}
 use Rattle.sg_chains.proofs.ChainLemmas.{chain_none, chain_front, keeps_free, gained_none, gained_more, drop_back}
 use Rattle.sg_chains.proofs.chains.add_uses.Goals as goal
@@ -23,6 +21,7 @@ loop-left-init c =
       len = refl;
       capacity = refl;
       on_len = refl;
+      small = tt;
     }
 
 pub loop-left-preserved : goal.loop-left-preserved
@@ -52,4 +51,8 @@ loop-left-preserved c =
       len = omega (arith, inv.len, out.len, c.loop-left-test.true);
       capacity = out.capacity ∙ inv.capacity;
       on_len = c.link.auto.on ∙ inv.on_len;
+      small = out.small;
     }
+
+pub link-requires-clause-next : goal.link-requires-clause-next
+link-requires-clause-next c = c.loop-left.invariant.small

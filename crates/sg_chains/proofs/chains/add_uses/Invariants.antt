@@ -1,6 +1,7 @@
 use Rattle.std.proofs.Common.{◌≡◌, ◌≤◌, ◌+◌, ◌-◌, length, drop}
 use Rattle.slab.specs.Slab.{slab_len}
 use Rattle.sg_chains.specs.Chain.{IsChain, KeepsChains, resources}
+use Rattle.sg_chains.specs.kept.Cells.{IsSmall}
 use Rattle.sg_chains.specs.kept.Linked.{AreGained, AreLists, uses_of}
 use Rattle.sg_chains.proofs.chains.add_uses.Given as goal
 
@@ -15,6 +16,7 @@ invariant-loop-left l = record {
   len : slab_len l.slots + l.left ≡ slab_len l.fn.slots + length l.uses;
   capacity : l.slots.capacity ≡ l.fn.slots.capacity;
   on_len : length l.on ≡ length l.fn.on;
+  small : IsSmall l.first;
 }
 
 abbrev pub decreases-loop-left : goal.decreases-loop-left

@@ -1,4 +1,4 @@
-use Rattle.std.proofs.Common.{◌≡◌, ◌+◌, None, [], ◌∷◌, length, length-append, get_or, sym, ap, subst, arith}
+use Rattle.std.proofs.Common.{◌≡◌, None, [], ◌∷◌, length, length-append, get_or, sym, ap, subst, arith}
 use Rattle.sg_chains.proofs.LinkLemmas.{none_push}
 use Rattle.sg_chains.proofs.chains.nowhere.Goals as goal
 

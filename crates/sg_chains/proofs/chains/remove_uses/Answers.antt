@@ -1,9 +1,9 @@
-use Rattle.std.proofs.Common.{◌≡◌, ◌+◌, ◌-◌, ◌<◌, None, Some, ◌∷◌, option_map, get_or, refl, sym, ap, subst, ◌∙◌, arith}
+use Rattle.std.proofs.Common.{◌≡◌, ◌+◌, ◌-◌, ◌<◌, None, Some, ◌∷◌, option_map, get_or, sym, ap, subst, ◌∙◌, arith}
 use Rattle.sg_chains.specs.declared.uses.Use.{Use}
 use Rattle.sg_chains.specs.kept.Linked.{LosesOne, use_of, uses_of}
 use Rattle.sg_chains.specs.Chain.{IsChain, resources}
 use Rattle.sg_chains.proofs.LinkLemmas.{uses_at}
-use Rattle.sg_chains.proofs.ChainLemmas.{Front, front_of, no_front, chain_rest, keeps_gone, losing_more, lost_all, resources_none, some_slot, AreLosing}
+use Rattle.sg_chains.proofs.ChainLemmas.{front_of, no_front, chain_rest, keeps_gone, losing_more, lost_all, resources_none, some_slot, AreLosing}
 use Rattle.sg_chains.proofs.chains.remove_uses.Goals as goal
 
 pub unlink-slot-requires-clause-there : goal.unlink-slot-requires-clause-there

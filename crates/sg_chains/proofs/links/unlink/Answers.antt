@@ -11,8 +11,8 @@ steps c = record {
   prev_not = c.point_prev.ensures.others;
 }
 
-pub point_next-requires : goal.point_next-requires
-point_next-requires c = c.requires.lists.in_range c.args.i c.remove-slot.result c.remove-slot.ensures.value
+pub point_next-requires-clause-in_range : goal.point_next-requires-clause-in_range
+point_next-requires-clause-in_range c = c.requires.lists.in_range c.args.i c.remove-slot.result c.remove-slot.ensures.value
 
 pub returns-clause-loses : goal.returns-clause-loses
 returns-clause-loses c =

@@ -1,4 +1,4 @@
-use Rattle.std.proofs.Common.{◌≡◌, length, map, sym, subst, ◌∙◌}
+use Rattle.std.proofs.Common.{length, map, sym, subst, ◌∙◌}
 use Rattle.std.proofs.lemmas.List.{with_items_is}
 use Rattle.sg_chains.specs.Chain.{resources}
 use Rattle.sg_chains.specs.Chained.{GainsUses}

@@ -1,0 +1,95 @@
+//! What is kept of a slot, in 24 bytes.
+ghost use Rattle.std.specs.Prelude.{◌≡◌, ◌≤◌, ◌==◌};
+ghost use Rattle.slab.specs.declared.Entry.TheVariants.{Vacant, Occupied};
+ghost use Rattle.sg_chains.specs.kept.Cells.{AreSmall, IsSmall, entry_of, link_of as link_of_spec, nothing, slot_in as slot_in_spec};
+
+use crate::slots::Slot;
+
+/// Stands where there is no number.
+const NOTHING: u32 = 4_294_967_295;
+
+/// A slot, or nothing yet.
+#[derive(Clone, Copy)]
+pub(crate) struct Cell {
+    pub(crate) flow: usize,
+    /// `NOTHING` where there is no slot.
+    pub(crate) resource: u32,
+    /// Where there is no slot, the number of the next cell without one, or of how many cells there are.
+    pub(crate) next_of_flow: u32,
+    pub(crate) next_on: u32,
+    pub(crate) prev_on: u32,
+}
+
+// The number for which a code stands.
+fn link_of(code: u32) -> Option<usize>
+    ensures is { result ≡ link_of_spec code }
+    ensures small { IsSmall result }
+{
+    if code == NOTHING {
+        None
+    } else {
+        Some(code as usize)
+    }
+}
+
+/// The code of a number.
+pub(crate) fn code_of(link: Option<usize>) -> u32
+    requires { IsSmall link }
+    ensures { link_of_spec result ≡ link }
+{
+    match link {
+        None => NOTHING,
+        Some(i) => i as u32,
+    }
+}
+
+/// Whether there is no slot.
+pub(crate) fn is_free(cell: Cell) -> bool
+    ensures { result ≡ (cell.resource == nothing) }
+{
+    cell.resource == NOTHING
+}
+
+/// The slot in a cell.
+pub(crate) fn slot_in(cell: Cell) -> Slot
+    ensures is { result ≡ slot_in_spec cell }
+    ensures next_of_flow { IsSmall result.next_of_flow }
+    ensures next_on { IsSmall result.next_on }
+    ensures prev_on { IsSmall result.prev_on }
+{
+    Slot {
+        flow: cell.flow,
+        resource: cell.resource as usize,
+        next_of_flow: link_of(cell.next_of_flow),
+        next_on: link_of(cell.next_on),
+        prev_on: link_of(cell.prev_on),
+    }
+}
+
+/// A cell with this slot.
+pub(crate) fn cell_with(slot: Slot) -> Cell
+    requires { AreSmall slot }
+    ensures { entry_of result ≡ Occupied slot }
+{
+    Cell {
+        flow: slot.flow,
+        resource: slot.resource as u32,
+        next_of_flow: code_of(slot.next_of_flow),
+        next_on: code_of(slot.next_on),
+        prev_on: code_of(slot.prev_on),
+    }
+}
+
+/// A cell without a slot, in front of the next one without.
+pub(crate) fn free_cell(next: usize) -> Cell
+    requires { next ≤ nothing }
+    ensures { entry_of result ≡ Vacant next }
+{
+    Cell {
+        flow: 0,
+        resource: NOTHING,
+        next_of_flow: next as u32,
+        next_on: NOTHING,
+        prev_on: NOTHING,
+    }
+}
