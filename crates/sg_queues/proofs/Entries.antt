@@ -11,6 +11,7 @@ use Rattle.sg_queues.specs.Queues.{holds, queued, shortened, let_go, AreSlots, I
 use Rattle.sg_queues.specs.kept.Entries.{entry, entries_of, AreKept}
 use Rattle.sg_queues.proofs.Lists.{read_grown, from_front, front_any, without_none, without_first, popped, none_of, joined_of, map_at, map_alike, left_of}
 use Rattle.sg_queues.proofs.Rows.{absent_from, short}
+use Rattle.sg_queues.proofs.Homes.{homes_stay}
 
 pub front_in : (queue : List ℕ) (first : ℕ) → front queue ≡ Some first → is_in first queue ≡ true
 front_in queue first is = front_any (eqb first) queue first is (eq-eqb first first refl)
@@ -62,15 +63,16 @@ module _ {T : Type 0} (blank : T) where
       (apart.slots (suc held.queue) slot there, absent_from apart (suc held.queue) 0 slot there (λ e. omega (arith, e)))
 
   -- a slot of a queue is free
-  pub freed : (values : List T) (rings mid new : Rings) (room slot : ℕ) → AreKept rings values room → IsHeld slot (entries_of blank values rings.queues) → IsApart new
-      → mid ≡ record rings { idle = without slot rings.idle; queues = left slot rings.queues } → new ≡ record mid { idle = mid.idle ++ slot ∷ [] } → AreKept new values (room + 1) × (room + 1 ≤ length values)
-  freed values rings mid new room slot kept held apart left_is is =
+  pub freed : (values : List T) (homes : List ℕ) (rings mid new : Rings) (places room slot : ℕ) → AreKept rings homes places room → IsHeld slot (entries_of blank values rings.queues) → IsApart new
+      → mid ≡ record rings { idle = without slot rings.idle; queues = left slot rings.queues } → new ≡ record mid { idle = mid.idle ++ slot ∷ [] } → AreKept new homes places (room + 1) × (room + 1 ≤ length homes)
+  freed values homes rings mid new places room slot kept held apart left_is is =
       let absent = (held_slot values rings slot kept.apart held).1 in
       let count : length new.idle ≡ room + 1 =
       ap (λ (r : Rings). length r.idle) is ∙ length_push mid.idle slot ∙ ap (λ (r : Rings). length r.idle + 1) left_is ∙ ap (λ l. length l + 1) (without_none (λ x. x) slot rings.idle (none_of slot rings.idle absent)) ∙ ap (λ n. n + 1) (sym kept.free) in
-      let fit : length values ≡ new.nodes = kept.values_fit ∙ sym (ap (λ (r : Rings). r.nodes) is ∙ ap (λ (r : Rings). r.nodes) left_is) in
+      let nodes : new.nodes ≡ rings.nodes = ap (λ (r : Rings). r.nodes) is ∙ ap (λ (r : Rings). r.nodes) left_is in
+      let heads : new.heads ≡ rings.heads = ap (λ (r : Rings). r.heads) is ∙ ap (λ (r : Rings). r.heads) left_is in
       let few : length new.idle ≤ new.nodes = short apart 0 in
-      (record { apart = apart; values_fit = fit; free = sym count }, omega (arith, count, fit, few))
+      (record { apart = apart; homes_fit = kept.homes_fit ∙ sym nodes; homes_are = homes_stay nodes heads kept.homes_are; free = sym count }, omega (arith, count, kept.homes_fit, nodes, few))
 
   -- a place more for a value, which isn't used
   pub entries_grown : (values : List T) (queues : List (List ℕ)) → entries_of blank (values ++ blank ∷ []) queues ≡ entries_of blank values queues

@@ -6,7 +6,7 @@ use Rattle.sg_queues.specs.kept.Links.{at, AreLinked, IsExchanged}
 
 module _ {next prev : List ℕ} (linked : AreLinked next prev) where
   pub turned : AreLinked prev next
-  turned = record { len = sym linked.len; inverse = record { forth = linked.inverse.back; back = linked.inverse.forth } }
+  turned = record { len = sym linked.len; few = omega (arith, linked.len, linked.few); inverse = record { forth = linked.inverse.back; back = linked.inverse.forth } }
 
   -- a link of a node is one
   pub within : (node : ℕ) → node < length next → at next node < length next
@@ -47,6 +47,7 @@ still_linked {next = next} {prev = prev} {next' = next'} {prev' = prev'} {a = a}
     let from_b : at prev' (at next b) ≡ a = back.at_a ∙ home a in
     record {
       len = back.len ∙ linked.len ∙ sym there.len;
+      few = omega (arith, there.len, linked.few);
       inverse = record {
         forth = λ node. three (λ n. at next' (at prev' n) ≡ n) (at next b) (at next a) node (ap (at next') from_b ∙ there.at_a) (ap (at next') from_a ∙ there.at_b)
             (λ b_not a_not. ap (at next') (back.others node b_not a_not)

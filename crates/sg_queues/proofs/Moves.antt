@@ -1,5 +1,5 @@
 -- What becomes of the rings where a node is added, and where a slot leaves or joins.
-use Rattle.std.proofs.Common.{◌≡◌, ◌≢◌, ◌<◌, ◌+◌, ◌∙◌, inl, inr, sym, ap, subst, subst₂, refl, ℕ, true, cond, eqb, List, [], ◌∷◌, ◌++◌, length, Some, arith}
+use Rattle.std.proofs.Common.{◌≡◌, ◌≢◌, ◌<◌, ◌+◌, ◌^◌, ◌∙◌, inl, inr, sym, ap, subst, subst₂, refl, ℕ, true, cond, eqb, List, [], ◌∷◌, ◌++◌, length, Some, arith}
 use Rattle.std.proofs.Math.Path.{fun_ext}
 use Rattle.std.proofs.lemmas.Bool.{cases_eq, cases_lt, or_parts, false≢true}
 use Rattle.std.proofs.lemmas.List.{length-map, length_push, get_or-map, get_or_append_left, get_or_push, ext_get_or}
@@ -20,7 +20,7 @@ at_grown links n len = fun_ext (λ node. read_grown links n node node (λ is. sy
 
 pub none : AreRings [] [] [] []
 none = record {
-  links = record { len = refl; inverse = record { forth = λ node. refl; back = λ node. refl } };
+  links = record { len = refl; few = omega arith; inverse = record { forth = λ node. refl; back = λ node. refl } };
   paths = λ row below. absurd (omega (arith, below));
   alone = λ slot no_head absent. refl;
   apart = record {
@@ -63,39 +63,40 @@ module _ {next prev heads : List ℕ} {rows : List (List ℕ)} (kept : AreRings 
       let path : Path (at next) head (queue_at rows row) head = rw head_is (kept.paths row below) in
       ap (λ n. Some n) first_at ∙ sym (first_of (at next) head (queue_at rows row) path (λ e. other (first_at ∙ e)))
 
-  pub links_grown : AreLinked (next ++ length next ∷ []) (prev ++ length next ∷ [])
-  links_grown = record {
+  pub links_grown : length next < 2 ^ 32 → AreLinked (next ++ length next ∷ []) (prev ++ length next ∷ [])
+  links_grown few = record {
     len = length_push prev (length next) ∙ ap (λ m. m + 1) kept.links.len ∙ sym (length_push next (length next));
+    few = omega (arith, few, length_push next (length next));
     inverse = subst₂ AreInverse (sym (at_grown next (length next) refl)) (sym (at_grown prev (length next) kept.links.len)) kept.links.inverse;
   }
 
-  with_slot : AreRings (next ++ length next ∷ []) (prev ++ length next ∷ []) heads rows
-  with_slot = record {
-    links = links_grown;
+  with_slot : length next < 2 ^ 32 → AreRings (next ++ length next ∷ []) (prev ++ length next ∷ []) heads rows
+  with_slot few = record {
+    links = links_grown few;
     paths = subst (λ (f : ℕ → ℕ). (row : ℕ) → row < length heads → Path f (head_at heads row) (queue_at rows row) (head_at heads row)) (sym (at_grown next (length next) refl)) kept.paths;
     alone = λ slot no_head absent. ap (λ f. f slot) (at_grown next (length next) refl) ∙ kept.alone slot no_head absent;
     apart = rw (length_push next (length next)) (apart_grown kept.apart);
   }
 
-  pub with_queue : AreRings (next ++ length next ∷ []) (prev ++ length next ∷ []) (heads ++ length next ∷ []) (rows ++ [] ∷ [])
-  with_queue = record {
-    links = links_grown;
+  pub with_queue : length next < 2 ^ 32 → AreRings (next ++ length next ∷ []) (prev ++ length next ∷ []) (heads ++ length next ∷ []) (rows ++ [] ∷ [])
+  with_queue few = record {
+    links = links_grown few;
     paths = λ row below. elim (cases_lt row (length heads)) [
-      | inl within ↦ rw (get_or_append_left heads (length next ∷ []) 0 row within, get_or_append_left rows ([] ∷ []) [] row (omega (arith, within, kept.apart.count))) (with_slot.paths row within)
+      | inl within ↦ rw (get_or_append_left heads (length next ∷ []) 0 row within, get_or_append_left rows ([] ∷ []) [] row (omega (arith, within, kept.apart.count))) ((with_slot few).paths row within)
       | inr past ↦
           let last : length heads ≡ row = omega (arith, below, past, length_push heads (length next)) in
           rw (get_or_push heads (length next) 0 row last, get_or_push rows [] [] row (kept.apart.count ∙ last)) (get_or_push next (length next) (length next) (length next) refl)
     ];
     alone = λ slot no_head absent.
-        with_slot.alone slot (or_parts (is_in slot heads) (is_in slot (length next ∷ [])) (sym (list_any-append (eqb slot) heads (length next ∷ [])) ∙ no_head)).0 (λ row. ap (is_in slot) (sym (read_grown rows [] [] row (λ is. refl))) ∙ absent row);
+        (with_slot few).alone slot (or_parts (is_in slot heads) (is_in slot (length next ∷ [])) (sym (list_any-append (eqb slot) heads (length next ∷ [])) ∙ no_head)).0 (λ row. ap (is_in slot) (sym (read_grown rows [] [] row (λ is. refl))) ∙ absent row);
     apart = rw (length_push next (length next)) (apart_headed kept.apart);
   }
 
-  pub with_node : {next' prev' : List ℕ} → next' ≡ next ++ length next ∷ [] → prev' ≡ prev ++ length next ∷ [] → AreRings next' prev' heads rows
-  with_node next_is prev_is = rw (next_is, prev_is) with_slot
+  pub with_node : {next' prev' : List ℕ} → length next < 2 ^ 32 → next' ≡ next ++ length next ∷ [] → prev' ≡ prev ++ length next ∷ [] → AreRings next' prev' heads rows
+  with_node few next_is prev_is = rw (next_is, prev_is) (with_slot few)
 
-  pub with_head : {next' prev' heads' : List ℕ} → next' ≡ next ++ length next ∷ [] → prev' ≡ prev ++ length next ∷ [] → heads' ≡ heads ++ length next ∷ [] → AreRings next' prev' heads' (rows ++ [] ∷ [])
-  with_head next_is prev_is heads_is = rw (next_is, prev_is, heads_is) with_queue
+  pub with_head : {next' prev' heads' : List ℕ} → length next < 2 ^ 32 → next' ≡ next ++ length next ∷ [] → prev' ≡ prev ++ length next ∷ [] → heads' ≡ heads ++ length next ∷ [] → AreRings next' prev' heads' (rows ++ [] ∷ [])
+  with_head few next_is prev_is heads_is = rw (next_is, prev_is, heads_is) (with_queue few)
 
   pub with_left : {next' prev' : List ℕ} (slot : ℕ) → IsSlot (length next) heads slot → AreLinked next' prev' → IsExchanged next next' (at prev slot) slot → AreRings next' prev' heads (left slot rows)
   with_left {next' = next'} slot slot_is links ex = record {

@@ -1,14 +1,17 @@
 //! Rings of nodes, linked both ways.
-ghost use Rattle.std.specs.Prelude.{◌≡◌, ◌≢◌, ◌<◌, ◌≤◌, ◌+◌, ◌++◌, ◌∷◌, [], ℕ, length, IfOk, OnOk, OnErr, slice_set, vec_len, vec_capacity};
+ghost use Rattle.std.specs.Prelude.{◌≡◌, ◌≢◌, ◌<◌, ◌≤◌, ◌+◌, ◌++◌, ◌∷◌, ◌^◌, [], ℕ, length, IfOk, OnOk, OnErr, slice_set, vec_len, vec_capacity};
 ghost use Rattle.sg_queues.specs.kept.Links.{at, AreLinked, IsExchanged};
 
 use sg_base::Memory;
 
+/// So many nodes there may be: their numbers have 32 bits.
+pub(crate) const MOST: usize = 1 << 32;
+
 /// What each node leads to, and from where each is led to.
 #[derive(Drop)]
 pub(crate) struct Links {
-    pub(crate) next: Vec<usize>,
-    pub(crate) prev: Vec<usize>,
+    pub(crate) next: Vec<u32>,
+    pub(crate) prev: Vec<u32>,
 }
 
 pub(crate) fn push<T: Copy + Drop>(items: &mut Vec<T>, item: T)
@@ -27,11 +30,13 @@ impl Links {
     fn link(&mut self, from: usize, to: usize)
         requires from { from < length self.old.next.items }
         requires to { to < length self.old.prev.items }
+        requires next_few { length self.old.next.items ≤ 2 ^ 32 }
+        requires prev_few { length self.old.prev.items ≤ 2 ^ 32 }
         ensures next { self.new.next.items ≡ slice_set self.old.next.items from to }
         ensures prev { self.new.prev.items ≡ slice_set self.old.prev.items to from }
     {
-        self.next[from] = to;
-        self.prev[to] = from;
+        self.next[from] = to as u32;
+        self.prev[to] = from as u32;
     }
 
     /// What a node leads to.
@@ -41,7 +46,7 @@ impl Links {
         ensures is { result ≡ at self.now.next.items node }
         ensures within { result < length self.now.next.items }
     {
-        self.next[node]
+        self.next[node] as usize
     }
 
     fn prev_of(&self, node: usize) -> usize
@@ -50,7 +55,7 @@ impl Links {
         ensures is { result ≡ at self.now.prev.items node }
         ensures within { result < length self.now.next.items }
     {
-        self.prev[node]
+        self.prev[node] as usize
     }
 
     /// A slot, and the node that leads to this one, exchange what they lead to: this takes a slot out of its ring, where
@@ -73,6 +78,7 @@ impl Links {
     pub(crate) fn add(&mut self) -> Result<usize, Memory>
         requires { length self.old.prev.items ≡ length self.old.next.items }
         ensures node { IfOk result (λ node. node ≡ length self.old.next.items) }
+        ensures few { OnOk result (length self.old.next.items < 2 ^ 32) }
         ensures next { OnOk result (self.new.next.items
             ≡ self.old.next.items ++ length self.old.next.items ∷ []) }
         ensures prev { OnOk result (self.new.prev.items
@@ -80,11 +86,14 @@ impl Links {
         ensures next_kept { OnErr result (self.new.next.items ≡ self.old.next.items) }
         ensures prev_kept { OnErr result (self.new.prev.items ≡ self.old.prev.items) }
     {
+        let node = self.next.len();
+        if node >= MOST {
+            return Err(Memory);
+        }
         self.next.reserve(1)?;
         self.prev.reserve(1)?;
-        let node = self.next.len();
-        push(&mut self.next, node);
-        push(&mut self.prev, node);
+        push(&mut self.next, node as u32);
+        push(&mut self.prev, node as u32);
         Ok(node)
     }
 }

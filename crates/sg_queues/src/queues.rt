@@ -16,27 +16,34 @@ use std::marker::Model;
 #[derive(Drop)]
 pub struct Queues<T> {
     rings: Rings,
-    // the value in each slot
+    // by node the place of its value, and `NOWHERE` under a head: heads take no room for values
+    homes: Vec<u32>,
+    // the value in each place
     values: Vec<T>,
     // what stands where there is no value
     blank: T,
     room: usize,
 }
 
+// The place of a head; all places are below.
+const NOWHERE: u32 = 4_294_967_295;
+
 impl<T> Model for Queues<T> {
+    ghost use Rattle.std.specs.Prelude.{length};
     ghost use Rattle.sg_queues.specs.Queues as spec;
-    ghost use Rattle.sg_queues.specs.kept.Entries.{entries_of, AreKept};
+    ghost use Rattle.sg_queues.specs.kept.Entries.{by_node, entries_of, AreKept};
 
     ghost Value = { spec.Queues T };
 
     ghost coded = { spec.queues_code T.code };
 
     ghost view = { λ s. record {
-      queues = entries_of s.blank s.values.items s.rings.queues;
+      queues = entries_of s.blank (by_node s.blank s.values.items s.homes.items)
+          s.rings.queues;
       room = s.room;
     } };
 
-    ghost invariant = { λ s. AreKept s.rings s.values.items s.room };
+    ghost invariant = { λ s. AreKept s.rings s.homes.items (length s.values.items) s.room };
 }
 
 impl<T: Copy + Drop> Queues<T> {
@@ -45,11 +52,12 @@ impl<T: Copy + Drop> Queues<T> {
         ensures { IfOk result (λ q. q ≡ record { queues = []; room = 0 }) }
     {
         let rings = Rings::new(alloc)?;
-        let mut values = Vec::new(alloc);
-        values.push(blank)?;
+        let mut homes = Vec::new(alloc);
+        homes.push(NOWHERE)?;
         Ok(Queues {
             rings,
-            values,
+            homes,
+            values: Vec::new(alloc),
             blank,
             room: 0,
         })
@@ -64,9 +72,9 @@ impl<T: Copy + Drop> Queues<T> {
         ensures slots { OnOk result (AreSlots self.new.queues) }
         ensures kept { OnErr result (self.new ≡ self.old) }
     {
-        self.values.reserve(1)?;
+        self.homes.reserve(1)?;
         let number = self.rings.add_queue()?;
-        push(&mut self.values, self.blank);
+        push(&mut self.homes, NOWHERE);
         Ok(number)
     }
 
@@ -75,9 +83,15 @@ impl<T: Copy + Drop> Queues<T> {
         ensures room { OnOk result (self.new ≡ record self.old { room = self.old.room + 1 }) }
         ensures kept { OnErr result (self.new ≡ self.old) }
     {
+        let place = self.values.len();
+        if place >= NOWHERE as usize {
+            return Err(Memory);
+        }
+        self.homes.reserve(1)?;
         self.values.reserve(1)?;
         let slot = self.rings.add_slot()?;
         self.rings.retire(slot);
+        push(&mut self.homes, place as u32);
         push(&mut self.values, self.blank);
         self.room += 1;
         Ok(())
@@ -108,7 +122,8 @@ impl<T: Copy + Drop> Queues<T> {
             Some(slot) => slot,
             None => unreachable!(),
         };
-        self.values[slot] = value;
+        let home = self.homes[slot] as usize;
+        self.values[home] = value;
         self.rings.leave(slot);
         self.rings.join(slot, queue);
         self.room -= 1;
@@ -122,7 +137,10 @@ impl<T: Copy + Drop> Queues<T> {
         ensures slots { AreSlots self.now.queues }
     {
         match self.rings.front(queue) {
-            Some(slot) => Some((slot, self.values[slot])),
+            Some(slot) => {
+                let home = self.homes[slot] as usize;
+                Some((slot, self.values[home]))
+            }
             None => None,
         }
     }

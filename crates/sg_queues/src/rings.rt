@@ -19,7 +19,7 @@ pub struct Rings {
     // each slot that is alone
     links: Links,
     // the head of each queue
-    heads: Vec<usize>,
+    heads: Vec<u32>,
 }
 
 // The head of the idle slots.
@@ -74,7 +74,7 @@ impl Rings {
         self.heads.reserve(1)?;
         let head = self.links.add()?;
         let number = self.heads.len();
-        push(&mut self.heads, head);
+        push(&mut self.heads, head as u32);
         Ok(number)
     }
 
@@ -96,7 +96,7 @@ impl Rings {
         ensures is { result ≡ head_at self.now.heads (suc queue) }
         ensures within { result < self.now.nodes }
     {
-        self.heads[queue]
+        self.heads[queue] as usize
     }
 
     /// The first slot of a queue.
@@ -105,7 +105,7 @@ impl Rings {
         ensures { result ≡ front (queue_at self.now.queues queue) }
     {
         let head = self.head_of(queue);
-        let first = self.links.next[head];
+        let first = self.links.next[head] as usize;
         if first == head { None } else { Some(first) }
     }
 

@@ -1,5 +1,5 @@
 -- How slots are kept: each row is a ring of nodes, its head and its slots, linked both ways, and so is each slot that is alone.
-use Rattle.std.specs.Prelude.{◌≡◌, ◌≢◌, ℕ, zero, suc, ◌<◌, ◌==◌, false, if◌then◌else◌, List, [], ◌∷◌, length, map, slice_index_or}
+use Rattle.std.specs.Prelude.{◌≡◌, ◌≢◌, ℕ, zero, suc, ◌<◌, ◌≤◌, ◌^◌, ◌==◌, false, if◌then◌else◌, List, [], ◌∷◌, length, map, slice_index_or}
 use Rattle.sg_queues.specs.Rings.{is_in, queue_at, AreApart, IsAlone}
 
 -- what a node is linked to; what is no node, to itself
@@ -34,6 +34,7 @@ pub record AreInverse (next prev : ℕ → ℕ) : Type 0 where
 
 pub record AreLinked (next prev : List ℕ) : Type 0 where
   pub len : length prev ≡ length next
+  pub few : length next ≤ 2 ^ 32
   pub inverse : AreInverse (at next) (at prev)
 
 -- two nodes have exchanged what they lead to
