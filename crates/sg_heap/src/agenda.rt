@@ -17,12 +17,14 @@ use std::sync::ledger::{Blank, Ledger};
 /// else takes memory.
 #[derive(Drop)]
 pub struct Agenda {
-    // an entry for each slot: first those with a key, as a binary heap, then the others
+    // an entry for each slot up to the last that ever had a key: first those with a key, as a binary heap, then the others
     heap: Vec<Entry>,
-    // where the entry of each slot stands
+    // where the entry of each of these slots stands
     place: Vec<usize>,
     // how many slots have a key
     count: usize,
+    // how many slots there are; for all of them there is room
+    slots: usize,
 }
 
 impl Model for Agenda {
@@ -31,11 +33,14 @@ impl Model for Agenda {
 
     ghost Value = { List (Option Key) };
 
-    ghost use Rattle.sg_heap.specs.kept.Heap.{keys_of, IsAgenda};
+    ghost use Rattle.std.specs.Prelude.{vec_capacity};
+    ghost use Rattle.sg_heap.specs.Agenda.{with_slots};
+    ghost use Rattle.sg_heap.specs.kept.Heap.{keys_of, HasSlots};
 
-    ghost view = { λ a. keys_of a.heap.items a.place.items a.count };
+    ghost view = { λ a. with_slots a.slots (keys_of a.heap.items a.place.items a.count) };
 
-    ghost invariant = { λ a. IsAgenda a.heap.items a.place.items a.count };
+    ghost invariant = { λ a. HasSlots a.heap.items a.place.items a.count a.slots
+        (vec_capacity a.heap) (vec_capacity a.place) };
 }
 
 impl Agenda {
@@ -47,6 +52,7 @@ impl Agenda {
             heap: Vec::new(alloc),
             place: Vec::new(alloc),
             count: 0,
+            slots: 0,
         })
     }
 
@@ -57,10 +63,13 @@ impl Agenda {
         ensures memory { OnErr result (self.new ≡ self.old) }
         ensures enough { slots ≤ length self.old → IsOk result }
     {
-        let more = slots.saturating_sub(self.place.len());
+        if slots <= self.slots {
+            return Ok(());
+        }
+        let more = slots - self.place.len();
         self.heap.reserve(more)?;
         self.place.reserve(more)?;
-        add_slots(&mut self.heap, &mut self.place, slots);
+        self.slots = slots;
         Ok(())
     }
 
@@ -77,6 +86,7 @@ impl Agenda {
         ensures keys { self.new ≡ slice_set self.old slot (Some (key date serial)) }
         ensures comparisons { steps.new ≤ steps.old + (2 * digits (key_count self.old) + 2) }
     {
+        add_slots(&mut self.heap, &mut self.place, slot + 1);
         let entry = Entry { date, serial, slot };
         self.count = set_key(&mut self.heap, &mut self.place, self.count, entry, steps);
     }
@@ -87,7 +97,9 @@ impl Agenda {
         ensures keys { self.new ≡ slice_set self.old slot None }
         ensures comparisons { steps.new ≤ steps.old + (2 * digits (key_count self.old) + 2) }
     {
-        self.count = clear_key(&mut self.heap, &mut self.place, self.count, slot, steps);
+        if slot < self.place.len() {
+            self.count = clear_key(&mut self.heap, &mut self.place, self.count, slot, steps);
+        }
     }
 
     /// `set_counted` for a caller that counts nothing.
@@ -141,12 +153,14 @@ impl Agenda {
     }
 }
 
-// Adds slots without a key, until there are so many.
+// Adds entries of slots without a key, until there are so many at least.
 fn add_slots(heap: &mut Vec<Entry>, place: &mut Vec<usize>, slots: usize)
     requires len { vec_len heap.old ≡ vec_len place.old }
     requires heap_room { slots ≤ vec_capacity heap.old }
     requires place_room { slots ≤ vec_capacity place.old }
-    ensures { GrowsTo slots heap.old.items place.old.items heap.new.items place.new.items }
+    ensures grows { GrowsTo slots heap.old.items place.old.items heap.new.items place.new.items }
+    ensures heap_capacity { vec_capacity heap.new ≡ vec_capacity heap.old }
+    ensures place_capacity { vec_capacity place.new ≡ vec_capacity place.old }
 {
     for slot in place.len()..slots {
         heap.push_reserved(Entry {

@@ -80,3 +80,10 @@ pub record GrowsTo (slots : ℕ) (heap : List Entry) (place : List ℕ)
   pub agenda : (count : ℕ) → IsAgenda heap place count → IsAgenda heap' place' count
   pub keys : (count : ℕ) → IsAgenda heap place count →
       keys_of heap' place' count ≡ with_slots slots (keys_of heap place count)
+
+-- An agenda of some of so many slots, with room for all of them.
+pub record HasSlots (heap : List Entry) (place : List ℕ) (count slots heap_room place_room : ℕ) : Type 0 where
+  pub agenda : IsAgenda heap place count
+  pub few : length place ≤ slots
+  pub heap_fits : slots ≤ heap_room
+  pub place_fits : slots ≤ place_room

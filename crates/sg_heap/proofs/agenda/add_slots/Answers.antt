@@ -12,6 +12,8 @@ loop-slot-init c =
       place_len = sym c.len-slot.ensures;
       heap_room = c.requires.heap_room;
       place_room = c.requires.place_room;
+      heap_capacity = refl;
+      place_capacity = refl;
       least = omega (arith, len);
       most = omega (arith, len);
       grows = subst (λ n. GrowsTo n c.args.heap.now.items c.args.place.now.items c.args.heap.now.items c.args.place.now.items) (sym len) (grows_none c.args.heap.now.items c.args.place.now.items);
@@ -31,12 +33,14 @@ loop-slot-preserved c =
       place_len = second.len ∙ ap (λ n. n + 1) inv.place_len;
       heap_room = omega (arith, first.capacity, inv.heap_room);
       place_room = omega (arith, second.capacity, inv.place_room);
+      heap_capacity = first.capacity ∙ inv.heap_capacity;
+      place_capacity = second.capacity ∙ inv.place_capacity;
       least = omega (arith, inv.least);
       most = omega (arith, inv.least, c.loop-slot-test.true);
       grows = rw (first.items, second.items) (grows_more c.args.heap.now.items c.loop-slot.heap.items old c.loop-slot.place.items entry slot refl len inv.least inv.grows);
     }
 
-pub returns : goal.returns
-returns c =
+pub returns-clause-grows : goal.returns-clause-grows
+returns-clause-grows c =
     let inv = c.loop-slot.invariant in
     grows_same c.args.heap.now.items c.loop-slot.heap.items c.args.place.now.items c.loop-slot.place.items c.loop-slot.slot c.args.slots (omega (arith, inv.least, inv.most, c.loop-slot-test.false)) inv.grows
