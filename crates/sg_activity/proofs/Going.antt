@@ -10,7 +10,7 @@ use Rattle.sg_activity.specs.Underway.{rate, wait, wait_in, next_in, due_in, pas
 use Rattle.sg_activity.specs.Doing.{later_in, IsNext, IsUpTo}
 use Rattle.sg_activity.specs.kept.Stamps.{left_at}
 use Rattle.sg_activity.specs.kept.Pool.{IsMissing, slot_at}
-use Rattle.sg_activity.specs.kept.State.{State, task_of, date_of, dated, due_at, is_dated, is_now, is_so, told_at, told_by, under_of, doing_of}
+use Rattle.sg_activity.specs.kept.State.{State, task_of, stamp_of, date_of, dated, due_at, is_dated, is_now, is_so, told_at, told_by, under_of, doing_of}
 use Rattle.sg_activity.specs.kept.Sound.{IsKept}
 use Rattle.sg_activity.proofs.Listing.{eq_cases, some_same, length-listed, at_listed, past_listed, same_listed, serials_alike, soonest_none, soonest_is, up_to_each}
 use Rattle.sg_activity.proofs.Lookup.{Sought, sought, told_found, told_missed, told_from}
@@ -210,7 +210,7 @@ module _ (s : State) (is : IsKept s) (set : IsTrue s.settled) where
         same_listed s.drawn (λ j. told_at (task_of new) s.slots (j + 1)) (λ j. option_map (passed u span) (told_at (task_of s) s.slots (j + 1))) (λ j less. task_gone (j + 1))
         ∙ sym (map_listed s.drawn (option_map (passed u span)) (λ j. told_at (task_of s) s.slots (j + 1))) in
         let when : date ≡ s.date + (date - s.date) = omega (arith, from) in
-        doing_same (under_of new) (later (date - s.date) u) (serials is_so 1 (told_by (is_now new) new)) (due_in (date - s.date) u) s.settled s.settled room room
+        doing_same (under_of new) (later (date - s.date) u) (serials is_so 1 (told_by (is_now new) new)) (due_in (date - s.date) u) s.settled s.settled room room (told_by stamp_of new) (told_by stamp_of s)
         (ap₂ (λ d t. record u { date = d; tasks = t }) when tasks)
         (serials_alike is_so (λ t. is_at (wait_in u t) span) 1 (told_by (is_now new) new) u.tasks (length-listed s.drawn (λ j. told_at (is_now new) s.slots (j + 1)) ∙ sym (length-listed s.drawn (λ j. told_at (task_of s) s.slots (j + 1)))) (λ i. due_there i (less_or i s.drawn)))
-        refl refl
+        refl refl refl

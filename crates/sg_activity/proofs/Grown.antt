@@ -12,7 +12,7 @@ use Rattle.sg_activity.specs.Links.{capacities_of, machines}
 use Rattle.sg_activity.specs.kept.Grows.{Grows}
 use Rattle.sg_activity.specs.Slots.{passes, serials}
 use Rattle.sg_activity.specs.kept.Pool.{slot_at}
-use Rattle.sg_activity.specs.kept.State.{State, state_of, links_at, task_from, task_of, is_now, is_dated, is_so, told_at, told_by, began_at, began_by, under_of, doing_of, ways_of}
+use Rattle.sg_activity.specs.kept.State.{State, state_of, links_at, task_from, task_of, stamp_of, is_now, is_dated, is_so, told_at, told_by, began_at, began_by, under_of, doing_of, ways_of}
 use Rattle.sg_activity.specs.kept.Sound.{AreApart, IsKept, IsSound, slot_ahead, slot_uses}
 use Rattle.sg_activity.proofs.Indexing.{ways_grown}
 use Rattle.sg_activity.proofs.Listing.{same_listed}
@@ -59,11 +59,11 @@ module _ (s : State) (slots : List (Option Live)) (ways : ℕ → List LinkId) (
 
   pub grown_told : (room : ℕ) → doing_of grown room ≡ doing_of s room
   grown_told room =
-      doing_same (under_of grown) (under_of s) (cond s.arrived (serials is_so 1 (told_by (is_now grown) grown)) []) (cond s.arrived (serials is_so 1 (told_by (is_now s) s)) []) s.settled s.settled room room
+      doing_same (under_of grown) (under_of s) (cond s.arrived (serials is_so 1 (told_by (is_now grown) grown)) []) (cond s.arrived (serials is_so 1 (told_by (is_now s) s)) []) s.settled s.settled room room (told_by stamp_of grown) (told_by stamp_of s)
       (made_same s.date s.date s.capacities s.capacities s.on s.on (told_by (task_of grown) grown) (told_by (task_of s) s) (began_by grown) (began_by s) s.ended s.ended s.resources s.resources refl refl refl
       (tell_same (task_of s) (task_of grown) (λ k live. ap (λ l. task_from s.date l live) (same_links k)))
       (ap (map (passes is_so)) (tell_same (began_at s.fresh) (began_at s.fresh) (λ k live. refl))) refl refl)
-      (ap (λ l. cond s.arrived (serials is_so 1 l) []) (tell_same (is_now s) (is_now grown) (λ k live. ap (is_dated s.date) (same_keys k)))) refl refl
+      (ap (λ l. cond s.arrived (serials is_so 1 l) []) (tell_same (is_now s) (is_now grown) (λ k live. ap (is_dated s.date) (same_keys k)))) refl refl (tell_same stamp_of stamp_of (λ k live. refl))
 
 -- what free keys don't add to
 module _ (f : Option Live → ℕ) (free : f None ≡ 0) where

@@ -6,15 +6,16 @@ use Rattle.sg_activity.specs.declared.lives.Live.{Live}
 use Rattle.sg_activity.specs.Slots.{passes, serials}
 use Rattle.sg_activity.specs.Task.{is_exec, is_held, of_kind, rekinded, task_at}
 use Rattle.sg_activity.specs.Underway.{gone_on, with_task}
+use Rattle.sg_activity.specs.Stamp.{anew}
 use Rattle.sg_activity.specs.Doing.{held_in, went_on_in}
 use Rattle.sg_activity.specs.kept.Pool.{IsFound, IsMissing, slot_at}
-use Rattle.sg_activity.specs.kept.State.{State, task_of, is_dated, is_now, is_so, told_at, told_by, under_of, doing_of}
+use Rattle.sg_activity.specs.kept.State.{State, task_of, stamp_of, is_dated, is_now, is_so, told_at, told_by, under_of, doing_of}
 use Rattle.sg_activity.specs.kept.Sound.{IsKept}
 use Rattle.sg_activity.specs.kept.Turns.{Turns}
 use Rattle.sg_activity.proofs.Lookup.{told_found}
 use Rattle.sg_activity.proofs.Rates.{task_missed, task_there}
 use Rattle.sg_activity.proofs.Struck.{changed_told}
-use Rattle.sg_activity.proofs.Told.{doing_same}
+use Rattle.sg_activity.proofs.Told.{doing_same, stamps_set}
 use Rattle.sg_activity.proofs.Turned.{due_still}
 use Rattle.sg_activity.proofs.Turning.{undated_kept}
 
@@ -54,5 +55,6 @@ module _ (s new : State) (key : ℕ) (live : Live) (slot : Option Live) (is : Is
       let h = is.each key live at in
       let undue : passes is_so (told_at (is_now s) s.slots live.serial) ≡ false = ap (passes is_so) (told_found (is_now s) s.slots live.serial key live is.apart at refl) ∙ ap (is_dated s.date) (undated_kept s key live is at held) in
       doing_same (under_of new) (gone_on live.serial (under_of s)) (cond new.arrived (serials is_so 1 (told_by (is_now new) new)) []) (cond s.arrived (serials is_so 1 (told_by (is_now s) s)) []) new.settled false (room - 1) (room - 1)
-      (under ∙ again phase.Exec)
+      (told_by stamp_of new) (anew live.serial (gone_on live.serial (under_of s)) (told_by stamp_of s)) (under ∙ again phase.Exec)
       (ap₂ (λ b l. cond b l []) by.arrived (due_still s new key live.serial slot is by drawn h.from h.to undue)) by.unsettled refl
+      (stamps_set s new key live.serial slot is by (gone_on live.serial (under_of s)) (under ∙ again phase.Exec) drawn h.from h.to)

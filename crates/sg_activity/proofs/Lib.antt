@@ -9,6 +9,7 @@ pub mod Told
 pub mod Pairing
 pub mod Works
 pub mod Rates
+pub mod Stamping
 pub mod Loads
 pub mod Going
 pub mod Due

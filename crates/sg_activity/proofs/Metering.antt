@@ -10,7 +10,7 @@ use Rattle.sg_activity.specs.declared.kept.Kept.{Kept}
 use Rattle.sg_activity.specs.declared.kinds.PhaseKind.{PhaseKind}
 use Rattle.sg_activity.specs.declared.kinds.PhaseKind.TheVariants as phase
 use Rattle.sg_activity.specs.declared.lives.Live.{Live}
-use Rattle.sg_activity.specs.Doing.{Doing, ended_first, ended_in, later_in}
+use Rattle.sg_activity.specs.Doing.{Doing, ended_first, ended_in, later_in, settled_in}
 use Rattle.sg_activity.specs.Laws.{IsHostOf, IsSameHost}
 use Rattle.sg_activity.specs.Links.{Capacities}
 use Rattle.sg_activity.specs.Power.{is_there, loads}
@@ -272,6 +272,10 @@ metered_ended energy doing = go doing.due
     go : (due : List ℕ) → metered_in energy (ended_first due doing) ≡ ended_first due (metered_in energy doing)
     go [] = refl
     go (serial ∷ more) = refl
+
+pub metered_settled : (energy : List ℕ) (doing : Doing) → metered_in energy (settled_in doing) ≡ settled_in (metered_in energy doing)
+unfolding rate
+metered_settled energy doing = refl
 
 pub load_metered : (energy : List ℕ) (u : Underway) (host : ℕ) → load (record u { energy = energy }) host ≡ load u host
 unfolding rate

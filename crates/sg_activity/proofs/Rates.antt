@@ -51,7 +51,7 @@ module _ (s : State) (is : IsKept s) where
   ]
 
   -- whether it began stands there too
-  began_there : (key : ℕ) (live : Live) → slot_at s.slots key ≡ Some live → get_or (under_of s).marks.began (live.serial - 1) false ≡ is_in key s.fresh
+  pub began_there : (key : ℕ) (live : Live) → slot_at s.slots key ≡ Some live → get_or (under_of s).marks.began (live.serial - 1) false ≡ is_in key s.fresh
   began_there key live at =
       let h = is.each key live at in
       let back : live.serial - 1 + 1 ≡ live.serial = omega (arith, h.from) in

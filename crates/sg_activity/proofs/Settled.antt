@@ -1,5 +1,5 @@
 -- The rates are brought up to date: all stays of one mind, and what is left of each activity is told as before.
-use Rattle.std.proofs.Common.{◌≡◌, ℕ, zero, suc, map, replicate, option_and_then, ◌+◌, ◌-◌, ◌*◌, ◌^◌, ◌<◌, ◌⊎◌, inl, inr, Bool, true, false, cond, ◌||◌, ◌&&◌, true≢false, Option, None, Some, option_map, List, [], ◌∷◌, length, get_or, slice_index, sum_by, All, IsTrue, IsSome, refl, sym, ap, ap₂, subst, ◌∙◌, arith}
+use Rattle.std.proofs.Common.{◌≡◌, ℕ, zero, suc, map, replicate, option_and_then, ◌+◌, ◌-◌, ◌*◌, ◌==◌, ◌^◌, ◌<◌, ◌⊎◌, inl, inr, Bool, true, false, not, cond, ◌||◌, ◌&&◌, true≢false, Option, None, Some, option_map, List, [], ◌∷◌, length, get_or, slice_index, sum_by, All, IsTrue, IsSome, refl, sym, ap, ap₂, subst, ◌∙◌, arith}
 use Rattle.std.specs.List.{list_any}
 use Rattle.sg_base.specs.declared.ids.LinkId.{LinkId}
 use Rattle.sg_base.specs.MarkSet.{MarkSet, is_in}
@@ -9,18 +9,22 @@ use Rattle.sg_lazy.specs.Lazily.{Lazily, IsSettled, DidChange}
 use Rattle.sg_lazy.specs.RunningFlow.{RunningFlow, running_at, flow_under, flows_in}
 use Rattle.sg_activity.specs.declared.lives.Live.{Live}
 use Rattle.sg_activity.specs.Links.{Capacities, capacities_of, link_at}
-use Rattle.sg_activity.specs.Task.{Place, nowhere, on_host, over, takes_share, is_rebound_at}
-use Rattle.sg_activity.specs.Underway.{settled}
+use Rattle.sg_activity.specs.Task.{Place, Task, nowhere, on_host, over, takes_share, is_rebound_at}
+use Rattle.sg_activity.specs.Stamp.{Stamp, rerated, rerated_at, all_rerated}
+use Rattle.sg_activity.specs.Underway.{Underway, rate, settled}
 use Rattle.sg_activity.specs.Doing.{settled_in}
 use Rattle.sg_activity.specs.kept.Stamps.{left_at}
 use Rattle.sg_activity.specs.kept.Pool.{Pool, slot_at}
-use Rattle.sg_activity.specs.kept.State.{State, links_at, task_from, task_of, asked_by, date_of, is_so, key_from, told_at, told_by, began_at, began_by, under_of, doing_of}
+use Rattle.sg_activity.specs.kept.State.{State, links_at, task_from, task_of, stamp_of, asked_by, date_of, is_so, key_from, told_at, told_by, began_at, began_by, under_of, doing_of}
 use Rattle.sg_activity.specs.kept.Sound.{IsHeld, AreApart, IsKept, slot_ahead, slot_uses, place_at, run_of}
 use Rattle.sg_activity.specs.kept.Renewal.{IsKeyed, HaveKeys, rate_in, is_among, restamped, is_renewed, AreRestamped, AreSmall, date_in, AreRenewed}
 use Rattle.sg_activity.proofs.Listing.{eq_cases, length-listed, some_same, same_listed}
 use Rattle.sg_activity.specs.Slots.{listed, passes}
 use Rattle.sg_activity.proofs.Stamps.{fresh_in_time}
-use Rattle.sg_activity.proofs.Lookup.{told_alike}
+use Rattle.sg_activity.proofs.Lookup.{Sought, sought, told_alike, told_found, told_missed}
+use Rattle.sg_activity.specs.kept.Pool.{IsMissing}
+use Rattle.sg_activity.proofs.Rates.{rate_told, task_missed}
+use Rattle.sg_activity.proofs.Stamping.{is_another, is_same, rerated_there}
 use Rattle.std.proofs.lemmas.List.{get_or_default}
 use Rattle.sg_activity.proofs.Pairing.{sum_alike}
 use Rattle.sg_activity.proofs.Pooled.{within_there}
@@ -277,15 +281,91 @@ module _ (s : State) (lazy new : Lazily) (pool : Pool) (marks more : MarkSet) (k
       not_so None = refl
       not_so (Some key) = some_so (slot_at pool.slots key)
 
-  pub settled_told : (room : ℕ) → doing_of settled_state room ≡ settled_in (doing_of s room)
-  settled_told room =
-      doing_same (under_of settled_state) (settled (under_of s)) [] [] true true room room
-      (made_same s.date s.date s.capacities s.capacities s.on s.on (told_by (task_of settled_state) settled_state) (told_by (task_of s) s) (began_by settled_state) (replicate (length (told_by (task_of s) s)) false) new.ended [] new.resources [] refl refl refl
+  under_told : under_of settled_state ≡ settled (under_of s)
+  under_told =
+      made_same s.date s.date s.capacities s.capacities s.on s.on (told_by (task_of settled_state) settled_state) (told_by (task_of s) s) (began_by settled_state) (replicate (length (told_by (task_of s) s)) false) new.ended [] new.resources [] refl refl refl
       (same_listed s.drawn (λ i. told_at (task_of settled_state) pool.slots (i + 1)) (λ i. told_at (task_of s) s.slots (i + 1)) (λ i less.
       told_alike (task_of s) (task_of settled_state) s.slots pool.slots (i + 1) is.apart apart
       (λ f. (restamped new.changed new.slots s.date f.live, there_now f.key f.live f.at, serial_stamped new.changed new.slots s.date f.live ∙ f.is, left_now (links_at s.ways f.key) f.live))
       (λ f. let w = was_at f.key f.live f.at in record { key = f.key; live = w.old; at = w.there; is = serial_was f.key f.live w ∙ f.is })))
-      none_began by.none_ended by.no_resources) refl refl refl
+      none_began by.none_ended by.no_resources
+
+  rate_settled : (under : Underway) (task : Task) → rate (settled under) task ≡ rate under task
+  unfolding rate
+  rate_settled under task = refl
+
+  -- ---- stamps
+  -- the rate that is kept now is that of the phase
+  rate_now : (key : ℕ) (live : Live) → slot_at s.slots key ≡ Some live → (restamped new.changed new.slots s.date live).rate ≡ rate (under_of s) (task_of s key live)
+  rate_now key live at =
+      sym (rate_told settled_state settled_kept refl key (restamped new.changed new.slots s.date live) (there_now key live at))
+      ∙ ap₂ rate under_told (left_now (links_at s.ways key) live) ∙ rate_settled (under_of s) (task_of s key live)
+
+  module _ (key : ℕ) (live : Live) (at : slot_at s.slots key ≡ Some live) (full : takes_share live.kind ≡ true) where
+    abbrev now : ℕ
+    now = rate (under_of s) (task_of s key live)
+
+    chosen : (b : Bool) → is_in live.flow new.changed ≡ b → (cond b (taken live) live).rate ≡ now
+    chosen b e = ap (λ c. (cond c (taken live) live).rate) (sym (ap₂ (λ a d. a && d) full e)) ∙ rate_now key live at
+
+    changed_so : is_in live.flow new.changed ≡ true → (is_in key s.fresh || not (now == live.rate)) ≡ true
+    changed_so e = go (running_at new.slots live.flow) refl (subst (λ o. DidChange o (running_at new.slots live.flow)) (ap (λ l. running_at l live.flow) runs ∙ ((is.each key live at).flow full).runs) ((by.changes live.flow).0 e))
+      where
+        go : (o : Option RunningFlow) → running_at new.slots live.flow ≡ o → DidChange (Some (run_of s key live)) o → (is_in key s.fresh || not (now == live.rate)) ≡ true
+        go None z d = absurd d
+        go (Some q) z (inl b) = is_another (is_in key s.fresh) now live.rate (inl b)
+        go (Some q) z (inr ne) = is_another (is_in key s.fresh) now live.rate (inr (λ same. ne (ap rate_in (sym z) ∙ chosen true e ∙ same)))
+
+    kept_so : is_in live.flow new.changed ≡ false → (is_in key s.fresh || not (now == live.rate)) ≡ false
+    kept_so e = is_same (is_in key s.fresh) now live.rate (began (is_in key s.fresh) refl) (sym (chosen false e))
+      where
+        run : running_at lazy.slots live.flow ≡ Some (run_of s key live)
+        run = ap (λ l. running_at l live.flow) runs ∙ ((is.each key live at).flow full).runs
+
+        began : (b : Bool) → is_in key s.fresh ≡ b → is_in key s.fresh ≡ false
+        began false z = z
+        began true z =
+            let q = runs_now live.flow (run_of s key live) ((is.each key live at).flow full).runs in
+            absurd (true≢false (sym ((by.changes live.flow).1 (subst (λ o. DidChange o (running_at new.slots live.flow)) (sym run) (subst (λ o. DidChange (Some (run_of s key live)) o) (sym q.1) (inl z)))) ∙ e))
+
+    pub rerated_full : (b : Bool) → is_in live.flow new.changed ≡ b → stamp_of key (cond b (taken live) live) ≡ cond (is_in key s.fresh || not (now == live.rate)) (record { left = left_at live.kept live.rate live.stamp s.date; date = s.date; rate = now }) (stamp_of key live)
+    rerated_full true e =
+        ap (λ r. record { left = left_at live.kept live.rate live.stamp s.date; date = s.date; rate = r }) (chosen true e)
+        ∙ sym (ap (λ b. cond b (record { left = left_at live.kept live.rate live.stamp s.date; date = s.date; rate = now }) (stamp_of key live)) (changed_so e))
+    rerated_full false e = sym (ap (λ b. cond b (record { left = left_at live.kept live.rate live.stamp s.date; date = s.date; rate = now }) (stamp_of key live)) (kept_so e))
+
+  rerated_now : (key : ℕ) (live : Live) → slot_at s.slots key ≡ Some live → stamp_of key (restamped new.changed new.slots s.date live) ≡ rerated (under_of s) (is_in key s.fresh) (task_of s key live) (stamp_of key live)
+  rerated_now key live at = go (takes_share live.kind) refl
+    where
+      at_rate : Stamp
+      at_rate = record { left = left_at live.kept live.rate live.stamp s.date; date = s.date; rate = rate (under_of s) (task_of s key live) }
+
+      kept : (b : Bool) → takes_share live.kind ≡ b → stamp_of key (restamped new.changed new.slots s.date live) ≡ stamp_of key (cond (b && is_in live.flow new.changed) (taken live) live)
+      kept b e = ap (λ a. stamp_of key (cond (a && is_in live.flow new.changed) (taken live) live)) e
+
+      told : (b : Bool) → takes_share live.kind ≡ b → cond (b && (is_in key s.fresh || not (rate (under_of s) (task_of s key live) == live.rate))) at_rate (stamp_of key live) ≡ rerated (under_of s) (is_in key s.fresh) (task_of s key live) (stamp_of key live)
+      told b e = sym (ap (λ a. cond (a && (is_in key s.fresh || not (rate (under_of s) (task_of s key live) == live.rate))) at_rate (stamp_of key live)) e)
+
+      go : (b : Bool) → takes_share live.kind ≡ b → stamp_of key (restamped new.changed new.slots s.date live) ≡ rerated (under_of s) (is_in key s.fresh) (task_of s key live) (stamp_of key live)
+      go false e = kept false e ∙ told false e
+      go true e = kept true e ∙ rerated_full key live at e (is_in live.flow new.changed) refl ∙ told true e
+
+  stamps_told : told_by stamp_of settled_state ≡ all_rerated (under_of s) (told_by stamp_of s)
+  stamps_told =
+      same_listed s.drawn (λ i. told_at stamp_of pool.slots (i + 1)) (λ i. rerated_at (under_of s) (told_by stamp_of s) (i + 1)) (λ i less. at_serial (i + 1) (omega arith) (sought s.slots (i + 1)))
+      ∙ ap (λ n. listed n (λ i. rerated_at (under_of s) (told_by stamp_of s) (i + 1))) (sym (length-listed s.drawn (λ i. told_at (task_of s) s.slots (i + 1))))
+    where
+      at_serial : (serial : ℕ) → 0 < serial → Sought s.slots serial ⊎ IsMissing s.slots serial → told_at stamp_of pool.slots serial ≡ rerated_at (under_of s) (told_by stamp_of s) serial
+      at_serial serial from (inl f) =
+          told_found stamp_of pool.slots serial f.key (restamped new.changed new.slots s.date f.live) apart (there_now f.key f.live f.at) (serial_stamped new.changed new.slots s.date f.live ∙ f.is)
+          ∙ ap Some (rerated_now f.key f.live f.at) ∙ sym (rerated_there s is f.key f.live f.at) ∙ ap (rerated_at (under_of s) (told_by stamp_of s)) f.is
+      at_serial serial from (inr none) =
+          told_missed stamp_of pool.slots serial (λ k live at e. let w = was_at k live at in none k w.old w.there (serial_was k live w ∙ e))
+          ∙ sym (ap (option_and_then (λ task. option_map (rerated (under_of s) (get_or (under_of s).marks.began (serial - 1) false) task) (get_or (told_by stamp_of s) (serial - 1) None))) (task_missed s is serial from none))
+
+  pub settled_told : (room : ℕ) → doing_of settled_state room ≡ settled_in (doing_of s room)
+  settled_told room =
+      doing_same (under_of settled_state) (settled (under_of s)) [] [] true true room room (told_by stamp_of settled_state) (all_rerated (under_of s) (told_by stamp_of s)) under_told refl refl refl stamps_told
 
 -- ---- before
 pub keyed_flows : (s : State) (lazy new : Lazily) → IsKept s → lazy.slots ≡ s.runs → IsSettled lazy new → HaveKeys s.slots s.by_flow new s.date

@@ -5,16 +5,17 @@ use Rattle.sg_activity.specs.declared.lives.Live.{Live}
 use Rattle.sg_activity.specs.Slots.{passes, serials}
 use Rattle.sg_activity.specs.Task.{Task, is_hit, uses_off}
 use Rattle.sg_activity.specs.Underway.{hits, with_task}
+use Rattle.sg_activity.specs.Stamp.{anew}
 use Rattle.sg_activity.specs.Doing.{IsHit, without}
 use Rattle.sg_activity.specs.kept.Hits.{AreHits, hit_in}
 use Rattle.sg_activity.specs.kept.Pool.{IsMissing, slot_at}
-use Rattle.sg_activity.specs.kept.State.{State, links_at, task_of, is_now, is_so, told_at, told_by, under_of, doing_of}
+use Rattle.sg_activity.specs.kept.State.{State, links_at, task_of, stamp_of, is_now, is_so, told_at, told_by, under_of, doing_of}
 use Rattle.sg_activity.specs.kept.Sound.{IsKept, place_at}
 use Rattle.sg_activity.specs.kept.Turns.{Turns}
 use Rattle.sg_activity.proofs.Listing.{bool_cases, some_same, length-listed, at_listed, past_listed, serials_none, serials_first}
 use Rattle.sg_activity.proofs.Lookup.{Sought, sought, told_found, told_missed}
 use Rattle.sg_activity.proofs.Rates.{task_there}
-use Rattle.sg_activity.proofs.Told.{doing_same}
+use Rattle.sg_activity.proofs.Told.{doing_same, stamps_set}
 use Rattle.sg_activity.proofs.Turned.{due_set, not_now_any}
 
 less_or : (i n : ℕ) → (i < n) ⊎ (n ≤ i)
@@ -137,16 +138,16 @@ module _ (s : State) (is : IsKept s) (keys : List (Option Key)) (are : AreHits s
 
 -- the phase of one changes, and isn't due any more
 pub changed_told : (s new : State) (key : ℕ) (live : Live) (slot : Option Live) (x : Option Task) (room : ℕ) → IsKept s → slot_at s.slots key ≡ Some live → Turns s new key live.serial slot → new.drawn ≡ s.drawn → under_of new ≡ with_task live.serial x (under_of s) →
-    doing_of new room ≡ record (doing_of s room) { under = with_task live.serial x (under_of s); due = without live.serial (doing_of s room).due; settled = false }
+    doing_of new room ≡ record (doing_of s room) { under = with_task live.serial x (under_of s); due = without live.serial (doing_of s room).due; settled = false; stamps = anew live.serial (with_task live.serial x (under_of s)) (told_by stamp_of s) }
 changed_told s new key live slot x room is at by drawn under =
     let h = is.each key live at in
     let y = told_at (is_now new) new.slots live.serial in
     let count : 1 + (live.serial - 1) ≡ live.serial = omega (arith, h.from) in
     doing_same (under_of new) (with_task live.serial x (under_of s)) (cond new.arrived (serials is_so 1 (told_by (is_now new) new)) []) (without live.serial (cond s.arrived (serials is_so 1 (told_by (is_now s) s)) [])) new.settled false room room
-    under
+    (told_by stamp_of new) (anew live.serial (with_task live.serial x (under_of s)) (told_by stamp_of s)) under
     (ap (λ b. cond b (serials is_so 1 (told_by (is_now new) new)) []) by.arrived ∙ arrive s.arrived (ap (serials is_so 1) (due_set s new key live.serial slot is by drawn h.from h.to)
     ∙ serials_without is_so 1 (live.serial - 1) (told_by (is_now s) s) y (not_now_any s new key live.serial slot is by) ∙ ap (λ n. without n (serials is_so 1 (told_by (is_now s) s))) count))
-    by.unsettled refl
+    by.unsettled refl (stamps_set s new key live.serial slot is by (with_task live.serial x (under_of s)) under drawn h.from h.to)
   where
     arrive : (b : Bool) → serials is_so 1 (told_by (is_now new) new) ≡ without live.serial (serials is_so 1 (told_by (is_now s) s)) → cond b (serials is_so 1 (told_by (is_now new) new)) [] ≡ without live.serial (cond b (serials is_so 1 (told_by (is_now s) s)) [])
     arrive true e = e

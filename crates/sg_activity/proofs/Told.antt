@@ -1,17 +1,20 @@
 -- What is kept stands for what the definitions say, as a phase comes, as one follows another and as one goes.
-use Rattle.std.proofs.Common.{◌≡◌, ◌≢◌, ℕ, zero, suc, ◌+◌, ◌-◌, ◌==◌, ◌<◌, ◌≤◌, inl, inr, Bool, true, false, cond, ◌||◌, is_some, Option, None, Some, option_to_list, List, [], ◌∷◌, ◌++◌, length, map, set, get_or, refl, sym, ap, ap₂, ◌∙◌, arith}
+use Rattle.std.proofs.Common.{◌≡◌, ◌≢◌, ℕ, zero, suc, ◌+◌, ◌-◌, ◌*◌, ◌==◌, ◌<◌, ◌≤◌, inl, inr, Bool, true, false, cond, ◌||◌, is_some, Option, None, Some, option_to_list, List, [], ◌∷◌, ◌++◌, length, map, set, get_or, IsTrue, option_map, refl, sym, ap, ap₂, ◌∙◌, arith}
 use Rattle.std.proofs.lemmas.List.{map-append, map-set, append-nil}
 use Rattle.std.proofs.lemmas.List.Folds.{list_any-append}
+use Rattle.sg_base.specs.declared.ids.LinkId.{LinkId}
 use Rattle.sg_base.specs.MarkSet.{is_in, with_mark}
 use Rattle.sg_maxmin.specs.Fill.{Flow}
 use Rattle.sg_activity.specs.declared.lives.Live.{Live}
 use Rattle.sg_activity.specs.Links.{Capacities, Switches}
 use Rattle.sg_activity.specs.Slots.{passes, serials}
-use Rattle.sg_activity.specs.Task.{Task, flow_in, task_at}
+use Rattle.sg_activity.specs.Stamp.{Stamp, stamped, anew}
+use Rattle.sg_activity.specs.Task.{Task, flow_in, pace, takes_share, task_at}
 use Rattle.sg_activity.specs.Underway.{Underway, started, drawn, with_task}
 use Rattle.sg_activity.specs.Doing.{Doing, started_in, begun_in}
 use Rattle.sg_activity.specs.kept.Pool.{slot_at}
-use Rattle.sg_activity.specs.kept.State.{State, task_of, is_now, is_so, told_at, told_by, began_at, began_by, under_of, doing_of}
+use Rattle.sg_activity.specs.kept.Stamps.{left_at}
+use Rattle.sg_activity.specs.kept.State.{State, links_at, task_from, task_of, stamp_of, is_now, is_so, told_at, told_by, began_at, began_by, under_of, doing_of}
 use Rattle.sg_activity.specs.kept.Sound.{IsKept}
 use Rattle.sg_activity.specs.kept.Turns.{Turns}
 use Rattle.sg_activity.proofs.Listing.{bool_cases, at_listed}
@@ -72,11 +75,34 @@ pub made_same : (d d' : ℕ) (c c' : Capacities) (o o' : Switches) (t t' : List 
 made_same d d' c c' o o' t t' b b' e e' f f' p q z r u v w =
     ap (λ x. made x c o t b e f) p ∙ ap (λ x. made d' x o t b e f) q ∙ ap (λ x. made d' c' x t b e f) z ∙ ap (λ x. made d' c' o' x b e f) r ∙ ap (λ x. made d' c' o' t' x e f) u ∙ ap (λ x. made d' c' o' t' b' x f) v ∙ ap (λ x. made d' c' o' t' b' e' x) w
 
-abbrev pub doing_from : Underway → List ℕ → Bool → ℕ → Doing
-doing_from under due settled room = record { under = under; due = due; settled = settled; room = room }
+abbrev pub doing_from : Underway → List ℕ → Bool → ℕ → List (Option Stamp) → Doing
+doing_from under due settled room stamps = record { under = under; due = due; settled = settled; room = room; stamps = stamps }
 
-pub doing_same : (u u' : Underway) (d d' : List ℕ) (b b' : Bool) (n n' : ℕ) → u ≡ u' → d ≡ d' → b ≡ b' → n ≡ n' → doing_from u d b n ≡ doing_from u' d' b' n'
-doing_same u u' d d' b b' n n' p q r v = ap (λ x. doing_from x d b n) p ∙ ap (λ x. doing_from u' x b n) q ∙ ap (λ x. doing_from u' d' x n) r ∙ ap (λ x. doing_from u' d' b' x) v
+pub doing_same : (u u' : Underway) (d d' : List ℕ) (b b' : Bool) (n n' : ℕ) (t t' : List (Option Stamp)) → u ≡ u' → d ≡ d' → b ≡ b' → n ≡ n' → t ≡ t' → doing_from u d b n t ≡ doing_from u' d' b' n' t'
+doing_same u u' d d' b b' n n' t t' p q r v w =
+    ap (λ x. doing_from x d b n t) p ∙ ap (λ x. doing_from u' x b n t) q ∙ ap (λ x. doing_from u' d' x n t) r ∙ ap (λ x. doing_from u' d' b' x t) v ∙ ap (λ x. doing_from u' d' b' n' x) w
+
+-- ---- stamps
+abbrev stamp_from : ℕ → ℕ → ℕ → Stamp
+stamp_from left date rate = record { left = left; date = date; rate = rate }
+
+stamp_same : (a a' b b' c c' : ℕ) → a ≡ a' → b ≡ b' → c ≡ c' → stamp_from a b c ≡ stamp_from a' b' c'
+stamp_same a a' b b' c c' p q r = ap (λ x. stamp_from x b c) p ∙ ap (λ x. stamp_from a' x c) q ∙ ap (λ x. stamp_from a' b' x) r
+
+-- of a phase that begins, is held or goes on at a date
+stamp_now : (key date : ℕ) (links : List LinkId) (live : Live) → live.stamp ≡ date → (IsTrue (takes_share live.kind) → live.rate ≡ 0) → (takes_share live.kind ≡ false → live.rate ≡ pace live.kind) → stamp_of key live ≡ stamped date (task_from date links live)
+stamp_now key date links live at full empty =
+    stamp_same live.kept (left_at live.kept live.rate live.stamp date) live.stamp date live.rate (cond (takes_share live.kind) 0 (pace live.kind)) (sym (ap (λ n. left_at live.kept live.rate n date) at ∙ still live.kept live.rate date)) at (rates (takes_share live.kind) refl)
+  where
+    none : (kept rate : ℕ) → kept - rate * 0 ≡ kept
+    none kept rate = omega arith
+
+    still : (kept rate date : ℕ) → left_at kept rate date date ≡ kept
+    still kept rate date = let e : date - date ≡ 0 = omega arith in ap (λ n. kept - rate * n) e ∙ none kept rate
+
+    rates : (b : Bool) → takes_share live.kind ≡ b → ◌≡◌ {A = ℕ} live.rate (cond b 0 (pace live.kind))
+    rates true e = full e
+    rates false e = empty e
 
 -- the task under a serial
 pub task_told : (s : State) (serial : ℕ) → 0 < serial → serial ≤ s.drawn → task_at (told_by (task_of s) s) serial ≡ told_at (task_of s) s.slots serial
@@ -102,6 +128,26 @@ module _ (s new : State) (key serial : ℕ) (slot : Option Live) (is : IsKept s)
   pub began_gone : slot ≡ None → passes is_so (told_at (began_at new.fresh) new.slots serial) ≡ false
   began_gone e = ap (passes is_so) (told_gone s new key serial slot is by (began_at new.fresh) e)
 
+  -- the stamp of what is under the key now
+  stamp_here : (live : Live) → slot ≡ Some live → told_at stamp_of new.slots serial ≡ Some (stamped new.date (task_of new key live))
+  stamp_here live e = told_here s new key serial slot is by stamp_of live e ∙ ap Some (stamp_now key new.date (links_at new.ways key) live (by.stamped live e) (by.unrated live e) (by.holds live e).paced)
+
+  -- by serial the stamps
+  stamps_pushed : (live : Live) → slot ≡ Some live → new.drawn ≡ s.drawn + 1 → serial ≡ s.drawn + 1 → told_by stamp_of new ≡ told_by stamp_of s ++ Some (stamped s.date (task_of new key live)) ∷ []
+  stamps_pushed live e drawn is_next =
+      told_pushed s new key serial slot is by stamp_of stamp_of drawn is_next (λ k live ne at. refl)
+      ∙ ap (λ o. told_by stamp_of s ++ o ∷ []) (stamp_here live e) ∙ ap (λ d. told_by stamp_of s ++ Some (stamped d (task_of new key live)) ∷ []) by.date
+
+  pub stamps_set : (under : Underway) → under_of new ≡ under → new.drawn ≡ s.drawn → 0 < serial → serial ≤ s.drawn → told_by stamp_of new ≡ anew serial under (told_by stamp_of s)
+  stamps_set under e drawn from to =
+      told_set s new key serial slot is by stamp_of stamp_of drawn from to (λ k live ne at. refl)
+      ∙ ap (set (told_by stamp_of s) (serial - 1)) (here slot refl ∙ sym (ap (option_map (stamped new.date)) (task_told new serial from (omega (arith, to, drawn)))))
+      ∙ ap (λ (u : Underway). anew serial u (told_by stamp_of s)) e
+    where
+      here : (o : Option Live) → slot ≡ o → told_at stamp_of new.slots serial ≡ option_map (stamped new.date) (told_at (task_of new) new.slots serial)
+      here None f = told_gone s new key serial slot is by stamp_of f ∙ sym (ap (option_map (stamped new.date)) (told_gone s new key serial slot is by (task_of new) f))
+      here (Some live) f = stamp_here live f ∙ sym (ap (option_map (stamped new.date)) (told_here s new key serial slot is by (task_of new) live f))
+
   -- the next serial begins
   pub started_told : (live : Live) (room : ℕ) → slot ≡ Some live → new.drawn ≡ s.drawn + 1 → serial ≡ s.drawn + 1 → is_in key new.fresh ≡ true → new.ended ≡ s.ended → doing_of new (room - 1) ≡ started_in (task_of new key live) (doing_of s room)
   started_told live room e drawn is_next fresh ended =
@@ -109,8 +155,9 @@ module _ (s new : State) (key serial : ℕ) (slot : Option Live) (is : IsKept s)
       made_same new.date s.date new.capacities s.capacities new.on s.on (told_by (task_of new) new) (told_by (task_of s) s ++ Some (task_of new key live) ∷ []) (began_by new) (began_by s ++ true ∷ []) new.ended s.ended new.resources s.resources by.date by.capacities by.on
       (tasks_pushed s new key serial slot is by drawn is_next ∙ ap (λ o. told_by (task_of s) s ++ o ∷ []) (told_here s new key serial slot is by (task_of new) live e))
       (began_pushed drawn is_next ∙ ap (λ b. began_by s ++ b ∷ []) (began_here live e fresh)) ended by.resources in
-      doing_same (under_of new) (started (task_of new key live) (under_of s)) (cond new.arrived (serials is_so 1 (told_by (is_now new) new)) []) (cond s.arrived (serials is_so 1 (told_by (is_now s) s)) []) new.settled false (room - 1) (room - 1) under
-      (ap₂ (λ b l. cond b l []) by.arrived (due_pushed s new key serial slot is by drawn is_next)) by.unsettled refl
+      doing_same (under_of new) (started (task_of new key live) (under_of s)) (cond new.arrived (serials is_so 1 (told_by (is_now new) new)) []) (cond s.arrived (serials is_so 1 (told_by (is_now s) s)) []) new.settled false (room - 1) (room - 1)
+      (told_by stamp_of new) (told_by stamp_of s ++ Some (stamped s.date (task_of new key live)) ∷ []) under
+      (ap₂ (λ b l. cond b l []) by.arrived (due_pushed s new key serial slot is by drawn is_next)) by.unsettled refl (stamps_pushed live e drawn is_next)
 
   -- under a serial that was drawn another phase is under way, or none
   pub under_set : (x : Option Task) → new.drawn ≡ s.drawn → 0 < serial → serial ≤ s.drawn → told_at (task_of new) new.slots serial ≡ x → (is_some (told_at (task_of s) s.slots serial) || is_some x) ≡ true → passes is_so (told_at (began_at new.fresh) new.slots serial) ≡ is_some x →
@@ -127,7 +174,10 @@ module _ (s new : State) (key serial : ℕ) (slot : Option Live) (is : IsKept s)
   pub begun_told : (live : Live) (room : ℕ) → slot ≡ Some live → new.drawn ≡ s.drawn → 0 < serial → serial ≤ s.drawn → told_at (task_of s) s.slots serial ≡ None → slot_at s.slots key ≡ None → is_in key new.fresh ≡ true → new.ended ≡ s.ended →
       doing_of new (room - 1) ≡ begun_in serial (task_of new key live) (doing_of s room)
   begun_told live room e drawn from to idle none fresh ended =
+      let under : under_of new ≡ with_task serial (Some (task_of new key live)) (under_of s) =
+      under_set (Some (task_of new key live)) drawn from to (told_here s new key serial slot is by (task_of new) live e) (ap (λ o. is_some o || true) idle) (began_here live e fresh)
+      (ended ∙ sym (append-nil s.ended) ∙ ap (λ o. s.ended ++ option_to_list (flow_in s.capacities o)) (sym idle)) in
       doing_same (under_of new) (with_task serial (Some (task_of new key live)) (under_of s)) (cond new.arrived (serials is_so 1 (told_by (is_now new) new)) []) (cond s.arrived (serials is_so 1 (told_by (is_now s) s)) []) new.settled false (room - 1) (room - 1)
-      (under_set (Some (task_of new key live)) drawn from to (told_here s new key serial slot is by (task_of new) live e) (ap (λ o. is_some o || true) idle) (began_here live e fresh)
-      (ended ∙ sym (append-nil s.ended) ∙ ap (λ o. s.ended ++ option_to_list (flow_in s.capacities o)) (sym idle)))
+      (told_by stamp_of new) (anew serial (with_task serial (Some (task_of new key live)) (under_of s)) (told_by stamp_of s)) under
       (ap₂ (λ b l. cond b l []) by.arrived (due_stays s new key serial slot is by drawn from to none)) by.unsettled refl
+      (stamps_set (with_task serial (Some (task_of new key live)) (under_of s)) under drawn from to)

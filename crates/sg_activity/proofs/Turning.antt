@@ -113,6 +113,8 @@ flow_turns s drawn key live keys is b full rate idle id_in by_in limit placed = 
       (get_or-set_same s.by_flow live.flow key 0 by_in) (mark_self key s.fresh) b.no_key);
   was = b.was;
   is = λ l e. ap (λ (x : Live). x.serial) (sym (some_same e));
+  stamped = λ l e. ap (λ (x : Live). x.stamp) (sym (some_same e)) ∙ b.stamp;
+  unrated = λ l e _. ap (λ (x : Live). x.rate) (sym (some_same e)) ∙ rate;
   alone = b.alone;
 }
   where
@@ -156,6 +158,8 @@ time_turns s drawn key live ways is b free empty rate ways_same placed counted =
   holds = λ l e. subst (IsHeld new key) (some_same e) (held_unfilled new key live empty b.from b.to b.stamp rate b.small b.bytes b.weighs placed counted (mark_self key s.fresh) b.no_key);
   was = b.was;
   is = λ l e. ap (λ (x : Live). x.serial) (sym (some_same e));
+  stamped = λ l e. ap (λ (x : Live). x.stamp) (sym (some_same e)) ∙ b.stamp;
+  unrated = λ l e full. absurd (true≢false (sym full ∙ ap (λ (x : Live). takes_share x.kind) (sym (some_same e)) ∙ empty));
   alone = b.alone;
 }
   where
@@ -194,6 +198,8 @@ end_turns s key live ways runs ended is at key_in keys_in ways_same went = recor
   holds = λ l e. absurd (cc e);
   was = λ old e. ap (λ (x : Live). x.serial) (some_same (sym e ∙ at));
   is = λ l e. absurd (cc e);
+  stamped = λ l e. absurd (cc e);
+  unrated = λ l e _. absurd (cc e);
   alone = λ k other ne at'. own_serial s key live is at k other ne at';
 }
   where
@@ -286,9 +292,9 @@ pub ended_unfilled : (s : State) (key : ℕ) (live : Live) → takes_share live.
 ended_unfilled s key live empty = sym (append-nil s.ended) ∙ ap (λ o. s.ended ++ option_to_list o) (sym (unfilled_flow s.capacities (task_of s key live) empty))
 
 -- ---- an execution is held
-pub held_turns : (s : State) (key : ℕ) (old live : Live) (ended : List Flow) → IsKept s → slot_at s.slots key ≡ Some old → IsTrue (takes_share old.kind) → key < length s.slots → key < length s.keys → live.serial ≡ old.serial →
+pub held_turns : (s : State) (key : ℕ) (old live : Live) (ended : List Flow) → IsKept s → slot_at s.slots key ≡ Some old → IsTrue (takes_share old.kind) → key < length s.slots → key < length s.keys → live.serial ≡ old.serial → live.stamp ≡ s.date → takes_share live.kind ≡ false →
     IsHeld (held_state s key live (set s.runs old.flow None) ended) key live → Turns s (held_state s key live (set s.runs old.flow None) ended) key live.serial (Some live)
-held_turns s key old live ended is at full key_in keys_in serial held = record {
+held_turns s key old live ended is at full key_in keys_in serial stamp empty held = record {
   capacities = refl;
   resources = refl;
   on = refl;
@@ -310,6 +316,8 @@ held_turns s key old live ended is at full key_in keys_in serial held = record {
   holds = λ l e. subst (IsHeld (held_state s key live (set s.runs old.flow None) ended) key) (some_same e) held;
   was = λ other e. ap (λ (x : Live). x.serial) (some_same (sym e ∙ at)) ∙ sym serial;
   is = λ l e. ap (λ (x : Live). x.serial) (sym (some_same e));
+  stamped = λ l e. ap (λ (x : Live). x.stamp) (sym (some_same e)) ∙ stamp;
+  unrated = λ l e taken. absurd (true≢false (sym taken ∙ ap (λ (x : Live). takes_share x.kind) (sym (some_same e)) ∙ empty));
   alone = λ k other ne at' e. own_serial s key old is at k other ne at' (e ∙ serial);
 }
   where

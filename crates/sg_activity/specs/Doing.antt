@@ -1,5 +1,5 @@
 -- What contracts see of `Activities`.
-use Rattle.std.specs.Prelude.{◌≡◌, ◌≢◌, ℕ, ◌+◌, ◌-◌, ◌^◌, ◌==◌, ◌<◌, ◌≤◌, not, Bool, true, false, Option, None, Some, List, [], ◌∷◌, All, AllPairs, filter, length}
+use Rattle.std.specs.Prelude.{◌≡◌, ◌≢◌, ℕ, ◌+◌, ◌-◌, ◌*◌, ◌^◌, ◌++◌, ◌==◌, ◌<◌, ◌≤◌, not, Bool, true, false, IsTrue, Option, None, Some, List, [], ◌∷◌, All, AllPairs, filter, length, slice_index_or}
 use Rattle.sg_base.specs.declared.ids.LinkId.{LinkId}
 use Rattle.sg_base.specs.Limits.{IsAmount}
 use Rattle.sg_activity.specs.declared.kinds.HostCap.{HostCap}
@@ -7,15 +7,17 @@ use Rattle.sg_activity.specs.declared.kinds.LinkCap.{LinkCap}
 use Rattle.sg_activity.specs.declared.kinds.Phase.{Phase}
 use Rattle.sg_activity.specs.declared.kinds.Transfer.{Transfer}
 use Rattle.sg_activity.specs.Links.{machines}
+use Rattle.sg_activity.specs.Stamp.{Stamp, stamped, anew, all_rerated}
 use Rattle.sg_activity.specs.Task.{Task, Way, is_cut, task_at}
-use Rattle.sg_activity.specs.Underway.{Underway, next_in, due_in, later, drawn, started, begun, ended, settled, given_up, held, gone_on, hits, nothing_on}
+use Rattle.sg_activity.specs.Underway.{Underway, next_in, due_in, later, drawn, started, begun, ended, settled, given_up, held, gone_on, hits, nothing_on, rate}
 
--- What is under way, the serials that are due and not ended yet, whether the rates are up to date, and room for so many starts.
+-- What is under way, the serials that are due and not ended yet, whether the rates are up to date, room for so many starts, and by serial the stamp of the phase that is under way, or nothing.
 pub record Doing : Type 0 where
   pub under : Underway
   pub due : List ℕ
   pub settled : Bool
   pub room : ℕ
+  pub stamps : List (Option Stamp)
 
 -- at first
 abbrev pub idle_on : List HostCap → List LinkCap → Doing
@@ -24,11 +26,15 @@ idle_on hosts links = record {
   due = [];
   settled = false;
   room = 0;
+  stamps = [];
 }
 
 -- a serial is drawn
 abbrev pub drawn_in : Doing → Doing
-drawn_in doing = record doing { under = drawn doing.under }
+drawn_in doing = record doing {
+  under = drawn doing.under;
+  stamps = doing.stamps ++ None ∷ [];
+}
 
 -- a phase begins under the next serial
 abbrev pub started_in : Task → Doing → Doing
@@ -36,6 +42,7 @@ started_in task doing = record doing {
   under = started task doing.under;
   settled = false;
   room = doing.room - 1;
+  stamps = doing.stamps ++ Some (stamped doing.under.date task) ∷ [];
 }
 
 -- a phase begins under this serial
@@ -44,13 +51,19 @@ begun_in serial task doing = record doing {
   under = begun serial task doing.under;
   settled = false;
   room = doing.room - 1;
+  stamps = anew serial (begun serial task doing.under) doing.stamps;
 }
 
 -- The rates are up to date. What was due and hasn't ended is due again at the next date that is gone to.
 abbrev pub settled_in : Doing → Doing
-settled_in doing = record doing { under = settled doing.under; due = []; settled = true }
+settled_in doing = record doing {
+  under = settled doing.under;
+  due = [];
+  settled = true;
+  stamps = all_rerated doing.under doing.stamps;
+}
 
--- so many nanoseconds later those whose time this is are due
+-- so many nanoseconds later those whose time this is are due, and no stamp is another
 abbrev pub later_in : ℕ → Doing → Doing
 later_in span doing = record doing { under = later span doing.under; due = due_in span doing.under }
 
@@ -61,6 +74,7 @@ ended_first (serial ∷ more) doing = record doing {
   under = ended serial doing.under;
   due = more;
   settled = false;
+  stamps = anew serial (ended serial doing.under) doing.stamps;
 }
 
 abbrev pub ended_in : Doing → Doing
@@ -84,6 +98,7 @@ gave_up serial doing = record doing {
   under = given_up serial doing.under;
   due = without serial doing.due;
   settled = false;
+  stamps = anew serial (given_up serial doing.under) doing.stamps;
 }
 
 -- the execution of this serial is held, and isn't due any more
@@ -92,6 +107,7 @@ held_in serial doing = record doing {
   under = held serial doing.under;
   due = without serial doing.due;
   settled = false;
+  stamps = anew serial (held serial doing.under) doing.stamps;
 }
 
 -- the one that is held goes on
@@ -100,6 +116,7 @@ went_on_in serial doing = record doing {
   under = gone_on serial doing.under;
   settled = false;
   room = doing.room - 1;
+  stamps = anew serial (gone_on serial doing.under) doing.stamps;
 }
 
 -- this serial is the first of those that use something that is off
@@ -151,3 +168,17 @@ pub record IsNext (doing : Doing) (date : ℕ) : Type 0 where
 abbrev pub IsUpTo : ℕ → Option ℕ → Type 0
 IsUpTo span None = Unit {0}
 IsUpTo span (Some time) = span ≤ time
+
+-- What is left of a phase follows from its stamp, which is of now or of an earlier date, and once the rates are up to date its rate is the stamp's.
+pub record IsStamp (doing : Doing) (task : Task) (stamp : Stamp) : Type 0 where
+  pub from : stamp.date ≤ doing.under.date
+  pub left : task.left ≡ stamp.left - stamp.rate * (doing.under.date - stamp.date)
+  pub rate : IsTrue doing.settled → rate doing.under task ≡ stamp.rate
+
+-- each phase under way has its stamp
+abbrev pub HaveStamps : Doing → Type 0
+HaveStamps doing =
+    (serial : ℕ) (task : Task) → 0 < serial → serial ≤ length doing.under.tasks →
+    task_at doing.under.tasks serial ≡ Some task →
+    (stamp : Stamp) × (slice_index_or doing.stamps (serial - 1) None ≡ Some stamp)
+    × IsStamp doing task stamp

@@ -1,5 +1,5 @@
 -- Hosts as resources, and their power.
-use Rattle.std.specs.Prelude.{ℕ, ◌*◌, ◌≤◌, ◌^◌, Option, None, Some, IfSome, List, map, slice_index_or}
+use Rattle.std.specs.Prelude.{ℕ, ◌*◌, ◌≤◌, ◌^◌, None, IfSome, List, map, slice_index_or}
 use Rattle.sg_activity.specs.declared.kinds.HostCap.{HostCap}
 use Rattle.sg_activity.specs.declared.kinds.Power.{Power}
 

@@ -4,6 +4,7 @@ pub mod Links
 pub mod Task
 pub mod Power
 pub mod Underway
+pub mod Stamp
 pub mod Doing
 pub mod Laws
 pub mod kept

@@ -1,7 +1,6 @@
 -- What hosts take, by their load.
 use Rattle.std.specs.Prelude.{ℕ, ◌+◌, ◌-◌, ◌*◌, ◌/◌, ◌==◌, ◌&&◌, Bool, false, Option, None, Some, if◌then◌else◌, List, sum_by}
 use Rattle.std.specs.List.{list_any}
-use Rattle.sg_activity.specs.declared.kinds.HostCap.{HostCap}
 use Rattle.sg_activity.specs.declared.kinds.Power.{Power}
 use Rattle.sg_activity.specs.Hosts.{host_at, offer_of}
 use Rattle.sg_activity.specs.Links.{Capacities, Switches, is_off}

@@ -7,7 +7,7 @@ ghost use Rattle.sg_activity.specs.Hosts.{IsHost, offers_of};
 ghost use Rattle.sg_activity.specs.Links.{IsLink, bandwidths_of, is_off};
 ghost use Rattle.sg_activity.specs.Task.{comm_of, exec_of, is_cut as is_cut_spec, task_at, timer_of};
 ghost use Rattle.sg_activity.specs.Underway.{hits, is_computing as is_computing_spec, is_kept as is_kept_spec, is_running, load as load_spec, next_in, with_bandwidth, with_host_on, with_link_on, with_speed, work_of};
-ghost use Rattle.sg_activity.specs.Doing.{idle_on, started_in, drawn_in, begun_in, settled_in, later_in, ended_in, gave_up, held_in, went_on_in, set_in, switched_in, way_of, IsDue, IsHit, IsNext, IsTransfer, IsUpTo};
+ghost use Rattle.sg_activity.specs.Doing.{idle_on, started_in, drawn_in, begun_in, settled_in, later_in, ended_in, gave_up, held_in, went_on_in, set_in, switched_in, way_of, HaveStamps, IsDue, IsHit, IsNext, IsTransfer, IsUpTo};
 
 use crate::beginning::first_parts;
 use crate::capacities::{set_bandwidth, set_speed};
@@ -36,8 +36,9 @@ use std::sync::ledger::Ledger;
 /// flow. It has both also where the latency is 0 or there are no bytes. A flow uses the SHARED links of its route, and
 /// is bounded by the FATPIPE links on it, and by a bound of its own where it was given one.
 ///
-/// Contracts see the hosts and links, the date, by serial the phase that is under way or nothing, the serials that are
-/// due, whether the rates are up to date, and for how many starts there is room. Dates and times are in nanoseconds.
+/// Contracts see the hosts and links, the date, by serial the phase that is under way or nothing, and what was left of
+/// it at which date, the serials that are due, whether the rates are up to date, and for how many starts there is room.
+/// Dates and times are in nanoseconds.
 /// What is left of an execution or a flow is in unit-nanoseconds: one of so many flops or bytes needs 10^9 times as
 /// many, and each nanosecond takes as much as the rate.
 ///
@@ -416,6 +417,15 @@ impl Activities {
         self.kept.fresh.clear();
         self.kept.settled = true;
         self.kept.arrived = false;
+    }
+
+    /// Each phase under way has a stamp, from which what is left of it follows: so much was left at a date, and each
+    /// nanosecond took so much from then on. `advance_to` writes none of them, `settle` those of phases that began or
+    /// have another rate, and a start, an end, a hold or a going on its own.
+    pub fn stamps_tell(&self)
+        ensures { HaveStamps self.now }
+    {
+        let _date = self.kept.date;
     }
 
     /// The date.

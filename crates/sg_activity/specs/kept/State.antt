@@ -12,6 +12,7 @@ use Rattle.sg_activity.specs.declared.lives.Live.{Live}
 use Rattle.sg_activity.specs.Doing.{Doing}
 use Rattle.sg_activity.specs.Links.{Capacities, Switches, machines}
 use Rattle.sg_activity.specs.Slots.{listed, passes, serials}
+use Rattle.sg_activity.specs.Stamp.{Stamp}
 use Rattle.sg_activity.specs.Task.{Place, nowhere, on_host, over, Task, flow_of, wait_by}
 use Rattle.sg_activity.specs.Underway.{Underway}
 use Rattle.sg_activity.specs.kept.Stamps.{left_at, due_of}
@@ -86,6 +87,10 @@ task_from date links live = record {
 -- the phase of the activity under a key
 abbrev pub task_of : State → ℕ → Live → Task
 task_of s key live = task_from s.date (links_at s.ways key) live
+
+-- the stamp of the activity under a key
+abbrev pub stamp_of : ℕ → Live → Stamp
+stamp_of key live = record { left = live.kept; date = live.stamp; rate = live.rate }
 
 -- what the activity under a key asks for
 abbrev pub asked_by : State → ℕ → Live → Flow
@@ -166,4 +171,5 @@ doing_of s room = record {
   due = if s.arrived then serials is_so 1 (told_by (is_now s) s) else [];
   settled = s.settled;
   room = room;
+  stamps = told_by stamp_of s;
 }

@@ -33,4 +33,6 @@ pub record Turns (s new : State) (key serial : ℕ) (slot : Option Live) : Type 
   pub holds : (live : Live) → slot ≡ Some live → IsHeld new key live
   pub was : (live : Live) → slot_at s.slots key ≡ Some live → live.serial ≡ serial
   pub is : (live : Live) → slot ≡ Some live → live.serial ≡ serial
+  pub stamped : (live : Live) → slot ≡ Some live → live.stamp ≡ new.date
+  pub unrated : (live : Live) → slot ≡ Some live → IsTrue (takes_share live.kind) → live.rate ≡ 0
   pub alone : (k : ℕ) (other : Live) → k ≢ key → slot_at s.slots k ≡ Some other → other.serial ≢ serial

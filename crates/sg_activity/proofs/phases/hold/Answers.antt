@@ -54,7 +54,7 @@ returns-clause-ends c =
     let new : State = held_state s key live (set s.runs old.flow None) more in
     let placed : IsPlace s.capacities (place_of phase.Kept old.host old.peer (links_at s.ways key)) = subst (λ k. IsPlace s.capacities (place_of k old.host old.peer (links_at s.ways key))) c.requires.kind h.placed in
     let held : IsHeld new key live = held_unfilled new key live refl h.from h.to refl refl (omega (arith, h.small)) h.few_bytes h.weighs placed (λ e. absurd (cc e)) (mark_self key s.fresh) (set_here s.keys key None keys_in) in
-    let turns : Turns s new key live.serial (Some live) = held_turns s key old live more sound.are c.requires.at full within keys_in refl held in
+    let turns : Turns s new key live.serial (Some live) = held_turns s key old live more sound.are c.requires.at full within keys_in refl refl refl held in
     let state_is = state_same s s.drawn false c.set.new.self.slots (set s.slots key (Some live)) s.ways s.ways c.clear.new.self (set s.keys key None) c.end.new.self.slots (set s.runs old.flow None) s.by_flow s.by_flow c.insert.new.self.members (with_mark key s.fresh) c.end.new.self.ended more c.end.new.self.resources s.resources
     lives refl c.clear.ensures runs refl (ap (λ (m : MarkSet). m.members) c.insert.ensures) ended (ap (λ (l : Lazily). l.resources) is) in
     record {

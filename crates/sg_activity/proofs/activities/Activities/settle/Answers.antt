@@ -17,7 +17,7 @@ use Rattle.sg_activity.specs.Laws.{IsSameHost}
 use Rattle.sg_activity.specs.kept.Metered.{energies, metered_in}
 use Rattle.sg_activity.specs.kept.State.{under_of}
 use Rattle.sg_activity.proofs.Elsewhere.{same_settled}
-use Rattle.sg_activity.proofs.Metering.{metered_kept, work_metered}
+use Rattle.sg_activity.proofs.Metering.{metered_kept, metered_settled, work_metered}
 use Rattle.sg_activity.proofs.activities.Activities.settle.Goals as goal
 
 pub restamp-requires-clause-keys : goal.restamp-requires-clause-keys
@@ -96,6 +96,7 @@ returns-clause-settles g c =
     ap (λ l. doing_of (record s { slots = pool.slots; keys = c.renew.new.agenda; runs = new.slots; fresh = l; ended = new.ended; resources = new.resources; settled = true; arrived = false }) kept.room) none
     ∙ settled_told s kept.lazy new pool kept.fresh c.restamp.new.fresh c.renew.new.agenda is.are refl is.room.capacities by refl kept.lives refl c.restamp.ensures renewed kept.room in
     ap (metered_in (energies kept.date c.self.inside.meter)) told
+    ∙ metered_settled (energies kept.date c.self.inside.meter) (doing_of s kept.room)
     ∙ ap settled_in c.self.view_is
 
 pub returns-clause-looks : goal.returns-clause-looks

@@ -1,0 +1,43 @@
+-- What was left of phases at which date, and how fast they went from then on.
+use Rattle.std.specs.Prelude.{ℕ, ◌+◌, ◌-◌, ◌==◌, ◌&&◌, ◌||◌, not, Bool, false, Option, None, option_and_then, option_map, if◌then◌else◌, List, length, slice_index_or, slice_set}
+use Rattle.sg_activity.specs.Slots.{listed}
+use Rattle.sg_activity.specs.Task.{Task, is_filled, pace, task_at}
+use Rattle.sg_activity.specs.Underway.{Underway, rate}
+
+-- what was left of a phase at a date, and how much a nanosecond takes of it from then on
+pub record Stamp : Type 0 where
+  pub left : ℕ
+  pub date : ℕ
+  pub rate : ℕ
+
+-- the stamp of a phase that begins at this date, is held or goes on: no share was given to it yet
+abbrev pub stamped : ℕ → Task → Stamp
+stamped date task = record {
+  left = task.left;
+  date = date;
+  rate = if is_filled task then 0 else pace task.kind;
+}
+
+-- by serial the stamps, where the phase of this serial alone is another now
+abbrev pub anew : ℕ → Underway → List (Option Stamp) → List (Option Stamp)
+anew serial under stamps =
+    slice_set stamps (serial - 1)
+    (option_map (stamped under.date) (task_at under.tasks serial))
+
+-- The stamp once the rates are up to date. Only of what takes a share, and began or has another rate now, it is another: what is left now.
+abbrev pub rerated : Underway → Bool → Task → Stamp → Stamp
+rerated under began task stamp =
+    if is_filled task && (began || not (rate under task == stamp.rate))
+    then record { left = task.left; date = under.date; rate = rate under task }
+    else stamp
+
+-- that of the phase under a serial
+abbrev pub rerated_at : Underway → List (Option Stamp) → ℕ → Option Stamp
+rerated_at under stamps serial =
+    option_and_then (λ task.
+    option_map (rerated under (slice_index_or under.marks.began (serial - 1) false) task)
+    (slice_index_or stamps (serial - 1) None)) (task_at under.tasks serial)
+
+-- those of all serials
+abbrev pub all_rerated : Underway → List (Option Stamp) → List (Option Stamp)
+all_rerated under stamps = listed (length under.tasks) (λ i. rerated_at under stamps (i + 1))
