@@ -57,9 +57,16 @@ bound_next v b w rest after is small bound =
     let same : (v + 1) * 10 ^ length rest ≡ (v + 1) * 10 * 10 ^ length after = ap (λ x. (v + 1) * x) power ∙ sym (mul_assoc (v + 1) 10 (10 ^ length after)) in
     omega arith
 
-pub next_fits : (v b w : ℕ) (rest after : List ℕ) → rest ≡ b ∷ after → digit_value b < 10 → (v + 1) * 10 ^ length rest ≤ w → w < 2 ^ 120 → v * 10 + (b - 48) < 2 ^ 120
-next_fits v b w rest after is small bound fits =
+pub next_within : (v b w : ℕ) (rest after : List ℕ) → rest ≡ b ∷ after → digit_value b < 10 → (v + 1) * 10 ^ length rest ≤ w → v * 10 + (b - 48) < w
+next_within v b w rest after is small bound =
     let next = bound_next v b w rest after is small bound in
     let some : 1 ≤ 10 ^ length after = pow-le-pow_right {n = 10} (omega arith) {i = 0} {j = length after} (omega arith) in
     let more : (v * 10 + (b - 48) + 1) * 1 ≤ (v * 10 + (b - 48) + 1) * 10 ^ length after = mul-le-mul_left (v * 10 + (b - 48) + 1) some in
     omega arith
+
+pub next_fits : (v b w : ℕ) (rest after : List ℕ) → rest ≡ b ∷ after → digit_value b < 10 → (v + 1) * 10 ^ length rest ≤ w → w < 2 ^ 120 → v * 10 + (b - 48) < 2 ^ 120
+next_fits v b w rest after is small bound fits = omega (arith, next_within v b w rest after is small bound)
+
+-- what up to 18 digits write
+pub few_fit : (n : ℕ) → n ≤ 18 → 10 ^ n ≤ 10 ^ 18
+few_fit n few = pow-le-pow_right {n = 10} (omega arith) {i = n} {j = 18} few

@@ -16,7 +16,7 @@ overflow_add-value c =
     let i = c.loop-b.b-index in
     let rest = rest_at digits i c.loop-b-test.true in
     let small = first_digit _ _ _ rest c.loop-b.invariant.digits in
-    let d : c.from.result ≡ get_or digits i 0 - 48 = c.from.ensures in
+    let d : c.from-in-loop-b.result ≡ get_or digits i 0 - 48 = c.from-in-loop-b.ensures in
     omega (arith, next_fits _ _ _ _ _ rest small c.loop-b.invariant.bound c.requires.bound)
 
 pub loop-b-preserved : goal.loop-b-preserved
@@ -25,7 +25,7 @@ loop-b-preserved c =
     let i = c.loop-b.b-index in
     let rest = rest_at digits i c.loop-b-test.true in
     let small = first_digit _ _ _ rest c.loop-b.invariant.digits in
-    let d : c.from.result ≡ get_or digits i 0 - 48 = c.from.ensures in
+    let d : c.from-in-loop-b.result ≡ get_or digits i 0 - 48 = c.from-in-loop-b.ensures in
     record {
       digits = other_digits _ _ _ rest c.loop-b.invariant.digits;
       read = rw d (read_next _ _ _ _ _ rest small c.loop-b.invariant.read);
