@@ -17,7 +17,8 @@ use Rattle.sg_rows.specs.declared.rows.SpokeRow.{SpokeRow}
 use Rattle.sg_route.specs.declared.locals.Local.{Local}
 use Rattle.sg_route.specs.declared.locals.Pair.{Pair}
 use Rattle.sg_route.specs.Equal.{child_eq, pair_eq}
-use Rattle.sg_route.specs.kept.Index.{child_cmp, pair_cmp, PairsFrom, ChildrenFrom}
+use Rattle.sg_route.specs.declared.spokes.RowsByChild.{RowsByChild}
+use Rattle.sg_route.specs.kept.Index.{child_cmp, pair_cmp, row_of, PairsFrom, ChildrenFrom}
 
 -- ---- the order of keys tells equal ones
 
@@ -64,12 +65,13 @@ pairs_entered at new left rows x some within is index updates =
     subst P (sym (split_at rows left x some within is))
     (entered pair_cmp pair_eq (λ l. l.pair) pair_cmp_is at new (left - 1) left x (drop left rows) (omega arith) index updates)
 
-pub children_entered : (at new : BTreeMap Child ℕ) (left : ℕ) (rows : List SpokeRow) (x : SpokeRow) → 0 < left → left ≤ length rows → x ≡ get_or rows (left - 1) x
-    → ChildrenFrom left at (drop left rows) → Updates child_cmp at new x.child (Some (left - 1)) → ChildrenFrom (left - 1) new (drop (left - 1) rows)
+pub children_entered : (at new : RowsByChild) (left : ℕ) (rows : List SpokeRow) (x : SpokeRow) → 0 < left → left ≤ length rows → x ≡ get_or rows (left - 1) x
+    → ChildrenFrom left at (drop left rows) → ((k : Child) → row_of new k ≡ cond (child_eq k x.child) (Some (left - 1)) (row_of at k)) → ChildrenFrom (left - 1) new (drop (left - 1) rows)
 children_entered at new left rows x some within is index updates =
     let P : List SpokeRow → Type 0 = λ xs. ChildrenFrom (left - 1) new xs in
+    let next : left ≡ left - 1 + 1 = omega arith in
     subst P (sym (split_at rows left x some within is))
-    (entered child_cmp child_eq (λ s. s.child) child_cmp_is at new (left - 1) left x (drop left rows) (omega arith) index updates)
+    (λ k. updates k ∙ ap (λ o. cond (child_eq k x.child) (Some (left - 1)) o) (index k ∙ ap (λ n. position_from (λ (y : SpokeRow). child_eq k y.child) n (drop left rows)) next))
 
 -- ---- what the map finds
 

@@ -1,20 +1,28 @@
 //! Spokes, found by their child.
-ghost use Rattle.std.specs.Prelude.{◌≡◌, IfOk};
+ghost use Rattle.std.specs.Prelude.{◌≡◌, ◌==◌, ◌≤◌, ℕ, None, Some, IfOk, OnOk, if◌then◌else◌, length, slice_index_or};
 ghost use Rattle.std.specs.Option.{option_copied};
-ghost use Rattle.sg_route.specs.kept.Index.{IsIndexOfChildren};
+ghost use Rattle.sg_base.specs.declared.ids.Child.{Child as ChildSpec};
+ghost use Rattle.sg_route.specs.Equal.{child_eq};
+ghost use Rattle.sg_route.specs.kept.Index.{IsIndexOfChildren, row_of};
 ghost use Rattle.sg_route.specs.Local.{spoke_at};
 
 use sg_base::{Child, Memory};
 use sg_rows::SpokeRow;
 use std::alloc::Global;
-use std::collections::BTreeMap;
 use std::marker::Model;
 
-/// Spokes, which contracts see as their list. The first one of a child is found in the time of a look-up.
+/// Rows by children: a number of a row, or none, under the number of each point and of each zone.
+#[derive(Drop)]
+pub(crate) struct RowsByChild {
+    pub(crate) points: Vec<Option<usize>>,
+    pub(crate) zones: Vec<Option<usize>>,
+}
+
+/// Spokes, which contracts see as their list. The first one of a child stands under its number.
 #[derive(Drop)]
 pub(crate) struct Spokes {
     rows: Vec<SpokeRow>,
-    at: BTreeMap<Child, usize>,
+    at: RowsByChild,
 }
 
 impl Model for Spokes {
@@ -29,17 +37,79 @@ impl Model for Spokes {
     ghost invariant = { λ s. IsIndexOfChildren s.at s.rows.items };
 }
 
+// Makes so many places, the new ones without a row.
+fn grow(rows: &mut Vec<Option<usize>>, n: usize) -> Result<(), Memory>
+    ensures same { (number : ℕ) → slice_index_or rows.new.items number None
+        ≡ slice_index_or rows.old.items number None }
+    ensures long { OnOk result (n ≤ length rows.new.items) }
+{
+    for _number in rows.len()..n {
+        match rows.push(None) {
+            Ok(()) => {}
+            Err(_) => return Err(Memory),
+        }
+    }
+    Ok(())
+}
+
+// The row under a number.
+fn row_under(rows: &[Option<usize>], number: u32) -> Option<usize>
+    ensures { result ≡ slice_index_or rows.now number None }
+{
+    match rows.get(number as usize) {
+        Some(row) => *row,
+        None => None,
+    }
+}
+
+// Puts a row under a number.
+fn put(rows: &mut Vec<Option<usize>>, number: u32, row: usize) -> Result<(), Memory>
+    ensures { OnOk result ((n : ℕ) → slice_index_or rows.new.items n None
+        ≡ (if n == number then Some row else slice_index_or rows.old.items n None)) }
+{
+    let place = number as usize;
+    grow(rows, place + 1)?;
+    rows[place] = Some(row);
+    Ok(())
+}
+
+// Puts a row under a child.
+fn enter(at: &mut RowsByChild, child: Child, row: usize) -> Result<(), Memory>
+    ensures { OnOk result ((other : ChildSpec) → row_of at.new other
+        ≡ (if child_eq other child then Some row else row_of at.old other)) }
+{
+    match child {
+        Child::Point(point) => put(&mut at.points, point.0, row),
+        Child::Zone(zone) => put(&mut at.zones, zone.0, row),
+    }
+}
+
 /// Of each child its first row: the rows are entered from the last to the first.
-fn index_of(alloc: Global, rows: &[SpokeRow]) -> Result<BTreeMap<Child, usize>, Memory>
+fn index_of(alloc: Global, rows: &[SpokeRow]) -> Result<RowsByChild, Memory>
     ensures { IfOk result (λ at. IsIndexOfChildren at rows.now) }
 {
-    let mut at = BTreeMap::new(alloc);
+    let mut at = RowsByChild {
+        points: Vec::new(alloc),
+        zones: Vec::new(alloc),
+    };
     let mut left = rows.len();
     while left > 0 {
         left -= 1;
-        at.insert(rows[left].child, left)?;
+        enter(&mut at, rows[left].child, left)?;
     }
     Ok(at)
+}
+
+impl RowsByChild {
+    // The row under a child.
+    fn of(&self, child: Child) -> Option<usize>
+        ensures { result ≡ row_of self.now child }
+    {
+        match child {
+            Child::Point(point) => row_under(&self.points, point.0),
+            Child::Zone(zone) => row_under(&self.zones, zone.0),
+        }
+    }
 }
 
 impl Spokes {
@@ -54,8 +124,8 @@ impl Spokes {
     pub(crate) fn of(&self, child: Child) -> Option<&SpokeRow>
         ensures { option_copied result ≡ spoke_at self.now child }
     {
-        match self.at.get(&child) {
-            Some(at) => self.rows.get(*at),
+        match self.at.of(child) {
+            Some(at) => self.rows.get(at),
             None => None,
         }
     }

@@ -1,14 +1,16 @@
--- Maps from keys to the first row with that key.
-use Rattle.std.specs.Prelude.{◌≡◌, ℕ, List}
+-- Of each key the first row with that key.
+use Rattle.std.specs.Prelude.{◌≡◌, ℕ, List, Option, None, slice_index_or}
 use Rattle.std.specs.List.{position_from}
 use Rattle.std.specs.BTreeMap.{BTreeMap, get}
 use Rattle.std.specs.declared.cmp.Ordering.{Ordering}
 use Rattle.sg_base.specs.contracts.ids.ChildOrd.TheImpl as child_ord
 use Rattle.sg_base.specs.declared.ids.Child.{Child}
+use Rattle.sg_base.specs.declared.ids.Child.TheVariants.{Point, Zone}
 use Rattle.sg_rows.specs.declared.rows.SpokeRow.{SpokeRow}
 use Rattle.sg_route.specs.contracts.locals.PairOrd.TheImpl as pair_ord
 use Rattle.sg_route.specs.declared.locals.Local.{Local}
 use Rattle.sg_route.specs.declared.locals.Pair.{Pair}
+use Rattle.sg_route.specs.declared.spokes.RowsByChild.{RowsByChild}
 use Rattle.sg_route.specs.Equal.{child_eq, pair_eq}
 
 abbrev pub child_cmp : Child → Child → Ordering
@@ -24,9 +26,14 @@ PairsFrom first at rows = (pair : Pair) → get pair_cmp at pair ≡ position_fr
 abbrev pub IsIndexOfPairs : BTreeMap Pair ℕ → List Local → Type 0
 IsIndexOfPairs at rows = PairsFrom 0 at rows
 
--- of each child the first row
-abbrev pub ChildrenFrom : ℕ → BTreeMap Child ℕ → List SpokeRow → Type 0
-ChildrenFrom first at rows = (child : Child) → get child_cmp at child ≡ position_from (λ s. child_eq child s.child) first rows
+-- the row under a child, if there is one
+abbrev pub row_of : RowsByChild → Child → Option ℕ
+row_of at (Point point) = slice_index_or at.points.items point.0 None
+row_of at (Zone zone) = slice_index_or at.zones.items zone.0 None
 
-abbrev pub IsIndexOfChildren : BTreeMap Child ℕ → List SpokeRow → Type 0
+-- of each child the first row
+abbrev pub ChildrenFrom : ℕ → RowsByChild → List SpokeRow → Type 0
+ChildrenFrom first at rows = (child : Child) → row_of at child ≡ position_from (λ s. child_eq child s.child) first rows
+
+abbrev pub IsIndexOfChildren : RowsByChild → List SpokeRow → Type 0
 IsIndexOfChildren at rows = ChildrenFrom 0 at rows

@@ -9,6 +9,6 @@ loop-left-preserved c =
     let at : SpokeRow → SpokeRow = λ d. get_or c.args.rows.now (c.loop-left.left - 1) d in
     record {
       within = omega (arith, c.loop-left.invariant.within);
-      index = children_entered c.loop-left.at c.insert.new.self c.loop-left.left c.args.rows.now (at c.index-rows-left.result) (omega (arith, c.loop-left-test.true))
-          c.loop-left.invariant.within (ap at c.index-rows-left.is) c.loop-left.invariant.index c.in_ok-insert.ensures.updates;
+      index = children_entered c.loop-left.at c.enter.new.at c.loop-left.left c.args.rows.now (at c.index-rows-left.result) (omega (arith, c.loop-left-test.true))
+          c.loop-left.invariant.within (ap at c.index-rows-left.is) c.loop-left.invariant.index c.in_ok-enter.ensures;
     }
