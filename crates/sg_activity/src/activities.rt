@@ -18,7 +18,7 @@ use crate::phases::{end_phase, first_due, go_on, hold, leave};
 use crate::power::{first_meter, load, note, set_powers};
 use crate::renewal::{renew, restamp};
 use crate::room::grow;
-use crate::routes::things_of;
+use crate::routes::write_things;
 use crate::switches::{is_way_cut, set_host_on, set_link_on};
 use sg_base::{LinkId, Marks, Memory, PointId, Serial, Steps};
 use sg_energy::Meter;
@@ -233,14 +233,15 @@ impl Activities {
             peer: receiver,
             flow: 0,
         });
-        let things = things_of(
+        write_things(
             self.kept.hosts.len(),
             self.kept.links.len(),
             links,
             sender,
             receiver,
+            &mut self.kept.things,
         );
-        self.kept.index.enter(key, things.as_slice());
+        self.kept.index.enter(key, self.kept.things.as_slice());
         self.kept.fresh.insert(key);
         self.kept.settled = false;
         self.kept.room -= 1;

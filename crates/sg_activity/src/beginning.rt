@@ -9,6 +9,7 @@ use crate::index::Index;
 use crate::kept::Kept;
 use crate::kinds::{HostCap, LinkCap};
 use crate::lives::Lives;
+use arrayvec::ArrayVec;
 use sg_base::{Marks, Memory};
 use sg_heap::Agenda;
 use sg_lazy::Lazy;
@@ -148,6 +149,9 @@ pub(crate) fn first_parts(
             room: 0,
             flows: 0,
             uses: 0,
+            way: ArrayVec::new(),
+            way_uses: ArrayVec::new(),
+            things: ArrayVec::new(),
         },
         hits,
     })

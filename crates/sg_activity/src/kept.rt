@@ -2,7 +2,8 @@
 use crate::index::Index;
 use crate::kinds::{HostCap, LinkCap};
 use crate::lives::Lives;
-use sg_base::Marks;
+use arrayvec::ArrayVec;
+use sg_base::{LinkId, Marks};
 use sg_heap::Agenda;
 use sg_lazy::Lazy;
 
@@ -39,4 +40,9 @@ pub(crate) struct Kept {
     pub(crate) flows: usize,
     /// For so many uses by these flows there is room: 64 for each start, and one for each link of a latency's way.
     pub(crate) uses: usize,
+    /// The links of a way, what its flow uses, and what its communication uses: written where they are to be handed on,
+    /// in places of their own, since to make an array takes longer than to write a way.
+    pub(crate) way: ArrayVec<LinkId, 64>,
+    pub(crate) way_uses: ArrayVec<usize, 64>,
+    pub(crate) things: ArrayVec<usize, 66>,
 }

@@ -15,7 +15,7 @@ use crate::kept::Kept;
 use crate::kinds::PhaseKind;
 use crate::lives::{Live, flows_ahead, takes_share, uses_ahead};
 use crate::renewal::left_at;
-use crate::routes::{bound_of, tighter, uses_of, way_of};
+use crate::routes::{bound_of, tighter, write_uses, write_way};
 use sg_heap::Agenda;
 
 /// The activity whose phase is due first, and its key.
@@ -49,10 +49,13 @@ fn begin_flow(kept: &mut Kept, key: usize, live: Live)
     ensures used { IsUsed kept.new kept.new.index }
     ensures hit { (hits : List (Option Key)) → AreHit kept.old hits → AreHit kept.new hits }
 {
-    let way = way_of(&kept.index, key, kept.hosts.len());
-    let uses = uses_of(kept.hosts.len(), &kept.links, way.as_slice());
-    let bound = tighter(bound_of(&kept.links, way.as_slice()), live.bound);
-    let flow = kept.lazy.start(uses.as_slice(), live.weight, bound);
+    let hosts = kept.hosts.len();
+    write_way(&kept.index, key, hosts, &mut kept.way);
+    write_uses(hosts, &kept.links, kept.way.as_slice(), &mut kept.way_uses);
+    let bound = tighter(bound_of(&kept.links, kept.way.as_slice()), live.bound);
+    let flow = kept
+        .lazy
+        .start(kept.way_uses.as_slice(), live.weight, bound);
     kept.lives.set(
         key,
         Live {

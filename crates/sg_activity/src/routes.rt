@@ -49,45 +49,50 @@ pub(crate) fn bound_of(links: &[LinkCap], route: &[LinkId]) -> Option<u64>
     bound
 }
 
-/// The resources of a route: the links that its flows share with others. In front of the links stand so many hosts.
-pub(crate) fn uses_of(hosts: usize, links: &[LinkCap], route: &[LinkId]) -> ArrayVec<usize, 64>
+/// Writes the resources of a route: the links that its flows share with others. In front of the links stand so many
+/// hosts.
+pub(crate) fn write_uses(
+    hosts: usize,
+    links: &[LinkCap],
+    route: &[LinkId],
+    uses: &mut ArrayVec<usize, 64>,
+)
     requires exist { All (λ (link : LinkId). link.0 < length links.now) route.now }
     requires few { length route.now ≤ 64 }
     requires fits { hosts + length links.now < 2 ^ 64 }
-    ensures { result.items ≡ shared_of hosts links.now route.now }
+    ensures { uses.new.items ≡ shared_of hosts links.now route.now }
 {
-    let mut uses = ArrayVec::new();
+    uses.clear();
     for link in route {
         if !links[link.0 as usize].fatpipe {
             uses.push(hosts + link.0 as usize);
         }
     }
-    uses
 }
 
-/// The things of a way: all its links, and the hosts of the sender and the receiver as its ends. In front of the links
-/// stand so many hosts, and behind so many links the ends.
-pub(crate) fn things_of(
+/// Writes the things of a way: all its links, and the hosts of the sender and the receiver as its ends. In front of the
+/// links stand so many hosts, and behind so many links the ends.
+pub(crate) fn write_things(
     hosts: usize,
     links: usize,
     route: &[LinkId],
     sender: usize,
     receiver: usize,
-) -> ArrayVec<usize, 66>
+    things: &mut ArrayVec<usize, 66>,
+)
     requires few { length route.now ≤ 64 }
     requires exist { All (λ (link : LinkId). link.0 < links) route.now }
     requires ends { (sender < hosts) × (receiver < hosts) }
     requires fits { hosts + links + hosts < 2 ^ 64 }
-    ensures { result.items ≡ used_at hosts links
+    ensures { things.new.items ≡ used_at hosts links
         (over (record { links = route.now; sender = sender; receiver = receiver })) }
 {
-    let mut things = ArrayVec::new();
+    things.clear();
     things.push(hosts + links + sender);
     things.push(hosts + links + receiver);
     for link in route {
         things.push(hosts + link.0 as usize);
     }
-    things
 }
 
 // What stands at a place of what a communication uses comes to the end of its links, unless it is one of the two ends.
@@ -103,39 +108,50 @@ fn put_link(links: &mut ArrayVec<LinkId, 64>, hosts: usize, place: usize, thing:
     }
 }
 
-// The links of a way, as the index has it.
+// Writes the links of a way, as the index has it.
 fn read_way<L: Ledger>(
     index: &Index,
     key: usize,
     hosts: usize,
+    links: &mut ArrayVec<LinkId, 64>,
     blank: Blank,
-) -> ArrayVec<LinkId, 64>
+)
     requires name { blank.name ≡ L.name }
     requires parts { blank.parts ≡ L.parts }
     requires some { 0 < blank.parts }
     requires key { key < length index.now.rows }
     requires way { IsWayRow hosts (row_at index.now.rows key) }
-    ensures { result.items ≡ way_in hosts (row_at index.now.rows key) }
+    ensures { links.new.items ≡ way_in hosts (row_at index.now.rows key) }
 {
     let mut steps = Steps::<L>::new(blank);
-    let mut links = ArrayVec::new();
+    links.clear();
     let mut place = 0;
     let mut at = index.first_of(key);
     while let Some(i) = at {
         let one = index.look(i, &mut steps);
-        put_link(&mut links, hosts, place, one.resource);
+        put_link(links, hosts, place, one.resource);
         place += 1;
         at = one.next_of_flow;
     }
-    links
 }
 
-/// The links of the way of the communication under a key, which the index has. In front of the links stand so many
-/// hosts.
+/// Writes the links of the way of the communication under a key, which the index has. In front of the links stand so
+/// many hosts.
+pub(crate) fn write_way(index: &Index, key: usize, hosts: usize, links: &mut ArrayVec<LinkId, 64>)
+    requires key { key < length index.now.rows }
+    requires way { IsWayRow hosts (row_at index.now.rows key) }
+    ensures { links.new.items ≡ way_in hosts (row_at index.now.rows key) }
+{
+    read_way::<Brand>(index, key, hosts, links, Blank::new(1));
+}
+
+/// The same links, for a caller that has no place for them.
 pub(crate) fn way_of(index: &Index, key: usize, hosts: usize) -> ArrayVec<LinkId, 64>
     requires key { key < length index.now.rows }
     requires way { IsWayRow hosts (row_at index.now.rows key) }
     ensures { result.items ≡ way_in hosts (row_at index.now.rows key) }
 {
-    read_way::<Brand>(index, key, hosts, Blank::new(1))
+    let mut links = ArrayVec::new();
+    write_way(index, key, hosts, &mut links);
+    links
 }

@@ -51,33 +51,33 @@ row_of kept key live sound used at latency =
 read : (kept : Kept) (key hosts : ℕ) (links : List LinkId) → hosts ≡ length kept.hosts.items → links ≡ way_in hosts (row_at kept.index.rows key) → links ≡ links_at (ways_of kept) key
 read kept key hosts links many is = is ∙ ap (λ n. way_in n (row_at kept.index.rows key)) many
 
-pub way_of-way-requires-clause-key : goal.way_of-way-requires-clause-key
-way_of-way-requires-clause-key c = omega (arith, there_within c.args.kept.now.lives.slots c.args.key c.args.live c.requires.at, c.requires.sound.room.rows_long)
+pub write_way-requires-clause-key : goal.write_way-requires-clause-key
+write_way-requires-clause-key c = omega (arith, there_within c.args.kept.now.lives.slots c.args.key c.args.live c.requires.at, c.requires.sound.room.rows_long)
 
-pub way_of-way-requires-clause-way : goal.way_of-way-requires-clause-way
-way_of-way-requires-clause-way c =
+pub write_way-requires-clause-way : goal.write_way-requires-clause-way
+write_way-requires-clause-way c =
     let kept = c.args.kept.now in
-    subst (λ n. IsWayRow n (row_at kept.index.rows c.args.key)) (sym (c.len.ensures ∙ kept.hosts.ok.0)) (row_of kept c.args.key c.args.live c.requires.sound c.requires.used c.requires.at c.requires.kind)
+    subst (λ n. IsWayRow n (row_at kept.index.rows c.args.key)) (sym (c.len-hosts.ensures ∙ kept.hosts.ok.0)) (row_of kept c.args.key c.args.live c.requires.sound c.requires.used c.requires.at c.requires.kind)
 
-pub uses_of-uses-requires-clause-exist : goal.uses_of-uses-requires-clause-exist
-uses_of-uses-requires-clause-exist c =
+pub write_uses-requires-clause-exist : goal.write_uses-requires-clause-exist
+write_uses-requires-clause-exist c =
     let kept = c.args.kept.now in
-    let route = c.as_slice.ensures.value ∙ read kept c.args.key c.len.result c.way_of-way.result.items (c.len.ensures ∙ kept.hosts.ok.0) c.way_of-way.ensures in
+    let route = c.as_slice.ensures.value ∙ read kept c.args.key c.len-hosts.result c.write_way.new.links.items (c.len-hosts.ensures ∙ kept.hosts.ok.0) c.write_way.ensures in
     let way = way_of kept c.args.key c.args.live c.requires.sound c.requires.at c.requires.kind in
     subst (λ l. All (λ (link : LinkId). link.0 < length l) c.as_slice.result.now) (sym c.deref.ensures.value)
     (subst (All (λ (link : LinkId). link.0 < length kept.links.items)) (sym route) way.exist)
 
-pub uses_of-uses-requires-clause-few : goal.uses_of-uses-requires-clause-few
-uses_of-uses-requires-clause-few c =
+pub write_uses-requires-clause-few : goal.write_uses-requires-clause-few
+write_uses-requires-clause-few c =
     let kept = c.args.kept.now in
-    let route = c.as_slice.ensures.value ∙ read kept c.args.key c.len.result c.way_of-way.result.items (c.len.ensures ∙ kept.hosts.ok.0) c.way_of-way.ensures in
+    let route = c.as_slice.ensures.value ∙ read kept c.args.key c.len-hosts.result c.write_way.new.links.items (c.len-hosts.ensures ∙ kept.hosts.ok.0) c.write_way.ensures in
     let way = way_of kept c.args.key c.args.live c.requires.sound c.requires.at c.requires.kind in
     omega (arith, way.few, ap length route)
 
 pub bound_of-requires : goal.bound_of-requires
 bound_of-requires c =
     let kept = c.args.kept.now in
-    let route = c.as_slice-2.ensures.value ∙ read kept c.args.key c.len.result c.way_of-way.result.items (c.len.ensures ∙ kept.hosts.ok.0) c.way_of-way.ensures in
+    let route = c.as_slice-2.ensures.value ∙ read kept c.args.key c.len-hosts.result c.write_way.new.links.items (c.len-hosts.ensures ∙ kept.hosts.ok.0) c.write_way.ensures in
     let way = way_of kept c.args.key c.args.live c.requires.sound c.requires.at c.requires.kind in
     subst (λ l. All (λ (link : LinkId). link.0 < length l) c.as_slice-2.result.now) (sym c.deref-2.ensures.value)
     (subst (All (λ (link : LinkId). link.0 < length kept.links.items)) (sym route) way.exist)
@@ -87,10 +87,10 @@ start-flow-requires-clause-flow c =
     let kept = c.args.kept.now in
     let s : State = state_of kept in
     let links = links_at (ways_of kept) c.args.key in
-    let way_is = read kept c.args.key c.len.result c.way_of-way.result.items (c.len.ensures ∙ kept.hosts.ok.0) c.way_of-way.ensures in
+    let way_is = read kept c.args.key c.len-hosts.result c.write_way.new.links.items (c.len-hosts.ensures ∙ kept.hosts.ok.0) c.write_way.ensures in
     let way = way_of kept c.args.key c.args.live c.requires.sound c.requires.at c.requires.kind in
-    let hosts : c.len-2.result ≡ length kept.hosts.items = c.len-2.ensures ∙ kept.hosts.ok.0 in
-    let uses : c.as_slice-3.result.now ≡ shared_of (length kept.hosts.items) kept.links.items links = c.as_slice-3.ensures.value ∙ c.uses_of-uses.ensures ∙ ap (λ n. shared_of n c.deref.result.now c.as_slice.result.now) hosts
+    let hosts : c.len-hosts.result ≡ length kept.hosts.items = c.len-hosts.ensures ∙ kept.hosts.ok.0 in
+    let uses : c.as_slice-3.result.now ≡ shared_of (length kept.hosts.items) kept.links.items links = c.as_slice-3.ensures.value ∙ c.write_uses.ensures ∙ ap (λ n. shared_of n c.deref.result.now c.as_slice.result.now) hosts
     ∙ ap₂ (shared_of (length kept.hosts.items)) c.deref.ensures.value (c.as_slice.ensures.value ∙ way_is) in
     let bound : c.tighter-bound.result ≡ sooner (route_bound kept.links.items links) c.args.live.bound = c.tighter-bound.ensures ∙ ap (λ b. sooner b c.args.live.bound) (c.bound_of.ensures ∙ ap₂ route_bound c.deref-2.ensures.value (c.as_slice-2.ensures.value ∙ way_is)) in
     let weighs = (c.requires.sound.are.each c.args.key c.args.live c.requires.at).weighs in
@@ -102,10 +102,10 @@ start-flow-requires-clause-use_room c =
     let kept = c.args.kept.now in
     let old = c.args.live in
     let links = links_at (ways_of kept) c.args.key in
-    let way_is = read kept c.args.key c.len.result c.way_of-way.result.items (c.len.ensures ∙ kept.hosts.ok.0) c.way_of-way.ensures in
-    let uses : c.as_slice-3.result.now ≡ shared_of c.len-2.result kept.links.items links = c.as_slice-3.ensures.value ∙ c.uses_of-uses.ensures ∙ ap₂ (shared_of c.len-2.result) c.deref.ensures.value (c.as_slice.ensures.value ∙ way_is) in
+    let way_is = read kept c.args.key c.len-hosts.result c.write_way.new.links.items (c.len-hosts.ensures ∙ kept.hosts.ok.0) c.write_way.ensures in
+    let uses : c.as_slice-3.result.now ≡ shared_of c.len-hosts.result kept.links.items links = c.as_slice-3.ensures.value ∙ c.write_uses.ensures ∙ ap₂ (shared_of c.len-hosts.result) c.deref.ensures.value (c.as_slice.ensures.value ∙ way_is) in
     let sound = c.requires.sound in
-    omega (arith, ap length uses, shared_few c.len-2.result kept.links.items links, (sound.are.each c.args.key old c.requires.at).counted c.requires.kind, ap (λ k. uses_ahead k old.links) c.requires.kind, uses_counted kept.lives.slots c.args.key old (there_within kept.lives.slots c.args.key old c.requires.at) c.requires.at, sound.room.uses, sound.room.use_room)
+    omega (arith, ap length uses, shared_few c.len-hosts.result kept.links.items links, (sound.are.each c.args.key old c.requires.at).counted c.requires.kind, ap (λ k. uses_ahead k old.links) c.requires.kind, uses_counted kept.lives.slots c.args.key old (there_within kept.lives.slots c.args.key old c.requires.at) c.requires.at, sound.room.uses, sound.room.use_room)
 
 pub set-requires-clause-there : goal.set-requires-clause-there
 set-requires-clause-there c = ap is_some c.requires.at
@@ -127,10 +127,10 @@ returns-clause-ends c =
     let old = c.args.live in
     let id = c.start-flow.result in
     let links = links_at (ways_of kept) key in
-    let way_is = read kept c.args.key c.len.result c.way_of-way.result.items (c.len.ensures ∙ kept.hosts.ok.0) c.way_of-way.ensures in
+    let way_is = read kept c.args.key c.len-hosts.result c.write_way.new.links.items (c.len-hosts.ensures ∙ kept.hosts.ok.0) c.write_way.ensures in
     let way = way_of kept key old sound c.requires.at c.requires.kind in
-    let hosts : c.len-2.result ≡ length kept.hosts.items = c.len-2.ensures ∙ kept.hosts.ok.0 in
-    let uses : c.as_slice-3.result.now ≡ shared_of (length kept.hosts.items) kept.links.items links = c.as_slice-3.ensures.value ∙ c.uses_of-uses.ensures ∙ ap (λ n. shared_of n c.deref.result.now c.as_slice.result.now) hosts
+    let hosts : c.len-hosts.result ≡ length kept.hosts.items = c.len-hosts.ensures ∙ kept.hosts.ok.0 in
+    let uses : c.as_slice-3.result.now ≡ shared_of (length kept.hosts.items) kept.links.items links = c.as_slice-3.ensures.value ∙ c.write_uses.ensures ∙ ap (λ n. shared_of n c.deref.result.now c.as_slice.result.now) hosts
     ∙ ap₂ (shared_of (length kept.hosts.items)) c.deref.ensures.value (c.as_slice.ensures.value ∙ way_is) in
     let bound : c.tighter-bound.result ≡ sooner (route_bound kept.links.items links) c.args.live.bound = c.tighter-bound.ensures ∙ ap (λ b. sooner b c.args.live.bound) (c.bound_of.ensures ∙ ap₂ route_bound c.deref-2.ensures.value (c.as_slice-2.ensures.value ∙ way_is)) in
     let weighs = (sound.are.each key old c.requires.at).weighs in

@@ -32,23 +32,23 @@ use Rattle.sg_activity.proofs.activities.Activities.start_comm.Goals as goal
 given : (asked doing : Doing) (links : List LinkId) (transfer : Transfer) → doing ≡ asked → IsTransfer asked.under links transfer → IsTransfer doing.under links transfer
 given asked doing links transfer same is = subst (λ (d : Doing). IsTransfer d.under links transfer) (sym same) is
 
-pub things_of-things-requires-clause-few : goal.things_of-things-requires-clause-few
-things_of-things-requires-clause-few c = c.requires.transfer.few
+pub write_things-requires-clause-few : goal.write_things-requires-clause-few
+write_things-requires-clause-few c = c.requires.transfer.few
 
-pub things_of-things-requires-clause-exist : goal.things_of-things-requires-clause-exist
-things_of-things-requires-clause-exist c =
+pub write_things-requires-clause-exist : goal.write_things-requires-clause-exist
+write_things-requires-clause-exist c =
     let kept = c.self.inside.kept in
     let may = given c.args.self.now (metered_in (energies kept.date c.self.inside.meter) (doing_of (state_of kept) kept.room)) c.args.links.now c.args.transfer c.self.view_is c.requires.transfer in
     subst (λ n. All (λ (link : LinkId). link.0 < n) c.args.links.now) (sym (c.len-2.ensures ∙ kept.links.ok.0)) may.exist
 
-pub things_of-things-requires-clause-ends : goal.things_of-things-requires-clause-ends
-things_of-things-requires-clause-ends c =
+pub write_things-requires-clause-ends : goal.write_things-requires-clause-ends
+write_things-requires-clause-ends c =
     let kept = c.self.inside.kept in
     let may = given c.args.self.now (metered_in (energies kept.date c.self.inside.meter) (doing_of (state_of kept) kept.room)) c.args.links.now c.args.transfer c.self.view_is c.requires.transfer in
     (omega (arith, may.sender, c.len.ensures, kept.hosts.ok.0), omega (arith, may.receiver, c.len.ensures, kept.hosts.ok.0))
 
-pub things_of-things-requires-clause-fits : goal.things_of-things-requires-clause-fits
-things_of-things-requires-clause-fits c =
+pub write_things-requires-clause-fits : goal.write_things-requires-clause-fits
+write_things-requires-clause-fits c =
     let kept = c.self.inside.kept in
     omega (arith, c.len.ensures, c.len-2.ensures, kept.hosts.ok.0, kept.links.ok.0, c.self.invariant.switches.1.1.0)
 
@@ -66,7 +66,7 @@ enter-requires-clause-exist c =
     let s : State = state_of kept in
     let transfer = c.args.transfer in
     let may = given c.args.self.now (metered_in (energies kept.date c.self.inside.meter) (doing_of s kept.room)) c.args.links.now transfer c.self.view_is c.requires.transfer in
-    let things_are : c.as_slice.result.now ≡ used_at (length kept.hosts.items) (length kept.links.items) (over (way_of c.args.links.now transfer)) = c.as_slice.ensures.value ∙ c.things_of-things.ensures
+    let things_are : c.as_slice.result.now ≡ used_at (length kept.hosts.items) (length kept.links.items) (over (way_of c.args.links.now transfer)) = c.as_slice.ensures.value ∙ c.write_things.ensures
     ∙ ap₂ (λ n m. used_at n m (over (way_of c.args.links.now transfer))) (c.len.ensures ∙ kept.hosts.ok.0) (c.len-2.ensures ∙ kept.links.ok.0) in
     subst (All (λ thing. thing < length c.self.inside.kept.index.users)) (sym things_are)
     (all_used (length kept.hosts.items) (length kept.links.items) (length c.self.inside.kept.index.users) (way_of c.args.links.now transfer) (sym c.self.invariant.used.things) may.sender may.receiver may.exist)
@@ -75,7 +75,7 @@ pub enter-requires-clause-room : goal.enter-requires-clause-room
 enter-requires-clause-room c =
     let kept = c.self.inside.kept in
     let transfer = c.args.transfer in
-    omega (arith, ap length (c.as_slice.ensures.value ∙ c.things_of-things.ensures), long_used c.len.result c.len-2.result (way_of c.args.links.now transfer), c.requires.transfer.few, c.self.invariant.used.uses_free, ap (λ (d : Doing). d.room) c.self.view_is, c.requires.room)
+    omega (arith, ap length (c.as_slice.ensures.value ∙ c.write_things.ensures), long_used c.len.result c.len-2.result (way_of c.args.links.now transfer), c.requires.transfer.few, c.self.invariant.used.uses_free, ap (λ (d : Doing). d.room) c.self.view_is, c.requires.room)
 
 pub put-key-requires-clause-apart : goal.put-key-requires-clause-apart
 put-key-requires-clause-apart c =
@@ -99,7 +99,7 @@ invariant_of-self c =
     let small : live.kept ≤ 10 ^ 24 = omega (arith, may.latency) in
     let idle : told_at (task_of s) s.slots live.serial ≡ None = sym (task_told s live.serial c.requires.from to) ∙ ap (λ (d : Doing). task_at d.under.tasks live.serial) c.self.view_is ∙ c.requires.idle in
     let ways : ℕ → List LinkId = ways_of (record kept { index = c.enter.new.self }) in
-    let things_are : c.as_slice.result.now ≡ used_at (length kept.hosts.items) (length kept.links.items) (over (way_of c.args.links.now transfer)) = c.as_slice.ensures.value ∙ c.things_of-things.ensures
+    let things_are : c.as_slice.result.now ≡ used_at (length kept.hosts.items) (length kept.links.items) (over (way_of c.args.links.now transfer)) = c.as_slice.ensures.value ∙ c.write_things.ensures
     ∙ ap₂ (λ n m. used_at n m (over (way_of c.args.links.now transfer))) (c.len.ensures ∙ kept.hosts.ok.0) (c.len-2.ensures ∙ kept.links.ok.0) in
     let here : links_at ways key ≡ c.args.links.now = ap (way_in (length kept.hosts.items)) (c.enter.ensures.row.here ∙ things_are) ∙ way_back (length kept.hosts.items) (length kept.links.items) (way_of c.args.links.now transfer) in
     let way : IsPath s.capacities (record { links = links_at ways key; sender = transfer.sender.0; receiver = transfer.receiver.0 }) = subst (λ l. IsPath s.capacities (record { links = l; sender = transfer.sender.0; receiver = transfer.receiver.0 })) (sym here)
@@ -163,7 +163,7 @@ returns c =
     let small : live.kept ≤ 10 ^ 24 = omega (arith, may.latency) in
     let idle : told_at (task_of s) s.slots live.serial ≡ None = sym (task_told s live.serial c.requires.from to) ∙ ap (λ (d : Doing). task_at d.under.tasks live.serial) c.self.view_is ∙ c.requires.idle in
     let ways : ℕ → List LinkId = ways_of (record kept { index = c.enter.new.self }) in
-    let things_are : c.as_slice.result.now ≡ used_at (length kept.hosts.items) (length kept.links.items) (over (way_of c.args.links.now transfer)) = c.as_slice.ensures.value ∙ c.things_of-things.ensures
+    let things_are : c.as_slice.result.now ≡ used_at (length kept.hosts.items) (length kept.links.items) (over (way_of c.args.links.now transfer)) = c.as_slice.ensures.value ∙ c.write_things.ensures
     ∙ ap₂ (λ n m. used_at n m (over (way_of c.args.links.now transfer))) (c.len.ensures ∙ kept.hosts.ok.0) (c.len-2.ensures ∙ kept.links.ok.0) in
     let here : links_at ways key ≡ c.args.links.now = ap (way_in (length kept.hosts.items)) (c.enter.ensures.row.here ∙ things_are) ∙ way_back (length kept.hosts.items) (length kept.links.items) (way_of c.args.links.now transfer) in
     let way : IsPath s.capacities (record { links = links_at ways key; sender = transfer.sender.0; receiver = transfer.receiver.0 }) = subst (λ l. IsPath s.capacities (record { links = l; sender = transfer.sender.0; receiver = transfer.receiver.0 })) (sym here)
