@@ -22,7 +22,8 @@ use crate::killing::kill;
 use crate::locks::{acquire, arrive, lock, release, unlock};
 use crate::meetings::{come, comer_of, wait};
 use crate::stop::Stop;
-use sg_base::{ActorId, Answer, Call};
+use arrayvec::ArrayVec;
+use sg_base::{ActorId, Answer, Call, LinkId};
 use sg_route::Router;
 
 // Answers a call that is no side of a communication, where the budget isn't used up.
@@ -57,12 +58,14 @@ fn answer_alone(fields: &mut Fields, actor: ActorId, call: Call)
     }
 }
 
-/// Answers a call, unless the budget is used up. A missing or too long route stops the run.
+/// Answers a call, unless the budget is used up. A missing or too long route stops the run. `links` is where a route is
+/// written.
 pub(crate) fn answer_call(
     fields: &mut Fields,
     actor: ActorId,
     call: Call,
     router: &mut Router,
+    links: &mut ArrayVec<LinkId, 64>,
 ) -> Result<(), Stop>
     requires caller { MayCall (core_of fields.old) actor.0 }
     requires call { IsCall (extent (setup_in fields.old)) call }
@@ -82,7 +85,7 @@ pub(crate) fn answer_call(
         return Err(Stop::Budget);
     }
     match comer_of(actor, call) {
-        Some(comer) => come(fields, router, comer),
+        Some(comer) => come(fields, router, links, comer),
         None => {
             answer_alone(fields, actor, call);
             Ok(())

@@ -25,7 +25,8 @@ use crate::creating::create;
 use crate::fields::Fields;
 use crate::passes::move_on;
 use crate::stop::Stop;
-use sg_base::{Action, ActorId, Answer, Call, Memory, PointId, Record, Steps};
+use arrayvec::ArrayVec;
+use sg_base::{Action, ActorId, Answer, Call, LinkId, Memory, PointId, Record, Steps};
 use sg_route::Router;
 use sg_rows::{Deployment, PlatformText};
 use sg_states::State;
@@ -50,12 +51,14 @@ const SPARE_CALLS: usize = 64;
 /// up to date.
 pub struct Kernel {
     fields: Fields,
+    // where the links of a route are written that is begun over
+    way: ArrayVec<LinkId, 64>,
 }
 
 // A function of its own, so that a proof in which one is dropped doesn't go into its parts.
 impl Drop for Kernel {
     fn drop(self) {
-        let Kernel { fields: _ } = self;
+        let Kernel { fields: _, way: _ } = self;
     }
 }
 
@@ -88,7 +91,10 @@ impl Kernel {
             (setup_of platform.now deployment.now budget)) }
     {
         let fields = first_fields(alloc, platform, deployment, budget)?;
-        Ok(Kernel { fields })
+        Ok(Kernel {
+            fields,
+            way: ArrayVec::new(),
+        })
     }
 
     // Makes room for so many calls, and for all passes up to the next round.
@@ -133,7 +139,7 @@ impl Kernel {
             ≡ result_of (answered router.old self.old.setup self.old.core actor.0 call).stop }
         ensures router { router.new ≡ router.old }
     {
-        answer_call(&mut self.fields, actor, call, router)
+        answer_call(&mut self.fields, actor, call, router, &mut self.way)
     }
 
     /// Tells an actor that asked its next line, or that there is none.

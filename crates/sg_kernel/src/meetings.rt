@@ -345,10 +345,12 @@ fn meet(
     }
 }
 
-// Both sides are there: their communication begins over its route, or fails.
+// Both sides are there: their communication begins over its route, or fails. Its links are written in a place that stands
+// ready, since to make an array takes longer than to write a route.
 fn join(
     fields: &mut Fields,
     router: &mut Router,
+    links: &mut ArrayVec<LinkId, 64>,
     comer: Comer,
     found: Found,
     met: (Serial, Side),
@@ -367,8 +369,7 @@ fn join(
     let (_, other) = met;
     let from = point_of(fields, sender_of(comer, other));
     let to = point_of(fields, receiver_of(comer, other));
-    let mut links: ArrayVec<LinkId, 64> = ArrayVec::new();
-    match router.route(from, to, &mut links) {
+    match router.route(from, to, links) {
         Ok(latency) => {
             meet(fields, comer, found, met, links.as_slice(), latency);
             Ok(())
@@ -378,7 +379,12 @@ fn join(
 }
 
 /// A side comes to its mailbox. A missing or too long route stops the run, with all as it was.
-pub(crate) fn come(fields: &mut Fields, router: &mut Router, comer: Comer) -> Result<(), Stop>
+pub(crate) fn come(
+    fields: &mut Fields,
+    router: &mut Router,
+    links: &mut ArrayVec<LinkId, 64>,
+    comer: Comer,
+) -> Result<(), Stop>
     requires able { CanStep fields.old comer.side.actor.0 }
     requires comer { IsComer (extent (setup_in fields.old)) comer }
     requires roads { AreOver fields.old.links router.old }
@@ -390,7 +396,7 @@ pub(crate) fn come(fields: &mut Fields, router: &mut Router, comer: Comer) -> Re
 {
     let found = fields.boxes.look(comer.mailbox, comer.sends);
     match found.met {
-        Some(met) => join(fields, router, comer, found, met),
+        Some(met) => join(fields, router, links, comer, found, met),
         None => {
             post(fields, comer, found);
             Ok(())
