@@ -1,0 +1,271 @@
+//! Values by serials.
+ghost use Rattle.std.specs.Prelude.{◌≡◌, ◌≤◌, ◌<◌, ◌+◌, ◌^◌, ℕ, nat_eq, None, Some, IsSome, OnOk, true, false, if◌then◌else◌, length, slice_index_or, slice_set};
+ghost use Rattle.std.specs.HashMap as hash;
+ghost use Rattle.sg_serials.specs.Serials.{at, place as place_spec, room, value_in as value_in_spec, Puts};
+
+use sg_base::Memory;
+use std::alloc::Global;
+use std::collections::HashMap;
+
+/// The most places.
+const MOST_PLACES: usize = 8192;
+
+/// A value and its serial.
+#[derive(Clone, Copy)]
+pub struct Entry<T> {
+    pub(crate) serial: u64,
+    pub(crate) value: T,
+}
+
+/// Values by serials. Contracts see for each serial its value or none, and for how many there is room.
+///
+/// Serials that follow one another have places side by side, under their last digits; one whose place another has is in a
+/// map, as all are where no places were made yet. Only `reserve` takes memory.
+#[derive(Drop)]
+pub struct BySerial<T> {
+    near: Vec<Option<Entry<T>>>,
+    // the last digits, in binary: one less than how many places there are
+    mask: u64,
+    far: HashMap<u64, T>,
+}
+
+fn place(mask: u64, serial: u64) -> usize
+    ensures { result ≡ place_spec mask serial }
+{
+    (serial & mask) as usize
+}
+
+// The value of an entry, where it is of this serial.
+fn value_in<T: Copy>(entry: &Option<Entry<T>>, serial: u64) -> Option<T>
+    ensures { result ≡ value_in_spec entry.now serial }
+{
+    match entry {
+        Some(entry) => {
+            if entry.serial == serial {
+                Some(entry.value)
+            } else {
+                None
+            }
+        }
+        None => None,
+    }
+}
+
+// The value in a place, where its entry is of this serial.
+fn near_value<T: Copy>(near: &[Option<Entry<T>>], at: usize, serial: u64) -> Option<T>
+    ensures { result ≡ value_in_spec (slice_index_or near.now at None) serial }
+{
+    if at < near.len() {
+        value_in(&near[at], serial)
+    } else {
+        None
+    }
+}
+
+// Whether a place may take an entry of this serial: it is there, and has no other's.
+fn is_open<T: Copy>(near: &[Option<Entry<T>>], at: usize, serial: u64) -> bool
+    ensures there { result ≡ true → at < length near.now }
+    ensures free { result ≡ true → (other : ℕ) → nat_eq serial other ≡ false
+        → value_in_spec (slice_index_or near.now at None) other ≡ None }
+    ensures closed { result ≡ false
+        → value_in_spec (slice_index_or near.now at None) serial ≡ None }
+{
+    if at < near.len() {
+        match &near[at] {
+            Some(entry) => entry.serial == serial,
+            None => true,
+        }
+    } else {
+        false
+    }
+}
+
+// Takes the entry out of a place, if it is there.
+fn clear_place<T: Copy + Drop>(near: &mut [Option<Entry<T>>], at: usize)
+    ensures { near.new ≡ slice_set near.old at None }
+{
+    if at < near.len() {
+        near[at] = None;
+    }
+}
+
+// Puts an entry into a place, if it is there.
+fn put_place<T: Copy + Drop>(near: &mut [Option<Entry<T>>], at: usize, entry: Entry<T>)
+    ensures { near.new ≡ slice_set near.old at (Some entry) }
+{
+    if at < near.len() {
+        near[at] = Some(entry);
+    }
+}
+
+// The value in the map.
+fn far_value<T: Copy>(far: &HashMap<u64, T>, serial: u64) -> Option<T>
+    ensures { result ≡ hash.get nat_eq far.now serial }
+{
+    if far.is_empty() {
+        return None;
+    }
+    far.get(&serial).copied()
+}
+
+// Takes the value out of the map.
+fn remove_far<T: Copy + Drop>(far: &mut HashMap<u64, T>, serial: u64) -> Option<T>
+    ensures was { result ≡ hash.get nat_eq far.old serial }
+    ensures is { (other : ℕ) → hash.get nat_eq far.new other
+        ≡ (if nat_eq serial other then None else hash.get nat_eq far.old other) }
+    ensures room { hash.spare far.old ≤ hash.spare far.new }
+{
+    if far.is_empty() {
+        return None;
+    }
+    far.remove(&serial)
+}
+
+// Writes a value over the one in the map, if there is one, and answers what was there.
+fn replace_far<T: Copy + Drop>(far: &mut HashMap<u64, T>, serial: u64, value: T) -> Option<T>
+    ensures was { result ≡ hash.get nat_eq far.old serial }
+    ensures is { IsSome result → (other : ℕ) → hash.get nat_eq far.new other
+        ≡ (if nat_eq serial other then Some value else hash.get nat_eq far.old other) }
+    ensures room { hash.spare far.new ≡ hash.spare far.old }
+{
+    match far.get_mut(&serial) {
+        Some(there) => {
+            let was = *there;
+            *there = value;
+            Some(was)
+        }
+        None => None,
+    }
+}
+
+// Puts a value into the map.
+fn put_far<T: Copy + Drop>(far: &mut HashMap<u64, T>, serial: u64, value: T)
+    requires { 0 < hash.spare far.old }
+    ensures is { (other : ℕ) → hash.get nat_eq far.new other
+        ≡ (if nat_eq serial other then Some value else hash.get nat_eq far.old other) }
+    ensures room { hash.spare far.old ≤ hash.spare far.new + 1 }
+{
+    match far.insert(serial, value) {
+        Ok(_) => {}
+        Err(_) => unreachable!(),
+    }
+}
+
+// Places, as many as a power of two that isn't much more than so many, and at most MOST_PLACES.
+fn count_for(n: usize) -> usize
+    ensures { 0 < result }
+{
+    let mut count = 64;
+    while count < MOST_PLACES && count / 2 < n {
+        count *= 2;
+    }
+    count
+}
+
+// So many places that no entry has.
+fn add_places<T: Copy + Drop>(near: &mut Vec<Option<Entry<T>>>, n: usize) -> Result<(), Memory>
+    ensures { (at : ℕ) → slice_index_or near.new.items at None
+        ≡ slice_index_or near.old.items at None }
+{
+    for _at in near.len()..n {
+        match near.push(None) {
+            Ok(()) => {}
+            Err(_) => return Err(Memory),
+        }
+    }
+    Ok(())
+}
+
+impl<T: Copy + Drop> BySerial<T> {
+    /// No values, and no room.
+    pub fn new(alloc: Global) -> BySerial<T>
+        ensures { (serial : ℕ) → at result serial ≡ None }
+    {
+        BySerial {
+            near: Vec::new(alloc),
+            mask: 0,
+            far: HashMap::new(alloc),
+        }
+    }
+
+    // Makes places, where there are none yet.
+    fn make_places(&mut self, n: usize) -> Result<(), Memory>
+        ensures same { (serial : ℕ) → at self.new serial ≡ at self.old serial }
+        ensures room { room self.new ≡ room self.old }
+    {
+        if !self.near.is_empty() {
+            return Ok(());
+        }
+        let count = count_for(n);
+        add_places(&mut self.near, count)?;
+        self.mask = count as u64 - 1;
+        Ok(())
+    }
+
+    /// Makes room for so many values more. Where it is made for the first time, its number says how many places there are.
+    pub fn reserve(&mut self, n: usize) -> Result<(), Memory>
+        ensures same { (serial : ℕ) → at self.new serial ≡ at self.old serial }
+        ensures room { OnOk result (n ≤ room self.new) }
+        ensures grows { room self.old ≤ room self.new }
+    {
+        self.far.reserve(n)?;
+        self.make_places(n)
+    }
+
+    /// The value of a serial.
+    pub fn get(&self, serial: u64) -> Option<T>
+        ensures { result ≡ at self.now serial }
+    {
+        match near_value(&self.near, place(self.mask, serial), serial) {
+            Some(value) => Some(value),
+            None => far_value(&self.far, serial),
+        }
+    }
+
+    /// Gives a serial a value, in place of the one that it has, if any.
+    pub fn insert(&mut self, serial: u64, value: T)
+        requires { 0 < room self.old }
+        ensures puts { Puts serial (Some value) self.old self.new }
+        ensures room { room self.old ≤ room self.new + 1 }
+    {
+        let at = place(self.mask, serial);
+        if is_open(&self.near, at, serial) {
+            put_place(&mut self.near, at, Entry { serial, value });
+        } else {
+            put_far(&mut self.far, serial, value);
+        }
+    }
+
+    /// Gives a serial that has a value another, which takes no room, and answers the one that it had.
+    pub fn replace(&mut self, serial: u64, value: T) -> Option<T>
+        ensures was { result ≡ at self.old serial }
+        ensures puts { IsSome result → Puts serial (Some value) self.old self.new }
+        ensures room { room self.new ≡ room self.old }
+    {
+        let at = place(self.mask, serial);
+        match near_value(&self.near, at, serial) {
+            Some(was) => {
+                put_place(&mut self.near, at, Entry { serial, value });
+                Some(was)
+            }
+            None => replace_far(&mut self.far, serial, value),
+        }
+    }
+
+    /// Takes the value of a serial, if it has one.
+    pub fn remove(&mut self, serial: u64) -> Option<T>
+        ensures was { result ≡ at self.old serial }
+        ensures puts { Puts serial None self.old self.new }
+        ensures room { room self.old ≤ room self.new }
+    {
+        let at = place(self.mask, serial);
+        let far = remove_far(&mut self.far, serial);
+        match near_value(&self.near, at, serial) {
+            Some(value) => {
+                clear_place(&mut self.near, at);
+                Some(value)
+            }
+            None => far,
+        }
+    }
+}
