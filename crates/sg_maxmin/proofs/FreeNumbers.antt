@@ -1,8 +1,10 @@
 -- Which numbers are free, as numbers are made, given and given back.
-use Rattle.std.proofs.Common.{◌≡◌, ◌≢◌, ℕ, ◌+◌, ◌-◌, ◌^◌, ◌<◌, ◌≤◌, ◌⊎◌, inl, inr, cond, Option, None, Some, is_some, List, [], ◌∷◌, ◌++◌, length, get_or, set, length-set, length-append, get_or-set_same, get_or-set_other, count_by, sym, ap, subst, ◌∙◌, arith}
-use Rattle.std.proofs.lemmas.List.{get_or_push, get_or_append_left, get_or_past}
+use Rattle.std.proofs.Common.{◌≡◌, ◌≢◌, ℕ, ◌+◌, ◌-◌, ◌^◌, ◌<◌, ◌≤◌, ◌⊎◌, inl, inr, cond, Option, None, Some, is_some, IsSome, List, [], ◌∷◌, ◌++◌, length, get_or, set, length-set, length-append, get_or-set_same, get_or-set_other, count_by, sym, ap, subst, ◌∙◌, arith}
+use Rattle.std.proofs.lemmas.List.{get_or_push, get_or_append_left, get_or_past, get_or-map, length-map, map-set, map_push}
 use Rattle.std.proofs.lemmas.List.Sums.{sum_by-set, sum_by-append}
 use Rattle.sg_maxmin.specs.declared.flow_row.FlowRow.{FlowRow}
+use Rattle.sg_maxmin.specs.declared.flow_row.Cell.{Cell}
+use Rattle.sg_maxmin.specs.kept.Cells.{row_in, rows_in}
 use Rattle.sg_maxmin.specs.kept.Numbers.{AreFree, row_at}
 
 lt_cases : (k n : ℕ) → k < n + 1 → (k < n) ⊎ (k ≡ n)
@@ -107,3 +109,42 @@ free_given rows free count id row are there =
       ];
       few = subst (λ n. n ≤ 2 ^ 32) (sym (length-set rows id None)) are.few;
     }
+
+pub some_in : (rows : List (Option FlowRow)) (id : ℕ) → IsSome (row_at rows id) → id < length rows
+some_in rows id some = elim (cases id (length rows)) [ inl h ↦ h | inr h ↦ absurd (none (row_at rows id) (past h) some) ]
+  where
+    cases : (a b : ℕ) → (a < b) ⊎ (b ≤ a)
+    cases a b = grind arith
+
+    past : length rows ≤ id → row_at rows id ≡ None
+    past h = grind (arith, get_or_past)
+
+    none : (o : Option FlowRow) → o ≡ None → IsSome o → ⊥
+    none o e s = let t = subst (λ p. IsSome p) e s in cc t
+
+-- a row comes in the place of another
+pub free_replaced : (rows : List (Option FlowRow)) (free : List ℕ) (count id : ℕ) (row : FlowRow) → AreFree rows free count → IsSome (row_at rows id) → AreFree (set rows id (Some row)) free count
+free_replaced rows free count id row are there =
+    let within = some_in rows id there in
+    let some : ◌≡◌ {A = ℕ} (cond (is_some (row_at rows id)) 1 0) 1 = ap (λ b. cond b 1 0) there in
+    record {
+      len = are.len ∙ sym (length-set rows id (Some row));
+      counted = omega (arith, count_set rows id (Some row) within, some, are.counted, length-set rows id (Some row));
+      in_range = λ k h. subst (λ n. get_or free k 0 < n) (sym (length-set rows id (Some row))) (are.in_range k h);
+      vacant = λ k h. get_or-set_other rows id (get_or free k 0) (Some row) None (λ e. taken (row_at rows id) (sym (ap (λ j. row_at rows j) e) ∙ are.vacant k h) there) ∙ are.vacant k h;
+      once = are.once;
+      few = subst (λ n. n ≤ 2 ^ 32) (sym (length-set rows id (Some row))) are.few;
+    }
+  where
+    taken : (o : Option FlowRow) → o ≡ None → IsSome o → ⊥
+    taken o e s = let t = subst (λ p. IsSome p) e s in cc t
+
+-- the rows in cells
+pub rows_push : (cells : List Cell) (cell : Cell) (o : Option FlowRow) → row_in cell ≡ o → rows_in (cells ++ cell ∷ []) ≡ rows_in cells ++ o ∷ []
+rows_push cells cell o e = map_push row_in cells cell ∙ ap (λ x. rows_in cells ++ x ∷ []) e
+
+pub rows_set : (cells : List Cell) (i : ℕ) (cell : Cell) (o : Option FlowRow) → row_in cell ≡ o → rows_in (set cells i cell) ≡ set (rows_in cells) i o
+rows_set cells i cell o e = map-set row_in cells i cell ∙ ap (λ x. set (rows_in cells) i x) e
+
+pub row_read : (cells : List Cell) (i : ℕ) (cell : Cell) → i < length (rows_in cells) → get_or cells i cell ≡ cell → row_at (rows_in cells) i ≡ row_in cell
+row_read cells i cell within is = get_or-map row_in cells i cell None (omega (arith, within, length-map cells row_in)) ∙ ap row_in is

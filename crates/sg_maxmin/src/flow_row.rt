@@ -1,5 +1,6 @@
 //! What a system keeps of a flow.
-ghost use Rattle.std.specs.Prelude.{◌≡◌, ◌<◌, ◌^◌, None, Some, IfSome};
+ghost use Rattle.std.specs.Prelude.{◌≡◌, ◌<◌, ◌^◌, None, Some, IfSome, if◌then◌else◌};
+ghost use Rattle.sg_maxmin.specs.kept.Cells.{row_in as row_in_spec};
 
 /// A flow: its uses are the chain of `count` uses that begins at `first`.
 #[derive(Clone, Copy)]
@@ -12,6 +13,86 @@ pub(crate) struct FlowRow {
     pub(crate) level: Option<u64>,
     /// As the last `solve` gave it, and 0 before: the bound may have changed since.
     pub(crate) share: u64,
+}
+
+/// A place for a flow, in 48 bytes: an option has its own byte beside the others'.
+#[derive(Clone, Copy)]
+pub(crate) struct Cell {
+    first: usize,
+    count: usize,
+    bound: u64,
+    level: u64,
+    share: u64,
+    weight: u32,
+    is_held: bool,
+    has_first: bool,
+    has_bound: bool,
+    has_level: bool,
+}
+
+// A number where there is one.
+fn number_if(has: bool, number: u64) -> Option<u64>
+    ensures { result ≡ (if has then Some number else None) }
+{
+    if has { Some(number) } else { None }
+}
+
+/// The flow in a place, where there is one.
+pub(crate) fn row_in(cell: Cell) -> Option<FlowRow>
+    ensures { result ≡ row_in_spec cell }
+{
+    if !cell.is_held {
+        return None;
+    }
+    let first = if cell.has_first {
+        Some(cell.first)
+    } else {
+        None
+    };
+    Some(FlowRow {
+        first,
+        count: cell.count,
+        weight: cell.weight,
+        bound: number_if(cell.has_bound, cell.bound),
+        level: number_if(cell.has_level, cell.level),
+        share: cell.share,
+    })
+}
+
+/// A place with this flow.
+pub(crate) fn cell_with(row: FlowRow) -> Cell
+    ensures { row_in_spec result ≡ Some row }
+{
+    Cell {
+        first: row.first.unwrap_or(0),
+        count: row.count,
+        bound: row.bound.unwrap_or(0),
+        level: row.level.unwrap_or(0),
+        share: row.share,
+        weight: row.weight,
+        is_held: true,
+        has_first: row.first.is_some(),
+        has_bound: row.bound.is_some(),
+        has_level: row.level.is_some(),
+    }
+}
+
+/// A place without a flow.
+pub(crate) fn free_cell() -> Cell
+    ensures { row_in_spec result ≡ None }
+{
+    Cell {
+        first: 0,
+        count: 0,
+        bound: 0,
+        level: 0,
+        share: 0,
+        weight: 0,
+        is_held: false,
+        has_first: false,
+        has_bound: false,
+        has_level: false,
+    }
 }
 
 // A bound: what a contract doesn't see inside an `Option` is that the number fits its type.

@@ -3,7 +3,7 @@
 ghost use Rattle.std.specs.Prelude.{◌≡◌, ◌≢◌, ◌≤◌, ◌<◌, ◌+◌, ◌^◌, [], ◌∷◌, ◌++◌, ℕ, None, Some, IsSome, is_some, length, count_by, OnOk, OnErr, slice_index_or, slice_set};
 ghost use Rattle.sg_maxmin.specs.kept.Numbers.{row_at, free_count};
 
-use crate::flow_row::FlowRow;
+use crate::flow_row::{Cell, FlowRow, cell_with, free_cell, row_in};
 use crate::system::FlowId;
 use sg_base::Memory;
 use std::alloc::Global;
@@ -15,9 +15,9 @@ const MOST: usize = 1 << 32;
 /// Under each number a row or nothing.
 #[derive(Drop)]
 pub(crate) struct Rows {
-    rows: Vec<Option<FlowRow>>,
+    rows: Vec<Cell>,
     // the first `count` are the numbers without a row
-    free: Vec<usize>,
+    free: Vec<u32>,
     count: usize,
 }
 
@@ -27,11 +27,12 @@ impl Model for Rows {
 
     ghost Value = { List (Option FlowRow) };
 
+    ghost use Rattle.sg_maxmin.specs.kept.Cells.{rows_in};
     ghost use Rattle.sg_maxmin.specs.kept.Numbers.{AreFree};
 
-    ghost view = { λ r. r.rows.items };
+    ghost view = { λ r. rows_in r.rows.items };
 
-    ghost invariant = { λ r. AreFree r.rows.items r.free.items r.count };
+    ghost invariant = { λ r. AreFree (rows_in r.rows.items) r.free.items r.count };
 }
 
 impl Rows {
@@ -54,12 +55,12 @@ impl Rows {
         if number >= MOST {
             return Err(Memory);
         }
-        self.free.push(number)?;
-        if self.rows.push(None).is_err() {
+        self.free.push(number as u32)?;
+        if self.rows.push(free_cell()).is_err() {
             self.free.truncate(number);
             return Err(Memory);
         }
-        self.free[self.count] = number;
+        self.free[self.count] = number as u32;
         self.count += 1;
         Ok(())
     }
@@ -87,8 +88,8 @@ impl Rows {
         ensures count { count_by is_some self.new ≡ count_by is_some self.old + 1 }
     {
         self.count -= 1;
-        let id = self.free[self.count];
-        self.rows[id] = Some(row);
+        let id = self.free[self.count] as usize;
+        self.rows[id] = cell_with(row);
         id
     }
 
@@ -99,11 +100,11 @@ impl Rows {
         ensures taken { self.new ≡ slice_set self.old id None }
         ensures count { count_by is_some self.new + 1 ≡ count_by is_some self.old }
     {
-        let Some(row) = self.rows[id] else {
+        let Some(row) = row_in(self.rows[id]) else {
             unreachable!()
         };
-        self.rows[id] = None;
-        self.free[self.count] = id;
+        self.rows[id] = free_cell();
+        self.free[self.count] = id as u32;
         self.count += 1;
         row
     }
@@ -113,7 +114,7 @@ impl Rows {
         ensures { result ≡ row_at self.now id }
     {
         if id < self.rows.len() {
-            self.rows[id]
+            row_in(self.rows[id])
         } else {
             None
         }
@@ -140,6 +141,6 @@ impl Rows {
         ensures put { self.new ≡ slice_set self.old id (Some row) }
         ensures count { count_by is_some self.new ≡ count_by is_some self.old }
     {
-        self.rows[id] = Some(row);
+        self.rows[id] = cell_with(row);
     }
 }
