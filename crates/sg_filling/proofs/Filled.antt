@@ -1,5 +1,5 @@
 -- Filling goes on from what is filled.
-use Rattle.std.proofs.Common.{◌≡◌, ◌≢◌, ℕ, ◌+◌, ◌-◌, ◌*◌, ◌<◌, ◌≤◌, ◌^◌, ◌⊎◌, inl, inr, Bool, true, false, true≢false, None, IsSome, is_some, List, ◌++◌, length, get_or, take, drop, All, AllPairs, ◌||◌, ltb, lt-ltb, le-ltb, Option, Some, [], ◌∷◌, set, slice_index, get_or-set_same, get_or-set_other, length-append, length-drop, refl, sym, ap, ap₂, subst, ◌∙◌, arith}
+use Rattle.std.proofs.Common.{◌≡◌, ◌≢◌, ℕ, ◌+◌, ◌-◌, ◌*◌, ◌<◌, ◌≤◌, ◌^◌, ◌⊎◌, inl, inr, Bool, true, false, true≢false, None, IsSome, is_some, List, ◌++◌, length, get_or, take, drop, All, AllPairs, ◌||◌, ltb, lt-ltb, le-ltb, Option, Some, [], ◌∷◌, set, slice_index, get_or-set_same, get_or-set_other, length-append, length-drop, refl, sym, ap, subst, ◌∙◌, arith}
 use Rattle.std.proofs.lemmas.List.{get_or-drop, take_all}
 use Rattle.std.proofs.lemmas.List.Elements.{All-get_or, All-from_get_or}
 use Rattle.std.proofs.lemmas.List.Sums.{sum_by-append}
@@ -11,12 +11,12 @@ use Rattle.sg_levels.specs.Held.{IsHold}
 use Rattle.sg_levels.proofs.Changing.{hold_is_local_lem}
 use Rattle.sg_filling.specs.declared.component.Component.{Component}
 use Rattle.sg_filling.specs.declared.filling.Filling.{Filling}
-use Rattle.sg_filling.specs.Component.{AllPass, AreIn, AreVisited, Grows, IsClosure, IsClosedBy, IsOpen, PassAlong, StaysWithin, lengths, touched_uses}
+use Rattle.sg_filling.specs.Component.{AllPass, AreIn, AreVisited, Grows, IsClosure, IsClosedBy, IsOpen, PassAlong, StaysWithin, lengths}
 use Rattle.sg_filling.specs.Dates.{IsIdle}
 use Rattle.sg_levels.specs.Numbered.{bound_at, flow_in, row_waiting}
 use Rattle.sg_filling.specs.Filling.{AreJoined, HasPlaces, fixed_at, flows_at, given, given_at}
 use Rattle.sg_filling.specs.Holds.{IsEnded}
-use Rattle.sg_filling.specs.Parts.{FillsOn, HasShare, IsFilled, fill_looks}
+use Rattle.sg_filling.specs.Parts.{FillsOn, HasShare, IsFilled, part_looks}
 use Rattle.sg_filling.proofs.Apart.{came, came_closed, in_cases, in_one, in_right, shares_on}
 use Rattle.sg_filling.proofs.Growing.{all_stay, at_in, grows_mark, grows_on, grows_same, in_at, mark_cases}
 use Rattle.sg_filling.proofs.Holding.{joined_hold, joined_level}
@@ -32,7 +32,7 @@ pub fills_free : (s : Sharing) (a b : Component) (c x : ℕ) → b.touched ≡ a
 fills_free s a b c x touched reached = record {
   touched = subst (λ (m : MarkSet). Grows a.touched.members m.members) (sym touched) (grows_same a.touched.members);
   reached = subst (λ (m : MarkSet). Grows a.reached.members m.members) (sym reached) (grows_mark c a.reached.members);
-  looks = subst (λ (m : MarkSet). x + fill_looks s a ≤ x + (3 * lengths (uses_at s.slots) m.members + length m.members * (3 * lengths (uses_at s.slots) m.members))) (sym touched) (omega arith);
+  looks = subst (λ (m : MarkSet). x + part_looks s a ≤ x + 6 * lengths (uses_at s.slots) m.members) (sym touched) (omega arith);
 }
 
 pub fills_on : (s : Sharing) (a b c : Component) (x y z : ℕ) → FillsOn s a b x y → FillsOn s b c y z → FillsOn s a c x z
@@ -47,10 +47,6 @@ lengths_came rows old new g = ap (lengths rows) (sym (came old new g)) ∙ sum_b
 
 pub length_came : (old new : List ℕ) → Grows old new → length new ≡ length old + length (drop (length old) new)
 length_came old new g = ap length (sym (came old new g)) ∙ length-append old (drop (length old) new)
-
--- u uses and m flows are filled; the part has v uses and k flows, is reached by 2 * v looks, and takes so many to fill
-pub part_looks : (u v m k x y : ℕ) → y ≤ x + 2 * v + v + k * (3 * v) → y + (3 * u + m * (3 * u)) ≤ x + (3 * (u + v) + (m + k) * (3 * (u + v)))
-part_looks u v m k x y h = grind (arith, h)
 
 -- ---- what came is a part
 pub rest_is : (n : ℕ) (xs : List ℕ) → take (length xs - n) (drop n xs) ≡ drop n xs
@@ -114,9 +110,6 @@ module _ (s : Sharing) (sound : IsSound s) (a z : Component) (f : Filling) (old 
 
   pub part_twice : lengths (users_on s.users) resources ≤ lengths (uses_at s.slots) part
   part_twice = counts_twice_lem (uses_at s.slots) (users_on s.users) part resources sound.both (once_drop (length a.reached.members) z.reached.members distinct) part_closed.covered
-
-  pub looks_are : fill_looks s z ≡ 3 * (touched_uses s a + lengths (uses_at s.slots) part) + (length a.touched.members + length part) * (3 * (touched_uses s a + lengths (uses_at s.slots) part))
-  looks_are = ap₂ (λ n u. 3 * u + n * (3 * u)) (length_came a.touched.members z.touched.members gt) (lengths_came (uses_at s.slots) a.touched.members z.touched.members gt)
 
   pub filled_on : (f' : Filling) → IsOpen s z → All (λ c. c < length s.capacities) z.reached.members → HaveUsers s a z → IsEnded s part resources f f' →
       ((i : ℕ) → i < length part → bound_at s.slots (get_or part i 0) ≡ None → share_of s.capacities (flows_at s.slots part) (flow_in s.slots (get_or part i 0)) < 2 ^ 64) → IsFilled s z f'

@@ -1,5 +1,5 @@
 -- One flow more is fixed, and what the parts of a step do together.
-use Rattle.std.proofs.Common.{◌≡◌, ◌≢◌, ℕ, zero, suc, ◌+◌, ◌-◌, ◌*◌, ◌<◌, ◌≤◌, inl, inr, Bool, true, false, true≢false, cond, is_none, Option, None, Some, IsSome, option_to_list, List, [], ◌∷◌, map, length, get_or, set, sum_by, AllPairs, Contains, get_or-set_same, get_or-set_other, refl, sym, ap, subst, ◌∙◌, arith}
+use Rattle.std.proofs.Common.{◌≡◌, ◌≢◌, ℕ, zero, suc, ◌+◌, ◌-◌, ◌*◌, ◌<◌, inl, inr, Bool, true, false, true≢false, cond, is_none, Option, None, Some, IsSome, option_to_list, List, [], ◌∷◌, map, length, get_or, set, sum_by, AllPairs, Contains, get_or-set_same, get_or-set_other, refl, sym, ap, subst, ◌∙◌, arith}
 use Rattle.std.proofs.lemmas.List.Sums.{sum_by-cons}
 use Rattle.sg_base.specs.MarkSet.{is_in}
 use Rattle.sg_chains.specs.Chained.{times, users_on}
@@ -96,10 +96,6 @@ fixed_stay s low row a b p all = λ i h. let id = get_or row i 0 in some_stays l
 pub count_same : (s : Sharing) (touched : List ℕ) (a : Filling) (x : ℕ) → KeepsCount s touched a a x x
 count_same s touched a x = record { counted = λ reached h. h; looks = omega arith }
 
--- so many looks more in between
-pub count_on : (s : Sharing) (touched : List ℕ) (a b c : Filling) (x y y' z k : ℕ) → KeepsCount s touched a b x y → KeepsCount s touched b c y' z → y' ≡ y + k → KeepsCount s touched a c (x + k) z
-count_on s touched a b c x y y' z k p q e = record { counted = λ reached h. q.counted reached (p.counted reached h); looks = omega (arith, p.looks, q.looks, e) }
-
 -- ---- one flow is fixed
 module _ (s : Sharing) (fixed : List (Option ℕ)) (f low : ℕ) (below : f < length fixed) (none : fixed_at fixed f ≡ None) where
   abbrev now : List (Option ℕ)
@@ -180,16 +176,6 @@ all_at s touched reached levels new low f joined there on bound at =
           let u = at_in f (users_on s.users (get_or reached r.0 0)) (subst (λ n. is_in f (users_on s.users n) ≡ true) (sym r.2) user) in
           subst (λ n. IsSome (fixed_at new.fixed.items n)) u.2 (on r.0 r.1 (ap (λ n. get_or levels n 0) r.2 ∙ b.2) u.0 u.1)
     ]
-
--- the levels alone were divided again
-pub count_kept : (s : Sharing) (touched : List ℕ) (a b d : Filling) (x y : ℕ) → d.fixed.items ≡ b.fixed.items → d.left.items ≡ b.left.items → d.waiting.items ≡ b.waiting.items → KeepsCount s touched a b x y → KeepsCount s touched a d x y
-count_kept s touched a b d x y f l w k = record {
-  counted = λ reached h.
-      subst (λ (xs : List (Option ℕ)). AreCounted s xs touched d.left.items d.waiting.items reached) (sym f)
-      (subst (λ (xs : List ℕ). AreCounted s b.fixed.items touched xs d.waiting.items reached) (sym l)
-      (subst (λ (xs : List ℕ). AreCounted s b.fixed.items touched b.left.items xs reached) (sym w) (k.counted reached h)));
-  looks = subst (λ (xs : List (Option ℕ)). y + 2 * unfixed_uses s.slots xs touched ≤ x + 2 * unfixed_uses s.slots a.fixed.items touched) (sym f) k.looks;
-}
 
 -- what is at this level or above stays so while flows are fixed
 pub above_still : (s : Sharing) (row part : List ℕ) (low : ℕ) (a b : Filling) → StepsPartly s low a b → ((id : ℕ) → is_in id part ≡ true → is_in id row ≡ true) → AreAbove s row low a → AreAbove s part low b

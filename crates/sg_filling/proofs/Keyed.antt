@@ -1,5 +1,5 @@
 -- Keys of resources: whose they are, which comes first, and what a step does to them.
-use Rattle.std.proofs.Common.{◌≡◌, ◌≢◌, ℕ, zero, suc, ◌+◌, ◌*◌, ◌<◌, ◌≤◌, ◌⊎◌, inl, inr, Bool, true, false, true≢false, cond, eqb, eq-eqb, ne_eqb, is_none, is_some, Option, None, Some, IfNone, IsSome, List, [], ◌∷◌, length, get_or, set, sum_by, AllPairs, length-set, get_or-set_same, get_or-set_other, refl, sym, ap, ap₂, subst, ◌∙◌, arith}
+use Rattle.std.proofs.Common.{◌≡◌, ℕ, zero, suc, ◌*◌, ◌<◌, ◌≤◌, ◌⊎◌, inl, inr, Bool, true, false, true≢false, cond, eqb, eq-eqb, ne_eqb, is_none, is_some, Option, None, Some, IfNone, IsSome, List, [], ◌∷◌, length, get_or, set, sum_by, length-set, get_or-set_same, get_or-set_other, refl, sym, ap, ap₂, subst, ◌∙◌, arith}
 use Rattle.std.proofs.lemmas.List.Sums.{sum_by-cons}
 use Rattle.sg_base.specs.MarkSet.{MarkSet, is_in, with_mark}
 use Rattle.sg_chains.specs.Chained.{times, users_on}
@@ -7,14 +7,13 @@ use Rattle.sg_heap.specs.Agenda.{Key, key_at, IsLeast as IsFirst}
 use Rattle.sg_maxmin.specs.Sharing.{Sharing, uses_at}
 use Rattle.sg_maxmin.proofs.Members.{In, In-from_contains, contains_from_In, In-flat_map, In-flat_map_back}
 use Rattle.sg_filling.specs.declared.filling.Filling.{Filling}
-use Rattle.sg_filling.specs.Component.{lengths}
 use Rattle.sg_filling.specs.Dates.{AreDated, AreRenewed, AreRight, HaveKeys, HaveNone, IsIdle, StayDated, key_where}
 use Rattle.sg_levels.specs.Numbered.{flow_in, weight_at}
 use Rattle.sg_filling.specs.Filling.{AreCounted, AreFixed, AreJoined, HasPlaces, IsLeast, MayStep, StepsPartly, fixed_at, limits_at, waited_levels, waits_with}
 use Rattle.sg_filling.proofs.Growing.{grows_mark, in_at, mark_there, stays}
 use Rattle.sg_filling.proofs.Listing.{bool_cases, eq_cases}
 use Rattle.sg_filling.proofs.Rows.{into, is_in_In, none_some, same_in, some_same}
-use Rattle.sg_filling.proofs.Fixing.{may_stay, sum_one}
+use Rattle.sg_filling.proofs.Fixing.{may_stay}
 use Rattle.sg_filling.proofs.Waited.{there_waits}
 
 -- ---- keys
@@ -134,27 +133,6 @@ key_left now was key (inr gone) e = absurd (none_some (sym gone.0 ∙ e))
 pub none_of : {X : Type 0} (o : Option ℕ) → ((x : ℕ) → o ≡ Some x → ⊥) → IfNone o X → X
 none_of None h x = x
 none_of (Some n) h x = absurd (h n refl)
-
--- the flows on the resources that have a key
-abbrev pub keyed : (ℕ → List ℕ) → List (Option Key) → List ℕ → ℕ
-keyed rows keys reached = sum_by (λ c. cond (is_some (key_at keys c)) (length (rows c)) 0) reached
-
-pub keyed_few : (rows : ℕ → List ℕ) (keys : List (Option Key)) (xs : List ℕ) → keyed rows keys xs ≤ lengths rows xs
-keyed_few rows keys [] = omega arith
-keyed_few rows keys (x ∷ xs) = omega (arith, sum_by-cons (λ c. cond (is_some (key_at keys c)) (length (rows c)) 0) x xs, sum_by-cons (λ c. length (rows c)) x xs, keyed_few rows keys xs, at_most (key_at keys x) (length (rows x)))
-  where
-    at_most : (o : Option Key) (n : ℕ) → cond (is_some o) n 0 ≤ n
-    at_most None n = omega arith
-    at_most (Some k) n = omega arith
-
-pub keyed_less : (rows : ℕ → List ℕ) (keys : List (Option Key)) (reached : List ℕ) (c : ℕ) (key : Key) → AllPairs (λ a b. a ≢ b) reached → is_in c reached ≡ true → c < length keys → key_at keys c ≡ Some key → keyed rows (set keys c None) reached + length (rows c) ≡ keyed rows keys reached
-keyed_less rows keys reached c key once r h e =
-    let old : ℕ → ℕ = λ x. cond (is_some (key_at keys x)) (length (rows x)) 0 in
-    let new : ℕ → ℕ = λ x. cond (is_some (key_at (set keys c None) x)) (length (rows x)) 0 in
-    let sums = sum_one old new c reached once (is_in_In c reached r) (λ x ne. ap (λ (o : Option Key). cond (is_some o) (length (rows x)) 0) (get_or-set_other keys c x None None ne)) in
-    let was : old c ≡ length (rows c) = ap (λ (o : Option Key). cond (is_some o) (length (rows c)) 0) e in
-    let is : new c ≡ 0 = ap (λ (o : Option Key). cond (is_some o) (length (rows c)) 0) (get_or-set_same keys c None None h) in
-    omega (arith, sums, was, is)
 
 -- a key is taken
 pub partly_cleared : (s : Sharing) (low c : ℕ) (a b : Filling) → HasPlaces s a → c < length a.agenda → b.fixed.items ≡ a.fixed.items → b.left.items ≡ a.left.items → b.waiting.items ≡ a.waiting.items → b.levels.items ≡ a.levels.items → b.holds.items ≡ a.holds.items →

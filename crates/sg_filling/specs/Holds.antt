@@ -1,5 +1,5 @@
 -- At which level a filling takes each resource: there it holds its flows.
-use Rattle.std.specs.Prelude.{◌≡◌, ℕ, ◌<◌, ◌==◌, ◌⊎◌, true, Option, None, Some, IsSome, if◌then◌else◌, List, Contains, length, slice_index, slice_set}
+use Rattle.std.specs.Prelude.{◌≡◌, ℕ, ◌+◌, ◌*◌, ◌<◌, ◌≤◌, ◌==◌, ◌⊎◌, Bool, true, Option, None, Some, IsSome, is_none, if◌then◌else◌, List, Contains, length, sum_by, slice_index, slice_set}
 use Rattle.sg_base.specs.MarkSet.{is_in}
 use Rattle.sg_chains.specs.Chained.{users_on}
 use Rattle.sg_maxmin.specs.Fill.{Flow}
@@ -7,7 +7,7 @@ use Rattle.sg_maxmin.specs.Sharing.{Sharing}
 use Rattle.sg_levels.specs.Numbered.{below_at, row_level}
 use Rattle.sg_filling.specs.declared.filling.Filling.{Filling}
 use Rattle.sg_filling.specs.Dates.{AreDated, IsIdle}
-use Rattle.sg_filling.specs.Filling.{AreCounted, AreLeveled, AreLevels, HasPlaces, KeepsHolds, KeepsOthers, fixed_at, unfixed_limits}
+use Rattle.sg_filling.specs.Filling.{AreAbove, AreCounted, AreLeveled, AreLevels, HasPlaces, KeepsHolds, KeepsOthers, fixed_at, unfixed_limits, unfixed_uses}
 
 -- a resource is noted where it is at this level
 abbrev pub noted_at : ℕ → ℕ → Filling → List (Option ℕ)
@@ -38,6 +38,31 @@ pub record NotesHolds (reached : List ℕ) (low : ℕ) (old new : Filling) : Typ
   pub others : KeepsHolds reached old new
   pub may : (c : ℕ) → MayHold low (slice_index old.levels.items c) (fixed_at old.holds.items c) (fixed_at new.holds.items c)
   pub taken : (c : ℕ) → is_in c reached ≡ true → slice_index old.levels.items c ≡ low → 0 < slice_index old.waiting.items c → fixed_at new.holds.items c ≡ Some low
+
+-- how many users a resource has, where it is at this level
+abbrev pub users_at : Sharing → ℕ → ℕ → Filling → ℕ
+users_at s low resource filling = if slice_index filling.levels.items resource == low then length (users_on s.users resource) else 0
+
+-- how many users the resources have that aren't noted
+abbrev pub untaken : Sharing → List ℕ → Filling → ℕ
+untaken s reached filling = sum_by (λ c. if is_none (fixed_at filling.holds.items c) then length (users_on s.users c) else 0) reached
+
+-- no resource at this level is noted yet
+abbrev pub AreFresh : List ℕ → ℕ → Filling → Type 0
+AreFresh reached low filling = (c : ℕ) → is_in c reached ≡ true → slice_index filling.levels.items c ≡ low → fixed_at filling.holds.items c ≡ None
+
+-- a filling at the level of its next step
+pub record IsAtLevel (s : Sharing) (touched reached : List ℕ) (low : ℕ) (filling : Filling) : Type 0 where
+  pub places : HasPlaces s filling
+  pub above : AreAbove s touched low filling
+  pub counted : AreCounted s filling.fixed.items touched filling.left.items filling.waiting.items (λ c. is_in c reached)
+  pub dated : AreDated reached filling
+  pub fresh : AreFresh reached low filling
+
+-- what was counted stays so; the uses of each flow that is fixed are walked twice, and the users of each resource that is noted once
+pub record CountsOnce (s : Sharing) (touched reached : List ℕ) (old new : Filling) (before after : ℕ) : Type 0 where
+  pub counted : (test : ℕ → Bool) → AreCounted s old.fixed.items touched old.left.items old.waiting.items test → AreCounted s new.fixed.items touched new.left.items new.waiting.items test
+  pub looks : after + 2 * unfixed_uses s.slots new.fixed.items touched + untaken s reached new ≤ before + 2 * unfixed_uses s.slots old.fixed.items touched + untaken s reached old
 
 -- a filling begins: no touched flow is fixed, and no reached resource is noted
 pub record IsBegun (s : Sharing) (touched reached : List ℕ) (filling : Filling) : Type 0 where

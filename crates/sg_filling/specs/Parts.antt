@@ -36,7 +36,11 @@ pub record IsFilled (s : Sharing) (component : Component) (filling : Filling) : 
   pub levels : (id : ℕ) → is_in id component.touched.members ≡ true → fixed_at filling.fixed.items id ≡ Some (level_in_all s id)
   pub holds : (c : ℕ) → is_in c component.reached.members ≡ true → IsHold (slice_index s.capacities c) s.slots filling.fixed.items (users_on s.users c) (fixed_at filling.holds.items c)
 
--- looks that suffice for the touched flows: three at each use, to reach it and to begin, and three a step, with no more steps than touched flows
+-- looks that suffice for the touched flows: six at each use, two to reach it, one to begin, and one to find and two to fix the flow
+abbrev pub part_looks : Sharing → Component → ℕ
+part_looks s component = 6 * touched_uses s component
+
+-- no less, where there are no more steps than touched flows and each takes three looks at each use
 abbrev pub fill_looks : Sharing → Component → ℕ
 fill_looks s component = 3 * touched_uses s component + length component.touched.members * (3 * touched_uses s component)
 
@@ -44,7 +48,7 @@ fill_looks s component = 3 * touched_uses s component + length component.touched
 pub record FillsOn (s : Sharing) (old new : Component) (before after : ℕ) : Type 0 where
   pub touched : Grows old.touched.members new.touched.members
   pub reached : Grows old.reached.members new.reached.members
-  pub looks : after + fill_looks s old ≤ before + fill_looks s new
+  pub looks : after + part_looks s old ≤ before + part_looks s new
 
 -- flows under these numbers are held, but for those that ended
 pub record AreHeldUnless (s : Sharing) (ended : MarkSet) (numbers : List ℕ) : Type 0 where

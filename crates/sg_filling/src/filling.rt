@@ -9,7 +9,7 @@ ghost use Rattle.sg_filling.specs.Component.{AreIn, MarksRow, lengths};
 ghost use Rattle.sg_filling.specs.Dates.{AreDated, HaveKeys, IsIdle, StayDated};
 ghost use Rattle.sg_levels.specs.Numbered.{bound_at, flow_in};
 ghost use Rattle.sg_filling.specs.Filling.{AreAbove, AreCounted, AreFixed, AreJoined, AreLeveled, AreLevels, ArePart, FlowSteps, HasPlaces, HasResources, IsFloor, IsLeast, IsLessBy, IsLow, IsMoreBy, IsOver, KeepsCount, KeepsFixed, KeepsHolds, StepsPartly, bound_limit, fixed_at, flows_at, least_with, level_where, limits_at, unfixed_bounds, unfixed_limits, waited_levels, weight_of, weight_on};
-ghost use Rattle.sg_filling.specs.Holds.{AreNoted, IsBegun, IsEnded, NotesHolds, noted_at};
+ghost use Rattle.sg_filling.specs.Holds.{AreNoted, CountsOnce, IsAtLevel, IsBegun, IsEnded, NotesHolds, noted_at, users_at};
 
 use crate::component::mark_uses;
 use crate::dates::{date_all, due, has_keys, is_late};
@@ -482,7 +482,7 @@ fn fix_on<L: Ledger>(
     ensures count { (touched : List ℕ) → AllPairs (λ a b. a ≢ b) touched
         → AreIn (users_on system.now.users resource) touched
         → KeepsCount system.now touched filling.old filling.new
-        (steps.old + length (users_on system.now.users resource)) steps.new }
+        (steps.old + users_at system.now low resource filling.old) steps.new }
 {
     if filling.levels[resource] == low {
         filling.holds[resource] = Some(low);
@@ -572,15 +572,14 @@ fn fix_each<L: Ledger>(
     steps: &mut Steps<L>,
 )
     requires joined { AreJoined system.now touched.now reached.now }
-    requires places { HasPlaces system.now filling.old }
-    requires above { AreAbove system.now touched.now low filling.old }
+    requires at { IsAtLevel system.now touched.now reached.now low filling.old }
     ensures partly { StepsPartly system.now low filling.old filling.new }
     ensures noted { NotesHolds reached.now low filling.old filling.new }
     ensures on { (i : ℕ) → i < length reached.now
         → slice_index filling.old.levels.items (slice_index reached.now i) ≡ low
         → AreFixed (users_on system.now.users (slice_index reached.now i)) filling.new }
-    ensures count { KeepsCount system.now touched.now filling.old filling.new
-        (steps.old + lengths (users_on system.now.users) reached.now) steps.new }
+    ensures count { CountsOnce system.now touched.now reached.now filling.old filling.new
+        steps.old steps.new }
 {
     for c in reached {
         fix_on(system, *c, low, filling, steps);
@@ -597,19 +596,15 @@ fn fix_due<L: Ledger>(
     steps: &mut Steps<L>,
 )
     requires joined { AreJoined system.now touched.now reached.now }
-    requires places { HasPlaces system.now filling.old }
-    requires above { AreAbove system.now touched.now low filling.old }
-    requires counted { AreCounted system.now filling.old.fixed.items touched.now
-        filling.old.left.items filling.old.waiting.items (λ c. is_in c reached.now) }
-    requires dated { AreDated reached.now filling.old }
+    requires at { IsAtLevel system.now touched.now reached.now low filling.old }
     requires keys { HaveKeys filling.old.agenda }
     ensures partly { StepsPartly system.now low filling.old filling.new }
     ensures noted { NotesHolds reached.now low filling.old filling.new }
     ensures on { (i : ℕ) → i < length reached.now
         → slice_index filling.old.levels.items (slice_index reached.now i) ≡ low
         → AreFixed (users_on system.now.users (slice_index reached.now i)) filling.new }
-    ensures count { KeepsCount system.now touched.now filling.old filling.new
-        (steps.old + lengths (users_on system.now.users) reached.now) steps.new }
+    ensures count { CountsOnce system.now touched.now reached.now filling.old filling.new
+        steps.old steps.new }
 {
     while let Some(c) = due(&filling.agenda, low) {
         fix_on(system, c, low, filling, steps);
@@ -628,18 +623,14 @@ fn fix_all_users<L: Ledger>(
     steps: &mut Steps<L>,
 )
     requires joined { AreJoined system.now touched.now reached.now }
-    requires places { HasPlaces system.now filling.old }
-    requires above { AreAbove system.now touched.now low filling.old }
-    requires counted { AreCounted system.now filling.old.fixed.items touched.now
-        filling.old.left.items filling.old.waiting.items (λ c. is_in c reached.now) }
-    requires dated { AreDated reached.now filling.old }
+    requires at { IsAtLevel system.now touched.now reached.now low filling.old }
     ensures partly { StepsPartly system.now low filling.old filling.new }
     ensures noted { NotesHolds reached.now low filling.old filling.new }
     ensures on { (i : ℕ) → i < length reached.now
         → slice_index filling.old.levels.items (slice_index reached.now i) ≡ low
         → AreFixed (users_on system.now.users (slice_index reached.now i)) filling.new }
-    ensures count { KeepsCount system.now touched.now filling.old filling.new
-        (steps.old + lengths (users_on system.now.users) reached.now) steps.new }
+    ensures count { CountsOnce system.now touched.now reached.now filling.old filling.new
+        steps.old steps.new }
 {
     if has_keys(&filling.agenda) {
         fix_due(system, touched, reached, low, filling, steps);
@@ -658,11 +649,7 @@ fn fix_all<L: Ledger>(
     steps: &mut Steps<L>,
 )
     requires joined { AreJoined system.now touched.now reached.now }
-    requires places { HasPlaces system.now filling.old }
-    requires above { AreAbove system.now touched.now low.level filling.old }
-    requires counted { AreCounted system.now filling.old.fixed.items touched.now
-        filling.old.left.items filling.old.waiting.items (λ c. is_in c reached.now) }
-    requires dated { AreDated reached.now filling.old }
+    requires at { IsAtLevel system.now touched.now reached.now low.level filling.old }
     requires floor { IsFloor low.floor
         (unfixed_bounds system.now.slots filling.old.fixed.items touched.now) }
     ensures partly { StepsPartly system.now low.level filling.old filling.new }
@@ -670,8 +657,8 @@ fn fix_all<L: Ledger>(
     ensures stepped { (i : ℕ) → i < length touched.now
         → FlowSteps system.now.slots filling.old.levels.items low.level
         filling.old.fixed.items filling.new.fixed.items (slice_index touched.now i) }
-    ensures count { KeepsCount system.now touched.now filling.old filling.new
-        (steps.old + lengths (users_on system.now.users) reached.now) steps.new }
+    ensures count { CountsOnce system.now touched.now reached.now filling.old filling.new
+        steps.old steps.new }
 {
     fix_all_users(system, touched, reached, low.level, filling, steps);
     fix_all_bounded(system, touched, low.level, low.floor, filling, steps);
@@ -716,12 +703,8 @@ fn step<L: Ledger>(
     steps: &mut Steps<L>,
 )
     requires joined { AreJoined system.now touched.now reached.now }
-    requires places { HasPlaces system.now filling.old }
+    requires at { IsAtLevel system.now touched.now reached.now low.level filling.old }
     requires levels { AreLevels reached.now filling.old }
-    requires above { AreAbove system.now touched.now low.level filling.old }
-    requires counted { AreCounted system.now filling.old.fixed.items touched.now
-        filling.old.left.items filling.old.waiting.items (λ c. is_in c reached.now) }
-    requires dated { AreDated reached.now filling.old }
     requires floor { IsFloor low.floor
         (unfixed_bounds system.now.slots filling.old.fixed.items touched.now) }
     ensures places { HasPlaces system.now filling.new }
@@ -732,8 +715,8 @@ fn step<L: Ledger>(
     ensures levels { AreLevels reached.now filling.new }
     ensures dated { AreDated reached.now filling.new }
     ensures kept { KeepsFixed filling.old filling.new }
-    ensures count { KeepsCount system.now touched.now filling.old filling.new
-        (steps.old + lengths (users_on system.now.users) reached.now) steps.new }
+    ensures count { CountsOnce system.now touched.now reached.now filling.old filling.new
+        steps.old steps.new }
 {
     fix_all(system, touched, reached, low, filling, steps);
     renew(system, filling);
@@ -756,8 +739,7 @@ fn fill_steps<L: Ledger>(
     ensures holds_kept { KeepsHolds reached.now filling.old filling.new }
     ensures fixed { AreLeveled system.now touched.now filling.new }
     ensures noted { AreNoted system.now reached.now filling.new }
-    ensures looks { steps.new ≤ steps.old + length touched.now
-        * (3 * lengths (uses_at system.now.slots) touched.now) }
+    ensures looks { steps.new ≤ steps.old + 3 * lengths (uses_at system.now.slots) touched.now }
 {
     let mut floor = Some(0);
     for n in 0..touched.len() {
@@ -843,9 +825,7 @@ pub fn fill<L: Ledger>(
         → bound_at system.now.slots (slice_index touched.now i) ≡ None
         → share_of system.now.capacities (flows_at system.now.slots touched.now)
         (flow_in system.now.slots (slice_index touched.now i)) < 2 ^ 64 }
-    ensures looks { steps.new
-        ≤ steps.old + lengths (uses_at system.now.slots) touched.now
-        + length touched.now * (3 * lengths (uses_at system.now.slots) touched.now) }
+    ensures looks { steps.new ≤ steps.old + 4 * lengths (uses_at system.now.slots) touched.now }
 {
     reset(system, reached, &mut filling.left, &mut filling.holds);
     unfix(

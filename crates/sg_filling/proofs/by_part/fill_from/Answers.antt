@@ -8,9 +8,8 @@ use Rattle.sg_filling.specs.Component.{AreVisited, Grows, IsOpen, lengths}
 use Rattle.sg_levels.specs.Numbered.{bound_at, flow_in}
 use Rattle.sg_filling.specs.Filling.{AreJoined, flows_at}
 use Rattle.sg_filling.specs.Holds.{IsEnded}
-use Rattle.sg_filling.specs.Parts.{fill_looks}
 use Rattle.sg_filling.proofs.Apart.{first_of}
-use Rattle.sg_filling.proofs.Filled.{Leads, filled_on, lengths_came, looks_are, part_joined, part_live, part_looks, part_twice, part_used, marked_pass, rest_is, start_used, visited_on}
+use Rattle.sg_filling.proofs.Filled.{Leads, filled_on, lengths_came, part_joined, part_live, part_twice, part_used, marked_pass, rest_is, start_used, visited_on}
 use Rattle.sg_filling.proofs.Growing.{all_stay, grows_mark, grows_on, grows_same, mark_there, stays}
 use Rattle.sg_filling.proofs.by_part.fill_from.Goals as goal
 
@@ -127,13 +126,11 @@ returns-clause-on g c =
     let reached = lengths_came users a.reached.members z.reached.members gr in
     let before : lengths users (take (length c.members-reached.result.now) b.reached.members) ≡ lengths users a.reached.members =
     ap (λ (xs : List ℕ). lengths users (take (length xs) b.reached.members)) c.members-reached.ensures.members ∙ ap (lengths users) (first_of a.reached.members b.reached.members more) in
-    let fill = subst (λ (xs : List ℕ). c.fill.new.steps ≤ c.reach.new.steps + lengths uses xs + length xs * (3 * lengths uses xs)) part c.fill.ensures.looks in
-    let most : c.fill.new.steps ≤ c.args.steps.now + 2 * lengths uses t' + lengths uses t' + length t' * (3 * lengths uses t') = omega (arith, c.reach.ensures.looks, twice, came, reached, before, fill) in
+    let fill = subst (λ (xs : List ℕ). c.fill.new.steps ≤ c.reach.new.steps + 4 * lengths uses xs) part c.fill.ensures.looks in
     record {
       touched = gt;
       reached = gr;
-      looks = subst (λ w. c.fill.new.steps + fill_looks s a ≤ c.args.steps.now + w) (sym (looks_are s c.requires.sound a z c.args.filling.now c.requires.filled gt gr c.reach.ensures.closed live once distinct))
-          (part_looks (lengths uses a.touched.members) (lengths uses t') (length a.touched.members) (length t') c.args.steps.now c.fill.new.steps most);
+      looks = omega (arith, c.reach.ensures.looks, twice, came, reached, before, fill);
     }
 
 pub returns-clause-there : goal.returns-clause-there

@@ -11,13 +11,15 @@ use Rattle.sg_maxmin.proofs.Proved.{level_fixed, limited_from, steps-next}
 use Rattle.sg_filling.specs.Component.{Covers, lengths}
 use Rattle.sg_filling.specs.Dates.{key_where}
 use Rattle.sg_levels.specs.Numbered.{flow_in}
-use Rattle.sg_filling.specs.Filling.{IsLeast, IsStepped, fixed_at, flows_at, limits_at, unfixed_limits, unfixed_uses}
-use Rattle.sg_filling.specs.Holds.{NotesHolds}
+use Rattle.sg_filling.specs.declared.filling.Filling.{Filling}
+use Rattle.sg_filling.specs.Filling.{AreJoined, IsLeast, IsStepped, fixed_at, flows_at, limits_at, unfixed_limits, unfixed_uses}
+use Rattle.sg_filling.specs.Holds.{NotesHolds, untaken}
 use Rattle.sg_filling.proofs.Floors.{floor_fewer, floor_zero}
 use Rattle.sg_filling.proofs.Growing.{at_in}
 use Rattle.sg_filling.proofs.Joined.{user_there}
 use Rattle.sg_filling.proofs.Keyed.{dated_late, idle_then}
-use Rattle.sg_filling.proofs.Noted.{above_least, noted_next, under_next}
+use Rattle.sg_filling.proofs.Noted.{above_least, fresh_at, noted_next, under_next}
+use Rattle.sg_filling.proofs.Notes.{untaken_few}
 use Rattle.sg_filling.proofs.Rows.{in_is, into, none_some, rows_once}
 use Rattle.sg_filling.proofs.Starts.{part_limits}
 use Rattle.sg_filling.proofs.Stepped.{limits_are, next_fixed}
@@ -95,11 +97,36 @@ loop-n-init g c =
       looks = omega arith;
     }
 
-pub step-requires-clause-above : goal.step-requires-clause-above
-step-requires-clause-above g c = λ id i none x k.
+pub step-requires-clause-at : goal.step-requires-clause-at
+step-requires-clause-at g c =
     let s = c.args.system.now in
+    let touched = c.args.touched.now in
+    let reached = c.args.reached.now in
+    let joined = c.requires.joined in
+    let flows = flows_at s.slots touched in
     let f = c.loop-n.filling in
-    above_least s f.fixed.items f.levels.items c.args.touched.now c.in-Some.low.level c.in-Some.ensures.0 id i none x (In-from_contains (limits_at s.slots f.levels.items id) x k)
+    let inv = c.loop-n.invariant in
+    let low = c.in-Some.low.level in
+    let state = steps_from c.loop-n.n s.capacities flows unfixed in
+    let are = of_each (λ id. state (flow_in s.slots id) ≡ fixed_at f.fixed.items id) touched inv.fixed_are in
+    let p = inv.places in
+    let out = c.date_all.ensures in
+    record {
+      places = record {
+        fixed_len = p.fixed_len;
+        holds_len = p.holds_len;
+        left_len = p.left_len;
+        waiting_len = p.waiting_len;
+        levels_len = p.levels_len;
+        stale_room = p.stale_room;
+        slots = out.slots ∙ p.slots;
+      };
+      above = λ id i none x k. above_least s f.fixed.items f.levels.items touched low c.in-Some.ensures.0 id i none x (In-from_contains (limits_at s.slots f.levels.items id) x k);
+      counted = record { left_is = inv.counted.left_is; waiting_is = inv.counted.waiting_is };
+      dated = dated_late reached f c.date_all.new.agenda c.is_late.result inv.dated
+          (λ e x r. out.listed e x r ∙ ap₂ (λ (ws ls : List ℕ). key_where (get_or ws x 0) (get_or ls x 0)) c.deref.ensures.value c.deref-in-loop-n.ensures.value) out.others out.none;
+      fresh = fresh_at s touched reached joined f low state are inv.counted inv.levels c.in-Some.ensures.0 inv.under inv.noted;
+    }
 
 pub loop-n-preserved : goal.loop-n-preserved
 loop-n-preserved g c =
@@ -120,26 +147,23 @@ loop-n-preserved g c =
     inv.levels (covers_in (uses_at s.slots) touched reached joined.closed.covers) new.fixed.items low c.in-Some.ensures.0 stepped in
     let state = steps_from c.loop-n.n s.capacities flows unfixed in
     let are = of_each (λ f. state (flow_in s.slots f) ≡ fixed_at old f) touched inv.fixed_are in
-    let counted = c.step.ensures.count.counted (λ x. is_in x reached) inv.counted in
+    let out = c.step.ensures.count in
+    let counted = out.counted (λ x. is_in x reached) inv.counted in
     let told = c.step.ensures.noted in
     let notes : NotesHolds reached low f new = record { others = told.others; may = told.may; taken = told.taken } in
-    let twice = counts_twice_lem (uses_at s.slots) (users_on s.users) touched reached joined.part.sound.both joined.distinct joined.closed.covered in
     record {
       places = c.step.ensures.places;
       kept = λ id x e. c.step.ensures.kept id x (inv.kept id x e);
       holds_kept = λ x off. told.others x off ∙ inv.holds_kept x off;
-      noted = noted_next s touched reached joined f new low state are inv.counted inv.levels c.in-Some.ensures.0 stepped inv.under inv.noted notes;
-      under = under_next s touched reached joined f new low state are inv.counted inv.levels c.in-Some.ensures.0 stepped inv.under next counted c.step.ensures.levels;
+      noted = noted_next s touched reached joined f low state are inv.counted inv.levels c.in-Some.ensures.0 inv.under new stepped inv.noted notes;
+      under = under_next s touched reached joined f low state are inv.counted inv.levels c.in-Some.ensures.0 inv.under new stepped next counted c.step.ensures.levels;
       fixed_are = λ i h. ap (λ (k : Fixed). k (flow_in s.slots (get_or touched i 0))) (steps-next c.loop-n.n s.capacities flows unfixed) ∙ next (get_or touched i 0) (in_index touched i h);
       counted = counted;
       levels = c.step.ensures.levels;
       dated = c.step.ensures.dated;
       floor = floor_fewer c.in-Some.low.floor s old new.fixed.items touched (λ f i e. unfixed_before low (IsLeast (Some low) (limits_at s.slots levels f)) (fixed_at old f) (fixed_at new.fixed.items f) (stepped f i) e) c.in-Some.ensures.1;
-      looks = more c.loop-n.n (lengths (uses_at s.slots) touched) c.loop-n.steps c.step.new.steps c.args.steps.now (lengths (users_on s.users) reached) (unfixed_uses s.slots old touched) (unfixed_uses s.slots new.fixed.items touched) inv.looks c.step.ensures.count.looks twice (few_unfixed (uses_at s.slots) old touched);
+      looks = omega (arith, inv.looks, out.looks);
     }
-  where
-    more : (n u x y z w a b : ℕ) → x ≤ z + n * (3 * u) → y + 2 * b ≤ x + w + 2 * a → w ≤ u → a ≤ u → y ≤ z + (n + 1) * (3 * u)
-    more n u x y z w a b h k l m = omega (arith, h, k, l, m)
 
 pub returns-in-None-clause-fixed : goal.returns-in-None-clause-fixed
 returns-in-None-clause-fixed g c = λ i h.
@@ -184,12 +208,6 @@ lowest-requires-clause-dated g c =
     dated_late c.args.reached.now c.loop-n.filling c.date_all.new.agenda c.is_late.result c.loop-n.invariant.dated
     (λ e x r. out.listed e x r ∙ ap₂ (λ (ws ls : List ℕ). key_where (get_or ws x 0) (get_or ls x 0)) c.deref.ensures.value c.deref-in-loop-n.ensures.value) out.others out.none
 
-pub step-requires-clause-dated : goal.step-requires-clause-dated
-step-requires-clause-dated g c =
-    let out = c.date_all.ensures in
-    dated_late c.args.reached.now c.loop-n.filling c.date_all.new.agenda c.is_late.result c.loop-n.invariant.dated
-    (λ e x r. out.listed e x r ∙ ap₂ (λ (ws ls : List ℕ). key_where (get_or ws x 0) (get_or ls x 0)) c.deref.ensures.value c.deref-in-loop-n.ensures.value) out.others out.none
-
 pub returns-in-None-clause-idle : goal.returns-in-None-clause-idle
 returns-in-None-clause-idle g c =
     let inv = c.loop-n.invariant in
@@ -204,3 +222,14 @@ pub returns-clause-idle : goal.returns-clause-idle
 returns-clause-idle g c =
     let inv = c.loop-n.invariant in
     idle_then c.args.system.now c.args.touched.now c.args.reached.now c.loop-n.filling inv.counted inv.dated (λ i h. subst IsSome (sym (returns-clause-fixed g c i h)) refl)
+
+-- all looks are those of the beginning, and each row of a resource holds no more than those of its flows
+all_looks : (s : Sharing) (touched reached : List ℕ) → AreJoined s touched reached → (f : Filling) (x y : ℕ) → y ≤ x + 2 * unfixed_uses s.slots f.fixed.items touched + untaken s reached f → y ≤ x + 3 * lengths (uses_at s.slots) touched
+all_looks s touched reached joined f x y h =
+    omega (arith, h, few_unfixed (uses_at s.slots) f.fixed.items touched, untaken_few s reached f, counts_twice_lem (uses_at s.slots) (users_on s.users) touched reached joined.part.sound.both joined.distinct joined.closed.covered)
+
+pub returns-in-None-clause-looks : goal.returns-in-None-clause-looks
+returns-in-None-clause-looks g c = all_looks c.args.system.now c.args.touched.now c.args.reached.now c.requires.joined c.args.filling.now c.args.steps.now c.loop-n.steps (omega (arith, c.loop-n.invariant.looks))
+
+pub returns-clause-looks : goal.returns-clause-looks
+returns-clause-looks g c = all_looks c.args.system.now c.args.touched.now c.args.reached.now c.requires.joined c.args.filling.now c.args.steps.now c.loop-n.steps (omega (arith, c.loop-n.invariant.looks))

@@ -1,12 +1,10 @@
 use Rattle.std.proofs.Common.{◌*◌, ◌+◌, ◌≤◌, ◌≡◌, ℕ, ◌<◌, length, slice_index}
 use Rattle.sg_base.specs.MarkSet.{is_in}
 use Rattle.sg_maxmin.specs.Fill.{steps_from, unfixed}
-use Rattle.sg_maxmin.specs.Sharing.{uses_at}
-use Rattle.sg_filling.specs.Component.{lengths}
 use Rattle.sg_filling.specs.Dates.{AreDated}
 use Rattle.sg_levels.specs.Numbered.{flow_in}
-use Rattle.sg_filling.specs.Filling.{AreCounted, AreLevels, HasPlaces, IsFloor, KeepsFixed, KeepsHolds, fixed_at, flows_at, unfixed_bounds}
-use Rattle.sg_filling.specs.Holds.{AreNoted, AreUnder}
+use Rattle.sg_filling.specs.Filling.{AreCounted, AreLevels, HasPlaces, IsFloor, KeepsFixed, KeepsHolds, fixed_at, flows_at, unfixed_bounds, unfixed_uses}
+use Rattle.sg_filling.specs.Holds.{AreNoted, AreUnder, untaken}
 use Rattle.sg_filling.proofs.filling.fill_steps.Given as goal
 
 abbrev pub invariant-loop-n : goal.invariant-loop-n
@@ -21,5 +19,5 @@ invariant-loop-n g l = record {
   levels : AreLevels l.reached l.filling;
   dated : AreDated l.reached l.filling;
   floor : IsFloor l.floor (unfixed_bounds l.system.slots l.filling.fixed.items l.touched);
-  looks : l.steps ≤ l.fn.steps + l.n * (3 * lengths (uses_at l.system.slots) l.touched);
+  looks : l.steps + 2 * unfixed_uses l.system.slots l.filling.fixed.items l.touched + untaken l.system l.reached l.filling ≤ l.fn.steps + 2 * unfixed_uses l.system.slots l.fn.filling.fixed.items l.touched + untaken l.system l.reached l.fn.filling;
 }

@@ -4,13 +4,13 @@ use Rattle.sg_filling.specs.Filling.{IsLeast, fixed_at, limits_at}
 use Rattle.sg_filling.proofs.Growing.{in_at}
 use Rattle.sg_filling.proofs.Fixing.{above_still, all_at, fixed_stay, may_step, partly_on}
 use Rattle.sg_filling.proofs.Floors.{floor_partly}
-use Rattle.sg_filling.proofs.Notes.{notes_kept}
+use Rattle.sg_filling.proofs.Notes.{notes_kept, untaken_same}
 use Rattle.sg_filling.proofs.filling.fix_all.Goals as goal
 
 pub fix_all_bounded-requires-clause-above : goal.fix_all_bounded-requires-clause-above
 fix_all_bounded-requires-clause-above g c =
     let touched = c.args.touched.now in
-    above_still c.args.system.now touched touched c.args.low.level c.args.filling.now c.fix_all_users.new.filling c.fix_all_users.ensures.partly (λ id i. i) c.requires.above
+    above_still c.args.system.now touched touched c.args.low.level c.args.filling.now c.fix_all_users.new.filling c.fix_all_users.ensures.partly (λ id i. i) c.requires.at.above
 
 pub fix_all_bounded-requires-clause-floor : goal.fix_all_bounded-requires-clause-floor
 fix_all_bounded-requires-clause-floor g c =
@@ -39,7 +39,7 @@ pub returns-clause-count : goal.returns-clause-count
 returns-clause-count g c =
     let a = c.fix_all_users.ensures.count in
     let b = c.fix_all_bounded.ensures.count in
-    record { counted = λ r h. b.counted r (a.counted r h); looks = omega (arith, a.looks, b.looks) }
+    record { counted = λ r h. b.counted r (a.counted r h); looks = omega (arith, a.looks, b.looks, untaken_same c.args.system.now c.args.reached.now c.fix_all_users.new.filling c.fix_all_bounded.new.filling c.fix_all_bounded.ensures.holds) }
 
 pub returns-clause-noted : goal.returns-clause-noted
 returns-clause-noted g c = notes_kept c.args.reached.now c.args.low.level c.args.filling.now c.fix_all_users.new.filling c.fix_all_bounded.new.filling c.fix_all_users.ensures.noted c.fix_all_bounded.ensures.holds

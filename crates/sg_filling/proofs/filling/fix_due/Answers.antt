@@ -1,4 +1,4 @@
-use Rattle.std.proofs.Common.{◌≡◌, ◌<◌, ℕ, true≢false, inl, inr, None, Some, List, Option, length, get_or, set, get_or-set_same, get_or-set_other, refl, sym, ap, subst, ◌∙◌, arith}
+use Rattle.std.proofs.Common.{◌≡◌, ◌<◌, ℕ, true≢false, is_some, IsSome, inl, inr, None, Some, List, Option, length, get_or, set, get_or-set_same, get_or-set_other, refl, sym, ap, subst, ◌∙◌, arith}
 use Rattle.sg_chains.specs.Chained.{users_on}
 use Rattle.sg_heap.specs.Agenda.{Key, key_at}
 use Rattle.sg_filling.specs.declared.filling.Filling.{Filling}
@@ -9,18 +9,18 @@ use Rattle.sg_filling.proofs.Growing.{in_at}
 use Rattle.sg_filling.proofs.Listing.{eq_cases, some_of}
 use Rattle.sg_filling.proofs.Rows.{into}
 use Rattle.sg_filling.proofs.Fixing.{above_still, fixed_stay, partly_on, partly_same}
-use Rattle.sg_filling.proofs.Keyed.{are_right, has_key, key_is, key_left, key_within, keyed, keyed_few, keyed_less, nobody_waits, none_of, partly_cleared}
-use Rattle.sg_filling.proofs.Notes.{may_keep, may_on, noted_here, noted_may, noted_other}
+use Rattle.sg_filling.proofs.Keyed.{are_right, has_key, key_is, key_left, key_within, nobody_waits, none_of, partly_cleared}
+use Rattle.sg_filling.proofs.Notes.{may_keep, may_on, noted_here, noted_may, noted_other, taken_less}
 use Rattle.sg_filling.proofs.filling.fix_due.Goals as goal
 
 pub loop-c-init : goal.loop-c-init
 loop-c-init g c = record {
-  partly = partly_same c.args.system.now c.args.low c.args.filling.now c.requires.places;
+  partly = partly_same c.args.system.now c.args.low c.args.filling.now c.requires.at.places;
   keys = λ n. inl refl;
   others = λ n off. refl;
   may = λ n. inl refl;
-  counted = λ reached h. h;
-  looks = omega (arith, keyed_few (users_on c.args.system.now.users) c.args.filling.now.agenda c.args.reached.now);
+  held = λ n some. refl;
+  count = record { counted = λ reached h. h; looks = omega arith };
 }
 
 pub fix_on-requires-clause-above : goal.fix_on-requires-clause-above
@@ -31,8 +31,8 @@ fix_on-requires-clause-above g c =
     let n = c.in-Some.c in
     let row = users_on s.users n in
     let key = some_of (key_at f.agenda n) c.in-Some.ensures.first in
-    let its = key_is c.args.reached.now first c.requires.dated.quiet (are_right c.args.reached.now first c.requires.dated c.requires.keys) n key.0 (key_left (key_at f.agenda n) (key_at first.agenda n) key.0 (c.loop-c.invariant.keys n) key.1) in
-    above_still s c.args.touched.now row c.args.low first f c.loop-c.invariant.partly (λ id i. into row c.args.touched.now id (c.requires.joined.closed.covered n its.0) i) c.requires.above
+    let its = key_is c.args.reached.now first c.requires.at.dated.quiet (are_right c.args.reached.now first c.requires.at.dated c.requires.keys) n key.0 (key_left (key_at f.agenda n) (key_at first.agenda n) key.0 (c.loop-c.invariant.keys n) key.1) in
+    above_still s c.args.touched.now row c.args.low first f c.loop-c.invariant.partly (λ id i. into row c.args.touched.now id (c.requires.joined.closed.covered n its.0) i) c.requires.at.above
 
 pub loop-c-preserved : goal.loop-c-preserved
 loop-c-preserved g c =
@@ -46,7 +46,7 @@ loop-c-preserved g c =
     let n = c.in-Some.c in
     let rows = users_on s.users in
     let key = some_of (key_at f.agenda n) c.in-Some.ensures.first in
-    let its = key_is reached first c.requires.dated.quiet (are_right reached first c.requires.dated c.requires.keys) n key.0 (key_left (key_at f.agenda n) (key_at first.agenda n) key.0 (inv.keys n) key.1) in
+    let its = key_is reached first c.requires.at.dated.quiet (are_right reached first c.requires.at.dated c.requires.keys) n key.0 (key_left (key_at f.agenda n) (key_at first.agenda n) key.0 (inv.keys n) key.1) in
     let below : n < length f.agenda = key_within f.agenda n c.in-Some.ensures.first in
     let out = c.fix_on.ensures in
     let mid : Filling = c.fix_on.new.filling in
@@ -58,6 +58,7 @@ loop-c-preserved g c =
     let level = λ (x : ℕ). ap (λ xs. get_or xs x 0) inv.partly.levels in
     let noted = λ (x : ℕ). ap (λ hs. fixed_at hs x) out.noted in
     let next = λ (x : ℕ). subst (λ o. MayHold low (get_or first.levels.items x 0) (fixed_at f.holds.items x) o) (sym (noted x)) (subst (λ y. MayHold low y (fixed_at f.holds.items x) (fixed_at (noted_at low n f) x)) (level x) (noted_may low n f held x)) in
+    let less = taken_less s reached low n f mid held c.requires.joined.distinct its.0 (λ e. inv.held n c.in-Some.ensures.first ∙ c.requires.at.fresh n its.0 (sym (level n) ∙ e)) out.noted in
     let b = out.count touched c.requires.joined.once (c.requires.joined.closed.covered n its.0) in
     record {
       partly = partly_on s low first f new inv.partly p;
@@ -77,8 +78,11 @@ loop-c-preserved g c =
       ];
       others = λ x off. noted x ∙ noted_other low n f held x (λ e. true≢false (sym (ap (λ m. is_in m reached) e ∙ its.0) ∙ off)) ∙ inv.others x off;
       may = λ x. may_on low (get_or first.levels.items x 0) (fixed_at first.holds.items x) (fixed_at f.holds.items x) (fixed_at mid.holds.items x) (inv.may x) (next x);
-      counted = λ r h. b.counted r (inv.counted r h);
-      looks = omega (arith, inv.looks, b.looks, keyed_less rows f.agenda reached n key.0 c.requires.joined.distinct its.0 below key.1, ap (λ (ks : List (Option Key)). keyed rows ks reached) agenda);
+      held = λ x some. elim (eq_cases x n) [
+        | inl e ↦ absurd (true≢false (sym some ∙ ap is_some (ap (λ (ks : List (Option Key)). key_at ks x) agenda ∙ ap (key_at (set f.agenda n None)) e ∙ get_or-set_same f.agenda n None None below)))
+        | inr ne ↦ noted x ∙ noted_other low n f held x ne ∙ inv.held x (subst (λ (o : Option Key). IsSome o) (ap (λ (ks : List (Option Key)). key_at ks x) agenda ∙ get_or-set_other f.agenda n x None None ne) some)
+      ];
+      count = record { counted = λ r h. b.counted r (inv.count.counted r h); looks = omega (arith, inv.count.looks, b.looks, less) };
     }
 
 pub returns-clause-on : goal.returns-clause-on
@@ -93,10 +97,10 @@ returns-clause-on g c = λ i h e.
     let r = in_at n reached i h refl in
     let later = none_of c.due.result c.in_default.not-Some c.due.ensures.none in
     elim (eq_cases (get_or first.waiting.items n 0) 0) [
-      | inl z ↦ fixed_stay s c.args.low (users_on s.users n) first f inv.partly (nobody_waits s touched reached first c.requires.joined c.requires.counted n r z)
+      | inl z ↦ fixed_stay s c.args.low (users_on s.users n) first f inv.partly (nobody_waits s touched reached first c.requires.joined c.requires.at.counted n r z)
       | inr some ↦
           elim (inv.keys n) [
-            | inl same ↦ absurd (omega (arith, later n (record { date = get_or first.levels.items n 0; serial = 0 }) (same ∙ has_key reached first c.requires.dated.quiet (are_right reached first c.requires.dated c.requires.keys) n some), e))
+            | inl same ↦ absurd (omega (arith, later n (record { date = get_or first.levels.items n 0; serial = 0 }) (same ∙ has_key reached first c.requires.at.dated.quiet (are_right reached first c.requires.at.dated c.requires.keys) n some), e))
             | inr gone ↦ (gone.1 e).0
           ]
     ]
@@ -113,7 +117,7 @@ returns-clause-noted g c =
       taken = λ n r e pos.
           let some : get_or first.waiting.items n 0 ≡ 0 → ⊥ = λ z. omega (arith, z, pos) in
           elim (inv.keys n) [
-            | inl same ↦ absurd (omega (arith, later n (record { date = get_or first.levels.items n 0; serial = 0 }) (same ∙ has_key reached first c.requires.dated.quiet (are_right reached first c.requires.dated c.requires.keys) n some), e))
+            | inl same ↦ absurd (omega (arith, later n (record { date = get_or first.levels.items n 0; serial = 0 }) (same ∙ has_key reached first c.requires.at.dated.quiet (are_right reached first c.requires.at.dated c.requires.keys) n some), e))
             | inr gone ↦ (gone.1 e).1
           ];
     }

@@ -1,10 +1,8 @@
-use Rattle.std.proofs.Common.{◌+◌, ◌*◌, ◌≤◌, ◌≡◌, ◌⊎◌, ℕ, Bool, None, Some, slice_index}
+use Rattle.std.proofs.Common.{◌≡◌, ◌⊎◌, ℕ, None, Some, IsSome, slice_index}
 use Rattle.sg_chains.specs.Chained.{users_on}
 use Rattle.sg_heap.specs.Agenda.{key_at, key_count}
-use Rattle.sg_filling.specs.Component.{lengths}
-use Rattle.sg_filling.specs.Filling.{AreCounted, AreFixed, KeepsHolds, StepsPartly, fixed_at, unfixed_uses}
-use Rattle.sg_filling.specs.Holds.{MayHold}
-use Rattle.sg_filling.proofs.Keyed.{keyed}
+use Rattle.sg_filling.specs.Filling.{AreFixed, KeepsHolds, StepsPartly, fixed_at}
+use Rattle.sg_filling.specs.Holds.{CountsOnce, MayHold}
 use Rattle.sg_filling.proofs.filling.fix_due.Given as goal
 
 abbrev pub invariant-loop-c : goal.invariant-loop-c
@@ -13,9 +11,8 @@ invariant-loop-c g l = record {
   keys : (c : ℕ) → (key_at l.filling.agenda c ≡ key_at l.fn.filling.agenda c) ⊎ ((key_at l.filling.agenda c ≡ None) × (slice_index l.fn.filling.levels.items c ≡ l.low → AreFixed (users_on l.system.users c) l.filling × (fixed_at l.filling.holds.items c ≡ Some l.low)));
   others : KeepsHolds l.reached l.fn.filling l.filling;
   may : (c : ℕ) → MayHold l.low (slice_index l.fn.filling.levels.items c) (fixed_at l.fn.filling.holds.items c) (fixed_at l.filling.holds.items c);
-  counted : (reached : ℕ → Bool) → AreCounted l.system l.fn.filling.fixed.items l.touched l.fn.filling.left.items l.fn.filling.waiting.items reached → AreCounted l.system l.filling.fixed.items l.touched l.filling.left.items l.filling.waiting.items reached;
-  looks : l.steps + keyed (users_on l.system.users) l.filling.agenda l.reached + 2 * unfixed_uses l.system.slots l.filling.fixed.items l.touched
-      ≤ l.fn.steps + lengths (users_on l.system.users) l.reached + 2 * unfixed_uses l.system.slots l.fn.filling.fixed.items l.touched;
+  held : (c : ℕ) → IsSome (key_at l.filling.agenda c) → fixed_at l.filling.holds.items c ≡ fixed_at l.fn.filling.holds.items c;
+  count : CountsOnce l.system l.touched l.reached l.fn.filling l.filling l.fn.steps l.steps;
 }
 
 abbrev pub decreases-loop-c : goal.decreases-loop-c

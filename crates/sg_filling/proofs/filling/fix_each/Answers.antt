@@ -1,23 +1,22 @@
-use Rattle.std.proofs.Common.{◌≡◌, ◌<◌, ℕ, true≢false, inl, Some, take, length, get_or, below_more, refl, sym, ap, subst, ◌∙◌, arith}
+use Rattle.std.proofs.Common.{◌≡◌, ◌<◌, ℕ, true≢false, inl, Some, length, get_or, below_more, refl, sym, ap, subst, ◌∙◌, arith}
 use Rattle.std.proofs.lemmas.List.Elements.{All-get_or}
 use Rattle.sg_chains.specs.Chained.{users_on}
-use Rattle.sg_filling.specs.Component.{lengths}
 use Rattle.sg_filling.specs.Filling.{fixed_at}
 use Rattle.sg_filling.specs.Holds.{MayHold, noted_at}
 use Rattle.sg_filling.proofs.Growing.{at_in, in_at}
-use Rattle.sg_filling.proofs.Notes.{may_keep, may_on, noted_here, noted_may, noted_other}
-use Rattle.sg_filling.proofs.Prefix.{part_next}
-use Rattle.sg_filling.proofs.Rows.{into, take_all}
+use Rattle.sg_filling.proofs.Notes.{may_keep, may_on, noted_here, noted_may, noted_other, taken_less}
+use Rattle.sg_filling.proofs.Rows.{into}
 use Rattle.sg_filling.proofs.Fixing.{above_still, fixed_stay, partly_on, partly_same}
 use Rattle.sg_filling.proofs.filling.fix_each.Goals as goal
 
 pub loop-c-init : goal.loop-c-init
 loop-c-init g c = record {
-  partly = partly_same c.args.system.now c.args.low c.args.filling.now c.requires.places;
+  partly = partly_same c.args.system.now c.args.low c.args.filling.now c.requires.at.places;
   on = λ i h. absurd (omega (arith, h));
   others = λ c off. refl;
   may = λ c. inl refl;
   taken = λ i h. absurd (omega (arith, h));
+  rest = λ i from h. refl;
   count = record { counted = λ reached h. h; looks = omega arith };
 }
 
@@ -27,7 +26,7 @@ fix_on-requires-clause-above g c =
     let n = get_or c.args.reached.now c.loop-c.c-index 0 in
     let row = users_on s.users n in
     above_still s c.args.touched.now row c.args.low c.args.filling.now c.loop-c.filling c.loop-c.invariant.partly
-    (λ id i. into row c.args.touched.now id (c.requires.joined.closed.covered n (in_at n c.args.reached.now c.loop-c.c-index c.loop-c-test.true refl)) i) c.requires.above
+    (λ id i. into row c.args.touched.now id (c.requires.joined.closed.covered n (in_at n c.args.reached.now c.loop-c.c-index c.loop-c-test.true refl)) i) c.requires.at.above
 
 pub loop-c-preserved : goal.loop-c-preserved
 loop-c-preserved g c =
@@ -46,6 +45,8 @@ loop-c-preserved g c =
     let level = λ (x : ℕ). ap (λ xs. get_or xs x 0) inv.partly.levels in
     let noted = λ (x : ℕ). ap (λ hs. fixed_at hs x) out.noted in
     let next = λ (x : ℕ). subst (λ o. MayHold low (get_or first.levels.items x 0) (fixed_at old.holds.items x) o) (sym (noted x)) (subst (λ y. MayHold low y (fixed_at old.holds.items x) (fixed_at (noted_at low n old) x)) (level x) (noted_may low n old below x)) in
+    let here = in_at n reached k c.loop-c-test.true refl in
+    let less = taken_less s reached low n old new below c.requires.joined.distinct here (λ e. inv.rest k (omega arith) c.loop-c-test.true ∙ c.requires.at.fresh n here (sym (level n) ∙ e)) out.noted in
     let a = inv.count in
     let b = out.count touched c.requires.joined.once (c.requires.joined.closed.covered n (in_at n reached k c.loop-c-test.true refl)) in
     record {
@@ -57,18 +58,12 @@ loop-c-preserved g c =
       taken = below_more _ _
           (λ i h e. let x = get_or reached i 0 in may_keep low (get_or first.levels.items x 0) (fixed_at old.holds.items x) (fixed_at new.holds.items x) (next x) (inv.taken i h e))
           (λ e. noted n ∙ noted_here low n old below (level n ∙ e));
-      count = record { counted = λ r h. b.counted r (a.counted r h); looks = omega (arith, a.looks, b.looks, part_next (λ n. length (users_on s.users n)) reached k c.loop-c-test.true) };
+      rest = λ i from h. noted (get_or reached i 0) ∙ noted_other low n old below (get_or reached i 0) (λ e. c.requires.joined.distinct k i 0 (omega (arith, from)) h (sym e)) ∙ inv.rest i (omega (arith, from)) h;
+      count = record { counted = λ r h. b.counted r (a.counted r h); looks = omega (arith, a.looks, b.looks, less) };
     }
 
 pub returns-clause-on : goal.returns-clause-on
 returns-clause-on g c = λ i h e. c.loop-c.invariant.on i (omega (arith, h, c.loop-c-test.false)) e
-
-pub returns-clause-count : goal.returns-clause-count
-returns-clause-count g c =
-    let s = c.args.system.now in
-    let inv = c.loop-c.invariant in
-    let all : take c.loop-c.c-index c.args.reached.now ≡ c.args.reached.now = take_all c.args.reached.now c.loop-c.c-index (omega arith) in
-    record { counted = inv.count.counted; looks = omega (arith, inv.count.looks, ap (lengths (users_on s.users)) all) }
 
 pub returns-clause-noted : goal.returns-clause-noted
 returns-clause-noted g c =

@@ -1,10 +1,10 @@
-use Rattle.std.proofs.Common.{◌/◌, inl, inr, Some, get_or, ap, ap₂, sym, ◌∙◌}
+use Rattle.std.proofs.Common.{◌/◌, ℕ, List, Option, inl, inr, Some, get_or, ap, ap₂, sym, subst, ◌∙◌, arith}
 use Rattle.sg_base.specs.MarkSet.{is_in}
 use Rattle.sg_filling.proofs.Listing.{bool_cases}
-use Rattle.sg_filling.specs.Filling.{IsLeast, fixed_at, limits_at}
-use Rattle.sg_filling.proofs.Fixing.{count_kept, level_stays}
+use Rattle.sg_filling.specs.Filling.{AreCounted, IsLeast, fixed_at, limits_at, unfixed_uses}
+use Rattle.sg_filling.proofs.Fixing.{level_stays}
 use Rattle.sg_filling.proofs.Keyed.{dated_on}
-use Rattle.sg_filling.proofs.Notes.{notes_kept}
+use Rattle.sg_filling.proofs.Notes.{notes_kept, untaken_same}
 use Rattle.sg_filling.proofs.filling.step.Goals as goal
 
 pub returns-clause-stepped : goal.returns-clause-stepped
@@ -25,7 +25,20 @@ returns-clause-levels g c = λ x r.
     ]
 
 pub returns-clause-count : goal.returns-clause-count
-returns-clause-count g c = count_kept c.args.system.now c.args.touched.now c.args.filling.now c.fix_all.new.filling c.renew.new.filling _ _ c.renew.ensures.kept.0 c.renew.ensures.kept.1 c.renew.ensures.kept.2 c.fix_all.ensures.count
+returns-clause-count g c =
+    let s = c.args.system.now in
+    let touched = c.args.touched.now in
+    let mid = c.fix_all.new.filling in
+    let new = c.renew.new.filling in
+    let kept = c.renew.ensures.kept in
+    let out = c.fix_all.ensures.count in
+    record {
+      counted = λ test h.
+          subst (λ (xs : List (Option ℕ)). AreCounted s xs touched new.left.items new.waiting.items test) (sym kept.0)
+          (subst (λ (xs : List ℕ). AreCounted s mid.fixed.items touched xs new.waiting.items test) (sym kept.1)
+          (subst (λ (xs : List ℕ). AreCounted s mid.fixed.items touched mid.left.items xs test) (sym kept.2) (out.counted test h)));
+      looks = omega (arith, out.looks, untaken_same s c.args.reached.now mid new kept.3, ap (λ (xs : List (Option ℕ)). unfixed_uses s.slots xs touched) kept.0);
+    }
 
 pub returns-clause-kept : goal.returns-clause-kept
 returns-clause-kept g c = λ id x e.
@@ -37,7 +50,7 @@ returns-clause-kept g c = λ id x e.
 
 pub returns-clause-dated : goal.returns-clause-dated
 returns-clause-dated g c =
-    dated_on c.args.system.now c.args.low.level c.args.reached.now c.args.filling.now c.fix_all.new.filling c.renew.new.filling c.requires.dated c.fix_all.ensures.partly c.renew.ensures.kept.2 c.renew.ensures.others c.renew.ensures.dated
+    dated_on c.args.system.now c.args.low.level c.args.reached.now c.args.filling.now c.fix_all.new.filling c.renew.new.filling c.requires.at.dated c.fix_all.ensures.partly c.renew.ensures.kept.2 c.renew.ensures.others c.renew.ensures.dated
 
 pub returns-clause-noted : goal.returns-clause-noted
 returns-clause-noted g c = notes_kept c.args.reached.now c.args.low.level c.args.filling.now c.fix_all.new.filling c.renew.new.filling c.fix_all.ensures.noted c.renew.ensures.kept.3

@@ -1,4 +1,4 @@
-use Rattle.std.proofs.Common.{◌*◌, ◌+◌, ◌≡◌, ◌≢◌, ℕ, ◌<◌, ◌^◌, Bool, true, false, true≢false, cond, None, List, [], Option, IsSome, length, get_or, All, AllPairs, refl, sym, ap, subst, ◌∙◌, arith}
+use Rattle.std.proofs.Common.{◌*◌, ◌≡◌, ◌≢◌, ℕ, ◌<◌, ◌^◌, Bool, true, false, true≢false, cond, None, List, [], Option, IsSome, length, get_or, All, AllPairs, refl, sym, ap, subst, ◌∙◌, arith}
 use Rattle.std.specs.Vec.{with_items}
 use Rattle.std.proofs.lemmas.List.{with_items_is}
 use Rattle.std.proofs.lemmas.List.Elements.{All-from_get_or}
@@ -11,6 +11,7 @@ use Rattle.sg_lazy.specs.kept.Changes.{WritesRates}
 use Rattle.sg_filling.specs.Filling.{flows_at, given_at}
 use Rattle.sg_levels.specs.Numbered.{flow_in}
 use Rattle.sg_lazy.specs.kept.Held.{IsWithout}
+use Rattle.sg_filling.proofs.Notes.{few_looks}
 use Rattle.sg_filling.proofs.Growing.{at_in, in_at, stays}
 use Rattle.sg_lazy.proofs.Looks.{touched_joined, within_work}
 use Rattle.sg_filling.proofs.Rows.{held_below}
@@ -160,6 +161,6 @@ returns-clause-looks g c =
     let least1 = subst (λ (xs : List ℕ). (p q : ℕ → Bool) → PassAlong t p q → ((id : ℕ) → is_in id xs ≡ true → is_in id ended ≡ false → p id ≡ true) → StaysWithin p q a b) c.members-3.ensures.members c.fill_marked.ensures.least in
     let least2 = subst (λ (xs : List ℕ). (p q : ℕ → Bool) → PassAlong t p q → AllPass q xs → StaysWithin p q b z) c.members-4.ensures.members c.fill_on_all.ensures.least in
     let joined = touched_joined s t rates began marked ended resources without c.is_sound.ensures c.requires.lazy.ended_are c.requires.lazy.marked_are c.args.pending.now.resources c.reach_ended.new.reached a b z refl marks no_flow no_resource least1 least2 in
-    let paid : (xs : List ℕ) → xs ≡ [] → 3 * lengths (uses_at t.slots) xs + length xs * (3 * lengths (uses_at t.slots) xs) ≡ 0 = (λ xs e. ap (λ xs. 3 * lengths (uses_at t.slots) xs + length xs * (3 * lengths (uses_at t.slots) xs)) e) in
+    let paid : (xs : List ℕ) → xs ≡ [] → 6 * lengths (uses_at t.slots) xs ≡ 0 = (λ xs e. ap (λ xs. 6 * lengths (uses_at t.slots) xs) e) in
     within_work s t rates began marked ended resources without c.is_sound.ensures c.requires.lazy.ended_are touched once joined c.args.steps.now c.fill_on_all.new.steps
-    (omega (arith, c.reach_ended.ensures.looks, ap (lengths (uses_at s.slots)) c.members.ensures.members, c.fill_marked.ensures.on.looks, paid a.touched.members no_flow, c.fill_on_all.ensures.on.looks))
+    (omega (arith, c.reach_ended.ensures.looks, ap (lengths (uses_at s.slots)) c.members.ensures.members, c.fill_marked.ensures.on.looks, paid a.touched.members no_flow, c.fill_on_all.ensures.on.looks, few_looks (uses_at t.slots) touched))

@@ -1,11 +1,12 @@
-use Rattle.std.proofs.Common.{◌≡◌, ℕ, Bool, true≢false, [], get_or, refl, sym, ap, ◌∙◌}
+use Rattle.std.proofs.Common.{◌≡◌, ◌*◌, ℕ, Bool, true≢false, [], get_or, refl, sym, ap, ◌∙◌, arith}
 use Rattle.sg_base.specs.MarkSet.{MarkSet, is_in}
 use Rattle.sg_chains.specs.Chained.{users_on}
 use Rattle.sg_maxmin.specs.Sharing.{Sharing, uses_at}
 use Rattle.sg_levels.specs.Kept.{PassAlong}
 use Rattle.sg_filling.specs.declared.component.Component.{Component}
-use Rattle.sg_filling.specs.Component.{PassAlong as PassRows}
+use Rattle.sg_filling.specs.Component.{PassAlong as PassRows, lengths}
 use Rattle.sg_filling.proofs.Growing.{in_at, stays}
+use Rattle.sg_filling.proofs.Notes.{few_looks}
 use Rattle.sg_filling.proofs.Rows.{into}
 use Rattle.sg_filling.proofs.parts.Parts.fill.Goals as goal
 
@@ -37,3 +38,12 @@ returns-clause-joined g c =
           let one = c.fill_marked.ensures.least p q rows flows (λ id h. absurd (true≢false (sym h ∙ ap (is_in id) no_flow))) (λ r h. absurd (true≢false (sym h ∙ ap (is_in r) no_resource))) in
           c.fill_on_all.ensures.least p q rows resources one.0 one.1;
     }
+
+pub returns-clause-few : goal.returns-clause-few
+returns-clause-few g c =
+    let s = c.args.system.now in
+    let none : 6 * lengths (uses_at s.slots) c.clear.new.self.members ≡ 0 = ap (λ (m : MarkSet). 6 * lengths (uses_at s.slots) m.members) c.clear.ensures in
+    omega (arith, c.fill_marked.ensures.on.looks, c.fill_on_all.ensures.on.looks, none)
+
+pub returns-clause-looks : goal.returns-clause-looks
+returns-clause-looks g c = omega (arith, returns-clause-few g c, few_looks (uses_at c.args.system.now.slots) c.fill_on_all.new.component.touched.members)
