@@ -1,6 +1,6 @@
 -- What is kept between settlings.
 use Rattle.std.proofs.Common.{◌≡◌, ◌≢◌, ℕ, ◌+◌, ◌<◌, ◌≤◌, inl, inr, true, false, true≢false, cond, eq-eqb, Option, None, Some, IsSome, List, [], ◌∷◌, length, slice_index, sum_by, refl, sym, ap, ap₂, subst, ◌∙◌, arith}
-use Rattle.sg_base.specs.MarkSet.{is_in, with_mark}
+use Rattle.sg_base.specs.MarkSet.{MarkSet, is_in, with_mark}
 use Rattle.sg_chains.specs.Chained.{times, users_on}
 use Rattle.sg_maxmin.specs.Fill.{Flow, flow, level_of, share_at}
 use Rattle.sg_maxmin.specs.Sharing.{Sharing, IsSound, Changes, flow_at, held, uses_at, uses_in}
@@ -10,7 +10,7 @@ use Rattle.sg_levels.specs.Numbered.{flow_in, level_at, row_waiting, slot_bound,
 use Rattle.sg_levels.specs.Demand.{demand_of}
 use Rattle.sg_levels.specs.Held.{IsHold}
 use Rattle.sg_levels.specs.Settling.{AreMarked, AreSettlingBut, is_active}
-use Rattle.sg_levels.specs.Kept.{AreParts, HasRoom, IsBetween, IsBetweenBut, IsFresh, IsKept, KeepsAll, NotesChanged, NotesMoved, SharesAreNoted}
+use Rattle.sg_levels.specs.Kept.{AreParts, HasRoom, IsBetween, IsBetweenBut, IsFresh, IsKept, KeepsAll, MarksNoMore, NotesChanged, NotesMoved, SharesAreNoted}
 use Rattle.sg_levels.proofs.Listed.{bool_cases, eq_cases, mark_stays, mark_there, none_some, some_same, times-cons}
 use Rattle.sg_levels.proofs.Keeping.{system_kept}
 use Rattle.sg_levels.proofs.Marked.{changes_keep_lem}
@@ -40,9 +40,9 @@ none_holds capacity slots levels = record { above = λ x u w. absurd (none w); m
     none : 0 < 0 → ⊥
     none h = omega (arith, h)
 
-pub fresh : (kept : Levels) (resources : ℕ) → length kept.holds.items ≡ resources → length kept.demands.items ≡ resources → length kept.active.items ≡ resources → ((i : ℕ) → level_at kept.holds.items i ≡ None) → ((i : ℕ) → slice_index kept.demands.items i ≡ 0) → ((i : ℕ) → slice_index kept.parts.items i ≡ 0) →
+pub fresh : (kept : Levels) (resources : ℕ) → length kept.holds.items ≡ resources → length kept.demands.items ≡ resources → kept.active.room ≡ resources → ((i : ℕ) → level_at kept.holds.items i ≡ None) → ((i : ℕ) → slice_index kept.demands.items i ≡ 0) → ((i : ℕ) → slice_index kept.parts.items i ≡ 0) → kept.stale.members ≡ [] →
     IsFresh resources kept
-fresh kept resources holds_len demands_len active_len holds demands parts s sound empty as_many =
+fresh kept resources holds_len demands_len active_len holds demands parts none_stale s sound empty as_many =
     let few : length s.slots ≡ 0 = ap (λ (xs : List (Option Flow)). length xs) empty in
     record {
       kept = record {
@@ -61,11 +61,11 @@ fresh kept resources holds_len demands_len active_len holds demands parts s soun
         longest = λ id. let none : length (uses_at s.slots id) ≡ 0 = ap (λ o. length (uses_in o)) (none_held s empty id) in omega (arith, none);
       };
       parts = λ id held off. absurd (not_held (flow_at s.slots id) (none_held s empty id) held);
-      some = λ id held. absurd (not_held (flow_at s.slots id) (none_held s empty id) held);
+      alive = λ id i. absurd (true≢false (sym (subst (λ m. is_in id m ≡ true) none_stale i)));
       written = record {
         resources = λ r l clean none. subst (IsHold (slice_index s.capacities r) s.slots kept.levels.items (users_on s.users r)) (sym (holds r)) (subst (λ row. IsHold (slice_index s.capacities r) s.slots kept.levels.items row None) (sym (no_users s sound empty r)) (none_holds (slice_index s.capacities r) s.slots kept.levels.items));
         within = λ id flow e off. absurd (not_held (flow_at s.slots id) (none_held s empty id) (subst IsSome (sym e) refl));
-        under = λ id r flow e u clean. absurd (not_held (flow_at s.slots id) (none_held s empty id) (subst IsSome (sym e) refl));
+        under = λ id r flow e off u clean. absurd (not_held (flow_at s.slots id) (none_held s empty id) (subst IsSome (sym e) refl));
         cause = λ id flow e off. absurd (not_held (flow_at s.slots id) (none_held s empty id) (subst IsSome (sym e) refl));
       };
     }
@@ -82,13 +82,20 @@ grown_kept s old new keeps kept =
         stale = omega (arith, places.stale, keeps.stale_room);
         holds = ap length keeps.holds ∙ places.holds;
         demands = ap length keeps.demands ∙ places.demands;
-        active = ap length keeps.active ∙ places.active;
+        active = ap (λ (m : MarkSet). m.room) keeps.active ∙ places.active;
       };
       demands = λ c. ap (λ ds. slice_index ds c) keeps.demands ∙ kept.demands c ∙ sum_by_same (slice_index old.parts.items) (slice_index new.parts.items) (users_on s.users c) (λ id i. sym (keeps.parts id));
       fit = λ id. omega (arith, keeps.parts id, kept.fit id);
       none = λ id gone. keeps.parts id ∙ kept.none id gone;
       longest = λ id. omega (arith, keeps.longest, kept.longest id);
     }
+
+pub no_more : (old new : Levels) → KeepsAll old new → MarksNoMore old new
+no_more old new keeps p q are = record {
+  active = λ r on. are.active r (subst (λ (m : MarkSet). is_active m.members r ≡ true) keeps.active on);
+  moved = λ id i. are.moved id (subst (λ m. is_in id m ≡ true) keeps.moved i);
+  stale = λ id i. are.stale id (subst (λ m. is_in id m ≡ true) keeps.stale i);
+}
 
 abbrev flow_of : Option Flow → Flow
 flow_of o = flow (uses_in o) (slot_weight o) (slot_bound o)
@@ -98,13 +105,13 @@ pub asks_same : (s t : Sharing) (levels levels' : List (Option ℕ)) (id : ℕ) 
 asks_same s t levels levels' id e l = ap₂ (λ o x. demand_of (flow_of o) x) (sym e) (sym l)
 
 -- ---- a change that marks what it touches
-pub between_changed : (s t : Sharing) → IsSound s → IsSound t → (old new : Levels) (stale stale' : List ℕ) → IsBetweenBut s old stale → AreMarked s t old.levels.items new.levels.items old.active.items new.active.items stale stale' → new.holds.items ≡ old.holds.items → IsKept t new → AreParts t new stale' →
-    ((id : ℕ) → IsSome (flow_at t.slots id) → 0 < slice_index new.parts.items id) → IsBetweenBut t new stale'
-between_changed s t sound sound' old new stale stale' before marked holds kept parts some = record {
+pub between_changed : (s t : Sharing) → IsSound s → IsSound t → (old new : Levels) (stale stale' : List ℕ) → IsBetweenBut s old stale → AreMarked s t old.levels.items new.levels.items old.active.members new.active.members stale stale' → new.holds.items ≡ old.holds.items → IsKept t new → AreParts t new stale' →
+    ((id : ℕ) → is_in id stale' ≡ true → IsSome (flow_at t.slots id)) → IsBetweenBut t new stale'
+between_changed s t sound sound' old new stale stale' before marked holds kept parts alive = record {
   kept = kept;
   parts = parts;
-  some = some;
-  written = subst (λ hs. AreSettlingBut t new.levels.items hs new.active.items stale') (sym holds) (changes_keep_lem s t old.levels.items new.levels.items old.holds.items old.active.items new.active.items stale stale' sound sound' marked before.written);
+  alive = alive;
+  written = subst (λ hs. AreSettlingBut t new.levels.items hs new.active.members stale') (sym holds) (changes_keep_lem s t old.levels.items new.levels.items old.holds.items old.active.members new.active.members stale stale' sound sound' marked before.written);
 }
 
 pub between_grown : (s : Sharing) → IsSound s → (old new : Levels) → KeepsAll old new → IsBetween s old → IsBetween s new
@@ -112,10 +119,10 @@ between_grown s sound old new keeps before = subst (IsBetweenBut s new) (sym kee
     between_changed s s sound sound old new old.stale.members old.stale.members before (record {
       as_many = refl;
       capacities = λ r off. refl;
-      marks = λ r off. sym (ap (λ marks. is_active marks r) keeps.active) ∙ off;
+      marks = λ r off. sym (ap (λ (m : MarkSet). is_active m.members r) keeps.active) ∙ off;
       flows = λ id. inl (record { flow = refl; level = keeps.levels id; still = λ off. off });
     }) keeps.holds (grown_kept s old new keeps before.kept)
-    (λ id held off. keeps.parts id ∙ before.parts id held off ∙ asks_same s s old.levels.items new.levels.items id refl (keeps.levels id)) (λ id held. omega (arith, keeps.parts id, before.some id held)))
+    (λ id held off. keeps.parts id ∙ before.parts id held off ∙ asks_same s s old.levels.items new.levels.items id refl (keeps.levels id)) before.alive)
 
 -- ---- the same flows under their numbers, of which there may be more
 pub between_extended : (s t : Sharing) → IsSound s → IsSound t → (kept : Levels) → length t.capacities ≡ length s.capacities → ((r : ℕ) → slice_index t.capacities r ≡ slice_index s.capacities r) → ((id : ℕ) → flow_at t.slots id ≡ flow_at s.slots id) → HasRoom (length t.slots) kept → IsBetween s kept → IsBetween t kept
@@ -137,7 +144,7 @@ between_extended s t sound sound' kept caps capacities same room before =
       demands = places.demands ∙ sym caps;
       active = places.active ∙ sym caps;
     }) (λ id. inl (ap uses_in (same id))) (λ id gone. inl (sym (same id) ∙ gone)) (λ id. subst (λ o. length (uses_in o) ≤ kept.longest) (sym (same id)) (before.kept.longest id)))
-    (λ id some off. before.parts id (held id some) off ∙ asks_same s t kept.levels.items kept.levels.items id (same id) refl) (λ id some. before.some id (held id some))
+    (λ id some off. before.parts id (held id some) off ∙ asks_same s t kept.levels.items kept.levels.items id (same id) refl) (λ id i. subst IsSome (sym (same id)) (before.alive id i))
 
 -- ---- what is noted
 pub notes_same : (s t : Sharing) (old new : Levels) → ((id : ℕ) → flow_at t.slots id ≡ flow_at s.slots id) → ((id : ℕ) → level_at new.levels.items id ≡ level_at old.levels.items id) → new.moved.members ≡ old.moved.members → NotesChanged s t old new

@@ -1,5 +1,5 @@
 -- What is kept as flows begin and end, and as they have other bounds and resources other capacities.
-use Rattle.std.proofs.Common.{◌≡◌, ◌≢◌, ℕ, ◌+◌, ◌-◌, ◌*◌, ◌^◌, ◌<◌, ◌≤◌, ◌⊎◌, inl, inr, Bool, true, false, true≢false, min, Option, None, Some, IsSome, IfSome, List, length, length-set, get_or-set_same, get_or-set_other, set, slice_index, sym, ap, subst, ◌∙◌, arith}
+use Rattle.std.proofs.Common.{◌≡◌, ◌≢◌, ℕ, ◌+◌, ◌-◌, ◌*◌, ◌^◌, ◌<◌, ◌≤◌, ◌⊎◌, inl, inr, Bool, true, false, true≢false, min, Option, None, Some, IsSome, IfSome, List, length, length-set, get_or-set_same, get_or-set_other, set, slice_index, refl, sym, ap, subst, ◌∙◌, arith}
 use Rattle.sg_base.specs.MarkSet.{MarkSet, is_in, with_mark}
 use Rattle.sg_maxmin.specs.Fill.{Flow, share_at}
 use Rattle.sg_maxmin.specs.Sharing.{Sharing, IsSound, Changes, flow_at, uses_at, uses_in}
@@ -8,20 +8,14 @@ use Rattle.sg_levels.specs.Numbered.{bound_of, flow_in, level_at}
 use Rattle.sg_levels.specs.Demand.{demand_of}
 use Rattle.sg_levels.specs.Settling.{IsChanged, IsSame, IsStale, is_active}
 use Rattle.sg_levels.specs.Kept.{ActivatesAll, HasLeft, IsBetween, IsBetweenBut, IsKept, IsMoved, NotesChanged}
-use Rattle.sg_levels.proofs.Listed.{bool_cases, eq_cases, mark_stays, mark_there, none_some, some_of}
+use Rattle.sg_levels.proofs.Listed.{bool_cases, eq_cases, mark_stays, mark_there, none_some, off_mark, some_of}
 use Rattle.sg_levels.proofs.Users.{flow_below, flow_in_is, uses_held, weighs}
 use Rattle.sg_levels.proofs.Keeping.{system_kept}
+use Rattle.sg_levels.proofs.Within.{marked_or}
 use Rattle.sg_levels.proofs.Between.{asks_same, between_changed, notes_gone, notes_one, notes_same}
 
-pub demand_pos : (f : Flow) (o : Option ℕ) → 0 < f.weight → 0 < demand_of f o
-demand_pos f None pos = omega arith
-demand_pos f (Some l) pos = more (min (share_at f l) (2 ^ 64 - 1)) f.weight pos
-  where
-    more : (a w : ℕ) → 0 < w → 0 < a + 2 * w
-    more a w h = omega (arith, h)
-
 -- what the flow uses is active
-pub marks_used : (id : ℕ) (slots : List (Option Flow)) (old new : List Bool) → ActivatesAll (uses_at slots id) old new → (flow : Flow) (r : ℕ) → flow_at slots id ≡ Some flow → is_in r flow.uses ≡ true → is_active new r ≡ true
+pub marks_used : (id : ℕ) (slots : List (Option Flow)) (old new : List ℕ) → ActivatesAll (uses_at slots id) old new → (flow : Flow) (r : ℕ) → flow_at slots id ≡ Some flow → is_in r flow.uses ≡ true → is_active new r ≡ true
 marks_used id slots old new activates flow r e u = elim (bool_cases (is_active new r)) [
   | inl on ↦ on
   | inr off ↦ absurd (true≢false (sym u ∙ ap (is_in r) (sym (uses_held slots id flow e)) ∙ (activates r off).1))
@@ -58,51 +52,41 @@ module _ (s t : Sharing) (sound : IsSound s) (sound' : IsSound t) (id : ℕ) (it
         | inr ne ↦ subst (λ o. length (uses_in o) ≤ kept.longest) (sym (added.others other ne)) (are.longest other)
       ])
 
-  module _ (old new : Levels) (before : IsBetween s old) (below : id < length old.levels.items) (below' : id < length old.parts.items) (moved : IsMoved t old new id (bound_of (flow_in t.slots id))) (activates : ActivatesAll (uses_at t.slots id) old.active.items new.active.items) (kept : IsKept t new) where
-    level_here : level_at new.levels.items id ≡ bound_of (flow_in t.slots id)
-    level_here = ap (λ ls. level_at ls id) moved.level_is ∙ get_or-set_same old.levels.items id (bound_of (flow_in t.slots id)) None below
-
-    level_other : (other : ℕ) → other ≢ id → level_at new.levels.items other ≡ level_at old.levels.items other
-    level_other other ne = ap (λ ls. level_at ls other) moved.level_is ∙ get_or-set_other old.levels.items id other (bound_of (flow_in t.slots id)) None ne
-
-    started_marks : (other : ℕ) → IsSame s t old.levels.items new.levels.items old.stale.members old.stale.members other ⊎ (IsStale s t old.levels.items new.levels.items old.stale.members other ⊎ IsChanged (flow_at s.slots other) (flow_at t.slots other) (level_at new.levels.items other) new.active.items)
-    started_marks other = elim (eq_cases other id) [
-      | inl e ↦ inr (inr (subst (λ n. IsChanged (flow_at s.slots n) (flow_at t.slots n) (level_at new.levels.items n) new.active.items) (sym e) (record {
-        before = λ flow r q u. absurd (not_there id s.slots free flow q);
-        after = marks_used id t.slots old.active.items new.active.items activates;
-        level_is = λ flow q. level_here ∙ ap bound_of (flow_in_is t.slots id flow q);
-      })))
-      | inr ne ↦ inl (record { flow = added.others other ne; level = level_other other ne; still = λ off. off })
-    ]
-
-    part_other : (other : ℕ) → other ≢ id → slice_index new.parts.items other ≡ slice_index old.parts.items other
-    part_other other ne = ap (λ ps. slice_index ps other) moved.part_is ∙ get_or-set_other old.parts.items id other (demand_of (flow_in t.slots id) (bound_of (flow_in t.slots id))) 0 ne
-
-    part_here : slice_index new.parts.items id ≡ demand_of (flow_in t.slots id) (bound_of (flow_in t.slots id))
-    part_here = ap (λ ps. slice_index ps id) moved.part_is ∙ get_or-set_same old.parts.items id (demand_of (flow_in t.slots id) (bound_of (flow_in t.slots id))) 0 below'
+  module _ (old new : Levels) (before : IsBetween s old) (kept : IsKept s new) (long : length its.uses ≤ new.longest) (levels : new.levels.items ≡ old.levels.items) (parts : new.parts.items ≡ old.parts.items) (holds : new.holds.items ≡ old.holds.items) (active : new.active ≡ old.active)
+      (stale : new.stale.members ≡ with_mark id old.stale.members) (moved : new.moved.members ≡ with_mark id old.moved.members) where
+    new_one : (other : ℕ) → is_in other new.stale.members ≡ false → (other ≢ id) × (is_in other old.stale.members ≡ false)
+    new_one other off = off_mark other id old.stale.members (subst (λ m. is_in other m ≡ false) stale off)
 
     pub started_between : IsBetween t new
-    started_between = subst (IsBetweenBut t new) (sym (ap (λ (m : MarkSet). m.members) moved.stale)) (
-        between_changed s t sound sound' old new old.stale.members old.stale.members before (record {
+    started_between =
+        between_changed s t sound sound' old new old.stale.members new.stale.members before (record {
           as_many = ap length capacities;
           capacities = λ r off. ap (λ cs. slice_index cs r) capacities;
-          marks = λ r off. (activates r off).0;
-          flows = started_marks;
-        }) moved.holds kept
-        (λ other held off. elim (eq_cases other id) [
-          | inl e ↦ subst (λ n. slice_index new.parts.items n ≡ demand_of (flow_in t.slots n) (level_at new.levels.items n)) (sym e) (part_here ∙ ap (demand_of (flow_in t.slots id)) (sym level_here))
-          | inr ne ↦ part_other other ne ∙ before.parts other (subst IsSome (added.others other ne) held) off ∙ asks_same s t old.levels.items new.levels.items other (added.others other ne) (level_other other ne)
+          marks = λ r off. sym (ap (λ (m : MarkSet). is_active m.members r) active) ∙ off;
+          flows = λ other. elim (bool_cases (is_in other new.stale.members)) [
+            | inl on ↦ inr (inl (record {
+              uses = λ r u. elim (eq_cases other id) [
+                | inl e ↦ absurd (true≢false (sym (sym (ap (λ o. is_in r (uses_in o)) (ap (flow_at s.slots) e ∙ free)) ∙ u)))
+                | inr ne ↦ ap (λ o. is_in r (uses_in o)) (added.others other ne) ∙ u
+              ];
+              now = on;
+            }))
+            | inr off ↦ let is = new_one other off in inl (record { flow = added.others other is.0; level = ap (λ ls. level_at ls other) levels; still = λ o. is.1 })
+          ];
+        }) holds (start_kept new kept long)
+        (λ other held off.
+        let is = new_one other off in
+        ap (λ ps. slice_index ps other) parts ∙ before.parts other (subst IsSome (added.others other is.0) held) is.1 ∙ asks_same s t old.levels.items new.levels.items other (added.others other is.0) (ap (λ ls. level_at ls other) levels))
+        (λ other i. elim (eq_cases other id) [
+          | inl e ↦ subst IsSome (sym (ap (flow_at t.slots) e ∙ added.changed)) refl
+          | inr ne ↦ elim (marked_or other id old.stale.members (subst (λ m. is_in other m ≡ true) stale i)) [
+            | inl e ↦ absurd (ne e)
+            | inr on ↦ subst IsSome (sym (added.others other ne)) (before.alive other on)
+          ]
         ])
-        (λ other held. elim (eq_cases other id) [
-          | inl e ↦ subst (λ n. 0 < slice_index new.parts.items n) (sym e) (subst (λ p. 0 < p) (sym part_here) (demand_pos (flow_in t.slots id) (bound_of (flow_in t.slots id)) (weighs t sound' id).0))
-          | inr ne ↦ subst (λ p. 0 < p) (sym (part_other other ne)) (before.some other (subst IsSome (added.others other ne) held))
-        ]))
-
-    pub started_notes : NotesChanged s t old new
-    started_notes = notes_one s t old new id added.others level_other (ap (λ (m : MarkSet). m.members) moved.noted)
 
 -- ---- a flow ends
-module _ (s t : Sharing) (sound : IsSound s) (sound' : IsSound t) (id : ℕ) (removed : Changes s.slots t.slots id None) (numbers : length t.slots ≡ length s.slots) (capacities : t.capacities ≡ s.capacities) (old new : Levels) (before : IsBetween s old) (below : id < length old.parts.items) (left : HasLeft old new id) (activates : ActivatesAll (uses_at s.slots id) old.active.items new.active.items) (kept : IsKept s new) where
+module _ (s t : Sharing) (sound : IsSound s) (sound' : IsSound t) (id : ℕ) (removed : Changes s.slots t.slots id None) (numbers : length t.slots ≡ length s.slots) (capacities : t.capacities ≡ s.capacities) (old new : Levels) (stale' : List ℕ) (before : IsBetween s old) (below : id < length old.parts.items) (left : HasLeft old new id) (gone : is_in id stale' ≡ false) (rests : (other : ℕ) → other ≢ id → is_in other stale' ≡ is_in other old.stale.members) (activates : ActivatesAll (uses_at s.slots id) old.active.members new.active.members) (kept : IsKept s new) where
   no_part : slice_index new.parts.items id ≡ 0
   no_part = ap (λ ps. slice_index ps id) left.parts ∙ get_or-set_same old.parts.items id 0 0 below
 
@@ -144,33 +128,38 @@ module _ (s t : Sharing) (sound : IsSound s) (sound' : IsSound t) (id : ℕ) (re
         | inr ne ↦ subst (λ o. length (uses_in o) ≤ new.longest) (sym (removed.others other ne)) (kept.longest other)
       ])
 
-  ended_marks : (other : ℕ) → IsSame s t old.levels.items new.levels.items old.stale.members old.stale.members other ⊎ (IsStale s t old.levels.items new.levels.items old.stale.members other ⊎ IsChanged (flow_at s.slots other) (flow_at t.slots other) (level_at new.levels.items other) new.active.items)
+  ended_marks : (other : ℕ) → IsSame s t old.levels.items new.levels.items old.stale.members stale' other ⊎ (IsStale s t stale' other ⊎ IsChanged (flow_at s.slots other) (flow_at t.slots other) (level_at new.levels.items other) new.active.members)
   ended_marks other = elim (eq_cases other id) [
-    | inl e ↦ inr (inr (subst (λ n. IsChanged (flow_at s.slots n) (flow_at t.slots n) (level_at new.levels.items n) new.active.items) (sym e) (record {
-      before = marks_used id s.slots old.active.items new.active.items activates;
+    | inl e ↦ inr (inr (subst (λ n. IsChanged (flow_at s.slots n) (flow_at t.slots n) (level_at new.levels.items n) new.active.members) (sym e) (record {
+      before = marks_used id s.slots old.active.members new.active.members activates;
       after = λ flow r q u. absurd (not_there id t.slots removed.changed flow q);
       level_is = λ flow q. absurd (not_there id t.slots removed.changed flow q);
     })))
-    | inr ne ↦ inl (record { flow = removed.others other ne; level = level_stays other; still = λ off. off })
+    | inr ne ↦ inl (record { flow = removed.others other ne; level = level_stays other; still = λ off. sym (rests other ne) ∙ off })
   ]
 
-  pub ended_between : IsBetween t new
-  ended_between = subst (IsBetweenBut t new) (sym (ap (λ (m : MarkSet). m.members) left.stale)) (
-      between_changed s t sound sound' old new old.stale.members old.stale.members before (record {
+  pub ended_between : IsBetweenBut t new stale'
+  ended_between =
+      between_changed s t sound sound' old new old.stale.members stale' before (record {
         as_many = ap length capacities;
         capacities = λ r off. ap (λ cs. slice_index cs r) capacities;
         marks = λ r off. (activates r off).0;
         flows = ended_marks;
       }) left.holds ended_kept
-      (λ other held off. let still = stays_held other held in part_stays other still.0 ∙ before.parts other still.1 off ∙ asks_same s t old.levels.items new.levels.items other (removed.others other still.0) (level_stays other))
-      (λ other held. let still = stays_held other held in subst (λ p. 0 < p) (sym (part_stays other still.0)) (before.some other still.1)))
+      (λ other held off.
+      let still = stays_held other held in
+      part_stays other still.0 ∙ before.parts other still.1 (sym (rests other still.0) ∙ off) ∙ asks_same s t old.levels.items new.levels.items other (removed.others other still.0) (level_stays other))
+      (λ other i. elim (eq_cases other id) [
+        | inl e ↦ absurd (true≢false (sym i ∙ ap (λ n. is_in n stale') e ∙ gone))
+        | inr ne ↦ subst IsSome (sym (removed.others other ne)) (before.alive other (sym (rests other ne) ∙ i))
+      ])
 
   pub ended_notes : NotesChanged s t old new
   ended_notes = notes_gone s t old new id removed level_stays (ap (λ (m : MarkSet). m.members) left.moved)
 
 -- ---- a flow has another bound
 module _ (s t : Sharing) (sound : IsSound s) (sound' : IsSound t) (id : ℕ) (uses : uses_at t.slots id ≡ uses_at s.slots id) (held : IsSome (flow_at s.slots id)) (held' : IsSome (flow_at t.slots id)) (others : (other : ℕ) → other ≢ id → flow_at t.slots other ≡ flow_at s.slots other) (numbers : length t.slots ≡ length s.slots) (capacities : t.capacities ≡ s.capacities) (old new : Levels) (before : IsBetween s old)
-    (kept : IsKept s new) (levels : new.levels.items ≡ old.levels.items) (parts : new.parts.items ≡ old.parts.items) (holds : new.holds.items ≡ old.holds.items) (active : new.active.items ≡ old.active.items) (stale : new.stale.members ≡ with_mark id old.stale.members) (moved : new.moved.members ≡ with_mark id old.moved.members) where
+    (kept : IsKept s new) (levels : new.levels.items ≡ old.levels.items) (parts : new.parts.items ≡ old.parts.items) (holds : new.holds.items ≡ old.holds.items) (active : new.active ≡ old.active) (stale : new.stale.members ≡ with_mark id old.stale.members) (moved : new.moved.members ≡ with_mark id old.moved.members) where
   uses_stay : (other : ℕ) → uses_at t.slots other ≡ uses_at s.slots other
   uses_stay other = elim (eq_cases other id) [ inl e ↦ subst (λ n. uses_at t.slots n ≡ uses_at s.slots n) (sym e) uses | inr ne ↦ ap uses_in (others other ne) ]
 
@@ -212,23 +201,29 @@ module _ (s t : Sharing) (sound : IsSound s) (sound' : IsSound t) (id : ℕ) (us
       between_changed s t sound sound' old new old.stale.members new.stale.members before (record {
         as_many = ap length capacities;
         capacities = λ r off. ap (λ cs. slice_index cs r) capacities;
-        marks = λ r off. sym (ap (λ marks. is_active marks r) active) ∙ off;
+        marks = λ r off. sym (ap (λ (m : MarkSet). is_active m.members r) active) ∙ off;
         flows = λ other. elim (bool_cases (is_in other new.stale.members)) [
-          | inl on ↦ inr (inl (record { uses = uses_stay other; level = ap (λ ls. level_at ls other) levels; now = on }))
+          | inl on ↦ inr (inl (record { uses = λ r u. ap (is_in r) (uses_stay other) ∙ u; now = on }))
           | inr off ↦ let is = fresh_one other off in inl (record { flow = others other is.0; level = ap (λ ls. level_at ls other) levels; still = λ o. is.1 })
         ];
       }) holds bounded_kept
       (λ other some off.
       let is = fresh_one other off in
       ap (λ ps. slice_index ps other) parts ∙ before.parts other (was_held other some) is.1 ∙ asks_same s t old.levels.items new.levels.items other (others other is.0) (ap (λ ls. level_at ls other) levels))
-      (λ other some. subst (λ ps. 0 < slice_index ps other) (sym parts) (before.some other (was_held other some)))
+      (λ other i. elim (eq_cases other id) [
+        | inl e ↦ subst (λ n. IsSome (flow_at t.slots n)) (sym e) held'
+        | inr ne ↦ elim (marked_or other id old.stale.members (subst (λ m. is_in other m ≡ true) stale i)) [
+          | inl e ↦ absurd (ne e)
+          | inr on ↦ subst IsSome (sym (others other ne)) (before.alive other on)
+        ]
+      ])
 
   pub bounded_notes : NotesChanged s t old new
   bounded_notes = notes_one s t old new id others (λ other ne. ap (λ ls. level_at ls other) levels) moved
 
 -- ---- a resource has another capacity
-module _ (s t : Sharing) (sound : IsSound s) (sound' : IsSound t) (c : ℕ) (slots : t.slots ≡ s.slots) (as_many : length t.capacities ≡ length s.capacities) (others : (r : ℕ) → r ≢ c → slice_index t.capacities r ≡ slice_index s.capacities r) (old new : Levels) (before : IsBetween s old) (kept : IsKept s new) (below : c < length old.active.items)
-    (levels : new.levels.items ≡ old.levels.items) (parts : new.parts.items ≡ old.parts.items) (holds : new.holds.items ≡ old.holds.items) (active : new.active.items ≡ set old.active.items c true) (stale : new.stale ≡ old.stale) (moved : new.moved ≡ old.moved) where
+module _ (s t : Sharing) (sound : IsSound s) (sound' : IsSound t) (c : ℕ) (slots : t.slots ≡ s.slots) (as_many : length t.capacities ≡ length s.capacities) (others : (r : ℕ) → r ≢ c → slice_index t.capacities r ≡ slice_index s.capacities r) (old new : Levels) (before : IsBetween s old) (kept : IsKept s new)
+    (levels : new.levels.items ≡ old.levels.items) (parts : new.parts.items ≡ old.parts.items) (holds : new.holds.items ≡ old.holds.items) (active : new.active.members ≡ with_mark c old.active.members) (stale : new.stale ≡ old.stale) (moved : new.moved ≡ old.moved) where
   flow_stays : (id : ℕ) → flow_at t.slots id ≡ flow_at s.slots id
   flow_stays id = ap (λ slots. flow_at slots id) slots
 
@@ -247,13 +242,8 @@ module _ (s t : Sharing) (sound : IsSound s) (sound' : IsSound t) (c : ℕ) (slo
       })
       (λ id. inl (ap uses_in (flow_stays id))) (λ id gone. inl (sym (flow_stays id) ∙ gone)) (λ id. subst (λ o. length (uses_in o) ≤ new.longest) (sym (flow_stays id)) (kept.longest id))
 
-  other_one : (r : ℕ) → is_active new.active.items r ≡ false → (r ≢ c) × (is_active old.active.items r ≡ false)
-  other_one r off =
-      let is : is_active (set old.active.items c true) r ≡ false = subst (λ marks. is_active marks r ≡ false) active off in
-      elim (eq_cases r c) [
-        | inl e ↦ absurd (true≢false (sym (get_or-set_same old.active.items c true false below) ∙ sym (ap (is_active (set old.active.items c true)) e) ∙ is))
-        | inr ne ↦ (ne, sym (get_or-set_other old.active.items c r true false ne) ∙ is)
-      ]
+  other_one : (r : ℕ) → is_active new.active.members r ≡ false → (r ≢ c) × (is_active old.active.members r ≡ false)
+  other_one r off = off_mark r c old.active.members (subst (λ marks. is_active marks r ≡ false) active off)
 
   pub offered_between : IsBetween t new
   offered_between = subst (IsBetweenBut t new) (sym (ap (λ (m : MarkSet). m.members) stale)) (
@@ -264,7 +254,7 @@ module _ (s t : Sharing) (sound : IsSound s) (sound' : IsSound t) (c : ℕ) (slo
         flows = λ id. inl (record { flow = flow_stays id; level = ap (λ ls. level_at ls id) levels; still = λ off. off });
       }) holds offered_kept
       (λ id held off. ap (λ ps. slice_index ps id) parts ∙ before.parts id (subst IsSome (flow_stays id) held) off ∙ asks_same s t old.levels.items new.levels.items id (flow_stays id) (ap (λ ls. level_at ls id) levels))
-      (λ id held. subst (λ ps. 0 < slice_index ps id) (sym parts) (before.some id (subst IsSome (flow_stays id) held))))
+      (λ id i. subst IsSome (sym (flow_stays id)) (before.alive id i)))
 
   pub offered_notes : NotesChanged s t old new
   offered_notes = notes_same s t old new flow_stays (λ id. ap (λ ls. level_at ls id) levels) (ap (λ (m : MarkSet). m.members) moved)

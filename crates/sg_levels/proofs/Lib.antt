@@ -21,3 +21,5 @@ pub mod Renewing
 pub mod Within
 pub mod WayBack
 pub mod Refilling
+pub mod Joined
+pub mod Allowing

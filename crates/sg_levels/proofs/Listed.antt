@@ -75,6 +75,12 @@ in_end number xs = in_at number (xs ++ number ∷ []) (length xs) (omega (arith,
 pub mark_there : (number : ℕ) (xs : List ℕ) → is_in number (with_mark number xs) ≡ true
 mark_there number xs = (elim (is_in number xs) as (λ b. is_in number xs ≡ b → is_in number (cond b xs (xs ++ number ∷ [])) ≡ true) [ true ↦ λ e. e | false ↦ λ e. in_end number xs ]) refl
 
+pub off_mark : (id number : ℕ) (xs : List ℕ) → is_in id (with_mark number xs) ≡ false → (id ≢ number) × (is_in id xs ≡ false)
+off_mark id number xs off = (
+  λ e. true≢false (sym (mark_there number xs) ∙ sym (ap (λ n. is_in n (with_mark number xs)) e) ∙ off),
+  elim (bool_cases (is_in id xs)) [ inl on ↦ absurd (true≢false (sym (mark_stays id number xs on) ∙ off)) | inr none ↦ none ],
+)
+
 -- ---- how often a number is there
 pub times-cons : (c x : ℕ) (xs : List ℕ) → times c (x ∷ xs) ≡ cond (eqb x c) 1 0 + times c xs
 times-cons c x xs = sum_by-cons (λ d. cond (eqb d c) 1 0) x xs

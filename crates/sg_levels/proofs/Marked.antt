@@ -7,7 +7,7 @@ use Rattle.sg_maxmin.specs.Sharing.{Sharing, IsSound, flow_at, uses_at, uses_in}
 use Rattle.sg_levels.specs.Numbered.{below_at, bound_of, flow_in, level_at, row_level, row_taken, row_waiting, weight_at}
 use Rattle.sg_levels.specs.Held.{IsAtMost, IsHold}
 use Rattle.sg_levels.specs.Changes.{IsSameRow}
-use Rattle.sg_levels.specs.Settling.{AreMarked, AreSettling, AreSettlingBut, ChangesKeep, HasCause, at_bound, is_active}
+use Rattle.sg_levels.specs.Settling.{AreMarked, AreSettling, AreSettlingBut, ChangesKeep, HasCause, IsStale, at_bound, is_active}
 use Rattle.sg_levels.proofs.Listed.{bool_cases, times_out}
 use Rattle.sg_levels.proofs.Users.{in_uses, on_below, uses_held, uses_none}
 use Rattle.sg_levels.proofs.OnRow.{sum_listed}
@@ -40,7 +40,7 @@ hold_listed capacity n slots levels row row' (Some h) b b' same is = record {
 }
 
 -- ---- a flow that changed doesn't use what isn't active
-not_used : (slots : List (Option Flow)) (id r : ℕ) (active : List Bool) → ((flow : Flow) (r : ℕ) → flow_at slots id ≡ Some flow → is_in r flow.uses ≡ true → is_active active r ≡ true) → is_active active r ≡ false → is_in r (uses_at slots id) ≡ false
+not_used : (slots : List (Option Flow)) (id r : ℕ) (active : List ℕ) → ((flow : Flow) (r : ℕ) → flow_at slots id ≡ Some flow → is_in r flow.uses ≡ true → is_active active r ≡ true) → is_active active r ≡ false → is_in r (uses_at slots id) ≡ false
 not_used slots id r active marks clean = from (flow_at slots id) refl
   where
     from : (o : Option Flow) → flow_at slots id ≡ o → is_in r (uses_at slots id) ≡ false
@@ -50,11 +50,15 @@ not_used slots id r active marks clean = from (flow_at slots id) refl
       | inr off ↦ ap (is_in r) (uses_held slots id flow e) ∙ off
     ]
 
-module _ (s t : Sharing) (old new holds : List (Option ℕ)) (active active' : List Bool) (stale stale' : List ℕ) (sound : IsSound s) (sound' : IsSound t) (marked : AreMarked s t old new active active' stale stale') (are : AreSettlingBut s old holds active stale) where
-  same_times : (r : ℕ) → is_active active' r ≡ false → (id : ℕ) → times id (users_on t.users r) ≡ times id (users_on s.users r)
-  same_times r clean id = elim (marked.flows id) [
+module _ (s t : Sharing) (old new holds : List (Option ℕ)) (active active' : List ℕ) (stale stale' : List ℕ) (sound : IsSound s) (sound' : IsSound t) (marked : AreMarked s t old new active active' stale stale') (are : AreSettlingBut s old holds active stale) where
+  -- a stale flow uses what it used
+  used_not : (id r : ℕ) → IsStale s t stale' id → is_in r (uses_at t.slots id) ≡ false → is_in r (uses_at s.slots id) ≡ false
+  used_not id r now off = elim (bool_cases (is_in r (uses_at s.slots id))) [ inl on ↦ absurd (true≢false (sym (now.uses r on) ∙ off)) | inr none ↦ none ]
+
+  same_times : (r : ℕ) → is_active active' r ≡ false → ((id : ℕ) → is_in id stale' ≡ true → is_in r (uses_at t.slots id) ≡ false) → (id : ℕ) → times id (users_on t.users r) ≡ times id (users_on s.users r)
+  same_times r clean none id = elim (marked.flows id) [
     | inl same ↦ sound'.both id r ∙ ap (λ o. times r (uses_in o)) same.flow ∙ sym (sound.both id r)
-    | inr (inl now) ↦ sound'.both id r ∙ ap (times r) now.uses ∙ sym (sound.both id r)
+    | inr (inl now) ↦ let off = none id now.now in sound'.both id r ∙ times_out r (uses_at t.slots id) off ∙ sym (times_out r (uses_at s.slots id) (used_not id r now off)) ∙ sym (sound.both id r)
     | inr (inr changed) ↦ sound'.both id r ∙ times_out r (uses_at t.slots id) (not_used t.slots id r active' changed.after clean) ∙ sym (times_out r (uses_at s.slots id) (not_used s.slots id r active' changed.before clean)) ∙ sym (sound.both id r)
   ]
 
@@ -65,21 +69,21 @@ module _ (s t : Sharing) (old new holds : List (Option ℕ)) (active active' : L
       | inl on ↦ sym (ap (λ o. is_in r (uses_in o)) same.flow) ∙ none id on
       | inr off ↦ absurd (true≢false (sym i ∙ same.still off))
     ]
-    | inr (inl now) ↦ sym (ap (is_in r) now.uses) ∙ none id now.now
+    | inr (inl now) ↦ used_not id r now (none id now.now)
     | inr (inr changed) ↦ not_used s.slots id r active' changed.before clean
   ]
 
   same_row : (r : ℕ) → is_active active' r ≡ false → ((id : ℕ) → is_in id stale' ≡ true → is_in r (uses_at t.slots id) ≡ false) → IsSameRow (users_on s.users r) s.slots t.slots old new
   same_row r clean none id i = elim (marked.flows id) [
     | inl same ↦ (same.flow, same.level)
-    | inr (inl now) ↦ absurd (true≢false (sym (uses_row s sound r id i) ∙ sym (ap (is_in r) now.uses) ∙ none id now.now))
+    | inr (inl now) ↦ absurd (true≢false (sym (uses_row s sound r id i) ∙ used_not id r now (none id now.now)))
     | inr (inr changed) ↦ absurd (true≢false (sym (uses_row s sound r id i) ∙ not_used s.slots id r active' changed.before clean))
   ]
 
-  most : (id r : ℕ) (flow : Flow) → flow_at t.slots id ≡ Some flow → is_in r flow.uses ≡ true → is_active active' r ≡ false → uses_at t.slots id ≡ uses_at s.slots id → level_at new id ≡ level_at old id → IsAtMost (level_at new id) (level_at holds r)
-  most id r flow e u clean uses level =
+  most : (id r : ℕ) (flow : Flow) → flow_at t.slots id ≡ Some flow → is_in id stale ≡ false → is_in r flow.uses ≡ true → is_active active' r ≡ false → uses_at t.slots id ≡ uses_at s.slots id → level_at new id ≡ level_at old id → IsAtMost (level_at new id) (level_at holds r)
+  most id r flow e off u clean uses level =
       let held = in_uses s.slots id r (sym (ap (is_in r) uses) ∙ ap (is_in r) (uses_held t.slots id flow e) ∙ u) in
-      subst (λ o. IsAtMost o (level_at holds r)) (sym level) (are.under id r held.0 held.1 held.2 (marked.marks r clean))
+      subst (λ o. IsAtMost o (level_at holds r)) (sym level) (are.under id r held.0 held.1 off held.2 (marked.marks r clean))
 
   pub changes_kept : AreSettlingBut t new holds active' stale'
   changes_kept = record {
@@ -90,15 +94,15 @@ module _ (s t : Sharing) (old new holds : List (Option ℕ)) (active active' : L
         let before = are.resources r (omega (arith, l, marked.as_many)) (marked.marks r clean) (none_stale r clean none) in
         let same = hold_is_local_lem (slice_index s.capacities r) s.slots t.slots old new row (level_at holds r) (same_row r clean none) before in
         subst (λ cap. IsHold cap t.slots new row' (level_at holds r)) (sym (marked.capacities r clean))
-        (hold_listed (slice_index s.capacities r) n t.slots new row row' (level_at holds r) (λ i h. omega (arith, on_below s sound r i h)) (λ i h. omega (arith, on_below t sound' r i h)) (same_times r clean) same);
+        (hold_listed (slice_index s.capacities r) n t.slots new row row' (level_at holds r) (λ i h. omega (arith, on_below s sound r i h)) (λ i h. omega (arith, on_below t sound' r i h)) (same_times r clean none) same);
     within = λ id flow e off. elim (marked.flows id) [
       | inl same ↦ subst (λ o. IsAtMost o (bound_of flow)) (sym same.level) (are.within id flow (sym same.flow ∙ e) (same.still off))
       | inr (inl now) ↦ absurd (true≢false (sym now.now ∙ off))
       | inr (inr changed) ↦ subst (λ o. IsAtMost o (bound_of flow)) (sym (changed.level_is flow e)) (at_most_self (bound_of flow))
     ];
-    under = λ id r flow e u clean. elim (marked.flows id) [
-      | inl same ↦ most id r flow e u clean (ap uses_in same.flow) same.level
-      | inr (inl now) ↦ most id r flow e u clean now.uses now.level
+    under = λ id r flow e off u clean. elim (marked.flows id) [
+      | inl same ↦ most id r flow e (same.still off) u clean (ap uses_in same.flow) same.level
+      | inr (inl now) ↦ absurd (true≢false (sym now.now ∙ off))
       | inr (inr changed) ↦ absurd (true≢false (sym (changed.after flow r e u) ∙ clean))
     ];
     cause = λ id flow e off. elim (marked.flows id) [
@@ -112,18 +116,18 @@ pub changes_keep_lem : ChangesKeep
 changes_keep_lem s t old new holds active active' stale stale' sound sound' marked are = changes_kept s t old new holds active active' stale stale' sound sound' marked are
 
 -- ---- where none is stale it is as in a settling
-pub none_but : (s : Sharing) (levels holds : List (Option ℕ)) (active : List Bool) → AreSettling s levels holds active → AreSettlingBut s levels holds active []
+pub none_but : (s : Sharing) (levels holds : List (Option ℕ)) (active : List ℕ) → AreSettling s levels holds active → AreSettlingBut s levels holds active []
 none_but s levels holds active are = record {
   resources = λ r l clean none. are.resources r l clean;
   within = λ id flow e off. are.within id flow e;
-  under = λ id r flow e u clean. elim (are.under id r flow e u clean) [ inl ok ↦ ok | inr k ↦ absurd (true≢false (sym k.1)) ];
+  under = λ id r flow e off u clean. elim (are.under id r flow e u clean) [ inl ok ↦ ok | inr k ↦ absurd (true≢false (sym k.1)) ];
   cause = λ id flow e off. elim (are.cause id flow e) [ inl ok ↦ ok | inr k ↦ absurd (true≢false (sym k.0)) ];
 }
 
-pub but_none : (s : Sharing) (levels holds : List (Option ℕ)) (active : List Bool) → AreSettlingBut s levels holds active [] → AreSettling s levels holds active
+pub but_none : (s : Sharing) (levels holds : List (Option ℕ)) (active : List ℕ) → AreSettlingBut s levels holds active [] → AreSettling s levels holds active
 but_none s levels holds active are = record {
   resources = λ r l clean. are.resources r l clean (λ id i. absurd (true≢false (sym i)));
   within = λ id flow e. are.within id flow e refl;
-  under = λ id r flow e u clean. inl (are.under id r flow e u clean);
+  under = λ id r flow e u clean. inl (are.under id r flow e refl u clean);
   cause = λ id flow e. inl (are.cause id flow e refl);
 }

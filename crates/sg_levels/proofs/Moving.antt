@@ -42,28 +42,28 @@ module _ (s : Sharing) (sound : IsSound s) (c flow : ℕ) (user : is_in flow (us
       IsSettlingOn s kept c was (flow ∷ todo) → IsSettlingOn s kept c was todo
   skipped kept was todo most cause are = record {
     parts = are.parts;
-    written = skip_keeps s sound kept.levels.items kept.holds.items kept.active.items c was flow todo (flow_in s.slots flow) are.written (held_user s sound c flow user) most cause;
+    written = skip_keeps s sound kept.levels.items kept.holds.items kept.active.members c was flow todo (flow_in s.slots flow) are.written (held_user s sound c flow user) most cause;
   }
 
   -- one that comes down to the hold
-  pub lowered : (old new : Levels) (was : Option ℕ) (todo : List ℕ) (hold : ℕ) → IsKept s old → IsMoved s old new flow (Some hold) → ActivatesBut c (uses_at s.slots flow) old.active.items new.active.items → level_at old.holds.items c ≡ Some hold → IsUnder hold (level_at old.levels.items flow) →
+  pub lowered : (old new : Levels) (was : Option ℕ) (todo : List ℕ) (hold : ℕ) → IsKept s old → IsMoved s old new flow (Some hold) → ActivatesBut c (uses_at s.slots flow) old.active.members new.active.members → level_at old.holds.items c ≡ Some hold → IsUnder hold (level_at old.levels.items flow) →
       IsSettlingOn s old c was (flow ∷ todo) → IsSettlingOn s new c was todo
   lowered old new was todo hold kept m activates is over are =
-      let step : AreSettlingOn s (set old.levels.items flow (Some hold)) old.holds.items new.active.items c was todo =
-      lower_keeps s sound old.levels.items old.holds.items old.active.items new.active.items c was flow todo (flow_in s.slots flow) hold are.written (held_user s sound c flow user) (user_below s sound c flow (length old.levels.items) user kept.places.levels) uses_it is over activates in
+      let step : AreSettlingOn s (set old.levels.items flow (Some hold)) old.holds.items new.active.members c was todo =
+      lower_keeps s sound old.levels.items old.holds.items old.active.members new.active.members c was flow todo (flow_in s.slots flow) hold are.written (held_user s sound c flow user) (user_below s sound c flow (length old.levels.items) user kept.places.levels) uses_it is over activates in
       record {
         parts = all_parts old new (Some hold) kept m are.parts;
-        written = subst (λ ls. AreSettlingOn s ls new.holds.items new.active.items c was todo) (sym m.level_is) (subst (λ hs. AreSettlingOn s (set old.levels.items flow (Some hold)) hs new.active.items c was todo) (sym m.holds) step);
+        written = subst (λ ls. AreSettlingOn s ls new.holds.items new.active.members c was todo) (sym m.level_is) (subst (λ hs. AreSettlingOn s (set old.levels.items flow (Some hold)) hs new.active.members c was todo) (sym m.holds) step);
       }
 
   -- one that goes up to its bound
-  pub raised : (old new : Levels) (was : Option ℕ) (todo : List ℕ) → IsKept s old → IsMoved s old new flow (bound_of (flow_in s.slots flow)) → ActivatesAll (uses_at s.slots flow) old.active.items new.active.items →
+  pub raised : (old new : Levels) (was : Option ℕ) (todo : List ℕ) → IsKept s old → IsMoved s old new flow (bound_of (flow_in s.slots flow)) → ActivatesAll (uses_at s.slots flow) old.active.members new.active.members →
       IsSettlingOn s old c was (flow ∷ todo) → IsSettlingOn s new c was todo
   raised old new was todo kept m activates are =
       let level = bound_of (flow_in s.slots flow) in
-      let step : AreSettlingOn s (set old.levels.items flow level) old.holds.items new.active.items c was todo =
-      raise_keeps s sound old.levels.items old.holds.items old.active.items new.active.items c was flow todo (flow_in s.slots flow) are.written (held_user s sound c flow user) (user_below s sound c flow (length old.levels.items) user kept.places.levels) activates in
+      let step : AreSettlingOn s (set old.levels.items flow level) old.holds.items new.active.members c was todo =
+      raise_keeps s sound old.levels.items old.holds.items old.active.members new.active.members c was flow todo (flow_in s.slots flow) are.written (held_user s sound c flow user) (user_below s sound c flow (length old.levels.items) user kept.places.levels) activates in
       record {
         parts = all_parts old new level kept m are.parts;
-        written = subst (λ ls. AreSettlingOn s ls new.holds.items new.active.items c was todo) (sym m.level_is) (subst (λ hs. AreSettlingOn s (set old.levels.items flow level) hs new.active.items c was todo) (sym m.holds) step);
+        written = subst (λ ls. AreSettlingOn s ls new.holds.items new.active.members c was todo) (sym m.level_is) (subst (λ hs. AreSettlingOn s (set old.levels.items flow level) hs new.active.members c was todo) (sym m.holds) step);
       }

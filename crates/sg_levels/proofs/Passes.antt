@@ -101,3 +101,8 @@ module _ (s : Sharing) (c : ℕ) (levels : List (Option ℕ)) (looks before : �
           most = looked_all levels (users_on s.users c) new b.level before after looked;
           enough = λ e. absurd (none_some (sym e));
         }
+
+-- the same with so many looks more on both sides
+pub shifted : (after now more : ℕ) (o : Option Above) → IfSome o (λ b. after ≡ now + b.users) → IfSome o (λ b. after + more ≡ now + more + b.users)
+shifted after now more None told = tt
+shifted after now more (Some b) told = omega (arith, told)

@@ -1,17 +1,18 @@
 -- What a filling found is written.
-use Rattle.std.proofs.Common.{◌≡◌, ◌≢◌, ℕ, ◌+◌, ◌^◌, ◌<◌, ◌≤◌, ◌⊎◌, inl, inr, true, false, true≢false, Option, None, List, [], ◌∷◌, ◌++◌, length, get_or, get_or-set_same, get_or-set_other, set, take, slice_index, sum_by, refl, sym, ap, subst, ◌∙◌, arith}
+use Rattle.std.proofs.Common.{◌≡◌, ◌≢◌, ℕ, ◌+◌, ◌^◌, ◌<◌, ◌≤◌, ◌⊎◌, inl, inr, Bool, true, false, ◌||◌, is_none, true≢false, IsSome, Option, None, Some, List, [], ◌∷◌, ◌++◌, length, get_or, get_or-set_same, get_or-set_other, set, take, slice_index, sum_by, refl, sym, ap, subst, ◌∙◌, arith}
 use Rattle.std.proofs.lemmas.List.{take_more}
 use Rattle.sg_base.specs.MarkSet.{MarkSet, is_in}
 use Rattle.sg_chains.specs.Chained.{users_on}
-use Rattle.sg_maxmin.specs.Sharing.{Sharing, IsSound}
+use Rattle.sg_maxmin.specs.Fill.{Flow}
+use Rattle.sg_maxmin.specs.Sharing.{Sharing, IsSound, flow_at}
 use Rattle.sg_levels.specs.declared.levels.Levels.{Levels}
 use Rattle.sg_levels.specs.Numbered.{flow_in, level_at}
 use Rattle.sg_levels.specs.Demand.{demand_of}
 use Rattle.sg_levels.specs.Held.{AreFilled, AreHeld, IsHold}
 use Rattle.sg_levels.specs.Settling.{is_active}
-use Rattle.sg_levels.specs.Kept.{AreGiven, AreHeldAt, IsBetween, IsFound, IsKept, IsMoved, IsRefilled, IsSettling, IsWithin, KeepsFlows, PassAlong}
-use Rattle.sg_levels.proofs.Listed.{bool_cases, eq_cases, in_end, in_more}
-use Rattle.sg_levels.proofs.Users.{in_is, is_in_In}
+use Rattle.sg_levels.specs.Kept.{AreGiven, AreHeldAt, is_one_of, IsBetween, IsFound, IsKept, IsMoved, IsRefilled, IsSettling, IsWithin, KeepsFlows, PassAlong}
+use Rattle.sg_levels.proofs.Listed.{bool_cases, eq_cases, in_end, in_more, some_of}
+use Rattle.sg_levels.proofs.Users.{in_is, in_uses, is_in_In}
 use Rattle.sg_levels.proofs.Within.{in_append}
 use Rattle.sg_levels.proofs.HeldLevels.{held_is_filling_lem}
 use Rattle.sg_levels.proofs.Changing.{hold_is_local_lem}
@@ -54,67 +55,89 @@ given_on s flows levels k first old new less below below' m are =
     }
 
 -- ---- one resource more
-pub held_on : (resources : List ℕ) (holds : List (Option ℕ)) (k : ℕ) (first old new : Levels) → k < length resources → get_or resources k 0 < length old.holds.items → get_or resources k 0 < length old.active.items →
-    new.holds.items ≡ set old.holds.items (get_or resources k 0) (level_at holds (get_or resources k 0)) → new.active.items ≡ set old.active.items (get_or resources k 0) false → KeepsFlows first new →
+pub held_on : (resources : List ℕ) (holds : List (Option ℕ)) (k : ℕ) (first old new : Levels) → k < length resources → get_or resources k 0 < length old.holds.items →
+    new.holds.items ≡ set old.holds.items (get_or resources k 0) (level_at holds (get_or resources k 0)) → KeepsFlows first new →
     AreHeldAt (take k resources) holds first old → AreHeldAt (take (k + 1) resources) holds first new
-held_on resources holds k first old new less below below' is is' keeps are =
+held_on resources holds k first old new less below is keeps are =
     let c = get_or resources k 0 in
     let hold = level_at holds c in
     let other_hold : (r : ℕ) → r ≢ c → level_at new.holds.items r ≡ level_at old.holds.items r = λ r ne. ap (λ hs. level_at hs r) is ∙ get_or-set_other old.holds.items c r hold None ne in
-    let other_mark : (r : ℕ) → r ≢ c → is_active new.active.items r ≡ is_active old.active.items r = λ r ne. ap (λ marks. is_active marks r) is' ∙ get_or-set_other old.active.items c r false false ne in
     record {
       here = λ r i. elim (eq_cases r c) [
         | inl e ↦ subst (λ n. level_at new.holds.items n ≡ level_at holds n) (sym e) (ap (λ hs. level_at hs c) is ∙ get_or-set_same old.holds.items c hold None below)
         | inr ne ↦ elim (in_take r resources k less i) [ inl e ↦ absurd (ne e) | inr j ↦ other_hold r ne ∙ are.here r j ]
       ];
-      inactive = λ r i. elim (eq_cases r c) [
-        | inl e ↦ subst (λ n. is_active new.active.items n ≡ false) (sym e) (ap (λ marks. is_active marks c) is' ∙ get_or-set_same old.active.items c false false below')
-        | inr ne ↦ elim (in_take r resources k less i) [ inl e ↦ absurd (ne e) | inr j ↦ other_mark r ne ∙ are.inactive r j ]
-      ];
       others = λ r off. let out = out_take r resources k less off in other_hold r out.0 ∙ are.others r out.1;
-      other_active = λ r off. let out = out_take r resources k less off in other_mark r out.0 ∙ are.other_active r out.1;
       flows = keeps;
     }
 
+-- ---- others are active
+rested : (s : Sharing) (all : Levels) (active : MarkSet) → active.room ≡ all.active.room → IsKept s all → IsKept s (record all { active = active })
+rested s all active room kept =
+    let places = kept.places in
+    record {
+      places = record { levels = places.levels; parts = places.parts; moved = places.moved; stale = places.stale; holds = places.holds; demands = places.demands; active = room ∙ places.active };
+      demands = kept.demands;
+      fit = kept.fit;
+      none = kept.none;
+      longest = kept.longest;
+    }
+
 -- ---- all is written
-module _ (s : Sharing) (sound : IsSound s) (flows resources : List ℕ) (levels holds : List (Option ℕ)) (old mid new : Levels) (between : IsBetween s old) (along : PassAlong s (λ id. is_in id flows) (λ r. is_in r resources)) (within : IsWithin (λ id. is_in id flows) (λ r. is_in r resources) old) (found : IsFound s flows resources levels holds)
+module _ (s : Sharing) (sound : IsSound s) (flows resources : List ℕ) (levels holds : List (Option ℕ)) (old mid new : Levels) (between : IsBetween s old) (along : PassAlong s (λ id. is_in id flows) (λ r. is_in r resources)) (within : IsWithin (is_one_of flows s.slots) (λ r. is_in r resources) old) (found : IsFound s flows resources levels holds)
     (given : AreGiven s flows levels old mid) (held' : AreHeldAt resources holds mid new) where
   level_is : (id : ℕ) → level_at new.levels.items id ≡ level_at mid.levels.items id
   level_is id = ap (λ ls. level_at ls id) held'.flows.levels
 
-  refilled : IsRefilled s (λ id. is_in id flows) (λ r. is_in r resources) old new
+  -- what is held is one of these
+  held_one : (id : ℕ) (flow : Flow) → flow_at s.slots id ≡ Some flow → is_one_of flows s.slots id ≡ true → is_in id flows ≡ true
+  held_one id flow e here = sym (or_none (is_in id flows) (ap is_none e)) ∙ here
+    where
+      or_none : (b : Bool) {c : Bool} → c ≡ false → (b || c) ≡ b
+      or_none true e = refl
+      or_none false e = e
+
+  -- and what isn't isn't
+  not_one : (id : ℕ) → is_one_of flows s.slots id ≡ false → is_in id flows ≡ false
+  not_one id away = first (is_in id flows) (is_none (flow_at s.slots id)) away
+    where
+      first : (b c : Bool) → (b || c) ≡ false → b ≡ false
+      first true c e = e
+      first false c e = refl
+
+  along' : PassAlong s (is_one_of flows s.slots) (λ r. is_in r resources)
+  along' = record {
+    uses = λ id r here u. let f = in_uses s.slots id r u in along.uses id r (held_one id f.0 f.1 here) u;
+    users = λ r id here i. ap {B = Bool} (λ b. b || is_none (flow_at s.slots id)) (along.users r id here i);
+  }
+
+  refilled : IsRefilled s (is_one_of flows s.slots) (λ r. is_in r resources) old new
   refilled = record {
-    filled = λ id flow e here. level_is id ∙ given.here id here ∙ found.filled id flow e here;
-    other_flows = λ id away. level_is id ∙ given.others id away;
+    filled = λ id flow e here. level_is id ∙ given.here id (held_one id flow e here) ∙ found.filled id flow e (held_one id flow e here);
+    other_flows = λ id away. level_is id ∙ given.others id (not_one id away);
     held_at = λ r below here. subst (IsHold (slice_index s.capacities r) s.slots new.levels.items (users_on s.users r)) (sym (held'.here r here))
         (hold_is_local_lem (slice_index s.capacities r) s.slots s.slots levels new.levels.items (users_on s.users r) (level_at holds r) (λ id i. (refl, level_is id ∙ given.here id (along.users r id here i))) (found.holds_are r here));
     other_resources = λ r away. held'.others r away ∙ ap (λ hs. level_at hs r) given.holds;
   }
 
   all_held : AreHeld s new.levels.items (level_at new.holds.items)
-  all_held = way_back_lem s old new (λ id. is_in id flows) (λ r. is_in r resources) sound between along within refilled
+  all_held = way_back_lem s old new (is_one_of flows s.slots) (λ r. is_in r resources) sound between along' within refilled
 
   pub refilled_levels : AreFilled s new.levels.items
   refilled_levels = held_is_filling_lem s new.levels.items (level_at new.holds.items) sound all_held
 
-  pub refilled_settles : IsKept s new → IsSettling s new
-  refilled_settles kept = record {
-    kept = kept;
+  pub refilled_settles : (active : MarkSet) → active.room ≡ new.active.room → IsKept s new → IsSettling s (record new { active = active })
+  refilled_settles active room kept = record {
+    kept = rested s new active room kept;
     parts = λ id some off. elim (bool_cases (is_in id flows)) [
       | inl here ↦ ap (λ ps. slice_index ps id) held'.flows.parts ∙ given.parts id here ∙ ap (demand_of (flow_in s.slots id)) (sym (level_is id ∙ given.here id here))
-      | inr away ↦ ap (λ ps. slice_index ps id) held'.flows.parts ∙ given.other_parts id away ∙ between.parts id some (not_stale id away) ∙ ap (demand_of (flow_in s.slots id)) (sym (level_is id ∙ given.others id away))
+      | inr away ↦ ap (λ ps. slice_index ps id) held'.flows.parts ∙ given.other_parts id away ∙ between.parts id some (not_stale id some away) ∙ ap (demand_of (flow_in s.slots id)) (sym (level_is id ∙ given.others id away))
     ];
-    written = held_settles_lem s new.levels.items new.holds.items new.active.items all_held;
+    written = held_settles_lem s new.levels.items new.holds.items active.members all_held;
   }
     where
-      not_stale : (id : ℕ) → is_in id flows ≡ false → is_in id old.stale.members ≡ false
-      not_stale id away = elim (bool_cases (is_in id old.stale.members)) [ inl on ↦ absurd (true≢false (sym (within.stale id on) ∙ away)) | inr off ↦ off ]
-
-  pub refilled_rests : IsWithin (λ id. is_in id flows) (λ r. is_in r resources) mid → (r : ℕ) → is_active new.active.items r ≡ false
-  refilled_rests after r = elim (bool_cases (is_in r resources)) [
-    | inl here ↦ held'.inactive r here
-    | inr away ↦ held'.other_active r away ∙ elim (bool_cases (is_active mid.active.items r)) [ inl on ↦ absurd (true≢false (sym (after.active r on) ∙ away)) | inr off ↦ off ]
-  ]
+      not_stale : (id : ℕ) → IsSome (flow_at s.slots id) → is_in id flows ≡ false → is_in id old.stale.members ≡ false
+      not_stale id some away = let f = some_of (flow_at s.slots id) some in elim (bool_cases (is_in id old.stale.members)) [ inl on ↦ absurd (true≢false (sym (held_one id f.0 f.1 (within.stale id on)) ∙ away)) | inr off ↦ off ]
 
 pub written_kept : (s : Sharing) (old new : Levels) → KeepsFlows old new → IsKept s old → IsKept s new
 written_kept s old new keeps kept =
@@ -127,7 +150,7 @@ written_kept s old new keeps kept =
         stale = omega (arith, places.stale, ap (λ (m : MarkSet). m.room) keeps.stale);
         holds = keeps.holds ∙ places.holds;
         demands = ap length keeps.demands ∙ places.demands;
-        active = keeps.active ∙ places.active;
+        active = ap (λ (m : MarkSet). m.room) keeps.active ∙ places.active;
       };
       demands = λ c. ap (λ ds. slice_index ds c) keeps.demands ∙ kept.demands c ∙ ap (λ ps. sum_by (slice_index ps) (users_on s.users c)) (sym keeps.parts);
       fit = λ id. subst (λ ps. slice_index ps id ≤ 2 ^ 65) (sym keeps.parts) (kept.fit id);

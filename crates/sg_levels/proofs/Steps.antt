@@ -50,7 +50,7 @@ at_most_self (Some x) = omega arith
 
 module _ (s : Sharing) (sound : IsSound s) (levels holds : List (Option ℕ)) where
   -- a user that needs no change
-  pub skip_keeps : (active : List Bool) (c : ℕ) (old : Option ℕ) (id : ℕ) (todo : List ℕ) (flow : Flow) → AreSettlingOn s levels holds active c old (id ∷ todo) → flow_at s.slots id ≡ Some flow →
+  pub skip_keeps : (active : List ℕ) (c : ℕ) (old : Option ℕ) (id : ℕ) (todo : List ℕ) (flow : Flow) → AreSettlingOn s levels holds active c old (id ∷ todo) → flow_at s.slots id ≡ Some flow →
       IsAtMost (level_at levels id) (level_at holds c) → (level_at levels id ≡ old → HasCause holds flow (level_at levels id)) → AreSettlingOn s levels holds active c old todo
   skip_keeps active c old id todo flow are e most cause = record {
     resources = are.resources;
@@ -74,7 +74,7 @@ module _ (s : Sharing) (sound : IsSound s) (levels holds : List (Option ℕ)) wh
   }
 
   -- a user's new level, where all its resources are active, but for c maybe
-  changed : (active active' : List Bool) (c : ℕ) (old : Option ℕ) (id : ℕ) (todo : List ℕ) (flow : Flow) (v : Option ℕ) → AreSettlingOn s levels holds active c old (id ∷ todo) → flow_at s.slots id ≡ Some flow → id < length levels →
+  changed : (active active' : List ℕ) (c : ℕ) (old : Option ℕ) (id : ℕ) (todo : List ℕ) (flow : Flow) (v : Option ℕ) → AreSettlingOn s levels holds active c old (id ∷ todo) → flow_at s.slots id ≡ Some flow → id < length levels →
       IsAtMost v (bound_of flow) → HasCause holds flow v →
       ((r : ℕ) → is_active active' r ≡ false → (is_active active r ≡ false) × (is_in r flow.uses ≡ true → (IsAtMost v (level_at holds r)) × (IsHold (slice_index s.capacities r) s.slots levels (users_on s.users r) (level_at holds r) → IsHold (slice_index s.capacities r) s.slots (set levels id v) (users_on s.users r) (level_at holds r)))) →
       AreSettlingOn s (set levels id v) holds active' c old todo
@@ -115,7 +115,7 @@ module _ (s : Sharing) (sound : IsSound s) (levels holds : List (Option ℕ)) wh
   }
 
   -- a user above the hold comes down to it
-  pub lower_keeps : (active active' : List Bool) (c : ℕ) (old : Option ℕ) (id : ℕ) (todo : List ℕ) (flow : Flow) (h : ℕ) → AreSettlingOn s levels holds active c old (id ∷ todo) → flow_at s.slots id ≡ Some flow → id < length levels →
+  pub lower_keeps : (active active' : List ℕ) (c : ℕ) (old : Option ℕ) (id : ℕ) (todo : List ℕ) (flow : Flow) (h : ℕ) → AreSettlingOn s levels holds active c old (id ∷ todo) → flow_at s.slots id ≡ Some flow → id < length levels →
       is_in c flow.uses ≡ true → level_at holds c ≡ Some h → IsUnder h (level_at levels id) →
       ((r : ℕ) → is_active active' r ≡ false → (is_active active r ≡ false) × (is_in r flow.uses ≡ true → r ≡ c)) →
       AreSettlingOn s (set levels id (Some h)) holds active' c old todo
@@ -137,7 +137,7 @@ module _ (s : Sharing) (sound : IsSound s) (levels holds : List (Option ℕ)) wh
       ]
 
   -- a user that nothing holds goes up to its bound
-  pub raise_keeps : (active active' : List Bool) (c : ℕ) (old : Option ℕ) (id : ℕ) (todo : List ℕ) (flow : Flow) → AreSettlingOn s levels holds active c old (id ∷ todo) → flow_at s.slots id ≡ Some flow → id < length levels →
+  pub raise_keeps : (active active' : List ℕ) (c : ℕ) (old : Option ℕ) (id : ℕ) (todo : List ℕ) (flow : Flow) → AreSettlingOn s levels holds active c old (id ∷ todo) → flow_at s.slots id ≡ Some flow → id < length levels →
       ((r : ℕ) → is_active active' r ≡ false → (is_active active r ≡ false) × (is_in r flow.uses ≡ false)) →
       AreSettlingOn s (set levels id (bound_of flow)) holds active' c old todo
   raise_keeps active active' c old id todo flow are e below marks =
@@ -145,17 +145,17 @@ module _ (s : Sharing) (sound : IsSound s) (levels holds : List (Option ℕ)) wh
       (λ r d. let m = marks r d in (m.0, λ u. absurd (true≢false (sym u ∙ m.1))))
 
   -- what is written of a resource is its hold again, and its users are looked at
-  pub start_keeps : (active : List Bool) (c' : ℕ) (old' : Option ℕ) (c : ℕ) (hold : Option ℕ) → AreSettlingOn s levels holds active c' old' [] → c < length holds → c < length active → IsHold (slice_index s.capacities c) s.slots levels (users_on s.users c) hold →
-      AreSettlingOn s levels (set holds c hold) (set active c false) c (level_at holds c) (users_on s.users c)
-  start_keeps active c' old' c hold are below below' is = record {
+  pub start_keeps : (active active' : List ℕ) (c' : ℕ) (old' : Option ℕ) (c : ℕ) (hold : Option ℕ) → AreSettlingOn s levels holds active c' old' [] → c < length holds → ((r : ℕ) → r ≢ c → is_active active' r ≡ is_active active r) → IsHold (slice_index s.capacities c) s.slots levels (users_on s.users c) hold →
+      AreSettlingOn s levels (set holds c hold) active' c (level_at holds c) (users_on s.users c)
+  start_keeps active active' c' old' c hold are below rests is = record {
     resources = λ r l d. elim (eq_cases r c) [
       | inl same ↦ subst (λ n. IsHold (slice_index s.capacities n) s.slots levels (users_on s.users n) (level_at (set holds c hold) n)) (sym same) (subst (IsHold (slice_index s.capacities c) s.slots levels (users_on s.users c)) (sym (set_here holds c hold below)) is)
-      | inr ne ↦ subst (IsHold (slice_index s.capacities r) s.slots levels (users_on s.users r)) (sym (set_other holds c r hold ne)) (are.resources r l (sym (get_or-set_other active c r false false ne) ∙ d))
+      | inr ne ↦ subst (IsHold (slice_index s.capacities r) s.slots levels (users_on s.users r)) (sym (set_other holds c r hold ne)) (are.resources r l (sym (rests r ne) ∙ d))
     ];
     within = are.within;
     under = λ id r g q u d. elim (eq_cases r c) [
       | inl same ↦ inr (same, in_is id (users_on s.users c) (users_of s sound id c g q (is_in_In c g.uses (subst (λ n. is_in n g.uses ≡ true) same u))))
-      | inr ne ↦ elim (are.under id r g q u (sym (get_or-set_other active c r false false ne) ∙ d)) [
+      | inr ne ↦ elim (are.under id r g q u (sym (rests r ne) ∙ d)) [
         | inl ok ↦ inl (subst (IsAtMost (level_at levels id)) (sym (set_other holds c r hold ne)) ok)
         | inr t ↦ absurd (true≢false (sym t.1))
       ]
@@ -174,16 +174,16 @@ module _ (s : Sharing) (sound : IsSound s) (levels holds : List (Option ℕ)) wh
       ]
 
   -- what held none and holds none has no user to look at
-  pub rest_keeps : (active : List Bool) (c' : ℕ) (old' : Option ℕ) (c : ℕ) → AreSettlingOn s levels holds active c' old' [] → level_at holds c ≡ None → IsHold (slice_index s.capacities c) s.slots levels (users_on s.users c) None → AreSettlingOn s levels holds (set active c false) c' old' []
-  rest_keeps active c' old' c are none is = record {
+  pub rest_keeps : (active active' : List ℕ) (c' : ℕ) (old' : Option ℕ) (c : ℕ) → AreSettlingOn s levels holds active c' old' [] → ((r : ℕ) → r ≢ c → is_active active' r ≡ is_active active r) → level_at holds c ≡ None → IsHold (slice_index s.capacities c) s.slots levels (users_on s.users c) None → AreSettlingOn s levels holds active' c' old' []
+  rest_keeps active active' c' old' c are rests none is = record {
     resources = λ r l d. elim (eq_cases r c) [
       | inl same ↦ subst (λ n. IsHold (slice_index s.capacities n) s.slots levels (users_on s.users n) (level_at holds n)) (sym same) (subst (IsHold (slice_index s.capacities c) s.slots levels (users_on s.users c)) (sym none) is)
-      | inr ne ↦ are.resources r l (sym (get_or-set_other active c r false false ne) ∙ d)
+      | inr ne ↦ are.resources r l (sym (rests r ne) ∙ d)
     ];
     within = are.within;
     under = λ id r g q u d. elim (eq_cases r c) [
       | inl same ↦ inl (subst (IsAtMost (level_at levels id)) (sym (ap (level_at holds) same ∙ none)) tt)
-      | inr ne ↦ are.under id r g q u (sym (get_or-set_other active c r false false ne) ∙ d)
+      | inr ne ↦ are.under id r g q u (sym (rests r ne) ∙ d)
     ];
     cause = are.cause;
   }
@@ -252,7 +252,7 @@ pub rows_fit : (s : Sharing) → IsSound s → (id n : ℕ) → n ≡ length s.c
 rows_fit s sound id n e = subst (λ m. All (λ c. c < m) (uses_at s.slots id)) (sym e) (rows_exist s sound id)
 
 -- with no user left to look at, it doesn't matter whose they were
-pub any_end : (s : Sharing) (levels holds : List (Option ℕ)) (active : List Bool) (c c' : ℕ) (old old' : Option ℕ) → AreSettlingOn s levels holds active c old [] → AreSettlingOn s levels holds active c' old' []
+pub any_end : (s : Sharing) (levels holds : List (Option ℕ)) (active : List ℕ) (c c' : ℕ) (old old' : Option ℕ) → AreSettlingOn s levels holds active c old [] → AreSettlingOn s levels holds active c' old' []
 any_end s levels holds active c c' old old' are = record {
   resources = are.resources;
   within = are.within;

@@ -88,8 +88,8 @@ module _ (s : Sharing) (sound : IsSound s) (old new : Levels) (p q : ℕ → Boo
     | inr off ↦ off
   ]
 
-  not_active : (r : ℕ) → q r ≡ false → is_active old.active.items r ≡ false
-  not_active r away = elim (bool_cases (is_active old.active.items r)) [ inl on ↦ absurd (true≢false (sym (within.active r on) ∙ away)) | inr off ↦ off ]
+  not_active : (r : ℕ) → q r ≡ false → is_active old.active.members r ≡ false
+  not_active r away = elim (bool_cases (is_active old.active.members r)) [ inl on ↦ absurd (true≢false (sym (within.active r on) ∙ away)) | inr off ↦ off ]
 
   not_stale : (id : ℕ) → p id ≡ false → is_in id old.stale.members ≡ false
   not_stale id away = elim (bool_cases (is_in id old.stale.members)) [ inl on ↦ absurd (true≢false (sym (within.stale id on) ∙ away)) | inr off ↦ off ]
@@ -125,7 +125,7 @@ module _ (s : Sharing) (sound : IsSound s) (old new : Levels) (p q : ℕ → Boo
     under = λ id r flow e u clean. inl (elim (bool_cases (p id)) [
       | inl here ↦ subst (λ o. IsAtMost o (level_at new.holds.items r)) (here_same id flow e here) (subst (IsAtMost (level_at all id)) (holds_here r (along.uses id r here (ap (is_in r) (uses_held s.slots id flow e) ∙ u))) (whole.under id r flow e u))
       | inr away ↦ let off = away_uses id r flow e u away in
-          subst (IsAtMost (level_at new.levels.items id)) (sym (done.other_resources r off)) (subst (λ o. IsAtMost o (level_at old.holds.items r)) (sym (done.other_flows id away)) (between.written.under id r flow e u (not_active r off)))
+          subst (IsAtMost (level_at new.levels.items id)) (sym (done.other_resources r off)) (subst (λ o. IsAtMost o (level_at old.holds.items r)) (sym (done.other_flows id away)) (between.written.under id r flow e (not_stale id away) u (not_active r off)))
     ]);
     cause = λ id flow e. inl (elim (bool_cases (p id)) [
       | inl here ↦ let k = whole.cause id flow e in caused new.holds.items flow k.0 (level_at new.levels.items id) (sym (here_same id flow e here) ∙ k.1) (cause_here id flow e here k.0 k.2)

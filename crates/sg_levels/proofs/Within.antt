@@ -1,5 +1,5 @@
 -- A settling stays within what is joined to what was active, noted or stale.
-use Rattle.std.proofs.Common.{◌≡◌, ℕ, ◌<◌, ◌⊎◌, inl, inr, Bool, true, false, true≢false, cond, IsTrue, Option, List, [], ◌∷◌, ◌++◌, length, get_or-set_same, get_or-set_other, set, sym, ap, subst, ◌∙◌}
+use Rattle.std.proofs.Common.{◌≡◌, ◌≢◌, ℕ, ◌⊎◌, inl, inr, Bool, true, false, true≢false, cond, IsTrue, Option, List, [], ◌∷◌, ◌++◌, length, get_or-set_same, get_or-set_other, set, sym, ap, subst, ◌∙◌}
 use Rattle.sg_base.specs.MarkSet.{MarkSet, is_in, with_mark}
 use Rattle.sg_maxmin.specs.Sharing.{Sharing, uses_at}
 use Rattle.sg_maxmin.proofs.Members.{In}
@@ -21,7 +21,7 @@ marked_or id x xs h = (elim (is_in x xs) as (λ b. is_in id (cond b xs (xs ++ x 
   | false ↦ λ k. elim (in_append id x xs (is_in_In id (xs ++ x ∷ []) k)) [ inl e ↦ inl e | inr j ↦ inr (in_is id xs j) ]
 ]) h
 
-pub moved_within : (s : Sharing) (old new : Levels) (flow : ℕ) (level : Option ℕ) → IsMoved s old new flow level → ActivatesOnly (uses_at s.slots flow) old.active.items new.active.items → FlowStaysWithin s flow old new
+pub moved_within : (s : Sharing) (old new : Levels) (flow : ℕ) (level : Option ℕ) → IsMoved s old new flow level → ActivatesOnly (uses_at s.slots flow) old.active.members new.active.members → FlowStaysWithin s flow old new
 moved_within s old new flow level m only p q along here are = record {
   active = λ r on. elim (bool_cases (is_in r (uses_at s.slots flow))) [ inl used ↦ along.uses flow r here used | inr off ↦ are.active r (only r on off) ];
   moved = λ id i. elim (marked_or id flow old.moved.members (subst (λ (m : MarkSet). is_in id m.members ≡ true) m.noted i)) [ inl e ↦ subst (λ n. IsTrue (p n)) (sym e) here | inr j ↦ are.moved id j ];
@@ -29,8 +29,8 @@ moved_within s old new flow level m only p q along here are = record {
 }
 
 -- one resource less is active
-pub less_active : (active : List Bool) (c r : ℕ) → c < length active → is_active (set active c false) r ≡ true → is_active active r ≡ true
-less_active active c r below on = elim (eq_cases r c) [
-  | inl e ↦ absurd (true≢false (sym on ∙ ap (is_active (set active c false)) e ∙ get_or-set_same active c false false below))
-  | inr ne ↦ sym (get_or-set_other active c r false false ne) ∙ on
+pub less_active : (active active' : List ℕ) (c r : ℕ) → is_active active' c ≡ false → ((r : ℕ) → r ≢ c → is_active active' r ≡ is_active active r) → is_active active' r ≡ true → is_active active r ≡ true
+less_active active active' c r gone rests on = elim (eq_cases r c) [
+  | inl e ↦ absurd (true≢false (sym on ∙ ap (is_active active') e ∙ gone))
+  | inr ne ↦ sym (rests r ne) ∙ on
 ]

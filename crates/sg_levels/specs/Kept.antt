@@ -1,5 +1,5 @@
 -- What a `Levels` keeps, and what a change and a look at a resource do to it.
-use Rattle.std.specs.Prelude.{◌≡◌, ℕ, ◌+◌, ◌-◌, ◌*◌, ◌^◌, ◌<◌, ◌≤◌, Bool, true, false, Option, None, Some, IsTrue, IsSome, IfSome, List, [], All, length, sum_by, slice_index, slice_set}
+use Rattle.std.specs.Prelude.{◌≡◌, ℕ, ◌+◌, ◌-◌, ◌*◌, ◌^◌, ◌<◌, ◌≤◌, Bool, true, false, ◌||◌, is_none, Option, None, Some, IsTrue, IsSome, IfSome, List, [], All, length, sum_by, slice_index, slice_set}
 use Rattle.sg_base.specs.MarkSet.{is_in, with_mark}
 use Rattle.sg_chains.specs.Chained.{times, users_on}
 use Rattle.sg_maxmin.specs.Fill.{Flow, level_of, share_of}
@@ -18,7 +18,7 @@ pub record HasPlaces (s : Sharing) (kept : Levels) : Type 0 where
   pub stale : length s.slots ≤ kept.stale.room
   pub holds : length kept.holds.items ≡ length s.capacities
   pub demands : length kept.demands.items ≡ length s.capacities
-  pub active : length kept.active.items ≡ length s.capacities
+  pub active : kept.active.room ≡ length s.capacities
 
 -- The demand on each resource is the sum of its flows' parts in it; where there is no flow there is no part; and no flow has more
 -- uses than the longest.
@@ -37,19 +37,19 @@ AreParts s kept but = (id : ℕ) → IsSome (flow_at s.slots id) → is_in id bu
 pub record IsSettling (s : Sharing) (all : Levels) : Type 0 where
   pub kept : IsKept s all
   pub parts : AreParts s all []
-  pub written : AreSettling s all.levels.items all.holds.items all.active.items
+  pub written : AreSettling s all.levels.items all.holds.items all.active.members
 
 -- the same while the users of a resource are looked at
 pub record IsSettlingOn (s : Sharing) (all : Levels) (resource : ℕ) (was : Option ℕ) (todo : List ℕ) : Type 0 where
   pub parts : AreParts s all []
-  pub written : AreSettlingOn s all.levels.items all.holds.items all.active.items resource was todo
+  pub written : AreSettlingOn s all.levels.items all.holds.items all.active.members resource was todo
 
--- the same between settlings, where these flows have another bound than when they were given their levels
+-- the same between settlings, where these flows, which are held, began or have another bound since they were given their levels
 pub record IsBetweenBut (s : Sharing) (all : Levels) (stale : List ℕ) : Type 0 where
   pub kept : IsKept s all
   pub parts : AreParts s all stale
-  pub some : (id : ℕ) → IsSome (flow_at s.slots id) → 0 < slice_index all.parts.items id
-  pub written : AreSettlingBut s all.levels.items all.holds.items all.active.items stale
+  pub alive : (id : ℕ) → is_in id stale ≡ true → IsSome (flow_at s.slots id)
+  pub written : AreSettlingBut s all.levels.items all.holds.items all.active.members stale
 
 -- and these are noted
 abbrev pub IsBetween : Sharing → Levels → Type 0
@@ -81,7 +81,7 @@ pub record KeepsLevels (old new : Levels) : Type 0 where
   pub longest : new.longest ≡ old.longest
   pub holds : new.holds.items ≡ old.holds.items
   pub demands : length new.demands.items ≡ length old.demands.items
-  pub active : length new.active.items ≡ length old.active.items
+  pub active : new.active.room ≡ old.active.room
 
 -- nothing changes but the room, which doesn't shrink
 pub record KeepsAll (old new : Levels) : Type 0 where
@@ -92,7 +92,7 @@ pub record KeepsAll (old new : Levels) : Type 0 where
   pub longest : new.longest ≡ old.longest
   pub holds : new.holds.items ≡ old.holds.items
   pub demands : new.demands.items ≡ old.demands.items
-  pub active : new.active.items ≡ old.active.items
+  pub active : new.active ≡ old.active
   pub levels_room : length old.levels.items ≤ length new.levels.items
   pub parts_room : length old.parts.items ≤ length new.parts.items
   pub moved_room : old.moved.room ≤ new.moved.room
@@ -140,15 +140,15 @@ abbrev pub Shifts : ℕ → ℕ → List ℕ → List ℕ → List ℕ → Type 
 Shifts before after resources old new = (c : ℕ) → slice_index new c + times c resources * before ≡ slice_index old c + times c resources * after
 
 -- these resources are active, and those that were stay so
-abbrev pub ActivatesAll : List ℕ → List Bool → List Bool → Type 0
+abbrev pub ActivatesAll : List ℕ → List ℕ → List ℕ → Type 0
 ActivatesAll resources old new = (r : ℕ) → is_active new r ≡ false → (is_active old r ≡ false) × (is_in r resources ≡ false)
 
 -- and no others are that weren't
-abbrev pub ActivatesOnly : List ℕ → List Bool → List Bool → Type 0
+abbrev pub ActivatesOnly : List ℕ → List ℕ → List ℕ → Type 0
 ActivatesOnly resources old new = (r : ℕ) → is_active new r ≡ true → is_in r resources ≡ false → is_active old r ≡ true
 
 -- the same but for one of them, which stays as it was
-abbrev pub ActivatesBut : ℕ → List ℕ → List Bool → List Bool → Type 0
+abbrev pub ActivatesBut : ℕ → List ℕ → List ℕ → List ℕ → Type 0
 ActivatesBut but resources old new = (r : ℕ) → is_active new r ≡ false → (is_active old r ≡ false) × (is_in r resources ≡ true → r ≡ but)
 
 -- a test of flows and one of resources hold along all uses, where the one or the other holds
@@ -158,11 +158,25 @@ pub record PassAlong (s : Sharing) (flows resources : ℕ → Bool) : Type 0 whe
 
 -- they hold of all that is active, noted or stale
 pub record IsWithin (flows resources : ℕ → Bool) (all : Levels) : Type 0 where
-  pub active : (r : ℕ) → is_active all.active.items r ≡ true → IsTrue (resources r)
+  pub active : (r : ℕ) → is_active all.active.members r ≡ true → IsTrue (resources r)
   pub moved : (id : ℕ) → is_in id all.moved.members ≡ true → IsTrue (flows id)
   pub stale : (id : ℕ) → is_in id all.stale.members ≡ true → IsTrue (flows id)
 
+-- nothing is active, noted or stale
+abbrev pub IsUnmarked : Levels → Type 0
+IsUnmarked all = (p q : ℕ → Bool) → IsWithin p q all
+
+-- no more is than was
+abbrev pub MarksNoMore : Levels → Levels → Type 0
+MarksNoMore old new = (p q : ℕ → Bool) → IsWithin p q old → IsWithin p q new
+
 -- where they hold of this flow, of this resource or of these, and of all that was active, noted or stale, they hold of all that is
+abbrev pub FlowJoins : ℕ → Levels → Levels → Type 0
+FlowJoins flow old new = (p q : ℕ → Bool) → IsTrue (p flow) → IsWithin p q old → IsWithin p q new
+
+abbrev pub ResourceJoins : ℕ → Levels → Levels → Type 0
+ResourceJoins resource old new = (p q : ℕ → Bool) → IsTrue (q resource) → IsWithin p q old → IsWithin p q new
+
 abbrev pub FlowStaysWithin : Sharing → ℕ → Levels → Levels → Type 0
 FlowStaysWithin s flow old new = (p q : ℕ → Bool) → PassAlong s p q → IsTrue (p flow) → IsWithin p q old → IsWithin p q new
 
@@ -190,15 +204,9 @@ pub record IsPass (s : Sharing) (resource looks users : ℕ) : Type 0 where
   pub all : users ≡ length (users_on s.users resource)
   pub few : users ≤ looks
 
--- so many looks suffice for the hold of a resource with so many users, for a look at the resource, and for it to be undertaken
+-- so many looks suffice for the hold of a resource with so many users
 abbrev pub hold_looks : ℕ → ℕ
 hold_looks users = (users + 2) * users
-
-abbrev pub refresh_looks : Sharing → ℕ → ℕ
-refresh_looks s resource = let row = users_on s.users resource in hold_looks (length row) + length row + 2 * all_uses s.slots row
-
-abbrev pub enough_looks : Sharing → Levels → ℕ → ℕ
-enough_looks s kept resource = let users = length (users_on s.users resource) in hold_looks users + users * (2 * kept.longest + 1)
 
 -- What two stretches of time note, they note together.
 abbrev pub NotesAddUp : Type 0
@@ -224,6 +232,10 @@ WayBack =
     (s : Sharing) (old new : Levels) (flows resources : ℕ → Bool) → IsSound s → IsBetween s old → PassAlong s flows resources → IsWithin flows resources old →
     IsRefilled s flows resources old new → AreHeld s new.levels.items (level_at new.holds.items)
 
+-- it is one of these, or that of no flow
+abbrev pub is_one_of : List ℕ → List (Option Flow) → ℕ → Bool
+is_one_of flows slots id = is_in id flows || is_none (flow_at slots id)
+
 -- these flows have these levels, with their parts, and no other level, no other part and no hold changes
 pub record AreGiven (s : Sharing) (flows : List ℕ) (levels : List (Option ℕ)) (old new : Levels) : Type 0 where
   pub here : (id : ℕ) → is_in id flows ≡ true → level_at new.levels.items id ≡ level_at levels id
@@ -233,7 +245,7 @@ pub record AreGiven (s : Sharing) (flows : List ℕ) (levels : List (Option ℕ)
   pub holds : new.holds.items ≡ old.holds.items
   pub stale : new.stale ≡ old.stale
 
--- nothing changes but the holds, and which resources are active
+-- nothing changes but the holds
 pub record KeepsFlows (old new : Levels) : Type 0 where
   pub levels : new.levels.items ≡ old.levels.items
   pub parts : new.parts.items ≡ old.parts.items
@@ -242,14 +254,12 @@ pub record KeepsFlows (old new : Levels) : Type 0 where
   pub longest : new.longest ≡ old.longest
   pub demands : new.demands.items ≡ old.demands.items
   pub holds : length new.holds.items ≡ length old.holds.items
-  pub active : length new.active.items ≡ length old.active.items
+  pub active : new.active ≡ old.active
 
--- these resources hold their flows there, and aren't active; all else is as it was
+-- these resources hold their flows there; all else is as it was
 pub record AreHeldAt (resources : List ℕ) (holds : List (Option ℕ)) (old new : Levels) : Type 0 where
   pub here : (r : ℕ) → is_in r resources ≡ true → level_at new.holds.items r ≡ level_at holds r
-  pub inactive : (r : ℕ) → is_in r resources ≡ true → is_active new.active.items r ≡ false
   pub others : (r : ℕ) → is_in r resources ≡ false → level_at new.holds.items r ≡ level_at old.holds.items r
-  pub other_active : (r : ℕ) → is_in r resources ≡ false → is_active new.active.items r ≡ is_active old.active.items r
   pub flows : KeepsFlows old new
 
 -- these flows are held and have these levels in the filling, and these resources hold their flows at these

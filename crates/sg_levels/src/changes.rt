@@ -3,7 +3,7 @@ ghost use Rattle.std.specs.Prelude.{◌≡◌, ◌≤◌, ◌<◌, ◌+◌, ◌*
 ghost use Rattle.sg_chains.specs.Chained.{times};
 ghost use Rattle.sg_maxmin.specs.Fill.{flow};
 ghost use Rattle.sg_maxmin.specs.Sharing.{IsFlow, IsSound, flow_at, uses_at};
-ghost use Rattle.sg_levels.specs.Kept.{ActivatesAll, ActivatesOnly, FlowStaysWithin, HasLeft, IsBetween, IsEnded, IsKept, IsMoved, IsStarted, KeepsLevels, NotesChanged, ResourceStaysWithin, Shifts, UsesStayWithin};
+ghost use Rattle.sg_levels.specs.Kept.{ActivatesAll, ActivatesOnly, FlowJoins, HasLeft, IsBetween, IsEnded, IsKept, IsMoved, IsStarted, KeepsLevels, NotesChanged, ResourceJoins, UsesStayWithin};
 ghost use Rattle.sg_levels.specs.Numbered.{bound_of as bound_of_flow, flow_in};
 
 use crate::levels::Levels;
@@ -12,45 +12,6 @@ use sg_base::Steps;
 use sg_maxmin::{FlowId, System};
 use std::sync::ledger::Ledger;
 
-// Each of these resources is active, and in the demand on it one part stands for another.
-fn visit_all(uses: &[usize], before: u128, after: u128, kept: &mut Levels)
-    requires active { All (λ c. c < length kept.old.active.items) uses.now }
-    requires demand { All (λ c. c < length kept.old.demands.items) uses.now }
-    requires some { (c : ℕ) → times c uses.now * before ≤ slice_index kept.old.demands.items c }
-    requires fits { (c : ℕ) → slice_index kept.old.demands.items c
-        + times c uses.now * after < 2 ^ 128 }
-    ensures activates { ActivatesAll uses.now kept.old.active.items kept.new.active.items }
-    ensures only { ActivatesOnly uses.now kept.old.active.items kept.new.active.items }
-    ensures shifts { Shifts before after uses.now
-        kept.old.demands.items kept.new.demands.items }
-    ensures levels { KeepsLevels kept.old kept.new }
-{
-    for resource in uses {
-        visit(*resource, before, after, kept);
-    }
-}
-
-// A flow that began has the level of its bound, and is noted; its resources are active.
-fn enter(system: &System, flow: usize, uses: &[usize], kept: &mut Levels)
-    requires sound { IsSound system.now }
-    requires held { IsSome (flow_at system.now.slots flow) }
-    requires uses { uses_at system.now.slots flow ≡ uses.now }
-    requires kept { IsKept system.now kept.old }
-    ensures moved { IsMoved system.now kept.old kept.new flow
-        (bound_of_flow (flow_in system.now.slots flow)) }
-    ensures activates { ActivatesAll uses.now kept.old.active.items kept.new.active.items }
-    ensures only { ActivatesOnly uses.now kept.old.active.items kept.new.active.items }
-    ensures kept { IsKept system.now kept.new }
-{
-    let level = bound_of(system, flow);
-    let before = kept.part(flow);
-    let after = part_of(system, flow, level);
-    kept.levels[flow] = level;
-    kept.parts[flow] = after;
-    kept.moved.insert(flow);
-    visit_all(uses, before, after, kept);
-}
-
 // A flow that ends has no part any more; its resources are active.
 fn leave<L: Ledger>(system: &System, flow: usize, kept: &mut Levels, steps: &mut Steps<L>)
     requires sound { IsSound system.now }
@@ -58,9 +19,9 @@ fn leave<L: Ledger>(system: &System, flow: usize, kept: &mut Levels, steps: &mut
     requires kept { IsKept system.now kept.old }
     ensures left { HasLeft kept.old kept.new flow }
     ensures activates { ActivatesAll (uses_at system.now.slots flow)
-        kept.old.active.items kept.new.active.items }
+        kept.old.active.members kept.new.active.members }
     ensures only { ActivatesOnly (uses_at system.now.slots flow)
-        kept.old.active.items kept.new.active.items }
+        kept.old.active.members kept.new.active.members }
     ensures kept { IsKept system.now kept.new }
     ensures looks { steps.new ≡ steps.old + length (uses_at system.now.slots flow) }
 {
@@ -70,8 +31,8 @@ fn leave<L: Ledger>(system: &System, flow: usize, kept: &mut Levels, steps: &mut
 }
 
 impl Levels {
-    /// A flow begins, as `System::add` adds it. It is noted as moved, and its resources are active; nothing is looked
-    /// at.
+    /// A flow begins, as `System::add` adds it. It is noted as moved, and the next settling gives it a level; nothing is
+    /// looked at.
     pub fn start(
         &mut self,
         system: &mut System,
@@ -86,13 +47,14 @@ impl Levels {
         ensures started { IsStarted system.old system.new result (flow uses.now weight bound) }
         ensures between { IsBetween system.new self.new }
         ensures changed { NotesChanged system.old system.new self.old self.new }
-        ensures within { FlowStaysWithin system.new result self.old self.new }
+        ensures within { FlowJoins result self.old self.new }
     {
         system.is_sound();
         self.longest = self.longest.max(uses.len());
         let flow = system.add(uses, weight, bound);
         system.is_sound();
-        enter(system, flow, uses, self);
+        self.stale.insert(flow);
+        self.moved.insert(flow);
         flow
     }
 
@@ -111,6 +73,7 @@ impl Levels {
         leave(system, flow, self, steps);
         system.remove(flow);
         system.is_sound();
+        self.stale.remove(flow);
     }
 
     /// A flow has another bound. It is noted as moved, and keeps its level until the next settling; nothing is looked
@@ -124,7 +87,7 @@ impl Levels {
             }) }
         ensures between { IsBetween system.new self.new }
         ensures changed { NotesChanged system.old system.new self.old self.new }
-        ensures within { FlowStaysWithin system.new flow self.old self.new }
+        ensures within { FlowJoins flow self.old self.new }
     {
         system.is_sound();
         let before = system.bound(flow);
@@ -145,14 +108,14 @@ impl Levels {
         } }
         ensures between { IsBetween system.new self.new }
         ensures changed { NotesChanged system.old system.new self.old self.new }
-        ensures within { ResourceStaysWithin system.new resource self.old self.new }
+        ensures within { ResourceJoins resource self.old self.new }
     {
         system.is_sound();
         let before = system.capacity(resource);
         system.set_capacity(resource, capacity);
         system.is_sound();
         if before != capacity {
-            self.active[resource] = true;
+            self.active.insert(resource);
         }
     }
 }

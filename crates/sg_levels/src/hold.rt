@@ -21,17 +21,17 @@ struct Rest {
 
 // The level of a resource, where a flow waits there, and how many flows use it.
 #[derive(Clone, Copy)]
-struct Above {
-    level: Option<u64>,
-    users: u64,
+pub(crate) struct Above {
+    pub(crate) level: Option<u64>,
+    pub(crate) users: u64,
 }
 
-/// The level at which a resource holds its flows, if at any, how many flows use it, and how many looks are left.
+// The level at which a resource holds its flows, if at any, how many flows use it, and how many looks are left.
 #[derive(Clone, Copy)]
-pub struct Found {
-    pub hold: Option<u64>,
-    pub users: u64,
-    pub looks: u64,
+pub(crate) struct Found {
+    pub(crate) hold: Option<u64>,
+    pub(crate) users: u64,
+    pub(crate) looks: u64,
 }
 
 // The level of a flow, where it is below another.
@@ -140,7 +140,7 @@ fn level_of(rest: Rest) -> Option<u64>
 
 // The level of a resource with the flows of levels below this one fixed, if a flow waits there; None where so many looks
 // don't suffice.
-fn level_above<L: Ledger>(
+pub(crate) fn level_above<L: Ledger>(
     system: &System,
     resource: usize,
     levels: &[Option<u64>],
@@ -167,32 +167,31 @@ fn level_above<L: Ledger>(
     })
 }
 
-/// The level at which a resource holds its flows, where these have these levels; None where so many looks don't suffice.
-/// It takes a pass over its users for each step of the levels below, and one more.
-pub fn hold_of<L: Ledger>(
+// The level at which a resource holds its flows, where these have these levels, after a first pass over its users, with none
+// of them fixed; None where so many looks in all don't suffice. It takes a pass more for each step of the levels below.
+pub(crate) fn hold_of<L: Ledger>(
     system: &System,
     resource: usize,
     levels: &[Option<u64>],
+    first: Above,
     looks: u64,
     steps: &mut Steps<L>,
 ) -> Option<Found>
     requires resource { resource < length system.now.capacities }
     requires levels { length system.now.slots ≤ length levels.now }
+    requires first { IsLevelAbove system.now resource levels.now 0 first.level }
+    requires users { IsPass system.now resource looks first.users }
     ensures hold { IfSome result (λ found. IsHold (slice_index system.now.capacities resource)
         system.now.slots levels.now (users_on system.now.users resource) found.hold) }
-    ensures users { IfSome result (λ found.
-        found.users ≡ length (users_on system.now.users resource)) }
-    ensures spent { IfSome result (λ found. steps.new + found.looks ≡ steps.old + looks) }
-    ensures looks { steps.new ≤ steps.old + looks }
-    ensures most { steps.new
-        ≤ steps.old + hold_looks (length (users_on system.now.users resource)) }
-    ensures enough { result ≡ None
-        → looks < hold_looks (length (users_on system.now.users resource)) }
+    ensures users { IfSome result (λ found. found.users ≡ first.users) }
+    ensures spent { IfSome result (λ found.
+        steps.new + first.users + found.looks ≡ steps.old + looks) }
+    ensures looks { steps.new + first.users ≤ steps.old + looks }
 {
     system.is_sound();
     let mut low = 0;
     let mut left = looks;
-    let mut next = level_above(system, resource, levels, 0, looks, steps);
+    let mut next = Some(first);
     while let Some(above) = next {
         let users = above.users;
         left -= users;

@@ -1,7 +1,7 @@
 //! What is kept of flows and resources from one settling to the next.
-ghost use Rattle.std.specs.Prelude.{◌≡◌, ◌≢◌, ◌<◌, ◌≤◌, ℕ, [], AllPairs, IfOk, OnOk, length, slice_index};
+ghost use Rattle.std.specs.Prelude.{◌≡◌, ◌≢◌, ◌<◌, ◌≤◌, ℕ, [], All, AllPairs, IfOk, OnOk, length, slice_index};
 ghost use Rattle.sg_maxmin.specs.Sharing.{IsExtended, Sharing};
-ghost use Rattle.sg_levels.specs.Kept.{HasRoom, IsBetween, IsFresh, KeepsAll, NotesChanged};
+ghost use Rattle.sg_levels.specs.Kept.{HasRoom, IsBetween, IsFresh, IsUnmarked, KeepsAll, MarksNoMore, NotesChanged};
 ghost use Rattle.sg_levels.specs.Numbered.{level_at};
 ghost use Rattle.sg_levels.specs.Settling.{is_active};
 
@@ -20,11 +20,11 @@ pub struct Levels {
     pub(crate) holds: Vec<Option<u64>>,
     // under each resource the demand on it
     pub(crate) demands: Vec<u128>,
-    // under each resource whether it waits to be looked at
-    pub(crate) active: Vec<bool>,
+    // the resources that wait to be looked at
+    pub(crate) active: Marks,
     // the flows whose levels or bounds changed
     pub(crate) moved: Marks,
-    // the flows that have another bound than when they were given their levels
+    // the flows that began or have another bound since they were given their levels
     pub(crate) stale: Marks,
     // no flow has more uses
     pub(crate) longest: usize,
@@ -50,15 +50,16 @@ fn grow_rows(n: usize, levels: &mut Vec<Option<u64>>, parts: &mut Vec<u128>) -> 
 impl Levels {
     /// Nothing is written yet, of so many resources.
     pub fn new(alloc: Global, resources: usize) -> Result<Levels, Memory>
-        ensures { IfOk result (IsFresh resources) }
+        ensures fresh { IfOk result (IsFresh resources) }
+        ensures nothing { IfOk result IsUnmarked }
     {
         let mut holds = Vec::new(alloc);
         let mut demands = Vec::new(alloc);
-        let mut active = Vec::new(alloc);
+        let mut active = Marks::new(alloc);
+        active.reserve(resources)?;
         for _resource in 0..resources {
             holds.push(None)?;
             demands.push(0)?;
-            active.push(false)?;
         }
         Ok(Levels {
             levels: Vec::new(alloc),
@@ -88,6 +89,7 @@ impl Levels {
         requires { IsBetween system.old self.old }
         ensures between { IsBetween system.new self.new }
         ensures changed { NotesChanged system.old system.new self.old self.new }
+        ensures within { MarksNoMore self.old self.new }
         ensures flow_room { OnOk result (flows ≤ system.new.flow_room) }
         ensures use_room { OnOk result (uses ≤ system.new.use_room) }
         ensures grows { (system.old.flow_room ≤ system.new.flow_room)
@@ -105,7 +107,8 @@ impl Levels {
         reserved
     }
 
-    /// The level of a flow, where something holds it.
+    /// The level of a flow, where something holds it. That of a flow which began or has another bound since the last
+    /// settling says nothing.
     pub fn level(&self, flow: usize) -> Option<u64>
         requires { flow < length self.now.levels.items }
         ensures { result ≡ level_at self.now.levels.items flow }
@@ -131,10 +134,19 @@ impl Levels {
 
     /// Whether a resource waits to be looked at.
     pub fn is_active(&self, resource: usize) -> bool
-        requires { resource < length self.now.active.items }
-        ensures { result ≡ is_active self.now.active.items resource }
+        requires { resource < self.now.active.room }
+        ensures { result ≡ is_active self.now.active.members resource }
     {
-        self.active[resource]
+        self.active.contains(resource)
+    }
+
+    /// The resources that wait to be looked at, each once.
+    pub fn active(&self) -> &[usize]
+        ensures members { result.now ≡ self.now.active.members }
+        ensures once { AllPairs (λ a b. a ≢ b) result.now }
+        ensures in_range { All (λ r. r < self.now.active.room) result.now }
+    {
+        self.active.members()
     }
 
     /// The flows that began, and those whose levels or bounds changed, since `forget_moved`, each once. A number may be
@@ -151,6 +163,8 @@ impl Levels {
         ensures none { self.new.moved.members ≡ [] }
         ensures between { (s : Sharing) → IsBetween s self.old → IsBetween s self.new }
         ensures levels { self.new.levels.items ≡ self.old.levels.items }
+        ensures active { self.new.active ≡ self.old.active }
+        ensures stale { self.new.stale ≡ self.old.stale }
     {
         self.moved.clear();
     }

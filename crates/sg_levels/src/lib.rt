@@ -4,6 +4,7 @@
 //! It stands on `sg_base`, on the filling and the `System` of `sg_maxmin`, and on `sg_chains`.
 #![tactic(auto)]
 
+mod allowance;
 mod changes;
 mod hold;
 mod laws;
@@ -12,7 +13,6 @@ mod refill;
 mod rounds;
 mod settling;
 
-pub use hold::{Found, hold_of};
 pub use laws::{
     balance_is_filling, changes_keep, demand_holds_none, filling_balances, filling_is_held,
     full_holds, held_is_filling, held_settles, hold_is_local, hold_is_one, hold_stays,

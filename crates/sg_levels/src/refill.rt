@@ -3,7 +3,7 @@ ghost use Rattle.std.specs.Prelude.{◌≡◌, ◌≤◌, ◌<◌, ◌+◌, ℕ,
 ghost use Rattle.sg_base.specs.MarkSet.{is_in};
 ghost use Rattle.sg_maxmin.specs.Sharing.{IsSound, flow_at};
 ghost use Rattle.sg_levels.specs.Held.{AreFilled};
-ghost use Rattle.sg_levels.specs.Kept.{AreGiven, AreHeldAt, FlowsStayWithin, IsBetween, IsFound, IsKept, IsWithin, KeepsFlows, NotesMoved, PassAlong};
+ghost use Rattle.sg_levels.specs.Kept.{AreGiven, AreHeldAt, FlowsStayWithin, IsBetween, IsFound, IsKept, IsWithin, KeepsFlows, NotesMoved, PassAlong, is_one_of};
 ghost use Rattle.sg_levels.specs.Numbered.{all_uses, level_at};
 ghost use Rattle.sg_levels.specs.Settling.{is_active};
 
@@ -54,23 +54,19 @@ fn give_all<L: Ledger>(
     }
 }
 
-// A resource holds its flows there, and isn't active.
+// A resource holds its flows there.
 fn put_hold(resource: usize, hold: Option<u64>, kept: &mut Levels)
-    requires hold { resource < length kept.old.holds.items }
-    requires active { resource < length kept.old.active.items }
+    requires { resource < length kept.old.holds.items }
     ensures hold { kept.new.holds.items ≡ slice_set kept.old.holds.items resource hold }
-    ensures active { kept.new.active.items ≡ slice_set kept.old.active.items resource false }
     ensures flows { KeepsFlows kept.old kept.new }
 {
     kept.holds[resource] = hold;
-    kept.active[resource] = false;
 }
 
 // The same of each of these resources.
 fn put_holds(resources: &[usize], holds: &[Option<u64>], kept: &mut Levels)
     requires exist { All (λ r. r < length holds.now) resources.now }
     requires holds { length kept.old.holds.items ≡ length holds.now }
-    requires active { length kept.old.active.items ≡ length holds.now }
     ensures { AreHeldAt resources.now holds.now kept.old kept.new }
 {
     for resource in resources {
@@ -85,21 +81,23 @@ impl Levels {
         requires between { IsBetween system.now self.old }
         requires joined { PassAlong system.now (λ id. is_in id filled.flows.now)
             (λ r. is_in r filled.resources.now) }
-        requires within { IsWithin (λ id. is_in id filled.flows.now)
+        requires within { IsWithin (is_one_of filled.flows.now system.now.slots)
             (λ r. is_in r filled.resources.now) self.old }
         requires found { IsFound system.now filled.flows.now filled.resources.now
             filled.levels.now filled.holds.now }
         ensures between { IsBetween system.now self.new }
         ensures levels { AreFilled system.now self.new.levels.items }
-        ensures none_active { (r : ℕ) → is_active self.new.active.items r ≡ false }
+        ensures none_active { (r : ℕ) → is_active self.new.active.members r ≡ false }
         ensures none_stale { self.new.stale.members ≡ [] }
         ensures moved { NotesMoved self.old self.new }
+        ensures within { FlowsStayWithin system.now filled.entry.flows.now self.old self.new }
         ensures looks { steps.new
             ≡ steps.old + all_uses system.now.slots filled.entry.flows.now }
     {
         system.is_sound();
         give_all(system, filled.flows, filled.levels, self, steps);
         put_holds(filled.resources, filled.holds, self);
+        self.active.clear();
         self.stale.clear();
     }
 }

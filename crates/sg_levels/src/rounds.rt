@@ -1,18 +1,25 @@
 //! A settling: looks at active resources, one at a time in whatever order, until none is left or the looks run out.
-ghost use Rattle.std.specs.Prelude.{◌≡◌, ◌≤◌, ◌<◌, ◌+◌, ◌*◌, ◌^◌, ℕ, [], ◌∷◌, true, false, IsTrue, List, Option, None, IfSome, length, slice_index};
+ghost use Rattle.std.specs.Prelude.{◌≡◌, ◌≢◌, ◌≤◌, ◌<◌, ◌+◌, ◌*◌, ◌^◌, ℕ, [], ◌∷◌, true, false, IsTrue, List, Option, None, IfSome, IsSome, AllPairs, length, max, slice_index};
+ghost use Rattle.sg_base.specs.MarkSet.{is_in};
 ghost use Rattle.sg_chains.specs.Chained.{users_on};
-ghost use Rattle.sg_maxmin.specs.Sharing.{IsSound, uses_at};
+ghost use Rattle.sg_maxmin.specs.Sharing.{IsSound, flow_at, uses_at};
 ghost use Rattle.sg_levels.specs.Held.{AreFilled, IsHold};
-ghost use Rattle.sg_levels.specs.Kept.{FlowStaysWithin, IsBetween, IsBetweenBut, IsKept, IsSettling, NotesChanged, NotesMoved, ResourceStaysWithin, StaysWithin, enough_looks, refresh_looks};
+ghost use Rattle.sg_levels.specs.Kept.{FlowStaysWithin, IsBetween, IsBetweenBut, IsKept, IsLevelAbove, IsPass, IsSettling, HasPlaces, NotesChanged, NotesMoved, ResourceStaysWithin, StaysWithin};
+ghost use Rattle.sg_levels.specs.Allowed.{AreNew, IsSpent, KnowsUsers, SparesLooks};
+ghost use Rattle.sg_levels.specs.Joined.{spare_looks};
 ghost use Rattle.sg_levels.specs.Numbered.{all_uses, level_at};
 ghost use Rattle.sg_levels.specs.Settling.{is_active};
 
-use crate::hold::hold_of;
+use crate::allowance::Allowance;
+use crate::hold::{Above, hold_of, level_above};
 use crate::levels::Levels;
 use crate::settling::{bound_of, move_flow, settle_users};
 use sg_base::Steps;
 use sg_maxmin::System;
 use std::sync::ledger::Ledger;
+
+// Where more resources wait to be looked at, a filling of all that is joined is cheaper than to choose among them.
+const MOST_ACTIVE: usize = 64;
 
 // Whether there is neither.
 fn are_none(one: Option<u64>, other: Option<u64>) -> bool
@@ -21,65 +28,61 @@ fn are_none(one: Option<u64>, other: Option<u64>) -> bool
     one.is_none() && other.is_none()
 }
 
-// The first active resource.
-fn first_active(active: &[bool]) -> Option<usize>
-    ensures none { result ≡ None → ((r : ℕ) → is_active active.now r ≡ false) }
-    ensures some { IfSome result (λ r. r < length active.now) }
-    ensures active { IfSome result (λ r. is_active active.now r ≡ true) }
-{
-    for i in 0..active.len() {
-        if active[i] {
-            return Some(i);
-        }
+// A level below which a resource that holds none has nothing to do, by what it offers and the demand on it: what is left is
+// shared by those without a level, of which each asks for more than any capacity.
+fn slack_level(capacity: u64, demand: u128) -> u64 {
+    let each = u128::from(u64::MAX) + 1;
+    let loose = (demand / each) as u64;
+    let taken = (demand % each) as u64;
+    if taken >= capacity {
+        0
+    } else if loose == 0 {
+        u64::MAX
+    } else {
+        (capacity - taken) / loose
     }
-    None
 }
 
-// How many looks are left once the users of a resource are settled, of which none has more uses; None where they don't
-// suffice.
-fn pay(looks: u64, users: u64, longest: usize) -> Option<u64>
-    ensures some { IfSome result (λ left. left + users * (2 * longest + 1) ≡ looks) }
-    ensures none { result ≡ None → looks < users * (2 * longest + 1) }
+// Whether so many looks suffice for a walk over so many users, of which none has more uses, and for all that these take.
+fn suffice(looks: u64, users: u64, longest: usize) -> bool
+    ensures { IsTrue result → users * (2 * longest + 1) ≤ looks }
 {
-    let each = 2 * longest as u128 + 1;
-    let looks = u128::from(looks);
-    let users = u128::from(users);
-    if looks / each < users {
-        return None;
-    }
-    Some((looks - users * each) as u64)
+    users <= looks && users.saturating_mul(longest as u64) <= (looks - users) / 2
 }
 
-// Whether a number is that of a flow that began and hasn't ended.
-fn has_part(parts: &[u128], flow: usize) -> bool
-    ensures yes { IsTrue result → (flow < length parts.now) × (0 < slice_index parts.now flow) }
-    ensures no { result ≡ false → slice_index parts.now flow ≡ 0 }
+// How many looks are left after that walk, where the uses of one were looked at so often.
+fn after_walk(looks: u64, users: u64, times: u64, longest: usize) -> u64
+    requires enough { users * (2 * longest + 1) ≤ looks }
+    requires few { times ≤ 2 * users }
+    ensures { result + users + times * longest ≡ looks }
 {
-    flow < parts.len() && parts[flow] != 0
+    looks - users - times * longest as u64
 }
 
-// A flow with another bound has the level of its bound, unless it has ended.
+// A flow that began or has another bound has the level of its bound.
 fn renew<L: Ledger>(system: &System, flow: usize, kept: &mut Levels, steps: &mut Steps<L>)
     requires sound { IsSound system.now }
+    requires held { IsSome (flow_at system.now.slots flow) }
     requires kept { IsKept system.now kept.old }
     ensures renewed { (rest : List ℕ) → IsBetweenBut system.now kept.old (flow ∷ rest)
         → IsBetweenBut system.now kept.new rest }
     ensures kept { IsKept system.now kept.new }
     ensures stale { kept.new.stale ≡ kept.old.stale }
     ensures moved { NotesMoved kept.old kept.new }
+    ensures noted { is_in flow kept.new.moved.members ≡ true }
     ensures within { FlowStaysWithin system.now flow kept.old kept.new }
     ensures looks { steps.new ≤ steps.old + length (uses_at system.now.slots flow) }
 {
-    if has_part(&kept.parts, flow) {
-        move_flow(system, flow, bound_of(system, flow), kept, steps);
-    }
+    move_flow(system, flow, bound_of(system, flow), kept, steps);
 }
 
-// The same of each flow with another bound.
+// The same of each such flow.
 fn renew_all<L: Ledger>(system: &System, kept: &mut Levels, steps: &mut Steps<L>)
     requires sound { IsSound system.now }
     requires between { IsBetween system.now kept.old }
     ensures settling { IsSettling system.now kept.new }
+    ensures stale { AreNew system.now kept.new }
+    ensures once { AllPairs (λ a b. a ≢ b) kept.old.stale.members }
     ensures moved { NotesMoved kept.old kept.new }
     ensures within { StaysWithin system.now kept.old kept.new }
     ensures looks { steps.new
@@ -115,18 +118,19 @@ impl Levels {
         ensures within { StaysWithin system.now self.old self.new }
     {
         system.is_sound();
-        self.active[resource] = false;
+        self.active.remove(resource);
     }
 
     // Writes the hold of a resource: its flows above it come down to it, and those that it held before and that nothing
-    // holds now go up to their bounds. The other resources of flows that moved are active.
+    // holds now go up to their bounds. The other resources of flows that moved are active. It tells how often the uses of a
+    // flow were looked at.
     fn write_hold<L: Ledger>(
         &mut self,
         system: &System,
         resource: usize,
         hold: Option<u64>,
         steps: &mut Steps<L>,
-    )
+    ) -> u64
         requires resource { resource < length system.now.capacities }
         requires settling { IsSettling system.now self.old }
         requires hold { IsHold (slice_index system.now.capacities resource) system.now.slots
@@ -134,99 +138,183 @@ impl Levels {
         ensures settling { IsSettling system.now self.new }
         ensures moved { NotesMoved self.old self.new }
         ensures within { ResourceStaysWithin system.now resource self.old self.new }
-        ensures looks { let users = users_on system.now.users resource in
-            steps.new ≤ steps.old + length users + 2 * all_uses system.now.slots users }
+        ensures looks { steps.new ≤ steps.old + length (users_on system.now.users resource)
+            + result * self.old.longest }
+        ensures few { result ≤ 2 * length (users_on system.now.users resource) }
     {
         system.is_sound();
         let was = self.hold(resource);
-        self.active[resource] = false;
+        self.active.remove(resource);
         self.holds[resource] = hold;
-        settle_users(system, resource, was, self, steps);
+        settle_users(system, resource, was, self, steps)
     }
 
-    /// Looks at a resource, unless it held none and offers more than the demand on it: its hold is written, its flows
-    /// above it come down to it, and those that it held before and that nothing holds now go up to their bounds. It
-    /// tells how many looks are left; None where they may not suffice, and then nothing changes.
-    pub fn refresh<L: Ledger>(
+    // Looks at a resource after a first pass over its users: its hold is written, its flows above it come down to it, and
+    // those that it held before and that nothing holds now go up to their bounds. It tells how many looks are left; None
+    // where they may not suffice, and then nothing changes.
+    fn look_at<L: Ledger>(
         &mut self,
         system: &System,
         resource: usize,
+        first: Above,
         looks: u64,
         steps: &mut Steps<L>,
     ) -> Option<u64>
         requires resource { resource < length system.now.capacities }
         requires settling { IsSettling system.now self.old }
+        requires first { IsLevelAbove system.now resource self.old.levels.items 0 first.level }
+        requires users { IsPass system.now resource looks first.users }
         ensures settling { IsSettling system.now self.new }
         ensures moved { NotesMoved self.old self.new }
         ensures within { ResourceStaysWithin system.now resource self.old self.new }
-        ensures spent { IfSome result (λ left. steps.new + left ≤ steps.old + looks) }
-        ensures looks { steps.new ≤ steps.old + looks }
-        ensures most { steps.new ≤ steps.old + refresh_looks system.now resource }
-        ensures enough { result ≡ None → looks < enough_looks system.now self.old resource }
+        ensures spent { IfSome result (λ left.
+            steps.new + first.users + left ≤ steps.old + looks) }
+        ensures looks { steps.new + first.users ≤ steps.old + looks }
     {
         system.is_sound();
         let was = self.hold(resource);
-        if was.is_none() && self.has_slack(system, resource) {
-            self.put_to_rest(system, resource);
-            return Some(looks);
-        }
-        let Some(found) = hold_of(system, resource, &self.levels, looks, steps) else {
+        let Some(found) = hold_of(system, resource, &self.levels, first, looks, steps) else {
             return None;
         };
         if are_none(was, found.hold) {
             self.put_to_rest(system, resource);
             return Some(found.looks);
         }
-        let Some(left) = pay(found.looks, found.users, self.longest) else {
+        let longest = self.longest;
+        if !suffice(found.looks, found.users, longest) {
             return None;
-        };
-        self.write_hold(system, resource, found.hold, steps);
-        Some(left)
+        }
+        let times = self.write_hold(system, resource, found.hold, steps);
+        Some(after_walk(found.looks, found.users, times, longest))
     }
 
-    // Looks at active resources until none is left, by so many looks at most.
-    fn look_on<L: Ledger>(&mut self, system: &System, looks: u64, steps: &mut Steps<L>) -> bool
-        requires { IsSettling system.now self.old }
+    // The same from the start, unless the resource held none and offers more than the demand on it, which needs no look.
+    // It tells what is known and spent then.
+    fn refresh<L: Ledger>(
+        &mut self,
+        system: &System,
+        resource: usize,
+        given: Allowance,
+        steps: &mut Steps<L>,
+    ) -> Option<Allowance>
+        requires resource { resource < length system.now.capacities }
+        requires settling { IsSettling system.now self.old }
+        requires given { given.spent ≤ spare_looks given.known given.row given.ended }
+        ensures settling { IsSettling system.now self.new }
+        ensures moved { NotesMoved self.old self.new }
+        ensures within { ResourceStaysWithin system.now resource self.old self.new }
+        ensures spent { IfSome result (IsSpent given steps.old steps.new) }
+        ensures known { IfSome result (KnowsUsers given
+            (length (users_on system.now.users resource))) }
+        ensures looks { let users = length (users_on system.now.users resource) in
+            steps.new + given.spent ≤ steps.old
+            + spare_looks (max given.known users) (max given.row users) given.ended }
+    {
+        system.is_sound();
+        let was = self.hold(resource);
+        if was.is_none() && self.has_slack(system, resource) {
+            self.put_to_rest(system, resource);
+            return Some(given);
+        }
+        if !given.is_enough() {
+            return None;
+        }
+        let Some(first) = level_above(system, resource, &self.levels, 0, u64::MAX, steps) else {
+            return None;
+        };
+        let Some(looks) = given.left_for(first.users) else {
+            return None;
+        };
+        let Some(left) = self.look_at(system, resource, first, looks, steps) else {
+            return None;
+        };
+        Some(given.with_row(first.users, looks.saturating_sub(left)))
+    }
+
+    // A level below which an active resource has nothing to do. Only the order is by it: any is right.
+    fn key(&self, system: &System, resource: usize) -> u64
+        requires resource { resource < length system.now.capacities }
+        requires places { HasPlaces system.now self.now }
+    {
+        match self.holds[resource] {
+            Some(hold) => hold,
+            None => slack_level(system.capacity(resource), self.demands[resource]),
+        }
+    }
+
+    // The active resource of least key.
+    fn least_active(&self, system: &System) -> Option<usize>
+        requires { HasPlaces system.now self.now }
+        ensures none { result ≡ None
+            → ((r : ℕ) → is_active self.now.active.members r ≡ false) }
+        ensures some { IfSome result (λ r. r < length system.now.capacities) }
+        ensures active { IfSome result (λ r. is_active self.now.active.members r ≡ true) }
+    {
+        let mut found = None;
+        let mut least = u64::MAX;
+        for resource in self.active.members() {
+            let key = self.key(system, *resource);
+            if key <= least {
+                least = key;
+                found = Some(*resource);
+            }
+        }
+        found
+    }
+
+    // Looks at active resources until none is left, or very many are, or the looks may not suffice.
+    fn look_on<L: Ledger>(&mut self, system: &System, ended: usize, steps: &mut Steps<L>) -> bool
+        requires settling { IsSettling system.now self.old }
+        requires stale { AreNew system.now self.old }
         ensures settling { IsSettling system.now self.new }
         ensures moved { NotesMoved self.old self.new }
         ensures within { StaysWithin system.now self.old self.new }
         ensures levels { IsTrue result → AreFilled system.now self.new.levels.items }
-        ensures looks { steps.new ≤ steps.old + looks }
+        ensures none_active { IsTrue result
+            → (r : ℕ) → is_active self.new.active.members r ≡ false }
+        ensures looks { SparesLooks system.now self.old ended steps.old steps.new }
     {
         system.is_sound();
-        let mut left = looks;
-        for _round in 0..looks {
-            let Some(resource) = first_active(&self.active) else {
+        let behind = self.moved.members().len().saturating_sub(self.stale.members().len());
+        let mut given = Allowance::new(ended as u64);
+        for _round in 0..u64::MAX {
+            let Some(resource) = self.least_active(system) else {
                 return true;
             };
-            let Some(rest) = self.refresh(system, resource, left, steps) else {
+            let flows = self.moved.members().len().saturating_sub(behind);
+            if self.active.members().len() > MOST_ACTIVE {
+                return false;
+            }
+            let known = given.with_flows(flows as u64);
+            let Some(next) = self.refresh(system, resource, known, steps) else {
                 return false;
             };
-            left = rest;
+            given = next;
         }
-        match first_active(&self.active) {
-            None => true,
-            Some(_) => false,
-        }
+        false
     }
 
-    /// Brings the levels up to date, by so many looks at most beside those at the uses of flows with another bound. True:
-    /// each flow has its level of the filling. False: the looks may not have sufficed. It ends either way, and the flows
-    /// whose levels changed are noted.
-    pub fn settle<L: Ledger>(&mut self, system: &System, looks: u64, steps: &mut Steps<L>) -> bool
+    /// Brings the levels up to date, where so many flows ended since the last time. Besides one look for each use of the
+    /// flows that began or have another bound it takes no more than what is joined allows. True: each flow has its level
+    /// of the filling. False: very many resources were active, or the looks may not have sufficed. It ends either way,
+    /// and the flows whose levels changed are noted.
+    pub fn settle<L: Ledger>(&mut self, system: &System, ended: usize, steps: &mut Steps<L>) -> bool
         requires { IsBetween system.now self.old }
         ensures between { IsBetween system.now self.new }
         ensures none_stale { self.new.stale.members ≡ [] }
+        ensures once { AllPairs (λ a b. a ≢ b) self.old.stale.members }
         ensures changed { NotesChanged system.now system.now self.old self.new }
         ensures within { StaysWithin system.now self.old self.new }
         ensures levels { IsTrue result → AreFilled system.now self.new.levels.items }
-        ensures looks { steps.new
-            ≤ steps.old + all_uses system.now.slots self.old.stale.members + looks }
+        ensures none_active { IsTrue result
+            → (r : ℕ) → is_active self.new.active.members r ≡ false }
+        ensures looks { SparesLooks system.now self.old ended
+            (steps.old + all_uses system.now.slots self.old.stale.members) steps.new }
     {
         system.is_sound();
         renew_all(system, self, steps);
-        let ended = self.look_on(system, looks, steps);
+        let settled = self.look_on(system, ended, steps);
         self.stale.clear();
-        ended
+        settled
     }
 }

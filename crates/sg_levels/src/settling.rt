@@ -6,7 +6,7 @@ ghost use Rattle.sg_maxmin.specs.Fill.{bound_level as level_of_bound};
 ghost use Rattle.sg_maxmin.specs.Sharing.{IsSound, flow_at, uses_at};
 ghost use Rattle.sg_levels.specs.Demand.{demand_of};
 ghost use Rattle.sg_levels.specs.Held.{AreFilled, IsAtMost, IsHold, IsUnder};
-ghost use Rattle.sg_levels.specs.Kept.{ActivatesAll, ActivatesBut, ActivatesOnly, FlowStaysWithin, HasPlaces, IsKept, IsMoved, IsSettling, IsSettlingOn, KeepsLevels, NotesMoved, ResourceStaysWithin, Shifts, hold_looks, refresh_looks};
+ghost use Rattle.sg_levels.specs.Kept.{ActivatesAll, ActivatesBut, ActivatesOnly, FlowStaysWithin, HasPlaces, IsKept, IsMoved, IsSettling, IsSettlingOn, KeepsLevels, NotesMoved, ResourceStaysWithin, Shifts};
 ghost use Rattle.sg_levels.specs.Numbered.{all_uses, bound_of as bound_of_flow, flow_in, level_at};
 ghost use Rattle.sg_levels.specs.Settling.{HasCause, is_active};
 
@@ -80,17 +80,17 @@ pub(crate) fn part_of(system: &System, flow: usize, level: Option<u64>) -> u128
 
 // A resource of a flow that moves is active, and in the demand on it one part stands for another.
 pub(crate) fn visit(resource: usize, before: u128, after: u128, kept: &mut Levels)
-    requires active { resource < length kept.old.active.items }
+    requires active { resource < kept.old.active.room }
     requires demand { resource < length kept.old.demands.items }
     requires some { before ≤ slice_index kept.old.demands.items resource }
     requires fits { slice_index kept.old.demands.items resource + after < 2 ^ 128 + before }
-    ensures activates { ActivatesAll (resource ∷ []) kept.old.active.items kept.new.active.items }
-    ensures only { ActivatesOnly (resource ∷ []) kept.old.active.items kept.new.active.items }
+    ensures activates { ActivatesAll (resource ∷ []) kept.old.active.members kept.new.active.members }
+    ensures only { ActivatesOnly (resource ∷ []) kept.old.active.members kept.new.active.members }
     ensures demands { kept.new.demands.items ≡ slice_set kept.old.demands.items resource
         (slice_index kept.old.demands.items resource - before + after) }
     ensures levels { KeepsLevels kept.old kept.new }
 {
-    kept.active[resource] = true;
+    kept.active.insert(resource);
     kept.demands[resource] = kept.demands[resource] - before + after;
 }
 
@@ -110,9 +110,9 @@ pub(crate) fn visit_uses<L: Ledger>(
     requires fits { (c : ℕ) → slice_index kept.old.demands.items c
         + times c (uses_at system.now.slots flow) * after < 2 ^ 128 }
     ensures activates { ActivatesAll (uses_at system.now.slots flow)
-        kept.old.active.items kept.new.active.items }
+        kept.old.active.members kept.new.active.members }
     ensures only { ActivatesOnly (uses_at system.now.slots flow)
-        kept.old.active.items kept.new.active.items }
+        kept.old.active.members kept.new.active.members }
     ensures shifts { Shifts before after (uses_at system.now.slots flow)
         kept.old.demands.items kept.new.demands.items }
     ensures levels { KeepsLevels kept.old kept.new }
@@ -168,9 +168,9 @@ pub(crate) fn move_flow<L: Ledger>(
     requires kept { IsKept system.now kept.old }
     ensures moved { IsMoved system.now kept.old kept.new flow level }
     ensures activates { ActivatesAll (uses_at system.now.slots flow)
-        kept.old.active.items kept.new.active.items }
+        kept.old.active.members kept.new.active.members }
     ensures only { ActivatesOnly (uses_at system.now.slots flow)
-        kept.old.active.items kept.new.active.items }
+        kept.old.active.members kept.new.active.members }
     ensures kept { IsKept system.now kept.new }
     ensures looks { steps.new ≡ steps.old + length (uses_at system.now.slots flow) }
 {
@@ -197,25 +197,27 @@ fn lower<L: Ledger>(
     requires user { is_in flow (users_on system.now.users resource) ≡ true }
     ensures moved { IsMoved system.now kept.old kept.new flow (Some hold) }
     ensures activates { ActivatesBut resource (uses_at system.now.slots flow)
-        kept.old.active.items kept.new.active.items }
+        kept.old.active.members kept.new.active.members }
     ensures only { ActivatesOnly (uses_at system.now.slots flow)
-        kept.old.active.items kept.new.active.items }
+        kept.old.active.members kept.new.active.members }
     ensures kept { IsKept system.now kept.new }
     ensures looks { steps.new ≡ steps.old + length (uses_at system.now.slots flow) }
 {
     let was = kept.is_active(resource);
     move_flow(system, flow, Some(hold), kept, steps);
-    kept.active[resource] = was;
+    if !was {
+        kept.active.remove(resource);
+    }
 }
 
-// A user of a resource that held it goes up, where nothing holds it now.
+// A user of a resource that held it goes up, where nothing holds it now. It tells how often its uses were looked at.
 fn settle_held<L: Ledger>(
     system: &System,
     resource: usize,
     flow: usize,
     kept: &mut Levels,
     steps: &mut Steps<L>,
-)
+) -> u64
     requires sound { IsSound system.now }
     requires kept { IsKept system.now kept.old }
     requires resource { resource < length system.now.capacities }
@@ -228,18 +230,22 @@ fn settle_held<L: Ledger>(
     ensures kept { IsKept system.now kept.new }
     ensures moved { NotesMoved kept.old kept.new }
     ensures within { FlowStaysWithin system.now flow kept.old kept.new }
-    ensures looks { steps.new ≤ steps.old + 2 * length (uses_at system.now.slots flow) }
+    ensures looks { steps.new ≤ steps.old + result * length (uses_at system.now.slots flow) }
+    ensures few { result ≤ 2 }
 {
     let level = kept.level(flow);
     if is_same(kept.hold(resource), level) {
-        return;
+        return 0;
     }
     if !has_cause(system, flow, level, kept, steps) {
         move_flow(system, flow, bound_of(system, flow), kept, steps);
+        2
+    } else {
+        1
     }
 }
 
-// A user of a resource is looked at, of which another hold was written before.
+// A user of a resource is looked at, of which another hold was written before. It tells how often its uses were.
 fn settle_user<L: Ledger>(
     system: &System,
     resource: usize,
@@ -247,7 +253,7 @@ fn settle_user<L: Ledger>(
     flow: usize,
     kept: &mut Levels,
     steps: &mut Steps<L>,
-)
+) -> u64
     requires sound { IsSound system.now }
     requires kept { IsKept system.now kept.old }
     requires resource { resource < length system.now.capacities }
@@ -258,28 +264,34 @@ fn settle_user<L: Ledger>(
     ensures kept { IsKept system.now kept.new }
     ensures moved { NotesMoved kept.old kept.new }
     ensures within { FlowStaysWithin system.now flow kept.old kept.new }
-    ensures looks { steps.new ≤ steps.old + 2 * length (uses_at system.now.slots flow) }
+    ensures looks { steps.new ≤ steps.old + result * length (uses_at system.now.slots flow) }
+    ensures few { result ≤ 2 }
 {
     let level = kept.level(flow);
     match hold_below(level, kept.hold(resource)) {
-        Some(hold) => lower(system, resource, flow, hold, kept, steps),
+        Some(hold) => {
+            lower(system, resource, flow, hold, kept, steps);
+            1
+        }
         None => {
             if is_same(level, was) {
-                settle_held(system, resource, flow, kept, steps);
+                settle_held(system, resource, flow, kept, steps)
+            } else {
+                0
             }
         }
     }
 }
 
 // The users of a resource come down to the hold that is written of it, and those that it held before and that nothing
-// holds now go up to their bounds.
+// holds now go up to their bounds. It tells how often the uses of one were looked at.
 pub(crate) fn settle_users<L: Ledger>(
     system: &System,
     resource: usize,
     was: Option<u64>,
     kept: &mut Levels,
     steps: &mut Steps<L>,
-)
+) -> u64
     requires sound { IsSound system.now }
     requires kept { IsKept system.now kept.old }
     requires resource { resource < length system.now.capacities }
@@ -289,13 +301,16 @@ pub(crate) fn settle_users<L: Ledger>(
     ensures kept { IsKept system.now kept.new }
     ensures moved { NotesMoved kept.old kept.new }
     ensures within { ResourceStaysWithin system.now resource kept.old kept.new }
-    ensures looks { let users = users_on system.now.users resource in
-        steps.new ≤ steps.old + length users + 2 * all_uses system.now.slots users }
+    ensures looks { steps.new ≤ steps.old + length (users_on system.now.users resource)
+        + result * kept.old.longest }
+    ensures few { result ≤ 2 * length (users_on system.now.users resource) }
 {
+    let mut times = 0;
     let mut at = system.first_on(resource);
     while let Some(i) = at {
         let one = system.look(i, steps);
-        settle_user(system, resource, was, one.flow, kept, steps);
+        times += settle_user(system, resource, was, one.flow, kept, steps);
         at = one.next_on;
     }
+    times
 }

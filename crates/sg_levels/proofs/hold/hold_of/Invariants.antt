@@ -1,4 +1,4 @@
-use Rattle.std.proofs.Common.{◌-◌, slice_index}
+use Rattle.std.proofs.Common.{◌≡◌, ◌+◌, ◌-◌, length, slice_index}
 use Rattle.sg_chains.specs.Chained.{users_on}
 use Rattle.sg_levels.proofs.RowRise.{IsOnWay}
 use Rattle.sg_levels.proofs.Passes.{IsNext}
@@ -7,7 +7,8 @@ use Rattle.sg_levels.proofs.hold.hold_of.Given as goal
 abbrev pub invariant-loop-next : goal.invariant-loop-next
 invariant-loop-next g l = record {
   way : IsOnWay (slice_index l.system.capacities l.resource) l.system.slots l.levels (users_on l.system.users l.resource) l.low;
-  found : IsNext l.system l.resource l.levels l.low l.left l.looks l.fn.steps l.steps l.next;
+  found : IsNext l.system l.resource l.levels l.low l.left l.looks l.fn.steps (l.steps + l.fn.first.users) l.next;
+  users : l.fn.first.users ≡ length (users_on l.system.users l.resource);
 }
 
 abbrev pub decreases-loop-next : goal.decreases-loop-next

@@ -8,9 +8,7 @@ use Rattle.sg_levels.proofs.refill.put_holds.Goals as goal
 pub loop-resource-init : goal.loop-resource-init
 loop-resource-init c = record {
   here = λ r i. absurd (no i);
-  inactive = λ r i. absurd (no i);
   others = λ r off. refl;
-  other_active = λ r off. refl;
   flows = record { levels = refl; parts = refl; moved = refl; stale = refl; longest = refl; demands = refl; holds = refl; active = refl };
 }
   where
@@ -20,15 +18,10 @@ loop-resource-init c = record {
 pub under-requires : goal.under-requires
 under-requires c = All-get_or (λ r. r < length c.args.holds.now) c.args.resources.now c.loop-resource.resource-index 0 c.loop-resource-test.true c.requires.exist
 
-pub put_hold-requires-clause-hold : goal.put_hold-requires-clause-hold
-put_hold-requires-clause-hold c =
+pub put_hold-requires : goal.put_hold-requires
+put_hold-requires c =
     let below : get_or c.args.resources.now c.loop-resource.resource-index 0 < length c.args.holds.now = All-get_or (λ r. r < length c.args.holds.now) c.args.resources.now c.loop-resource.resource-index 0 c.loop-resource-test.true c.requires.exist in
     omega (arith, below, c.requires.holds, c.loop-resource.invariant.flows.holds)
-
-pub put_hold-requires-clause-active : goal.put_hold-requires-clause-active
-put_hold-requires-clause-active c =
-    let below : get_or c.args.resources.now c.loop-resource.resource-index 0 < length c.args.holds.now = All-get_or (λ r. r < length c.args.holds.now) c.args.resources.now c.loop-resource.resource-index 0 c.loop-resource-test.true c.requires.exist in
-    omega (arith, below, c.requires.active, c.loop-resource.invariant.flows.active)
 
 pub loop-resource-preserved : goal.loop-resource-preserved
 loop-resource-preserved c =
@@ -41,8 +34,8 @@ loop-resource-preserved c =
     let new = c.put_hold.new.kept in
     let out = c.put_hold.ensures in
     let below : n < length holds = All-get_or (λ r. r < length holds) resources k 0 c.loop-resource-test.true c.requires.exist in
-    held_on resources holds k c.args.kept.now old new c.loop-resource-test.true (omega (arith, below, c.requires.holds, inv.flows.holds)) (omega (arith, below, c.requires.active, inv.flows.active))
-    (out.hold ∙ ap (set old.holds.items n) c.under.ensures) out.active
+    held_on resources holds k c.args.kept.now old new c.loop-resource-test.true (omega (arith, below, c.requires.holds, inv.flows.holds))
+    (out.hold ∙ ap (set old.holds.items n) c.under.ensures)
     (record {
       levels = out.flows.levels ∙ inv.flows.levels;
       parts = out.flows.parts ∙ inv.flows.parts;

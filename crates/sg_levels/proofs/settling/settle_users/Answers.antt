@@ -1,4 +1,4 @@
-use Rattle.std.proofs.Common.{◌≡◌, ◌∷◌, suc, length, drop, sym, ap, subst, ◌∙◌, arith}
+use Rattle.std.proofs.Common.{◌≡◌, ◌∷◌, ◌+◌, ◌*◌, ◌≤◌, ℕ, mul-le-mul, suc, length, drop, sym, ap, subst, ◌∙◌, arith}
 use Rattle.sg_chains.specs.Chained.{users_on}
 use Rattle.sg_chains.specs.Walk.{next_on, user_of}
 use Rattle.sg_maxmin.specs.Sharing.{uses_at}
@@ -6,6 +6,7 @@ use Rattle.sg_levels.specs.Numbered.{all_uses}
 use Rattle.sg_levels.specs.Kept.{IsSettlingOn}
 use Rattle.sg_levels.proofs.Listed.{in_at, take_all}
 use Rattle.sg_levels.proofs.Walked.{can_look, looked, walk_from, walk_on, nearer, walked}
+use Rattle.sg_levels.proofs.Joined.{row_few}
 use Rattle.sg_levels.proofs.Noted.{noted_none, noted_on}
 use Rattle.sg_levels.proofs.Steps.{uses_next, drop_step, drop_end}
 use Rattle.sg_levels.proofs.settling.settle_users.Goals as goal
@@ -22,6 +23,7 @@ loop-at-init g c =
         moved = noted_none c.args.kept.now.moved c.args.kept.now.levels.items;
         within = λ p q along here are. are;
         looks = omega arith;
+        few = omega arith;
       },
     )
 
@@ -39,13 +41,21 @@ loop-at-smaller g c =
     let inv = c.loop-at.invariant in
     nearer next_on user_of s.uses row inv.0 c.loop-at.at inv.1.walk c.in-Some.i c.look-one.result c.in-Some.is c.look-one.ensures.there
 
-pub settle_user-requires-clause-user : goal.settle_user-requires-clause-user
-settle_user-requires-clause-user g c =
+pub settle_user-times-requires-clause-user : goal.settle_user-times-requires-clause-user
+settle_user-times-requires-clause-user g c =
     let s = c.args.system.now in
     let row = users_on s.users c.args.resource in
     let inv = c.loop-at.invariant in
     let r = looked next_on user_of s.uses row inv.0 c.loop-at.at inv.1.walk c.in-Some.i c.look-one.result c.in-Some.is c.look-one.ensures.there in
     in_at c.look-one.result.flow row inv.0 r.less (sym r.is)
+
+pub overflow_add-times : goal.overflow_add-times
+overflow_add-times g c =
+    let s = c.args.system.now in
+    let row = users_on s.users c.args.resource in
+    let inv = c.loop-at.invariant in
+    let r = looked next_on user_of s.uses row inv.0 c.loop-at.at inv.1.walk c.in-Some.i c.look-one.result c.in-Some.is c.look-one.ensures.there in
+    omega (arith, inv.1.few, r.less, c.settle_user-times.ensures.few, row_few s c.requires.sound c.args.resource, c.requires.sound.few)
 
 pub loop-at-preserved : goal.loop-at-preserved
 loop-at-preserved g c =
@@ -56,19 +66,29 @@ loop-at-preserved g c =
     let k = inv.0 in
     let was = c.args.was in
     let before = c.loop-at.kept in
-    let after = c.settle_user.new.kept in
+    let after = c.settle_user-times.new.kept in
     let r = looked next_on user_of s.uses row k c.loop-at.at inv.1.walk c.in-Some.i c.look-one.result c.in-Some.is c.look-one.ensures.there in
     let first : drop k row ≡ c.look-one.result.flow ∷ drop (suc k) row = drop_step row k r.less ∙ ap (λ id. id ∷ drop (suc k) row) (sym r.is) in (
       suc k,
       record {
         walk = walk_on next_on user_of s.uses row k c.loop-at.at inv.1.walk c.in-Some.i c.look-one.result c.in-Some.is c.look-one.ensures.there;
-        settling = λ are. c.settle_user.ensures.settles (drop (suc k) row) (subst (IsSettlingOn s before n was) first (inv.1.settling are));
-        kept = c.settle_user.ensures.kept;
-        moved = noted_on c.args.kept.now.moved before.moved after.moved c.args.kept.now.levels.items before.levels.items after.levels.items inv.1.moved c.settle_user.ensures.moved;
-        within = λ p q along here are. c.settle_user.ensures.within p q along (along.users n c.look-one.result.flow here (in_at c.look-one.result.flow row k r.less (sym r.is))) (inv.1.within p q along here are);
-        looks = omega (arith, inv.1.looks, c.look-one.ensures.looks, c.settle_user.ensures.looks, uses_next s.slots row k r.less, ap (λ id. length (uses_at s.slots id)) r.is);
+        settling = λ are. c.settle_user-times.ensures.settles (drop (suc k) row) (subst (IsSettlingOn s before n was) first (inv.1.settling are));
+        kept = c.settle_user-times.ensures.kept;
+        moved = noted_on c.args.kept.now.moved before.moved after.moved c.args.kept.now.levels.items before.levels.items after.levels.items inv.1.moved c.settle_user-times.ensures.moved;
+        within = λ p q along here are. c.settle_user-times.ensures.within p q along (along.users n c.look-one.result.flow here (in_at c.look-one.result.flow row k r.less (sym r.is))) (inv.1.within p q along here are);
+        looks = omega (arith, inv.1.looks, c.look-one.ensures.looks, c.settle_user-times.ensures.looks, uses_most c.settle_user-times.result (c.requires.kept.longest c.look-one.result.flow), times_more c.loop-at.times c.settle_user-times.result c.args.kept.now.longest);
+        few = omega (arith, inv.1.few, c.settle_user-times.ensures.few);
       },
     )
+  where
+    uses_most : (n : ℕ) {a b : ℕ} → a ≤ b → n * a ≤ n * b
+    uses_most n le = mul-le-mul (self n) le
+      where
+        self : (n : ℕ) → n ≤ n
+        self n = omega arith
+
+    times_more : (n m l : ℕ) → (n + m) * l ≡ n * l + m * l
+    times_more n m l = grind arith
 
 pub returns-clause-settles : goal.returns-clause-settles
 returns-clause-settles g c = λ are.
@@ -86,8 +106,14 @@ returns-clause-looks g c =
     let s = c.args.system.now in
     let row = users_on s.users c.args.resource in
     let inv = c.loop-at.invariant in
-    let end = walked next_on user_of s.uses row inv.0 c.loop-at.at inv.1.walk c.in_default.not-Some in
-    omega (arith, inv.1.looks, end, ap (all_uses s.slots) (take_all row inv.0 end))
+    omega (arith, inv.1.looks, walked next_on user_of s.uses row inv.0 c.loop-at.at inv.1.walk c.in_default.not-Some)
+
+pub returns-clause-few : goal.returns-clause-few
+returns-clause-few g c =
+    let s = c.args.system.now in
+    let row = users_on s.users c.args.resource in
+    let inv = c.loop-at.invariant in
+    omega (arith, inv.1.few, walked next_on user_of s.uses row inv.0 c.loop-at.at inv.1.walk c.in_default.not-Some)
 
 pub returns-clause-within : goal.returns-clause-within
 returns-clause-within g c = c.loop-at.invariant.1.within

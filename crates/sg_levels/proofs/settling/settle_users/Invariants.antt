@@ -1,7 +1,6 @@
-use Rattle.std.proofs.Common.{ℕ, ◌+◌, ◌*◌, ◌≤◌, length, drop, take}
+use Rattle.std.proofs.Common.{ℕ, ◌+◌, ◌*◌, ◌≤◌, length, drop}
 use Rattle.sg_chains.specs.Chained.{users_on}
 use Rattle.sg_chains.specs.Walk.{next_on, user_of, left_from}
-use Rattle.sg_levels.specs.Numbered.{all_uses}
 use Rattle.sg_levels.specs.Kept.{IsKept, IsSettlingOn, NotesMoved, ResourceStaysWithin}
 use Rattle.sg_levels.proofs.Walked.{IsWalk}
 use Rattle.sg_levels.proofs.settling.settle_users.Given as goal
@@ -13,7 +12,8 @@ invariant-loop-at g l = (k : ℕ) × record {
   kept : IsKept l.system l.kept;
   moved : NotesMoved l.fn.kept l.kept;
   within : ResourceStaysWithin l.system l.resource l.fn.kept l.kept;
-  looks : l.steps ≤ l.fn.steps + k + 2 * all_uses l.system.slots (take k (users_on l.system.users l.resource));
+  looks : l.steps ≤ l.fn.steps + k + l.times * l.fn.kept.longest;
+  few : l.times ≤ 2 * k;
 }
 
 abbrev pub decreases-loop-at : goal.decreases-loop-at

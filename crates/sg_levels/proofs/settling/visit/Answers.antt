@@ -1,16 +1,17 @@
-use Rattle.std.proofs.Common.{inl, inr, true, false, true≢false, set, get_or-set_same, get_or-set_other, sym, ap, ◌∙◌}
-use Rattle.sg_levels.specs.Settling.{is_active}
-use Rattle.sg_levels.proofs.Listed.{eq_cases, one_off, off_one}
+use Rattle.std.proofs.Common.{◌≡◌, inl, inr, true, false, subst, sym}
+use Rattle.sg_base.specs.MarkSet.{MarkSet, is_in}
+use Rattle.sg_levels.proofs.Listed.{off_mark, off_one, one_off}
+use Rattle.sg_levels.proofs.Within.{marked_or}
 use Rattle.sg_levels.proofs.settling.visit.Goals as goal
 
 pub returns-clause-activates : goal.returns-clause-activates
 returns-clause-activates c = λ r off.
-    let active = c.args.kept.now.active.items in
     let n = c.args.resource in
-    elim (eq_cases r n) [
-      | inl e ↦ absurd (true≢false (sym (get_or-set_same active n true false c.requires.active) ∙ sym (ap (is_active (set active n true)) e) ∙ off))
-      | inr ne ↦ (sym (get_or-set_other active n r true false ne) ∙ off, one_off r n ne)
-    ]
+    let is = off_mark r n c.args.kept.now.active.members (subst (λ (m : MarkSet). is_in r m.members ≡ false) c.insert.ensures off) in
+    (is.1, one_off r n is.0)
 
 pub returns-clause-only : goal.returns-clause-only
-returns-clause-only c = λ r on off. sym (get_or-set_other c.args.kept.now.active.items c.args.resource r true false (off_one r c.args.resource off)) ∙ on
+returns-clause-only c = λ r on off. elim (marked_or r c.args.resource c.args.kept.now.active.members (subst (λ (m : MarkSet). is_in r m.members ≡ true) c.insert.ensures on)) [
+  | inl e ↦ absurd (off_one r c.args.resource off e)
+  | inr was ↦ was
+]

@@ -10,9 +10,9 @@ use Rattle.sg_levels.proofs.settling.visit_uses.Given as goal
 abbrev pub invariant-loop-at : goal.invariant-loop-at
 invariant-loop-at g l = (k : ℕ) × record {
   walk : IsWalk next_of_flow resource_of l.system.uses (uses_at l.system.slots l.flow) k l.at;
-  stays : (r : ℕ) → is_active l.kept.active.items r ≡ false → is_active l.fn.kept.active.items r ≡ false;
-  done : (i : ℕ) → i < k → (r : ℕ) → is_active l.kept.active.items r ≡ false → r ≢ slice_index (uses_at l.system.slots l.flow) i;
-  only : (r : ℕ) → is_active l.kept.active.items r ≡ true → is_in r (uses_at l.system.slots l.flow) ≡ false → is_active l.fn.kept.active.items r ≡ true;
+  stays : (r : ℕ) → is_active l.kept.active.members r ≡ false → is_active l.fn.kept.active.members r ≡ false;
+  done : (i : ℕ) → i < k → (r : ℕ) → is_active l.kept.active.members r ≡ false → r ≢ slice_index (uses_at l.system.slots l.flow) i;
+  only : (r : ℕ) → is_active l.kept.active.members r ≡ true → is_in r (uses_at l.system.slots l.flow) ≡ false → is_active l.fn.kept.active.members r ≡ true;
   shifts : Shifts l.before l.after (take k (uses_at l.system.slots l.flow)) l.fn.kept.demands.items l.kept.demands.items;
   levels : KeepsLevels l.fn.kept l.kept;
   looks : l.steps ≡ l.fn.steps + k;

@@ -1,5 +1,5 @@
 use Rattle.std.proofs.Common.{◌≤◌, length, slice_index, ap, arith}
-use Rattle.sg_levels.proofs.Between.{between_extended, between_grown}
+use Rattle.sg_levels.proofs.Between.{between_extended, between_grown, no_more}
 use Rattle.sg_levels.proofs.levels.Levels.reserve.Goals as goal
 
 pub returns-in_err-grow-clause-between : goal.returns-in_err-grow-clause-between
@@ -19,3 +19,9 @@ returns-clause-between c =
       moved = omega (arith, n, room.moved);
       stale = omega (arith, n, room.stale);
     }) (between_grown s c.is_sound.ensures c.args.self.now c.grow.new.self c.grow.ensures.kept c.requires)
+
+pub returns-clause-within : goal.returns-clause-within
+returns-clause-within c = no_more c.args.self.now c.grow.new.self c.grow.ensures.kept
+
+pub returns-in_err-grow-clause-within : goal.returns-in_err-grow-clause-within
+returns-in_err-grow-clause-within c = no_more c.args.self.now c.grow.new.self c.grow.ensures.kept

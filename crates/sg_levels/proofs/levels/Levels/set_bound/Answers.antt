@@ -57,11 +57,11 @@ returns-else-not-is_same-clause-changed c =
     notes_same s t c.args.self.now c.args.self.now (same_flow s t c.args.flow c.args.bound is (sym told ∙ c.is_same.ensures.same c.if-not-is_same.false)) (λ id. refl) refl
 
 pub returns-then-not-is_same-clause-within : goal.returns-then-not-is_same-clause-within
-returns-then-not-is_same-clause-within c = λ p q along here are. record {
+returns-then-not-is_same-clause-within c = λ p q here are. record {
   active = are.active;
   moved = λ id i. elim (marked_or id c.args.flow c.args.self.now.moved.members (subst (λ (m : MarkSet). is_in id m.members ≡ true) c.insert-then-not-is_same.ensures i)) [ inl e ↦ subst (λ n. IsTrue (p n)) (sym e) here | inr j ↦ are.moved id j ];
   stale = λ id i. elim (marked_or id c.args.flow c.args.self.now.stale.members (subst (λ (m : MarkSet). is_in id m.members ≡ true) c.insert.ensures i)) [ inl e ↦ subst (λ n. IsTrue (p n)) (sym e) here | inr j ↦ are.stale id j ];
 }
 
 pub returns-else-not-is_same-clause-within : goal.returns-else-not-is_same-clause-within
-returns-else-not-is_same-clause-within c = λ p q along here are. are
+returns-else-not-is_same-clause-within c = λ p q here are. are

@@ -1,5 +1,7 @@
 use Rattle.std.proofs.Common.{◌≡◌, inl, inr, true, length, length-set, get_or-set_same, get_or-set_other, set, slice_index, refl, sym, ap, subst, ◌∙◌, arith, false, IsTrue}
+use Rattle.sg_base.specs.MarkSet.{MarkSet, is_in}
 use Rattle.sg_maxmin.specs.Sharing.{Sharing, flow_at}
+use Rattle.sg_levels.proofs.Within.{marked_or}
 use Rattle.sg_levels.proofs.Listed.{eq_cases}
 use Rattle.sg_levels.proofs.Between.{between_extended}
 use Rattle.sg_levels.proofs.Changed.{offered_between}
@@ -13,16 +15,15 @@ returns-then-before-capacity-clause-between c =
     let caps = ap (λ (x : Sharing). x.capacities) c.set_capacity.ensures in
     let kept = c.requires.between.kept in
     let places = kept.places in
-    let active = c.args.self.now.active.items in
     offered_between s c.set_capacity.new.self c.is_sound.ensures c.is_sound-2.ensures n (ap (λ (x : Sharing). x.slots) c.set_capacity.ensures) (ap length caps ∙ length-set s.capacities n cap)
     (λ r ne. ap (λ cs. slice_index cs r) caps ∙ get_or-set_other s.capacities n r cap 0 ne) c.args.self.now _ c.requires.between
     (record {
-      places = record { levels = places.levels; parts = places.parts; moved = places.moved; stale = places.stale; holds = places.holds; demands = places.demands; active = length-set active n true ∙ places.active };
+      places = record { levels = places.levels; parts = places.parts; moved = places.moved; stale = places.stale; holds = places.holds; demands = places.demands; active = ap (λ (m : MarkSet). m.room) c.insert.ensures ∙ places.active };
       demands = kept.demands;
       fit = kept.fit;
       none = kept.none;
       longest = kept.longest;
-    }) (omega (arith, c.requires.resource, places.active)) refl refl refl refl refl refl
+    }) refl refl refl (ap (λ (m : MarkSet). m.members) c.insert.ensures) refl refl
 
 pub returns-else-before-capacity-clause-between : goal.returns-else-before-capacity-clause-between
 returns-else-before-capacity-clause-between c =
@@ -47,11 +48,11 @@ returns-else-before-capacity-clause-between c =
     }) c.requires.between
 
 pub returns-then-before-capacity-clause-within : goal.returns-then-before-capacity-clause-within
-returns-then-before-capacity-clause-within c = λ p q along here are. record {
-  active = λ r on. elim (eq_cases r c.args.resource) [ inl e ↦ subst (λ n. IsTrue (q n)) (sym e) here | inr ne ↦ are.active r (sym (get_or-set_other c.args.self.now.active.items c.args.resource r true false ne) ∙ on) ];
+returns-then-before-capacity-clause-within c = λ p q here are. record {
+  active = λ r on. elim (marked_or r c.args.resource c.args.self.now.active.members (subst (λ (m : MarkSet). is_in r m.members ≡ true) c.insert.ensures on)) [ inl e ↦ subst (λ n. IsTrue (q n)) (sym e) here | inr j ↦ are.active r j ];
   moved = are.moved;
   stale = are.stale;
 }
 
 pub returns-else-before-capacity-clause-within : goal.returns-else-before-capacity-clause-within
-returns-else-before-capacity-clause-within c = λ p q along here are. are
+returns-else-before-capacity-clause-within c = λ p q here are. are

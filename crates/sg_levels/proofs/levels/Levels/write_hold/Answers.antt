@@ -13,21 +13,21 @@ returns-clause-settling g c =
     let new = c.settle_users.new.kept in
     let row = users_on s.users n in
     let places = c.requires.settling.kept.places in
-    let start = start_keeps s c.is_sound.ensures kept.levels.items kept.holds.items kept.active.items 0 None n c.args.hold c.requires.settling.written (omega (arith, c.requires.resource, places.holds)) (omega (arith, c.requires.resource, places.active)) c.requires.hold in
+    let start = start_keeps s c.is_sound.ensures kept.levels.items kept.holds.items kept.active.members c.remove.new.self.members 0 None n c.args.hold c.requires.settling.written (omega (arith, c.requires.resource, places.holds)) c.remove.ensures.others c.requires.hold in
     let on = c.settle_users.ensures.settles (record {
       parts = c.requires.settling.parts;
-      written = subst (λ o. AreSettlingOn s kept.levels.items (set kept.holds.items n c.args.hold) (set kept.active.items n false) n o row) (sym c.hold-was.ensures) start;
+      written = subst (λ o. AreSettlingOn s kept.levels.items (set kept.holds.items n c.args.hold) c.remove.new.self.members n o row) (sym c.hold-was.ensures) start;
     }) in
     record {
       kept = c.settle_users.ensures.kept;
       parts = on.parts;
-      written = any_end s new.levels.items new.holds.items new.active.items n 0 c.hold-was.result None on.written;
+      written = any_end s new.levels.items new.holds.items new.active.members n 0 c.hold-was.result None on.written;
     }
 
 pub returns-clause-within : goal.returns-clause-within
 returns-clause-within g c = λ p q along here are.
     c.settle_users.ensures.within p q along here (record {
-      active = λ r on. are.active r (less_active c.args.self.now.active.items c.args.resource r (omega (arith, c.requires.resource, c.requires.settling.kept.places.active)) on);
+      active = λ r on. are.active r (less_active c.args.self.now.active.members c.remove.new.self.members c.args.resource r c.remove.ensures.gone c.remove.ensures.others on);
       moved = are.moved;
       stale = are.stale;
     })

@@ -1,0 +1,98 @@
+//! How many looks a settling may take: as many as what is known to be joined to what it looks at allows.
+ghost use Rattle.std.specs.Prelude.{◌≡◌, ◌≤◌, ◌<◌, ◌+◌, ◌-◌, ◌*◌, ◌^◌, ℕ, IsTrue, None, IfSome, max};
+ghost use Rattle.sg_levels.specs.Joined.{spare_looks};
+
+/// What is known of the flows that are joined, and the looks that were taken.
+#[derive(Clone, Copy)]
+pub(crate) struct Allowance {
+    // there are so many of them
+    pub(crate) known: u64,
+    // one of their resources has so many users
+    pub(crate) row: u64,
+    // so many flows ended
+    pub(crate) ended: u64,
+    // so many looks were taken
+    pub(crate) spent: u64,
+}
+
+// So many looks may be taken.
+fn allowed(known: u64, row: u64, ended: u64) -> u64
+    ensures { result ≤ spare_looks known row ended }
+{
+    let all = known.saturating_add(ended);
+    let pairs = all.saturating_mul(all.saturating_add(1));
+    let others = known.saturating_add(ended.saturating_mul(4)).saturating_sub(1);
+    pairs.saturating_mul(4).saturating_add(others.saturating_mul(row))
+}
+
+impl Allowance {
+    // Nothing is known yet, and no look was taken.
+    pub(crate) fn new(ended: u64) -> Allowance
+        ensures known { result.known ≡ 0 }
+        ensures row { result.row ≡ 0 }
+        ensures ended { result.ended ≡ ended }
+        ensures spent { result.spent ≡ 0 }
+    {
+        Allowance {
+            known: 0,
+            row: 0,
+            ended,
+            spent: 0,
+        }
+    }
+
+    // So many flows are known.
+    pub(crate) fn with_flows(self, flows: u64) -> Allowance
+        ensures known { result.known ≡ max self.known flows }
+        ensures row { result.row ≡ self.row }
+        ensures ended { result.ended ≡ self.ended }
+        ensures spent { result.spent ≡ self.spent }
+    {
+        Allowance {
+            known: self.known.max(flows),
+            row: self.row,
+            ended: self.ended,
+            spent: self.spent,
+        }
+    }
+
+    // Whether a pass over the users of any resource may be taken: where these are more than all that are known, they allow
+    // it themselves.
+    pub(crate) fn is_enough(self) -> bool
+        requires { self.spent ≤ spare_looks self.known self.row self.ended }
+        ensures { IsTrue result
+            → self.spent + self.known ≤ spare_looks self.known self.row self.ended }
+    {
+        self.known <= allowed(self.known, self.row, self.ended).saturating_sub(self.spent)
+    }
+
+    // How many looks are left where there are so many users; None where these are more.
+    pub(crate) fn left_for(self, users: u64) -> Option<u64>
+        ensures pass { IfSome result (λ looks. users ≤ looks) }
+        ensures fits { IfSome result (λ looks. self.spent + looks < 2 ^ 64) }
+        ensures few { IfSome result (λ looks. self.spent + looks
+            ≤ spare_looks (max self.known users) (max self.row users) self.ended) }
+    {
+        let all = allowed(self.known.max(users), self.row.max(users), self.ended);
+        match all.checked_sub(self.spent) {
+            None => None,
+            Some(left) => { if users <= left { Some(left) } else { None } }
+        }
+    }
+
+    // The same where there are so many users, after so many looks.
+    pub(crate) fn with_row(self, users: u64, looks: u64) -> Allowance
+        requires { self.spent + looks < 2 ^ 64 }
+        ensures known { result.known ≡ max self.known users }
+        ensures row { result.row ≡ max self.row users }
+        ensures ended { result.ended ≡ self.ended }
+        ensures spent { result.spent ≡ self.spent + looks }
+    {
+        Allowance {
+            known: self.known.max(users),
+            row: self.row.max(users),
+            ended: self.ended,
+            spent: self.spent + looks,
+        }
+    }
+}
