@@ -1,5 +1,5 @@
 -- What a settling knows is so of all that is joined.
-use Rattle.std.proofs.Common.{◌≡◌, ◌≢◌, ℕ, ◌+◌, ◌-◌, ◌<◌, ◌≤◌, ◌⊎◌, inl, inr, Bool, true, false, cond, ◌||◌, true≢false, max, All, AllPairs, IsTrue, IsSome, Option, Some, None, List, length, get_or, refl, sym, ap, subst, ◌∙◌, arith}
+use Rattle.std.proofs.Common.{◌≡◌, ◌≢◌, ℕ, ◌+◌, ◌-◌, ◌<◌, ◌≤◌, ◌⊎◌, inl, inr, Bool, true, false, cond, ◌||◌, true≢false, max, All, AllPairs, IsTrue, IsSome, Option, Some, None, List, length, get_or, refl, sym, ap, ◌∙◌, arith}
 use Rattle.std.proofs.lemmas.List.{get_or_past}
 use Rattle.std.proofs.lemmas.List.Elements.{All-get_or}
 use Rattle.sg_base.specs.MarkSet.{is_in}
@@ -10,7 +10,7 @@ use Rattle.sg_levels.specs.declared.allowance.Allowance.{Allowance}
 use Rattle.sg_levels.specs.declared.levels.Levels.{Levels}
 use Rattle.sg_levels.specs.Settling.{is_active}
 use Rattle.sg_levels.specs.Kept.{IsWithin, PassAlong, StaysWithin}
-use Rattle.sg_levels.specs.Joined.{joined_count, joined_part, joined_uses, spare_looks, sum_below}
+use Rattle.sg_levels.specs.Joined.{joined_count, joined_uses, spare_looks}
 use Rattle.sg_levels.specs.Allowed.{AreNew, IsJoined, SparesLooks}
 use Rattle.sg_levels.proofs.Users.{on_held}
 use Rattle.sg_levels.proofs.Joined.{noted_count, past_none, row_count, row_uses, spare_more}
@@ -88,10 +88,12 @@ module _ (s : Sharing) (sound : IsSound s) (first now : Levels) (new : AreNew s 
       length now.moved.members - (length first.moved.members - length first.stale.members) ≤ joined_count s.slots p
   flows_count once once' bx by bz =
       let n = length s.slots + first.stale.room + first.moved.room + now.moved.room in
-      omega (arith,
-      noted_count s p n first.stale.members first.moved.members now.moved.members (omega arith) once once' (below first.stale.members first.stale.room n bx (omega arith)) (below first.moved.members first.moved.room n by (omega arith)) (below now.moved.members now.moved.room n bz (omega arith))
-      (λ id i. (new.noted id i, (within.stale id i, new.held id i))) noted_one,
-      past_none s.slots p n (omega arith) (λ id past. get_or_past s.slots id None past))
+      omega (
+        arith,
+        noted_count s p n first.stale.members first.moved.members now.moved.members (omega arith) once once' (below first.stale.members first.stale.room n bx (omega arith)) (below first.moved.members first.moved.room n by (omega arith)) (below now.moved.members now.moved.room n bz (omega arith))
+            (λ id i. (new.noted id i, (within.stale id i, new.held id i))) noted_one,
+        past_none s.slots p n (omega arith) (λ id past. get_or_past s.slots id None past),
+      )
 
 -- ---- the users of an active resource
 pub users_joined : (s : Sharing) → IsSound s → (first now : Levels) → StaysWithin s first now → (r : ℕ) → is_active now.active.members r ≡ true → (p q : ℕ → Bool) → PassAlong s p q → IsWithin p q first →

@@ -1,15 +1,14 @@
 -- What is kept as flows begin and end, and as they have other bounds and resources other capacities.
-use Rattle.std.proofs.Common.{◌≡◌, ◌≢◌, ℕ, ◌+◌, ◌-◌, ◌*◌, ◌^◌, ◌<◌, ◌≤◌, ◌⊎◌, inl, inr, Bool, true, false, true≢false, min, Option, None, Some, IsSome, IfSome, List, length, length-set, get_or-set_same, get_or-set_other, set, slice_index, refl, sym, ap, subst, ◌∙◌, arith}
+use Rattle.std.proofs.Common.{◌≡◌, ◌≢◌, ℕ, ◌<◌, ◌≤◌, ◌⊎◌, inl, inr, true, false, true≢false, Option, None, Some, IsSome, IfSome, List, length, length-set, get_or-set_same, get_or-set_other, set, slice_index, refl, sym, ap, subst, ◌∙◌, arith}
 use Rattle.sg_base.specs.MarkSet.{MarkSet, is_in, with_mark}
-use Rattle.sg_maxmin.specs.Fill.{Flow, share_at}
+use Rattle.sg_maxmin.specs.Fill.{Flow}
 use Rattle.sg_maxmin.specs.Sharing.{Sharing, IsSound, Changes, flow_at, uses_at, uses_in}
 use Rattle.sg_levels.specs.declared.levels.Levels.{Levels}
-use Rattle.sg_levels.specs.Numbered.{bound_of, flow_in, level_at}
-use Rattle.sg_levels.specs.Demand.{demand_of}
+use Rattle.sg_levels.specs.Numbered.{level_at}
 use Rattle.sg_levels.specs.Settling.{IsChanged, IsSame, IsStale, is_active}
-use Rattle.sg_levels.specs.Kept.{ActivatesAll, HasLeft, IsBetween, IsBetweenBut, IsKept, IsMoved, NotesChanged}
+use Rattle.sg_levels.specs.Kept.{ActivatesAll, HasLeft, IsBetween, IsBetweenBut, IsKept, NotesChanged}
 use Rattle.sg_levels.proofs.Listed.{bool_cases, eq_cases, mark_stays, mark_there, none_some, off_mark, some_of}
-use Rattle.sg_levels.proofs.Users.{flow_below, flow_in_is, uses_held, weighs}
+use Rattle.sg_levels.proofs.Users.{flow_below, uses_held}
 use Rattle.sg_levels.proofs.Keeping.{system_kept}
 use Rattle.sg_levels.proofs.Within.{marked_or}
 use Rattle.sg_levels.proofs.Between.{asks_same, between_changed, notes_gone, notes_one, notes_same}

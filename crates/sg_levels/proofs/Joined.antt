@@ -1,5 +1,5 @@
 -- Numbers that are listed once, as sums over all numbers; and how many looks are allowed.
-use Rattle.std.proofs.Common.{◌≡◌, ◌≢◌, ℕ, zero, suc, ◌+◌, ◌-◌, ◌*◌, ◌<◌, ◌≤◌, ◌⊎◌, inl, inr, Bool, true, false, cond, true≢false, eqb, eq-eqb, ne_eqb, max, AllPairs, IsTrue, IsSome, Option, Some, None, List, [], ◌∷◌, length, get_or, sum_by, mul-le-mul, refl, sym, ap, subst, ◌∙◌, arith}
+use Rattle.std.proofs.Common.{◌≡◌, ◌≢◌, ℕ, zero, suc, ◌+◌, ◌-◌, ◌*◌, ◌<◌, ◌≤◌, ◌⊎◌, inl, inr, Bool, true, false, cond, eqb, eq-eqb, ne_eqb, max, AllPairs, IsTrue, IsSome, Option, Some, None, List, [], ◌∷◌, length, get_or, sum_by, mul-le-mul, refl, sym, ap, subst, ◌∙◌, arith}
 use Rattle.std.proofs.lemmas.List.Sums.{sum_by-cons}
 use Rattle.sg_base.specs.MarkSet.{is_in}
 use Rattle.sg_chains.specs.Chained.{times, users_on}
@@ -168,16 +168,24 @@ module _ (s : Sharing) (sound : IsSound s) (c : ℕ) where
   user_once id = omega (arith, sound.both id c, once_le (uses_at s.slots id) c (rows_once s sound id))
 
   pub row_count : (p : ℕ → Bool) → ((id : ℕ) → is_in id (users_on s.users c) ≡ true → IsTrue (p id)) → length (users_on s.users c) ≤ joined_count s.slots p
-  row_count p pass = omega (arith, length_below (users_on s.users c) (length s.slots) (on_below s sound c), below_le (λ i. times i (users_on s.users c)) (joined_part s.slots (λ flow. 1) p) (length s.slots) (λ id h. elim (bool_cases (is_in id (users_on s.users c))) [
-    | inl on ↦ let f = on_held s sound c id on in omega (arith, user_once id, part_one s.slots p id (pass id on) (subst IsSome (sym f.1) refl))
-    | inr off ↦ omega (arith, times_out id (users_on s.users c) off)
-  ]))
+  row_count p pass = omega (
+    arith,
+    length_below (users_on s.users c) (length s.slots) (on_below s sound c),
+    below_le (λ i. times i (users_on s.users c)) (joined_part s.slots (λ flow. 1) p) (length s.slots) (λ id h. elim (bool_cases (is_in id (users_on s.users c))) [
+      | inl on ↦ let f = on_held s sound c id on in omega (arith, user_once id, part_one s.slots p id (pass id on) (subst IsSome (sym f.1) refl))
+      | inr off ↦ omega (arith, times_out id (users_on s.users c) off)
+    ]),
+  )
 
   pub row_uses : (p : ℕ → Bool) → ((id : ℕ) → is_in id (users_on s.users c) ≡ true → IsTrue (p id)) → length (users_on s.users c) ≤ joined_uses s.slots p
-  row_uses p pass = omega (arith, length_below (users_on s.users c) (length s.slots) (on_below s sound c), below_le (λ i. times i (users_on s.users c)) (joined_part s.slots (λ flow. length flow.uses) p) (length s.slots) (λ id h. elim (bool_cases (is_in id (users_on s.users c))) [
-    | inl on ↦ omega (arith, sound.both id c, times_le_length c (uses_at s.slots id), part_uses s.slots p id (pass id on))
-    | inr off ↦ omega (arith, times_out id (users_on s.users c) off)
-  ]))
+  row_uses p pass = omega (
+    arith,
+    length_below (users_on s.users c) (length s.slots) (on_below s sound c),
+    below_le (λ i. times i (users_on s.users c)) (joined_part s.slots (λ flow. length flow.uses) p) (length s.slots) (λ id h. elim (bool_cases (is_in id (users_on s.users c))) [
+      | inl on ↦ omega (arith, sound.both id c, times_le_length c (uses_at s.slots id), part_uses s.slots p id (pass id on))
+      | inr off ↦ omega (arith, times_out id (users_on s.users c) off)
+    ]),
+  )
 
   -- there are no more of them than numbers of flows
   pub row_few : length (users_on s.users c) ≤ length s.slots
@@ -215,9 +223,15 @@ pub noted_count : (s : Sharing) (p : ℕ → Bool) (n : ℕ) (xs ys zs : List �
     ((id : ℕ) → is_in id zs ≡ true → (is_in id ys ≡ true) ⊎ (IsTrue (p id) × IsSome (flow_at s.slots id))) →
     length xs + length zs ≤ length ys + sum_below (joined_part s.slots (λ flow. 1) p) n
 noted_count s p n xs ys zs few once once' bx by bz first third =
-    omega (arith, length_below xs n bx, length_below ys n by, length_below zs n bz,
-    below_add (λ i. times i xs) (λ i. times i zs) n, below_add (λ i. times i ys) (joined_part s.slots (λ flow. 1) p) n,
-    below_le (λ i. times i xs + times i zs) (λ i. times i ys + joined_part s.slots (λ flow. 1) p i) n (λ id h. each id))
+    omega (
+      arith,
+      length_below xs n bx,
+      length_below ys n by,
+      length_below zs n bz,
+      below_add (λ i. times i xs) (λ i. times i zs) n,
+      below_add (λ i. times i ys) (joined_part s.slots (λ flow. 1) p) n,
+      below_le (λ i. times i xs + times i zs) (λ i. times i ys + joined_part s.slots (λ flow. 1) p i) n (λ id h. each id),
+    )
   where
     each : (id : ℕ) → times id xs + times id zs ≤ times id ys + joined_part s.slots (λ flow. 1) p id
     each id = elim (bool_cases (is_in id xs)) [

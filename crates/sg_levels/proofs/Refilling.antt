@@ -9,7 +9,6 @@ use Rattle.sg_levels.specs.declared.levels.Levels.{Levels}
 use Rattle.sg_levels.specs.Numbered.{flow_in, level_at}
 use Rattle.sg_levels.specs.Demand.{demand_of}
 use Rattle.sg_levels.specs.Held.{AreFilled, AreHeld, IsHold}
-use Rattle.sg_levels.specs.Settling.{is_active}
 use Rattle.sg_levels.specs.Kept.{AreGiven, AreHeldAt, is_one_of, IsBetween, IsFound, IsKept, IsMoved, IsRefilled, IsSettling, IsWithin, KeepsFlows, PassAlong}
 use Rattle.sg_levels.proofs.Listed.{bool_cases, eq_cases, in_end, in_more, some_of}
 use Rattle.sg_levels.proofs.Users.{in_is, in_uses, is_in_In}

@@ -1,19 +1,16 @@
 -- Flows with another bound are given the level of their bound, and a settling ends.
-use Rattle.std.proofs.Common.{◌≡◌, ◌≢◌, ℕ, suc, ◌+◌, ◌*◌, ◌<◌, ◌≤◌, ◌⊎◌, inl, inr, true, false, true≢false, Option, None, Some, IsSome, List, [], ◌∷◌, length, get_or-set_same, get_or-set_other, slice_index, refl, sym, ap, subst, ◌∙◌, arith}
-use Rattle.std.proofs.lemmas.List.Sums.{sum_by-cons}
+use Rattle.std.proofs.Common.{◌≡◌, ◌≢◌, ℕ, ◌<◌, ◌⊎◌, inl, inr, true, false, true≢false, None, List, [], ◌∷◌, length, get_or-set_same, get_or-set_other, refl, sym, ap, subst, ◌∙◌, arith}
 use Rattle.sg_base.specs.MarkSet.{MarkSet, is_in}
-use Rattle.sg_maxmin.specs.Fill.{Flow}
 use Rattle.sg_maxmin.specs.Sharing.{Sharing, IsSound, flow_at, uses_at}
 use Rattle.sg_levels.specs.declared.levels.Levels.{Levels}
-use Rattle.sg_levels.specs.Numbered.{all_uses, bound_of, flow_in, level_at}
-use Rattle.sg_levels.specs.Demand.{demand_of}
+use Rattle.sg_levels.specs.Numbered.{bound_of, flow_in, level_at}
 use Rattle.sg_levels.specs.Held.{AreFilled}
 use Rattle.sg_levels.specs.Settling.{IsChanged, IsSame, IsStale, is_active}
 use Rattle.sg_levels.specs.Kept.{ActivatesAll, IsBetweenBut, IsKept, IsMoved, IsSettling}
 use Rattle.sg_levels.proofs.Listed.{eq_cases}
 use Rattle.sg_levels.proofs.Users.{flow_in_is, in_is, is_in_In}
 use Rattle.sg_levels.proofs.HeldLevels.{held_is_filling_lem}
-use Rattle.sg_levels.proofs.Steps.{head_or, settling_ends_lem}
+use Rattle.sg_levels.proofs.Steps.{settling_ends_lem}
 use Rattle.sg_levels.proofs.Marked.{but_none, none_but}
 use Rattle.sg_levels.proofs.Moving.{more_off, parts_moved}
 use Rattle.sg_levels.proofs.Between.{between_changed}

@@ -1,5 +1,5 @@
 -- A settling stays within what is joined to what was active, noted or stale.
-use Rattle.std.proofs.Common.{◌≡◌, ◌≢◌, ℕ, ◌⊎◌, inl, inr, Bool, true, false, true≢false, cond, IsTrue, Option, List, [], ◌∷◌, ◌++◌, length, get_or-set_same, get_or-set_other, set, sym, ap, subst, ◌∙◌}
+use Rattle.std.proofs.Common.{◌≡◌, ◌≢◌, ℕ, ◌⊎◌, inl, inr, true, false, true≢false, cond, IsTrue, Option, List, [], ◌∷◌, ◌++◌, sym, ap, subst, ◌∙◌}
 use Rattle.sg_base.specs.MarkSet.{MarkSet, is_in, with_mark}
 use Rattle.sg_maxmin.specs.Sharing.{Sharing, uses_at}
 use Rattle.sg_maxmin.proofs.Members.{In}

@@ -1,5 +1,5 @@
 -- What a settling knows and spends.
-use Rattle.std.specs.Prelude.{◌≡◌, ℕ, ◌+◌, ◌<◌, ◌≤◌, Bool, true, IsSome, length, max}
+use Rattle.std.specs.Prelude.{◌≡◌, ℕ, ◌+◌, ◌≤◌, Bool, true, IsSome, max}
 use Rattle.sg_base.specs.MarkSet.{is_in}
 use Rattle.sg_maxmin.specs.Sharing.{Sharing, flow_at}
 use Rattle.sg_levels.specs.declared.allowance.Allowance.{Allowance}

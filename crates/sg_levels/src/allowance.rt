@@ -21,8 +21,12 @@ fn allowed(known: u64, row: u64, ended: u64) -> u64
 {
     let all = known.saturating_add(ended);
     let pairs = all.saturating_mul(all.saturating_add(1));
-    let others = known.saturating_add(ended.saturating_mul(4)).saturating_sub(1);
-    pairs.saturating_mul(4).saturating_add(others.saturating_mul(row))
+    let others = known
+        .saturating_add(ended.saturating_mul(4))
+        .saturating_sub(1);
+    pairs
+        .saturating_mul(4)
+        .saturating_add(others.saturating_mul(row))
 }
 
 impl Allowance {

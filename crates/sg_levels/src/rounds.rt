@@ -275,7 +275,11 @@ impl Levels {
         ensures looks { SparesLooks system.now self.old ended steps.old steps.new }
     {
         system.is_sound();
-        let behind = self.moved.members().len().saturating_sub(self.stale.members().len());
+        let behind = self
+            .moved
+            .members()
+            .len()
+            .saturating_sub(self.stale.members().len());
         let mut given = Allowance::new(ended as u64);
         for _round in 0..u64::MAX {
             let Some(resource) = self.least_active(system) else {

@@ -1,4 +1,4 @@
-use Rattle.std.proofs.Common.{◌+◌, ◌*◌, arith}
+use Rattle.std.proofs.Common.{arith}
 use Rattle.sg_levels.proofs.Joined.{walk_fits}
 use Rattle.sg_levels.proofs.rounds.after_walk.Goals as goal
 

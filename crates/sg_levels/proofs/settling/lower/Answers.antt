@@ -1,4 +1,4 @@
-use Rattle.std.proofs.Common.{◌≡◌, ◌<◌, inl, inr, false, true≢false, IsSome, refl, subst, sym, ap, ◌∙◌, arith}
+use Rattle.std.proofs.Common.{inl, inr, true≢false, IsSome, refl, subst, sym, ap, ◌∙◌}
 use Rattle.sg_levels.specs.Settling.{is_active}
 use Rattle.sg_levels.proofs.Listed.{eq_cases}
 use Rattle.sg_levels.proofs.Steps.{held_user}

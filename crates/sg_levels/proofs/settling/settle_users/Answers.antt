@@ -1,14 +1,12 @@
-use Rattle.std.proofs.Common.{◌≡◌, ◌∷◌, ◌+◌, ◌*◌, ◌≤◌, ℕ, mul-le-mul, suc, length, drop, sym, ap, subst, ◌∙◌, arith}
+use Rattle.std.proofs.Common.{◌≡◌, ◌∷◌, ◌+◌, ◌*◌, ◌≤◌, ℕ, mul-le-mul, suc, drop, sym, ap, subst, ◌∙◌, arith}
 use Rattle.sg_chains.specs.Chained.{users_on}
 use Rattle.sg_chains.specs.Walk.{next_on, user_of}
-use Rattle.sg_maxmin.specs.Sharing.{uses_at}
-use Rattle.sg_levels.specs.Numbered.{all_uses}
 use Rattle.sg_levels.specs.Kept.{IsSettlingOn}
-use Rattle.sg_levels.proofs.Listed.{in_at, take_all}
+use Rattle.sg_levels.proofs.Listed.{in_at}
 use Rattle.sg_levels.proofs.Walked.{can_look, looked, walk_from, walk_on, nearer, walked}
 use Rattle.sg_levels.proofs.Joined.{row_few}
 use Rattle.sg_levels.proofs.Noted.{noted_none, noted_on}
-use Rattle.sg_levels.proofs.Steps.{uses_next, drop_step, drop_end}
+use Rattle.sg_levels.proofs.Steps.{drop_step, drop_end}
 use Rattle.sg_levels.proofs.settling.settle_users.Goals as goal
 
 pub loop-at-init : goal.loop-at-init

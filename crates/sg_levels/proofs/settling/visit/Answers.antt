@@ -1,4 +1,4 @@
-use Rattle.std.proofs.Common.{◌≡◌, inl, inr, true, false, subst, sym}
+use Rattle.std.proofs.Common.{◌≡◌, inl, inr, true, false, subst}
 use Rattle.sg_base.specs.MarkSet.{MarkSet, is_in}
 use Rattle.sg_levels.proofs.Listed.{off_mark, off_one, one_off}
 use Rattle.sg_levels.proofs.Within.{marked_or}

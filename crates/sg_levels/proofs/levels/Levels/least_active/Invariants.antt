@@ -1,4 +1,4 @@
-use Rattle.std.proofs.Common.{◌≡◌, ◌-◌, ◌^◌, ◌<◌, ℕ, true, None, IfSome, length}
+use Rattle.std.proofs.Common.{◌≡◌, ◌-◌, ◌^◌, ◌<◌, true, None, IfSome, length}
 use Rattle.sg_levels.specs.Settling.{is_active}
 use Rattle.sg_levels.proofs.levels.Levels.least_active.Given as goal
 

@@ -1,4 +1,4 @@
-use Rattle.std.proofs.Common.{◌+◌, ◌*◌, ◌∙◌, ap, sym, arith}
+use Rattle.std.proofs.Common.{arith}
 use Rattle.sg_levels.proofs.levels.Levels.look_at.Goals as goal
 
 pub after_walk-requires-clause-few : goal.after_walk-requires-clause-few

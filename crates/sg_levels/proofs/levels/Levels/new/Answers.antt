@@ -1,4 +1,4 @@
-use Rattle.std.proofs.Common.{◌≡◌, true, false, true≢false, [], sym, ap, subst, ◌∙◌, slice_index, arith}
+use Rattle.std.proofs.Common.{◌≡◌, true, true≢false, [], sym, ap, subst, ◌∙◌, slice_index, arith}
 use Rattle.sg_base.specs.MarkSet.{MarkSet, is_in}
 use Rattle.sg_levels.proofs.Between.{fresh}
 use Rattle.sg_levels.proofs.levels.Levels.new.Goals as goal

@@ -1,4 +1,4 @@
-use Rattle.std.proofs.Common.{◌≡◌, inl, inr, true, length, length-set, get_or-set_same, get_or-set_other, set, slice_index, refl, sym, ap, subst, ◌∙◌, arith, false, IsTrue}
+use Rattle.std.proofs.Common.{◌≡◌, inl, inr, true, length, length-set, get_or-set_same, get_or-set_other, set, slice_index, refl, sym, ap, subst, ◌∙◌, arith, IsTrue}
 use Rattle.sg_base.specs.MarkSet.{MarkSet, is_in}
 use Rattle.sg_maxmin.specs.Sharing.{Sharing, flow_at}
 use Rattle.sg_levels.proofs.Within.{marked_or}
