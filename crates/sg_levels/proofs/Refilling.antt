@@ -9,7 +9,7 @@ use Rattle.sg_levels.specs.declared.levels.Levels.{Levels}
 use Rattle.sg_levels.specs.Numbered.{flow_in, level_at}
 use Rattle.sg_levels.specs.Demand.{demand_of}
 use Rattle.sg_levels.specs.Held.{AreFilled, AreHeld, IsHold}
-use Rattle.sg_levels.specs.Kept.{AreGiven, AreHeldAt, is_one_of, IsBetween, IsFound, IsKept, IsMoved, IsRefilled, IsSettling, IsWithin, KeepsFlows, PassAlong}
+use Rattle.sg_levels.specs.Kept.{AreGiven, AreHeldAt, is_one_of, IsBetween, IsFound, IsKept, IsMoved, IsRefilled, IsSettling, IsWithin, KeepsFlows, PassAlong, AreParts, IsGiven}
 use Rattle.sg_levels.proofs.Listed.{bool_cases, eq_cases, in_end, in_more, some_of}
 use Rattle.sg_levels.proofs.Users.{in_is, in_uses, is_in_In}
 use Rattle.sg_levels.proofs.Within.{in_append}
@@ -30,28 +30,44 @@ out_take id xs k less off =
     )
 
 -- ---- one flow more is given its level
-pub given_on : (s : Sharing) (flows : List ℕ) (levels : List (Option ℕ)) (k : ℕ) (first old new : Levels) → k < length flows → get_or flows k 0 < length old.levels.items → get_or flows k 0 < length old.parts.items → IsMoved s old new (get_or flows k 0) (level_at levels (get_or flows k 0)) →
-    AreGiven s (take k flows) levels first old → AreGiven s (take (k + 1) flows) levels first new
-given_on s flows levels k first old new less below below' m are =
-    let flow = get_or flows k 0 in
-    let level = level_at levels flow in
+pub moved_gives : (s : Sharing) (old new : Levels) (flow : ℕ) (level : Option ℕ) → flow < length old.levels.items → flow < length old.parts.items → IsMoved s old new flow level → IsGiven s old new flow level
+moved_gives s old new flow level below below' m =
     let part = demand_of (flow_in s.slots flow) level in
-    let other_level : (id : ℕ) → id ≢ flow → level_at new.levels.items id ≡ level_at old.levels.items id = λ id ne. ap (λ ls. level_at ls id) m.level_is ∙ get_or-set_other old.levels.items flow id level None ne in
-    let other_part : (id : ℕ) → id ≢ flow → slice_index new.parts.items id ≡ slice_index old.parts.items id = λ id ne. ap (λ ps. slice_index ps id) m.part_is ∙ get_or-set_other old.parts.items flow id part 0 ne in
+    record {
+      here = ap (λ ls. level_at ls flow) m.level_is ∙ get_or-set_same old.levels.items flow level None below;
+      part = ap (λ ps. slice_index ps flow) m.part_is ∙ get_or-set_same old.parts.items flow part 0 below';
+      others = λ id ne. ap (λ ls. level_at ls id) m.level_is ∙ get_or-set_other old.levels.items flow id level None ne;
+      other_parts = λ id ne. ap (λ ps. slice_index ps id) m.part_is ∙ get_or-set_other old.parts.items flow id part 0 ne;
+      holds = m.holds;
+      stale = m.stale;
+    }
+
+pub given_on : (s : Sharing) (flows : List ℕ) (levels : List (Option ℕ)) (k : ℕ) (first old new : Levels) → k < length flows → IsGiven s old new (get_or flows k 0) (level_at levels (get_or flows k 0)) →
+    AreGiven s (take k flows) levels first old → AreGiven s (take (k + 1) flows) levels first new
+given_on s flows levels k first old new less m are =
+    let flow = get_or flows k 0 in
     record {
       here = λ id i. elim (eq_cases id flow) [
-        | inl e ↦ subst (λ n. level_at new.levels.items n ≡ level_at levels n) (sym e) (ap (λ ls. level_at ls flow) m.level_is ∙ get_or-set_same old.levels.items flow level None below)
-        | inr ne ↦ elim (in_take id flows k less i) [ inl e ↦ absurd (ne e) | inr j ↦ other_level id ne ∙ are.here id j ]
+        | inl e ↦ subst (λ n. level_at new.levels.items n ≡ level_at levels n) (sym e) m.here
+        | inr ne ↦ elim (in_take id flows k less i) [ inl e ↦ absurd (ne e) | inr j ↦ m.others id ne ∙ are.here id j ]
       ];
       parts = λ id i. elim (eq_cases id flow) [
-        | inl e ↦ subst (λ n. slice_index new.parts.items n ≡ demand_of (flow_in s.slots n) (level_at levels n)) (sym e) (ap (λ ps. slice_index ps flow) m.part_is ∙ get_or-set_same old.parts.items flow part 0 below')
-        | inr ne ↦ elim (in_take id flows k less i) [ inl e ↦ absurd (ne e) | inr j ↦ other_part id ne ∙ are.parts id j ]
+        | inl e ↦ subst (λ n. slice_index new.parts.items n ≡ demand_of (flow_in s.slots n) (level_at levels n)) (sym e) m.part
+        | inr ne ↦ elim (in_take id flows k less i) [ inl e ↦ absurd (ne e) | inr j ↦ m.other_parts id ne ∙ are.parts id j ]
       ];
-      others = λ id off. let out = out_take id flows k less off in other_level id out.0 ∙ are.others id out.1;
-      other_parts = λ id off. let out = out_take id flows k less off in other_part id out.0 ∙ are.other_parts id out.1;
+      others = λ id off. let out = out_take id flows k less off in m.others id out.0 ∙ are.others id out.1;
+      other_parts = λ id off. let out = out_take id flows k less off in m.other_parts id out.0 ∙ are.other_parts id out.1;
       holds = m.holds ∙ are.holds;
       stale = m.stale ∙ are.stale;
     }
+
+-- what isn't stale has its part on the way
+pub given_parts : (s : Sharing) (flows : List ℕ) (levels : List (Option ℕ)) (first now : Levels) (id : ℕ) → AreParts s first first.stale.members → AreGiven s flows levels first now → IsSome (flow_at s.slots id) → is_in id now.stale.members ≡ false →
+    slice_index now.parts.items id ≡ demand_of (flow_in s.slots id) (level_at now.levels.items id)
+given_parts s flows levels first now id parts are held off = elim (bool_cases (is_in id flows)) [
+  | inl on ↦ are.parts id on ∙ ap (demand_of (flow_in s.slots id)) (sym (are.here id on))
+  | inr out ↦ are.other_parts id out ∙ parts id held (subst (λ (m : MarkSet). is_in id m.members ≡ false) are.stale off) ∙ ap (demand_of (flow_in s.slots id)) (sym (are.others id out))
+]
 
 -- ---- one resource more
 pub held_on : (resources : List ℕ) (holds : List (Option ℕ)) (k : ℕ) (first old new : Levels) → k < length resources → get_or resources k 0 < length old.holds.items →

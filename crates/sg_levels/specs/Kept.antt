@@ -1,5 +1,5 @@
 -- What a `Levels` keeps, and what a change and a look at a resource do to it.
-use Rattle.std.specs.Prelude.{◌≡◌, ℕ, ◌+◌, ◌-◌, ◌*◌, ◌^◌, ◌<◌, ◌≤◌, Bool, true, false, ◌||◌, is_none, Option, None, Some, IsTrue, IsSome, IfSome, List, [], All, length, sum_by, slice_index, slice_set}
+use Rattle.std.specs.Prelude.{◌≡◌, ◌≢◌, ℕ, ◌+◌, ◌-◌, ◌*◌, ◌^◌, ◌<◌, ◌≤◌, Bool, true, false, ◌||◌, is_none, Option, None, Some, IsTrue, IsSome, IfSome, List, [], All, length, sum_by, slice_index, slice_set}
 use Rattle.sg_base.specs.MarkSet.{is_in, with_mark}
 use Rattle.sg_chains.specs.Chained.{times, users_on}
 use Rattle.sg_maxmin.specs.Fill.{Flow, level_of, share_of}
@@ -235,6 +235,15 @@ WayBack =
 -- it is one of these, or that of no flow
 abbrev pub is_one_of : List ℕ → List (Option Flow) → ℕ → Bool
 is_one_of flows slots id = is_in id flows || is_none (flow_at slots id)
+
+-- the flow has this level, with its part, and no other level, no other part and no hold changes
+pub record IsGiven (s : Sharing) (old new : Levels) (flow : ℕ) (level : Option ℕ) : Type 0 where
+  pub here : level_at new.levels.items flow ≡ level
+  pub part : slice_index new.parts.items flow ≡ demand_of (flow_in s.slots flow) level
+  pub others : (id : ℕ) → id ≢ flow → level_at new.levels.items id ≡ level_at old.levels.items id
+  pub other_parts : (id : ℕ) → id ≢ flow → slice_index new.parts.items id ≡ slice_index old.parts.items id
+  pub holds : new.holds.items ≡ old.holds.items
+  pub stale : new.stale ≡ old.stale
 
 -- these flows have these levels, with their parts, and no other level, no other part and no hold changes
 pub record AreGiven (s : Sharing) (flows : List ℕ) (levels : List (Option ℕ)) (old new : Levels) : Type 0 where

@@ -30,21 +30,6 @@ fn allowed(known: u64, row: u64, ended: u64) -> u64
 }
 
 impl Allowance {
-    // Nothing is known yet, and no look was taken.
-    pub(crate) fn new(ended: u64) -> Allowance
-        ensures known { result.known ≡ 0 }
-        ensures row { result.row ≡ 0 }
-        ensures ended { result.ended ≡ ended }
-        ensures spent { result.spent ≡ 0 }
-    {
-        Allowance {
-            known: 0,
-            row: 0,
-            ended,
-            spent: 0,
-        }
-    }
-
     // So many flows are known.
     pub(crate) fn with_flows(self, flows: u64) -> Allowance
         ensures known { result.known ≡ max self.known flows }
@@ -54,9 +39,7 @@ impl Allowance {
     {
         Allowance {
             known: self.known.max(flows),
-            row: self.row,
-            ended: self.ended,
-            spent: self.spent,
+            ..self
         }
     }
 
@@ -95,8 +78,8 @@ impl Allowance {
         Allowance {
             known: self.known.max(users),
             row: self.row.max(users),
-            ended: self.ended,
             spent: self.spent + looks,
+            ..self
         }
     }
 }

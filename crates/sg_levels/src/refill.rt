@@ -1,14 +1,15 @@
 //! The way back of a settling: the levels and the holds that a filling found are written.
-ghost use Rattle.std.specs.Prelude.{◌≡◌, ◌≤◌, ◌<◌, ◌+◌, ℕ, [], false, All, IsSome, length, slice_set};
+ghost use Rattle.std.specs.Prelude.{◌≡◌, ◌≤◌, ◌<◌, ◌+◌, ℕ, [], false, All, IsSome, length, slice_set, slice_index};
 ghost use Rattle.sg_base.specs.MarkSet.{is_in};
-ghost use Rattle.sg_maxmin.specs.Sharing.{IsSound, flow_at};
+ghost use Rattle.sg_maxmin.specs.Sharing.{IsSound, flow_at, uses_at};
+ghost use Rattle.sg_levels.specs.Demand.{demand_of};
 ghost use Rattle.sg_levels.specs.Held.{AreFilled};
-ghost use Rattle.sg_levels.specs.Kept.{AreGiven, AreHeldAt, FlowsStayWithin, IsBetween, IsFound, IsKept, IsWithin, KeepsFlows, NotesMoved, PassAlong, is_one_of};
-ghost use Rattle.sg_levels.specs.Numbered.{all_uses, level_at};
+ghost use Rattle.sg_levels.specs.Kept.{AreGiven, AreHeldAt, AreParts, FlowStaysWithin, FlowsStayWithin, IsBetween, IsFound, IsGiven, IsKept, IsWithin, KeepsFlows, NotesMoved, PassAlong, is_one_of};
+ghost use Rattle.sg_levels.specs.Numbered.{all_uses, flow_in, level_at};
 ghost use Rattle.sg_levels.specs.Settling.{is_active};
 
 use crate::levels::Levels;
-use crate::settling::move_flow;
+use crate::settling::{is_same, move_flow};
 use sg_base::Steps;
 use sg_maxmin::System;
 use std::sync::ledger::Ledger;
@@ -31,7 +32,31 @@ fn under(list: &[Option<u64>], number: usize) -> Option<u64>
     list[number]
 }
 
-// Each of these flows has the level that was found.
+// A flow has the level that was found. Where it has it already nothing is looked at.
+fn give<L: Ledger>(
+    system: &System,
+    flow: usize,
+    level: Option<u64>,
+    kept: &mut Levels,
+    steps: &mut Steps<L>,
+)
+    requires sound { IsSound system.now }
+    requires held { IsSome (flow_at system.now.slots flow) }
+    requires kept { IsKept system.now kept.old }
+    requires part { is_in flow kept.old.stale.members ≡ false → slice_index kept.old.parts.items flow
+        ≡ demand_of (flow_in system.now.slots flow) (level_at kept.old.levels.items flow) }
+    ensures given { IsGiven system.now kept.old kept.new flow level }
+    ensures kept { IsKept system.now kept.new }
+    ensures moved { NotesMoved kept.old kept.new }
+    ensures within { FlowStaysWithin system.now flow kept.old kept.new }
+    ensures looks { steps.new ≤ steps.old + length (uses_at system.now.slots flow) }
+{
+    if kept.stale.contains(flow) || !is_same(kept.level(flow), level) {
+        move_flow(system, flow, level, kept, steps);
+    }
+}
+
+// The same of each of these flows.
 fn give_all<L: Ledger>(
     system: &System,
     flows: &[usize],
@@ -43,14 +68,15 @@ fn give_all<L: Ledger>(
     requires held { All (λ id. IsSome (flow_at system.now.slots id)) flows.now }
     requires places { length system.now.slots ≤ length levels.now }
     requires kept { IsKept system.now kept.old }
+    requires parts { AreParts system.now kept.old kept.old.stale.members }
     ensures given { AreGiven system.now flows.now levels.now kept.old kept.new }
     ensures kept { IsKept system.now kept.new }
     ensures moved { NotesMoved kept.old kept.new }
     ensures within { FlowsStayWithin system.now flows.now kept.old kept.new }
-    ensures looks { steps.new ≡ steps.old + all_uses system.now.slots flows.now }
+    ensures looks { steps.new ≤ steps.old + all_uses system.now.slots flows.now }
 {
     for flow in flows {
-        move_flow(system, *flow, under(levels, *flow), kept, steps);
+        give(system, *flow, under(levels, *flow), kept, steps);
     }
 }
 
@@ -76,7 +102,7 @@ fn put_holds(resources: &[usize], holds: &[Option<u64>], kept: &mut Levels)
 
 impl Levels {
     /// Writes what a filling of some flows and resources found, where all that is active, or whose bounds changed, is
-    /// among them and sharing joins none to others. Each use of the flows is looked at.
+    /// among them and sharing joins none to others. Each use of the flows is looked at once at most.
     pub fn refill<L: Ledger>(&mut self, system: &System, filled: Filled<'_>, steps: &mut Steps<L>)
         requires between { IsBetween system.now self.old }
         requires joined { PassAlong system.now (λ id. is_in id filled.flows.now)
@@ -92,7 +118,7 @@ impl Levels {
         ensures moved { NotesMoved self.old self.new }
         ensures within { FlowsStayWithin system.now filled.entry.flows.now self.old self.new }
         ensures looks { steps.new
-            ≡ steps.old + all_uses system.now.slots filled.entry.flows.now }
+            ≤ steps.old + all_uses system.now.slots filled.entry.flows.now }
     {
         system.is_sound();
         give_all(system, filled.flows, filled.levels, self, steps);

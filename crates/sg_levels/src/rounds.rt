@@ -280,7 +280,12 @@ impl Levels {
             .members()
             .len()
             .saturating_sub(self.stale.members().len());
-        let mut given = Allowance::new(ended as u64);
+        let mut given = Allowance {
+            known: 0,
+            row: 0,
+            ended: ended as u64,
+            spent: 0,
+        };
         for _round in 0..u64::MAX {
             let Some(resource) = self.least_active(system) else {
                 return true;

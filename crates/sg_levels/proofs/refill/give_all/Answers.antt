@@ -1,14 +1,12 @@
-use Rattle.std.proofs.Common.{◌≡◌, true, false, IsSome, length, get_or, refl, ap, subst, arith}
+use Rattle.std.proofs.Common.{◌≡◌, true, false, IsSome, length, get_or, take, refl, ap, subst, arith}
 use Rattle.std.proofs.lemmas.List.Elements.{All-get_or}
 use Rattle.sg_maxmin.specs.Sharing.{flow_at, uses_at}
-use Rattle.sg_levels.specs.Numbered.{all_uses, level_at}
-use Rattle.sg_levels.specs.Kept.{AreGiven, IsMoved}
+use Rattle.sg_levels.specs.Numbered.{all_uses}
+use Rattle.sg_levels.specs.Kept.{AreGiven, IsGiven}
 use Rattle.sg_levels.proofs.Listed.{in_at, part_next, take_all}
 use Rattle.sg_levels.proofs.Noted.{noted_none, noted_on}
 use Rattle.sg_levels.proofs.Users.{held_below}
-use Rattle.sg_levels.proofs.Moving.{moved_notes}
-use Rattle.sg_levels.proofs.Within.{moved_within}
-use Rattle.sg_levels.proofs.Refilling.{given_on}
+use Rattle.sg_levels.proofs.Refilling.{given_on, given_parts}
 use Rattle.sg_levels.proofs.refill.give_all.Goals as goal
 
 pub loop-flow-init : goal.loop-flow-init
@@ -29,8 +27,16 @@ under-requires g c =
     let held = All-get_or (λ id. IsSome (flow_at s.slots id)) c.args.flows.now c.loop-flow.flow-index 0 c.loop-flow-test.true c.requires.held in
     omega (arith, held_below s.slots (get_or c.args.flows.now c.loop-flow.flow-index 0) held, c.requires.places)
 
-pub move_flow-requires-clause-held : goal.move_flow-requires-clause-held
-move_flow-requires-clause-held g c = All-get_or (λ id. IsSome (flow_at c.args.system.now.slots id)) c.args.flows.now c.loop-flow.flow-index 0 c.loop-flow-test.true c.requires.held
+pub give-requires-clause-held : goal.give-requires-clause-held
+give-requires-clause-held g c = All-get_or (λ id. IsSome (flow_at c.args.system.now.slots id)) c.args.flows.now c.loop-flow.flow-index 0 c.loop-flow-test.true c.requires.held
+
+pub give-requires-clause-part : goal.give-requires-clause-part
+give-requires-clause-part g c = λ off.
+    let s = c.args.system.now in
+    let flows = c.args.flows.now in
+    let k = c.loop-flow.flow-index in
+    let held = All-get_or (λ id. IsSome (flow_at s.slots id)) flows k 0 c.loop-flow-test.true c.requires.held in
+    given_parts s (take k flows) c.args.levels.now c.args.kept.now c.loop-flow.kept (get_or flows k 0) c.requires.parts c.loop-flow.invariant.given held off
 
 pub loop-flow-preserved : goal.loop-flow-preserved
 loop-flow-preserved g c =
@@ -43,16 +49,14 @@ loop-flow-preserved g c =
     let inv = c.loop-flow.invariant in
     let first = c.args.kept.now in
     let before = c.loop-flow.kept in
-    let after = c.move_flow.new.kept in
-    let held = All-get_or (λ id. IsSome (flow_at s.slots id)) flows k 0 less c.requires.held in
-    let below = held_below s.slots id held in
-    let moved = subst (IsMoved s before after id) c.under.ensures c.move_flow.ensures.moved in
+    let after = c.give.new.kept in
+    let out = c.give.ensures in
     record {
-      given = given_on s flows levels k first before after less (omega (arith, below, inv.kept.places.levels)) (omega (arith, below, inv.kept.places.parts)) moved inv.given;
-      kept = c.move_flow.ensures.kept;
-      moved = noted_on first.moved before.moved after.moved first.levels.items before.levels.items after.levels.items inv.moved (moved_notes s before after id (level_at levels id) moved);
-      within = λ p q along each are. moved_within s before after id (level_at levels id) moved c.move_flow.ensures.only p q along (each id (in_at id flows k less refl)) (inv.within p q along each are);
-      looks = omega (arith, inv.looks, c.move_flow.ensures.looks, part_next (λ n. length (uses_at s.slots n)) flows k less);
+      given = given_on s flows levels k first before after less (subst (IsGiven s before after id) c.under.ensures out.given) inv.given;
+      kept = out.kept;
+      moved = noted_on first.moved before.moved after.moved first.levels.items before.levels.items after.levels.items inv.moved out.moved;
+      within = λ p q along each are. out.within p q along (each id (in_at id flows k less refl)) (inv.within p q along each are);
+      looks = omega (arith, inv.looks, out.looks, part_next (λ n. length (uses_at s.slots n)) flows k less);
     }
 
 pub returns-clause-given : goal.returns-clause-given

@@ -1,4 +1,4 @@
-use Rattle.std.proofs.Common.{◌≡◌, ◌+◌, take}
+use Rattle.std.proofs.Common.{◌≤◌, ◌+◌, take}
 use Rattle.sg_levels.specs.Numbered.{all_uses}
 use Rattle.sg_levels.specs.Kept.{AreGiven, FlowsStayWithin, IsKept, NotesMoved}
 use Rattle.sg_levels.proofs.refill.give_all.Given as goal
@@ -9,5 +9,5 @@ invariant-loop-flow g l = record {
   kept : IsKept l.system l.kept;
   moved : NotesMoved l.fn.kept l.kept;
   within : FlowsStayWithin l.system l.flows l.fn.kept l.kept;
-  looks : l.steps ≡ l.fn.steps + all_uses l.system.slots (take l.flow-index l.flows);
+  looks : l.steps ≤ l.fn.steps + all_uses l.system.slots (take l.flow-index l.flows);
 }
