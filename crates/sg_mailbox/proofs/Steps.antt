@@ -8,6 +8,7 @@ use Rattle.std.proofs.lemmas.List.{get_or-map, get_or-set_same, get_or-set_other
 use Rattle.std.proofs.lemmas.List.Elements.{All-nil, All-map}
 use Rattle.sg_base.specs.declared.ids.BoxId.{BoxId}
 use Rattle.sg_base.specs.declared.ids.Serial.{Serial}
+use Rattle.sg_serials.specs.Serials as serials
 use Rattle.sg_mailbox.specs.declared.sides.Side.{Side}
 use Rattle.sg_queues.specs.Rings.{queue_at, front, behind}
 use Rattle.sg_queues.specs.Queues.{value, values_of, queued, let_go, without_slot}
@@ -49,7 +50,7 @@ unknown more may kept serial was above = go (place kept serial.0) refl (was.plac
         absurd (omega (arith, one.2, one.3))
 
 -- the maps and the queues grow
-pub grown : (old new : Kept) → IsKept old → ((m : BoxId) → number new m ≡ number old m) → hash_map_len new.numbers ≡ hash_map_len old.numbers → spare old.numbers ≤ spare new.numbers → ((s : ℕ) → place new s ≡ place old s) → spare old.places ≤ spare new.places
+pub grown : (old new : Kept) → IsKept old → ((m : BoxId) → number new m ≡ number old m) → hash_map_len new.numbers ≡ hash_map_len old.numbers → spare old.numbers ≤ spare new.numbers → ((s : ℕ) → place new s ≡ place old s) → serials.room old.places ≤ serials.room new.places
     → new.queues.queues ≡ old.queues.queues → old.queues.room ≤ new.queues.room → new.empty ≡ old.empty → new.room ≡ old.room → IsKept new
 grown old new was numbers count numbers_fit places places_fit queues queues_fit empty room =
     let items : new.empty.items ≡ old.empty.items = ap (λ v. v.items) empty in

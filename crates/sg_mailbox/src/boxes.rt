@@ -7,6 +7,7 @@ use crate::kept::{Kept, enter, look, reserve, withdraw};
 use crate::sides::{Found, Meeting, Post, Side};
 use sg_base::{ActorId, BoxId, Memory, Msg, Serial};
 use sg_queues::Queues;
+use sg_serials::BySerial;
 use std::alloc::Global;
 use std::collections::HashMap;
 use std::marker::Model;
@@ -61,7 +62,7 @@ impl Boxes {
                 numbers: HashMap::new(alloc),
                 queues: Queues::new(alloc, BLANK)?,
                 empty: Vec::new(alloc),
-                places: HashMap::new(alloc),
+                places: BySerial::new(alloc),
                 room: 0,
             },
         })

@@ -2,6 +2,7 @@
 ghost use Rattle.std.specs.Prelude.{◌≡◌, ◌+◌, ◌-◌, ◌<◌, ◌≤◌, [], ◌∷◌, ◌++◌, None, Some, OnOk, All, length, vec_len, vec_capacity};
 ghost use Rattle.std.specs.HashMap.{spare};
 ghost use Rattle.sg_base.specs.declared.ids.BoxId.{BoxId};
+ghost use Rattle.sg_serials.specs.Serials as serials;
 ghost use Rattle.sg_mailbox.specs.declared.sides.Post.{Post as PostSpec};
 ghost use Rattle.sg_mailbox.specs.Posts.{meets, arrives, meeting, waiting, withdrawn, AllStay, AreBelow, AreRising, IsFound, OthersStay};
 ghost use Rattle.sg_mailbox.specs.kept.Queues.{number, posts_of, IsKept, IsKeptBut};
@@ -9,6 +10,7 @@ ghost use Rattle.sg_mailbox.specs.kept.Queues.{number, posts_of, IsKept, IsKeptB
 use crate::sides::{Found, Meeting, Place, Post, Side};
 use sg_base::{BoxId, Memory, Serial};
 use sg_queues::Queues;
+use sg_serials::BySerial;
 use std::collections::HashMap;
 
 /// The fields of the mailboxes.
@@ -20,7 +22,7 @@ pub(crate) struct Kept {
     /// The queues that are no mailbox's.
     pub(crate) empty: Vec<usize>,
     /// Where the side of each serial waits.
-    pub(crate) places: HashMap<u64, Place>,
+    pub(crate) places: BySerial<Place>,
     /// Room for so many sides that come.
     pub(crate) room: usize,
 }
@@ -40,7 +42,7 @@ fn push(items: &mut Vec<usize>, item: usize)
 fn grow(kept: &mut Kept, n: usize) -> Result<(), Memory>
     requires kept { IsKept kept.old }
     ensures numbers { OnOk result (n ≤ spare kept.new.numbers) }
-    ensures places { OnOk result (n ≤ spare kept.new.places) }
+    ensures places { OnOk result (n ≤ serials.room kept.new.places) }
     ensures queues { OnOk result (n ≤ kept.new.queues.room) }
     ensures same { AllStay (posts_of kept.old) (posts_of kept.new) }
     ensures room { kept.new.room ≡ kept.old.room }
@@ -165,10 +167,7 @@ fn put(kept: &mut Kept, mailbox: BoxId, queue: usize, post: Post)
         queue,
         slot,
     };
-    match kept.places.insert(post.serial.0, place) {
-        Ok(_) => {}
-        Err(_) => unreachable!(),
-    }
+    kept.places.insert(post.serial.0, place);
     kept.room -= 1;
 }
 
@@ -194,7 +193,7 @@ pub(crate) fn withdraw(kept: &mut Kept, serial: Serial)
     ensures room { kept.new.room ≡ kept.old.room }
     ensures kept { IsKept kept.new }
 {
-    if let Some(place) = kept.places.remove(&serial.0) {
+    if let Some(place) = kept.places.remove(serial.0) {
         kept.queues.remove(place.slot);
         close(kept, place.mailbox, place.queue);
     }

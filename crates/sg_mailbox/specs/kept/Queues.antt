@@ -1,7 +1,8 @@
 -- How the queues of mailboxes are kept: by number, and where each side waits by its serial.
-use Rattle.std.specs.Prelude.{◌≡◌, ◌≢◌, ℕ, ◌+◌, ◌<◌, ◌≤◌, ◌==◌, Bool, true, false, Option, None, Some, IfSome, List, [], length, map, All, AllPairs, nat_eq, vec_capacity}
+use Rattle.std.specs.Prelude.{◌≡◌, ◌≢◌, ℕ, ◌+◌, ◌<◌, ◌≤◌, ◌==◌, Bool, true, false, Option, None, Some, IfSome, List, [], length, map, All, AllPairs, vec_capacity}
 use Rattle.std.specs.HashMap.{get, spare, hash_map_len}
 use Rattle.sg_base.specs.declared.ids.BoxId.{BoxId}
+use Rattle.sg_serials.specs.Serials as serials
 use Rattle.sg_queues.specs.Rings.{queue_at}
 use Rattle.sg_queues.specs.Queues.{holds, value, values_of, AreSlots}
 use Rattle.sg_mailbox.specs.declared.sides.Post.{Post}
@@ -15,7 +16,7 @@ number kept mailbox = get box_eq kept.numbers mailbox
 
 -- where the side of a serial waits
 abbrev pub place : Kept → ℕ → Option Place
-place kept serial = get nat_eq kept.places serial
+place kept serial = serials.at kept.places serial
 
 abbrev pub posts_of : Kept → Posts
 posts_of kept = record { numbers = kept.numbers.entries; queues = values_of kept.queues.queues; room = kept.room }
@@ -54,7 +55,7 @@ AreOrdered posts = AllPairs (λ (first later : Post). (first.sends ≡ later.sen
 pub record HasRoom (more : ℕ) (kept : Kept) : Type 0 where
   pub numbers : more ≤ spare kept.numbers
   pub empty : more ≤ length kept.empty.items
-  pub places : kept.room ≤ spare kept.places
+  pub places : kept.room ≤ serials.room kept.places
   pub queues : kept.room ≤ kept.queues.room
   pub stack : length kept.empty.items + hash_map_len kept.numbers ≤ vec_capacity kept.empty
 

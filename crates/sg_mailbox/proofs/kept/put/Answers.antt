@@ -1,6 +1,6 @@
-use Rattle.std.proofs.Common.{◌≡◌, ◌≢◌, ℕ, ◌-◌, ◌<◌, ◌∷◌, ◌++◌, [], List, nat_eq, inl, inr, Some, length, set, ap, sym, subst, ◌∙◌, arith}
+use Rattle.std.proofs.Common.{◌≡◌, ◌≢◌, ℕ, ◌-◌, ◌<◌, ◌∷◌, ◌++◌, [], List, inl, inr, Some, length, set, ap, sym, subst, ◌∙◌, arith}
 use Rattle.std.specs.Prelude.{map, All}
-use Rattle.std.specs.HashMap.{get}
+use Rattle.sg_serials.specs.Serials as serials
 use Rattle.std.proofs.lemmas.Bool.{cases_eq}
 use Rattle.std.proofs.lemmas.List.{length-set, get_or-set_same, get_or-set_other, length-append, map-append}
 use Rattle.std.proofs.lemmas.List.Quantifiers.{all_pairs_push}
@@ -46,14 +46,14 @@ returns-clause-kept c =
       roomy = record {
         numbers = was.roomy.numbers;
         empty = was.roomy.empty;
-        places = omega (arith, was.roomy.places, c.insert.ensures.spare);
+        places = omega (arith, was.roomy.places, c.insert.ensures.room);
         queues = omega (arith, was.roomy.queues, c.push_back-slot.ensures.room);
         stack = was.roomy.stack;
       };
       numbered = rw c.push_back-slot.ensures.queues
           (numbered_as (number old) (number old) old.empty.items queues (set queues queue longer) (λ m q is. is) (omega (arith, length-set queues queue longer)) (λ q free. apart q (λ e. free.nobodys c.args.mailbox (c.requires.queue ∙ ap (λ n. Some n) (sym e))) ∙ free.none) was.numbered);
       placed = rw c.push_back-slot.ensures.queues
-          (placed_put (number old) (place old) (get nat_eq c.insert.new.self) queues at c.args.post c.requires.queue below (unknown (old.room - 1) (λ other. other ≡ c.args.mailbox) old c.args.post.serial was c.requires.above) c.push_back-slot.ensures.fresh c.in-Ok.ensures.updates.0 was.placed);
+          (placed_put (number old) (place old) (serials.at c.insert.new.self) queues at c.args.post c.requires.queue below (unknown (old.room - 1) (λ other. other ≡ c.args.mailbox) old c.args.post.serial was c.requires.above) c.push_back-slot.ensures.fresh c.insert.ensures.puts was.placed);
       slots = c.push_back-slot.ensures.slots;
       ordered = λ q. rw c.push_back-slot.ensures.queues (elim (cases_eq q queue) [
         | inl same ↦ rw (same, here, map-append)

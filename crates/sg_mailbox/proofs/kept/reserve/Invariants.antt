@@ -1,5 +1,6 @@
 use Rattle.std.proofs.Common.{◌≡◌, ◌-◌, ◌≤◌, ℕ, length}
 use Rattle.std.specs.HashMap.{spare}
+use Rattle.sg_serials.specs.Serials as serials
 use Rattle.sg_base.specs.declared.ids.BoxId.{BoxId}
 use Rattle.sg_mailbox.specs.declared.kept.Kept.{Kept}
 use Rattle.sg_mailbox.specs.Posts.{waiting}
@@ -12,7 +13,7 @@ pub record IsGrown (old new : Kept) (more : ℕ) : Type 0 where
   pub same : (mailbox : BoxId) → waiting (posts_of new) mailbox ≡ waiting (posts_of old) mailbox
   pub room : new.room ≡ old.room
   pub numbers : more ≤ spare new.numbers
-  pub places : more ≤ spare new.places
+  pub places : more ≤ serials.room new.places
   pub queues : more ≤ new.queues.room
 
 abbrev pub invariant-loop-kept : goal.invariant-loop-kept

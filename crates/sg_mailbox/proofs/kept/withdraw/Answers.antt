@@ -1,6 +1,6 @@
-use Rattle.std.proofs.Common.{◌≡◌, ◌≢◌, ℕ, ◌<◌, not, eqb, [], List, nat_eq, inl, inr, None, Some, ap, sym, ◌∙◌, arith}
+use Rattle.std.proofs.Common.{◌≡◌, ◌≢◌, ℕ, ◌<◌, not, eqb, [], List, inl, inr, None, Some, ap, sym, ◌∙◌, arith}
 use Rattle.std.specs.Prelude.{map, All}
-use Rattle.std.specs.HashMap.{get}
+use Rattle.sg_serials.specs.Serials as serials
 use Rattle.std.proofs.lemmas.Bool.{cases_eq}
 use Rattle.std.proofs.lemmas.List.{length-map}
 use Rattle.std.proofs.lemmas.List.Kept.{AllPairs-filter}
@@ -22,7 +22,7 @@ close-requires-clause-kept c =
     let was = c.requires.kept in
     let gone = c.in-Some.place in
     let queues : List (List (ℕ × Post)) = old.queues.queues in
-    let is : place old c.args.serial.0 ≡ Some gone = sym c.remove.ensures.value ∙ c.in-Some.is in
+    let is : place old c.args.serial.0 ≡ Some gone = sym c.remove.ensures.was ∙ c.in-Some.is in
     let held : IsPlace (number old) queues gone = rw is at (was.placed.held c.args.serial.0) in
     let at : (q : ℕ) → queue_at (let_go gone.slot queues) q ≡ without_slot gone.slot (queue_at queues q) = λ q. map_at (without_slot gone.slot) [] queues q in
     let posts : (q : ℕ) → map value (without_slot gone.slot (queue_at queues q)) ≡ withdrawn c.args.serial (map value (queue_at queues q)) =
@@ -31,13 +31,13 @@ close-requires-clause-kept c =
       roomy = record {
         numbers = was.roomy.numbers;
         empty = was.roomy.empty;
-        places = omega (arith, was.roomy.places, c.remove.ensures.spare);
+        places = omega (arith, was.roomy.places, c.remove.ensures.room);
         queues = omega (arith, was.roomy.queues, c.remove-in-Some.ensures.room);
         stack = was.roomy.stack;
       };
       numbered = rw c.remove-in-Some.ensures.queues
           (numbered_as (number old) (number old) old.empty.items queues (let_go gone.slot queues) (λ m q is. is) (omega (arith, length-map queues (without_slot gone.slot))) (λ q free. at q ∙ ap (without_slot gone.slot) free.none) was.numbered);
-      placed = rw c.remove-in-Some.ensures.queues (placed_taken (number old) (place old) (get nat_eq c.remove.new.self) queues c.args.serial.0 gone was.placed is c.remove.ensures.updates.0);
+      placed = rw c.remove-in-Some.ensures.queues (placed_taken (number old) (place old) (serials.at c.remove.new.self) queues c.args.serial.0 gone was.placed is c.remove.ensures.puts);
       slots = c.remove-in-Some.ensures.slots;
       ordered = λ q. rw (c.remove-in-Some.ensures.queues, at q, posts q) (AllPairs-filter (λ (first later : Post). (first.sends ≡ later.sends) × (first.serial.0 < later.serial.0)) (λ (post : Post). not (eqb post.serial.0 c.args.serial.0)) (map value (queue_at queues q)) (was.ordered q));
       filled = λ m q has none. elim (cases_eq q gone.queue) [
@@ -53,7 +53,7 @@ returns-in-Some-clause-left c = λ mailbox.
     let old = c.args.kept.now in
     let gone = c.in-Some.place in
     let queues : List (List (ℕ × Post)) = old.queues.queues in
-    let is : place old c.args.serial.0 ≡ Some gone = sym c.remove.ensures.value ∙ c.in-Some.is in
+    let is : place old c.args.serial.0 ≡ Some gone = sym c.remove.ensures.was ∙ c.in-Some.is in
     c.close.ensures.same mailbox
     ∙ ap (λ l. posts_in (values_of l) (number old mailbox)) c.remove-in-Some.ensures.queues
     ∙ taken_in queues gone.slot c.args.serial (posts_left (number old) (place old) queues c.args.serial gone c.requires.kept.placed is) (number old mailbox)
@@ -61,5 +61,5 @@ returns-in-Some-clause-left c = λ mailbox.
 pub returns-in_default-clause-left : goal.returns-in_default-clause-left
 returns-in_default-clause-left c = λ mailbox.
     let old = c.args.kept.now in
-    let none : place old c.args.serial.0 ≡ None = sym c.remove.ensures.value ∙ c.in_default.is in
+    let none : place old c.args.serial.0 ≡ None = sym c.remove.ensures.was ∙ c.in_default.is in
     sym (without_none (λ (post : Post). post.serial.0) c.args.serial.0 (waiting (posts_of old) mailbox) (unplaced old c.args.serial c.requires.kept none mailbox))
