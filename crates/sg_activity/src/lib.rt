@@ -1,7 +1,8 @@
 //! Activities under way: executions, sleeps and communications, what is left of each, and when the next phase is over.
 //! One enters by `Activities`: `start_exec`, `start_timer` and `start_comm` begin one, `settle` brings the rates up to
 //! date, `next_date` and `advance_to` move the date, `due` and `finish` end a phase.
-//! It stands on `sg_lazy` for rates, `sg_heap` for dates, `sg_energy` for powers, and what is below these.
+//! It stands on `sg_lazy` for rates, `sg_heap` for dates, `sg_energy` for powers, `sg_serials` for who is under a serial, and
+//! what is below these.
 #![tactic(auto)]
 
 mod activities;

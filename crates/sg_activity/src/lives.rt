@@ -8,8 +8,8 @@ ghost use Rattle.sg_activity.specs.Task.{flows_ahead as flows_ahead_spec};
 
 use crate::kinds::PhaseKind;
 use sg_base::{Memory, Serial};
+use sg_serials::BySerial;
 use std::alloc::Global;
-use std::collections::HashMap;
 use std::marker::Model;
 
 /// An activity under way, as it was at a stamp.
@@ -107,7 +107,7 @@ pub(crate) struct Lives {
     // the keys without an activity; the last one is given next
     free: Vec<usize>,
     // by serial the key of its activity
-    by_serial: HashMap<u64, usize>,
+    by_serial: BySerial<usize>,
     // how many go on
     going: usize,
     // room for so many more
@@ -119,8 +119,8 @@ impl Model for Lives {
 
     ghost Value = { Pool };
 
-    ghost use Rattle.std.specs.Prelude.{length, nat_eq, vec_capacity};
-    ghost use Rattle.std.specs.HashMap as hash;
+    ghost use Rattle.std.specs.Prelude.{length, vec_capacity};
+    ghost use Rattle.sg_serials.specs.Serials as serials;
     ghost use Rattle.sg_activity.specs.kept.Pool.{IsLives};
 
     ghost view = { λ s. record {
@@ -130,7 +130,7 @@ impl Model for Lives {
     } };
 
     ghost invariant = { λ s. IsLives s.slots.items s.free.items (vec_capacity s.free)
-        (hash.get nat_eq s.by_serial) (hash.spare s.by_serial) s.going s.room };
+        (serials.at s.by_serial) (serials.room s.by_serial) s.going s.room };
 }
 
 impl Lives {
@@ -142,7 +142,7 @@ impl Lives {
         Lives {
             slots: Vec::new(alloc),
             free: Vec::new(alloc),
-            by_serial: HashMap::new(alloc),
+            by_serial: BySerial::new(alloc),
             going: 0,
             room: 0,
         }
@@ -175,7 +175,7 @@ impl Lives {
         ensures { MatchOption result (IsMissing self.now.slots serial.0)
             (λ found. IsFound self.now.slots serial.0 found.0 found.1) }
     {
-        let Some(key) = self.by_serial.get(&serial.0).copied() else {
+        let Some(key) = self.by_serial.get(serial.0) else {
             return None;
         };
         let Some(live) = self.slots[key] else {
@@ -196,10 +196,7 @@ impl Lives {
         let Some(key) = self.free.pop() else {
             unreachable!()
         };
-        match self.by_serial.insert(live.serial, key) {
-            Ok(_) => {}
-            Err(_) => unreachable!(),
-        }
+        self.by_serial.insert(live.serial, key);
         self.slots[key] = Some(live);
         self.going += going_by(live.kind);
         self.room -= 1;
@@ -229,7 +226,7 @@ impl Lives {
         let Some(old) = self.slots[key] else {
             unreachable!()
         };
-        self.by_serial.remove(&old.serial);
+        self.by_serial.remove(old.serial);
         self.slots[key] = None;
         self.free.push_reserved(key);
         self.going -= going_by(old.kind);

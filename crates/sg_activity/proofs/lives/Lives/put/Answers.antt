@@ -1,5 +1,5 @@
-use Rattle.std.proofs.Common.{◌≡◌, ◌++◌, [], ◌∷◌, ℕ, cond, nat_eq, Option, None, Some, get_or, ◌<◌, ◌+◌, length, subst, sym, ap, ◌∙◌, arith}
-use Rattle.std.specs.HashMap as hash
+use Rattle.std.proofs.Common.{◌≡◌, ◌++◌, [], ◌∷◌, ℕ, cond, Option, None, Some, get_or, ◌<◌, ◌+◌, length, subst, sym, ap, ◌∙◌, arith}
+use Rattle.sg_serials.specs.Serials as serials
 use Rattle.std.specs.Prelude.{vec_capacity}
 use Rattle.std.specs.Option.{option_to_list}
 use Rattle.std.proofs.lemmas.List.{length-append}
@@ -24,13 +24,13 @@ invariant_of-self c =
     let within : key < length slots = subst (λ n. n < length slots) (at 0) (taken.below (length c.pop.new.self.items) 0 last) in
     let free : slot_at slots key ≡ None = subst (λ n. slot_at slots n ≡ None) (at 0) (taken.idle (length c.pop.new.self.items) 0 last) in
     let missing : IsMissing slots live.serial = subst (λ (p : Pool). IsMissing p.slots live.serial) (sym c.self.view_is) c.requires.apart in
-    let f : ℕ → Option ℕ = hash.get nat_eq s.by_serial in
-    let g : ℕ → Option ℕ = hash.get nat_eq c.insert.new.self in
-    let up = c.in-Ok.ensures.updates in
+    let f : ℕ → Option ℕ = serials.at s.by_serial in
+    let g : ℕ → Option ℕ = serials.at c.insert.new.self in
+    let up = c.insert.ensures.puts in
     record {
       pool = given slots s.free.items c.pop.new.self.items key live (vec_capacity c.pop.new.self) (subst (IsPool slots s.free.items) (sym c.pop.ensures.capacity) taken) rest;
-      keyed = found_put slots f key c.self.invariant.keyed within g live missing free (up.0 live.serial ∙ ap (λ b. cond b (Some key) (f live.serial)) (agrees live.serial)) (λ j ne. up.0 j ∙ ap (λ b. cond b (Some key) (f j)) (differs live.serial j ne));
+      keyed = found_put slots f key c.self.invariant.keyed within g live missing free (up live.serial ∙ ap (λ b. cond b (Some key) (f live.serial)) (agrees live.serial)) (λ j ne. up j ∙ ap (λ b. cond b (Some key) (f j)) (differs live.serial j ne));
       goes = omega (arith, c.self.invariant.goes, c.going_by.ensures, counts_set slots key (Some live) within, ap {B = ℕ} (λ o. cond (passes goes_on o) 1 0) free);
       free_room = omega (arith, c.self.invariant.free_room, few);
-      spare_room = omega (arith, c.self.invariant.spare_room, c.insert.ensures.spare);
+      spare_room = omega (arith, c.self.invariant.spare_room, c.insert.ensures.room);
     }

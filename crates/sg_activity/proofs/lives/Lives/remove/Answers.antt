@@ -1,5 +1,5 @@
-use Rattle.std.proofs.Common.{◌≡◌, ◌<◌, ◌++◌, [], ◌∷◌, ℕ, cond, nat_eq, IsSome, Option, None, Some, length, set, subst, sym, ap, ◌∙◌, arith}
-use Rattle.std.specs.HashMap as hash
+use Rattle.std.proofs.Common.{◌≡◌, ◌<◌, ◌++◌, [], ◌∷◌, ℕ, cond, IsSome, Option, None, Some, length, set, subst, sym, ap, ◌∙◌, arith}
+use Rattle.sg_serials.specs.Serials as serials
 use Rattle.std.specs.Prelude.{vec_capacity}
 use Rattle.std.proofs.lemmas.List.{get_or_default, length-append}
 use Rattle.sg_activity.specs.Slots.{passes}
@@ -18,14 +18,14 @@ invariant_of-self c =
     let within : key < length slots = within_there slots key there in
     let at : slot_at slots key ≡ Some old = sym (c.index.ensures ∙ get_or_default slots _ _ _ within) ∙ c.in-Some.is in
     let back = given_back slots s.free.items key (vec_capacity s.free) c.self.invariant.pool within there in
-    let f : ℕ → Option ℕ = hash.get nat_eq s.by_serial in
-    let g : ℕ → Option ℕ = hash.get nat_eq c.remove.new.self in
-    let up = c.remove.ensures.updates in
+    let f : ℕ → Option ℕ = serials.at s.by_serial in
+    let g : ℕ → Option ℕ = serials.at c.remove.new.self in
+    let up = c.remove.ensures.puts in
     record {
       pool = subst (λ l. IsPool (set slots key None) l (vec_capacity c.push_reserved.new.self)) (sym c.push_reserved.ensures.items)
           (subst (IsPool (set slots key None) (s.free.items ++ key ∷ [])) (sym c.push_reserved.ensures.capacity) back);
-      keyed = found_gone slots f key c.self.invariant.keyed within g old at (up.0 old.serial ∙ ap (λ b. cond b None (f old.serial)) (agrees old.serial)) (λ j ne. up.0 j ∙ ap (λ b. cond b None (f j)) (differs old.serial j ne));
+      keyed = found_gone slots f key c.self.invariant.keyed within g old at (up old.serial ∙ ap (λ b. cond b None (f old.serial)) (agrees old.serial)) (λ j ne. up j ∙ ap (λ b. cond b None (f j)) (differs old.serial j ne));
       goes = omega (arith, c.self.invariant.goes, c.going_by.ensures, counts_set slots key None within, ap {B = ℕ} (λ o. cond (passes goes_on o) 1 0) at);
       free_room = omega (arith, c.self.invariant.free_room, ap length c.push_reserved.ensures.items, length-append s.free.items (key ∷ []));
-      spare_room = omega (arith, c.self.invariant.spare_room, c.remove.ensures.spare);
+      spare_room = omega (arith, c.self.invariant.spare_room, c.remove.ensures.room);
     }

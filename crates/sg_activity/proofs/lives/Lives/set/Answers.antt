@@ -1,5 +1,5 @@
-use Rattle.std.proofs.Common.{◌≡◌, ◌<◌, ℕ, cond, is_some, nat_eq, IsSome, None, Some, length, subst, sym, ap, ◌∙◌, arith}
-use Rattle.std.specs.HashMap as hash
+use Rattle.std.proofs.Common.{◌≡◌, ◌<◌, ℕ, cond, is_some, IsSome, None, Some, length, subst, sym, ap, ◌∙◌, arith}
+use Rattle.sg_serials.specs.Serials as serials
 use Rattle.std.specs.Prelude.{vec_capacity}
 use Rattle.std.specs.Option.{IfSome}
 use Rattle.std.proofs.lemmas.List.{get_or_default}
@@ -22,7 +22,7 @@ invariant_of-self c =
     let same : old.serial ≡ live.serial = subst (λ o. IfSome o (λ (l : Live). l.serial ≡ live.serial)) (ap (λ (p : Pool). slot_at p.slots key) (sym c.self.view_is) ∙ at) c.requires.same in
     record {
       pool = replaced slots s.free.items key live (vec_capacity s.free) c.self.invariant.pool within (ap is_some at);
-      keyed = found_set slots (hash.get nat_eq s.by_serial) key c.self.invariant.keyed within old live at same;
+      keyed = found_set slots (serials.at s.by_serial) key c.self.invariant.keyed within old live at same;
       goes = omega (arith, c.self.invariant.goes, c.going_by.ensures, c.going_by-2.ensures, counts_set slots key (Some live) within, counts_set slots key None within, ap {B = ℕ} (λ o. cond (passes goes_on o) 1 0) at);
       free_room = c.self.invariant.free_room;
       spare_room = c.self.invariant.spare_room;
