@@ -7,13 +7,13 @@ ghost use Rattle.std.specs.Str.{bytes_eq};
 ghost use Rattle.sg_names.specs.LinkNames.{declared_numbers, is_split, link_names, one_name, taken_names, taken_numbers};
 ghost use Rattle.sg_tree.specs.Along.{along};
 ghost use Rattle.sg_tree.specs.Names.{with_number, or_else};
-ghost use Rattle.toml.specs.View.{view};
+ghost use Rattle.sg_toml.specs.View.{view};
 
 use indexmap::IndexMap;
 use sg_base::Memory;
+use sg_toml::Value;
 use sg_tree::{add_name, text_at};
 use std::alloc::Global;
-use toml::Value;
 
 /// Whether a link is SPLITDUPLEX: one for each direction.
 pub fn is_split(row: &Value) -> bool

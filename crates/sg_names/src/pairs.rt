@@ -7,13 +7,13 @@ ghost use Rattle.sg_tree.specs.Along.{along};
 ghost use Rattle.sg_tree.specs.Names.{Pair, with_number, or_else, pair_eq};
 ghost use Rattle.sg_tree.specs.Tree.{text_at};
 ghost use Rattle.toml.specs.Data.{get};
-ghost use Rattle.toml.specs.View.{view};
+ghost use Rattle.sg_toml.specs.View.{view};
 
 use indexmap::IndexMap;
 use sg_base::Memory;
+use sg_toml::Value;
 use sg_tree::{add_pair, text_at};
 use std::alloc::Global;
-use toml::Value;
 
 /// The number of the point, or zone, that a key names.
 pub fn point_at(points: &IndexMap<String, u32>, row: &Value, key: &str) -> Option<u32>

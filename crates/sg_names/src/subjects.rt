@@ -2,13 +2,13 @@
 ghost use Rattle.std.specs.Prelude.{◌≡◌, ℕ, List, IfOk, None, map};
 ghost use Rattle.std.specs.HashMap.{get_by_text};
 ghost use Rattle.sg_names.specs.Subjects.{subjects_of};
-ghost use Rattle.toml.specs.View.{view};
+ghost use Rattle.sg_toml.specs.View.{view};
 
 use indexmap::IndexMap;
 use sg_base::Memory;
+use sg_toml::Value;
 use sg_tree::names_at;
 use std::alloc::Global;
-use toml::Value;
 
 /// The hosts and links that a table has profiles of, under the rows in which each stands first.
 #[derive(Drop)]

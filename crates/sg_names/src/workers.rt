@@ -6,13 +6,13 @@ ghost use Rattle.std.specs.Str.{bytes_eq};
 ghost use Rattle.sg_names.specs.Workers.{has_function, worker_names, worker_numbers};
 ghost use Rattle.sg_tree.specs.Along.{along};
 ghost use Rattle.sg_tree.specs.Names.{with_number, or_else};
-ghost use Rattle.toml.specs.View.{view};
+ghost use Rattle.sg_toml.specs.View.{view};
 
 use indexmap::IndexMap;
 use sg_base::Memory;
+use sg_toml::Value;
 use sg_tree::{add_name, text_at, text_or_empty};
 use std::alloc::Global;
-use toml::Value;
 
 /// Whether the row is that of an actor of this function.
 pub fn has_function(row: &Value, word: &str) -> bool

@@ -9,7 +9,7 @@ ghost use Rattle.sg_tables.specs.Units.{amount_value, factor_value, latency_valu
 ghost use Rattle.sg_names.specs.kept.NamesView.{names_view};
 ghost use Rattle.sg_tree.specs.Tree.{text_at};
 ghost use Rattle.toml.specs.Data.{Data, as_integer, get};
-ghost use Rattle.toml.specs.View.{view};
+ghost use Rattle.sg_toml.specs.View.{view};
 
 use crate::functions::function_of;
 use indexmap::IndexMap;
@@ -24,9 +24,9 @@ use sg_rules::{amount_in, items_at, milliwatts, powers_in, quantity_of, state_in
 use sg_tables::{
     Quantity, amount_value, bandwidth_value, factor_value, latency_value, speed_value, time_value,
 };
+use sg_toml::Value;
 use sg_tree::{text_at, text_or_empty};
 use std::alloc::Global;
-use toml::Value;
 
 fn number_of(space: &IndexMap<String, u32>, name: &str) -> u32
     ensures { result ≡ number_of (λ q. get_by_text space.now q) name.now }

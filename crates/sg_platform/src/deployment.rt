@@ -6,7 +6,7 @@ ghost use Rattle.sg_platform.specs.BrokenRules.{deployment_rule};
 ghost use Rattle.sg_platform.specs.DeploymentOf.{deployment_of, names_on, rows_of, tree_deployment};
 ghost use Rattle.sg_platform.specs.declared.deployment.DeploymentFault.TheVariants.{Memory};
 ghost use Rattle.sg_names.specs.kept.NamesView.{names_view};
-ghost use Rattle.toml.specs.View.{table_view};
+ghost use Rattle.sg_toml.specs.View.{table_view};
 
 use crate::build::read_rows;
 use crate::platform::GREATEST_TEXT;
@@ -92,7 +92,11 @@ fn fault_of(fault: Fault) -> DeploymentFault
 }
 
 #[tactic(auto, unfolding(crate::specs::DeploymentOf::rows_of))]
-fn rows_of(alloc: Global, names: &Names, tree: &toml::Table) -> Result<Deployment, sg_base::Memory>
+fn rows_of(
+    alloc: Global,
+    names: &Names,
+    tree: &sg_toml::Table,
+) -> Result<Deployment, sg_base::Memory>
     requires { IsDeployment (rows_of (names_view names.now) (table_view tree.now)) }
     ensures { IfOk result (λ d. d ≡ rows_of (names_view names.now) (table_view tree.now)) }
 {
@@ -105,7 +109,7 @@ fn rows_of(alloc: Global, names: &Names, tree: &toml::Table) -> Result<Deploymen
 /// The names that stand beside a platform.
 fn names_on(
     alloc: Global,
-    tree: &toml::Table,
+    tree: &sg_toml::Table,
     platform: &PlatformText,
 ) -> Result<Names, sg_base::Memory>
     ensures { IfOk result
@@ -121,7 +125,7 @@ fn names_on(
 fn deployment_in(
     alloc: Global,
     names: &Names,
-    tree: &toml::Table,
+    tree: &sg_toml::Table,
     platform: &PlatformText,
 ) -> Result<Deployment, DeploymentFault>
     requires { names_view names.now ≡ names_on platform.now (table_view tree.now) }
@@ -137,7 +141,7 @@ fn deployment_in(
 
 fn tree_deployment(
     alloc: Global,
-    tree: &toml::Table,
+    tree: &sg_toml::Table,
     platform: &PlatformText,
 ) -> Result<Deployment, DeploymentFault>
     ensures value { result ≢ Err Memory → result_map_both (λ d. d) deployment_rule result

@@ -11,7 +11,7 @@ ghost use Rattle.sg_names.specs.Names.{platform_known};
 ghost use Rattle.sg_rules.specs.PlatformKinds.{IsPlatformFault};
 ghost use Rattle.sg_names.specs.kept.NamesView.{names_view};
 ghost use Rattle.sg_tree.specs.Tree.{rows_at};
-ghost use Rattle.toml.specs.View.{table_view};
+ghost use Rattle.sg_toml.specs.View.{table_view};
 
 use crate::build::{network_of, read_rows};
 use sg_names::{Names, platform_names};
@@ -102,7 +102,11 @@ struct Places {
     routers: Vec<RouterRow>,
 }
 
-fn read_places(alloc: Global, names: &Names, tree: &toml::Table) -> Result<Places, sg_base::Memory>
+fn read_places(
+    alloc: Global,
+    names: &Names,
+    tree: &sg_toml::Table,
+) -> Result<Places, sg_base::Memory>
     ensures zones { IfOk result
         (λ made. made.zones.items
         ≡ map (zone_row (names_view names.now)) (rows_at (codes "zone") (table_view tree.now))) }
@@ -136,7 +140,7 @@ fn read_routes(
     alloc: Global,
     names: &Names,
     ends: &[LinkEnd],
-    tree: &toml::Table,
+    tree: &sg_toml::Table,
 ) -> Result<Routes, sg_base::Memory>
     ensures routes { IfOk result
         (λ made. made.routes.items
@@ -164,7 +168,7 @@ fn read_routes(
 fn read_ways(
     alloc: Global,
     names: &Names,
-    tree: &toml::Table,
+    tree: &sg_toml::Table,
 ) -> Result<(Vec<LinkRow>, Routes), sg_base::Memory>
     requires { length (links_of (table_view tree.now)) ≤ 65536 }
     ensures links { IfOk result (λ made. made.0.items ≡ links_of (table_view tree.now)) }
@@ -196,7 +200,7 @@ struct Profiles {
 fn read_profiles(
     alloc: Global,
     names: &Names,
-    tree: &toml::Table,
+    tree: &sg_toml::Table,
 ) -> Result<Profiles, sg_base::Memory>
     ensures profiles { IfOk result
         (λ made. made.profiles.items
@@ -220,7 +224,7 @@ fn read_profiles(
 fn rows_of(
     alloc: Global,
     names: &Names,
-    tree: &toml::Table,
+    tree: &sg_toml::Table,
 ) -> Result<PlatformText, sg_base::Memory>
     requires { IsPlatform (rows_of (names_view names.now) (table_view tree.now)) }
     ensures { IfOk result (λ p. p ≡ rows_of (names_view names.now) (table_view tree.now)) }
@@ -247,7 +251,7 @@ fn rows_of(
 fn platform_in(
     alloc: Global,
     names: &Names,
-    tree: &toml::Table,
+    tree: &sg_toml::Table,
 ) -> Result<PlatformText, PlatformFault>
     requires { names_view names.now ≡ platform_known (table_view tree.now) }
     ensures { result ≢ Err Memory
@@ -259,7 +263,7 @@ fn platform_in(
     }
 }
 
-fn tree_platform(alloc: Global, tree: &toml::Table) -> Result<PlatformText, PlatformFault>
+fn tree_platform(alloc: Global, tree: &sg_toml::Table) -> Result<PlatformText, PlatformFault>
     ensures { result ≢ Err Memory
         → result_map_both (λ p. p) platform_rule result ≡ tree_platform (table_view tree.now) }
 {

@@ -5,15 +5,15 @@ ghost use Rattle.std.specs.List.{list_all};
 ghost use Rattle.sg_rules.specs.Arguments.{are_for_master, are_workers, argument_kinds, is_task_count, has_repeat, takes_none, text_of};
 ghost use Rattle.sg_tables.specs.Units.{amount_value};
 ghost use Rattle.sg_tree.specs.Along.{first};
-ghost use Rattle.toml.specs.View.{view};
+ghost use Rattle.sg_toml.specs.View.{view};
 
 use indexmap::IndexMap;
 use sg_base::Memory;
 use sg_names::has_function;
 use sg_tables::amount_value;
+use sg_toml::Value;
 use sg_tree::{Kind, add_name};
 use std::alloc::Global;
-use toml::Value;
 
 /// The text of an item, and the empty text where it is none.
 pub fn text_of(item: &Value) -> &str

@@ -11,7 +11,7 @@ ghost use Rattle.sg_tree.specs.Spelling.{is_name, is_name_byte, split_names};
 ghost use Rattle.sg_tree.specs.Tree.{text_at};
 ghost use Rattle.toml.specs.Data.{as_str};
 ghost use Rattle.sg_rules.specs.Rules.{child_kinds, default_kinds, end_kinds, functions, host_kinds, id_kinds, is_capacity, is_core_count, is_pair_taken, is_required, is_taken, is_text, is_unknown, is_whole, key_kinds, refused_kinds, link_id_kinds, link_list_kinds, list_kinds, names_zone, point_kinds, policies, positive_kinds, profiled_host_kinds, profiled_link_kinds, route_end_kinds, routings, text_kinds, texts_kinds, value_kinds, whole_kinds, whole_list_kinds, word_kinds, zone_kinds, zone_route_end_kinds};
-ghost use Rattle.toml.specs.View.{view};
+ghost use Rattle.sg_toml.specs.View.{view};
 
 use crate::arguments::argument_fault;
 use crate::power::{milliwatts, powers_fault};
@@ -24,9 +24,9 @@ use sg_tables::{
     Key, Need, Rule, TextRule, TextsRule, WholeRule, amount_value, bandwidth_value, factor_value,
     latency_value, speed_value, time_value,
 };
+use sg_toml::Value;
 use sg_tree::Kind;
 use std::alloc::Global;
-use toml::Value;
 
 fn is_name_byte(byte: u8) -> bool
     ensures { result ≡ is_name_byte byte }
@@ -385,7 +385,7 @@ fn are_texts(items: &[Value]) -> bool
     ensures { result ≡ list_all is_text (map view items.now) }
 {
     for item in items {
-        if !item.is_str() {
+        if item.as_str().is_none() {
             return false;
         }
     }
@@ -473,7 +473,7 @@ fn are_wholes(items: &[Value]) -> bool
     ensures { result ≡ list_all is_whole (map view items.now) }
 {
     for item in items {
-        if !item.is_integer() {
+        if item.as_integer().is_none() {
             return false;
         }
     }
@@ -513,7 +513,7 @@ fn value_fault(
             None => Ok(Some(Kind::WrongType)),
             Some(whole) => Ok(whole_fault(rule, whole)),
         },
-        Rule::Truth => if value.is_bool() {
+        Rule::Truth => if value.as_bool().is_some() {
             Ok(None)
         } else {
             Ok(Some(Kind::WrongType))

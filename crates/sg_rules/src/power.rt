@@ -2,10 +2,10 @@
 ghost use Rattle.std.specs.Prelude.{◌≡◌, map};
 ghost use Rattle.sg_rules.specs.Power.{milliwatts, milliwatts_in, powers_in, powers_kinds, powers_of};
 ghost use Rattle.sg_tree.specs.Along.{first};
-ghost use Rattle.toml.specs.View.{view};
+ghost use Rattle.sg_toml.specs.View.{view};
 
+use sg_toml::Value;
 use sg_tree::Kind;
-use toml::Value;
 
 /// What a host that is on draws, in milliwatts.
 #[derive(Clone, Copy)]

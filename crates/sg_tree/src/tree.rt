@@ -1,11 +1,12 @@
 //! The tree of a text, and what stands at its keys.
-ghost use Rattle.std.specs.Prelude.{◌≡◌, IfOk, IsErrOf, Some, None, map, option_map, option_copied};
+ghost use Rattle.std.specs.Prelude.{◌≡◌, ◌≢◌, IfOk, IsErrOf, Some, None, map, option_map, option_copied};
 ghost use Rattle.sg_tree.specs.Tree.{tree_of, rows_at, text_at, text_or_empty};
 ghost use Rattle.toml.specs.Data.{get_member};
-ghost use Rattle.toml.specs.View.{view, table_view};
+ghost use Rattle.sg_toml.specs.View.{view, table_view};
 
+use sg_toml::{Table, Value, member, read_document};
 use std::alloc::Global;
-use toml::{Table, Value};
+use toml_parser::ParseError;
 
 /// Why there is no tree.
 #[derive(Clone, Copy)]
@@ -15,20 +16,26 @@ pub enum NoTree {
     Memory,
 }
 
+fn no_tree(error: ParseError) -> NoTree
+    ensures { result ≡ NoTree.BadToml → error ≢ ParseError.OutOfMemory }
+{
+    match error {
+        ParseError::OutOfMemory => NoTree::Memory,
+        ParseError::At(..) => NoTree::BadToml,
+    }
+}
+
 /// The tree of some bytes.
 pub fn read_tree(alloc: Global, bytes: &[u8]) -> Result<Table, NoTree>
     ensures ok { IfOk result (λ t. tree_of bytes.now ≡ Some (table_view t)) }
     ensures bad { IsErrOf result NoTree.BadToml → tree_of bytes.now ≡ None }
 {
-    match toml::table_from_slice(alloc, bytes) {
+    let Ok(text) = std::str::from_utf8(bytes) else {
+        return Err(NoTree::BadToml);
+    };
+    match read_document(alloc, text) {
         Ok(table) => Ok(table),
-        Err(e) => {
-            if e.is_memory() {
-                Err(NoTree::Memory)
-            } else {
-                Err(NoTree::BadToml)
-            }
-        }
+        Err(e) => Err(no_tree(e)),
     }
 }
 
@@ -36,7 +43,7 @@ pub fn read_tree(alloc: Global, bytes: &[u8]) -> Result<Table, NoTree>
 pub fn value_at<'a>(tree: &'a Table, name: &str) -> Option<&'a Value>
     ensures { option_map (λ v. view v.now) result ≡ get_member name.now (table_view tree.now) }
 {
-    tree.get(name)
+    member(tree, name)
 }
 
 /// The rows of a table: none where it is absent or no array.

@@ -6,7 +6,7 @@ use Rattle.std.specs.Str.{bytes_eq}
 use Rattle.sg_names.specs.LinkNames.{link_names, one_name}
 use Rattle.sg_tree.specs.Along.{along}
 use Rattle.sg_tree.specs.Names.{or_else}
-use Rattle.toml.specs.View.{view}
+use Rattle.sg_toml.specs.View.{view}
 use Rattle.sg_names.proofs.links.add_links.Given as goal
 
 abbrev pub invariant-loop-row : goal.invariant-loop-row

@@ -2,7 +2,7 @@ use Rattle.std.proofs.Common.{◌∙◌, refl}
 use Rattle.std.specs.HashMap.{get_by_text}
 use Rattle.sg_names.proofs.NameLemmas.{deployment_collected}
 use Rattle.sg_names.specs.declared.names.Points.{Points}
-use Rattle.toml.specs.View.{table_view}
+use Rattle.sg_toml.specs.View.{table_view}
 use Rattle.sg_names.proofs.names.deployment_names.Goals as goal
 
 pub returns : goal.returns

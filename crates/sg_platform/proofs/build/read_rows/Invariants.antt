@@ -1,6 +1,6 @@
 use Rattle.std.proofs.Common.{◌≡◌, map, take}
 use Rattle.sg_names.specs.kept.NamesView.{names_view}
-use Rattle.toml.specs.View.{view}
+use Rattle.sg_toml.specs.View.{view}
 use Rattle.sg_platform.proofs.build.read_rows.Given as goal
 
 abbrev pub invariant-loop-row : goal.invariant-loop-row

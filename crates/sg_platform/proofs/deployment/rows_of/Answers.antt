@@ -1,22 +1,30 @@
-use Rattle.std.proofs.Common.{◌≡◌, ◌∙◌, IfOk, ap, codes, map, subst}
+use Rattle.std.proofs.Common.{◌≡◌, ◌∙◌, List, IfOk, ap, codes, map, subst, sym}
 use Rattle.sg_platform.specs.Build.{actor_row, mutex_row, semaphore_row}
 use Rattle.sg_platform.specs.DeploymentOf.{rows_of}
-use Rattle.sg_rows.specs.Deployment.{Deployed, deployment_of_rows}
+use Rattle.sg_rows.specs.Deployment.{Deployed, IsDeployment, deployment_of_rows}
+use Rattle.sg_rows.specs.declared.rows.ActorRow.{ActorRow}
+use Rattle.sg_rows.specs.declared.rows.MutexRow.{MutexRow}
+use Rattle.sg_rows.specs.declared.rows.SemaphoreRow.{SemaphoreRow}
+use Rattle.sg_names.specs.Names.{Known}
 use Rattle.sg_names.specs.kept.NamesView.{names_view}
 use Rattle.sg_tree.specs.Tree.{rows_at}
-use Rattle.toml.specs.View.{table_view}
+use Rattle.sg_toml.specs.View.{table_view}
+use Rattle.toml.specs.Data.{Members}
 use Rattle.sg_platform.proofs.deployment.rows_of.Goals as goal
 
-pub returns : goal.returns
+made_of : (names : Known) (tree : Members) (a : List ActorRow) (m : List MutexRow) (s : List SemaphoreRow) → a ≡ map (actor_row names) (rows_at (codes "actor") tree)
+    → m ≡ map mutex_row (rows_at (codes "mutex") tree) → s ≡ map semaphore_row (rows_at (codes "semaphore") tree) → deployment_of_rows a m s ≡ rows_of names tree
 unfolding rows_of
+made_of names tree a m s actors mutexes semaphores = λ i. record { actors = actors i; mutexes = mutexes i; semaphores = semaphores i }
+
+pub with_rows-requires : goal.with_rows-requires
+with_rows-requires c =
+    let names = names_view c.args.names.now in
+    let same = made_of names (table_view c.args.tree.now) _ _ _ (c.in_ok-actors.ensures ∙ ap (map (actor_row names)) c.rows_at.ensures) (c.in_ok-mutexes.ensures ∙ ap (map mutex_row) c.rows_at-2.ensures) (c.in_ok-semaphores.ensures ∙ ap (map semaphore_row) c.rows_at-3.ensures) in
+    subst IsDeployment (sym same) c.requires
+
+pub returns : goal.returns
 returns c =
     let names = names_view c.args.names.now in
-    let tree = table_view c.args.tree.now in
-    let a = c.in_ok-actors.actors.items in
-    let m = c.in_ok-mutexes.mutexes.items in
-    let s = c.in_ok-semaphores.semaphores.items in
-    let actors : a ≡ map (actor_row names) (rows_at (codes "actor") tree) = c.in_ok-actors.ensures ∙ ap (map (actor_row names)) c.rows_at.ensures in
-    let mutexes : m ≡ map mutex_row (rows_at (codes "mutex") tree) = c.in_ok-mutexes.ensures ∙ ap (map mutex_row) c.rows_at-2.ensures in
-    let semaphores : s ≡ map semaphore_row (rows_at (codes "semaphore") tree) = c.in_ok-semaphores.ensures ∙ ap (map semaphore_row) c.rows_at-3.ensures in
-    let same : deployment_of_rows a m s ≡ rows_of names tree = λ i. record { actors = actors i; mutexes = mutexes i; semaphores = semaphores i } in
+    let same = made_of names (table_view c.args.tree.now) _ _ _ (c.in_ok-actors.ensures ∙ ap (map (actor_row names)) c.rows_at.ensures) (c.in_ok-mutexes.ensures ∙ ap (map mutex_row) c.rows_at-2.ensures) (c.in_ok-semaphores.ensures ∙ ap (map semaphore_row) c.rows_at-3.ensures) in
     subst (λ (rows : Deployed). IfOk c.with_rows.result (λ d. d ≡ rows)) same c.with_rows.ensures

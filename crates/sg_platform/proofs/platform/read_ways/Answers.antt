@@ -3,7 +3,7 @@ use Rattle.sg_platform.specs.Build.{link_row, spoke_row}
 use Rattle.sg_rows.specs.Ends.{link_ends}
 use Rattle.sg_names.specs.kept.NamesView.{names_view}
 use Rattle.sg_tree.specs.Tree.{rows_at}
-use Rattle.toml.specs.View.{table_view}
+use Rattle.sg_toml.specs.View.{table_view}
 use Rattle.sg_platform.proofs.platform.read_ways.Goals as goal
 
 pub returns-clause-links : goal.returns-clause-links

@@ -3,7 +3,7 @@ use Rattle.sg_platform.proofs.RowsRead.{IsRead, rows_read}
 use Rattle.sg_platform.specs.Build.{network_of}
 use Rattle.sg_rows.specs.Platform.{IsPlatform, Platform}
 use Rattle.sg_names.specs.kept.NamesView.{names_view}
-use Rattle.toml.specs.View.{table_view}
+use Rattle.sg_toml.specs.View.{table_view}
 use Rattle.sg_platform.proofs.platform.rows_of.Goals as goal
 
 pub with_rows-requires : goal.with_rows-requires

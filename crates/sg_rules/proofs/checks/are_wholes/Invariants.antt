@@ -1,6 +1,6 @@
 use Rattle.std.proofs.Common.{◌≡◌, drop, map}
 use Rattle.std.specs.List.{list_all}
-use Rattle.toml.specs.View.{view}
+use Rattle.sg_toml.specs.View.{view}
 use Rattle.sg_rules.specs.Rules.{is_whole}
 use Rattle.sg_rules.proofs.checks.are_wholes.Given as goal
 

@@ -3,7 +3,7 @@ use Rattle.std.specs.HashMap.{get_by_text}
 use Rattle.std.specs.List.{list_any}
 use Rattle.sg_rules.specs.Rules.{is_unknown}
 use Rattle.toml.specs.Data.{as_str}
-use Rattle.toml.specs.View.{view}
+use Rattle.sg_toml.specs.View.{view}
 use Rattle.sg_rules.proofs.checks.has_unknown.Given as goal
 
 abbrev pub invariant-loop-item : goal.invariant-loop-item

@@ -6,7 +6,7 @@ use Rattle.std.specs.Str.{bytes_eq}
 use Rattle.sg_tree.proofs.Along.{along_map}
 use Rattle.sg_tree.proofs.NameLemmas.{on_err}
 use Rattle.sg_tree.specs.Names.{AddsFront, with_number, names_from, or_else, texts_at}
-use Rattle.toml.specs.View.{view}
+use Rattle.sg_toml.specs.View.{view}
 use Rattle.sg_tree.proofs.names.add_names.Goals as goal
 
 pub returns-clause-added : goal.returns-clause-added
