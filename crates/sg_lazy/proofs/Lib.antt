@@ -10,3 +10,5 @@ pub mod Settled
 pub mod Whole
 pub mod Looks
 pub mod Untouched
+pub mod Leveled
+pub mod Joining

@@ -1,26 +1,34 @@
 -- The touched flows are joined to what changed, so the looks at them are within the work.
-use Rattle.std.proofs.Common.{◌≡◌, ◌≢◌, ℕ, zero, suc, ◌+◌, ◌*◌, ◌<◌, ◌≤◌, ◌⊎◌, inl, inr, Bool, true, false, true≢false, cond, ◌||◌, ◌&&◌, Option, None, Some, IsSome, List, [], ◌∷◌, map, length, get_or, set, sum_by, AllPairs, get_or-set_other, mul-le-mul_left, mul-le-mul_right, refl, sym, ap, subst, ◌∙◌, arith}
+use Rattle.std.proofs.Common.{◌≡◌, ℕ, zero, suc, ◌+◌, ◌*◌, ◌<◌, ◌≤◌, ◌⊎◌, inl, inr, Bool, true, false, true≢false, cond, ◌||◌, ◌&&◌, Option, None, Some, IsSome, is_none, List, [], ◌∷◌, map, length, get_or, sum_by, refl, sym, ap, ap₂, subst, ◌∙◌, arith}
 use Rattle.std.specs.List.{list_any}
 use Rattle.std.proofs.lemmas.List.{length-map}
-use Rattle.std.proofs.lemmas.List.Sums.{sum_by-set, sum_by-cons}
+use Rattle.std.proofs.lemmas.List.Sums.{sum_by-cons}
 use Rattle.sg_base.specs.MarkSet.{MarkSet, is_in}
 use Rattle.sg_maxmin.specs.Fill.{Flow, is_on}
-use Rattle.sg_chains.specs.Chained.{users_on}
-use Rattle.sg_maxmin.specs.Sharing.{Sharing, IsSound, flow_at, uses_at}
+use Rattle.sg_maxmin.specs.Sharing.{Sharing, IsSound, flow_at, slot_part, uses_at}
 use Rattle.sg_maxmin.proofs.Members.{In, In-map, list_any_in}
+use Rattle.sg_chains.specs.Chained.{users_on}
+use Rattle.sg_levels.specs.declared.levels.Levels.{Levels}
+use Rattle.sg_levels.specs.Joined.{joined_count, joined_part, joined_uses, sum_below}
+use Rattle.sg_levels.specs.Kept.{IsWithin, PassAlong}
+use Rattle.sg_filling.specs.Component.{MarksRow, lengths}
+use Rattle.sg_filling.proofs.Growing.{in_at}
+use Rattle.sg_filling.proofs.Listing.{bool_cases, some_of}
+use Rattle.sg_filling.proofs.Rows.{in_uses, is_in_In, on_held}
 use Rattle.sg_lazy.specs.Touch.{touches, spread, reach}
 use Rattle.sg_lazy.specs.RunningFlow.{RunningFlow, running_at, running_flows}
-use Rattle.sg_lazy.specs.Work.{is_marked, is_joined, touched_count, work}
-use Rattle.sg_filling.specs.declared.component.Component.{Component}
-use Rattle.sg_filling.specs.Component.{AllPass, MarksRows, PassAlong, StaysWithin, lengths}
-use Rattle.sg_lazy.specs.kept.Held.{IsWithout, running_in, flow_or_none, ended_in}
-use Rattle.sg_filling.proofs.Growing.{in_at}
-use Rattle.sg_filling.proofs.Listing.{some_of}
+use Rattle.sg_lazy.specs.Work.{is_marked, is_joined, work}
+use Rattle.sg_lazy.specs.declared.settle.Pending.{Pending}
+use Rattle.sg_lazy.specs.kept.Held.{IsWithout, running_of, running_in, flow_or_none, ended_in}
+use Rattle.sg_lazy.specs.kept.Leveled.{AreLeveled, RowsPass}
+use Rattle.sg_lazy.specs.kept.Solving.{AreMarkedWithin, solve_looks}
+use Rattle.sg_lazy.proofs.Joining.{along_all, listed_le, or_left, or_right}
+use Rattle.sg_lazy.proofs.Leveled.{widen}
+use Rattle.sg_lazy.proofs.Listed.{at_listed}
 use Rattle.sg_lazy.proofs.Reached.{all_reached_lem}
-use Rattle.sg_filling.proofs.Rows.{in_uses, is_in_In, on_held, uses_held}
-use Rattle.sg_lazy.proofs.Settled.{held_runs, runs_held}
-use Rattle.sg_lazy.proofs.Whole.{lengths-ended}
-use Rattle.sg_lazy.proofs.Works.{suffices_lem}
+use Rattle.sg_lazy.proofs.Settled.{held_runs}
+use Rattle.sg_lazy.proofs.Whole.{length-ended, lengths-ended}
+use Rattle.sg_lazy.proofs.Works.{more_looks, suffices_lem}
 
 -- ---- sums over what runs
 abbrev part : (RunningFlow → ℕ) → Option RunningFlow → ℕ
@@ -42,32 +50,16 @@ In-held (Some s ∷ slots) zero r h = inl (same s r h)
 In-held (None ∷ slots) (suc id) r h = In-held slots id r h
 In-held (Some s ∷ slots) (suc id) r h = inr (In-held slots id r h)
 
-at_below : (slots : List (Option RunningFlow)) (id : ℕ) (r : RunningFlow) → get_or slots id None ≡ Some r → id < length slots
-at_below [] id r h = let q : None ≡ Some r = h in cc
-at_below (s ∷ slots) zero r h = omega arith
-at_below (s ∷ slots) (suc id) r h = omega (arith, at_below slots id r h)
-
-sum_some : (g : RunningFlow → ℕ) (v : ℕ → ℕ) (slots : List (Option RunningFlow)) (ids : List ℕ) → AllPairs (λ a b. a ≢ b) ids → ((i : ℕ) → i < length ids → (r : RunningFlow) × (running_at slots (get_or ids i 0) ≡ Some r) × (v (get_or ids i 0) ≡ g r)) → sum_by v ids ≤ sum_by g (running_flows slots)
-sum_some g v slots [] once there = omega arith
-sum_some g v slots (t ∷ ids) once there =
-    let here = there 0 (omega arith) in
-    let below = at_below slots t here.0 here.1 in
-    let rest = sum_some g v (set slots t None) ids
-    (λ i j d a b. once (suc i) (suc j) d (omega (arith, a)) (omega (arith, b)))
-    (λ i h. let k = there (suc i) (omega (arith, h)) in (k.0, get_or-set_other slots t (get_or ids i 0) None None (λ e. once 0 (suc i) 0 (omega arith) (omega (arith, h)) (sym e)) ∙ k.1, k.2)) in
-    omega (arith, sum_by-cons v t ids, rest, here.2, sum_held g slots, sum_held g (set slots t None), sum_by-set (part g) slots t None None below, ap (part g) here.1)
-
-sum-ones : (xs : List ℕ) → sum_by (λ x. 1) xs ≡ length xs
-sum-ones [] = refl
-sum-ones (x ∷ xs) = omega (arith, sum_by-cons (λ x. 1) x xs, sum-ones xs)
-
-or_left : (a b : Bool) → a ≡ true → (a || b) ≡ true
-or_left true b e = refl
-or_left false b e = absurd (true≢false (sym e))
-
-or_right : (a b : Bool) → b ≡ true → (a || b) ≡ true
-or_right true b e = refl
-or_right false b e = e
+-- where none is joined there are no uses of joined flows
+pub none_joined : (j : RunningFlow → Bool) (xs : List RunningFlow) → sum_by (λ r. cond (j r) 1 0) xs ≡ 0 → sum_by (λ (r : RunningFlow). cond (j r) (length r.flow.uses) 0) xs ≡ 0
+none_joined j [] e = refl
+none_joined j (r ∷ xs) e =
+    let first : ◌≡◌ {A = ℕ} (cond (j r) 1 0) 0 = omega (arith, e, sum_by-cons (λ r. cond (j r) 1 0) r xs) in
+    omega (arith, sum_by-cons (λ (r : RunningFlow). cond (j r) (length r.flow.uses) 0) r xs, nothing (j r) (length r.flow.uses) first, none_joined j xs (omega (arith, e, sum_by-cons (λ r. cond (j r) 1 0) r xs)))
+  where
+    nothing : (b : Bool) (n : ℕ) → ◌≡◌ {A = ℕ} (cond b 1 0) 0 → cond b n 0 ≡ 0
+    nothing true n e = absurd (omega (arith, e))
+    nothing false n e = refl
 
 or_parts : (a b : Bool) → (a || b) ≡ true → (a ≡ true) ⊎ (b ≡ true)
 or_parts true b e = inl refl
@@ -97,7 +89,7 @@ module _ (s t : Sharing) (rates began marked ended resources : List ℕ) (withou
   abbrev gone : List Flow
   gone = ended_in s.slots ended
 
-  abbrev close : ℕ → Bool
+  abbrev pub close : ℕ → Bool
   close = reach (length run) (map (λ (r : RunningFlow). r.flow) run) (is_marked run gone resources)
 
   abbrev test : Option RunningFlow → Bool
@@ -157,52 +149,63 @@ module _ (s t : Sharing) (rates began marked ended resources : List ℕ) (withou
   at_row : (i : ℕ) (row : List ℕ) → i < length row → is_in (get_or row i 0) row ≡ true
   at_row i row h = in_at (get_or row i 0) row i h refl
 
-  pub touched_joined : ((id : ℕ) → is_in id marked ≡ true → IsSome (flow_at s.slots id)) → (old new : MarkSet) (a b z : Component) → old.members ≡ resources → MarksRows (uses_at s.slots) ended old new → a.touched.members ≡ [] → a.reached.members ≡ [] →
-      ((p q : ℕ → Bool) → PassAlong t p q → ((id : ℕ) → is_in id marked ≡ true → is_in id ended ≡ false → p id ≡ true) → StaysWithin p q a b) →
-      ((p q : ℕ → Bool) → PassAlong t p q → AllPass q new.members → StaysWithin p q b z) → AllPass goes z.touched.members
-  touched_joined marked_are old new a b z those marks ta ra least1 least2 =
-      let along : PassAlong t goes close = record {
-        uses = λ id k i h. rows_pass id (get_or (uses_at t.slots id) i 0) k (at_row i (uses_at t.slots id) h);
-        users = λ c k i h. users_pass c (get_or (users_on t.users c) i 0) k (at_row i (users_on t.users c) h);
-      } in
-      let zeroth = marks.least close (λ i h j k. ended_pass (get_or ended i 0) (get_or (uses_at s.slots (get_or ended i 0)) j 0) (at_row i ended h) (at_row j (uses_at s.slots (get_or ended i 0)) k)) (λ c h. resource_pass c (sym (ap (is_in c) those) ∙ h)) in
-      let one = least1 goes close along (λ id m off. marked_pass id m off (marked_are id m)) (λ id h. absurd (true≢false (sym h ∙ ap (is_in id) ta))) (λ c h. absurd (true≢false (sym h ∙ ap (is_in c) ra))) in
-      (least2 goes close along zeroth one.0 one.1).0
+  -- what isn't held any more passes as well
+  abbrev pub passes : ℕ → Bool
+  passes id = goes id || is_none (flow_at t.slots id)
 
-  module _ (touched : List ℕ) (once : AllPairs (λ a b. a ≢ b) touched) (joined : AllPass goes touched) where
-    there : (id : ℕ) → goes id ≡ true → (r : RunningFlow) × (running_at all id ≡ Some r) × (is_joined run gone resources r ≡ true)
-    there id e = from (running_at all id) refl e
-      where
-        from : (o : Option RunningFlow) → running_at all id ≡ o → test o ≡ true → (r : RunningFlow) × (running_at all id ≡ Some r) × (is_joined run gone resources r ≡ true)
-        from None q k = absurd (true≢false (sym k))
-        from (Some r) q k = (r, q, k)
+  pub along : PassAlong t passes close
+  along = along_all t goes close (record { uses = rows_pass; users = users_pass })
 
-    each : (i : ℕ) → i < length touched → (r : RunningFlow) × (running_at all (get_or touched i 0) ≡ Some r) × (is_joined run gone resources r ≡ true)
-    each i h = there (get_or touched i 0) (joined (get_or touched i 0) (in_at (get_or touched i 0) touched i h refl))
+  passes_marked : ((id : ℕ) → is_in id marked ≡ true → IsSome (flow_at s.slots id)) → (id : ℕ) → is_in id marked ≡ true → passes id ≡ true
+  passes_marked marked_are id m = elim (bool_cases (is_in id ended)) [
+    | inl gone ↦ or_right (goes id) (is_none (flow_at t.slots id)) (ap is_none (without.slots id ∙ ap (λ b. cond b None (flow_at s.slots id)) gone))
+    | inr off ↦ or_left (goes id) (is_none (flow_at t.slots id)) (marked_pass id m off (marked_are id m))
+  ]
 
-    few_flows : length touched ≤ sum_by (λ (r : RunningFlow). cond (is_joined run gone resources r) 1 0) run
-    few_flows = omega (arith, sum-ones touched, sum_some (λ (r : RunningFlow). cond (is_joined run gone resources r) 1 0) (λ id. 1) all touched once (λ i h. let k = each i h in (k.0, k.1, sym (ap {B = ℕ} (λ b. cond b 1 0) k.2))))
+  -- what is marked is joined
+  pub marked_within : ((id : ℕ) → is_in id marked ≡ true → IsSome (flow_at s.slots id)) → (a b : Levels) (pending : Pending) (old : MarkSet) → AreLeveled s a rates began marked resources → ((p q : ℕ → Bool) → RowsPass q (uses_at s.slots) ended → IsWithin p q a → IsWithin p q b) →
+      old.members ≡ resources → MarksRow b.active.members old pending.resources → pending.marked.members ≡ marked → AreMarkedWithin passes close pending
+  marked_within marked_are a b pending old was stays those marks same =
+      let first = widen (λ id. is_in id marked) (λ c. is_in c resources) passes close a (passes_marked marked_are) resource_pass was.within in
+      let next = stays passes close (λ i h c on. ended_pass (get_or ended i 0) c (at_row i ended h) on) first in
+      record {
+        flows = λ id m. passes_marked marked_are id (subst (λ xs. is_in id xs ≡ true) same m);
+        resources = marks.least close (λ i h. next.active (get_or b.active.members i 0) (at_row i b.active.members h)) (λ c h. resource_pass c (subst (λ xs. is_in c xs ≡ true) those h));
+      }
 
-    few_uses : lengths (uses_at t.slots) touched ≤ sum_by (λ (r : RunningFlow). cond (is_joined run gone resources r) (length r.flow.uses) 0) run
-    few_uses = sum_some (λ (r : RunningFlow). cond (is_joined run gone resources r) (length r.flow.uses) 0) (λ id. length (uses_at t.slots id)) all touched once
-        (λ i h. let k = each i h in
-        let id = get_or touched i 0 in
-        (k.0, k.1, ap length (uses_held t.slots id k.0.flow (runs_held s t rates began marked ended without sound id k.0 k.1)) ∙ sym (ap {B = ℕ} (λ b. cond b (length k.0.flow.uses) 0) k.2)))
+  sum_joined : (amount : Flow → ℕ) → sum_below (joined_part t.slots amount passes) (length t.slots) ≤ sum_by (λ (r : RunningFlow). cond (is_joined run gone resources r) (amount r.flow) 0) run
+  sum_joined amount =
+      let g : RunningFlow → ℕ = λ r. cond (is_joined run gone resources r) (amount r.flow) 0 in
+      let f : ℕ → Option RunningFlow = running_of s.slots rates began marked ended in
+      let each : (i : ℕ) → i < length s.slots → cond (passes i) (slot_part amount (flow_at t.slots i)) 0 ≤ part g (f i) = λ i h. one amount i h (flow_at t.slots i) refl in
+      omega (arith, sum_held g all, listed_le t.slots amount passes (part g) (length s.slots) f each, ap (sum_below (joined_part t.slots amount passes)) without.slots_len)
+    where
+      one : (amount : Flow → ℕ) (i : ℕ) → i < length s.slots → (o : Option Flow) → flow_at t.slots i ≡ o → cond (passes i) (slot_part amount (flow_at t.slots i)) 0 ≤ part (λ (r : RunningFlow). cond (is_joined run gone resources r) (amount r.flow) 0) (running_of s.slots rates began marked ended i)
+      one amount i h None e = subst (λ n. cond (passes i) n 0 ≤ part (λ (r : RunningFlow). cond (is_joined run gone resources r) (amount r.flow) 0) (running_of s.slots rates began marked ended i)) (sym (ap (slot_part amount) e)) (zeros (passes i) (part (λ (r : RunningFlow). cond (is_joined run gone resources r) (amount r.flow) 0) (running_of s.slots rates began marked ended i)))
+        where
+          zeros : (b : Bool) (n : ℕ) → cond b 0 0 ≤ n
+          zeros true n = omega arith
+          zeros false n = omega arith
+      one amount i h (Some flow) e =
+          let r : RunningFlow = record { flow = flow; rate = get_or rates i 0; began = is_in i began; marked = is_in i marked } in
+          let at = as_runs i flow e in
+          let here : running_of s.slots rates began marked ended i ≡ Some r = sym (at_listed (length s.slots) (running_of s.slots rates began marked ended) i None h) ∙ at in
+          let pass : passes i ≡ is_joined run gone resources r = ap (λ o. goes i || is_none o) e ∙ or_false (goes i) ∙ ap {B = Bool} test at in
+          let left : cond (passes i) (slot_part amount (flow_at t.slots i)) 0 ≡ cond (is_joined run gone resources r) (amount flow) 0 = ap₂ (λ b n. cond b n 0) pass (ap (slot_part amount) e) in
+          omega (arith, left, ap (part (λ (r : RunningFlow). cond (is_joined run gone resources r) (amount r.flow) 0)) here)
+        where
+          or_false : (b : Bool) → (b || false) ≡ b
+          or_false true = refl
+          or_false false = refl
 
-    pub within_work : (steps steps' : ℕ) → steps' ≤ steps + lengths (uses_at s.slots) ended + (length touched + 3 * lengths (uses_at t.slots) touched + length touched * (3 * lengths (uses_at t.slots) touched)) → steps' ≤ steps + work run gone resources
-    unfolding work
-    within_work steps steps' h =
-        let u = lengths (uses_at t.slots) touched in
-        let m = length touched in
-        let uses = sum_by (λ (r : RunningFlow). cond (is_joined run gone resources r) (length r.flow.uses) 0) run in
-        let count = touched_count run gone resources in
-        let more : m ≤ count = omega (arith, few_flows) in
-        let most : m * (3 * u) ≤ count * (3 * uses) = product m count u uses more few_uses in
-        let gone_uses = sum_by (λ (flow : Flow). length flow.uses) gone in
-        finish steps steps' (lengths (uses_at s.slots) ended) gone_uses u uses (m * (3 * u)) m count h (lengths-ended s.slots ended (λ i h. ended_are (get_or ended i 0) (at_row i ended h))) few_uses most more
-      where
-        product : (m k u v : ℕ) → m ≤ k → u ≤ v → m * (3 * u) ≤ k * (3 * v)
-        product m k u v h l = let a = mul-le-mul_right (3 * u) h in let three : 3 * u ≤ 3 * v = omega (arith, l) in let b = mul-le-mul_left k three in omega (arith, a, b)
-
-        finish : (s s' e e' u v p m k : ℕ) → s' ≤ s + e + (m + 3 * u + p) → e' ≡ e → u ≤ v → p ≤ k * (3 * v) → m ≤ k → s' ≤ s + 4 * (k + 1) * (k + (e' + v))
-        finish s s' e e' u v p m k h q l b n = omega (arith, h, q, l, b, n, suffices_lem k e' v)
+  pub within_work : (before middle after : ℕ) → middle ≡ before + lengths (uses_at s.slots) ended → after ≤ middle + solve_looks (length ended) (joined_count t.slots passes) (joined_uses t.slots passes) → after ≤ before + work run gone resources
+  unfolding work
+  within_work before middle after first then =
+      let flows = sum_by (λ (r : RunningFlow). cond (is_joined run gone resources r) 1 0) run in
+      let uses = sum_by (λ (r : RunningFlow). cond (is_joined run gone resources r) (length r.flow.uses) 0) run in
+      let gone_uses = sum_by (λ (flow : Flow). length flow.uses) gone in
+      let e : gone_uses ≡ lengths (uses_at s.slots) ended = lengths-ended s.slots ended (λ i h. ended_are (get_or ended i 0) (at_row i ended h)) in
+      let m : length gone ≡ length ended = length-ended s.slots ended in
+      let enough = suffices_lem (length ended) flows uses gone_uses (none_joined (is_joined run gone resources) run) in
+      let most = more_looks (length ended) (joined_count t.slots passes) flows (joined_uses t.slots passes) uses (sum_joined (λ f. 1)) (sum_joined (λ f. length f.uses)) in
+      subst (λ n. after ≤ before + 4 * (n + flows + 1) * (n + flows + (gone_uses + uses))) (sym m) (omega (arith, first, then, e, enough, most))

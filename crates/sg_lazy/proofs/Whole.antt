@@ -14,7 +14,7 @@ use Rattle.sg_lazy.proofs.Keeps.{settle_keeps}
 use Rattle.sg_filling.proofs.Listing.{map_same, some_of}
 use Rattle.sg_lazy.proofs.Listed.{at_listed, length_listed, past_listed}
 use Rattle.sg_filling.proofs.Rows.{flow_below, none_some, some_same, uses_held}
-use Rattle.sg_lazy.proofs.Settled.{held_runs}
+use Rattle.sg_lazy.proofs.Settled.{flow_of_running, held_runs}
 use Rattle.sg_lazy.proofs.Starting.{is_here}
 
 front : (a b : Option RunningFlow) (xs ys : List (Option RunningFlow)) → option_map (λ (r : RunningFlow). r.flow) a ≡ option_map (λ (r : RunningFlow). r.flow) b → flows_in xs ≡ flows_in ys → flows_in (a ∷ xs) ≡ flows_in (b ∷ ys)
@@ -27,15 +27,6 @@ flows_listed : (n : ℕ) (f g : ℕ → Option RunningFlow) → ((i : ℕ) → i
 unfolding listed
 flows_listed zero f g e = refl
 flows_listed (suc n) f g e = front (f 0) (g 0) (listed n (λ i. f (suc i))) (listed n (λ i. g (suc i))) (e 0 (omega arith)) (flows_listed n (λ i. f (suc i)) (λ i. g (suc i)) (λ i h. e (suc i) (omega arith)))
-
--- what runs is the flow that is held, whatever its rate
-flow_of_running : (slots : List (Option Flow)) (rates began marked ended : List ℕ) (id : ℕ) → option_map (λ (r : RunningFlow). r.flow) (running_of slots rates began marked ended id) ≡ cond (is_in id ended) None (flow_at slots id)
-flow_of_running slots rates began marked ended id = from (is_in id ended) (flow_at slots id)
-  where
-    from : (b : Bool) (o : Option Flow) → option_map (λ (r : RunningFlow). r.flow) (cond b None (option_map (λ held. record { flow = held; rate = get_or rates id 0; began = is_in id began; marked = is_in id marked }) o)) ≡ cond b None o
-    from true o = refl
-    from false None = refl
-    from false (Some flow) = refl
 
 below_cases : (a b : ℕ) → (a < b) ⊎ (b ≤ a)
 below_cases a b = grind arith

@@ -1,5 +1,5 @@
 -- The work of a settling, whatever the order of the flows.
-use Rattle.std.proofs.Common.{◌≡◌, ℕ, zero, suc, ◌+◌, ◌*◌, Bool, cond, ◌&&◌, ◌||◌, List, [], ◌∷◌, map, length, sum_by, eqb, refl, sym, ap, ap₂, ◌∙◌, arith}
+use Rattle.std.proofs.Common.{◌≡◌, ℕ, zero, suc, ◌+◌, ◌-◌, ◌*◌, ◌≤◌, mul-le-mul_left, mul-le-mul_right, subst, Bool, cond, ◌&&◌, ◌||◌, List, [], ◌∷◌, map, length, sum_by, eqb, refl, sym, ap, ap₂, ◌∙◌, arith}
 use Rattle.std.specs.List.{list_any}
 use Rattle.std.specs.List.Sorted.{IsPermutation}
 use Rattle.std.proofs.lemmas.List.Sums.{sum_by-cons}
@@ -10,6 +10,7 @@ use Rattle.sg_lazy.specs.RunningFlow.{RunningFlow}
 use Rattle.sg_lazy.specs.Work.{is_marked, is_joined, touched_count, touched_uses, work}
 use Rattle.sg_lazy.specs.Laws.{NamesDontMatter}
 use Rattle.sg_lazy.specs.kept.Counts.{WorkSuffices}
+use Rattle.sg_lazy.specs.kept.Solving.{solve_looks}
 
 any_same : {X : Type 0} (p q : X → Bool) (xs : List X) → ((x : X) → p x ≡ q x) → list_any p xs ≡ list_any q xs
 any_same p q [] e = refl
@@ -58,4 +59,20 @@ names_lem running running' ended ended' resources resources' p q w =
     ap (λ n. 4 * (n + 1) * (n + touched_uses running ended resources)) count ∙ ap (λ n. 4 * (touched_count running' ended' resources' + 1) * (touched_count running' ended' resources' + n)) uses
 
 pub suffices_lem : WorkSuffices
-suffices_lem m e r = omega arith
+suffices_lem m zero u e none = subst (λ n. e + solve_looks m 0 n ≤ 4 * (m + 0 + 1) * (m + 0 + (e + n))) (sym (none refl)) (omega arith)
+suffices_lem m (suc k) u e none =
+    let less : suc k + 4 * m - 1 ≡ k + 4 * m = omega arith in
+    rw less (omega arith)
+
+pub more_looks : (m k k' u u' : ℕ) → k ≤ k' → u ≤ u' → solve_looks m k u ≤ solve_looks m k' u'
+more_looks m k k' u u' h l =
+    let one : k + m ≤ k' + m = omega (arith, h) in
+    let two : k + m + 1 ≤ k' + m + 1 = omega (arith, h) in
+    let three : k + 4 * m - 1 ≤ k' + 4 * m - 1 = omega (arith, h) in
+    let a = mul-le-mul_right (k + m + 1) one in
+    let b = mul-le-mul_left (k' + m) two in
+    let c = mul-le-mul_right u three in
+    let d = mul-le-mul_left (k' + 4 * m - 1) l in
+    let e = mul-le-mul_right u h in
+    let f = mul-le-mul_left k' l in
+    omega (arith, a, b, c, d, e, f, l)

@@ -3,3 +3,5 @@ pub mod Keeping
 pub mod Held
 pub mod Changes
 pub mod Counts
+pub mod Leveled
+pub mod Solving

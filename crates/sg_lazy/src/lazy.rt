@@ -1,14 +1,13 @@
-//! Flows whose rates are filled anew only where something changed.
+//! Flows whose rates are brought up to date only where something changed.
 ghost use Rattle.std.specs.Prelude.{◌≡◌, ◌≤◌, ◌<◌, ◌+◌, IsSome, IfSome, IfOk, OnOk, None, length};
 ghost use Rattle.sg_maxmin.specs.Fill.{flow};
 ghost use Rattle.sg_maxmin.specs.Sharing.{IsFlow};
 ghost use Rattle.sg_lazy.specs.RunningFlow.{running_at};
 ghost use Rattle.sg_lazy.specs.Lazily.{IsFresh, IsRoomier, IsSettled, KeepUntouched, looks_of, with_bound, with_capacity, with_flow, without_flow};
 
-use crate::room::{grow_marks, grow_rows};
-use crate::settle::{Pending, Rated, settle_flows};
+use crate::room::{all_fit, grow_marks, grow_rates};
+use crate::settle::{Pending, Rated, Solver, settle_flows};
 use sg_base::{Marks, Memory, Steps};
-use sg_filling::{Component, Filling};
 use sg_maxmin::System;
 use std::alloc::Global;
 use std::marker::Model;
@@ -25,9 +24,8 @@ pub struct Lazy {
     system: System,
     pending: Pending,
     rated: Rated,
-    // where a settling notes what it touches, and fills
-    component: Component,
-    filling: Filling,
+    // by what a settling brings rates up to date
+    solver: Solver,
 }
 
 // A function of its own, so that a proof in which one is dropped doesn't go into its parts.
@@ -37,8 +35,7 @@ impl Drop for Lazy {
             system: _,
             pending: _,
             rated: _,
-            component: _,
-            filling: _,
+            solver: _,
         } = self;
     }
 }
@@ -51,6 +48,7 @@ impl Model for Lazy {
     ghost coded = { lazily_code };
 
     ghost use Rattle.sg_lazy.specs.kept.Held.{running_in, ended_in, HasRoom, IsLazy};
+    ghost use Rattle.sg_lazy.specs.kept.Leveled.{AreLeveled};
 
     ghost view = { λ s. record {
       capacities = s.system.capacities;
@@ -65,7 +63,9 @@ impl Model for Lazy {
 
     ghost invariant = { λ s. IsLazy s.system s.rated.rates.items s.pending.began.members
         s.pending.marked.members s.pending.ended.members s.pending.resources.members
-        × HasRoom s.system s.pending s.component s.filling s.rated };
+        × HasRoom s.system s.pending s.solver.parts s.rated
+        × AreLeveled s.system s.solver.levels s.rated.rates.items s.pending.began.members
+        s.pending.marked.members s.pending.resources.members };
 }
 
 impl Lazy {
@@ -74,10 +74,10 @@ impl Lazy {
         ensures { IfOk result (IsFresh capacities.now) }
     {
         let pending = Pending::new(alloc, capacities.len())?;
-        let component = Component::new(alloc, capacities.len())?;
-        let filling = Filling::new(alloc, capacities)?;
+        let solver = Solver::new(alloc, capacities)?;
         let system = System::new(alloc, capacities)?;
         system.is_sound();
+        all_fit(capacities);
         Ok(Lazy {
             system,
             pending,
@@ -85,8 +85,7 @@ impl Lazy {
                 rates: Vec::new(alloc),
                 changed: Marks::new(alloc),
             },
-            component,
-            filling,
+            solver,
         })
     }
 
@@ -108,14 +107,11 @@ impl Lazy {
         let Some(n) = self.system.numbers().checked_add(flows) else {
             return Err(Memory);
         };
-        grow_marks(
-            n,
-            &mut self.pending,
-            &mut self.component.touched,
-            &mut self.rated.changed,
-        )?;
-        grow_rows(n, &mut self.rated.rates, &mut self.filling.fixed)?;
-        let reserved = self.system.reserve(flows, uses);
+        grow_marks(n, &mut self.pending, &mut self.rated.changed)?;
+        grow_rates(n, &mut self.rated.rates)?;
+        self.solver.parts.reserve(n)?;
+        let levels = &mut self.solver.levels;
+        let reserved = levels.reserve(&mut self.system, flows, uses);
         self.system.is_sound();
         reserved
     }
@@ -130,7 +126,8 @@ impl Lazy {
         ensures in_range { result < length self.old.slots }
         ensures starts { self.new ≡ with_flow self.old result (flow uses.now weight bound) }
     {
-        let number = self.system.add(uses, weight, bound);
+        let levels = &mut self.solver.levels;
+        let number = levels.start(&mut self.system, uses, weight, bound);
         self.system.is_sound();
         self.rated.rates[number] = 0;
         self.pending.began.insert(number);
@@ -152,7 +149,8 @@ impl Lazy {
         requires { resource < length self.old.capacities }
         ensures { self.new ≡ with_capacity self.old resource capacity }
     {
-        self.system.set_capacity(resource, capacity);
+        let levels = &mut self.solver.levels;
+        levels.set_capacity(&mut self.system, resource, capacity);
         self.system.is_sound();
         self.pending.resources.insert(resource);
     }
@@ -162,7 +160,8 @@ impl Lazy {
         requires { IsSome (running_at self.old.slots flow) }
         ensures { self.new ≡ with_bound self.old flow bound }
     {
-        self.system.set_bound(flow, bound);
+        let levels = &mut self.solver.levels;
+        levels.set_bound(&mut self.system, flow, bound);
         self.system.is_sound();
         self.pending.marked.insert(flow);
     }
@@ -177,8 +176,7 @@ impl Lazy {
         settle_flows(
             &mut self.system,
             &mut self.pending,
-            &mut self.component,
-            &mut self.filling,
+            &mut self.solver,
             &mut self.rated,
             steps,
         );

@@ -1,14 +1,18 @@
-//! Settling: the rates of the touched flows are filled anew.
-ghost use Rattle.std.specs.Prelude.{◌≡◌, ◌≢◌, ◌≤◌, ◌<◌, ◌+◌, ℕ, IfOk, IsSome, AllPairs, length, slice_index};
+//! Settling: levels are brought up to date, and the rates of the flows that moved are written.
+ghost use Rattle.std.specs.Prelude.{◌≡◌, ◌≢◌, ◌≤◌, ◌<◌, ◌+◌, ℕ, Bool, [], true, false, IfOk, IsSome, IsTrue, AllPairs, length, slice_index};
 ghost use Rattle.sg_maxmin.specs.Sharing.{IsSound, flow_at, uses_at};
+ghost use Rattle.sg_levels.specs.Kept.{IsBetween, IsWithin, NotesChanged, PassAlong};
+ghost use Rattle.sg_filling.specs.Component.{MarksRow, lengths};
 ghost use Rattle.sg_lazy.specs.RunningFlow.{running_flows};
 ghost use Rattle.sg_lazy.specs.Work.{work};
-ghost use Rattle.sg_filling.specs.Component.{MarksRows, lengths};
 ghost use Rattle.sg_lazy.specs.kept.Held.{HasRoom, IsLazy, IsNothing, IsRefilled, IsWithout, running_in, ended_in};
+ghost use Rattle.sg_lazy.specs.kept.Leveled.{AreLeveled, RowsPass};
+ghost use Rattle.sg_lazy.specs.kept.Solving.{IsPendingOn, IsSolved, IsSolver, SolvesWithin, refill_looks, solve_looks, try_looks};
 
 use crate::writing::write_rates;
 use sg_base::{Marks, Memory, Steps};
-use sg_filling::{Component, Filling, fill_marked, fill_on_all, mark_uses};
+use sg_filling::Parts;
+use sg_levels::Levels;
 use sg_maxmin::System;
 use std::alloc::Global;
 use std::sync::ledger::Ledger;
@@ -20,7 +24,7 @@ pub struct Pending {
     // the flows that began, and those whose bounds changed
     pub marked: Marks,
     pub ended: Marks,
-    // whose capacities changed; a settling adds those that ended flows used
+    // whose capacities changed; a settling adds the active ones, as those that ended flows used
     pub resources: Marks,
 }
 
@@ -47,91 +51,168 @@ pub struct Rated {
     pub changed: Marks,
 }
 
-// Reaches the resources of the flows that ended.
-fn reach_ended<L: Ledger>(
-    system: &System,
-    ended: &[usize],
-    reached: &mut Marks,
-    steps: &mut Steps<L>,
-)
-    requires sound { IsSound system.now }
-    requires room { length system.now.capacities ≤ reached.old.room }
-    ensures marks { MarksRows (uses_at system.now.slots) ended.now
-        reached.old reached.new }
-    ensures looks { steps.new
-        ≡ steps.old + lengths (uses_at system.now.slots) ended.now }
-{
-    for flow in ended {
-        mark_uses(system, *flow, reached, steps);
+/// By what rates are brought up to date: levels that are kept, and a filling of what is joined.
+#[derive(Drop)]
+pub struct Solver {
+    pub levels: Levels,
+    pub parts: Parts,
+    // how many flows the last filling touched, where few of their rates changed; 0: the next settling fills
+    pub crowd: usize,
+}
+
+// A filling of fewer flows costs less than levels do.
+const CROWD: usize = 24;
+
+impl Solver {
+    /// No flow yet, on resources with these capacities.
+    pub fn new(alloc: Global, capacities: &[u64]) -> Result<Solver, Memory>
+        ensures { IfOk result (IsSolver (length capacities.now)) }
+    {
+        let levels = Levels::new(alloc, capacities.len())?;
+        let parts = Parts::new(alloc, capacities)?;
+        Ok(Solver {
+            levels,
+            parts,
+            crowd: 0,
+        })
     }
 }
 
 // Takes the flows that ended away.
-fn remove_all(system: &mut System, ended: &[usize])
+fn end_all<L: Ledger>(
+    system: &mut System,
+    levels: &mut Levels,
+    ended: &[usize],
+    steps: &mut Steps<L>,
+)
+    requires between { IsBetween system.old levels.old }
     requires there { (i : ℕ) → i < length ended.now
         → IsSome (flow_at system.old.slots (slice_index ended.now i)) }
     requires once { AllPairs (λ a b. a ≢ b) ended.now }
-    ensures { IsWithout system.old system.new ended.now }
+    ensures without { IsWithout system.old system.new ended.now }
+    ensures between { IsBetween system.new levels.new }
+    ensures changed { NotesChanged system.old system.new levels.old levels.new }
+    ensures within { (p q : ℕ → Bool) → RowsPass q (uses_at system.old.slots) ended.now
+        → IsWithin p q levels.old → IsWithin p q levels.new }
+    ensures looks { steps.new
+        ≡ steps.old + lengths (uses_at system.old.slots) ended.now }
 {
     for flow in ended {
-        system.remove(*flow);
+        levels.end(system, *flow, steps);
     }
 }
 
-/// Brings the rates of all flows up to date: those of the touched ones by filling these alone,
-/// part by part.
+// Marks the active resources.
+fn mark_active(levels: &Levels, resources: &mut Marks)
+    requires { levels.now.active.room ≤ resources.old.room }
+    ensures { MarksRow levels.now.active.members resources.old resources.new }
+{
+    for resource in levels.active() {
+        resources.insert(*resource);
+    }
+}
+
+// Fills what is joined to the marked flows and resources, and keeps the levels that this finds.
+fn fill_joined<L: Ledger>(
+    system: &System,
+    solver: &mut Solver,
+    pending: &Pending,
+    steps: &mut Steps<L>,
+)
+    requires { IsPendingOn system.now solver.old pending.now }
+    ensures solved { IsSolved system.now pending.now solver.old solver.new }
+    ensures looks { SolvesWithin system.now pending.now refill_looks steps.old steps.new }
+{
+    solver.parts.fill(
+        system,
+        pending.marked.members(),
+        &pending.ended,
+        pending.resources.members(),
+        steps,
+    );
+    solver.levels.refill(system, solver.parts.filled(), steps);
+    solver.crowd = solver.parts.touched().len();
+}
+
+// Settles by levels alone, where many flows are joined and few move. False: a filling is to follow.
+fn settle_levels<L: Ledger>(
+    system: &System,
+    solver: &mut Solver,
+    pending: &Pending,
+    steps: &mut Steps<L>,
+) -> bool
+    requires { IsPendingOn system.now solver.old pending.now }
+    ensures solved { IsTrue result → IsSolved system.now pending.now solver.old solver.new }
+    ensures pending { result ≡ false → IsPendingOn system.now solver.new pending.now }
+    ensures changed { NotesChanged system.now system.now solver.old.levels solver.new.levels }
+    ensures looks { SolvesWithin system.now pending.now
+        (try_looks (length pending.now.ended.members)) steps.old steps.new }
+{
+    if solver.crowd == 0 {
+        return false;
+    }
+    let ended = pending.ended.members().len();
+    solver.levels.settle(system, ended, steps)
+}
+
+// Brings the levels up to date, by themselves or by a filling of what is joined.
+fn solve<L: Ledger>(system: &System, solver: &mut Solver, pending: &Pending, steps: &mut Steps<L>)
+    requires { IsPendingOn system.now solver.old pending.now }
+    ensures solved { IsSolved system.now pending.now solver.old solver.new }
+    ensures looks { SolvesWithin system.now pending.now
+        (solve_looks (length pending.now.ended.members)) steps.old steps.new }
+{
+    if settle_levels(system, solver, pending, steps) {
+        return;
+    }
+    fill_joined(system, solver, pending, steps);
+}
+
+// Whether the next settling goes by levels: many flows are joined, and few rates changed.
+fn next_crowd(crowd: usize, changed: usize) -> usize {
+    if crowd < CROWD || crowd / 4 < changed {
+        0
+    } else {
+        crowd
+    }
+}
+
+/// Brings the rates of all flows up to date.
 pub fn settle_flows<L: Ledger>(
     system: &mut System,
     pending: &mut Pending,
-    component: &mut Component,
-    filling: &mut Filling,
+    solver: &mut Solver,
     rated: &mut Rated,
     steps: &mut Steps<L>,
 )
     requires lazy { IsLazy system.old rated.old.rates.items pending.old.began.members
         pending.old.marked.members pending.old.ended.members pending.old.resources.members }
-    requires room { HasRoom system.old pending.old component.old filling.old rated.old }
+    requires room { HasRoom system.old pending.old solver.old.parts rated.old }
+    requires leveled { AreLeveled system.old solver.old.levels rated.old.rates.items
+        pending.old.began.members pending.old.marked.members pending.old.resources.members }
     ensures refilled { IsRefilled system.old system.new pending.old.began.members
         pending.old.marked.members pending.old.ended.members
         rated.old.rates.items rated.new.rates.items rated.new.changed.members }
-    ensures room { HasRoom system.new pending.new component.new filling.new rated.new }
+    ensures room { HasRoom system.new pending.new solver.new.parts rated.new }
+    ensures leveled { AreLeveled system.new solver.new.levels rated.new.rates.items [] [] [] }
     ensures looks { steps.new ≤ steps.old + work
         (running_flows (running_in system.old.slots rated.old.rates.items pending.old.began.members
         pending.old.marked.members pending.old.ended.members))
         (ended_in system.old.slots pending.old.ended.members) pending.old.resources.members }
 {
-    component.touched.clear();
-    component.reached.clear();
     rated.changed.clear();
-    reach_ended(
-        system,
-        pending.ended.members(),
-        &mut pending.resources,
-        steps,
-    );
-    remove_all(system, pending.ended.members());
+    end_all(system, &mut solver.levels, pending.ended.members(), steps);
     system.is_sound();
-    fill_marked(
-        system,
-        pending.marked.members(),
-        &pending.ended,
-        component,
-        filling,
-        steps,
-    );
-    fill_on_all(
-        system,
-        pending.resources.members(),
-        component,
-        filling,
-        steps,
-    );
+    mark_active(&solver.levels, &mut pending.resources);
+    solve(system, solver, pending, steps);
+    let levels = &solver.levels;
     write_rates(
         system,
-        component.touched.members(),
-        &pending.began,
-        &filling.fixed,
+        levels,
+        pending,
         &mut rated.rates,
         &mut rated.changed,
     );
+    solver.crowd = next_crowd(solver.crowd, rated.changed.members().len());
+    solver.levels.forget_moved();
 }

@@ -1,24 +1,36 @@
 //! Writing of rates, and noting of those that change.
-ghost use Rattle.std.specs.Prelude.{◌≡◌, ◌≢◌, ◌<◌, ◌≤◌, ◌^◌, ℕ, [], All, AllPairs, IsSome, None, length, if◌then◌else◌, slice_index};
-ghost use Rattle.sg_base.specs.MarkSet.{with_mark};
+ghost use Rattle.std.specs.Prelude.{◌≡◌, ◌≢◌, ◌<◌, ◌≤◌, ◌*◌, ◌^◌, ℕ, [], false, IsSome, None, length, slice_index, if◌then◌else◌};
+ghost use Rattle.sg_base.specs.MarkSet.{is_in, with_mark};
+ghost use Rattle.sg_maxmin.specs.Fill.{bounded};
 ghost use Rattle.sg_maxmin.specs.Sharing.{flow_at};
-ghost use Rattle.sg_lazy.specs.kept.Changes.{WritesRates, did_change};
-ghost use Rattle.sg_filling.specs.Filling.{fixed_at, given_at};
-ghost use Rattle.sg_levels.specs.Numbered.{bound_at};
+ghost use Rattle.sg_levels.specs.Numbered.{bound_at, flow_in};
+ghost use Rattle.sg_lazy.specs.kept.Changes.{WritesRate, WritesRates, did_change};
+ghost use Rattle.sg_lazy.specs.kept.Leveled.{AreRatable, IsRatable, rate_at, rate_of};
 
+use crate::settle::Pending;
 use sg_base::Marks;
-use sg_filling::share_at_level;
+use sg_levels::Levels;
 use sg_maxmin::System;
 
-// What a flow gets that is fixed at this level; nothing where it isn't fixed.
-fn share(system: &System, flow: usize, fixed: &[Option<u64>]) -> u64
-    requires held { IsSome (flow_at system.now.slots flow) }
-    requires fixed { flow < length fixed.now }
-    requires fits { bound_at system.now.slots flow ≡ None
-        → given_at system.now.slots fixed.now flow < 2 ^ 64 }
-    ensures { result ≡ given_at system.now.slots fixed.now flow }
+// A weight's share at a level.
+fn share_at_level(weight: u32, bound: Option<u64>, level: u64) -> u64
+    requires { bound ≡ None → weight * level < 2 ^ 64 }
+    ensures { result ≡ bounded bound (weight * level) }
 {
-    match fixed[flow] {
+    match bound {
+        None => weight as u64 * level,
+        Some(bound) => (weight as u64).saturating_mul(level).min(bound),
+    }
+}
+
+// What a flow gets at its level; nothing where it has none.
+fn share(system: &System, flow: usize, level: Option<u64>) -> u64
+    requires held { IsSome (flow_at system.now.slots flow) }
+    requires fits { bound_at system.now.slots flow ≡ None
+        → rate_of (flow_in system.now.slots flow) level < 2 ^ 64 }
+    ensures { result ≡ rate_of (flow_in system.now.slots flow) level }
+{
+    match level {
         None => 0,
         Some(level) => share_at_level(system.weight(flow), system.bound(flow), level),
     }
@@ -44,30 +56,47 @@ fn write_rate(flow: usize, rate: u64, began: &Marks, rates: &mut [u64], changed:
     rates[flow] = rate;
 }
 
-/// Writes the rates of the touched flows, and notes those that changed.
-pub fn write_rates(
+// The same of a flow by its level, unless it ended.
+fn rate_flow(
     system: &System,
-    touched: &[usize],
-    began: &Marks,
-    fixed: &[Option<u64>],
+    levels: &Levels,
+    flow: usize,
+    pending: &Pending,
     rates: &mut [u64],
     changed: &mut Marks,
 )
-    requires held { All (λ id. IsSome (flow_at system.now.slots id)) touched.now }
-    requires once { AllPairs (λ a b. a ≢ b) touched.now }
-    requires began { length system.now.slots ≤ began.now.room }
-    requires fixed { length system.now.slots ≤ length fixed.now }
+    requires ratable { IsRatable system.now levels.now pending.now flow }
+    requires rates { flow < length rates.old }
+    requires changed { flow < changed.old.room }
+    ensures { WritesRate pending.now.began.members pending.now.ended.members flow
+        (rate_at system.now.slots levels.now.levels.items)
+        rates.old rates.new changed.old changed.new }
+{
+    if pending.ended.contains(flow) {
+        return;
+    }
+    let rate = share(system, flow, levels.level(flow));
+    write_rate(flow, rate, &pending.began, rates, changed);
+}
+
+/// Writes the rates of the flows that moved, but for those that ended, and notes those that changed.
+pub fn write_rates(
+    system: &System,
+    levels: &Levels,
+    pending: &Pending,
+    rates: &mut [u64],
+    changed: &mut Marks,
+)
+    requires ratable { AreRatable system.now levels.now pending.now }
     requires rates { length system.now.slots ≤ length rates.old }
     requires changed { length system.now.slots ≤ changed.old.room }
     requires none { changed.old.members ≡ [] }
-    requires fits { (i : ℕ) → i < length touched.now
-        → bound_at system.now.slots (slice_index touched.now i) ≡ None
-        → given_at system.now.slots fixed.now (slice_index touched.now i) < 2 ^ 64 }
-    ensures written { WritesRates touched.now began.now.members
-        (given_at system.now.slots fixed.now) rates.old rates.new changed.new.members }
+    ensures written { WritesRates levels.now.moved.members
+        pending.now.began.members pending.now.ended.members
+        (rate_at system.now.slots levels.now.levels.items) rates.old rates.new changed.new.members }
     ensures room { changed.new.room ≡ changed.old.room }
 {
-    for flow in touched {
-        write_rate(*flow, share(system, *flow, fixed), began, rates, changed);
+    for flow in levels.moved() {
+        rate_flow(system, levels, *flow, pending, rates, changed);
     }
 }

@@ -1,6 +1,7 @@
--- How many looks suffice for a settling.
-use Rattle.std.specs.Prelude.{ℕ, ◌+◌, ◌*◌, ◌≤◌}
+-- How many looks suffice.
+use Rattle.std.specs.Prelude.{◌≡◌, ℕ, ◌+◌, ◌*◌, ◌≤◌}
+use Rattle.sg_lazy.specs.kept.Solving.{solve_looks}
 
--- Looks that suffice for a settling: one for each use of an ended flow, and for the running touched flows one to find it, three at each use, to reach it and to begin, and three a step, with no more steps than touched flows.
+-- The looks of a settling are within its bound: one for each use of an ended flow, and those of the levels and of a filling, where flows with uses are joined only if flows are.
 abbrev pub WorkSuffices : Type 0
-WorkSuffices = (m ended_uses running_uses : ℕ) → ended_uses + (m + 3 * running_uses + m * (3 * running_uses)) ≤ 4 * (m + 1) * (m + (ended_uses + running_uses))
+WorkSuffices = (ended flows uses ended_uses : ℕ) → (flows ≡ 0 → uses ≡ 0) → ended_uses + solve_looks ended flows uses ≤ 4 * (ended + flows + 1) * (ended + flows + (ended_uses + uses))

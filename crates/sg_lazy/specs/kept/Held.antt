@@ -3,15 +3,13 @@ use Rattle.std.specs.Prelude.{◌≡◌, ◌≢◌, ℕ, zero, suc, ◌+◌, ◌
 use Rattle.sg_base.specs.MarkSet.{MarkSet, is_in}
 use Rattle.sg_maxmin.specs.Fill.{Flow, flow, share_of}
 use Rattle.sg_maxmin.specs.Sharing.{Sharing, IsSound, flow_at, uses_at}
-use Rattle.sg_filling.specs.declared.filling.Filling.{Filling}
-use Rattle.sg_filling.specs.declared.component.Component.{Component}
+use Rattle.sg_filling.specs.declared.parts.Parts.{Parts}
 use Rattle.sg_lazy.specs.declared.settle.Pending.{Pending}
 use Rattle.sg_lazy.specs.declared.settle.Rated.{Rated}
 use Rattle.sg_lazy.specs.RunningFlow.{RunningFlow, flows_in}
 use Rattle.sg_filling.specs.Component.{lengths}
-use Rattle.sg_filling.specs.Dates.{IsIdle}
 use Rattle.sg_lazy.specs.kept.Keeping.{AreKept}
-use Rattle.sg_filling.specs.Filling.{HasPlaces}
+use Rattle.sg_filling.specs.Parts.{IsReady}
 
 -- the list of what stands under each number below n
 unfoldable pub listed : {X : Type 0} → ℕ → (ℕ → X) → List X
@@ -40,16 +38,13 @@ pub record IsNothing (resources : ℕ) (pending : Pending) : Type 0 where
   pub changed : pending.resources.members ≡ []
   pub room : pending.resources.room ≡ resources
 
--- there is room for all flows, and for all resources, and nobody waits
-pub record HasRoom (s : Sharing) (pending : Pending) (component : Component) (filling : Filling) (rated : Rated) : Type 0 where
+-- there is room for all flows, and for all resources
+pub record HasRoom (s : Sharing) (pending : Pending) (parts : Parts) (rated : Rated) : Type 0 where
   pub began : length s.slots ≤ pending.began.room
   pub marked : length s.slots ≤ pending.marked.room
   pub ended : length s.slots ≤ pending.ended.room
   pub resources : pending.resources.room ≡ length s.capacities
-  pub touched : length s.slots ≤ component.touched.room
-  pub reached : component.reached.room ≡ length s.capacities
-  pub places : HasPlaces s filling
-  pub idle : IsIdle filling
+  pub ready : IsReady (length s.slots) (length s.capacities) parts
   pub rates : length s.slots ≤ length rated.rates.items
   pub changed : length s.slots ≤ rated.changed.room
 
@@ -79,11 +74,10 @@ pub record IsRefilled (old new : Sharing) (began marked ended rates rates' chang
   pub once : AllPairs (λ a b. a ≢ b) changed
 
 -- the sets of flows have room for so many numbers
-pub record HaveRoom (n : ℕ) (pending : Pending) (touched changed : MarkSet) : Type 0 where
+pub record HaveRoom (n : ℕ) (pending : Pending) (changed : MarkSet) : Type 0 where
   pub began : n ≤ pending.began.room
   pub marked : n ≤ pending.marked.room
   pub ended : n ≤ pending.ended.room
-  pub flows : n ≤ touched.room
   pub rates : n ≤ changed.room
 
 -- the same numbers, and no less room

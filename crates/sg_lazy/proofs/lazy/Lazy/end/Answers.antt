@@ -28,13 +28,11 @@ invariant_of-self c =
         marked = inv.1.marked;
         ended = omega (arith, inv.1.ended, ap (λ (m : MarkSet). m.room) c.insert.ensures);
         resources = inv.1.resources;
-        touched = inv.1.touched;
-        reached = inv.1.reached;
-        places = inv.1.places;
-        idle = inv.1.idle;
+        ready = inv.1.ready;
         rates = inv.1.rates;
         changed = inv.1.changed;
       },
+      inv.2,
     )
 
 pub returns : goal.returns

@@ -3,6 +3,8 @@ use Rattle.sg_base.specs.MarkSet.{MarkSet}
 use Rattle.sg_maxmin.specs.Sharing.{flow_at}
 use Rattle.sg_lazy.specs.Lazily.{IsSettled}
 use Rattle.sg_lazy.specs.kept.Held.{running_in, ended_in}
+use Rattle.sg_lazy.specs.kept.Leveled.{AreLeveled}
+use Rattle.sg_lazy.proofs.Leveled.{no_marks}
 use Rattle.sg_filling.proofs.Growing.{in_at}
 use Rattle.sg_lazy.proofs.Whole.{is_settled, settled_lazy}
 use Rattle.sg_lazy.proofs.lazy.Lazy.settle.Goals as goal
@@ -22,13 +24,11 @@ invariant_of-self g c =
         marked = omega (arith, room.marked, ap (λ (m : MarkSet). m.room) c.clear-2.ensures);
         ended = omega (arith, room.ended, ap (λ (m : MarkSet). m.room) c.clear-3.ensures);
         resources = omega (arith, room.resources, ap (λ (m : MarkSet). m.room) c.clear-4.ensures);
-        touched = room.touched;
-        reached = room.reached;
-        places = room.places;
-        idle = room.idle;
+        ready = room.ready;
         rates = room.rates;
         changed = room.changed;
       },
+      no_marks (AreLeveled t c.settle_flows.new.solver.levels rates) c.clear.new.self.members c.clear-2.new.self.members c.clear-4.new.self.members (ap (λ (m : MarkSet). m.members) c.clear.ensures) (ap (λ (m : MarkSet). m.members) c.clear-2.ensures) (ap (λ (m : MarkSet). m.members) c.clear-4.ensures) out.leveled,
     )
 
 pub returns-clause-settled : goal.returns-clause-settled

@@ -4,6 +4,8 @@ use Rattle.sg_maxmin.specs.Fill.{flow}
 use Rattle.sg_lazy.specs.RunningFlow.{running_at}
 use Rattle.sg_lazy.specs.Lazily.{Lazily, with_flow}
 use Rattle.sg_lazy.specs.kept.Held.{IsLazy, running_of, running_in, ended_in}
+use Rattle.sg_lazy.specs.kept.Leveled.{AreLeveled}
+use Rattle.sg_lazy.proofs.Leveled.{ready_on, start_leveled}
 use Rattle.sg_lazy.proofs.Listed.{at_listed, length_listed}
 use Rattle.sg_lazy.proofs.Starting.{start_slots, start_lazy, ended_same, free_not_ended}
 use Rattle.sg_lazy.proofs.lazy.Lazy.start.Goals as goal
@@ -12,10 +14,10 @@ pub invariant_of-self : goal.invariant_of-self
 invariant_of-self c =
     let i = c.self.inside in
     let s = i.system in
-    let t = c.add-number.new.self in
+    let t = c.start-number.new.system in
     let inv = c.self.invariant in
-    let out = c.add-number.ensures in
-    let id = c.add-number.result in
+    let out = c.start-number.ensures.started in
+    let id = c.start-number.result in
     let its = flow c.args.uses.now c.args.weight c.args.bound in
     let m = c.insert.ensures in
     let n = c.insert-2.ensures in
@@ -29,45 +31,37 @@ invariant_of-self c =
         marked = omega (arith, inv.1.marked, len, ap (λ (m : MarkSet). m.room) n);
         ended = omega (arith, inv.1.ended, len);
         resources = omega (arith, inv.1.resources, caps);
-        touched = omega (arith, inv.1.touched, len);
-        reached = omega (arith, inv.1.reached, caps);
-        places = record {
-          fixed_len = omega (arith, inv.1.places.fixed_len, len);
-          holds_len = omega (arith, inv.1.places.holds_len, caps);
-          left_len = omega (arith, inv.1.places.left_len, caps);
-          waiting_len = omega (arith, inv.1.places.waiting_len, caps);
-          levels_len = omega (arith, inv.1.places.levels_len, caps);
-          stale_room = omega (arith, inv.1.places.stale_room, caps);
-          slots = omega (arith, inv.1.places.slots, caps);
-        };
-        idle = inv.1.idle;
+        ready = ready_on i.solver.parts (length s.slots) (length s.capacities) (length t.slots) (length t.capacities) len caps inv.1.ready;
         rates = omega (arith, inv.1.rates, len, length-set i.rated.rates.items id 0);
         changed = omega (arith, inv.1.changed, len);
       },
+      subst (λ b. AreLeveled t c.start-number.new.self (set i.rated.rates.items id 0) b c.insert-2.new.self.members i.pending.resources.members) (sym (ap (λ (m : MarkSet). m.members) m))
+          (subst (λ b. AreLeveled t c.start-number.new.self (set i.rated.rates.items id 0) (with_mark id i.pending.began.members) b i.pending.resources.members) (sym (ap (λ (m : MarkSet). m.members) n))
+          (start_leveled s t i.solver.levels c.start-number.new.self i.rated.rates.items i.pending.began.members i.pending.marked.members i.pending.resources.members id its inv.2 out c.start-number.ensures.between c.start-number.ensures.changed c.start-number.ensures.within)),
     )
 
 pub returns-clause-free : goal.returns-clause-free
 returns-clause-free c =
     let i = c.self.inside in
     let s = i.system in
-    let id = c.add-number.result in
-    let off = free_not_ended s.slots i.pending.ended.members id c.self.invariant.0.ended_are c.add-number.ensures.free in
-    sym (ap (λ (v : Lazily). running_at v.slots id) c.self.view_is) ∙ at_listed (length s.slots) (running_of s.slots i.rated.rates.items i.pending.began.members i.pending.marked.members i.pending.ended.members) id None c.add-number.ensures.in_range ∙ rw (off, c.add-number.ensures.free) refl
+    let id = c.start-number.result in
+    let off = free_not_ended s.slots i.pending.ended.members id c.self.invariant.0.ended_are c.start-number.ensures.started.free in
+    sym (ap (λ (v : Lazily). running_at v.slots id) c.self.view_is) ∙ at_listed (length s.slots) (running_of s.slots i.rated.rates.items i.pending.began.members i.pending.marked.members i.pending.ended.members) id None c.start-number.ensures.started.in_range ∙ rw (off, c.start-number.ensures.started.free) refl
 
 pub returns-clause-in_range : goal.returns-clause-in_range
 returns-clause-in_range c =
     let i = c.self.inside in
     let s = i.system in
-    omega (arith, c.add-number.ensures.in_range, ap (λ (v : Lazily). length v.slots) c.self.view_is, length_listed (length s.slots) (running_of s.slots i.rated.rates.items i.pending.began.members i.pending.marked.members i.pending.ended.members))
+    omega (arith, c.start-number.ensures.started.in_range, ap (λ (v : Lazily). length v.slots) c.self.view_is, length_listed (length s.slots) (running_of s.slots i.rated.rates.items i.pending.began.members i.pending.marked.members i.pending.ended.members))
 
 pub returns-clause-starts : goal.returns-clause-starts
 returns-clause-starts c =
     let i = c.self.inside in
     let s = i.system in
-    let t = c.add-number.new.self in
+    let t = c.start-number.new.system in
     let inv = c.self.invariant in
-    let id = c.add-number.result in
-    let out = c.add-number.ensures in
+    let id = c.start-number.result in
+    let out = c.start-number.ensures.started in
     let its = flow c.args.uses.now c.args.weight c.args.bound in
     let rates = set i.rated.rates.items id 0 in
     let off = free_not_ended s.slots i.pending.ended.members id inv.0.ended_are out.free in
