@@ -2,7 +2,7 @@
 //! One enters by `Kernel`: `answer` takes the call of an actor, `pass` moves the date to what is due next; both give a
 //! `Stop` where the run can't go on.
 //! It stands on one crate for each thing that it keeps: `sg_states`, `sg_activity`, `sg_mailbox`, `sg_requests`,
-//! `sg_sync` and `sg_profile`; and on `sg_route` for the ways of messages.
+//! `sg_sync` and `sg_profile`; on `sg_serials` for whose an activity is, and on `sg_route` for the ways of messages.
 #![tactic(auto)]
 
 mod answers;

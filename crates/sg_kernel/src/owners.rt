@@ -6,8 +6,8 @@ ghost use Rattle.sg_kernel.specs.kept.Owners.{whose_of as whose_of_spec};
 
 use sg_base::{ActorId, BoxId, Memory, Serial};
 use sg_mailbox::Side;
+use sg_serials::BySerial;
 use std::alloc::Global;
-use std::collections::HashMap;
 use std::marker::Model;
 
 /// How an activity is over.
@@ -36,24 +36,24 @@ pub enum Whose {
 /// by serial.
 #[derive(Drop)]
 pub(crate) struct Owners {
-    owners: HashMap<u64, Whose>,
+    owners: BySerial<Whose>,
     drawn: u64,
     room: usize,
 }
 
 impl Model for Owners {
-    ghost use Rattle.std.specs.Prelude.{◌≤◌, nat_eq};
-    ghost use Rattle.std.specs.HashMap as hash;
+    ghost use Rattle.std.specs.Prelude.{◌≤◌};
+    ghost use Rattle.sg_serials.specs.Serials.{at, room as room_in};
     ghost use Rattle.sg_kernel.specs.kept.Owners.{Owned, table};
 
     ghost Value = { Owned };
 
     ghost view = { λ s. record {
-      whose = table (hash.get nat_eq s.owners) 1 s.drawn;
+      whose = table (at s.owners) 1 s.drawn;
       room = s.room;
     } };
 
-    ghost invariant = { λ s. s.room ≤ hash.spare s.owners };
+    ghost invariant = { λ s. s.room ≤ room_in s.owners };
 }
 
 fn whose_of(owner: Option<Whose>) -> Whose
@@ -71,7 +71,7 @@ impl Owners {
         ensures { result ≡ record { whose = []; room = 0 } }
     {
         Owners {
-            owners: HashMap::new(alloc),
+            owners: BySerial::new(alloc),
             drawn: 0,
             room: 0,
         }
@@ -98,10 +98,7 @@ impl Owners {
           room = self.old.room - 1;
         } }
     {
-        match self.owners.insert(self.drawn + 1, whose) {
-            Ok(_) => {}
-            Err(_) => unreachable!(),
-        }
+        self.owners.insert(self.drawn + 1, whose);
         self.drawn += 1;
         self.room -= 1;
     }
@@ -112,7 +109,7 @@ impl Owners {
         requires to { serial.0 ≤ length self.now.whose }
         ensures { result ≡ slice_index_or self.now.whose (serial.0 - 1) (Over how.Done) }
     {
-        whose_of(self.owners.get(&serial.0).copied())
+        whose_of(self.owners.get(serial.0))
     }
 
     /// The activity of this serial is this one's now.
@@ -125,10 +122,7 @@ impl Owners {
           room = self.old.room - 1;
         } }
     {
-        match self.owners.insert(serial.0, whose) {
-            Ok(_) => {}
-            Err(_) => unreachable!(),
-        }
+        self.owners.insert(serial.0, whose);
         self.room -= 1;
     }
 
@@ -143,12 +137,8 @@ impl Owners {
           whose = slice_set self.old.whose (serial.0 - 1) (Over how.Failed);
         } }
     {
-        match self.owners.get_mut(&serial.0) {
-            Some(whose) => {
-                let was = *whose;
-                *whose = Whose::Over(How::Failed);
-                was
-            }
+        match self.owners.replace(serial.0, Whose::Over(How::Failed)) {
+            Some(was) => was,
             None => unreachable!(),
         }
     }
@@ -162,6 +152,6 @@ impl Owners {
           whose = slice_set self.old.whose (serial.0 - 1) (Over how.Done);
         } }
     {
-        whose_of(self.owners.remove(&serial.0))
+        whose_of(self.owners.remove(serial.0))
     }
 }

@@ -1,6 +1,6 @@
 use Rattle.std.proofs.Common.{◌≡◌, ◌≢◌, ◌+◌, ◌-◌, ◌<◌, ℕ, false, true, cond, nat_eq, Option, None, Some, set, get_or, length, refl, sym, ap, subst, ◌∙◌, arith}
 use Rattle.std.specs.Option.{IsSome}
-use Rattle.std.specs.HashMap as hash
+use Rattle.sg_serials.specs.Serials as serials
 use Rattle.sg_kernel.specs.declared.owners.How.TheVariants as how
 use Rattle.sg_kernel.specs.declared.owners.Whose.{Whose}
 use Rattle.sg_kernel.specs.declared.owners.Whose.TheVariants.{Over}
@@ -23,17 +23,17 @@ found owned f drawn serial from within is =
 pub unreachable-requires : goal.unreachable-requires
 unreachable-requires c =
     let s = c.self.inside in
-    let f : ℕ → Option Whose = hash.get nat_eq s.owners in
+    let f : ℕ → Option Whose = serials.at s.owners in
     let within : c.args.serial.0 - 1 < s.drawn = omega (arith, c.requires.from, c.requires.to, ap (λ (o : Owned). length o.whose) c.self.view_is, length-table f 1 s.drawn) in
-    let none : f c.args.serial.0 ≡ None = sym (c.in-None.ensures {u = tt}).value in
+    let none : f c.args.serial.0 ≡ None = sym c.replace.ensures.was ∙ c.in-None.is in
     c.requires.under_way (found c.args.self.now f s.drawn c.args.serial.0 c.requires.from within (ap (λ (o : Owned). o.whose) c.self.view_is) ∙ ap whose_of none)
 
 pub returns-clause-was : goal.returns-clause-was
 returns-clause-was c =
     let s = c.self.inside in
-    let f : ℕ → Option Whose = hash.get nat_eq s.owners in
+    let f : ℕ → Option Whose = serials.at s.owners in
     let within : c.args.serial.0 - 1 < s.drawn = omega (arith, c.requires.from, c.requires.to, ap (λ (o : Owned). length o.whose) c.self.view_is, length-table f 1 s.drawn) in
-    let there : Some c.in-Some.whose.now ≡ f c.args.serial.0 = (c.in-Some.ensures {u = tt}).value in
+    let there : Some c.in-Some.was ≡ f c.args.serial.0 = sym c.in-Some.is ∙ c.replace.ensures.was in
     ap whose_of there ∙ sym (found c.args.self.now f s.drawn c.args.serial.0 c.requires.from within (ap (λ (o : Owned). o.whose) c.self.view_is))
 
 pub returns-clause-is : goal.returns-clause-is
@@ -41,11 +41,11 @@ returns-clause-is c =
     let s = c.self.inside in
     let serial = c.args.serial.0 in
     let w = Over how.Failed in
-    let f : ℕ → Option Whose = hash.get nat_eq s.owners in
-    let g : ℕ → Option Whose = hash.get nat_eq (c.get_mut.follows.lender w) in
-    let there : Some c.in-Some.whose.now ≡ f serial = (c.in-Some.ensures {u = tt}).value in
-    let up = (c.get_mut.follows.holds w).3 (subst IsSome there refl) in
-    let here : g serial ≡ Some w = up.0 serial ∙ ap (λ b. cond b (Some w) (f serial)) (agrees serial) in
-    let apart : (j : ℕ) → j ≢ serial → g j ≡ f j = λ j away. up.0 j ∙ ap (λ b. cond b (Some w) (f j)) (differs serial j away) in
+    let f : ℕ → Option Whose = serials.at s.owners in
+    let g : ℕ → Option Whose = serials.at c.replace.new.self in
+    let some : IsSome c.replace.result = subst IsSome (sym c.in-Some.is) refl in
+    let up = c.replace.ensures.puts some in
+    let here : g serial ≡ Some w = up serial ∙ ap (λ b. cond b (Some w) (f serial)) (agrees serial) in
+    let apart : (j : ℕ) → j ≢ serial → g j ≡ f j = λ j away. up j ∙ ap (λ b. cond b (Some w) (f j)) (differs serial j away) in
     ap (λ l. record { whose = l; room = s.room }) (table-set f g 1 s.drawn serial c.requires.from apart ∙ ap (λ x. set (table f 1 s.drawn) (serial - 1) (whose_of x)) here)
     ∙ ap (λ (o : Owned). record o { whose = set o.whose (serial - 1) w }) c.self.view_is
