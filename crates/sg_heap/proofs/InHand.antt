@@ -2,9 +2,9 @@
 use Rattle.std.proofs.Common.{◌≡◌, ◌≢◌, ℕ, ◌-◌, ◌/◌, ◌<◌, ◌≤◌, List, length, set, length-set, get_or-set_same, get_or-set_other, subst, arith}
 use Rattle.sg_heap.specs.declared.entry.Entry.{Entry}
 use Rattle.sg_heap.specs.Agenda.{IsNoLater}
-use Rattle.sg_heap.specs.kept.Heap.{no_entry, entry_at, key_of, InOrder, IsHeap, ArePlaced, MayRise, MaySink}
+use Rattle.sg_heap.specs.kept.Heap.{no_entry, entry_at, key_of, InOrder, IsHeap, ArePlaced, MayMove, MayRise, MaySink}
 use Rattle.sg_heap.proofs.Placing.{IsMove, moves}
-use Rattle.sg_heap.proofs.Sifts.{by, rises_moved, rises_done, sinks_moved, sinks_done}
+use Rattle.sg_heap.proofs.Sifts.{by, loose_moved, rises_moved, rises_done, sinks_moved, sinks_done}
 
 pub here : (heap : List Entry) (at : ℕ) (entry : Entry) → at < length heap → entry_at (set heap at entry) at ≡ entry
 here heap at entry h = get_or-set_same heap at entry no_entry h
@@ -48,5 +48,16 @@ sink_goes heap place count at to entry parent less in' len p r before first =
       m,
       sinks_moved (set heap at entry) (set (set heap at (entry_at heap to)) to entry) count at to m.exchanged less in' parent
           (by (entry_at heap to) entry (entry_at (set heap at entry) to) (entry_at (set heap at entry) at) same (here heap at entry (omega arith)) before)
+          (λ i hi hc e. by (entry_at heap to) (entry_at heap i) (entry_at (set heap at entry) to) (entry_at (set heap at entry) i) same (there heap at i entry (λ q. omega (arith, q, e))) (first i hi hc e)) r,
+    )
+
+-- down, whatever comes
+pub loose_goes : (heap : List Entry) (place : List ℕ) (count at to : ℕ) (entry : Entry) → (to - 1) / 2 ≡ at → at < to → to < count → count ≤ length heap → ArePlaced (set heap at entry) (set place entry.slot at) → MayMove (set heap at entry) count at →
+    ((i : ℕ) → 0 < i → i < count → (i - 1) / 2 ≡ at → InOrder heap to i) → IsMove heap place at to count entry × MayMove (set (set heap at (entry_at heap to)) to entry) count to
+loose_goes heap place count at to entry parent less in' len p r first =
+    let m = moves heap place at to count entry (λ e. omega (arith, e)) (omega arith) in' len p in
+    let same : entry_at (set heap at entry) to ≡ entry_at heap to = there heap at to entry (λ e. omega (arith, e)) in (
+      m,
+      loose_moved (set heap at entry) (set (set heap at (entry_at heap to)) to entry) count at to m.exchanged less in' parent
           (λ i hi hc e. by (entry_at heap to) (entry_at heap i) (entry_at (set heap at entry) to) (entry_at (set heap at entry) i) same (there heap at i entry (λ q. omega (arith, q, e))) (first i hi hc e)) r,
     )

@@ -1,8 +1,8 @@
 -- A step up or down in a heap keeps its order, and in the end all is in order.
-use Rattle.std.proofs.Common.{◌≡◌, ◌≢◌, ℕ, zero, suc, ◌+◌, ◌-◌, ◌/◌, ◌<◌, ◌≤◌, inl, inr, List, sym, ap, subst, ◌∙◌, arith}
+use Rattle.std.proofs.Common.{◌≡◌, ◌≢◌, ℕ, zero, suc, ◌+◌, ◌-◌, ◌*◌, ◌/◌, ◌<◌, ◌≤◌, inl, inr, List, sym, ap, subst, ◌∙◌, arith}
 use Rattle.sg_heap.specs.declared.entry.Entry.{Entry}
 use Rattle.sg_heap.specs.Agenda.{IsNoLater}
-use Rattle.sg_heap.specs.kept.Heap.{entry_at, key_of, InOrder, IsSpanned, IsHeap, MayRise, MaySink}
+use Rattle.sg_heap.specs.kept.Heap.{entry_at, key_of, InOrder, IsSpanned, IsHeap, MayMove, MayRise, MaySink}
 use Rattle.sg_heap.proofs.Order.{no_later-trans, no_later-same}
 use Rattle.sg_heap.proofs.Placing.{AreExchanged, eq_cases}
 
@@ -72,6 +72,32 @@ sinks_done heap count at r here = λ i hi hc. elim (eq_cases ((i - 1) / 2) at) [
   | inl e ↦ subst (λ k. InOrder heap k i) (sym e) (here i hi hc e)
   | inr ne ↦ r.order i hi hc ne
 ]
+
+-- a child that comes before the others goes up, whatever comes down
+pub loose_moved : (heap heap' : List Entry) (count at to : ℕ) → AreExchanged heap heap' at to → at < to → to < count → (to - 1) / 2 ≡ at → ((i : ℕ) → 0 < i → i < count → (i - 1) / 2 ≡ at → InOrder heap to i) → MayMove heap count at → MayMove heap' count to
+loose_moved heap heap' count at to s less in' parent first r = record { order = order; spanned = spanned }
+  where
+    order : (i : ℕ) → 0 < i → i < count → i ≢ to → (i - 1) / 2 ≢ to → InOrder heap' ((i - 1) / 2) i
+    order i hi hc nt pt = elim (eq_cases i at) [
+      | inl e ↦
+          let upper : entry_at heap' ((i - 1) / 2) ≡ entry_at heap ((i - 1) / 2) = s.at_rest ((i - 1) / 2) (λ q. omega (arith, q, e, hi)) pt in
+          by (entry_at heap ((i - 1) / 2)) (entry_at heap to) (entry_at heap' ((i - 1) / 2)) (entry_at heap' i) upper (ap (entry_at heap') e ∙ s.at_a)
+          (subst (λ k. InOrder heap ((k - 1) / 2) to) (sym e) (r.spanned (subst (λ k. 0 < k) e hi) to (omega arith) in' parent))
+      | inr na ↦
+          let same = s.at_rest i na nt in
+          elim (eq_cases ((i - 1) / 2) at) [
+            | inl e ↦ by (entry_at heap to) (entry_at heap i) (entry_at heap' ((i - 1) / 2)) (entry_at heap' i) (ap (entry_at heap') e ∙ s.at_a) same (first i hi hc e)
+            | inr pa ↦ by (entry_at heap ((i - 1) / 2)) (entry_at heap i) (entry_at heap' ((i - 1) / 2)) (entry_at heap' i) (s.at_rest ((i - 1) / 2) pa pt) same (r.order i hi hc na pa)
+          ]
+    ]
+
+    spanned : IsSpanned heap' count to
+    spanned some i hi hc e = by (entry_at heap to) (entry_at heap i) (entry_at heap' ((to - 1) / 2)) (entry_at heap' i) (ap (entry_at heap') parent ∙ s.at_a) (s.at_rest i (λ q. omega (arith, q, e)) (λ q. omega (arith, q, e)))
+        (subst (λ k. InOrder heap k i) e (r.order i hi hc (λ q. omega (arith, q, e)) (λ q. omega (arith, q, e))))
+
+-- with no children an entry can only come before its parent
+pub loose_rises : (heap : List Entry) (count at : ℕ) → count ≤ 2 * at + 1 → MayMove heap count at → MayRise heap count at
+loose_rises heap count at end r = record { order = λ i hi hc ne. r.order i hi hc ne (λ q. omega (arith, q, hi, hc, end)); spanned = r.spanned }
 
 -- a new entry behind a heap
 pub rises_new : (heap heap' : List Entry) (count : ℕ) → IsHeap heap count → ((i : ℕ) → i < count → entry_at heap' i ≡ entry_at heap i) → MayRise heap' (count + 1) count

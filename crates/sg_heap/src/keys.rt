@@ -4,7 +4,7 @@ ghost use Rattle.sg_heap.specs.Agenda.{digits};
 ghost use Rattle.sg_heap.specs.kept.Heap.{IsAgenda, entry_at, key_of, keys_of};
 
 use crate::entry::{Entry, put};
-use crate::sifting::{rise, sift};
+use crate::sifting::{drop_in, rise, sift};
 use sg_base::Steps;
 use std::sync::ledger::Ledger;
 
@@ -96,7 +96,7 @@ fn take<L: Ledger>(
     let moved = heap[last];
     put(heap, place, last, gone);
     if at < last {
-        sift(heap, place, at, moved, last, steps);
+        drop_in(heap, place, at, moved, last, steps);
     }
 }
 

@@ -119,3 +119,33 @@ pub(crate) fn sift<L: Ledger>(
         sink(heap, place, from, entry, count, steps);
     }
 }
+
+// Writes the entry, which comes from the last level, where it belongs: the first children below this place go up, and
+// from where the last of them stood it rises. It mostly belongs there, so that it is compared once, and not at each level.
+pub(crate) fn drop_in<L: Ledger>(
+    heap: &mut [Entry],
+    place: &mut [usize],
+    from: usize,
+    entry: Entry,
+    count: usize,
+    steps: &mut Steps<L>,
+)
+    requires from { from < count }
+    requires count { count ≤ length heap.old }
+    requires slot { entry.slot < length place.old }
+    requires placed { ArePlaced (slice_set heap.old from entry)
+        (slice_set place.old entry.slot from) }
+    requires loose { MayMove (slice_set heap.old from entry) count from }
+    ensures sifted { IsSifted count (slice_set heap.old from entry)
+        (slice_set place.old entry.slot from) heap.new place.new }
+    ensures most { steps.new ≤ steps.old + (2 * digits count + 1) }
+{
+    let mut at = from;
+    while 2 * at + 1 < count {
+        let child = first_child(heap, at, count, steps);
+        let below = heap[child];
+        put(heap, place, at, below);
+        at = child;
+    }
+    rise(heap, place, at, entry, count, steps);
+}

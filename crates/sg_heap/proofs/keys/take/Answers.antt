@@ -23,22 +23,22 @@ left heap heap' place place' count at a h p order len keys =
 again : (count : ℕ) → 0 < count → (count - 1) + 1 ≡ count
 again count h = omega arith
 
-pub sift-requires-clause-placed : goal.sift-requires-clause-placed
-sift-requires-clause-placed g c =
+pub drop_in-requires-clause-placed : goal.drop_in-requires-clause-placed
+drop_in-requires-clause-placed g c =
     rw (c.put.ensures.heap, c.put.ensures.place) (taken_before c.args.heap.now c.args.place.now c.args.at (c.args.count - 1) c.requires.agenda.placed (omega arith) (omega (arith, c.requires.agenda.within)) c.if-at-last.true).placed
 
-pub sift-requires-clause-loose : goal.sift-requires-clause-loose
-sift-requires-clause-loose g c =
+pub drop_in-requires-clause-loose : goal.drop_in-requires-clause-loose
+drop_in-requires-clause-loose g c =
     rw c.put.ensures.heap (loose_of c.args.heap.now (set (set c.args.heap.now (c.args.count - 1) (entry_at c.args.heap.now c.args.at)) c.args.at (entry_at c.args.heap.now (c.args.count - 1))) c.args.count (c.args.count - 1) c.args.at c.requires.agenda.order (omega arith) c.requires.at
     (taken_before c.args.heap.now c.args.place.now c.args.at (c.args.count - 1) c.requires.agenda.placed (omega arith) (omega (arith, c.requires.agenda.within)) c.if-at-last.true).same)
 
 pub returns-then-at-last-clause-keys : goal.returns-then-at-last-clause-keys
 returns-then-at-last-clause-keys g c =
     let t = taken_before c.args.heap.now c.args.place.now c.args.at (c.args.count - 1) c.requires.agenda.placed (omega arith) (omega (arith, c.requires.agenda.within)) c.if-at-last.true in
-    c.sift.ensures.sifted.keys ∙ rw (c.put.ensures.heap, c.put.ensures.place) (t.keys ∙ ap (λ n. set (keys_of c.args.heap.now c.args.place.now n) (entry_at c.args.heap.now c.args.at).slot None) (again c.args.count (omega arith)))
+    c.drop_in.ensures.sifted.keys ∙ rw (c.put.ensures.heap, c.put.ensures.place) (t.keys ∙ ap (λ n. set (keys_of c.args.heap.now c.args.place.now n) (entry_at c.args.heap.now c.args.at).slot None) (again c.args.count (omega arith)))
 
 pub returns-then-at-last-clause-agenda : goal.returns-then-at-last-clause-agenda
-returns-then-at-last-clause-agenda g c = left c.args.heap.now c.sift.new.heap c.args.place.now c.sift.new.place c.args.count c.args.at c.requires.agenda c.requires.at c.sift.ensures.sifted.placed c.sift.ensures.sifted.order (c.sift.auto.place ∙ c.put.auto.place) (returns-then-at-last-clause-keys g c)
+returns-then-at-last-clause-agenda g c = left c.args.heap.now c.drop_in.new.heap c.args.place.now c.drop_in.new.place c.args.count c.args.at c.requires.agenda c.requires.at c.drop_in.ensures.sifted.placed c.drop_in.ensures.sifted.order (c.drop_in.auto.place ∙ c.put.auto.place) (returns-then-at-last-clause-keys g c)
 
 pub returns-then-at-last-clause-most : goal.returns-then-at-last-clause-most
 returns-then-at-last-clause-most g c = omega (arith, digits-le (c.args.count - 1) c.args.count (omega arith))
