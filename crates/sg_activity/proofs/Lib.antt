@@ -1,3 +1,4 @@
+mod CellLemmas
 pub mod Routed
 pub mod Times
 pub mod Serials

@@ -1,4 +1,5 @@
 -- How `Activities` keeps what is under way.
+pub mod Cells
 pub mod Stamps
 pub mod Pool
 pub mod Rows

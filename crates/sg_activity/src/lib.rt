@@ -8,6 +8,7 @@
 mod activities;
 mod beginning;
 mod capacities;
+mod cells;
 mod index;
 mod kept;
 mod kinds;

@@ -3,9 +3,11 @@
 ghost use Rattle.std.specs.Prelude.{◌≡◌, ◌<◌, ◌≤◌, ◌+◌, ◌-◌, ◌==◌, None, Some, IfSome, IsSome, MatchOption, OnOk, [], if◌then◌else◌, count_by, length, slice_set};
 ghost use Rattle.sg_activity.specs.Slots.{passes};
 ghost use Rattle.sg_activity.specs.Task.{goes_by, is_exec as is_exec_spec, is_held as is_held_spec, takes_share as takes_share_spec};
+ghost use Rattle.sg_activity.specs.kept.Cells.{HasEnds};
 ghost use Rattle.sg_activity.specs.kept.Pool.{IsFound, IsMissing, SameSlots, goes_on, slot_at, uses_ahead as uses_ahead_spec};
 ghost use Rattle.sg_activity.specs.Task.{flows_ahead as flows_ahead_spec};
 
+use crate::cells::{Cell, cell_with, free_cell, live_in};
 use crate::kinds::PhaseKind;
 use sg_base::{Memory, Serial};
 use sg_serials::BySerial;
@@ -103,7 +105,7 @@ fn going_by(kind: PhaseKind) -> usize
 /// another. Nothing but `reserve` takes memory.
 #[derive(Drop)]
 pub(crate) struct Lives {
-    slots: Vec<Option<Live>>,
+    slots: Vec<Cell>,
     // the keys without an activity; the last one is given next
     free: Vec<usize>,
     // by serial the key of its activity
@@ -121,15 +123,16 @@ impl Model for Lives {
 
     ghost use Rattle.std.specs.Prelude.{length, vec_capacity};
     ghost use Rattle.sg_serials.specs.Serials as serials;
+    ghost use Rattle.sg_activity.specs.kept.Cells.{lives_in};
     ghost use Rattle.sg_activity.specs.kept.Pool.{IsLives};
 
     ghost view = { λ s. record {
-      slots = s.slots.items;
+      slots = lives_in s.slots.items;
       free = length s.free.items;
       room = s.room;
     } };
 
-    ghost invariant = { λ s. IsLives s.slots.items s.free.items (vec_capacity s.free)
+    ghost invariant = { λ s. IsLives (lives_in s.slots.items) s.free.items (vec_capacity s.free)
         (serials.at s.by_serial) (serials.room s.by_serial) s.going s.room };
 }
 
@@ -167,7 +170,7 @@ impl Lives {
         requires { key < length self.now.slots }
         ensures { result ≡ slot_at self.now.slots key }
     {
-        self.slots[key]
+        live_in(self.slots[key])
     }
 
     /// The activity of a serial, and its key.
@@ -178,7 +181,7 @@ impl Lives {
         let Some(key) = self.by_serial.get(serial.0) else {
             return None;
         };
-        let Some(live) = self.slots[key] else {
+        let Some(live) = live_in(self.slots[key]) else {
             unreachable!()
         };
         Some((key, live))
@@ -188,6 +191,7 @@ impl Lives {
     pub(crate) fn put(&mut self, live: Live) -> usize
         requires room { 0 < self.old.room }
         requires apart { IsMissing self.old.slots live.serial }
+        requires ends { HasEnds live }
         ensures free { slot_at self.old.slots result ≡ None }
         ensures in_range { result < length self.old.slots }
         ensures slots { self.new.slots ≡ slice_set self.old.slots result (Some live) }
@@ -197,23 +201,25 @@ impl Lives {
             unreachable!()
         };
         self.by_serial.insert(live.serial, key);
-        self.slots[key] = Some(live);
+        self.slots[key] = cell_with(live);
         self.going += going_by(live.kind);
         self.room -= 1;
         key
     }
 
-    /// Puts an activity of the same serial in place of the one under a key.
+    /// Puts an activity of the same serial, on the same hosts, in place of the one under a key.
     pub(crate) fn set(&mut self, key: usize, live: Live)
         requires there { IsSome (slot_at self.old.slots key) }
         requires same { IfSome (slot_at self.old.slots key) (λ old. old.serial ≡ live.serial) }
+        requires host { IfSome (slot_at self.old.slots key) (λ old. old.host ≡ live.host) }
+        requires peer { IfSome (slot_at self.old.slots key) (λ old. old.peer ≡ live.peer) }
         ensures slots { self.new.slots ≡ slice_set self.old.slots key (Some live) }
         ensures room { self.new.room ≡ self.old.room }
     {
-        let Some(old) = self.slots[key] else {
+        let Some(old) = live_in(self.slots[key]) else {
             unreachable!()
         };
-        self.slots[key] = Some(live);
+        self.slots[key] = cell_with(live);
         self.going = self.going - going_by(old.kind) + going_by(live.kind);
     }
 
@@ -223,11 +229,11 @@ impl Lives {
         ensures slots { self.new.slots ≡ slice_set self.old.slots key None }
         ensures room { self.new.room ≡ self.old.room }
     {
-        let Some(old) = self.slots[key] else {
+        let Some(old) = live_in(self.slots[key]) else {
             unreachable!()
         };
         self.by_serial.remove(old.serial);
-        self.slots[key] = None;
+        self.slots[key] = free_cell();
         self.free.push_reserved(key);
         self.going -= going_by(old.kind);
     }
@@ -242,7 +248,7 @@ impl Lives {
     {
         let key = self.slots.len();
         self.free.reserve(key + 1 - self.free.len())?;
-        match self.slots.push(None) {
+        match self.slots.push(free_cell()) {
             Ok(()) => {}
             Err(_) => return Err(Memory),
         }

@@ -208,3 +208,9 @@ returns-clause-hit c hits is =
       | inr ne ↦ ap (hit_in s.on (links_at s.ways k)) (set_there s.slots key k (Some live) ne)
     ])
     (ap length c.set.ensures.slots ∙ length-set s.slots key (Some live))
+
+pub set-requires-clause-host : goal.set-requires-clause-host
+set-requires-clause-host c = subst (λ o. IfSome o (λ (l : Live). l.host ≡ c.args.live.host)) (sym c.requires.at) refl
+
+pub set-requires-clause-peer : goal.set-requires-clause-peer
+set-requires-clause-peer c = subst (λ o. IfSome o (λ (l : Live). l.peer ≡ c.args.live.peer)) (sym c.requires.at) refl

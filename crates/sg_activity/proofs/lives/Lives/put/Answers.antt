@@ -1,11 +1,13 @@
-use Rattle.std.proofs.Common.{◌≡◌, ◌++◌, [], ◌∷◌, ℕ, cond, Option, None, Some, get_or, ◌<◌, ◌+◌, length, subst, sym, ap, ◌∙◌, arith}
+use Rattle.std.proofs.Common.{◌≡◌, ◌++◌, [], ◌∷◌, ℕ, cond, Option, None, Some, get_or, ◌<◌, ◌+◌, length, set, subst, sym, ap, ◌∙◌, arith}
 use Rattle.sg_serials.specs.Serials as serials
 use Rattle.std.specs.Prelude.{vec_capacity}
 use Rattle.std.specs.Option.{option_to_list}
 use Rattle.std.proofs.lemmas.List.{length-append}
 use Rattle.std.proofs.Math.Seq.{get_or-append_seam}
 use Rattle.sg_activity.specs.Slots.{passes}
+use Rattle.sg_activity.specs.kept.Cells.{lives_in}
 use Rattle.sg_activity.specs.kept.Pool.{Pool, IsPool, IsMissing, goes_on, slot_at}
+use Rattle.sg_activity.proofs.CellLemmas.{lives_set}
 use Rattle.sg_activity.proofs.Found.{agrees, differs, found_put}
 use Rattle.sg_activity.proofs.Pooled.{counts_set, given}
 use Rattle.sg_activity.proofs.lives.Lives.put.Goals as goal
@@ -13,7 +15,8 @@ use Rattle.sg_activity.proofs.lives.Lives.put.Goals as goal
 pub invariant_of-self : goal.invariant_of-self
 invariant_of-self c =
     let s = c.self.inside in
-    let slots = s.slots.items in
+    let cells = s.slots.items in
+    let slots = lives_in cells in
     let key = c.in-Some.key in
     let live = c.args.live in
     let rest : s.free.items ≡ c.pop.new.self.items ++ key ∷ [] = c.pop.ensures.items ∙ ap (λ o. c.pop.new.self.items ++ option_to_list o) c.in-Some.is in
@@ -27,10 +30,13 @@ invariant_of-self c =
     let f : ℕ → Option ℕ = serials.at s.by_serial in
     let g : ℕ → Option ℕ = serials.at c.insert.new.self in
     let up = c.insert.ensures.puts in
-    record {
+    rw (lives_set cells key c.cell_with.result (Some live) c.cell_with.ensures) (record {
       pool = given slots s.free.items c.pop.new.self.items key live (vec_capacity c.pop.new.self) (subst (IsPool slots s.free.items) (sym c.pop.ensures.capacity) taken) rest;
       keyed = found_put slots f key c.self.invariant.keyed within g live missing free (up live.serial ∙ ap (λ b. cond b (Some key) (f live.serial)) (agrees live.serial)) (λ j ne. up j ∙ ap (λ b. cond b (Some key) (f j)) (differs live.serial j ne));
       goes = omega (arith, c.self.invariant.goes, c.going_by.ensures, counts_set slots key (Some live) within, ap {B = ℕ} (λ o. cond (passes goes_on o) 1 0) free);
       free_room = omega (arith, c.self.invariant.free_room, few);
       spare_room = omega (arith, c.self.invariant.spare_room, c.insert.ensures.room);
-    }
+    })
+
+pub returns-clause-slots : goal.returns-clause-slots
+returns-clause-slots c = lives_set c.self.inside.slots.items c.in-Some.key c.cell_with.result (Some c.args.live) c.cell_with.ensures ∙ ap (λ (p : Pool). set p.slots c.in-Some.key (Some c.args.live)) c.self.view_is
