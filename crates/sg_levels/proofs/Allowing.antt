@@ -1,5 +1,5 @@
 -- What a settling knows is so of all that is joined.
-use Rattle.std.proofs.Common.{◌≡◌, ◌≢◌, ℕ, ◌+◌, ◌-◌, ◌<◌, ◌≤◌, ◌⊎◌, inl, inr, Bool, true, false, cond, ◌||◌, true≢false, max, All, AllPairs, IsTrue, IsSome, Option, Some, None, List, length, get_or, refl, sym, ap, ◌∙◌, arith}
+use Rattle.std.proofs.Common.{◌≡◌, ◌≢◌, ℕ, ◌+◌, ◌-◌, ◌<◌, ◌≤◌, ◌⊎◌, inl, inr, Bool, true, false, cond, ◌||◌, true≢false, max, All, AllPairs, IsTrue, IsSome, Option, Some, None, List, length, get_or, slice_index, refl, sym, ap, ◌∙◌, arith}
 use Rattle.std.proofs.lemmas.List.{get_or_past}
 use Rattle.std.proofs.lemmas.List.Elements.{All-get_or}
 use Rattle.sg_base.specs.MarkSet.{is_in}
@@ -9,7 +9,7 @@ use Rattle.sg_maxmin.specs.Sharing.{Sharing, IsSound, flow_at}
 use Rattle.sg_levels.specs.declared.allowance.Allowance.{Allowance}
 use Rattle.sg_levels.specs.declared.levels.Levels.{Levels}
 use Rattle.sg_levels.specs.Settling.{is_active}
-use Rattle.sg_levels.specs.Kept.{IsWithin, PassAlong, StaysWithin}
+use Rattle.sg_levels.specs.Kept.{IsKept, IsWithin, PassAlong, StaysWithin}
 use Rattle.sg_levels.specs.Joined.{joined_count, joined_uses, spare_looks}
 use Rattle.sg_levels.specs.Allowed.{AreNew, IsJoined, SparesLooks}
 use Rattle.sg_levels.proofs.Users.{on_held}
@@ -103,12 +103,14 @@ users_joined s sound first now stays r on p q along within =
     (row_count s sound r p (λ id i. along.users r id here i), row_uses s sound r p (λ id i. along.users r id here i))
 
 -- ---- what is known in one more round
-pub round_joined : (s : Sharing) → IsSound s → (first now : Levels) → AreNew s first → StaysWithin s first now → (given : Allowance) (flows : ℕ) → IsJoined s first given → flows ≡ length now.moved.members - (length first.moved.members - length first.stale.members) →
+pub round_joined : (s : Sharing) → IsSound s → (first now : Levels) → AreNew s first → StaysWithin s first now → IsKept s now → (given : Allowance) (flows most : ℕ) → ((n : ℕ) → ((r : ℕ) → is_active now.active.members r ≡ true → slice_index now.counts.items r ≤ n) → most ≤ n) → IsJoined s first given → flows ≡ length now.moved.members - (length first.moved.members - length first.stale.members) →
     AllPairs (λ a b. a ≢ b) first.stale.members → AllPairs (λ a b. a ≢ b) now.moved.members → All (λ number. number < first.stale.room) first.stale.members → All (λ number. number < first.moved.room) first.moved.members → All (λ number. number < now.moved.room) now.moved.members →
-    (p q : ℕ → Bool) → PassAlong s p q → IsWithin p q first → (max given.known flows ≤ joined_count s.slots p) × (given.row ≤ joined_uses s.slots p)
-round_joined s sound first now new stays given flows joined is once once' bx by bz p q along within =
+    (p q : ℕ → Bool) → PassAlong s p q → IsWithin p q first → (max (max given.known flows) most ≤ joined_count s.slots p) × (max given.row most ≤ joined_uses s.slots p)
+round_joined s sound first now new stays kept given flows most told joined is once once' bx by bz p q along within =
     let before = joined p q along within in
-    (omega (arith, before.0, is, flows_count s sound first now new stays p q along within once once' bx by bz), before.1)
+    let count = told (joined_count s.slots p) (λ r on. omega (arith, kept.counts r, (users_joined s sound first now stays r on p q along within).0)) in
+    let uses = told (joined_uses s.slots p) (λ r on. omega (arith, kept.counts r, (users_joined s sound first now stays r on p q along within).1)) in
+    (omega (arith, before.0, is, count, flows_count s sound first now new stays p q along within once once' bx by bz), omega (arith, before.1, uses))
 
 -- ---- what is known allows no more than what is joined
 pub spared : (s : Sharing) (first : Levels) (k r m before now : ℕ) → ((p q : ℕ → Bool) → PassAlong s p q → IsWithin p q first → (k ≤ joined_count s.slots p) × (r ≤ joined_uses s.slots p)) → now ≤ before + spare_looks k r m → SparesLooks s first m before now

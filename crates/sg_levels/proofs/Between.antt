@@ -12,6 +12,7 @@ use Rattle.sg_levels.specs.Held.{IsHold}
 use Rattle.sg_levels.specs.Settling.{AreMarked, AreSettlingBut, is_active}
 use Rattle.sg_levels.specs.Kept.{AreParts, HasRoom, IsBetween, IsBetweenBut, IsFresh, IsKept, KeepsAll, MarksNoMore, NotesChanged, NotesMoved, SharesAreNoted}
 use Rattle.sg_levels.proofs.Listed.{bool_cases, eq_cases, mark_stays, mark_there, none_some, some_same, times-cons}
+use Rattle.sg_levels.proofs.Joined.{users_same}
 use Rattle.sg_levels.proofs.Keeping.{system_kept}
 use Rattle.sg_levels.proofs.Marked.{changes_keep_lem}
 
@@ -40,9 +41,9 @@ none_holds capacity slots levels = record { above = λ x u w. absurd (none w); m
     none : 0 < 0 → ⊥
     none h = omega (arith, h)
 
-pub fresh : (kept : Levels) (resources : ℕ) → length kept.holds.items ≡ resources → length kept.demands.items ≡ resources → kept.active.room ≡ resources → ((i : ℕ) → level_at kept.holds.items i ≡ None) → ((i : ℕ) → slice_index kept.demands.items i ≡ 0) → ((i : ℕ) → slice_index kept.parts.items i ≡ 0) → kept.stale.members ≡ [] →
+pub fresh : (kept : Levels) (resources : ℕ) → length kept.holds.items ≡ resources → length kept.demands.items ≡ resources → length kept.counts.items ≡ resources → kept.active.room ≡ resources → ((i : ℕ) → level_at kept.holds.items i ≡ None) → ((i : ℕ) → slice_index kept.demands.items i ≡ 0) → ((i : ℕ) → slice_index kept.parts.items i ≡ 0) → ((i : ℕ) → slice_index kept.counts.items i ≡ 0) → kept.stale.members ≡ [] →
     IsFresh resources kept
-fresh kept resources holds_len demands_len active_len holds demands parts none_stale s sound empty as_many =
+fresh kept resources holds_len demands_len counts_len active_len holds demands parts counts none_stale s sound empty as_many =
     let few : length s.slots ≡ 0 = ap (λ (xs : List (Option Flow)). length xs) empty in
     record {
       kept = record {
@@ -53,9 +54,11 @@ fresh kept resources holds_len demands_len active_len holds demands parts none_s
           stale = omega (arith, few);
           holds = holds_len ∙ sym as_many;
           demands = demands_len ∙ sym as_many;
+          counts = counts_len ∙ sym as_many;
           active = active_len ∙ sym as_many;
         };
         demands = λ c. demands c ∙ sym (ap (sum_by (slice_index kept.parts.items)) (no_users s sound empty c));
+        counts = λ c. omega (arith, counts c);
         fit = λ id. omega (arith, parts id);
         none = λ id e. parts id;
         longest = λ id. let none : length (uses_at s.slots id) ≡ 0 = ap (λ o. length (uses_in o)) (none_held s empty id) in omega (arith, none);
@@ -82,9 +85,11 @@ grown_kept s old new keeps kept =
         stale = omega (arith, places.stale, keeps.stale_room);
         holds = ap length keeps.holds ∙ places.holds;
         demands = ap length keeps.demands ∙ places.demands;
+        counts = ap length keeps.counts ∙ places.counts;
         active = ap (λ (m : MarkSet). m.room) keeps.active ∙ places.active;
       };
       demands = λ c. ap (λ ds. slice_index ds c) keeps.demands ∙ kept.demands c ∙ sum_by_same (slice_index old.parts.items) (slice_index new.parts.items) (users_on s.users c) (λ id i. sym (keeps.parts id));
+      counts = λ c. subst (λ ns. slice_index ns c ≤ length (users_on s.users c)) (sym keeps.counts) (kept.counts c);
       fit = λ id. omega (arith, keeps.parts id, kept.fit id);
       none = λ id gone. keeps.parts id ∙ kept.none id gone;
       longest = λ id. omega (arith, keeps.longest, kept.longest id);
@@ -142,8 +147,9 @@ between_extended s t sound sound' kept caps capacities same room before =
       stale = room.stale;
       holds = places.holds ∙ sym caps;
       demands = places.demands ∙ sym caps;
+      counts = places.counts ∙ sym caps;
       active = places.active ∙ sym caps;
-    }) (λ id. inl (ap uses_in (same id))) (λ id gone. inl (sym (same id) ∙ gone)) (λ id. subst (λ o. length (uses_in o) ≤ kept.longest) (sym (same id)) (before.kept.longest id)))
+    }) (λ id. inl (ap uses_in (same id))) (λ id gone. inl (sym (same id) ∙ gone)) (λ id. subst (λ o. length (uses_in o) ≤ kept.longest) (sym (same id)) (before.kept.longest id)) (λ c. omega (arith, before.kept.counts c, users_same s t sound sound' c (λ id. ap (λ o. times c (uses_in o)) (same id)))))
     (λ id some off. before.parts id (held id some) off ∙ asks_same s t kept.levels.items kept.levels.items id (same id) refl) (λ id i. subst IsSome (sym (same id)) (before.alive id i))
 
 -- ---- what is noted

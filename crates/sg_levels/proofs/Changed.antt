@@ -1,5 +1,5 @@
 -- What is kept as flows begin and end, and as they have other bounds and resources other capacities.
-use Rattle.std.proofs.Common.{◌≡◌, ◌≢◌, ℕ, ◌<◌, ◌≤◌, ◌⊎◌, inl, inr, true, false, true≢false, Option, None, Some, IsSome, IfSome, List, length, length-set, get_or-set_same, get_or-set_other, set, slice_index, refl, sym, ap, subst, ◌∙◌, arith}
+use Rattle.std.proofs.Common.{◌-◌, ◌+◌, ◌≡◌, ◌≢◌, ℕ, ◌<◌, ◌≤◌, ◌⊎◌, inl, inr, true, false, true≢false, Option, None, Some, IsSome, IfSome, List, length, length-set, get_or-set_same, get_or-set_other, set, slice_index, refl, sym, ap, subst, ◌∙◌, arith}
 use Rattle.sg_base.specs.MarkSet.{MarkSet, is_in, with_mark}
 use Rattle.sg_maxmin.specs.Fill.{Flow}
 use Rattle.sg_maxmin.specs.Sharing.{Sharing, IsSound, Changes, flow_at, uses_at, uses_in}
@@ -8,7 +8,9 @@ use Rattle.sg_levels.specs.Numbered.{level_at}
 use Rattle.sg_levels.specs.Settling.{IsChanged, IsSame, IsStale, is_active}
 use Rattle.sg_levels.specs.Kept.{ActivatesAll, HasLeft, IsBetween, IsBetweenBut, IsKept, NotesChanged}
 use Rattle.sg_levels.proofs.Listed.{bool_cases, eq_cases, mark_stays, mark_there, none_some, off_mark, some_of}
-use Rattle.sg_levels.proofs.Users.{flow_below, uses_held}
+use Rattle.sg_levels.proofs.Users.{flow_below, uses_held, held_below}
+use Rattle.sg_chains.specs.Chained.{times, users_on}
+use Rattle.sg_levels.proofs.Joined.{users_more, users_same}
 use Rattle.sg_levels.proofs.Keeping.{system_kept}
 use Rattle.sg_levels.proofs.Within.{marked_or}
 use Rattle.sg_levels.proofs.Between.{asks_same, between_changed, notes_gone, notes_one, notes_same}
@@ -25,6 +27,12 @@ not_there id slots none flow e = none_some (sym none ∙ e)
 
 -- ---- a flow begins
 module _ (s t : Sharing) (sound : IsSound s) (sound' : IsSound t) (id : ℕ) (its : Flow) (free : flow_at s.slots id ≡ None) (added : Changes s.slots t.slots id (Some its)) (numbers : length t.slots ≡ length s.slots) (capacities : t.capacities ≡ s.capacities) where
+  -- each of its resources has it as a user more
+  pub started_users : (c : ℕ) → length (users_on t.users c) ≡ length (users_on s.users c) + times c its.uses
+  started_users c =
+      let below = flow_below t.slots id its added.changed in
+      users_more s t sound sound' c id (omega (arith, below)) (ap (λ o. times c (uses_in o)) free) (λ other ne. ap uses_in (added.others other ne)) ∙ ap (λ row. length (users_on s.users c) + times c row) (uses_held t.slots id its added.changed)
+
   pub start_kept : (kept : Levels) → IsKept s kept → length its.uses ≤ kept.longest → IsKept t kept
   start_kept kept are long =
       let places = are.places in
@@ -36,6 +44,7 @@ module _ (s t : Sharing) (sound : IsSound s) (sound' : IsSound t) (id : ℕ) (it
         stale = omega (arith, places.stale, numbers);
         holds = places.holds ∙ sym caps;
         demands = places.demands ∙ sym caps;
+        counts = places.counts ∙ sym caps;
         active = places.active ∙ sym caps;
       })
       (λ other. elim (eq_cases other id) [
@@ -49,9 +58,9 @@ module _ (s t : Sharing) (sound : IsSound s) (sound' : IsSound t) (id : ℕ) (it
       (λ other. elim (eq_cases other id) [
         | inl e ↦ subst (λ row. length row ≤ kept.longest) (sym (ap (uses_at t.slots) e ∙ uses_held t.slots id its added.changed)) long
         | inr ne ↦ subst (λ o. length (uses_in o) ≤ kept.longest) (sym (added.others other ne)) (are.longest other)
-      ])
+      ]) (λ c. omega (arith, are.counts c, started_users c))
 
-  module _ (old new : Levels) (before : IsBetween s old) (kept : IsKept s new) (long : length its.uses ≤ new.longest) (levels : new.levels.items ≡ old.levels.items) (parts : new.parts.items ≡ old.parts.items) (holds : new.holds.items ≡ old.holds.items) (active : new.active ≡ old.active)
+  module _ (old new : Levels) (before : IsBetween s old) (kept : IsKept t new) (levels : new.levels.items ≡ old.levels.items) (parts : new.parts.items ≡ old.parts.items) (holds : new.holds.items ≡ old.holds.items) (active : new.active ≡ old.active)
       (stale : new.stale.members ≡ with_mark id old.stale.members) (moved : new.moved.members ≡ with_mark id old.moved.members) where
     new_one : (other : ℕ) → is_in other new.stale.members ≡ false → (other ≢ id) × (is_in other old.stale.members ≡ false)
     new_one other off = off_mark other id old.stale.members (subst (λ m. is_in other m ≡ false) stale off)
@@ -72,7 +81,7 @@ module _ (s t : Sharing) (sound : IsSound s) (sound' : IsSound t) (id : ℕ) (it
             }))
             | inr off ↦ let is = new_one other off in inl (record { flow = added.others other is.0; level = ap (λ ls. level_at ls other) levels; still = λ o. is.1 })
           ];
-        }) holds (start_kept new kept long)
+        }) holds kept
         (λ other held off.
         let is = new_one other off in
         ap (λ ps. slice_index ps other) parts ∙ before.parts other (subst IsSome (added.others other is.0) held) is.1 ∙ asks_same s t old.levels.items new.levels.items other (added.others other is.0) (ap (λ ls. level_at ls other) levels))
@@ -85,7 +94,7 @@ module _ (s t : Sharing) (sound : IsSound s) (sound' : IsSound t) (id : ℕ) (it
         ])
 
 -- ---- a flow ends
-module _ (s t : Sharing) (sound : IsSound s) (sound' : IsSound t) (id : ℕ) (removed : Changes s.slots t.slots id None) (numbers : length t.slots ≡ length s.slots) (capacities : t.capacities ≡ s.capacities) (old new : Levels) (stale' : List ℕ) (before : IsBetween s old) (below : id < length old.parts.items) (left : HasLeft old new id) (gone : is_in id stale' ≡ false) (rests : (other : ℕ) → other ≢ id → is_in other stale' ≡ is_in other old.stale.members) (activates : ActivatesAll (uses_at s.slots id) old.active.members new.active.members) (kept : IsKept s new) where
+module _ (s t : Sharing) (sound : IsSound s) (sound' : IsSound t) (id : ℕ) (removed : Changes s.slots t.slots id None) (numbers : length t.slots ≡ length s.slots) (capacities : t.capacities ≡ s.capacities) (old new : Levels) (stale' : List ℕ) (before : IsBetween s old) (below : id < length old.parts.items) (left : HasLeft old new id) (gone : is_in id stale' ≡ false) (rests : (other : ℕ) → other ≢ id → is_in other stale' ≡ is_in other old.stale.members) (activates : ActivatesAll (uses_at s.slots id) old.active.members new.active.members) (kept : IsKept s new) (held : IsSome (flow_at s.slots id)) (counts : (c : ℕ) → slice_index new.counts.items c ≤ slice_index old.counts.items c - times c (uses_at s.slots id)) where
   no_part : slice_index new.parts.items id ≡ 0
   no_part = ap (λ ps. slice_index ps id) left.parts ∙ get_or-set_same old.parts.items id 0 0 below
 
@@ -112,6 +121,7 @@ module _ (s t : Sharing) (sound : IsSound s) (sound' : IsSound t) (id : ℕ) (re
         stale = omega (arith, places.stale, numbers);
         holds = places.holds ∙ sym caps;
         demands = places.demands ∙ sym caps;
+        counts = places.counts ∙ sym caps;
         active = places.active ∙ sym caps;
       })
       (λ other. elim (eq_cases other id) [
@@ -125,7 +135,7 @@ module _ (s t : Sharing) (sound : IsSound s) (sound' : IsSound t) (id : ℕ) (re
       (λ other. elim (eq_cases other id) [
         | inl e ↦ let none : length (uses_at t.slots other) ≡ 0 = ap (λ o. length (uses_in o)) (ap (flow_at t.slots) e ∙ removed.changed) in omega (arith, none)
         | inr ne ↦ subst (λ o. length (uses_in o) ≤ new.longest) (sym (removed.others other ne)) (kept.longest other)
-      ])
+      ]) (λ c. omega (arith, counts c, before.kept.counts c, users_more t s sound' sound c id (omega (arith, held_below s.slots id held)) (ap (λ o. times c (uses_in o)) removed.changed) (λ other ne. sym (ap uses_in (removed.others other ne)))))
 
   ended_marks : (other : ℕ) → IsSame s t old.levels.items new.levels.items old.stale.members stale' other ⊎ (IsStale s t stale' other ⊎ IsChanged (flow_at s.slots other) (flow_at t.slots other) (level_at new.levels.items other) new.active.members)
   ended_marks other = elim (eq_cases other id) [
@@ -186,6 +196,7 @@ module _ (s t : Sharing) (sound : IsSound s) (sound' : IsSound t) (id : ℕ) (us
         stale = omega (arith, places.stale, numbers);
         holds = places.holds ∙ sym caps;
         demands = places.demands ∙ sym caps;
+        counts = places.counts ∙ sym caps;
         active = places.active ∙ sym caps;
       })
       (λ other. inl (uses_stay other))
@@ -193,7 +204,7 @@ module _ (s t : Sharing) (sound : IsSound s) (sound' : IsSound t) (id : ℕ) (us
         | inl e ↦ absurd (true≢false (sym (subst IsSome (ap (flow_at t.slots) (sym e) ∙ gone) held')))
         | inr ne ↦ inl (sym (others other ne) ∙ gone)
       ])
-      (λ other. subst (λ row. length row ≤ new.longest) (sym (uses_stay other)) (kept.longest other))
+      (λ other. subst (λ row. length row ≤ new.longest) (sym (uses_stay other)) (kept.longest other)) (λ c. omega (arith, kept.counts c, users_same s t sound sound' c (λ other. ap (times c) (uses_stay other))))
 
   pub bounded_between : IsBetween t new
   bounded_between =
@@ -237,9 +248,10 @@ module _ (s t : Sharing) (sound : IsSound s) (sound' : IsSound t) (c : ℕ) (slo
         stale = omega (arith, places.stale, numbers);
         holds = places.holds ∙ sym as_many;
         demands = places.demands ∙ sym as_many;
+        counts = places.counts ∙ sym as_many;
         active = places.active ∙ sym as_many;
       })
-      (λ id. inl (ap uses_in (flow_stays id))) (λ id gone. inl (sym (flow_stays id) ∙ gone)) (λ id. subst (λ o. length (uses_in o) ≤ new.longest) (sym (flow_stays id)) (kept.longest id))
+      (λ id. inl (ap uses_in (flow_stays id))) (λ id gone. inl (sym (flow_stays id) ∙ gone)) (λ id. subst (λ o. length (uses_in o) ≤ new.longest) (sym (flow_stays id)) (kept.longest id)) (λ c. omega (arith, kept.counts c, users_same s t sound sound' c (λ id. ap (λ o. times c (uses_in o)) (flow_stays id))))
 
   other_one : (r : ℕ) → is_active new.active.members r ≡ false → (r ≢ c) × (is_active old.active.members r ≡ false)
   other_one r off = off_mark r c old.active.members (subst (λ marks. is_active marks r ≡ false) active off)

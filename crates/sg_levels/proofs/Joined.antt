@@ -216,6 +216,26 @@ joined_listed slots p xs once held same = (
       | inr off ↦ ap (λ n. n * slot_part (λ flow. 1) (flow_at slots id)) (times_out id xs off) ∙ none_times (slot_part (λ flow. 1) (flow_at slots id)) ∙ sym (times_out id xs off)
     ]
 
+-- how many users a resource has, where each flow uses it as often, or one more does
+module _ (s t : Sharing) (sound : IsSound s) (sound' : IsSound t) (c : ℕ) where
+  in_s : (i : ℕ) → i < length (users_on s.users c) → get_or (users_on s.users c) i 0 < length s.slots + length t.slots
+  in_s i h = omega (arith, on_below s sound c i h)
+
+  in_t : (i : ℕ) → i < length (users_on t.users c) → get_or (users_on t.users c) i 0 < length s.slots + length t.slots
+  in_t i h = omega (arith, on_below t sound' c i h)
+
+  pub users_same : ((id : ℕ) → times c (uses_at t.slots id) ≡ times c (uses_at s.slots id)) → length (users_on t.users c) ≡ length (users_on s.users c)
+  users_same same = length_below (users_on t.users c) (length s.slots + length t.slots) in_t ∙ below_same (λ i. times i (users_on t.users c)) (λ i. times i (users_on s.users c)) (length s.slots + length t.slots) (λ i h. sound'.both i c ∙ same i ∙ sym (sound.both i c)) ∙ sym (length_below (users_on s.users c) (length s.slots + length t.slots) in_s)
+
+  pub users_more : (id : ℕ) → id < length s.slots + length t.slots → times c (uses_at s.slots id) ≡ 0 → ((other : ℕ) → other ≢ id → uses_at t.slots other ≡ uses_at s.slots other) → length (users_on t.users c) ≡ length (users_on s.users c) + times c (uses_at t.slots id)
+  users_more id below none others =
+      let n = length s.slots + length t.slots in
+      let same = below_same (λ i. times i (users_on t.users c)) (λ i. times i (users_on s.users c) + at_one (λ i. times c (uses_at t.slots id)) id i) n (λ i h. elim (eq_cases i id) [
+        | inl e ↦ omega (arith, sound'.both i c, sound.both i c, ap (λ j. times c (uses_at t.slots j)) e, ap (λ j. times c (uses_at s.slots j)) e, none, ap {B = ℕ} (λ b. cond b (times c (uses_at t.slots id)) 0) (eq-eqb id i (sym e)))
+        | inr ne ↦ omega (arith, sound'.both i c, sound.both i c, ap (times c) (others i ne), ap {B = ℕ} (λ b. cond b (times c (uses_at t.slots id)) 0) (ne_eqb id i (λ e. ne (sym e))))
+      ]) in
+      omega (arith, length_below (users_on t.users c) n in_t, length_below (users_on s.users c) n in_s, same, below_add (λ i. times i (users_on s.users c)) (at_one (λ i. times c (uses_at t.slots id)) id) n, one_below (λ i. times c (uses_at t.slots id)) id n below)
+
 -- flows of three lists: those of the first are in the second, and those of the third in the second or held and passing
 pub noted_count : (s : Sharing) (p : ℕ → Bool) (n : ℕ) (xs ys zs : List ℕ) → length s.slots ≤ n → AllPairs (λ a b. a ≢ b) xs → AllPairs (λ a b. a ≢ b) zs →
     ((i : ℕ) → i < length xs → get_or xs i 0 < n) → ((i : ℕ) → i < length ys → get_or ys i 0 < n) → ((i : ℕ) → i < length zs → get_or zs i 0 < n) →

@@ -9,9 +9,10 @@ use Rattle.sg_levels.proofs.Demand.{parts_move, rows_same}
 
 -- ---- one flow has another part
 pub moved_kept : (s : Sharing) → IsSound s → (old new : Levels) (flow part : ℕ) → IsSome (flow_at s.slots flow) → flow < length old.parts.items → part ≤ 2 ^ 65 → IsKept s old → HasPlaces s new → new.parts.items ≡ set old.parts.items flow part → new.longest ≡ old.longest →
-    Shifts (slice_index old.parts.items flow) part (uses_at s.slots flow) old.demands.items new.demands.items → IsKept s new
-moved_kept s sound old new flow part held below le kept places is same shifts = record {
+    Shifts (slice_index old.parts.items flow) part (uses_at s.slots flow) old.demands.items new.demands.items → ((c : ℕ) → slice_index new.counts.items c ≤ slice_index old.counts.items c) → IsKept s new
+moved_kept s sound old new flow part held below le kept places is same shifts counts = record {
   places = places;
+  counts = λ c. omega (arith, counts c, kept.counts c);
   demands = λ c. omega (arith, shifts c, kept.demands c, parts_move s sound old.parts.items flow part below c, ap (λ ps. sum_by (slice_index ps) (users_on s.users c)) is);
   fit = λ id. subst (λ ps. slice_index ps id ≤ 2 ^ 65) (sym is) (elim (eq_cases id flow) [
     | inl e ↦ subst (λ n. slice_index (set old.parts.items flow part) n ≤ 2 ^ 65) (sym e) (subst (λ p. p ≤ 2 ^ 65) (sym (get_or-set_same old.parts.items flow part 0 below)) le)
@@ -26,9 +27,10 @@ moved_kept s sound old new flow part held below le kept places is same shifts = 
 
 -- ---- another system: each flow with a part uses what it used, and none has more uses than the longest
 pub system_kept : (s t : Sharing) → IsSound s → IsSound t → (kept : Levels) → IsKept s kept → HasPlaces t kept → ((id : ℕ) → (uses_at t.slots id ≡ uses_at s.slots id) ⊎ (slice_index kept.parts.items id ≡ 0)) → ((id : ℕ) → flow_at t.slots id ≡ None → (flow_at s.slots id ≡ None) ⊎ (slice_index kept.parts.items id ≡ 0)) →
-    ((id : ℕ) → length (uses_at t.slots id) ≤ kept.longest) → IsKept t kept
-system_kept s t sound sound' kept are places same none longest = record {
+    ((id : ℕ) → length (uses_at t.slots id) ≤ kept.longest) → ((c : ℕ) → slice_index kept.counts.items c ≤ length (users_on t.users c)) → IsKept t kept
+system_kept s t sound sound' kept are places same none longest counts = record {
   places = places;
+  counts = counts;
   demands = λ c. are.demands c ∙ sym (rows_same s t sound sound' kept.parts.items same c);
   fit = are.fit;
   none = λ id gone. elim (none id gone) [ inl e ↦ are.none id e | inr z ↦ z ];
@@ -40,8 +42,9 @@ pub longer_kept : (s : Sharing) (old : Levels) (longest : ℕ) → old.longest �
 longer_kept s old longest more kept =
     let places = kept.places in
     record {
-      places = record { levels = places.levels; parts = places.parts; moved = places.moved; stale = places.stale; holds = places.holds; demands = places.demands; active = places.active };
+      places = record { levels = places.levels; parts = places.parts; moved = places.moved; stale = places.stale; holds = places.holds; demands = places.demands; counts = places.counts; active = places.active };
       demands = kept.demands;
+      counts = kept.counts;
       fit = kept.fit;
       none = kept.none;
       longest = λ id. omega (arith, kept.longest id, more);

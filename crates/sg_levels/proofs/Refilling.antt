@@ -91,8 +91,9 @@ rested : (s : Sharing) (all : Levels) (active : MarkSet) → active.room ≡ all
 rested s all active room kept =
     let places = kept.places in
     record {
-      places = record { levels = places.levels; parts = places.parts; moved = places.moved; stale = places.stale; holds = places.holds; demands = places.demands; active = room ∙ places.active };
+      places = record { levels = places.levels; parts = places.parts; moved = places.moved; stale = places.stale; holds = places.holds; demands = places.demands; counts = places.counts; active = room ∙ places.active };
       demands = kept.demands;
+      counts = kept.counts;
       fit = kept.fit;
       none = kept.none;
       longest = kept.longest;
@@ -165,9 +166,11 @@ written_kept s old new keeps kept =
         stale = omega (arith, places.stale, ap (λ (m : MarkSet). m.room) keeps.stale);
         holds = keeps.holds ∙ places.holds;
         demands = ap length keeps.demands ∙ places.demands;
+        counts = ap length keeps.counts ∙ places.counts;
         active = ap (λ (m : MarkSet). m.room) keeps.active ∙ places.active;
       };
       demands = λ c. ap (λ ds. slice_index ds c) keeps.demands ∙ kept.demands c ∙ ap (λ ps. sum_by (slice_index ps) (users_on s.users c)) (sym keeps.parts);
+      counts = λ c. subst (λ ns. slice_index ns c ≤ length (users_on s.users c)) (sym keeps.counts) (kept.counts c);
       fit = λ id. subst (λ ps. slice_index ps id ≤ 2 ^ 65) (sym keeps.parts) (kept.fit id);
       none = λ id gone. ap (λ ps. slice_index ps id) keeps.parts ∙ kept.none id gone;
       longest = λ id. omega (arith, kept.longest id, keeps.longest);

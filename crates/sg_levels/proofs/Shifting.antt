@@ -1,5 +1,5 @@
 -- One use more of a flow whose part in the demand changes.
-use Rattle.std.proofs.Common.{◌≡◌, ℕ, zero, suc, ◌+◌, ◌-◌, ◌*◌, ◌^◌, ◌<◌, ◌≤◌, inl, inr, cond, eqb, eq-eqb, ne_eqb, List, [], ◌∷◌, length, get_or, set, take, get_or-set_same, get_or-set_other, mul-le-mul_right, refl, sym, ap, subst, ◌∙◌, arith}
+use Rattle.std.proofs.Common.{◌≡◌, ℕ, zero, suc, ◌+◌, ◌-◌, ◌*◌, ◌^◌, ◌<◌, ◌≤◌, inl, inr, Bool, true, false, cond, eqb, eq-eqb, ne_eqb, List, [], ◌∷◌, length, get_or, set, take, get_or-set_same, get_or-set_other, mul-le-mul_right, refl, sym, ap, subst, ◌∙◌, arith}
 use Rattle.std.proofs.lemmas.List.{take_more}
 use Rattle.std.proofs.lemmas.List.Sums.{sum_by-append, sum_by-cons}
 use Rattle.sg_chains.specs.Chained.{times}
@@ -57,3 +57,26 @@ module _ (before after : ℕ) (old now row : List ℕ) (k r : ℕ) (less : k < l
 
       one : (x o n b a : ℕ) → b ≤ x → x + n * b ≡ o + n * a → x - b + a + (n + 1) * b ≡ o + (n + 1) * a
       one x o n b a some e = omega (arith, some, e, more_times n b, more_times n a)
+
+-- ---- at each of the first ones a user less is counted, or nothing changes
+module _ (b : Bool) (old now row : List ℕ) (k r : ℕ) (less : k < length row) (is : r ≡ get_or row k 0) (below : r < length now) (so_far : (c : ℕ) → get_or now c 0 ≤ get_or old c 0 - cond b (times c (take k row)) 0) where
+  one_less : (b : Bool) (n o t : ℕ) → n ≤ o - cond b t 0 → n - cond b 1 0 ≤ o - cond b (t + 1) 0
+  one_less true n o t le = omega (arith, le)
+  one_less false n o t le = omega (arith, le)
+
+  pub less_more : (c : ℕ) → get_or (set now r (get_or now r 0 - cond b 1 0)) c 0 ≤ get_or old c 0 - cond b (times c (take (suc k) row)) 0
+  less_more c = elim (eq_cases c r) [
+    | inl e ↦ subst (λ c. get_or (set now r (get_or now r 0 - cond b 1 0)) c 0 ≤ get_or old c 0 - cond b (times c (take (suc k) row)) 0) (sym e)
+        (subst (λ n. n ≤ get_or old r 0 - cond b (times r (take (suc k) row)) 0) (sym (get_or-set_same now r (get_or now r 0 - cond b 1 0) 0 below))
+        (subst (λ t. get_or now r 0 - cond b 1 0 ≤ get_or old r 0 - cond b t 0) (sym (here row k r less is)) (one_less b (get_or now r 0) (get_or old r 0) (times r (take k row)) (so_far r))))
+    | inr ne ↦ subst (λ n. n ≤ get_or old c 0 - cond b (times c (take (suc k) row)) 0) (sym (get_or-set_other now r c (get_or now r 0 - cond b 1 0) 0 ne))
+        (subst (λ t. get_or now c 0 ≤ get_or old c 0 - cond b t 0) (sym (away row k r c less is ne)) (so_far c))
+  ]
+
+-- and one more
+module _ (old now row : List ℕ) (k r v : ℕ) (less : k < length row) (is : r ≡ get_or row k 0) (below : r < length now) (few : v ≤ get_or now r 0 + 1) (so_far : (c : ℕ) → get_or now c 0 ≤ get_or old c 0 + times c (take k row)) where
+  pub count_more : (c : ℕ) → get_or (set now r v) c 0 ≤ get_or old c 0 + times c (take (suc k) row)
+  count_more c = elim (eq_cases c r) [
+    | inl e ↦ subst (λ c. get_or (set now r v) c 0 ≤ get_or old c 0 + times c (take (suc k) row)) (sym e) (omega (arith, get_or-set_same now r v 0 below, here row k r less is, few, so_far r))
+    | inr ne ↦ omega (arith, get_or-set_other now r c v 0 ne, away row k r c less is ne, so_far c)
+  ]

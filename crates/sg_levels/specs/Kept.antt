@@ -1,5 +1,5 @@
 -- What a `Levels` keeps, and what a change and a look at a resource do to it.
-use Rattle.std.specs.Prelude.{◌≡◌, ◌≢◌, ℕ, ◌+◌, ◌-◌, ◌*◌, ◌^◌, ◌<◌, ◌≤◌, Bool, true, false, ◌||◌, is_none, Option, None, Some, IsTrue, IsSome, IfSome, List, [], All, length, sum_by, slice_index, slice_set}
+use Rattle.std.specs.Prelude.{◌≡◌, ◌≢◌, ℕ, ◌+◌, ◌-◌, ◌*◌, ◌^◌, ◌<◌, ◌≤◌, Bool, true, false, ◌||◌, is_none, Option, None, Some, IsTrue, IsSome, IfSome, List, [], All, length, sum_by, slice_index, slice_set, ◌==◌, if◌then◌else◌}
 use Rattle.sg_base.specs.MarkSet.{is_in, with_mark}
 use Rattle.sg_chains.specs.Chained.{times, users_on}
 use Rattle.sg_maxmin.specs.Fill.{Flow, level_of, share_of}
@@ -18,16 +18,18 @@ pub record HasPlaces (s : Sharing) (kept : Levels) : Type 0 where
   pub stale : length s.slots ≤ kept.stale.room
   pub holds : length kept.holds.items ≡ length s.capacities
   pub demands : length kept.demands.items ≡ length s.capacities
+  pub counts : length kept.counts.items ≡ length s.capacities
   pub active : kept.active.room ≡ length s.capacities
 
 -- The demand on each resource is the sum of its flows' parts in it; where there is no flow there is no part; and no flow has more
--- uses than the longest.
+-- uses than the longest. A resource has as many users as are counted, or more.
 pub record IsKept (s : Sharing) (kept : Levels) : Type 0 where
   pub places : HasPlaces s kept
   pub demands : (c : ℕ) → slice_index kept.demands.items c ≡ sum_by (slice_index kept.parts.items) (users_on s.users c)
   pub fit : (id : ℕ) → slice_index kept.parts.items id ≤ 2 ^ 65
   pub none : (id : ℕ) → flow_at s.slots id ≡ None → slice_index kept.parts.items id ≡ 0
   pub longest : (id : ℕ) → length (uses_at s.slots id) ≤ kept.longest
+  pub counts : (c : ℕ) → slice_index kept.counts.items c ≤ length (users_on s.users c)
 
 -- a flow's part is what it asks for at its level, but for some flows
 abbrev pub AreParts : Sharing → Levels → List ℕ → Type 0
@@ -72,7 +74,7 @@ pub record IsMoved (s : Sharing) (old new : Levels) (flow : ℕ) (level : Option
   pub stale : new.stale ≡ old.stale
   pub holds : new.holds.items ≡ old.holds.items
 
--- nothing changes but the demands, and which resources are active
+-- nothing changes but the demands and the counts, and which resources are active
 pub record KeepsLevels (old new : Levels) : Type 0 where
   pub levels : new.levels.items ≡ old.levels.items
   pub parts : new.parts.items ≡ old.parts.items
@@ -81,6 +83,7 @@ pub record KeepsLevels (old new : Levels) : Type 0 where
   pub longest : new.longest ≡ old.longest
   pub holds : new.holds.items ≡ old.holds.items
   pub demands : length new.demands.items ≡ length old.demands.items
+  pub counts : length new.counts.items ≡ length old.counts.items
   pub active : new.active.room ≡ old.active.room
 
 -- nothing changes but the room, which doesn't shrink
@@ -92,6 +95,7 @@ pub record KeepsAll (old new : Levels) : Type 0 where
   pub longest : new.longest ≡ old.longest
   pub holds : new.holds.items ≡ old.holds.items
   pub demands : new.demands.items ≡ old.demands.items
+  pub counts : new.counts.items ≡ old.counts.items
   pub active : new.active ≡ old.active
   pub levels_room : length old.levels.items ≤ length new.levels.items
   pub parts_room : length old.parts.items ≤ length new.parts.items
@@ -138,6 +142,10 @@ pub record HasLeft (old new : Levels) (flow : ℕ) : Type 0 where
 -- at each of these resources one part of the demand stands for another
 abbrev pub Shifts : ℕ → ℕ → List ℕ → List ℕ → List ℕ → Type 0
 Shifts before after resources old new = (c : ℕ) → slice_index new c + times c resources * before ≡ slice_index old c + times c resources * after
+
+-- no more users are counted, and where a part ends one less at each of these resources
+abbrev pub Lessens : ℕ → List ℕ → List ℕ → List ℕ → Type 0
+Lessens after resources old new = (c : ℕ) → slice_index new c ≤ slice_index old c - (if after == 0 then times c resources else 0)
 
 -- these resources are active, and those that were stay so
 abbrev pub ActivatesAll : List ℕ → List ℕ → List ℕ → Type 0
@@ -262,6 +270,7 @@ pub record KeepsFlows (old new : Levels) : Type 0 where
   pub stale : new.stale ≡ old.stale
   pub longest : new.longest ≡ old.longest
   pub demands : new.demands.items ≡ old.demands.items
+  pub counts : new.counts.items ≡ old.counts.items
   pub holds : length new.holds.items ≡ length old.holds.items
   pub active : new.active ≡ old.active
 

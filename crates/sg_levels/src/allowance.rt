@@ -30,15 +30,16 @@ fn allowed(known: u64, row: u64, ended: u64) -> u64
 }
 
 impl Allowance {
-    // So many flows are known.
-    pub(crate) fn with_flows(self, flows: u64) -> Allowance
-        ensures known { result.known ≡ max self.known flows }
-        ensures row { result.row ≡ self.row }
+    // So many flows are known, and so many users of a resource.
+    pub(crate) fn with_flows(self, flows: u64, users: u64) -> Allowance
+        ensures known { result.known ≡ max (max self.known flows) users }
+        ensures row { result.row ≡ max self.row users }
         ensures ended { result.ended ≡ self.ended }
         ensures spent { result.spent ≡ self.spent }
     {
         Allowance {
-            known: self.known.max(flows),
+            known: self.known.max(flows).max(users),
+            row: self.row.max(users),
             ..self
         }
     }

@@ -1,5 +1,5 @@
 //! What changes between settlings: flows begin and end, and have other bounds, and resources have other capacities.
-ghost use Rattle.std.specs.Prelude.{◌≡◌, ◌≤◌, ◌<◌, ◌+◌, ◌*◌, ◌^◌, ℕ, All, IsSome, IfSome, Some, length, slice_index, slice_set};
+ghost use Rattle.std.specs.Prelude.{◌≡◌, ◌≤◌, ◌<◌, ◌+◌, ◌*◌, ◌^◌, ℕ, All, IsSome, IfSome, Some, length, slice_index, slice_set, ◌-◌};
 ghost use Rattle.sg_chains.specs.Chained.{times};
 ghost use Rattle.sg_maxmin.specs.Fill.{flow};
 ghost use Rattle.sg_maxmin.specs.Sharing.{IsFlow, IsSound, flow_at, uses_at};
@@ -12,6 +12,18 @@ use sg_base::Steps;
 use sg_maxmin::{FlowId, System};
 use std::sync::ledger::Ledger;
 
+// At each of these resources there is a user more.
+fn count_in(uses: &[usize], counts: &mut Vec<u64>)
+    requires { All (λ c. c < length counts.old.items) uses.now }
+    ensures places { length counts.new.items ≡ length counts.old.items }
+    ensures most { (c : ℕ) → slice_index counts.new.items c
+        ≤ slice_index counts.old.items c + times c uses.now }
+{
+    for resource in uses {
+        counts[*resource] = counts[*resource].saturating_add(1);
+    }
+}
+
 // A flow that ends has no part any more; its resources are active.
 fn leave<L: Ledger>(system: &System, flow: usize, kept: &mut Levels, steps: &mut Steps<L>)
     requires sound { IsSound system.now }
@@ -23,6 +35,8 @@ fn leave<L: Ledger>(system: &System, flow: usize, kept: &mut Levels, steps: &mut
     ensures only { ActivatesOnly (uses_at system.now.slots flow)
         kept.old.active.members kept.new.active.members }
     ensures kept { IsKept system.now kept.new }
+    ensures counts { (c : ℕ) → slice_index kept.new.counts.items c
+        ≤ slice_index kept.old.counts.items c - times c (uses_at system.now.slots flow) }
     ensures looks { steps.new ≡ steps.old + length (uses_at system.now.slots flow) }
 {
     let part = kept.part(flow);
@@ -53,6 +67,7 @@ impl Levels {
         self.longest = self.longest.max(uses.len());
         let flow = system.add(uses, weight, bound);
         system.is_sound();
+        count_in(uses, &mut self.counts);
         self.stale.insert(flow);
         self.moved.insert(flow);
         flow

@@ -20,6 +20,8 @@ pub struct Levels {
     pub(crate) holds: Vec<Option<u64>>,
     // under each resource the demand on it
     pub(crate) demands: Vec<u128>,
+    // and how many users it has at least
+    pub(crate) counts: Vec<u64>,
     // the resources that wait to be looked at
     pub(crate) active: Marks,
     // the flows whose levels or bounds changed
@@ -55,17 +57,20 @@ impl Levels {
     {
         let mut holds = Vec::new(alloc);
         let mut demands = Vec::new(alloc);
+        let mut counts = Vec::new(alloc);
         let mut active = Marks::new(alloc);
         active.reserve(resources)?;
         for _resource in 0..resources {
             holds.push(None)?;
             demands.push(0)?;
+            counts.push(0)?;
         }
         Ok(Levels {
             levels: Vec::new(alloc),
             parts: Vec::new(alloc),
             holds,
             demands,
+            counts,
             active,
             moved: Marks::new(alloc),
             stale: Marks::new(alloc),

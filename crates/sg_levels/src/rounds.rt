@@ -262,6 +262,19 @@ impl Levels {
         found
     }
 
+    // How many users an active resource has at least, where it is that of most.
+    fn most_users(&self) -> u64
+        requires { self.now.active.room ≤ length self.now.counts.items }
+        ensures { (n : ℕ) → ((r : ℕ) → is_active self.now.active.members r ≡ true
+            → slice_index self.now.counts.items r ≤ n) → result ≤ n }
+    {
+        let mut most = 0;
+        for resource in self.active.members() {
+            most = self.counts[*resource].max(most);
+        }
+        most
+    }
+
     // Looks at active resources until none is left, or very many are, or the looks may not suffice.
     fn look_on<L: Ledger>(&mut self, system: &System, ended: usize, steps: &mut Steps<L>) -> bool
         requires settling { IsSettling system.now self.old }
@@ -294,7 +307,7 @@ impl Levels {
             if self.active.members().len() > MOST_ACTIVE {
                 return false;
             }
-            let known = given.with_flows(flows as u64);
+            let known = given.with_flows(flows as u64, self.most_users());
             let Some(next) = self.refresh(system, resource, known, steps) else {
                 return false;
             };

@@ -1,12 +1,12 @@
 //! A settling: levels and holds are made to agree, one resource at a time, in whatever order.
-ghost use Rattle.std.specs.Prelude.{◌≡◌, ◌≤◌, ◌<◌, ◌+◌, ◌-◌, ◌*◌, ◌^◌, ℕ, true, false, IsTrue, Option, None, Some, IfSome, IsSome, List, [], ◌∷◌, length, option_map, slice_index, slice_set};
+ghost use Rattle.std.specs.Prelude.{◌≡◌, ◌≤◌, ◌<◌, ◌+◌, ◌-◌, ◌*◌, ◌^◌, ℕ, true, false, IsTrue, Option, None, Some, IfSome, IsSome, List, [], ◌∷◌, length, option_map, slice_index, slice_set, ◌==◌, if◌then◌else◌};
 ghost use Rattle.sg_base.specs.MarkSet.{is_in};
 ghost use Rattle.sg_chains.specs.Chained.{times, users_on};
 ghost use Rattle.sg_maxmin.specs.Fill.{bound_level as level_of_bound};
 ghost use Rattle.sg_maxmin.specs.Sharing.{IsSound, flow_at, uses_at};
 ghost use Rattle.sg_levels.specs.Demand.{demand_of};
 ghost use Rattle.sg_levels.specs.Held.{AreFilled, IsAtMost, IsHold, IsUnder};
-ghost use Rattle.sg_levels.specs.Kept.{ActivatesAll, ActivatesBut, ActivatesOnly, FlowStaysWithin, HasPlaces, IsKept, IsMoved, IsSettling, IsSettlingOn, KeepsLevels, NotesMoved, ResourceStaysWithin, Shifts};
+ghost use Rattle.sg_levels.specs.Kept.{ActivatesAll, ActivatesBut, ActivatesOnly, FlowStaysWithin, HasPlaces, IsKept, IsMoved, IsSettling, IsSettlingOn, KeepsLevels, Lessens, NotesMoved, ResourceStaysWithin, Shifts};
 ghost use Rattle.sg_levels.specs.Numbered.{all_uses, bound_of as bound_of_flow, flow_in, level_at};
 ghost use Rattle.sg_levels.specs.Settling.{HasCause, is_active};
 
@@ -78,20 +78,36 @@ pub(crate) fn part_of(system: &System, flow: usize, level: Option<u64>) -> u128
     }
 }
 
-// A resource of a flow that moves is active, and in the demand on it one part stands for another.
+// How many users are counted, where one has this part now.
+fn fewer(count: u64, after: u128) -> u64
+    ensures { result ≡ count - (if after == 0 then 1 else 0) }
+{
+    if after == 0 {
+        count.saturating_sub(1)
+    } else {
+        count
+    }
+}
+
+// A resource of a flow that moves is active, and in the demand on it one part stands for another. Where this is none it
+// has a user less.
 pub(crate) fn visit(resource: usize, before: u128, after: u128, kept: &mut Levels)
     requires active { resource < kept.old.active.room }
     requires demand { resource < length kept.old.demands.items }
+    requires counts { resource < length kept.old.counts.items }
     requires some { before ≤ slice_index kept.old.demands.items resource }
     requires fits { slice_index kept.old.demands.items resource + after < 2 ^ 128 + before }
     ensures activates { ActivatesAll (resource ∷ []) kept.old.active.members kept.new.active.members }
     ensures only { ActivatesOnly (resource ∷ []) kept.old.active.members kept.new.active.members }
     ensures demands { kept.new.demands.items ≡ slice_set kept.old.demands.items resource
         (slice_index kept.old.demands.items resource - before + after) }
+    ensures counts { kept.new.counts.items ≡ slice_set kept.old.counts.items resource
+        (slice_index kept.old.counts.items resource - (if after == 0 then 1 else 0)) }
     ensures levels { KeepsLevels kept.old kept.new }
 {
     kept.active.insert(resource);
     kept.demands[resource] = kept.demands[resource] - before + after;
+    kept.counts[resource] = fewer(kept.counts[resource], after);
 }
 
 // The same of each resource of the flow.
@@ -115,6 +131,8 @@ pub(crate) fn visit_uses<L: Ledger>(
         kept.old.active.members kept.new.active.members }
     ensures shifts { Shifts before after (uses_at system.now.slots flow)
         kept.old.demands.items kept.new.demands.items }
+    ensures counts { Lessens after (uses_at system.now.slots flow)
+        kept.old.counts.items kept.new.counts.items }
     ensures levels { KeepsLevels kept.old kept.new }
     ensures looks { steps.new ≡ steps.old + length (uses_at system.now.slots flow) }
 {

@@ -21,6 +21,7 @@ visit_uses-requires-clause-places g c =
       stale = places.stale;
       holds = places.holds;
       demands = places.demands;
+      counts = places.counts;
       active = places.active;
     }
 
@@ -57,6 +58,10 @@ returns-clause-kept g c =
       stale = omega (arith, places.stale, ap (λ (m : MarkSet). m.room) out.stale);
       holds = ap length out.holds ∙ places.holds;
       demands = out.demands ∙ places.demands;
+      counts = out.counts ∙ places.counts;
       active = out.active ∙ places.active;
     }) out.parts out.longest
-    (subst (λ b. Shifts b 0 (uses_at s.slots f) old.demands.items new.demands.items) c.part-part.ensures c.visit_uses.ensures.shifts)
+    (subst (λ b. Shifts b 0 (uses_at s.slots f) old.demands.items new.demands.items) c.part-part.ensures c.visit_uses.ensures.shifts) (λ n. omega (arith, c.visit_uses.ensures.counts n))
+
+pub returns-clause-counts : goal.returns-clause-counts
+returns-clause-counts g c = λ n. c.visit_uses.ensures.counts n

@@ -9,7 +9,7 @@ pub loop-resource-init : goal.loop-resource-init
 loop-resource-init c = record {
   here = λ r i. absurd (no i);
   others = λ r off. refl;
-  flows = record { levels = refl; parts = refl; moved = refl; stale = refl; longest = refl; demands = refl; holds = refl; active = refl };
+  flows = record { levels = refl; parts = refl; moved = refl; stale = refl; longest = refl; demands = refl; counts = refl; holds = refl; active = refl };
 }
   where
     no : false ≡ true → ⊥
@@ -43,6 +43,7 @@ loop-resource-preserved c =
       stale = out.flows.stale ∙ inv.flows.stale;
       longest = out.flows.longest ∙ inv.flows.longest;
       demands = out.flows.demands ∙ inv.flows.demands;
+      counts = out.flows.counts ∙ inv.flows.counts;
       holds = out.flows.holds ∙ inv.flows.holds;
       active = out.flows.active ∙ inv.flows.active;
     }) inv

@@ -22,9 +22,11 @@ returns-then-not-was-clause-kept g c =
         stale = places.stale;
         holds = places.holds;
         demands = places.demands;
+        counts = places.counts;
         active = c.remove.ensures.room ∙ places.active;
       };
       demands = kept.demands;
+      counts = kept.counts;
       fit = kept.fit;
       none = kept.none;
       longest = kept.longest;

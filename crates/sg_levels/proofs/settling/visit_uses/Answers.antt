@@ -1,16 +1,20 @@
-use Rattle.std.proofs.Common.{◌≡◌, ◌≢◌, ◌<◌, ◌+◌, ◌*◌, ℕ, inl, inr, suc, false, length, get_or, take, below_more, refl, sym, ap, subst, ◌∙◌, arith, true≢false}
+use Rattle.std.proofs.Common.{◌≡◌, ◌≢◌, ◌<◌, ◌+◌, ◌*◌, ◌-◌, ◌≤◌, ℕ, Bool, cond, eqb, true, inl, inr, suc, false, length, get_or, take, below_more, refl, sym, ap, subst, ◌∙◌, arith, true≢false}
 use Rattle.std.proofs.lemmas.List.Elements.{All-get_or}
 use Rattle.sg_base.specs.MarkSet.{is_in}
 use Rattle.sg_chains.specs.Chained.{times}
 use Rattle.sg_maxmin.specs.Sharing.{uses_at}
 use Rattle.sg_chains.specs.Walk.{next_of_flow, resource_of}
 use Rattle.sg_levels.specs.Settling.{is_active}
-use Rattle.sg_levels.specs.Kept.{Shifts}
+use Rattle.sg_levels.specs.Kept.{Lessens, Shifts}
 use Rattle.sg_levels.proofs.Listed.{at_in, bool_cases, off_one, take_all, in_at, one_off}
 use Rattle.sg_levels.proofs.Users.{rows_exist}
 use Rattle.sg_levels.proofs.Walked.{can_look, looked, walk_from, walk_on, nearer, walked}
-use Rattle.sg_levels.proofs.Shifting.{shift_fits, shift_more, shift_some}
+use Rattle.sg_levels.proofs.Shifting.{less_more, shift_fits, shift_more, shift_some}
 use Rattle.sg_levels.proofs.settling.visit_uses.Goals as goal
+
+no_times : (b : Bool) → cond {A = ℕ} b 0 0 ≡ 0
+no_times true = refl
+no_times false = refl
 
 pub loop-at-init : goal.loop-at-init
 loop-at-init g c =
@@ -23,7 +27,8 @@ loop-at-init g c =
         only = λ r on off. on;
         done = λ i h. absurd (omega (arith, h));
         shifts = λ x. let none : times x (take 0 row) ≡ 0 = refl in omega (arith, ap (λ n. n * c.args.before) none, ap (λ n. n * c.args.after) none);
-        levels = record { levels = refl; parts = refl; moved = refl; stale = refl; longest = refl; holds = refl; demands = refl; active = refl };
+        counts = λ n. let none : cond (eqb c.args.after 0) (times n (take 0 row)) 0 ≡ 0 = no_times (eqb c.args.after 0) in omega (arith, none);
+        levels = record { levels = refl; parts = refl; moved = refl; stale = refl; longest = refl; holds = refl; demands = refl; counts = refl; active = refl };
         looks = omega arith;
       },
     )
@@ -60,6 +65,15 @@ visit-requires-clause-demand g c =
     let below : get_or row inv.0 0 < length s.capacities = All-get_or (λ n. n < length s.capacities) row inv.0 0 r.less (rows_exist s c.requires.sound c.args.flow) in
     omega (arith, below, r.is, c.requires.places.demands, inv.1.levels.demands)
 
+pub visit-requires-clause-counts : goal.visit-requires-clause-counts
+visit-requires-clause-counts g c =
+    let s = c.args.system.now in
+    let row = uses_at s.slots c.args.flow in
+    let inv = c.loop-at.invariant in
+    let r = looked next_of_flow resource_of s.uses row inv.0 c.loop-at.at inv.1.walk c.in-Some.i c.look-one.result c.in-Some.is c.look-one.ensures.there in
+    let below : get_or row inv.0 0 < length s.capacities = All-get_or (λ n. n < length s.capacities) row inv.0 0 r.less (rows_exist s c.requires.sound c.args.flow) in
+    omega (arith, below, r.is, c.requires.places.counts, inv.1.levels.counts)
+
 pub visit-requires-clause-some : goal.visit-requires-clause-some
 visit-requires-clause-some g c =
     let s = c.args.system.now in
@@ -92,6 +106,7 @@ loop-at-preserved g c =
     let r = looked next_of_flow resource_of s.uses row k c.loop-at.at inv.1.walk c.in-Some.i c.look-one.result c.in-Some.is c.look-one.ensures.there in
     let below : get_or row k 0 < length s.capacities = All-get_or (λ n. n < length s.capacities) row k 0 r.less (rows_exist s c.requires.sound c.args.flow) in
     let here : one < length old.demands.items = omega (arith, below, r.is, c.requires.places.demands, inv.1.levels.demands) in
+    let counted : one < length old.counts.items = omega (arith, below, r.is, c.requires.places.counts, inv.1.levels.counts) in
     let some = shift_some before after first.demands.items old.demands.items row k one r.less r.is inv.1.shifts c.requires.some in (
       suc k,
       record {
@@ -100,6 +115,7 @@ loop-at-preserved g c =
         only = λ n on off. inv.1.only n (out.only n on (one_off n one (λ e. true≢false (sym (in_at n row k r.less (sym r.is ∙ sym e)) ∙ off)))) off;
         done = λ i h. below_more (λ i. (n : ℕ) → is_active new.active.members n ≡ false → n ≢ get_or row i 0) k (λ i h n d. inv.1.done i h n (out.activates n d).0) (λ n d e. off_one n one (out.activates n d).1 (e ∙ sym r.is)) i (omega (arith, h));
         shifts = λ x. ap (λ xs. get_or xs x 0 + times x (take (suc k) row) * before) out.demands ∙ shift_more before after first.demands.items old.demands.items row k one r.less r.is inv.1.shifts some here x;
+        counts = subst (λ ns. (n : ℕ) → get_or ns n 0 ≤ get_or first.counts.items n 0 - cond (eqb after 0) (times n (take (suc k) row)) 0) (sym out.counts) (less_more (eqb after 0) first.counts.items old.counts.items row k one r.less r.is counted inv.1.counts);
         levels = record {
           levels = out.levels.levels ∙ inv.1.levels.levels;
           parts = out.levels.parts ∙ inv.1.levels.parts;
@@ -108,6 +124,7 @@ loop-at-preserved g c =
           longest = out.levels.longest ∙ inv.1.levels.longest;
           holds = out.levels.holds ∙ inv.1.levels.holds;
           demands = out.levels.demands ∙ inv.1.levels.demands;
+          counts = out.levels.counts ∙ inv.1.levels.counts;
           active = out.levels.active ∙ inv.1.levels.active;
         };
         looks = omega (arith, inv.1.looks, c.look-one.ensures.looks);
@@ -134,6 +151,14 @@ returns-clause-shifts g c =
     let inv = c.loop-at.invariant in
     let all = take_all row inv.0 (walked next_of_flow resource_of s.uses row inv.0 c.loop-at.at inv.1.walk c.in_default.not-Some) in
     subst (λ xs. Shifts c.args.before c.args.after xs c.args.kept.now.demands.items c.loop-at.kept.demands.items) all inv.1.shifts
+
+pub returns-clause-counts : goal.returns-clause-counts
+returns-clause-counts g c =
+    let s = c.args.system.now in
+    let row = uses_at s.slots c.args.flow in
+    let inv = c.loop-at.invariant in
+    let all = take_all row inv.0 (walked next_of_flow resource_of s.uses row inv.0 c.loop-at.at inv.1.walk c.in_default.not-Some) in
+    subst (λ xs. Lessens c.args.after xs c.args.kept.now.counts.items c.loop-at.kept.counts.items) all inv.1.counts
 
 pub returns-clause-levels : goal.returns-clause-levels
 returns-clause-levels g c = c.loop-at.invariant.1.levels

@@ -3,7 +3,7 @@ use Rattle.sg_base.specs.MarkSet.{is_in}
 use Rattle.sg_maxmin.specs.Sharing.{uses_at}
 use Rattle.sg_chains.specs.Walk.{next_of_flow, resource_of, left_from}
 use Rattle.sg_levels.specs.Settling.{is_active}
-use Rattle.sg_levels.specs.Kept.{KeepsLevels, Shifts}
+use Rattle.sg_levels.specs.Kept.{KeepsLevels, Lessens, Shifts}
 use Rattle.sg_levels.proofs.Walked.{IsWalk}
 use Rattle.sg_levels.proofs.settling.visit_uses.Given as goal
 
@@ -14,6 +14,7 @@ invariant-loop-at g l = (k : ℕ) × record {
   done : (i : ℕ) → i < k → (r : ℕ) → is_active l.kept.active.members r ≡ false → r ≢ slice_index (uses_at l.system.slots l.flow) i;
   only : (r : ℕ) → is_active l.kept.active.members r ≡ true → is_in r (uses_at l.system.slots l.flow) ≡ false → is_active l.fn.kept.active.members r ≡ true;
   shifts : Shifts l.before l.after (take k (uses_at l.system.slots l.flow)) l.fn.kept.demands.items l.kept.demands.items;
+  counts : Lessens l.after (take k (uses_at l.system.slots l.flow)) l.fn.kept.counts.items l.kept.counts.items;
   levels : KeepsLevels l.fn.kept l.kept;
   looks : l.steps ≡ l.fn.steps + k;
 }

@@ -17,7 +17,7 @@ returns-clause-between g c =
     let before = c.requires.between in
     told_between t c.leave.new.kept c.remove-2.new.self c.remove-2.new.self.members c.remove-2.ensures.room
     (ended_between s t c.is_sound.ensures c.is_sound-2.ensures c.args.flow out.removed out.numbers out.capacities c.args.self.now c.leave.new.kept c.remove-2.new.self.members before
-    (omega (arith, held_below s.slots c.args.flow c.requires.held, before.kept.places.parts)) c.leave.ensures.left c.remove-2.ensures.gone (λ other ne. c.remove-2.ensures.others other ne ∙ ap (λ (m : MarkSet). is_in other m.members) c.leave.ensures.left.stale) c.leave.ensures.activates c.leave.ensures.kept)
+    (omega (arith, held_below s.slots c.args.flow c.requires.held, before.kept.places.parts)) c.leave.ensures.left c.remove-2.ensures.gone (λ other ne. c.remove-2.ensures.others other ne ∙ ap (λ (m : MarkSet). is_in other m.members) c.leave.ensures.left.stale) c.leave.ensures.activates c.leave.ensures.kept c.requires.held c.leave.ensures.counts)
 
 pub returns-clause-changed : goal.returns-clause-changed
 returns-clause-changed g c = let left = c.leave.ensures.left in notes_gone c.args.system.now c.remove.new.self c.args.self.now _ c.args.flow c.remove.ensures.removed (λ other. ap (λ ls. level_at ls other) left.levels) (ap (λ (m : MarkSet). m.members) left.moved)

@@ -15,9 +15,11 @@ refresh-requires-clause-given g c =
     let given = c.loop-round.given in
     let known = c.with_flows-known.result in
     let had = c.with_flows-known.ensures in
-    let more = spare_more given.known (max given.known c.saturating_sub-flows.result) given.row given.row given.ended (omega arith) (omega arith) in
-    let few : known.spent ≤ spare_looks (max given.known c.saturating_sub-flows.result) given.row given.ended = omega (arith, had.spent, inv.spent, more) in
-    let a = subst (λ k. known.spent ≤ spare_looks k given.row given.ended) (sym had.known) few in
+    let k = max (max given.known c.saturating_sub-flows.result) c.most_users.result in
+    let r = max given.row c.most_users.result in
+    let more = spare_more given.known k given.row r given.ended (omega arith) (omega arith) in
+    let few : known.spent ≤ spare_looks k r given.ended = omega (arith, had.spent, inv.spent, more) in
+    let a = subst (λ k. known.spent ≤ spare_looks k r given.ended) (sym had.known) few in
     let b = subst (λ r. known.spent ≤ spare_looks known.known r given.ended) (sym had.row) a in
     subst (λ m. known.spent ≤ spare_looks known.known known.row m) (sym had.ended) b
 
@@ -29,7 +31,7 @@ loop-round-preserved g c =
     let now = c.loop-round.self in
     let flows = c.saturating_sub-flows.result in
     let is : flows ≡ length now.moved.members - (length first.moved.members - length first.stale.members) = omega (arith, c.saturating_sub-flows.ensures, c.saturating_sub-behind.ensures, ap (λ (xs : List ℕ). length xs) c.members.ensures.members, ap (λ (xs : List ℕ). length xs) c.members-2.ensures.members, ap (λ (xs : List ℕ). length xs) c.members-in-loop-round.ensures.members) in
-    let known = round_joined s c.is_sound.ensures first now c.requires.stale inv.within c.loop-round.given flows inv.joined is (subst (AllPairs (λ a b. a ≢ b)) c.members-2.ensures.members c.members-2.ensures.once) (subst (AllPairs (λ a b. a ≢ b)) c.members-in-loop-round.ensures.members c.members-in-loop-round.ensures.once)
+    let known = round_joined s c.is_sound.ensures first now c.requires.stale inv.within inv.settling.kept c.loop-round.given flows c.most_users.result c.most_users.ensures inv.joined is (subst (AllPairs (λ a b. a ≢ b)) c.members-2.ensures.members c.members-2.ensures.once) (subst (AllPairs (λ a b. a ≢ b)) c.members-in-loop-round.ensures.members c.members-in-loop-round.ensures.once)
     (subst (All (λ number. number < first.stale.room)) c.members-2.ensures.members c.members-2.ensures.in_range) (subst (All (λ number. number < first.moved.room)) c.members.ensures.members c.members.ensures.in_range) (subst (All (λ number. number < now.moved.room)) c.members-in-loop-round.ensures.members c.members-in-loop-round.ensures.in_range) in
     let users = users_joined s c.is_sound.ensures first now inv.within c.in-Some.resource c.in-Some.ensures.active in
     let had = c.with_flows-known.ensures in
@@ -77,18 +79,19 @@ returns-in_default-refresh-clause-looks g c =
     let now = c.loop-round.self in
     let flows = c.saturating_sub-flows.result in
     let is : flows ≡ length now.moved.members - (length first.moved.members - length first.stale.members) = omega (arith, c.saturating_sub-flows.ensures, c.saturating_sub-behind.ensures, ap (λ (xs : List ℕ). length xs) c.members.ensures.members, ap (λ (xs : List ℕ). length xs) c.members-2.ensures.members, ap (λ (xs : List ℕ). length xs) c.members-in-loop-round.ensures.members) in
-    let known = round_joined s c.is_sound.ensures first now c.requires.stale inv.within c.loop-round.given flows inv.joined is (subst (AllPairs (λ a b. a ≢ b)) c.members-2.ensures.members c.members-2.ensures.once) (subst (AllPairs (λ a b. a ≢ b)) c.members-in-loop-round.ensures.members c.members-in-loop-round.ensures.once)
+    let known = round_joined s c.is_sound.ensures first now c.requires.stale inv.within inv.settling.kept c.loop-round.given flows c.most_users.result c.most_users.ensures inv.joined is (subst (AllPairs (λ a b. a ≢ b)) c.members-2.ensures.members c.members-2.ensures.once) (subst (AllPairs (λ a b. a ≢ b)) c.members-in-loop-round.ensures.members c.members-in-loop-round.ensures.once)
     (subst (All (λ number. number < first.stale.room)) c.members-2.ensures.members c.members-2.ensures.in_range) (subst (All (λ number. number < first.moved.room)) c.members.ensures.members c.members.ensures.in_range) (subst (All (λ number. number < now.moved.room)) c.members-in-loop-round.ensures.members c.members-in-loop-round.ensures.in_range) in
     let users = users_joined s c.is_sound.ensures first now inv.within c.in-Some.resource c.in-Some.ensures.active in
     let had = c.with_flows-known.ensures in
     let given = c.loop-round.given in
     let row = length (users_on s.users c.in-Some.resource) in
     let told = c.with_flows-known.result in
+    let most = c.most_users.result in
     let a = subst (λ k. c.refresh.new.steps + told.spent ≤ c.loop-round.steps + spare_looks (max k row) (max told.row row) told.ended) had.known c.refresh.ensures.looks in
-    let b = subst (λ r. c.refresh.new.steps + told.spent ≤ c.loop-round.steps + spare_looks (max (max given.known flows) row) (max r row) told.ended) had.row a in
-    let d = subst (λ m. c.refresh.new.steps + told.spent ≤ c.loop-round.steps + spare_looks (max (max given.known flows) row) (max given.row row) m) had.ended b in
+    let b = subst (λ r. c.refresh.new.steps + told.spent ≤ c.loop-round.steps + spare_looks (max (max (max given.known flows) most) row) (max r row) told.ended) had.row a in
+    let d = subst (λ m. c.refresh.new.steps + told.spent ≤ c.loop-round.steps + spare_looks (max (max (max given.known flows) most) row) (max (max given.row most) row) m) had.ended b in
     subst (λ m. SparesLooks s first m c.args.steps.now c.refresh.new.steps) inv.ended
-    (spared s first (max (max given.known flows) row) (max given.row row) given.ended c.args.steps.now c.refresh.new.steps (λ p q along are.
+    (spared s first (max (max (max given.known flows) most) row) (max (max given.row most) row) given.ended c.args.steps.now c.refresh.new.steps (λ p q along are.
     let k = known p q along are in
     let u = users p q along are in
     (omega (arith, k.0, u.0), omega (arith, k.1, u.1))) (omega (arith, d, had.spent, inv.looks)))

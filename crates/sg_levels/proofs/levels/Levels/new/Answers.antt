@@ -7,8 +7,8 @@ pub returns-clause-fresh : goal.returns-clause-fresh
 returns-clause-fresh c =
     let inv = c.loop-resource.invariant in
     let end = c.loop-resource.auto._resource-end in
-    fresh _ c.args.resources (omega (arith, inv.holds_len, c.loop-resource-test.false, end)) (omega (arith, inv.demands_len, c.loop-resource-test.false, end)) (omega (arith, c.in_ok-reserve.ensures.room, c.new-active.ensures.room)) inv.holds inv.demands
-    (λ i. ap (λ xs. slice_index xs i) c.new-2.ensures.items) c.new-4.ensures.members
+    fresh _ c.args.resources (omega (arith, inv.holds_len, c.loop-resource-test.false, end)) (omega (arith, inv.demands_len, c.loop-resource-test.false, end)) (omega (arith, inv.counts_len, c.loop-resource-test.false, end)) (omega (arith, c.in_ok-reserve.ensures.room, c.new-active.ensures.room)) inv.holds inv.demands
+    (λ i. ap (λ xs. slice_index xs i) c.new-2.ensures.items) inv.counts c.new-4.ensures.members
 
 pub returns-clause-nothing : goal.returns-clause-nothing
 returns-clause-nothing c = λ p q.

@@ -7,5 +7,7 @@ invariant-loop-resource l = record {
   holds : (i : ℕ) → level_at l.holds.items i ≡ None;
   demands : (i : ℕ) → slice_index l.demands.items i ≡ 0;
   holds_len : length l.holds.items ≡ l._resource;
+  counts : (i : ℕ) → slice_index l.counts.items i ≡ 0;
   demands_len : length l.demands.items ≡ l._resource;
+  counts_len : length l.counts.items ≡ l._resource;
 }

@@ -11,8 +11,9 @@ returns-clause-settling c =
     let places = kept.places in
     record {
       kept = record {
-        places = record { levels = places.levels; parts = places.parts; moved = places.moved; stale = places.stale; holds = places.holds; demands = places.demands; active = c.remove.ensures.room ∙ places.active };
+        places = record { levels = places.levels; parts = places.parts; moved = places.moved; stale = places.stale; holds = places.holds; demands = places.demands; counts = places.counts; active = c.remove.ensures.room ∙ places.active };
         demands = kept.demands;
+        counts = kept.counts;
         fit = kept.fit;
         none = kept.none;
         longest = kept.longest;

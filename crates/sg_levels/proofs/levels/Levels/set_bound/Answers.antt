@@ -24,9 +24,11 @@ returns-then-not-is_same-clause-between c =
         stale = omega (arith, places.stale, ap (λ (m : MarkSet). m.room) c.insert.ensures);
         holds = places.holds;
         demands = places.demands;
+        counts = places.counts;
         active = places.active;
       };
       demands = kept.demands;
+      counts = kept.counts;
       fit = kept.fit;
       none = kept.none;
       longest = kept.longest;

@@ -1,9 +1,9 @@
-use Rattle.std.proofs.Common.{◌≡◌, inl, inr, true, IsTrue, refl, sym, ap, subst, arith}
+use Rattle.std.proofs.Common.{◌≡◌, inl, inr, true, IsTrue, refl, sym, ap, subst, ◌∙◌, arith}
 use Rattle.sg_base.specs.MarkSet.{MarkSet, is_in}
 use Rattle.sg_maxmin.specs.Fill.{flow}
 use Rattle.sg_levels.proofs.Keeping.{longer_kept}
 use Rattle.sg_levels.proofs.Between.{notes_one}
-use Rattle.sg_levels.proofs.Changed.{started_between}
+use Rattle.sg_levels.proofs.Changed.{start_kept, started_between, started_users}
 use Rattle.sg_levels.proofs.Within.{marked_or}
 use Rattle.sg_levels.proofs.levels.Levels.start.Goals as goal
 
@@ -15,7 +15,8 @@ returns-clause-between c =
     let id = c.add-flow.result in
     let out = c.add-flow.ensures in
     let its = flow c.args.uses.now c.args.weight c.args.bound in
-    let kept = longer_kept s old c.max-self.result (omega (arith, c.max-self.ensures)) c.requires.between.kept in
+    let before = longer_kept s old c.max-self.result (omega (arith, c.max-self.ensures)) c.requires.between.kept in
+    let kept = start_kept s t c.is_sound.ensures c.is_sound-2.ensures id its out.free out.added out.numbers out.capacities _ before (omega (arith, c.max-self.ensures)) in
     let places = kept.places in
     started_between s t c.is_sound.ensures c.is_sound-2.ensures id its out.free out.added out.numbers out.capacities old _ c.requires.between
     (record {
@@ -26,13 +27,15 @@ returns-clause-between c =
         stale = omega (arith, places.stale, ap (λ (m : MarkSet). m.room) c.insert.ensures);
         holds = places.holds;
         demands = places.demands;
+        counts = c.count_in.ensures.places ∙ places.counts;
         active = places.active;
       };
       demands = kept.demands;
+      counts = λ n. omega (arith, c.count_in.ensures.most n, c.requires.between.kept.counts n, started_users s t c.is_sound.ensures c.is_sound-2.ensures id its out.free out.added out.numbers out.capacities n);
       fit = kept.fit;
       none = kept.none;
       longest = kept.longest;
-    }) (omega (arith, c.max-self.ensures)) refl refl refl refl (ap (λ (m : MarkSet). m.members) c.insert.ensures) (ap (λ (m : MarkSet). m.members) c.insert-2.ensures)
+    }) refl refl refl refl (ap (λ (m : MarkSet). m.members) c.insert.ensures) (ap (λ (m : MarkSet). m.members) c.insert-2.ensures)
 
 pub returns-clause-changed : goal.returns-clause-changed
 returns-clause-changed c =
