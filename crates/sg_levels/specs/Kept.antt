@@ -144,8 +144,8 @@ abbrev pub Shifts : ℕ → ℕ → List ℕ → List ℕ → List ℕ → Type 
 Shifts before after resources old new = (c : ℕ) → slice_index new c + times c resources * before ≡ slice_index old c + times c resources * after
 
 -- no more users are counted, and where a part ends one less at each of these resources
-abbrev pub Lessens : ℕ → List ℕ → List ℕ → List ℕ → Type 0
-Lessens after resources old new = (c : ℕ) → slice_index new c ≤ slice_index old c - (if after == 0 then times c resources else 0)
+abbrev pub Lessens : ℕ → List ℕ → Levels → Levels → Type 0
+Lessens after resources old new = (c : ℕ) → slice_index new.counts.items c ≤ slice_index old.counts.items c - (if after == 0 then times c resources else 0)
 
 -- these resources are active, and those that were stay so
 abbrev pub ActivatesAll : List ℕ → List ℕ → List ℕ → Type 0

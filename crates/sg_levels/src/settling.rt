@@ -131,8 +131,7 @@ pub(crate) fn visit_uses<L: Ledger>(
         kept.old.active.members kept.new.active.members }
     ensures shifts { Shifts before after (uses_at system.now.slots flow)
         kept.old.demands.items kept.new.demands.items }
-    ensures counts { Lessens after (uses_at system.now.slots flow)
-        kept.old.counts.items kept.new.counts.items }
+    ensures counts { Lessens after (uses_at system.now.slots flow) kept.old kept.new }
     ensures levels { KeepsLevels kept.old kept.new }
     ensures looks { steps.new ≡ steps.old + length (uses_at system.now.slots flow) }
 {

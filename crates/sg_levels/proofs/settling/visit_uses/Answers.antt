@@ -158,7 +158,7 @@ returns-clause-counts g c =
     let row = uses_at s.slots c.args.flow in
     let inv = c.loop-at.invariant in
     let all = take_all row inv.0 (walked next_of_flow resource_of s.uses row inv.0 c.loop-at.at inv.1.walk c.in_default.not-Some) in
-    subst (λ xs. Lessens c.args.after xs c.args.kept.now.counts.items c.loop-at.kept.counts.items) all inv.1.counts
+    subst (λ xs. Lessens c.args.after xs c.args.kept.now c.loop-at.kept) all inv.1.counts
 
 pub returns-clause-levels : goal.returns-clause-levels
 returns-clause-levels g c = c.loop-at.invariant.1.levels

@@ -14,7 +14,7 @@ invariant-loop-at g l = (k : ℕ) × record {
   done : (i : ℕ) → i < k → (r : ℕ) → is_active l.kept.active.members r ≡ false → r ≢ slice_index (uses_at l.system.slots l.flow) i;
   only : (r : ℕ) → is_active l.kept.active.members r ≡ true → is_in r (uses_at l.system.slots l.flow) ≡ false → is_active l.fn.kept.active.members r ≡ true;
   shifts : Shifts l.before l.after (take k (uses_at l.system.slots l.flow)) l.fn.kept.demands.items l.kept.demands.items;
-  counts : Lessens l.after (take k (uses_at l.system.slots l.flow)) l.fn.kept.counts.items l.kept.counts.items;
+  counts : Lessens l.after (take k (uses_at l.system.slots l.flow)) l.fn.kept l.kept;
   levels : KeepsLevels l.fn.kept l.kept;
   looks : l.steps ≡ l.fn.steps + k;
 }
