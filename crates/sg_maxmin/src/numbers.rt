@@ -1,6 +1,6 @@
 //! Rows of flows under numbers, of which there are as many as were asked for. A number that is free again is the
 //! next one to be given.
-ghost use Rattle.std.specs.Prelude.{◌≡◌, ◌≢◌, ◌≤◌, ◌<◌, ◌+◌, ◌^◌, [], ◌∷◌, ◌++◌, ℕ, None, Some, IsSome, is_some, length, count_by, OnOk, OnErr, slice_index_or, slice_set};
+ghost use Rattle.std.specs.Prelude.{◌≡◌, ◌≢◌, ◌≤◌, ◌<◌, ◌+◌, ◌-◌, ◌^◌, [], ◌∷◌, ◌++◌, ℕ, None, Some, IsSome, is_some, length, count_by, OnOk, OnErr, slice_index_or, slice_set};
 ghost use Rattle.sg_maxmin.specs.kept.Numbers.{row_at, free_count};
 
 use crate::flow_row::{Cell, FlowRow, cell_with, free_cell, row_in};
@@ -70,7 +70,7 @@ impl Rows {
         ensures room { OnOk result (more ≤ free_count self.new) }
         ensures kept { (id : ℕ) → row_at self.new id ≡ row_at self.old id }
         ensures longer { length self.old ≤ length self.new }
-        ensures few { length self.new ≤ length self.old + more }
+        ensures few { length self.new ≤ length self.old + (more - free_count self.old) }
         ensures same { count_by is_some self.new ≡ count_by is_some self.old }
     {
         for _number in 0..more.saturating_sub(self.count) {
@@ -126,6 +126,13 @@ impl Rows {
         ensures few { result ≤ 2 ^ 32 }
     {
         self.rows.len()
+    }
+
+    /// How many numbers are free.
+    pub(crate) fn spare(&self) -> usize
+        ensures { result ≡ free_count self.now }
+    {
+        self.count
     }
 
     /// How many rows there are.

@@ -1,5 +1,5 @@
 //! The system of capacities and flows: which flow uses which resources, and the share that each gets.
-ghost use Rattle.std.specs.Prelude.{◌≡◌, ◌≤◌, ◌<◌, ◌+◌, ℕ, [], length, Some, None, IsSome, IfSome, IfOk, OnOk, replicate, slice_index, slice_index_or, slice_set};
+ghost use Rattle.std.specs.Prelude.{◌≡◌, ◌≤◌, ◌<◌, ◌+◌, ◌-◌, ℕ, [], length, Some, None, IsSome, IfSome, IfOk, OnOk, replicate, slice_index, slice_index_or, slice_set};
 ghost use Rattle.sg_maxmin.specs.Fair.{IsFair};
 ghost use Rattle.sg_maxmin.specs.Fill.{flow, share_of};
 ghost use Rattle.sg_chains.specs.Chained.{users_on};
@@ -98,6 +98,8 @@ impl System {
         ensures grows { (self.old.flow_room ≤ self.new.flow_room)
             × (self.old.use_room ≤ self.new.use_room) }
         ensures slots { IsExtended self.old.slots self.new.slots flows }
+        ensures few { length self.new.slots
+            ≤ length self.old.slots + (flows - self.old.flow_room) }
         ensures shares { (id : ℕ) →
             slice_index self.new.shares id ≡ slice_index self.old.shares id }
         ensures capacities { self.new.capacities ≡ self.old.capacities }
@@ -269,6 +271,13 @@ impl System {
             Some(row) => row.bound,
             None => None,
         }
+    }
+
+    /// For how many flows more there is room.
+    pub fn spare(&self) -> usize
+        ensures { result ≡ self.now.flow_room }
+    {
+        self.flows.spare()
     }
 
     /// How many numbers of flows there are; each flow's number is below.

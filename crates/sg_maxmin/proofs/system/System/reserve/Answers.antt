@@ -1,4 +1,4 @@
-use Rattle.std.proofs.Common.{get_or, sym, ap, subst, ◌∙◌}
+use Rattle.std.proofs.Common.{get_or, arith, sym, ap, subst, ◌∙◌}
 use Rattle.sg_maxmin.specs.Sharing.{IsExtended}
 use Rattle.sg_maxmin.specs.kept.Uses.{flows_of, IsKept}
 use Rattle.sg_maxmin.proofs.Rows.{extended, share_kept, kept_extended, kept_room}
@@ -29,7 +29,7 @@ pub returns-in_err-reserve-clause-slots : goal.returns-in_err-reserve-clause-slo
 returns-in_err-reserve-clause-slots c =
     let out = c.reserve.ensures in
     subst (λ s. IsExtended s.slots (flows_of c.reserve.new.self c.self.inside.chains.uses) c.args.flows) c.self.view_is
-    (extended c.self.inside.flows c.reserve.new.self c.self.inside.chains.uses c.args.flows out.kept out.longer out.few)
+    (extended c.self.inside.flows c.reserve.new.self c.self.inside.chains.uses c.args.flows out.kept out.longer (omega (arith, out.few)))
 
 pub returns-in_err-reserve-clause-shares : goal.returns-in_err-reserve-clause-shares
 returns-in_err-reserve-clause-shares c = λ id. share_kept c.self.inside.flows c.reserve.new.self id (c.reserve.ensures.kept id) ∙ ap (λ s. get_or s.shares id 0) c.self.view_is
@@ -39,7 +39,7 @@ returns-in_err-reserve-2-clause-slots c =
     let out = c.reserve.ensures in
     subst (λ uses. IsExtended c.args.self.now.slots (flows_of c.reserve.new.self uses) c.args.flows) (sym (ap (λ s. s.uses) c.reserve-2.ensures.kept))
     (subst (λ s. IsExtended s.slots (flows_of c.reserve.new.self c.self.inside.chains.uses) c.args.flows) c.self.view_is
-    (extended c.self.inside.flows c.reserve.new.self c.self.inside.chains.uses c.args.flows out.kept out.longer out.few))
+    (extended c.self.inside.flows c.reserve.new.self c.self.inside.chains.uses c.args.flows out.kept out.longer (omega (arith, out.few))))
 
 pub returns-in_err-reserve-2-clause-shares : goal.returns-in_err-reserve-2-clause-shares
 returns-in_err-reserve-2-clause-shares c = λ id. share_kept c.self.inside.flows c.reserve.new.self id (c.reserve.ensures.kept id) ∙ ap (λ s. get_or s.shares id 0) c.self.view_is
@@ -49,7 +49,7 @@ returns-clause-slots c =
     let out = c.reserve.ensures in
     subst (λ uses. IsExtended c.args.self.now.slots (flows_of c.reserve.new.self uses) c.args.flows) (sym (ap (λ s. s.uses) c.reserve-2.ensures.kept))
     (subst (λ s. IsExtended s.slots (flows_of c.reserve.new.self c.self.inside.chains.uses) c.args.flows) c.self.view_is
-    (extended c.self.inside.flows c.reserve.new.self c.self.inside.chains.uses c.args.flows out.kept out.longer out.few))
+    (extended c.self.inside.flows c.reserve.new.self c.self.inside.chains.uses c.args.flows out.kept out.longer (omega (arith, out.few))))
 
 pub returns-clause-shares : goal.returns-clause-shares
 returns-clause-shares c = λ id. share_kept c.self.inside.flows c.reserve.new.self id (c.reserve.ensures.kept id) ∙ ap (λ s. get_or s.shares id 0) c.self.view_is
