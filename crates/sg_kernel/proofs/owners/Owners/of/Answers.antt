@@ -1,4 +1,4 @@
-use Rattle.std.proofs.Common.{◌≡◌, ◌+◌, ◌-◌, ◌<◌, ℕ, nat_eq, Option, get_or, length, sym, ap, ◌∙◌, arith}
+use Rattle.std.proofs.Common.{◌≡◌, ◌+◌, ◌-◌, ◌<◌, ℕ, Option, get_or, length, sym, ap, ◌∙◌, arith}
 use Rattle.sg_serials.specs.Serials as serials
 use Rattle.sg_kernel.specs.declared.owners.How.TheVariants as how
 use Rattle.sg_kernel.specs.declared.owners.Whose.{Whose}
