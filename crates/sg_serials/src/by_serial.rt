@@ -151,7 +151,7 @@ fn put_far<T: Copy + Drop>(far: &mut HashMap<u64, T>, serial: u64, value: T)
     }
 }
 
-// Places, as many as a power of two that isn't much more than so many, and at most MOST_PLACES.
+// How many places are made for so many values: a power of two of at least twice as many, but at most MOST_PLACES.
 fn count_for(n: usize) -> usize
     ensures { 0 < result }
 {
