@@ -2,3 +2,4 @@ pub mod Views
 pub mod Steps
 pub mod Runs
 pub mod Opened
+pub mod Grouped

@@ -55,7 +55,8 @@ bare_key text bare =
     let other : starts_string text ≡ false = grind (arith, nat_tests) in
     rw (other, bare)
 
-one_part : (text : List ℕ) → is_bare (first text) ≡ true → (first (skip_ws (split_while is_bare text).1) == 46) ≡ false
+-- a word alone
+pub one_part : (text : List ℕ) → is_bare (first text) ≡ true → (first (skip_ws (split_while is_bare text).1) == 46) ≡ false
     → key text ≡ Some (([], (split_while is_bare text).0), skip_ws (split_while is_bare text).1)
 one_part text bare other = key_after_turn 80 [] text (omega arith) ∙ rw (bare_key text bare, other)
 

@@ -9,6 +9,7 @@ ghost use Rattle.toml.specs.Errors.{IsBlank};
 ghost use Rattle.sg_toml.specs.Reading.{Edits, Defines, definition_view, nodes_view, expression_view};
 
 use crate::reading::{key_equals, value};
+use crate::sections::plain_document;
 use crate::tables::{Definition, Nodes, along_header, close};
 use crate::value::{Table, Value};
 use std::alloc::Global;
@@ -21,6 +22,9 @@ pub fn read_document(alloc: Global, s: &str) -> Result<Table, ParseError>
     ensures value { Gives table_view result (spec.parse_document s.now) }
     ensures memory { IfErr result (λ e. ¬ IsBlank s.now) }
 {
+    if let Some(table) = plain_document(alloc, s) {
+        return Ok(table);
+    }
     let mut rest = skip_bom(s);
     if skip_blank(rest, true).is_empty() {
         return Ok(Vec::new(alloc));
@@ -40,7 +44,7 @@ pub fn read_document(alloc: Global, s: &str) -> Result<Table, ParseError>
     }
 }
 
-fn skip_bom(s: &str) -> &str
+pub(crate) fn skip_bom(s: &str) -> &str
     ensures rest { result.now ≡ spec.skip_bom s.now }
     ensures within { length result.now ≤ length s.now }
 {

@@ -6,6 +6,7 @@
 mod document;
 mod plain;
 mod reading;
+mod sections;
 mod short;
 mod tables;
 mod value;

@@ -18,7 +18,7 @@ use toml_parser::ErrorKind;
 use toml_parser::text::{first, skip, skip_blank};
 
 /// The most entries of a table that is read so: each is looked for among those before it.
-const MOST: usize = 16;
+pub(crate) const MOST: usize = 16;
 
 /// Whether a key comes after that of an entry.
 fn is_after(key: &str, entry: &(Word, Value)) -> bool
@@ -43,7 +43,7 @@ fn place(table: &Table, key: &str) -> usize
 }
 
 /// Gives a table an entry, where its key is new.
-fn add(table: &mut Table, key: Word, value: Value) -> Result<(), ErrorKind>
+pub(crate) fn add(table: &mut Table, key: Word, value: Value) -> Result<(), ErrorKind>
     ensures { OnOk result
         (put ([], word_bytes key) (view value) (opened table.old.items)
         ≡ Some (opened table.new.items)) }
@@ -86,7 +86,7 @@ fn plain_array(alloc: Global, s: &str, _depth: usize) -> Option<(Vec<Value>, &st
 }
 
 /// A value with no table inside, and what follows it.
-fn plain_value(alloc: Global, s: &str, depth: usize) -> Option<(Value, &str)>
+pub(crate) fn plain_value(alloc: Global, s: &str, depth: usize) -> Option<(Value, &str)>
     ensures value { IfSome result (λ p. val depth s.now ≡ Some (view p.0, p.1.now)) }
     ensures shorter { IfSome result (λ p. length p.1.now < length s.now) }
 {

@@ -7,7 +7,7 @@ ghost use Rattle.toml.specs.Tables.{no_nodes};
 ghost use Rattle.toml.specs.Parse as spec;
 
 use crate::plain::plain_table;
-use crate::short::short_text;
+use crate::short::{short_key, short_text};
 use crate::tables::{close, put};
 use crate::value::{Table, Value};
 use std::alloc::Global;
@@ -141,6 +141,13 @@ pub(crate) fn key_equals(alloc: Global, s: &str) -> Result<(Key, &str), ParseErr
     ensures value { Reads key_view result (spec.key_equals s.now) }
     ensures shorter { Shortens s.now result }
 {
+    if let Some((word, rest)) = short_key(s) {
+        let key = Key {
+            path: Vec::new(alloc),
+            last: String::from_str(alloc, word.as_str())?,
+        };
+        return Ok((key, rest));
+    }
     let (key, rest) = dotted_key(alloc, s)?;
     if first(rest) != b'=' {
         return Err(ParseError::at(ErrorKind::MissingEquals, rest));

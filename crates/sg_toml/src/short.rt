@@ -2,7 +2,7 @@
 ghost use Rattle.std.specs.Prelude.{◌≡◌, ℕ, ◌<◌, ◌≤◌, false, [], Some, IfSome, length};
 ghost use Rattle.std.specs.List.{prefix_len};
 ghost use Rattle.toml_parser.specs.Lexical.{is_bare};
-ghost use Rattle.toml_parser.specs.Strings.{is_plain};
+ghost use Rattle.toml_parser.specs.Strings.{is_plain, key};
 ghost use Rattle.toml.specs.Parse.{atom, key_equals, val};
 ghost use Rattle.sg_toml.specs.View.{view, word_bytes};
 
@@ -74,6 +74,27 @@ pub(crate) fn short_key(s: &str) -> Option<(Word, &str)>
     }
     match ArrayString::<16>::from(word) {
         Ok(short) => Some((Word::Short(short), skip_ws(skip(equals, 1)))),
+        Err(_) => None,
+    }
+}
+
+/// The short word at the front that is a whole key, and what follows it and white space.
+pub(crate) fn short_word(s: &str) -> Option<(Word, &str)>
+    ensures value { IfSome result
+        (λ p. key s.now ≡ Some (([], word_bytes p.0), p.1.now)) }
+    ensures shorter { IfSome result (λ p. length p.1.now < length s.now) }
+{
+    let len = bare_len(s.as_bytes());
+    if len == 0 {
+        return None;
+    }
+    let (word, after) = s.split_at(len);
+    let rest = skip_ws(after);
+    if first(rest) == b'.' {
+        return None;
+    }
+    match ArrayString::<16>::from(word) {
+        Ok(short) => Some((Word::Short(short), rest)),
         Err(_) => None,
     }
 }
