@@ -1,15 +1,16 @@
 //! The way back of a settling: the levels and the holds that a filling found are written.
-ghost use Rattle.std.specs.Prelude.{◌≡◌, ◌≤◌, ◌<◌, ◌+◌, ℕ, [], false, All, IsSome, length, slice_set, slice_index};
+ghost use Rattle.std.specs.Prelude.{◌≡◌, ◌≤◌, ◌<◌, ◌+◌, ◌-◌, ◌*◌, ◌^◌, ℕ, [], false, All, IsSome, length, slice_set, slice_index};
 ghost use Rattle.sg_base.specs.MarkSet.{is_in};
+ghost use Rattle.sg_chains.specs.Chained.{times};
 ghost use Rattle.sg_maxmin.specs.Sharing.{IsSound, flow_at, uses_at};
 ghost use Rattle.sg_levels.specs.Demand.{demand_of};
 ghost use Rattle.sg_levels.specs.Held.{AreFilled};
-ghost use Rattle.sg_levels.specs.Kept.{AreGiven, AreHeldAt, AreParts, FlowStaysWithin, FlowsStayWithin, IsBetween, IsFound, IsGiven, IsKept, IsWithin, KeepsFlows, NotesMoved, PassAlong, is_one_of};
+ghost use Rattle.sg_levels.specs.Kept.{AreGiven, AreHeldAt, AreParts, FlowStaysWithin, FlowsStayWithin, IsBetween, IsFound, IsGiven, IsKept, IsWithin, KeepsFlows, NotesMoved, PassAlong, Shifts, is_one_of};
 ghost use Rattle.sg_levels.specs.Numbered.{all_uses, flow_in, level_at};
 ghost use Rattle.sg_levels.specs.Settling.{is_active};
 
 use crate::levels::Levels;
-use crate::settling::{is_same, move_flow};
+use crate::settling::{is_same, part_of};
 use sg_base::Steps;
 use sg_maxmin::System;
 use std::sync::ledger::Ledger;
@@ -32,6 +33,70 @@ fn under(list: &[Option<u64>], number: usize) -> Option<u64>
     list[number]
 }
 
+// In the demand on a resource one part stands for another.
+fn shift(resource: usize, before: u128, after: u128, demands: &mut Vec<u128>)
+    requires demand { resource < length demands.old.items }
+    requires some { before ≤ slice_index demands.old.items resource }
+    requires fits { slice_index demands.old.items resource + after < 2 ^ 128 + before }
+    ensures { demands.new.items ≡ slice_set demands.old.items resource
+        (slice_index demands.old.items resource - before + after) }
+{
+    demands[resource] = demands[resource] - before + after;
+}
+
+// The same at each resource of the flow.
+fn shift_uses<L: Ledger>(
+    system: &System,
+    flow: usize,
+    before: u128,
+    after: u128,
+    demands: &mut Vec<u128>,
+    steps: &mut Steps<L>,
+)
+    requires sound { IsSound system.now }
+    requires places { length demands.old.items ≡ length system.now.capacities }
+    requires some { (c : ℕ) → times c (uses_at system.now.slots flow) * before
+        ≤ slice_index demands.old.items c }
+    requires fits { (c : ℕ) → slice_index demands.old.items c
+        + times c (uses_at system.now.slots flow) * after < 2 ^ 128 }
+    ensures places { length demands.new.items ≡ length demands.old.items }
+    ensures shifts { Shifts before after (uses_at system.now.slots flow)
+        demands.old.items demands.new.items }
+    ensures looks { steps.new ≡ steps.old + length (uses_at system.now.slots flow) }
+{
+    let mut at = system.first_of(flow);
+    while let Some(i) = at {
+        let one = system.look(i, steps);
+        shift(one.resource, before, after, demands);
+        at = one.next_of_flow;
+    }
+}
+
+// A flow has another level, and is noted. What is active is of no account any more.
+fn write_level<L: Ledger>(
+    system: &System,
+    flow: usize,
+    level: Option<u64>,
+    kept: &mut Levels,
+    steps: &mut Steps<L>,
+)
+    requires sound { IsSound system.now }
+    requires held { IsSome (flow_at system.now.slots flow) }
+    requires kept { IsKept system.now kept.old }
+    ensures given { IsGiven system.now kept.old kept.new flow level }
+    ensures kept { IsKept system.now kept.new }
+    ensures moved { NotesMoved kept.old kept.new }
+    ensures within { FlowStaysWithin system.now flow kept.old kept.new }
+    ensures looks { steps.new ≡ steps.old + length (uses_at system.now.slots flow) }
+{
+    let before = kept.part(flow);
+    let after = part_of(system, flow, level);
+    kept.levels[flow] = level;
+    kept.parts[flow] = after;
+    kept.moved.insert(flow);
+    shift_uses(system, flow, before, after, &mut kept.demands, steps);
+}
+
 // A flow has the level that was found. Where it has it already nothing is looked at.
 fn give<L: Ledger>(
     system: &System,
@@ -52,7 +117,7 @@ fn give<L: Ledger>(
     ensures looks { steps.new ≤ steps.old + length (uses_at system.now.slots flow) }
 {
     if kept.stale.contains(flow) || !is_same(kept.level(flow), level) {
-        move_flow(system, flow, level, kept, steps);
+        write_level(system, flow, level, kept, steps);
     }
 }
 
