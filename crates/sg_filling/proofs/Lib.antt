@@ -7,6 +7,7 @@ pub mod Stepped
 pub mod Starts
 pub mod Fixing
 pub mod Waited
+pub mod Scanned
 pub mod Walked
 pub mod Keyed
 pub mod Floors

@@ -8,7 +8,9 @@ use Rattle.sg_heap.specs.Agenda.{key_at}
 use Rattle.sg_chains.specs.Chained.{users_on}
 use Rattle.sg_levels.specs.Numbered.{bound_at, flow_in, weight_at}
 use Rattle.sg_filling.specs.declared.filling.Filling.{Filling}
+use Rattle.sg_filling.specs.declared.filling.Least.{Least}
 use Rattle.sg_filling.specs.declared.filling.Low.{Low}
+use Rattle.sg_filling.specs.declared.filling.Span.{Span}
 use Rattle.sg_filling.specs.Component.{IsClosure}
 use Rattle.sg_filling.specs.Dates.{IsIdle}
 
@@ -107,6 +109,13 @@ pub record HasPlaces (s : Sharing) (filling : Filling) : Type 0 where
   pub stale_room : filling.stale.room ≡ length s.capacities
   pub slots : length filling.agenda ≡ length s.capacities
 
+-- levels, holds, keys and what is fixed stay
+pub record KeepsLevels (old new : Filling) : Type 0 where
+  pub fixed : new.fixed.items ≡ old.fixed.items
+  pub holds : new.holds.items ≡ old.holds.items
+  pub levels : new.levels.items ≡ old.levels.items
+  pub agenda : new.agenda ≡ old.agenda
+
 -- a place for each of so many resources, and nobody waits
 pub record HasResources (resources : ℕ) (filling : Filling) : Type 0 where
   pub holds_len : length filling.holds.items ≡ resources
@@ -131,6 +140,33 @@ waited_levels waiting levels reached = flat_map (λ c. level_where (slice_index 
 
 abbrev pub unfixed_bounds : List (Option Flow) → List (Option ℕ) → List ℕ → List ℕ
 unfixed_bounds slots fixed touched = flat_map (λ id. if is_none (fixed_at fixed id) then option_to_list (bound_limit slots id) else []) touched
+
+-- the level is no higher than the least one, if there is one
+abbrev pub IsUpTo : ℕ → Option ℕ → Type 0
+IsUpTo level None = Unit {0}
+IsUpTo level (Some least) = level ≤ least
+
+-- these places and the next one, or the next one alone where its level is below the least one, or these where it is above
+abbrev pub IsNextOf : ℕ → ℕ → ℕ → Span → Span → Type 0
+IsNextOf place level low old new =
+    ((level < low) × (new.first ≡ place) × (new.end ≡ place + 1)) ⊎ (((level ≡ low) × (new.first ≡ old.first) × (new.end ≡ place + 1)) ⊎ ((low < level) × (new ≡ old)))
+
+-- the same, where there may be no least level yet
+abbrev pub IsNext : ℕ → ℕ → Least → Least → Type 0
+IsNext place level old new =
+    ((old.level ≡ None) × (new.at.first ≡ place) × (new.at.end ≡ place + 1)) ⊎ ((low : ℕ) × (old.level ≡ Some low) × IsNextOf place level low old.at new.at)
+
+-- the resources of a level up to the least one on which a flow waits stand at these places
+pub record AreAmong (reached waiting levels : List ℕ) (least : Option ℕ) (at : Span) : Type 0 where
+  pub order : at.first ≤ at.end
+  pub few : at.end ≤ length reached
+  pub among : (i level : ℕ) → i < length reached → (slice_index waiting (slice_index reached i) ≡ 0 → ⊥) → slice_index levels (slice_index reached i) ≡ level → IsUpTo level least → (at.first ≤ i) × (i < at.end)
+
+-- and those of the level of a step
+pub record AreTaken (reached : List ℕ) (low : Low) (filling : Filling) : Type 0 where
+  pub order : low.at.first ≤ low.at.end
+  pub few : low.at.end ≤ length reached
+  pub among : (i : ℕ) → i < length reached → (slice_index filling.waiting.items (slice_index reached i) ≡ 0 → ⊥) → slice_index filling.levels.items (slice_index reached i) ≡ low.level → (low.at.first ≤ i) × (i < low.at.end)
 
 -- none of the list is below this; none: the list is empty
 abbrev pub IsFloor : Option ℕ → List ℕ → Type 0

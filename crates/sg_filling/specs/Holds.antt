@@ -6,8 +6,9 @@ use Rattle.sg_maxmin.specs.Fill.{Flow}
 use Rattle.sg_maxmin.specs.Sharing.{Sharing}
 use Rattle.sg_levels.specs.Numbered.{below_at, row_level}
 use Rattle.sg_filling.specs.declared.filling.Filling.{Filling}
+use Rattle.sg_filling.specs.declared.filling.Low.{Low}
 use Rattle.sg_filling.specs.Dates.{AreDated, IsIdle}
-use Rattle.sg_filling.specs.Filling.{AreAbove, AreCounted, AreLeveled, AreLevels, HasPlaces, KeepsHolds, KeepsOthers, fixed_at, unfixed_limits, unfixed_uses}
+use Rattle.sg_filling.specs.Filling.{AreAbove, AreCounted, AreLeveled, AreLevels, AreTaken, HasPlaces, IsFloor, KeepsHolds, KeepsOthers, fixed_at, unfixed_bounds, unfixed_limits, unfixed_uses}
 
 -- a resource is noted where it is at this level
 abbrev pub noted_at : ℕ → ℕ → Filling → List (Option ℕ)
@@ -52,12 +53,14 @@ abbrev pub AreFresh : List ℕ → ℕ → Filling → Type 0
 AreFresh reached low filling = (c : ℕ) → is_in c reached ≡ true → slice_index filling.levels.items c ≡ low → fixed_at filling.holds.items c ≡ None
 
 -- a filling at the level of its next step
-pub record IsAtLevel (s : Sharing) (touched reached : List ℕ) (low : ℕ) (filling : Filling) : Type 0 where
+pub record IsAtLevel (s : Sharing) (touched reached : List ℕ) (low : Low) (filling : Filling) : Type 0 where
   pub places : HasPlaces s filling
-  pub above : AreAbove s touched low filling
+  pub above : AreAbove s touched low.level filling
+  pub floor : IsFloor low.floor (unfixed_bounds s.slots filling.fixed.items touched)
+  pub taken : AreTaken reached low filling
   pub counted : AreCounted s filling.fixed.items touched filling.left.items filling.waiting.items (λ c. is_in c reached)
   pub dated : AreDated reached filling
-  pub fresh : AreFresh reached low filling
+  pub fresh : AreFresh reached low.level filling
 
 -- what was counted stays so; the uses of each flow that is fixed are walked twice, and the users of each resource that is noted once
 pub record CountsOnce (s : Sharing) (touched reached : List ℕ) (old new : Filling) (before after : ℕ) : Type 0 where

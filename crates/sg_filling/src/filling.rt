@@ -1,6 +1,6 @@
 //! The filling of the touched flows alone.
 ghost use Rattle.std.specs.Prelude.{◌≡◌, ◌≢◌, ◌≤◌, ◌<◌, ◌+◌, ◌-◌, ◌*◌, ◌/◌, ◌^◌, ◌++◌, ◌∷◌, ℕ, List, [], Option, None, Some, IfOk, IfSome, IsSome, true, false, AllPairs, All, length, min, option_map, option_to_list, slice_index, slice_set};
-ghost use Rattle.sg_base.specs.MarkSet.{is_in};
+ghost use Rattle.sg_base.specs.MarkSet.{is_in, with_mark};
 ghost use Rattle.sg_chains.specs.Chained.{times, users_on};
 ghost use Rattle.sg_maxmin.specs.Fill.{bound_level as level_of_bound, level_of, share_at, share_of, bounded};
 ghost use Rattle.sg_maxmin.specs.Laws.{HaveLimits};
@@ -8,10 +8,9 @@ ghost use Rattle.sg_maxmin.specs.Sharing.{IsSound, flow_at, uses_at};
 ghost use Rattle.sg_filling.specs.Component.{AreIn, MarksRow, lengths};
 ghost use Rattle.sg_filling.specs.Dates.{AreDated, HaveKeys, IsIdle, StayDated};
 ghost use Rattle.sg_levels.specs.Numbered.{bound_at, flow_in};
-ghost use Rattle.sg_filling.specs.Filling.{AreAbove, AreCounted, AreFixed, AreJoined, AreLeveled, AreLevels, ArePart, FlowSteps, HasPlaces, HasResources, IsFloor, IsLeast, IsLessBy, IsLow, IsMoreBy, IsOver, KeepsCount, KeepsFixed, KeepsHolds, StepsPartly, bound_limit, fixed_at, flows_at, least_with, level_where, limits_at, unfixed_bounds, unfixed_limits, waited_levels, weight_of, weight_on};
+ghost use Rattle.sg_filling.specs.Filling.{AreAbove, AreAmong, AreCounted, AreFixed, AreJoined, AreLeveled, AreLevels, ArePart, AreTaken, FlowSteps, HasPlaces, HasResources, IsFloor, IsLeast, IsLessBy, IsLow, IsMoreBy, IsNext, IsNextOf, IsOver, IsUpTo, KeepsCount, KeepsFixed, KeepsHolds, KeepsLevels, StepsPartly, bound_limit, fixed_at, flows_at, least_with, limits_at, unfixed_bounds, unfixed_limits, waited_levels, weight_of, weight_on};
 ghost use Rattle.sg_filling.specs.Holds.{AreNoted, CountsOnce, IsAtLevel, IsBegun, IsEnded, NotesHolds, noted_at, users_at};
 
-use crate::component::mark_uses;
 use crate::dates::{date_all, due, has_keys, is_late};
 use sg_base::{Marks, Memory, Steps};
 use sg_heap::Agenda;
@@ -57,11 +56,27 @@ impl Filling {
     }
 }
 
+// Places of a list: from the first on, before the end.
+#[derive(Clone, Copy)]
+struct Span {
+    first: usize,
+    end: usize,
+}
+
+// The least level of resources on which a flow waits, and the places of those that are at it.
+#[derive(Clone, Copy)]
+struct Least {
+    level: Option<u64>,
+    at: Span,
+}
+
 // The level of a step, and one that no bound of an unfixed flow is below. Where there is none, no such flow has a bound.
+// The resources at the level stand at these places, as far as flows wait there.
 #[derive(Clone, Copy)]
 struct Low {
     level: u64,
     floor: Option<u64>,
+    at: Span,
 }
 
 // The level of a bound.
@@ -107,15 +122,6 @@ fn add(amounts: &mut [u64], resource: usize, more: u64)
     amounts[resource] += more;
 }
 
-// Less waits at a resource.
-fn lessen(amounts: &mut [u64], resource: usize, by: u64)
-    requires { resource < length amounts.old }
-    ensures { amounts.new ≡ slice_set amounts.old resource
-        (slice_index amounts.old resource - by) }
-{
-    amounts[resource] = amounts[resource].saturating_sub(by);
-}
-
 // A flow waits with its weight at each of its resources.
 fn add_uses<L: Ledger>(system: &System, flow: usize, waiting: &mut [u64], steps: &mut Steps<L>)
     requires held { IsSome (flow_at system.now.slots flow) }
@@ -142,42 +148,23 @@ fn less(left: u64, weight: u32, bound: Option<u64>, level: u64) -> u64
     left.saturating_sub(capped_share(weight, bound, level))
 }
 
-// Takes a share off what is left of a resource.
-fn take_share(left: &mut [u64], resource: usize, weight: u32, bound: Option<u64>, level: u64)
-    requires { resource < length left.old }
-    ensures { left.new ≡ slice_set left.old resource
-        (slice_index left.old resource - bounded bound (weight * level)) }
+// A flow waits no more at a resource: its share is taken off what is left there, and the level must be divided again.
+fn take_use(resource: usize, weight: u32, bound: Option<u64>, level: u64, filling: &mut Filling)
+    requires left { resource < length filling.old.left.items }
+    requires waiting { resource < length filling.old.waiting.items }
+    requires stale { resource < filling.old.stale.room }
+    ensures left { filling.new.left.items ≡ slice_set filling.old.left.items resource
+        (slice_index filling.old.left.items resource - bounded bound (weight * level)) }
+    ensures waiting { filling.new.waiting.items ≡ slice_set filling.old.waiting.items resource
+        (slice_index filling.old.waiting.items resource - weight) }
+    ensures stale { filling.new.stale ≡ record filling.old.stale {
+      members = with_mark resource filling.old.stale.members;
+    } }
+    ensures kept { KeepsLevels filling.old filling.new }
 {
-    left[resource] = less(left[resource], weight, bound, level);
-}
-
-// A flow waits no more, and its share is taken off what is left of each of its resources.
-fn take_uses<L: Ledger>(
-    system: &System,
-    flow: usize,
-    level: u64,
-    left: &mut [u64],
-    waiting: &mut [u64],
-    steps: &mut Steps<L>,
-)
-    requires held { IsSome (flow_at system.now.slots flow) }
-    requires left { All (λ c. c < length left.old) (uses_at system.now.slots flow) }
-    requires waiting { All (λ c. c < length waiting.old) (uses_at system.now.slots flow) }
-    ensures left { IsLessBy (λ c. times c (uses_at system.now.slots flow)
-        * share_at (flow_in system.now.slots flow) level) left.old left.new }
-    ensures waiting { IsLessBy (weight_on system.now.slots flow)
-        waiting.old waiting.new }
-    ensures looks { steps.new ≡ steps.old + length (uses_at system.now.slots flow) }
-{
-    let weight = system.weight(flow);
-    let bound = system.bound(flow);
-    let mut at = system.first_of(flow);
-    while let Some(i) = at {
-        let one = system.look(i, steps);
-        take_share(left, one.resource, weight, bound, level);
-        lessen(waiting, one.resource, weight as u64);
-        at = one.next_of_flow;
-    }
+    filling.left[resource] = less(filling.left[resource], weight, bound, level);
+    filling.waiting[resource] = filling.waiting[resource].saturating_sub(weight as u64);
+    filling.stale.insert(resource);
 }
 
 // What is left, for each unit of weight that waits.
@@ -214,43 +201,102 @@ fn smaller(least: Option<u64>, level: u64) -> Option<u64>
     }
 }
 
-// The lesser of the level of a resource, where a flow waits there, and of what was found before.
-fn least_with_level(waiting: u64, level: u64, least: Option<u64>) -> Option<u64>
-    ensures { (list : List ℕ) → IsLeast least list
-        → IsLeast result (list ++ level_where waiting level) }
+// The same, where a flow waits at the level of the resource at this place.
+fn with_level(place: usize, level: u64, least: Least) -> Least
+    requires { place + 1 < 2 ^ 64 }
+    ensures level { result.level ≡ Some (least_with least.level level) }
+    ensures at { IsNext place level least result }
+{
+    let end = place + 1;
+    match least.level {
+        None => Least {
+            level: Some(level),
+            at: Span { first: place, end },
+        },
+        Some(low) => with_other(place, level, low, least.at),
+    }
+}
+
+// The same, where the least level is this one.
+fn with_other(place: usize, level: u64, low: u64, at: Span) -> Least
+    requires { place + 1 < 2 ^ 64 }
+    ensures level { result.level ≡ Some (min low level) }
+    ensures at { IsNextOf place level low at result.at }
+{
+    let end = place + 1;
+    if level < low {
+        Least {
+            level: Some(level),
+            at: Span { first: place, end },
+        }
+    } else if level == low {
+        Least {
+            level: Some(low),
+            at: Span {
+                first: at.first,
+                end,
+            },
+        }
+    } else {
+        Least {
+            level: Some(low),
+            at,
+        }
+    }
+}
+
+// The same, whether a flow waits there or not.
+fn with_resource(place: usize, waiting: u64, level: u64, least: Least) -> Least
+    requires { place + 1 < 2 ^ 64 }
+    ensures idle { waiting ≡ 0 → result ≡ least }
+    ensures level { (waiting ≡ 0 → ⊥) → result.level ≡ Some (least_with least.level level) }
+    ensures at { (waiting ≡ 0 → ⊥) → IsNext place level least result }
 {
     if waiting == 0 {
         least
     } else {
-        smaller(least, level)
+        with_level(place, level, least)
     }
 }
 
 // The least level of a resource on which a flow waits, by looking through all.
-fn lowest_level(reached: &[usize], waiting: &[u64], levels: &[u64]) -> Option<u64>
+fn lowest_level(reached: &[usize], waiting: &[u64], levels: &[u64]) -> Least
     requires waiting { All (λ c. c < length waiting.now) reached.now }
     requires levels { All (λ c. c < length levels.now) reached.now }
-    ensures { IsLeast result (waited_levels waiting.now levels.now reached.now) }
+    ensures level { IsLeast result.level (waited_levels waiting.now levels.now reached.now) }
+    ensures at { AreAmong reached.now waiting.now levels.now result.level result.at }
 {
-    let mut least = None;
-    for c in reached {
-        least = least_with_level(waiting[*c], levels[*c], least);
+    let mut least = Least {
+        level: None,
+        at: Span { first: 0, end: 0 },
+    };
+    for k in 0..reached.len() {
+        let c = reached[k];
+        least = with_resource(k, waiting[c], levels[c], least);
     }
     least
 }
 
 // The least level of a resource on which a flow waits.
-fn least_level(reached: &[usize], filling: &Filling) -> Option<u64>
+fn least_level(reached: &[usize], filling: &Filling) -> Least
     requires dated { AreDated reached.now filling.now }
     requires slots { length filling.now.agenda ≡ length filling.now.levels.items }
     requires waiting { All (λ c. c < length filling.now.waiting.items) reached.now }
     requires levels { All (λ c. c < length filling.now.levels.items) reached.now }
-    ensures { IsLeast result
+    ensures level { IsLeast result.level
         (waited_levels filling.now.waiting.items filling.now.levels.items reached.now) }
+    ensures at { AreAmong reached.now filling.now.waiting.items filling.now.levels.items
+        result.level result.at }
 {
     match filling.agenda.least() {
         None => lowest_level(reached, &filling.waiting, &filling.levels),
-        Some((c, _, _)) => Some(filling.levels[c]),
+        Some((c, _, _)) => Least {
+            level: Some(filling.levels[c]),
+            at: Span {
+                first: 0,
+                end: reached.len(),
+            },
+        },
     }
 }
 
@@ -293,15 +339,19 @@ fn is_over(floor: Option<u64>, level: u64) -> bool
 }
 
 // The level, where it is below all bounds of unfixed flows.
-fn below_bounds(level: Option<u64>, floor: Option<u64>) -> Option<Low>
-    ensures { IfSome result (λ low. (level ≡ Some low.level) × (low.floor ≡ floor)
-        × IsOver floor low.level) }
+fn below_bounds(least: Least, floor: Option<u64>) -> Option<Low>
+    ensures { IfSome result (λ low. (least.level ≡ Some low.level) × (low.floor ≡ floor)
+        × IsOver floor low.level × (low.at ≡ least.at)) }
 {
-    match level {
+    match least.level {
         None => None,
         Some(level) => {
             if is_over(floor, level) {
-                Some(Low { level, floor })
+                Some(Low {
+                    level,
+                    floor,
+                    at: least.at,
+                })
             } else {
                 None
             }
@@ -311,7 +361,8 @@ fn below_bounds(level: Option<u64>, floor: Option<u64>) -> Option<Low>
 
 // The lesser of a level, where there is one, and of a bound's.
 fn lesser_of(level: Option<u64>, bound: u64) -> u64
-    ensures { result ≡ least_with level bound }
+    ensures lesser { result ≡ least_with level bound }
+    ensures up { IsUpTo result level }
 {
     match level {
         None => bound,
@@ -320,26 +371,33 @@ fn lesser_of(level: Option<u64>, bound: u64) -> u64
 }
 
 // The level, where there are no bounds.
-fn unbounded(level: Option<u64>) -> Option<Low>
-    ensures { (levels : List ℕ) → IsLeast level levels → IsLow result levels [] }
+fn unbounded(least: Least) -> Option<Low>
+    ensures low { (levels : List ℕ) → IsLeast least.level levels → IsLow result levels [] }
+    ensures at { IfSome result (λ low. IsUpTo low.level least.level × (low.at ≡ least.at)) }
 {
-    match level {
-        Some(level) => Some(Low { level, floor: None }),
+    match least.level {
+        Some(level) => Some(Low {
+            level,
+            floor: None,
+            at: least.at,
+        }),
         None => None,
     }
 }
 
 // The lesser of the least level and of the least level of a bound, where there are any.
-fn lesser(level: Option<u64>, floor: Option<u64>) -> Option<Low>
-    ensures { (levels bounds : List ℕ) → IsLeast level levels → IsLeast floor bounds
+fn lesser(least: Least, floor: Option<u64>) -> Option<Low>
+    ensures low { (levels bounds : List ℕ) → IsLeast least.level levels → IsLeast floor bounds
         → IsLow result (levels ++ bounds) bounds }
+    ensures at { IfSome result (λ low. IsUpTo low.level least.level × (low.at ≡ least.at)) }
 {
     match floor {
         Some(bound) => Some(Low {
-            level: lesser_of(level, bound),
+            level: lesser_of(least.level, bound),
             floor,
+            at: least.at,
         }),
-        None => unbounded(level),
+        None => unbounded(least),
     }
 }
 
@@ -358,15 +416,16 @@ fn lowest(
     requires dated { AreDated reached.now filling.now }
     requires floor { IsFloor floor
         (unfixed_bounds system.now.slots filling.now.fixed.items touched.now) }
-    ensures { IsLow result
+    ensures low { IsLow result
         (unfixed_limits system.now.slots filling.now.fixed.items filling.now.levels.items
         touched.now)
         (unfixed_bounds system.now.slots filling.now.fixed.items touched.now) }
+    ensures at { IfSome result (λ low. AreTaken reached.now low filling.now) }
 {
-    let level = least_level(reached, filling);
-    match below_bounds(level, floor) {
+    let least = least_level(reached, filling);
+    match below_bounds(least, floor) {
         Some(low) => Some(low),
-        None => lesser(level, lowest_bound(system, touched, &filling.fixed)),
+        None => lesser(least, lowest_bound(system, touched, &filling.fixed)),
     }
 }
 
@@ -392,18 +451,17 @@ fn fix<L: Ledger>(
     ensures waiting { IsLessBy (weight_on system.now.slots flow)
         filling.old.waiting.items filling.new.waiting.items }
     ensures stale { MarksRow (uses_at system.now.slots flow) filling.old.stale filling.new.stale }
-    ensures looks { steps.new ≡ steps.old + 2 * length (uses_at system.now.slots flow) }
+    ensures looks { steps.new ≡ steps.old + length (uses_at system.now.slots flow) }
 {
     filling.fixed[flow] = Some(low);
-    take_uses(
-        system,
-        flow,
-        low,
-        &mut filling.left,
-        &mut filling.waiting,
-        steps,
-    );
-    mark_uses(system, flow, &mut filling.stale, steps);
+    let weight = system.weight(flow);
+    let bound = system.bound(flow);
+    let mut at = system.first_of(flow);
+    while let Some(i) = at {
+        let one = system.look(i, steps);
+        take_use(one.resource, weight, bound, low, filling);
+        at = one.next_of_flow;
+    }
 }
 
 // Fixes a flow at this level, where it is unfixed.
@@ -567,22 +625,22 @@ fn fix_each<L: Ledger>(
     system: &System,
     touched: &[usize],
     reached: &[usize],
-    low: u64,
+    low: Low,
     filling: &mut Filling,
     steps: &mut Steps<L>,
 )
     requires joined { AreJoined system.now touched.now reached.now }
     requires at { IsAtLevel system.now touched.now reached.now low filling.old }
-    ensures partly { StepsPartly system.now low filling.old filling.new }
-    ensures noted { NotesHolds reached.now low filling.old filling.new }
+    ensures partly { StepsPartly system.now low.level filling.old filling.new }
+    ensures noted { NotesHolds reached.now low.level filling.old filling.new }
     ensures on { (i : ℕ) → i < length reached.now
-        → slice_index filling.old.levels.items (slice_index reached.now i) ≡ low
+        → slice_index filling.old.levels.items (slice_index reached.now i) ≡ low.level
         → AreFixed (users_on system.now.users (slice_index reached.now i)) filling.new }
     ensures count { CountsOnce system.now touched.now reached.now filling.old filling.new
         steps.old steps.new }
 {
-    for c in reached {
-        fix_on(system, *c, low, filling, steps);
+    for k in low.at.first..low.at.end {
+        fix_on(system, reached[k], low.level, filling, steps);
     }
 }
 
@@ -591,23 +649,23 @@ fn fix_due<L: Ledger>(
     system: &System,
     touched: &[usize],
     reached: &[usize],
-    low: u64,
+    low: Low,
     filling: &mut Filling,
     steps: &mut Steps<L>,
 )
     requires joined { AreJoined system.now touched.now reached.now }
     requires at { IsAtLevel system.now touched.now reached.now low filling.old }
     requires keys { HaveKeys filling.old.agenda }
-    ensures partly { StepsPartly system.now low filling.old filling.new }
-    ensures noted { NotesHolds reached.now low filling.old filling.new }
+    ensures partly { StepsPartly system.now low.level filling.old filling.new }
+    ensures noted { NotesHolds reached.now low.level filling.old filling.new }
     ensures on { (i : ℕ) → i < length reached.now
-        → slice_index filling.old.levels.items (slice_index reached.now i) ≡ low
+        → slice_index filling.old.levels.items (slice_index reached.now i) ≡ low.level
         → AreFixed (users_on system.now.users (slice_index reached.now i)) filling.new }
     ensures count { CountsOnce system.now touched.now reached.now filling.old filling.new
         steps.old steps.new }
 {
-    while let Some(c) = due(&filling.agenda, low) {
-        fix_on(system, c, low, filling, steps);
+    while let Some(c) = due(&filling.agenda, low.level) {
+        fix_on(system, c, low.level, filling, steps);
         filling.stale.insert(c);
         filling.agenda.clear(c);
     }
@@ -618,16 +676,16 @@ fn fix_all_users<L: Ledger>(
     system: &System,
     touched: &[usize],
     reached: &[usize],
-    low: u64,
+    low: Low,
     filling: &mut Filling,
     steps: &mut Steps<L>,
 )
     requires joined { AreJoined system.now touched.now reached.now }
     requires at { IsAtLevel system.now touched.now reached.now low filling.old }
-    ensures partly { StepsPartly system.now low filling.old filling.new }
-    ensures noted { NotesHolds reached.now low filling.old filling.new }
+    ensures partly { StepsPartly system.now low.level filling.old filling.new }
+    ensures noted { NotesHolds reached.now low.level filling.old filling.new }
     ensures on { (i : ℕ) → i < length reached.now
-        → slice_index filling.old.levels.items (slice_index reached.now i) ≡ low
+        → slice_index filling.old.levels.items (slice_index reached.now i) ≡ low.level
         → AreFixed (users_on system.now.users (slice_index reached.now i)) filling.new }
     ensures count { CountsOnce system.now touched.now reached.now filling.old filling.new
         steps.old steps.new }
@@ -649,9 +707,7 @@ fn fix_all<L: Ledger>(
     steps: &mut Steps<L>,
 )
     requires joined { AreJoined system.now touched.now reached.now }
-    requires at { IsAtLevel system.now touched.now reached.now low.level filling.old }
-    requires floor { IsFloor low.floor
-        (unfixed_bounds system.now.slots filling.old.fixed.items touched.now) }
+    requires at { IsAtLevel system.now touched.now reached.now low filling.old }
     ensures partly { StepsPartly system.now low.level filling.old filling.new }
     ensures noted { NotesHolds reached.now low.level filling.old filling.new }
     ensures stepped { (i : ℕ) → i < length touched.now
@@ -660,7 +716,7 @@ fn fix_all<L: Ledger>(
     ensures count { CountsOnce system.now touched.now reached.now filling.old filling.new
         steps.old steps.new }
 {
-    fix_all_users(system, touched, reached, low.level, filling, steps);
+    fix_all_users(system, touched, reached, low, filling, steps);
     fix_all_bounded(system, touched, low.level, low.floor, filling, steps);
 }
 
@@ -703,10 +759,8 @@ fn step<L: Ledger>(
     steps: &mut Steps<L>,
 )
     requires joined { AreJoined system.now touched.now reached.now }
-    requires at { IsAtLevel system.now touched.now reached.now low.level filling.old }
+    requires at { IsAtLevel system.now touched.now reached.now low filling.old }
     requires levels { AreLevels reached.now filling.old }
-    requires floor { IsFloor low.floor
-        (unfixed_bounds system.now.slots filling.old.fixed.items touched.now) }
     ensures places { HasPlaces system.now filling.new }
     ensures noted { NotesHolds reached.now low.level filling.old filling.new }
     ensures stepped { (i : ℕ) → i < length touched.now

@@ -121,11 +121,13 @@ step-requires-clause-at g c =
         stale_room = p.stale_room;
         slots = out.slots ∙ p.slots;
       };
-      above = λ id i none x k. above_least s f.fixed.items f.levels.items touched low c.in-Some.ensures.0 id i none x (In-from_contains (limits_at s.slots f.levels.items id) x k);
+      above = λ id i none x k. above_least s f.fixed.items f.levels.items touched low c.in-Some.ensures.low.0 id i none x (In-from_contains (limits_at s.slots f.levels.items id) x k);
+      floor = c.in-Some.ensures.low.1;
+      taken = record { order = c.in-Some.ensures.at.order; few = c.in-Some.ensures.at.few; among = c.in-Some.ensures.at.among };
       counted = record { left_is = inv.counted.left_is; waiting_is = inv.counted.waiting_is };
       dated = dated_late reached f c.date_all.new.agenda c.is_late.result inv.dated
           (λ e x r. out.listed e x r ∙ ap₂ (λ (ws ls : List ℕ). key_where (get_or ws x 0) (get_or ls x 0)) c.deref.ensures.value c.deref-in-loop-n.ensures.value) out.others out.none;
-      fresh = fresh_at s touched reached joined f low state are inv.counted inv.levels c.in-Some.ensures.0 inv.under inv.noted;
+      fresh = fresh_at s touched reached joined f low state are inv.counted inv.levels c.in-Some.ensures.low.0 inv.under inv.noted;
     }
 
 pub loop-n-preserved : goal.loop-n-preserved
@@ -144,7 +146,7 @@ loop-n-preserved g c =
     let stepped = of_each (λ f. IsStepped low (IsLeast (Some low) (limits_at s.slots levels f)) (fixed_at old f) (fixed_at new.fixed.items f)) touched c.step.ensures.stepped in
     let next = next_fixed s old touched (steps_from c.loop-n.n s.capacities flows unfixed) (λ f i. rows_once s joined.part.sound f)
     (of_each (λ f. steps_from c.loop-n.n s.capacities flows unfixed (flow_in s.slots f) ≡ fixed_at old f) touched inv.fixed_are) f.left.items f.waiting.items levels (λ x. is_in x reached) inv.counted
-    inv.levels (covers_in (uses_at s.slots) touched reached joined.closed.covers) new.fixed.items low c.in-Some.ensures.0 stepped in
+    inv.levels (covers_in (uses_at s.slots) touched reached joined.closed.covers) new.fixed.items low c.in-Some.ensures.low.0 stepped in
     let state = steps_from c.loop-n.n s.capacities flows unfixed in
     let are = of_each (λ f. state (flow_in s.slots f) ≡ fixed_at old f) touched inv.fixed_are in
     let out = c.step.ensures.count in
@@ -155,13 +157,13 @@ loop-n-preserved g c =
       places = c.step.ensures.places;
       kept = λ id x e. c.step.ensures.kept id x (inv.kept id x e);
       holds_kept = λ x off. told.others x off ∙ inv.holds_kept x off;
-      noted = noted_next s touched reached joined f low state are inv.counted inv.levels c.in-Some.ensures.0 inv.under new stepped inv.noted notes;
-      under = under_next s touched reached joined f low state are inv.counted inv.levels c.in-Some.ensures.0 inv.under new stepped next counted c.step.ensures.levels;
+      noted = noted_next s touched reached joined f low state are inv.counted inv.levels c.in-Some.ensures.low.0 inv.under new stepped inv.noted notes;
+      under = under_next s touched reached joined f low state are inv.counted inv.levels c.in-Some.ensures.low.0 inv.under new stepped next counted c.step.ensures.levels;
       fixed_are = λ i h. ap (λ (k : Fixed). k (flow_in s.slots (get_or touched i 0))) (steps-next c.loop-n.n s.capacities flows unfixed) ∙ next (get_or touched i 0) (in_index touched i h);
       counted = counted;
       levels = c.step.ensures.levels;
       dated = c.step.ensures.dated;
-      floor = floor_fewer c.in-Some.low.floor s old new.fixed.items touched (λ f i e. unfixed_before low (IsLeast (Some low) (limits_at s.slots levels f)) (fixed_at old f) (fixed_at new.fixed.items f) (stepped f i) e) c.in-Some.ensures.1;
+      floor = floor_fewer c.in-Some.low.floor s old new.fixed.items touched (λ f i e. unfixed_before low (IsLeast (Some low) (limits_at s.slots levels f)) (fixed_at old f) (fixed_at new.fixed.items f) (stepped f i) e) c.in-Some.ensures.low.1;
       looks = omega (arith, inv.looks, out.looks);
     }
 
@@ -176,7 +178,7 @@ returns-in-None-clause-fixed g c = λ i h.
     let old = f.fixed.items in
     let levels = f.levels.items in
     let inv = c.loop-n.invariant in
-    let none_left : unfixed_limits s.slots old levels touched ≡ [] = c.in-None.ensures in
+    let none_left : unfixed_limits s.slots old levels touched ≡ [] = c.in-None.ensures.low in
     let id = get_or touched i 0 in
     let state = steps_from c.loop-n.n s.capacities flows unfixed in
     level_at s old touched c.loop-n.n id (omega arith) (inv.fixed_are i h) (λ none.
@@ -198,9 +200,6 @@ returns-clause-fixed g c = λ i h.
     level_at s old touched c.loop-n.n id (omega arith) (c.loop-n.invariant.fixed_are i h) (λ none.
     all_fixed (length flows) s.capacities flows unfixed (limited_from s.capacities flows (part_limits s touched c.requires.joined.part)) (count_by-le-length (λ f. true) flows) (flow_in s.slots id) (In-map (flow_in s.slots) touched id (in_index touched i h))
     (ap (λ k. steps_from k s.capacities flows unfixed (flow_in s.slots id)) (sym all) ∙ c.loop-n.invariant.fixed_are i h ∙ none))
-
-pub step-requires-clause-floor : goal.step-requires-clause-floor
-step-requires-clause-floor g c = c.in-Some.ensures.1
 
 pub lowest-requires-clause-dated : goal.lowest-requires-clause-dated
 lowest-requires-clause-dated g c =

@@ -1,44 +1,192 @@
-use Rattle.std.proofs.Common.{◌-◌, ◌*◌, ◌<◌, All, length, get_or, sym, ap, subst, ◌∙◌, arith}
-use Rattle.std.proofs.lemmas.List.{with_items_is}
-use Rattle.std.proofs.lemmas.List.Elements.{All-get_or, All-from_get_or}
+use Rattle.std.proofs.Common.{◌≡◌, ◌-◌, ◌*◌, ◌<◌, suc, true, Some, length, length-set, get_or, take, below_more, refl, sym, ap, subst, ◌∙◌, arith}
+use Rattle.std.proofs.lemmas.List.Elements.{All-get_or}
+use Rattle.sg_base.specs.MarkSet.{MarkSet, is_in, with_mark}
 use Rattle.sg_chains.specs.Chained.{times}
-use Rattle.sg_maxmin.specs.Fill.{share_at}
+use Rattle.sg_chains.specs.Walk.{next_of_flow, resource_of}
+use Rattle.sg_maxmin.specs.Fill.{bounded, share_at}
 use Rattle.sg_maxmin.specs.Sharing.{uses_at}
-use Rattle.sg_levels.specs.Numbered.{flow_in, weight_at}
-use Rattle.sg_filling.proofs.Rows.{rows_exist}
+use Rattle.sg_levels.specs.Numbered.{weight_at}
+use Rattle.sg_filling.specs.Component.{AllPass, Grows}
+use Rattle.sg_filling.proofs.Growing.{grows_on, grows_mark, grows_same, stays, mark_there, few_mark, pass_mark}
+use Rattle.sg_filling.proofs.Rows.{bound_is, rows_exist, take_all, weight_is}
+use Rattle.sg_filling.proofs.Walked.{take_off}
+use Rattle.sg_levels.proofs.Walked.{can_look, looked, walk_from, walk_on, nearer, walked}
 use Rattle.sg_filling.proofs.filling.fix.Goals as goal
 
-pub take_uses-requires-clause-left : goal.take_uses-requires-clause-left
-take_uses-requires-clause-left g c =
-    let s = c.args.system.now in
-    let row = uses_at s.slots c.args.flow in
-    All-from_get_or (λ x. x < length c.deref_mut.result.now) row 0 (λ i h.
-    let below : get_or row i 0 < length s.capacities = All-get_or (λ x. x < length s.capacities) row i 0 h (rows_exist s c.requires.sound c.args.flow) in
-    omega (arith, below, c.requires.places.left_len, ap length c.deref_mut.ensures.value))
-
-pub take_uses-requires-clause-waiting : goal.take_uses-requires-clause-waiting
-take_uses-requires-clause-waiting g c =
-    let s = c.args.system.now in
-    let row = uses_at s.slots c.args.flow in
-    All-from_get_or (λ x. x < length c.deref_mut-2.result.now) row 0 (λ i h.
-    let below : get_or row i 0 < length s.capacities = All-get_or (λ x. x < length s.capacities) row i 0 h (rows_exist s c.requires.sound c.args.flow) in
-    omega (arith, below, c.requires.places.waiting_len, ap length c.deref_mut-2.ensures.value))
-
-pub mark_uses-requires : goal.mark_uses-requires
-mark_uses-requires g c =
-    let s = c.args.system.now in
-    subst (λ n. All (λ c. c < n) (uses_at s.slots c.args.flow)) (sym c.requires.places.stale_room) (rows_exist s c.requires.sound c.args.flow)
-
-pub returns-clause-left : goal.returns-clause-left
-returns-clause-left g c = λ x.
+pub loop-at-init : goal.loop-at-init
+loop-at-init g c =
     let s = c.args.system.now in
     let f = c.args.filling.now in
-    ap (λ xs. get_or xs x 0) (with_items_is f.left c.take_uses.new.left (c.take_uses.auto.left ∙ c.deref_mut.ensures.len))
-    ∙ c.take_uses.ensures.left x ∙ ap (λ xs. get_or xs x 0 - times x (uses_at s.slots c.args.flow) * share_at (flow_in s.slots c.args.flow) c.args.low) c.deref_mut.ensures.value
+    let row = uses_at s.slots c.args.flow in
+    let p = c.requires.places in (
+      0,
+      record {
+        walk = walk_from next_of_flow resource_of s.uses row c.first_of-at.result c.first_of-at.ensures.leads c.first_of-at.ensures.few;
+        places = record {
+          fixed_len = omega (arith, p.fixed_len, length-set f.fixed.items c.args.flow (Some c.args.low));
+          holds_len = p.holds_len;
+          left_len = p.left_len;
+          waiting_len = p.waiting_len;
+          levels_len = p.levels_len;
+          stale_room = p.stale_room;
+          slots = p.slots;
+        };
+        fixed = refl;
+        holds = refl;
+        levels = refl;
+        agenda = refl;
+        left = λ x. let none : times x (take 0 row) ≡ 0 = refl in omega (arith, ap (λ n. n * bounded c.bound-bound.result (c.weight-weight.result * c.args.low)) none);
+        waiting = λ x. let none : times x (take 0 row) ≡ 0 = refl in omega (arith, ap (λ n. n * c.weight-weight.result) none);
+        grows = grows_same f.stale.members;
+        room = refl;
+        done = λ i h. absurd (omega (arith, h));
+        few = omega arith;
+        least = λ q all start. start;
+        looks = omega arith;
+      },
+    )
+
+pub look-one-requires : goal.look-one-requires
+look-one-requires g c =
+    let s = c.args.system.now in
+    let inv = c.loop-at.invariant in
+    can_look next_of_flow resource_of s.uses (uses_at s.slots c.args.flow) inv.0 c.loop-at.at inv.1.walk c.in-Some.i c.in-Some.is
+
+pub loop-at-smaller : goal.loop-at-smaller
+loop-at-smaller g c =
+    let s = c.args.system.now in
+    let inv = c.loop-at.invariant in
+    nearer next_of_flow resource_of s.uses (uses_at s.slots c.args.flow) inv.0 c.loop-at.at inv.1.walk c.in-Some.i c.look-one.result c.in-Some.is c.look-one.ensures.there
+
+pub take_use-requires-clause-left : goal.take_use-requires-clause-left
+take_use-requires-clause-left g c =
+    let s = c.args.system.now in
+    let row = uses_at s.slots c.args.flow in
+    let inv = c.loop-at.invariant in
+    let r = looked next_of_flow resource_of s.uses row inv.0 c.loop-at.at inv.1.walk c.in-Some.i c.look-one.result c.in-Some.is c.look-one.ensures.there in
+    let below : get_or row inv.0 0 < length s.capacities = All-get_or (λ n. n < length s.capacities) row inv.0 0 r.less (rows_exist s c.requires.sound c.args.flow) in
+    omega (arith, below, r.is, inv.1.places.left_len)
+
+pub take_use-requires-clause-waiting : goal.take_use-requires-clause-waiting
+take_use-requires-clause-waiting g c =
+    let s = c.args.system.now in
+    let row = uses_at s.slots c.args.flow in
+    let inv = c.loop-at.invariant in
+    let r = looked next_of_flow resource_of s.uses row inv.0 c.loop-at.at inv.1.walk c.in-Some.i c.look-one.result c.in-Some.is c.look-one.ensures.there in
+    let below : get_or row inv.0 0 < length s.capacities = All-get_or (λ n. n < length s.capacities) row inv.0 0 r.less (rows_exist s c.requires.sound c.args.flow) in
+    omega (arith, below, r.is, inv.1.places.waiting_len)
+
+pub take_use-requires-clause-stale : goal.take_use-requires-clause-stale
+take_use-requires-clause-stale g c =
+    let s = c.args.system.now in
+    let row = uses_at s.slots c.args.flow in
+    let inv = c.loop-at.invariant in
+    let r = looked next_of_flow resource_of s.uses row inv.0 c.loop-at.at inv.1.walk c.in-Some.i c.look-one.result c.in-Some.is c.look-one.ensures.there in
+    let below : get_or row inv.0 0 < length s.capacities = All-get_or (λ n. n < length s.capacities) row inv.0 0 r.less (rows_exist s c.requires.sound c.args.flow) in
+    omega (arith, below, r.is, inv.1.places.stale_room)
+
+pub loop-at-preserved : goal.loop-at-preserved
+loop-at-preserved g c =
+    let s = c.args.system.now in
+    let row = uses_at s.slots c.args.flow in
+    let inv = c.loop-at.invariant in
+    let k = inv.0 in
+    let p = inv.1.places in
+    let one = c.look-one.result.resource in
+    let first = c.args.filling.now in
+    let f = c.loop-at.filling in
+    let out = c.take_use.ensures in
+    let share = bounded c.bound-bound.result (c.weight-weight.result * c.args.low) in
+    let weight = c.weight-weight.result in
+    let r = looked next_of_flow resource_of s.uses row k c.loop-at.at inv.1.walk c.in-Some.i c.look-one.result c.in-Some.is c.look-one.ensures.there in
+    let below : get_or row k 0 < length s.capacities = All-get_or (λ n. n < length s.capacities) row k 0 r.less (rows_exist s c.requires.sound c.args.flow) in
+    let in_left : one < length f.left.items = omega (arith, below, r.is, p.left_len) in
+    let in_waiting : one < length f.waiting.items = omega (arith, below, r.is, p.waiting_len) in
+    let old = f.stale.members in
+    let number = get_or row k 0 in
+    let e : c.take_use.new.filling.stale.members ≡ with_mark number old = ap (λ (x : MarkSet). x.members) out.stale ∙ ap (λ n. with_mark n old) r.is in
+    let room = ap (λ (x : MarkSet). x.room) out.stale in (
+      suc k,
+      record {
+        walk = walk_on next_of_flow resource_of s.uses row k c.loop-at.at inv.1.walk c.in-Some.i c.look-one.result c.in-Some.is c.look-one.ensures.there;
+        places = record {
+          fixed_len = omega (arith, p.fixed_len, ap length out.kept.fixed);
+          holds_len = ap length out.kept.holds ∙ p.holds_len;
+          left_len = ap length out.left ∙ length-set f.left.items one (get_or f.left.items one 0 - share) ∙ p.left_len;
+          waiting_len = ap length out.waiting ∙ length-set f.waiting.items one (get_or f.waiting.items one 0 - weight) ∙ p.waiting_len;
+          levels_len = ap length out.kept.levels ∙ p.levels_len;
+          stale_room = room ∙ p.stale_room;
+          slots = ap length out.kept.agenda ∙ p.slots;
+        };
+        fixed = out.kept.fixed ∙ inv.1.fixed;
+        holds = out.kept.holds ∙ inv.1.holds;
+        levels = out.kept.levels ∙ inv.1.levels;
+        agenda = out.kept.agenda ∙ inv.1.agenda;
+        left = λ x. ap (λ xs. get_or xs x 0) out.left ∙ take_off f.left.items first.left.items row k one share x r.less r.is in_left inv.1.left;
+        waiting = λ x. ap (λ xs. get_or xs x 0) out.waiting ∙ take_off f.waiting.items first.waiting.items row k one weight x r.less r.is in_waiting inv.1.waiting;
+        grows = subst (λ xs. Grows first.stale.members xs) (sym e) (grows_on first.stale.members old (with_mark number old) inv.1.grows (grows_mark number old));
+        room = room ∙ inv.1.room;
+        done = λ i h. below_more _ _ (λ i h. subst (λ xs. is_in (get_or row i 0) xs ≡ true) (sym e) (stays (get_or row i 0) old (with_mark number old) (grows_mark number old) (inv.1.done i h)))
+            (subst (λ xs. is_in number xs ≡ true) (sym e) (mark_there number old)) i (omega (arith, h));
+        few = omega (arith, ap length e, few_mark number old, inv.1.few);
+        least = λ q all start. subst (AllPass q) (sym e) (pass_mark q number old (all k r.less) (inv.1.least q all start));
+        looks = omega (arith, inv.1.looks, c.look-one.ensures.looks);
+      },
+    )
+
+pub returns-clause-places : goal.returns-clause-places
+returns-clause-places g c = c.loop-at.invariant.1.places
+
+pub returns-clause-levels : goal.returns-clause-levels
+returns-clause-levels g c = c.loop-at.invariant.1.levels
+
+pub returns-clause-agenda : goal.returns-clause-agenda
+returns-clause-agenda g c = c.loop-at.invariant.1.agenda
+
+pub returns-clause-holds : goal.returns-clause-holds
+returns-clause-holds g c = c.loop-at.invariant.1.holds
+
+pub returns-clause-fixed : goal.returns-clause-fixed
+returns-clause-fixed g c = c.loop-at.invariant.1.fixed
+
+pub returns-clause-left : goal.returns-clause-left
+unfolding share_at
+returns-clause-left g c = λ x.
+    let s = c.args.system.now in
+    let row = uses_at s.slots c.args.flow in
+    let inv = c.loop-at.invariant in
+    let k = inv.0 in
+    let all = take_all row k (walked next_of_flow resource_of s.uses row k c.loop-at.at inv.1.walk c.in_default.not-Some) in
+    let old = get_or c.args.filling.now.left.items x 0 in
+    inv.1.left x ∙ ap (λ xs. old - times x xs * bounded c.bound-bound.result (c.weight-weight.result * c.args.low)) all
+    ∙ ap (λ n. old - times x row * bounded c.bound-bound.result (n * c.args.low)) (weight_is s.slots c.args.flow c.weight-weight.result c.requires.held c.weight-weight.ensures)
+    ∙ ap (λ b. old - times x row * bounded b (weight_at s.slots c.args.flow * c.args.low)) (bound_is s.slots c.args.flow c.bound-bound.result c.requires.held c.bound-bound.ensures)
 
 pub returns-clause-waiting : goal.returns-clause-waiting
 returns-clause-waiting g c = λ x.
     let s = c.args.system.now in
-    let f = c.args.filling.now in
-    ap (λ xs. get_or xs x 0) (with_items_is f.waiting c.take_uses.new.waiting (c.take_uses.auto.waiting ∙ c.deref_mut-2.ensures.len))
-    ∙ c.take_uses.ensures.waiting x ∙ ap (λ xs. get_or xs x 0 - times x (uses_at s.slots c.args.flow) * weight_at s.slots c.args.flow) c.deref_mut-2.ensures.value
+    let row = uses_at s.slots c.args.flow in
+    let inv = c.loop-at.invariant in
+    let k = inv.0 in
+    let all = take_all row k (walked next_of_flow resource_of s.uses row k c.loop-at.at inv.1.walk c.in_default.not-Some) in
+    inv.1.waiting x ∙ ap (λ xs. get_or c.args.filling.now.waiting.items x 0 - times x xs * c.weight-weight.result) all
+    ∙ ap (λ n. get_or c.args.filling.now.waiting.items x 0 - times x row * n) (weight_is s.slots c.args.flow c.weight-weight.result c.requires.held c.weight-weight.ensures)
+
+pub returns-clause-stale : goal.returns-clause-stale
+returns-clause-stale g c =
+    let s = c.args.system.now in
+    let inv = c.loop-at.invariant in
+    let end = walked next_of_flow resource_of s.uses (uses_at s.slots c.args.flow) inv.0 c.loop-at.at inv.1.walk c.in_default.not-Some in
+    record {
+      grows = inv.1.grows;
+      marked = λ i h. inv.1.done i (omega (arith, h, end));
+      room = inv.1.room;
+      few = omega (arith, inv.1.few, end);
+      least = inv.1.least;
+    }
+
+pub returns-clause-looks : goal.returns-clause-looks
+returns-clause-looks g c =
+    let s = c.args.system.now in
+    let inv = c.loop-at.invariant in
+    omega (arith, inv.1.looks, walked next_of_flow resource_of s.uses (uses_at s.slots c.args.flow) inv.0 c.loop-at.at inv.1.walk c.in_default.not-Some)

@@ -14,7 +14,7 @@ fix_all_bounded-requires-clause-above g c =
 
 pub fix_all_bounded-requires-clause-floor : goal.fix_all_bounded-requires-clause-floor
 fix_all_bounded-requires-clause-floor g c =
-    floor_partly c.args.low.floor c.args.system.now c.args.low.level c.args.filling.now c.fix_all_users.new.filling c.args.touched.now c.fix_all_users.ensures.partly c.requires.floor
+    floor_partly c.args.low.floor c.args.system.now c.args.low.level c.args.filling.now c.fix_all_users.new.filling c.args.touched.now c.fix_all_users.ensures.partly c.requires.at.floor
 
 pub returns-clause-partly : goal.returns-clause-partly
 returns-clause-partly g c =

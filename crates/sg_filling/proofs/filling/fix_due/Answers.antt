@@ -15,7 +15,7 @@ use Rattle.sg_filling.proofs.filling.fix_due.Goals as goal
 
 pub loop-c-init : goal.loop-c-init
 loop-c-init g c = record {
-  partly = partly_same c.args.system.now c.args.low c.args.filling.now c.requires.at.places;
+  partly = partly_same c.args.system.now c.args.low.level c.args.filling.now c.requires.at.places;
   keys = λ n. inl refl;
   others = λ n off. refl;
   may = λ n. inl refl;
@@ -32,14 +32,14 @@ fix_on-requires-clause-above g c =
     let row = users_on s.users n in
     let key = some_of (key_at f.agenda n) c.in-Some.ensures.first in
     let its = key_is c.args.reached.now first c.requires.at.dated.quiet (are_right c.args.reached.now first c.requires.at.dated c.requires.keys) n key.0 (key_left (key_at f.agenda n) (key_at first.agenda n) key.0 (c.loop-c.invariant.keys n) key.1) in
-    above_still s c.args.touched.now row c.args.low first f c.loop-c.invariant.partly (λ id i. into row c.args.touched.now id (c.requires.joined.closed.covered n its.0) i) c.requires.at.above
+    above_still s c.args.touched.now row c.args.low.level first f c.loop-c.invariant.partly (λ id i. into row c.args.touched.now id (c.requires.joined.closed.covered n its.0) i) c.requires.at.above
 
 pub loop-c-preserved : goal.loop-c-preserved
 loop-c-preserved g c =
     let s = c.args.system.now in
     let touched = c.args.touched.now in
     let reached = c.args.reached.now in
-    let low = c.args.low in
+    let low = c.args.low.level in
     let first = c.args.filling.now in
     let f = c.loop-c.filling in
     let inv = c.loop-c.invariant in
@@ -97,7 +97,7 @@ returns-clause-on g c = λ i h e.
     let r = in_at n reached i h refl in
     let later = none_of c.due.result c.in_default.not-Some c.due.ensures.none in
     elim (eq_cases (get_or first.waiting.items n 0) 0) [
-      | inl z ↦ fixed_stay s c.args.low (users_on s.users n) first f inv.partly (nobody_waits s touched reached first c.requires.joined c.requires.at.counted n r z)
+      | inl z ↦ fixed_stay s c.args.low.level (users_on s.users n) first f inv.partly (nobody_waits s touched reached first c.requires.joined c.requires.at.counted n r z)
       | inr some ↦
           elim (inv.keys n) [
             | inl same ↦ absurd (omega (arith, later n (record { date = get_or first.levels.items n 0; serial = 0 }) (same ∙ has_key reached first c.requires.at.dated.quiet (are_right reached first c.requires.at.dated c.requires.keys) n some), e))

@@ -4,13 +4,13 @@ use Rattle.sg_filling.specs.Filling.{AreFixed, KeepsHolds, StepsPartly, fixed_at
 use Rattle.sg_filling.specs.Holds.{CountsOnce, MayHold}
 use Rattle.sg_filling.proofs.filling.fix_each.Given as goal
 
-abbrev pub invariant-loop-c : goal.invariant-loop-c
-invariant-loop-c g l = record {
-  partly : StepsPartly l.system l.low l.fn.filling l.filling;
-  on : (i : ℕ) → i < l.c-index → slice_index l.fn.filling.levels.items (slice_index l.reached i) ≡ l.low → AreFixed (users_on l.system.users (slice_index l.reached i)) l.filling;
+abbrev pub invariant-loop-k : goal.invariant-loop-k
+invariant-loop-k g l = record {
+  partly : StepsPartly l.system l.low.level l.fn.filling l.filling;
+  on : (i : ℕ) → i < l.k → slice_index l.fn.filling.levels.items (slice_index l.reached i) ≡ l.low.level → AreFixed (users_on l.system.users (slice_index l.reached i)) l.filling;
   others : KeepsHolds l.reached l.fn.filling l.filling;
-  may : (c : ℕ) → MayHold l.low (slice_index l.fn.filling.levels.items c) (fixed_at l.fn.filling.holds.items c) (fixed_at l.filling.holds.items c);
-  taken : (i : ℕ) → i < l.c-index → slice_index l.fn.filling.levels.items (slice_index l.reached i) ≡ l.low → fixed_at l.filling.holds.items (slice_index l.reached i) ≡ Some l.low;
-  rest : (i : ℕ) → l.c-index ≤ i → i < length l.reached → fixed_at l.filling.holds.items (slice_index l.reached i) ≡ fixed_at l.fn.filling.holds.items (slice_index l.reached i);
+  may : (c : ℕ) → MayHold l.low.level (slice_index l.fn.filling.levels.items c) (fixed_at l.fn.filling.holds.items c) (fixed_at l.filling.holds.items c);
+  taken : (i : ℕ) → i < l.k → slice_index l.fn.filling.levels.items (slice_index l.reached i) ≡ l.low.level → 0 < slice_index l.fn.filling.waiting.items (slice_index l.reached i) → fixed_at l.filling.holds.items (slice_index l.reached i) ≡ Some l.low.level;
+  rest : (i : ℕ) → l.k ≤ i → i < length l.reached → fixed_at l.filling.holds.items (slice_index l.reached i) ≡ fixed_at l.fn.filling.holds.items (slice_index l.reached i);
   count : CountsOnce l.system l.touched l.reached l.fn.filling l.filling l.fn.steps l.steps;
 }

@@ -5,8 +5,8 @@ use Rattle.sg_filling.specs.Filling.{IsLeast, waited_levels}
 use Rattle.sg_filling.proofs.Keyed.{are_right, first_least, key_within, there_some}
 use Rattle.sg_filling.proofs.filling.least_level.Goals as goal
 
-pub returns-in-Some : goal.returns-in-Some
-returns-in-Some c =
+pub returns-in-Some-clause-level : goal.returns-in-Some-clause-level
+returns-in-Some-clause-level c =
     let reached = c.args.reached.now in
     let f = c.args.filling.now in
     let x = c.in-Some.c in
@@ -16,3 +16,6 @@ returns-in-Some c =
     let below : x < length f.levels.items = omega (arith, key_within f.agenda x some, c.requires.slots) in
     subst (λ n. IsLeast (Some n) (waited_levels f.waiting.items f.levels.items reached)) (sym (c.index.ensures ∙ get_or_default_zero f.levels.items x c.index.result.now below))
     (first_least reached f c.requires.dated.quiet (are_right reached f c.requires.dated (x, some)) x key first)
+
+pub returns-in-Some-clause-at : goal.returns-in-Some-clause-at
+returns-in-Some-clause-at c = record { order = omega arith; few = omega arith; among = λ i level h w e up. (omega arith, h) }

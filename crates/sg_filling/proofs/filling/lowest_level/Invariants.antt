@@ -1,6 +1,5 @@
-use Rattle.std.proofs.Common.{take}
-use Rattle.sg_filling.specs.Filling.{IsLeast, waited_levels}
+use Rattle.sg_filling.proofs.Scanned.{IsScanned}
 use Rattle.sg_filling.proofs.filling.lowest_level.Given as goal
 
-abbrev pub invariant-loop-c : goal.invariant-loop-c
-invariant-loop-c l = IsLeast l.least (waited_levels l.waiting l.levels (take l.c-index l.reached))
+abbrev pub invariant-loop-k : goal.invariant-loop-k
+invariant-loop-k l = IsScanned l.reached l.waiting l.levels l.k l.least
