@@ -53,11 +53,8 @@ bandwidth_units = (codes "", whole 1) ∷ (codes "Bps", whole 1) ∷ (codes "kBp
     ∷ (codes "GiBps", whole (2 ^ 30)) ∷ (codes "bps", ratio 1 8) ∷ (codes "kbps", ratio (10 ^ 3) 8) ∷ (codes "Mbps", ratio (10 ^ 6) 8)
     ∷ (codes "Gbps", ratio (10 ^ 9) 8) ∷ []
 
-abbrev pub second : ℕ
-second = 10 ^ 9
-
 -- in nanoseconds
 abbrev pub time_units : Units
-time_units = (codes "", whole second) ∷ (codes "ns", whole 1) ∷ (codes "us", whole (10 ^ 3)) ∷ (codes "ms", whole (10 ^ 6))
-    ∷ (codes "s", whole second) ∷ (codes "m", whole (60 * second)) ∷ (codes "h", whole (3600 * second)) ∷ (codes "d", whole (86400 * second))
-    ∷ (codes "w", whole (604800 * second)) ∷ []
+time_units = (codes "", whole (10 ^ 9)) ∷ (codes "ns", whole 1) ∷ (codes "us", whole (10 ^ 3)) ∷ (codes "ms", whole (10 ^ 6))
+    ∷ (codes "s", whole (10 ^ 9)) ∷ (codes "m", whole (60 * 10 ^ 9)) ∷ (codes "h", whole (3600 * 10 ^ 9)) ∷ (codes "d", whole (86400 * 10 ^ 9))
+    ∷ (codes "w", whole (604800 * 10 ^ 9)) ∷ []

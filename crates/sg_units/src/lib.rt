@@ -8,6 +8,7 @@ mod date;
 mod fault;
 mod laws;
 mod number;
+mod plain;
 mod readers;
 mod scale;
 mod units;

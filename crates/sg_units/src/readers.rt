@@ -3,11 +3,12 @@ ghost use Rattle.std.specs.Prelude.{◌≡◌, ◌≤◌, ◌<◌, ◌^◌, IsTr
 ghost use Rattle.std.specs.Str.Parse.{digits_value};
 ghost use Rattle.sg_base.specs.Limits.{IsAmount, IsTime};
 ghost use Rattle.sg_units.specs.Amount.{short_value, amount_by, power_of, places_of, digits_of, is_short, amount_of, speed_of, bandwidth_of, time_of, factor_of};
-ghost use Rattle.sg_units.specs.kept.Shown.{parts_of, HasDigits};
-ghost use Rattle.sg_units.specs.Units.{rows, are_sizes, IsSize};
+ghost use Rattle.sg_units.specs.kept.Shown.{parts_of, HasDigits, HasFewDigits};
+ghost use Rattle.sg_units.specs.Units.{amount_units, are_sizes, rows, IsSize};
 
 use crate::fault::AmountFault;
 use crate::number::Number;
+use crate::plain::plain_number;
 use crate::scale::{read_after, scaled};
 use crate::units::{
     AMOUNT_UNITS, BANDWIDTH_UNITS, FACTOR_UNITS, Ratio, SPEED_UNITS, TIME_UNITS, UnitRow, size_of,
@@ -31,8 +32,7 @@ fn is_short(number: &Number) -> bool
 }
 
 fn digits_of(number: &Number) -> u128
-    requires digits { HasDigits number.now }
-    requires short { IsTrue (is_short (parts_of number.now)) }
+    requires { HasFewDigits number.now }
     ensures value { result ≡ digits_of (parts_of number.now) }
     ensures bound { result < 10 ^ 20 }
 {
@@ -40,8 +40,7 @@ fn digits_of(number: &Number) -> u128
 }
 
 fn exponent_of(number: &Number) -> u32
-    requires digits { HasDigits number.now }
-    requires short { IsTrue (is_short (parts_of number.now)) }
+    requires { HasFewDigits number.now }
     ensures value { result ≡ digits_value 10 number.now.exponent.now }
     ensures bound { result < 10 ^ 3 }
 {
@@ -49,8 +48,7 @@ fn exponent_of(number: &Number) -> u32
 }
 
 fn power_of(number: &Number) -> u32
-    requires digits { HasDigits number.now }
-    requires short { IsTrue (is_short (parts_of number.now)) }
+    requires { HasFewDigits number.now }
     ensures { result ≡ power_of (parts_of number.now) }
 {
     if number.is_negative {
@@ -61,8 +59,7 @@ fn power_of(number: &Number) -> u32
 }
 
 fn places_of(number: &Number) -> u32
-    requires digits { HasDigits number.now }
-    requires short { IsTrue (is_short (parts_of number.now)) }
+    requires { HasFewDigits number.now }
     ensures { result ≡ places_of (parts_of number.now) }
 {
     let places = number.fraction.len() as u32;
@@ -109,12 +106,24 @@ fn amount_by(units: &[UnitRow], greatest: u64, text: &[u8]) -> Result<u64, Amoun
     }
 }
 
+// The same with no unit. Most amounts are digits alone, and need no more than these.
+fn amount_without_unit(greatest: u64, text: &[u8]) -> Result<u64, AmountFault>
+    requires { greatest ≤ 10 ^ 18 }
+    ensures value { result ≡ amount_by amount_units greatest text.now }
+    ensures limit { IfOk result (λ n. n ≤ greatest) }
+{
+    match plain_number(text) {
+        Some(n) if n <= greatest => Ok(n),
+        _ => amount_by(&AMOUNT_UNITS, greatest, text),
+    }
+}
+
 /// Reads flops or bytes, which have no unit, up to 10^15.
 pub fn read_amount(text: &[u8]) -> Result<u64, AmountFault>
     ensures value { result ≡ amount_of text.now }
     ensures limit { IfOk result IsAmount }
 {
-    amount_by(&AMOUNT_UNITS, GREATEST_AMOUNT, text)
+    amount_without_unit(GREATEST_AMOUNT, text)
 }
 
 /// Reads a speed in flops per second, up to 10^15.

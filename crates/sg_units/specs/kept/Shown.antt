@@ -1,5 +1,7 @@
 -- What the parts of a number stand for.
-use Rattle.std.specs.Str.Parse.{AllDigits}
+use Rattle.std.specs.Prelude.{◌≡◌, ◌≤◌, ◌<◌, IsTrue, ℕ, List, length}
+use Rattle.std.specs.Str.Parse.{AllDigits, digits_value}
+use Rattle.sg_units.specs.Amount.{is_short}
 use Rattle.sg_units.specs.declared.number.Number.{Number as Parts}
 use Rattle.sg_units.specs.Number.{Number}
 
@@ -17,3 +19,15 @@ pub record HasDigits (p : Parts) : Type 0 where
   pub whole : AllDigits 10 p.whole.now
   pub fraction : AllDigits 10 p.fraction.now
   pub exponent : AllDigits 10 p.exponent.now
+
+-- so it is, and they are few
+pub record HasFewDigits (p : Parts) : Type 0 where
+  pub digits : HasDigits p
+  pub short : IsTrue (is_short (parts_of p))
+
+-- the text is digits alone, at most 18 of them, which write this number
+pub record IsPlainNumber (text : List ℕ) (n : ℕ) : Type 0 where
+  pub some : 0 < length text
+  pub few : length text ≤ 18
+  pub digits : AllDigits 10 text
+  pub value : digits_value 10 text ≡ n
