@@ -3,6 +3,7 @@ ghost use Rattle.std.specs.Prelude.{◌≡◌, ℕ, ◌%◌, ◌<◌, length, sl
 ghost use Rattle.sg_collectives.specs.Expansion.{alltoall};
 
 use crate::step::Step;
+use crate::tree::Rank;
 
 // The rank that is met there by going round all members.
 fn around(way: u64, members: u32) -> u32
@@ -13,11 +14,11 @@ fn around(way: u64, members: u32) -> u32
 }
 
 #[tactic(auto, using(crate::proofs::Places::alltoall_recv, crate::proofs::Places::alltoall_send, crate::proofs::Places::alltoall_wait, crate::proofs::Places::alltoall_past))]
-pub fn alltoall_step(bytes: u64, rank: u32, members: u32, place: u64) -> Option<Step>
-    requires { rank < members }
-    ensures { result ≡ slice_get (alltoall bytes rank members) place }
+pub fn alltoall_step(bytes: u64, rank: Rank, place: u64) -> Option<Step>
+    ensures { result ≡ slice_get (alltoall bytes rank.number rank.members) place }
 {
-    let at = u64::from(rank);
+    let members = rank.members;
+    let at = u64::from(rank.number);
     let all = u64::from(members);
     let others = all - 1;
     if place < others {

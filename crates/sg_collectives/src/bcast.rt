@@ -3,42 +3,43 @@ ghost use Rattle.std.specs.Prelude.{◌≡◌, ℕ, ◌^◌, ◌<◌, ◌≤◌,
 ghost use Rattle.sg_collectives.specs.Expansion.{bcast, to_children};
 
 use crate::step::Step;
-use crate::tree::{child_count, parent};
+use crate::tree::{Rank, child_count, parent};
 
 // What a rank sends to its children, the farthest first.
 #[tactic(auto, using(crate::proofs::Places::to_child_at, crate::proofs::Places::to_child_past))]
-fn to_child(bytes: u64, rank: u32, members: u32, place: u64) -> Option<Step>
-    requires { rank < members }
-    ensures { result ≡ slice_get (to_children bytes rank members) place }
+fn to_child(bytes: u64, rank: Rank, place: u64) -> Option<Step>
+    ensures { result ≡ slice_get (to_children bytes rank.number rank.members) place }
 {
-    let count = u64::from(child_count(rank, members));
+    let count = u64::from(child_count(rank));
     if place >= count {
         return None;
     }
     let nearer = (count - 1 - place) as u32;
-    Some(Step::Send(rank + 2u32.pow(nearer), bytes))
+    Some(Step::Send(rank.number + 2u32.pow(nearer), bytes))
 }
 
 #[tactic(auto, using(crate::proofs::Places::bcast_root, crate::proofs::Places::bcast_first, crate::proofs::Places::bcast_behind))]
-pub fn bcast_step(bytes: u64, rank: u32, members: u32, place: u64) -> Option<Step>
-    requires { rank < members }
-    ensures { result ≡ slice_get (bcast bytes rank members) place }
+pub fn bcast_step(bytes: u64, rank: Rank, place: u64) -> Option<Step>
+    ensures { result ≡ slice_get (bcast bytes rank.number rank.members) place }
 {
-    if rank == 0 {
-        return to_child(bytes, rank, members, place);
+    if rank.number == 0 {
+        return to_child(bytes, rank, place);
     }
     if place == 0 {
-        return Some(Step::Recv(parent(rank)));
+        return Some(Step::Recv(parent(rank.number)));
     }
-    to_child(bytes, rank, members, place - 1)
+    to_child(bytes, rank, place - 1)
 }
 
 #[tactic(auto, using(crate::proofs::Places::length_bcast_root, crate::proofs::Places::length_bcast_other))]
-pub fn bcast_len(rank: u32, members: u32) -> u64
-    requires { rank < members }
-    ensures counted { (bytes : ℕ) → result ≡ length (bcast bytes rank members) }
+pub fn bcast_len(rank: Rank) -> u64
+    ensures counted { (bytes : ℕ) → result ≡ length (bcast bytes rank.number rank.members) }
     ensures few { result ≤ 2 ^ 32 }
 {
-    let children = u64::from(child_count(rank, members));
-    if rank == 0 { children } else { children + 1 }
+    let children = u64::from(child_count(rank));
+    if rank.number == 0 {
+        children
+    } else {
+        children + 1
+    }
 }

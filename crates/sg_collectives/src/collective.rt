@@ -9,6 +9,7 @@ use crate::bcast::{bcast_len, bcast_step};
 use crate::members::Members;
 use crate::reduce::{reduce_len, reduce_step};
 use crate::step::Step;
+use crate::tree::Rank;
 use sg_base::{Action, ActorId};
 
 /// What all members do together, with amounts of bytes and flops. Members have the ranks from 0 on.
@@ -29,35 +30,33 @@ impl Collective {
     /// The step at this place, from 0 on, of what the member of a rank does; none behind the last. It takes no memory,
     /// and about as many instructions as the number of members has binary digits.
     #[tactic(auto, using(crate::proofs::Places::allreduce_first, crate::proofs::Places::allreduce_behind))]
-    pub fn step(self, rank: u32, members: u32, place: u64) -> Option<Step>
-        requires { rank < members }
-        ensures { result ≡ slice_get (expansion self rank members) place }
+    pub fn step(self, rank: Rank, place: u64) -> Option<Step>
+        ensures { result ≡ slice_get (expansion self rank.number rank.members) place }
     {
         match self {
-            Collective::Bcast { bytes } => bcast_step(bytes, rank, members, place),
-            Collective::Reduce { bytes, flops } => reduce_step(bytes, flops, rank, members, place),
+            Collective::Bcast { bytes } => bcast_step(bytes, rank, place),
+            Collective::Reduce { bytes, flops } => reduce_step(bytes, flops, rank, place),
             Collective::Allreduce { bytes, flops } => {
-                let behind = reduce_len(rank, members);
+                let behind = reduce_len(rank);
                 if place < behind {
-                    reduce_step(bytes, flops, rank, members, place)
+                    reduce_step(bytes, flops, rank, place)
                 } else {
-                    bcast_step(bytes, rank, members, place - behind)
+                    bcast_step(bytes, rank, place - behind)
                 }
             }
-            Collective::Alltoall { bytes } => alltoall_step(bytes, rank, members, place),
+            Collective::Alltoall { bytes } => alltoall_step(bytes, rank, place),
         }
     }
 
     /// How many steps the member of a rank does.
-    pub fn steps(self, rank: u32, members: u32) -> u64
-        requires { rank < members }
-        ensures { result ≡ length (expansion self rank members) }
+    pub fn steps(self, rank: Rank) -> u64
+        ensures { result ≡ length (expansion self rank.number rank.members) }
     {
         match self {
-            Collective::Bcast { .. } => bcast_len(rank, members),
-            Collective::Reduce { .. } => reduce_len(rank, members),
-            Collective::Allreduce { .. } => reduce_len(rank, members) + bcast_len(rank, members),
-            Collective::Alltoall { .. } => alltoall_len(members),
+            Collective::Bcast { .. } => bcast_len(rank),
+            Collective::Reduce { .. } => reduce_len(rank),
+            Collective::Allreduce { .. } => reduce_len(rank) + bcast_len(rank),
+            Collective::Alltoall { .. } => alltoall_len(rank.members),
         }
     }
 
@@ -70,14 +69,17 @@ impl Collective {
             → HasAmounts self → IfSome result (IsAction extent) }
     {
         let list = members.as_slice();
-        let Some(rank) = members.rank_of(actor) else {
+        let Some(number) = members.rank_of(actor) else {
             return None;
         };
-        let count = list.len() as u32;
-        if place >= self.steps(rank, count) {
+        let rank = Rank {
+            number,
+            members: list.len() as u32,
+        };
+        if place >= self.steps(rank) {
             return None;
         }
-        match self.step(rank, count, place) {
+        match self.step(rank, place) {
             Some(step) => Some(step.action(list)),
             None => None,
         }

@@ -16,3 +16,4 @@ pub use collective::Collective;
 pub use laws::{alone_does_nothing, peers_are_others, requests_are_awaited, sends_are_received};
 pub use members::Members;
 pub use step::Step;
+pub use tree::Rank;

@@ -3,7 +3,7 @@ ghost use Rattle.std.specs.Prelude.{◌≡◌, ℕ, ◌^◌, ◌<◌, length, sl
 ghost use Rattle.sg_collectives.specs.Expansion.{reduce, to_parent};
 
 use crate::step::Step;
-use crate::tree::{child_count, parent};
+use crate::tree::{Rank, child_count, parent};
 
 // What a rank sends to its parent.
 #[tactic(auto, using(crate::proofs::Places::to_parent_first, crate::proofs::Places::to_parent_behind, crate::proofs::Places::to_parent_none))]
@@ -18,27 +18,30 @@ fn to_parent(bytes: u64, rank: u32, place: u64) -> Option<Step>
 }
 
 #[tactic(auto, using(crate::proofs::Places::reduce_recv, crate::proofs::Places::reduce_compute, crate::proofs::Places::reduce_behind))]
-pub fn reduce_step(bytes: u64, flops: u64, rank: u32, members: u32, place: u64) -> Option<Step>
-    requires { rank < members }
-    ensures { result ≡ slice_get (reduce bytes flops rank members) place }
+pub fn reduce_step(bytes: u64, flops: u64, rank: Rank, place: u64) -> Option<Step>
+    ensures { result ≡ slice_get (reduce bytes flops rank.number rank.members) place }
 {
-    let behind = 2 * u64::from(child_count(rank, members));
+    let behind = 2 * u64::from(child_count(rank));
     if place >= behind {
-        return to_parent(bytes, rank, place - behind);
+        return to_parent(bytes, rank.number, place - behind);
     }
     if place % 2 == 1 {
         return Some(Step::Compute(flops));
     }
     let child = (place / 2) as u32;
-    Some(Step::Recv(rank + 2u32.pow(child)))
+    Some(Step::Recv(rank.number + 2u32.pow(child)))
 }
 
 #[tactic(auto, using(crate::proofs::Places::length_reduce_root, crate::proofs::Places::length_reduce_other))]
-pub fn reduce_len(rank: u32, members: u32) -> u64
-    requires { rank < members }
-    ensures counted { (bytes flops : ℕ) → result ≡ length (reduce bytes flops rank members) }
+pub fn reduce_len(rank: Rank) -> u64
+    ensures counted { (bytes flops : ℕ)
+        → result ≡ length (reduce bytes flops rank.number rank.members) }
     ensures few { result < 2 ^ 33 }
 {
-    let received = 2 * u64::from(child_count(rank, members));
-    if rank == 0 { received } else { received + 1 }
+    let received = 2 * u64::from(child_count(rank));
+    if rank.number == 0 {
+        received
+    } else {
+        received + 1
+    }
 }

@@ -4,7 +4,7 @@ ghost use Rattle.sg_actor.specs.Roles.{CanCast};
 
 use sg_actor::{Actor, PlainContext, Role, TapeContext, draw};
 use sg_base::{ActorId, Answer, BoxId, Call, Memory, Msg};
-use sg_collectives::{Collective, Step};
+use sg_collectives::{Collective, Rank, Step};
 use std::alloc::Global;
 use std::process::Abort;
 use std::test::Fail;
@@ -104,9 +104,12 @@ fn draws_from_the_state_0(rt: HostRuntime) {
 // The last rank of 2^32 - 1 hangs below the one before it; and it has 4 steps with each other.
 #[test]
 fn far_ranks(rt: HostRuntime) {
-    let last = u32::MAX - 1;
-    let first = Collective::Bcast { bytes: 1 }.step(last, u32::MAX, 0);
+    let last = Rank {
+        number: u32::MAX - 1,
+        members: u32::MAX,
+    };
+    let first = Collective::Bcast { bytes: 1 }.step(last, 0);
     assert!(rt; matches!(first, Some(Step::Recv(4_294_967_292))));
-    let steps = Collective::Alltoall { bytes: 1 }.steps(last, u32::MAX);
+    let steps = Collective::Alltoall { bytes: 1 }.steps(last);
     assert_eq!(rt; steps, 17_179_869_176);
 }

@@ -11,9 +11,9 @@ pub returns-in-Some-step-clause-limited : goal.returns-in-Some-step-clause-limit
 returns-in-Some-step-clause-limited c = λ extent exist has.
     let members : List ActorId = c.as_slice-list.result.now in
     let value : members ≡ c.args.members.now = c.as_slice-list.ensures.value in
-    let rank_is : rank_of members c.args.actor.0 ≡ Some c.in-Some.rank =
+    let rank_is : rank_of members c.args.actor.0 ≡ Some c.in-Some.number =
     ap (λ (m : List ActorId). rank_of m c.args.actor.0) value ∙ sym c.in-Some.ensures in
     subst (IsAction extent) (sym c.action.ensures)
-    (step_keeps_limits extent members c.args.self c.in-Some.rank c.args.place c.in-Some-step.step
-    (rank_below members c.args.actor.0 c.in-Some.rank rank_is) (sym c.in-Some-step.ensures)
+    (step_keeps_limits extent members c.args.self c.in-Some.number c.args.place c.in-Some-step.step
+    (rank_below members c.args.actor.0 c.in-Some.number rank_is) (sym c.in-Some-step.ensures)
     (subst (λ (m : List ActorId). All (IsActorIn extent) m) (sym value) exist) has)
