@@ -12,7 +12,8 @@ use Rattle.std.proofs.lemmas.Option.{same_Some}
 use Rattle.std.proofs.lemmas.Slice.Eq.{bytes_eq-Decides}
 use Rattle.sg_base.specs.declared.ids.ActorId.{ActorId}
 use Rattle.sg_rows.specs.Deployment.{Deployed, extent_of, members_of, replay_actor_named}
-use Rattle.sg_rows.specs.Index.{names_if_replay, replay_names, replay_number}
+use Rattle.sg_rows.specs.Index.{names_if_replay, number_by}
+use Rattle.sg_rows.specs.kept.Finds.{numbered_names, replay_names}
 use Rattle.sg_rows.specs.declared.rows.ActorRow.{ActorRow}
 use Rattle.sg_rows.specs.declared.rows.Function.{Function}
 use Rattle.sg_rows.specs.declared.rows.Function.TheVariants.{Replay, Worker, Master, Churn}
@@ -72,21 +73,21 @@ further text row rows first found there = record {
 }
 
 at_function : (text : List ℕ) (row : ActorRow) (rows : List ActorRow) (first found : ℕ) →
-    (lookup (bytes_eq text) (along replay_names (first + 1) rows) ≡ Some found → Found text rows (first + 1) found) → (function : Function) →
-    lookup (bytes_eq text) (with_number first (names_if_replay function row.name) ++ along replay_names (first + 1) rows) ≡ Some found → Found text (row ∷ rows) first found
+    (lookup (bytes_eq text) (along (numbered_names replay_names) (first + 1) rows) ≡ Some found → Found text rows (first + 1) found) → (function : Function) →
+    lookup (bytes_eq text) (with_number first (names_if_replay function row.name) ++ along (numbered_names replay_names) (first + 1) rows) ≡ Some found → Found text (row ∷ rows) first found
 at_function text row rows first found behind Replay e = elim (cases_Bool (bytes_eq text row.name)) [
   | inl is ↦
-      let same : first ≡ found = same_Some first found (sym (ap (λ (b : Bool). cond b (Some first) (lookup (bytes_eq text) (along replay_names (first + 1) rows))) is) ∙ e) in
+      let same : first ≡ found = same_Some first found (sym (ap (λ (b : Bool). cond b (Some first) (lookup (bytes_eq text) (along (numbered_names replay_names) (first + 1) rows))) is) ∙ e) in
       record { place = 0; is = omega arith; row = row; at = refl; name = sym ((bytes_eq-Decides text row.name).0 is) }
   | inr isnt ↦
       further text row rows first found
-      (behind (sym (ap (λ (b : Bool). cond b (Some first) (lookup (bytes_eq text) (along replay_names (first + 1) rows))) isnt) ∙ e))
+      (behind (sym (ap (λ (b : Bool). cond b (Some first) (lookup (bytes_eq text) (along (numbered_names replay_names) (first + 1) rows))) isnt) ∙ e))
 ]
 at_function text row rows first found behind Worker e = further text row rows first found (behind e)
 at_function text row rows first found behind (Master tasks flops bytes workers) e = further text row rows first found (behind e)
 at_function text row rows first found behind (Churn seed next prev steps) e = further text row rows first found (behind e)
 
-found_row : (text : List ℕ) (rows : List ActorRow) (first found : ℕ) → lookup (bytes_eq text) (along replay_names first rows) ≡ Some found → Found text rows first found
+found_row : (text : List ℕ) (rows : List ActorRow) (first found : ℕ) → lookup (bytes_eq text) (along (numbered_names replay_names) first rows) ≡ Some found → Found text rows first found
 found_row text [] first found e = absurd (cc e)
 found_row text (row ∷ rows) first found e = at_function text row rows first found (λ e'. found_row text rows (first + 1) found e') row.function e
 
@@ -100,7 +101,7 @@ name_there : (rows : List ActorRow) (number place : ℕ) (row : ActorRow) (text 
     row_name (slice_get rows number) ≡ text
 name_there rows number place row text same at named = ap (λ (n : ℕ). row_name (slice_get rows n)) same ∙ ap row_name at ∙ named
 
-named_by : (deployed : Deployed) → HasNames deployed → (text : List ℕ) (actor : ActorId) (found : Option ℕ) → replay_number deployed.actors text ≡ found →
+named_by : (deployed : Deployed) → HasNames deployed → (text : List ℕ) (actor : ActorId) (found : Option ℕ) → number_by replay_names deployed.actors text ≡ found →
     option_map (λ row. record { 0 = row + 1 }) found ≡ Some actor → IsNamed (known_in deployed) (name_of deployed actor) actor
 named_by deployed has text actor None finds e = absurd (cc e)
 named_by deployed has text actor (Some number) finds e =
@@ -115,7 +116,7 @@ named_by deployed has text actor (Some number) finds e =
 
 pub are_named : (deployed : Deployed) → HasNames deployed → AreNamed (known_in deployed) (name_of deployed)
 are_named deployed has = record {
-  named = λ actor known. named_by deployed has known.0 actor (replay_number deployed.actors known.0) refl known.1;
+  named = λ actor known. named_by deployed has known.0 actor (number_by replay_names deployed.actors known.0) refl known.1;
   members = All-weaker (λ member. replay_actor_named deployed (name_of deployed member) ≡ Some member) (IsKnown (known_in deployed))
       (λ member is. (name_of deployed member, is)) (members_of deployed) has.own;
   extent = extent_of deployed;

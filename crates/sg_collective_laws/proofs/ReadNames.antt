@@ -13,7 +13,8 @@ use Rattle.sg_platform.specs.Build.{actor_row}
 use Rattle.sg_platform.specs.DeploymentOf.{deployment_of, names_on, rows_of, tree_deployment}
 use Rattle.sg_platform.specs.PlatformOf.{greatest_text, rows_unless, too_long}
 use Rattle.sg_rows.specs.Deployment.{Deployed, id_if_replay, member_ids, members_among, members_of, replay_actor_named}
-use Rattle.sg_rows.specs.Index.{names_if_replay, replay_names, replay_number}
+use Rattle.sg_rows.specs.Index.{names_if_replay, number_by}
+use Rattle.sg_rows.specs.kept.Finds.{numbered_names, replay_names}
 use Rattle.sg_rows.specs.Platform.{Platform}
 use Rattle.sg_rows.specs.declared.rows.ActorRow.{ActorRow}
 use Rattle.sg_rows.specs.declared.rows.Function.{Function}
@@ -191,10 +192,10 @@ module _ (names : Known) (tree : Members) (none : first (faults_of names deploym
 -- ---- what a name finds
 first_found : (rows : List ActorRow) (from place : ℕ) (row : ActorRow) → slice_get rows place ≡ Some row → row.function ≡ Replay →
     ((earlier : ℕ) (other : ActorRow) → earlier < place → slice_get rows earlier ≡ Some other → other.name ≡ row.name → ⊥) →
-    lookup (bytes_eq row.name) (along replay_names from rows) ≡ Some (from + place)
+    lookup (bytes_eq row.name) (along (numbered_names replay_names) from rows) ≡ Some (from + place)
 first_found [] from place row at replays apart = absurd (cc at)
 first_found (head ∷ rows) from zero row at replays apart =
-    let rest = along replay_names (from + 1) rows in
+    let rest = along (numbered_names replay_names) (from + 1) rows in
     let found : lookup (bytes_eq row.name) (with_number from (names_if_replay row.function row.name) ++ rest) ≡ Some (from + 0) =
     ap (λ (f : Function). lookup (bytes_eq row.name) (with_number from (names_if_replay f row.name) ++ rest)) replays
     ∙ ap (λ (b : Bool). cond b (Some from) (lookup (bytes_eq row.name) rest)) ((bytes_eq-Decides row.name row.name).1 refl)
@@ -203,7 +204,7 @@ first_found (head ∷ rows) from zero row at replays apart =
 first_found (head ∷ rows) from (suc place) row at replays apart =
     let other : bytes_eq row.name head.name ≡ false =
     false_from_ne_true (bytes_eq row.name head.name) (λ is. apart 0 head (omega arith) refl (sym ((bytes_eq-Decides row.name head.name).0 is))) in
-    passed row.name head.name head.function from (along replay_names (from + 1) rows) other
+    passed row.name head.name head.function from (along (numbered_names replay_names) (from + 1) rows) other
     ∙ first_found rows (from + 1) place row at replays (λ earlier third less at' same. apart (suc earlier) third (omega (arith, less)) at' same)
     ∙ ap Some (omega arith)
   where
@@ -245,7 +246,7 @@ member_named : (deployed : Deployed) → ((place : ℕ) (row : ActorRow) → sli
 member_named deployed apart member is =
     let place : member.0 - 1 ≡ is.place = omega (arith, is.is) in
     let name : name_of deployed member ≡ is.row.name = ap (λ (n : ℕ). row_name (slice_get deployed.actors n)) place ∙ ap row_name is.at in
-    let found : replay_number deployed.actors is.row.name ≡ Some (0 + is.place) = first_found deployed.actors 0 is.place is.row is.at is.replays (apart is.place is.row is.at) in
+    let found : number_by replay_names deployed.actors is.row.name ≡ Some (0 + is.place) = first_found deployed.actors 0 is.place is.row is.at is.replays (apart is.place is.row is.at) in
     let number : 0 + is.place + 1 ≡ member.0 = omega (arith, is.is) in
     ap (replay_actor_named deployed) name ∙ ap (option_map (λ row. record { 0 = row + 1 })) found ∙ (λ i. Some (record { 0 = number i }))
 

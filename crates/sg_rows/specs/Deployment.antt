@@ -3,11 +3,11 @@ use Rattle.std.specs.Prelude.{ℕ, ◌+◌, ◌<◌, ◌≤◌, ◌^◌, Bool, L
 use Rattle.std.specs.List.{All}
 use Rattle.sg_base.specs.declared.ids.ActorId.{ActorId}
 use Rattle.sg_base.specs.Limits.{Extent, IsActorIn, IsAmount}
-use Rattle.sg_rows.specs.Index.{actor_number, mutex_number, replay_number, semaphore_number}
+use Rattle.sg_rows.specs.Index.{names_if_replay, number_by}
 use Rattle.sg_rows.specs.Platform.{Platform}
 use Rattle.sg_rows.specs.declared.rows.ActorRow.{ActorRow}
 use Rattle.sg_rows.specs.declared.rows.Function.{Function}
-use Rattle.sg_rows.specs.declared.rows.Function.TheVariants.{Replay, Worker, Master, Churn}
+use Rattle.sg_rows.specs.declared.rows.Function.TheVariants.{Replay, Master, Churn}
 use Rattle.sg_rows.specs.declared.rows.MutexRow.{MutexRow}
 use Rattle.sg_rows.specs.declared.rows.SemaphoreRow.{SemaphoreRow}
 use Rattle.sg_tree.specs.Along.{along}
@@ -30,11 +30,10 @@ IsActorRow actor = length actor.name ≤ 64
 
 -- the amounts of a function keep to their limits, and the actors that it names exist; a master has a worker
 abbrev pub IsFunction : Extent → Function → Type 0
-IsFunction extent Replay = ⊤
-IsFunction extent Worker = ⊤
 IsFunction extent (Master tasks flops bytes workers) =
     (tasks ≤ 1000000000) × IsAmount flops × IsAmount bytes × (0 < length workers) × (length workers < 2 ^ 63) × All (IsActorIn extent) workers
 IsFunction extent (Churn seed next prev steps) = (steps ≤ 1000000) × IsActorIn extent next × IsActorIn extent prev
+IsFunction extent other = ⊤
 
 pub record IsSemaphoreRow (semaphore : SemaphoreRow) : Type 0 where
   pub id : length semaphore.id ≤ 64
@@ -63,25 +62,24 @@ started_number deployed = count_by starts deployed.actors
 
 -- the actor of a name; the first actor of the deployment has the identifier 1
 abbrev pub actor_named : Deployed → List ℕ → Option ActorId
-actor_named deployed name = option_map (λ row. record { 0 = row + 1 }) (actor_number deployed.actors name)
+actor_named deployed name = option_map (λ row. record { 0 = row + 1 }) (number_by (λ actor. actor.name ∷ []) deployed.actors name)
 
 -- the actor of a name, if it replays
 abbrev pub replay_actor_named : Deployed → List ℕ → Option ActorId
-replay_actor_named deployed name = option_map (λ row. record { 0 = row + 1 }) (replay_number deployed.actors name)
+replay_actor_named deployed name =
+    option_map (λ row. record { 0 = row + 1 }) (number_by (λ actor. names_if_replay actor.function actor.name) deployed.actors name)
 
 -- the number of the mutex of a name, and of the semaphore of a name, from 0 on
 abbrev pub mutex_named : Deployed → List ℕ → Option ℕ
-mutex_named deployed name = mutex_number deployed.mutexes name
+mutex_named deployed name = number_by (λ mutex. mutex.id ∷ []) deployed.mutexes name
 
 abbrev pub semaphore_named : Deployed → List ℕ → Option ℕ
-semaphore_named deployed name = semaphore_number deployed.semaphores name
+semaphore_named deployed name = number_by (λ semaphore. semaphore.id ∷ []) deployed.semaphores name
 
 -- the identifier of an actor that replays, at the place of its row
 abbrev pub id_if_replay : Function → ℕ → List ActorId
 id_if_replay Replay place = record { 0 = place + 1 } ∷ []
-id_if_replay Worker place = []
-id_if_replay (Master tasks flops bytes workers) place = []
-id_if_replay (Churn seed next prev steps) place = []
+id_if_replay other place = []
 
 abbrev pub member_ids : ℕ → ActorRow → List ActorId
 member_ids place actor = id_if_replay actor.function place

@@ -4,7 +4,7 @@ use Rattle.sg_base.specs.declared.ids.LinkId.{LinkId}
 use Rattle.sg_rows.specs.declared.ends.LinkEnd.{LinkEnd}
 use Rattle.sg_rows.specs.declared.rows.LinkRow.{LinkRow}
 use Rattle.sg_rows.specs.declared.rows.Policy.{Policy}
-use Rattle.sg_rows.specs.declared.rows.Policy.TheVariants.{Shared, Fatpipe, SplitDuplex}
+use Rattle.sg_rows.specs.declared.rows.Policy.TheVariants.{SplitDuplex}
 
 -- a link, by the link that takes its place on the way back, and its latency
 abbrev pub link_end : ℕ → ℕ → LinkEnd
@@ -12,9 +12,8 @@ link_end back latency = record { back = record { 0 = back }; latency = latency }
 
 -- the links of one row, the first of them with this number: SPLITDUPLEX gives `_UP` and then `_DOWN`, each the other's way back
 abbrev pub ends_of : ℕ → ℕ → Policy → List LinkEnd
-ends_of first latency Shared = link_end first latency ∷ []
-ends_of first latency Fatpipe = link_end first latency ∷ []
 ends_of first latency SplitDuplex = link_end (first + 1) latency ∷ (link_end first latency ∷ [])
+ends_of first latency other = link_end first latency ∷ []
 
 -- the links of the rows, in their order, numbered from this number on
 abbrev pub ends_from : ℕ → List LinkRow → List LinkEnd

@@ -14,26 +14,17 @@ pub record IsNetwork (network : Network) : Type 0 where
   pub bandwidth_factor : network.bandwidth_factor ≤ 10 ^ 9
   pub window : IsAmount network.window
 
--- times a factor in millionths, rounded down
-abbrev pub factored : ℕ → ℕ → ℕ
-factored factor n = n * factor / 1000000
-
--- the latency of a communication over a route of this latency
+-- the latency of a communication over a route of this latency: times the factor in millionths, rounded down
 abbrev pub latency_over : Network → ℕ → ℕ
-latency_over network latency = factored network.latency_factor latency
+latency_over network latency = latency * network.latency_factor / 1000000
 
 -- what a declared link of this bandwidth carries
 abbrev pub bandwidth_over : Network → ℕ → ℕ
-bandwidth_over network bandwidth = factored network.bandwidth_factor bandwidth
+bandwidth_over network bandwidth = bandwidth * network.bandwidth_factor / 1000000
 
--- a bound above the greatest bandwidth of a link is none
-abbrev pub greatest_bound : ℕ
-greatest_bound = 10 ^ 15
-
-abbrev pub if_bound : ℕ → Option ℕ
-if_bound bound = if nat_le bound greatest_bound then Some bound else None
-
--- the bound of a flow over a route of this latency, in nanoseconds before the factor: a window for each time there and back
+-- the bound of a flow over a route of this latency, in nanoseconds before the factor: a window for each time there and
+-- back; none above the greatest bandwidth of a link
 abbrev pub window_bound : Network → ℕ → Option ℕ
 window_bound network latency =
-    if network.window == 0 || latency == 0 then None else if_bound (network.window * 1000000000 / (2 * latency))
+    let bound = network.window * 1000000000 / (2 * latency) in
+    if network.window == 0 || latency == 0 then None else if nat_le bound (10 ^ 15) then Some bound else None

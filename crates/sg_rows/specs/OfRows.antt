@@ -9,11 +9,11 @@ use Rattle.sg_rows.specs.Network.{plain_network}
 use Rattle.sg_rows.specs.Platform.{IsPlatform, Platform}
 use Rattle.sg_rows.specs.declared.rows.ActorRow.{ActorRow}
 use Rattle.sg_rows.specs.declared.rows.Function.{Function}
-use Rattle.sg_rows.specs.declared.rows.Function.TheVariants.{Replay, Worker, Master, Churn}
+use Rattle.sg_rows.specs.declared.rows.Function.TheVariants.{Master, Worker}
 use Rattle.sg_rows.specs.declared.rows.HostRow.{HostRow}
 use Rattle.sg_rows.specs.declared.rows.LinkRow.{LinkRow}
 use Rattle.sg_rows.specs.declared.rows.Policy.{Policy}
-use Rattle.sg_rows.specs.declared.rows.Policy.TheVariants.{Shared, Fatpipe, SplitDuplex}
+use Rattle.sg_rows.specs.declared.rows.Policy.TheVariants.{SplitDuplex}
 use Rattle.sg_rows.specs.declared.rows.SpokeRow.{SpokeRow}
 use Rattle.sg_rows.specs.declared.rows.ZoneRow.{ZoneRow}
 use Rattle.sg_tree.specs.Spelling.{taken_by, is_name}
@@ -48,9 +48,8 @@ abbrev pub point_names : List ZoneRow → List HostRow → List (List ℕ)
 point_names zones hosts = map (λ zone. zone.id) zones ++ map (λ host. host.id) hosts
 
 abbrev pub is_split : Policy → Bool
-is_split Shared = false
-is_split Fatpipe = false
 is_split SplitDuplex = true
+is_split other = false
 
 -- the names that the row of a link takes: a SPLITDUPLEX link has one in each direction beside its own
 abbrev pub names_of_link : LinkRow → List (List ℕ)
@@ -79,10 +78,8 @@ IsWorker actors worker = option_map (λ actor. actor.function) (slice_get actors
 
 -- whom a master serves are workers, no two of them the same
 abbrev pub ServesWorkers : List ActorRow → Function → Type 0
-ServesWorkers actors Replay = ⊤
-ServesWorkers actors Worker = ⊤
 ServesWorkers actors (Master tasks flops bytes workers) = All (IsWorker actors) workers × AreDistinct workers
-ServesWorkers actors (Churn seed next prev steps) = ⊤
+ServesWorkers actors other = ⊤
 
 pub record AreActors (platform : Platform) (actors : List ActorRow) : Type 0 where
   pub kept : IsDeployment (deployed_with actors)

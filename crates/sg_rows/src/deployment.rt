@@ -1,9 +1,9 @@
 //! Deployments.
-ghost use Rattle.std.specs.Prelude.{◌≡◌, ◌≤◌, All, IfOk, length};
+ghost use Rattle.std.specs.Prelude.{◌≡◌, ◌≤◌, ◌∷◌, [], All, IfOk, length};
 ghost use Rattle.sg_base.specs.Limits.{IsActorIn};
 ghost use Rattle.sg_rows.specs.Deployment.{IsDeployment, actor_named, deployment_of_rows, extent_of, members_among, members_of, mutex_named, replay_actor_named, semaphore_named};
-ghost use Rattle.sg_rows.specs.Index.{actor_number, mutex_number, replay_number, semaphore_number};
-ghost use Rattle.sg_rows.specs.kept.Finds.{FindsAs};
+ghost use Rattle.sg_rows.specs.Index.{number_by};
+ghost use Rattle.sg_rows.specs.kept.Finds.{FindsAs, replay_names};
 
 use crate::index::{replay_by_name, rows_by_name};
 use crate::rows::{ActorRow, Function, MutexRow, SemaphoreRow};
@@ -82,8 +82,10 @@ impl ActorIndex {
     /// The index of these actors.
     fn new(alloc: Global, actors: &[ActorRow]) -> Result<ActorIndex, Memory>
         requires { length actors.now ≤ 65536 }
-        ensures named { IfOk result (λ index. FindsAs index.named (actor_number actors.now)) }
-        ensures replay { IfOk result (λ index. FindsAs index.replay (replay_number actors.now)) }
+        ensures named { IfOk result
+            (λ index. FindsAs index.named (number_by (λ actor. actor.name ∷ []) actors.now)) }
+        ensures replay { IfOk result
+            (λ index. FindsAs index.replay (number_by replay_names actors.now)) }
         ensures members { IfOk result (λ index. index.members ≡ members_among actors.now) }
     {
         let named = rows_by_name(alloc, actors)?;
@@ -112,9 +114,10 @@ impl LockIndex {
         semaphores: &[SemaphoreRow],
     ) -> Result<LockIndex, Memory>
         ensures mutexes { IfOk result
-            (λ index. FindsAs index.mutexes (mutex_number mutexes.now)) }
+            (λ index. FindsAs index.mutexes (number_by (λ mutex. mutex.id ∷ []) mutexes.now)) }
         ensures semaphores { IfOk result
-            (λ index. FindsAs index.semaphores (semaphore_number semaphores.now)) }
+            (λ index. FindsAs index.semaphores
+            (number_by (λ semaphore. semaphore.id ∷ []) semaphores.now)) }
     {
         let by_mutex = rows_by_name(alloc, mutexes)?;
         let by_semaphore = rows_by_name(alloc, semaphores)?;

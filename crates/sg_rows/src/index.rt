@@ -3,10 +3,10 @@ ghost use Rattle.std.specs.Prelude.{◌≡◌, ℕ, List, ◌∷◌, [], IfOk, O
 ghost use Rattle.std.specs.HashMap.{get_by_text};
 ghost use Rattle.std.specs.Map.{lookup};
 ghost use Rattle.std.specs.Str.{bytes_eq};
-ghost use Rattle.sg_rows.specs.Index.{actor_names, host_names, host_number, mutex_names, replay_names, replay_number, semaphore_names};
-ghost use Rattle.sg_rows.specs.kept.Finds.{FindsAs, finds};
+ghost use Rattle.sg_rows.specs.Index.{host_number, number_by};
+ghost use Rattle.sg_rows.specs.kept.Finds.{FindsAs, finds, numbered_names, replay_names};
 ghost use Rattle.sg_tree.specs.Along.{along};
-ghost use Rattle.sg_tree.specs.Names.{Adds, or_else};
+ghost use Rattle.sg_tree.specs.Names.{Adds, or_else, with_number};
 
 use crate::rows::{ActorRow, Function, HostRow, MutexRow, SemaphoreRow};
 use indexmap::IndexMap;
@@ -24,7 +24,8 @@ fn add_hosts(
     ensures { OnOk result
         ((q : List ℕ)
         → get_by_text space.new q
-        ≡ or_else (get_by_text space.old q) (lookup (bytes_eq q) (along host_names 0 hosts.now))) }
+        ≡ or_else (get_by_text space.old q)
+        (lookup (bytes_eq q) (along (numbered_names (λ host. host.id ∷ [])) 0 hosts.now))) }
 {
     for (i, host) in hosts.iter().enumerate() {
         add_name(alloc, space, host.id.as_str(), i)?;
@@ -60,8 +61,8 @@ fn add_bytes(
 
 /// A row that is found by its name, or isn't.
 pub trait Named {
-    /// The name, under the number that it is given.
-    ghost names: { ℕ → Self → List (List ℕ × ℕ) };
+    /// The names by which it is found.
+    ghost names: { Self → List (List ℕ) };
 
     /// Gives the name of the row a number, where it is found by it and has none yet.
     fn add(
@@ -70,11 +71,12 @@ pub trait Named {
         space: &mut IndexMap<Vec<u8>, u32>,
         number: usize,
     ) -> Result<(), Memory>
-        ensures { OnOk result (Adds (names number self.now) (finds space.old) (finds space.new)) };
+        ensures { OnOk result
+            (Adds (with_number number (names self.now)) (finds space.old) (finds space.new)) };
 }
 
 impl Named for ActorRow {
-    ghost names = { actor_names };
+    ghost names = { λ actor. actor.name ∷ [] };
 
     fn add(
         &self,
@@ -87,7 +89,7 @@ impl Named for ActorRow {
 }
 
 impl Named for MutexRow {
-    ghost names = { mutex_names };
+    ghost names = { λ mutex. mutex.id ∷ [] };
 
     fn add(
         &self,
@@ -100,7 +102,7 @@ impl Named for MutexRow {
 }
 
 impl Named for SemaphoreRow {
-    ghost names = { semaphore_names };
+    ghost names = { λ semaphore. semaphore.id ∷ [] };
 
     fn add(
         &self,
@@ -118,7 +120,8 @@ fn add_rows<R: Named>(
     space: &mut IndexMap<Vec<u8>, u32>,
     rows: &[R],
 ) -> Result<(), Memory>
-    ensures { OnOk result (Adds (along R.names 0 rows.now) (finds space.old) (finds space.new)) }
+    ensures { OnOk result
+        (Adds (along (numbered_names R.names) 0 rows.now) (finds space.old) (finds space.new)) }
 {
     for (i, row) in rows.iter().enumerate() {
         row.add(alloc, space, i)?;
@@ -128,8 +131,7 @@ fn add_rows<R: Named>(
 
 /// The rows that are found by their names, with their numbers from 0 on.
 pub fn rows_by_name<R: Named>(alloc: Global, rows: &[R]) -> Result<IndexMap<Vec<u8>, u32>, Memory>
-    ensures { IfOk result
-        (λ made. FindsAs made (λ q. lookup (bytes_eq q) (along R.names 0 rows.now))) }
+    ensures { IfOk result (λ made. FindsAs made (number_by R.names rows.now)) }
 {
     let mut made = IndexMap::new(alloc);
     add_rows(alloc, &mut made, rows)?;
@@ -144,7 +146,7 @@ fn add_if_replay(
     number: usize,
 ) -> Result<(), Memory>
     ensures { OnOk result
-        (Adds (replay_names number actor.now) (finds space.old) (finds space.new)) }
+        (Adds (with_number number (replay_names actor.now)) (finds space.old) (finds space.new)) }
 {
     match actor.function {
         Function::Replay => add_bytes(alloc, space, actor.name.as_str().as_bytes(), number),
@@ -159,7 +161,8 @@ fn add_replay(
     actors: &[ActorRow],
 ) -> Result<(), Memory>
     ensures { OnOk result
-        (Adds (along replay_names 0 actors.now) (finds space.old) (finds space.new)) }
+        (Adds (along (numbered_names replay_names) 0 actors.now) (finds space.old)
+        (finds space.new)) }
 {
     for (i, actor) in actors.iter().enumerate() {
         add_if_replay(alloc, space, actor, i)?;
@@ -169,7 +172,7 @@ fn add_replay(
 
 /// The actors that replay by their names, with the numbers of their rows.
 pub fn replay_by_name(alloc: Global, actors: &[ActorRow]) -> Result<IndexMap<Vec<u8>, u32>, Memory>
-    ensures { IfOk result (λ made. FindsAs made (replay_number actors.now)) }
+    ensures { IfOk result (λ made. FindsAs made (number_by replay_names actors.now)) }
 {
     let mut made = IndexMap::new(alloc);
     add_replay(alloc, &mut made, actors)?;

@@ -1,6 +1,6 @@
 //! What a platform makes of latencies and bandwidths.
-ghost use Rattle.std.specs.Prelude.{◌≡◌, ◌≤◌, ◌*◌, ◌^◌};
-ghost use Rattle.sg_rows.specs.Network.{IsNetwork, bandwidth_over, if_bound, latency_over, plain_network, window_bound};
+ghost use Rattle.std.specs.Prelude.{◌≡◌, ◌≤◌, ◌*◌, ◌^◌, if◌then◌else◌, nat_le, None, Some};
+ghost use Rattle.sg_rows.specs.Network.{IsNetwork, bandwidth_over, latency_over, plain_network, window_bound};
 
 /// Factors, and a window. The route from a host to itself has none of them.
 #[derive(Clone, Copy)]
@@ -20,7 +20,7 @@ const ONE: u64 = 1_000_000;
 const GREATEST_BOUND: u128 = 1_000_000_000_000_000;
 
 fn if_bound(bound: u128) -> Option<u64>
-    ensures { result ≡ if_bound bound }
+    ensures { result ≡ (if nat_le bound (10 ^ 15) then Some bound else None) }
 {
     if bound <= GREATEST_BOUND {
         Some(bound as u64)

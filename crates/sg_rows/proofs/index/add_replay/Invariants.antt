@@ -1,13 +1,12 @@
 use Rattle.std.proofs.Common.{◌≡◌, ℕ, List, drop}
 use Rattle.std.specs.Map.{lookup}
 use Rattle.std.specs.Str.{bytes_eq}
-use Rattle.sg_rows.specs.Index.{replay_names}
-use Rattle.sg_rows.specs.kept.Finds.{finds}
+use Rattle.sg_rows.specs.kept.Finds.{finds, numbered_names, replay_names}
 use Rattle.sg_tree.specs.Along.{along}
 use Rattle.sg_tree.specs.Names.{or_else}
 use Rattle.sg_rows.proofs.index.add_replay.Given as goal
 
 abbrev pub invariant-loop-i : goal.invariant-loop-i
 invariant-loop-i l =
-    (q : List ℕ) → or_else (finds l.space q) (lookup (bytes_eq q) (along replay_names l.i (drop l.i l.actors)))
-    ≡ or_else (finds l.initial.space q) (lookup (bytes_eq q) (along replay_names 0 l.actors))
+    (q : List ℕ) → or_else (finds l.space q) (lookup (bytes_eq q) (along (numbered_names replay_names) l.i (drop l.i l.actors)))
+    ≡ or_else (finds l.initial.space q) (lookup (bytes_eq q) (along (numbered_names replay_names) 0 l.actors))
