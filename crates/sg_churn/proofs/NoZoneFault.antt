@@ -7,7 +7,7 @@ use Rattle.sg_base.specs.declared.ids.ZoneId.{ZoneId}
 use Rattle.sg_churn.specs.Generated.{host_of, platform_of_seed, spoke_of, star}
 use Rattle.sg_rows.specs.Platform.{Platform}
 use Rattle.sg_zones.proofs.FaultLemmas.{zones_good}
-use Rattle.sg_zones.specs.Faults.{first_along, gateway_at, is_zone, place, row_fault, spoke_at, fault_if, tree_fault, zone_fault, zones_of}
+use Rattle.sg_zones.specs.Faults.{first_along, gateway_at, place, row_fault, spoke_at, fault_if, tree_fault, zone_fault, zones_of}
 use Rattle.sg_zones.specs.Paths.{ancestor}
 use Rattle.sg_zones.specs.Tree.{Tree, tree_of}
 use Rattle.sg_zones.specs.declared.fault.ZoneFault.{ZoneFault}
@@ -35,7 +35,7 @@ own_gateway t row k = rw (same_number k)
 
 star_child : (seed actors row k : ℕ) → spoke_at (tree_of (platform_of_seed seed actors)) row (spoke_of k) ≡ None
 unfolding platform_of_seed
-star_child seed actors row k = ap (λ (zone : ZoneId). fault_if (false || not (is_zone (record { 0 = 0 }) (Some zone))) (WrongRouting (place 7 (row + 1) 1))) (home_is_star seed 0 actors k)
+star_child seed actors row k = ap (λ (zone : ZoneId). fault_if (false || not (zone.0 == 0)) (WrongRouting (place 7 (row + 1) 1))) (home_is_star seed 0 actors k)
 
 rows_right : (seed actors : ℕ) → row_fault (tree_of (platform_of_seed seed actors)) (platform_of_seed seed actors) ≡ None
 unfolding platform_of_seed

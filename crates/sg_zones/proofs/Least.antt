@@ -8,11 +8,11 @@ use Rattle.sg_rows.specs.declared.rows.ZoneRouteRow.{ZoneRouteRow}
 use Rattle.sg_rows.specs.declared.rows.ZoneRow.{ZoneRow}
 use Rattle.sg_tree.specs.Along.{along, first}
 use Rattle.sg_zones.specs.AllFaults.{TellsLeast, IsBefore, IsRising, faults_along, gateway_faults, kind_number, as_list, place_of, root_faults, row_faults, tree_faults}
-use Rattle.sg_zones.specs.Faults.{child_zone_at, cycle_at, deep_at, dst_gateway_at, first_along, gateway_at, gateways_at, place, root_fault, roots, route_at, row_fault, spoke_at, src_gateway_at, fault_if, tree_fault, zone_route_at}
+use Rattle.sg_zones.specs.Faults.{child_zone_at, ancestor_at, first_along, gateway_at, gateway_fault, gateways_at, place, root_fault, roots, route_at, row_fault, spoke_at, fault_if, tree_fault, zone_route_at}
 use Rattle.sg_zones.specs.Paths.{ancestors_of}
 use Rattle.sg_zones.specs.Tree.{Tree, tree_of}
 use Rattle.sg_zones.specs.declared.fault.ZoneFault.{ZoneFault}
-use Rattle.sg_zones.specs.declared.fault.ZoneFault.TheVariants.{TwoRoots}
+use Rattle.sg_zones.specs.declared.fault.ZoneFault.TheVariants.{ParentCycle, TooDeep, TwoRoots}
 use Rattle.sg_zones.proofs.Each.{Each, each_append, each_mono, each_cross}
 
 -- ---- the first of all faults
@@ -44,16 +44,18 @@ first-root_faults (r ∷ (s ∷ rs)) = refl
 
 first-tree_faults : (zones : List ZoneRow) → first (tree_faults zones) ≡ tree_fault zones
 first-tree_faults zones =
-    let cycles = faults_along cycle_at (ancestors_of 1024 zones) in
-    let deep = faults_along deep_at (ancestors_of 16 zones) in
-    let c = first_along cycle_at 0 (ancestors_of 1024 zones) in
-    let d = first_along deep_at 0 (ancestors_of 16 zones) in
+    let cycles = faults_along (ancestor_at ParentCycle) (ancestors_of 1024 zones) in
+    let deep = faults_along (ancestor_at TooDeep) (ancestors_of 16 zones) in
+    let c = first_along (ancestor_at ParentCycle) 0 (ancestors_of 1024 zones) in
+    let d = first_along (ancestor_at TooDeep) 0 (ancestors_of 16 zones) in
     first_of_both (root_faults (roots 1 zones)) (cycles ++ deep) (root_fault (roots 1 zones)) (option_or c d) (first-root_faults (roots 1 zones))
-    (first_of_both cycles deep c d (first-faults_along cycle_at (ancestors_of 1024 zones)) (first-faults_along deep_at (ancestors_of 16 zones)))
+    (first_of_both cycles deep c d (first-faults_along (ancestor_at ParentCycle) (ancestors_of 1024 zones)) (first-faults_along (ancestor_at TooDeep) (ancestors_of 16 zones)))
 
 first-gateway_faults : (t : Tree) (i : ℕ) (r : ZoneRouteRow) → first (gateway_faults t i r) ≡ gateways_at t i r
 first-gateway_faults t i r =
-    first_of_both (as_list (src_gateway_at t i r)) (as_list (dst_gateway_at t i r)) (src_gateway_at t i r) (dst_gateway_at t i r) (first-as_list (src_gateway_at t i r)) (first-as_list (dst_gateway_at t i r))
+    let src = gateway_fault t r.src r.gw_src (place 6 (i + 1) 3) in
+    let dst = gateway_fault t r.dst r.gw_dst (place 6 (i + 1) 4) in
+    first_of_both (as_list src) (as_list dst) src dst (first-as_list src) (first-as_list dst)
 
 first-row_faults : (t : Tree) (p : Platform) → first (row_faults t p) ≡ row_fault t p
 first-row_faults t p =
@@ -126,16 +128,16 @@ told_rise : {X : Type 0} (kind table : ℕ) (told : ℕ → X → Option ZoneFau
     → Rise kind table 1 (faults_along told xs)
 told_rise kind table told each xs = along_rises kind table (λ row x. as_list (told row x)) (λ i x. one_rises (told i x)) each 0 xs
 
-cycles_rise : (xs : List (Option ZoneId)) → Rise 3 1 1 (faults_along cycle_at xs)
-cycles_rise xs = told_rise 3 1 cycle_at (λ i x. one_each (IsOf 3 1 (i + 1)) (is_some x) _ (refl, refl, refl)) xs
+cycles_rise : (xs : List (Option ZoneId)) → Rise 3 1 1 (faults_along (ancestor_at ParentCycle) xs)
+cycles_rise xs = told_rise 3 1 (ancestor_at ParentCycle) (λ i x. one_each (IsOf 3 1 (i + 1)) (is_some x) _ (refl, refl, refl)) xs
 
-deep_rise : (xs : List (Option ZoneId)) → Rise 4 1 1 (faults_along deep_at xs)
-deep_rise xs = told_rise 4 1 deep_at (λ i x. one_each (IsOf 4 1 (i + 1)) (is_some x) _ (refl, refl, refl)) xs
+deep_rise : (xs : List (Option ZoneId)) → Rise 4 1 1 (faults_along (ancestor_at TooDeep) xs)
+deep_rise xs = told_rise 4 1 (ancestor_at TooDeep) (λ i x. one_each (IsOf 4 1 (i + 1)) (is_some x) _ (refl, refl, refl)) xs
 
 gateways_rise : (t : Tree) (xs : List ZoneRouteRow) → Rise 5 6 1 (along (gateway_faults t) 0 xs)
 gateways_rise t xs =
     along_rises 5 6 (gateway_faults t) (λ i x. two_rise _ _ _ _ (inr (refl, inr (refl, inr (refl, inl (omega arith))))))
-    (λ i x. each_append (IsOf 5 6 (i + 1)) (as_list (src_gateway_at t i x)) (as_list (dst_gateway_at t i x))
+    (λ i x. each_append (IsOf 5 6 (i + 1)) (as_list (gateway_fault t x.src x.gw_src (place 6 (i + 1) 3))) (as_list (gateway_fault t x.dst x.gw_dst (place 6 (i + 1) 4)))
     (one_each (IsOf 5 6 (i + 1)) _ _ (refl, refl, refl)) (one_each (IsOf 5 6 (i + 1)) _ _ (refl, refl, refl))) 0 xs
 
 -- ---- roots
@@ -178,8 +180,8 @@ from k n kind table xs many r = each_mono (IsIn kind table n) (IsFrom k) (λ g p
 tree_rises : (zones : List ZoneRow) → IsRising (tree_faults zones) × Each (IsUpTo 4) (tree_faults zones)
 tree_rises zones =
     let roots_here = root_faults (roots 1 zones) in
-    let cycles = faults_along cycle_at (ancestors_of 1024 zones) in
-    let deep = faults_along deep_at (ancestors_of 16 zones) in
+    let cycles = faults_along (ancestor_at ParentCycle) (ancestors_of 1024 zones) in
+    let deep = faults_along (ancestor_at TooDeep) (ancestors_of 16 zones) in
     let r = root_rising (roots 1 zones) (roots_rise 1 zones) in
     let c = cycles_rise (ancestors_of 1024 zones) in
     let d = deep_rise (ancestors_of 16 zones) in (

@@ -1,12 +1,12 @@
 -- All faults of the rows, and their order: by kind, and within a kind by table, row and key.
-use Rattle.std.specs.Prelude.{◌≡◌, ℕ, ◌<◌, ◌⊎◌, Option, None, Some, List, [], ◌∷◌, ◌++◌, map, unwrap_or, ⊤}
+use Rattle.std.specs.Prelude.{◌≡◌, ℕ, ◌<◌, ◌⊎◌, Option, None, Some, List, [], ◌∷◌, ◌++◌, map, ◌+◌, unwrap_or, ⊤}
 use Rattle.std.specs.List.{AllByRecursion}
 use Rattle.sg_rows.specs.Platform.{Platform}
 use Rattle.sg_rows.specs.declared.rows.ZoneRouteRow.{ZoneRouteRow}
 use Rattle.sg_rows.specs.declared.rows.ZoneRow.{ZoneRow}
 use Rattle.sg_tree.specs.Along.{along, first}
 use Rattle.sg_tree.specs.declared.fault.Place.{Place}
-use Rattle.sg_zones.specs.Faults.{place, roots, cycle_at, deep_at, src_gateway_at, dst_gateway_at, gateway_at, child_zone_at, route_at, zone_route_at, spoke_at, zone_fault}
+use Rattle.sg_zones.specs.Faults.{place, roots, ancestor_at, gateway_fault, gateway_at, child_zone_at, route_at, zone_route_at, spoke_at, zone_fault}
 use Rattle.sg_zones.specs.FaultWords.{zone_place}
 use Rattle.sg_zones.specs.Paths.{ancestors_of}
 use Rattle.sg_zones.specs.Tree.{Tree, tree_of}
@@ -30,11 +30,14 @@ root_faults [] = NoRoot (place 1 0 0) ∷ []
 root_faults (root ∷ rest) = map (λ row. TwoRoots (place 1 row 2)) rest
 
 abbrev pub gateway_faults : Tree → ℕ → ZoneRouteRow → List ZoneFault
-gateway_faults t row r = as_list (src_gateway_at t row r) ++ as_list (dst_gateway_at t row r)
+gateway_faults t row r =
+    as_list (gateway_fault t r.src r.gw_src (place 6 (row + 1) 3)) ++ as_list (gateway_fault t r.dst r.gw_dst (place 6 (row + 1) 4))
 
 abbrev pub tree_faults : List ZoneRow → List ZoneFault
 tree_faults zones =
-    root_faults (roots 1 zones) ++ (faults_along cycle_at (ancestors_of 1024 zones) ++ faults_along deep_at (ancestors_of 16 zones))
+    root_faults (roots 1 zones)
+    ++ (faults_along (ancestor_at ParentCycle) (ancestors_of 1024 zones)
+    ++ faults_along (ancestor_at TooDeep) (ancestors_of 16 zones))
 
 abbrev pub row_faults : Tree → Platform → List ZoneFault
 row_faults t p =

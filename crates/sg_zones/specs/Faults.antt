@@ -1,6 +1,6 @@
 -- The zone faults: of the least kind, and within it of the least place.
-use Rattle.std.specs.Prelude.{◌==◌, ◌&&◌, ◌||◌, not, ℕ, ◌+◌, Bool, true, false, if◌then◌else◌, Option, None, Some, is_none, is_some, Result, Ok, Err, List, [], ◌∷◌}
-use Rattle.std.specs.Option.{option_or}
+use Rattle.std.specs.Prelude.{◌==◌, ◌&&◌, ◌||◌, not, ℕ, ◌+◌, Bool, true, false, if◌then◌else◌, slice_index_or, Option, None, Some, is_none, is_some, option_map, Result, Ok, Err, List, [], ◌∷◌}
+use Rattle.std.specs.Option.{option_map_or, option_or}
 use Rattle.sg_base.specs.declared.ids.Child.{Child}
 use Rattle.sg_base.specs.declared.ids.Child.TheVariants.{Point, Zone}
 use Rattle.sg_base.specs.declared.ids.PointId.{PointId}
@@ -12,9 +12,10 @@ use Rattle.sg_rows.specs.declared.rows.RouteRow.{RouteRow}
 use Rattle.sg_rows.specs.declared.rows.SpokeRow.{SpokeRow}
 use Rattle.sg_rows.specs.declared.rows.ZoneRouteRow.{ZoneRouteRow}
 use Rattle.sg_rows.specs.declared.rows.ZoneRow.{ZoneRow}
+use Rattle.sg_tree.specs.Along.{first}
 use Rattle.sg_tree.specs.declared.fault.Place.{Place}
 use Rattle.sg_zones.specs.Paths.{ancestors_of}
-use Rattle.sg_zones.specs.Tree.{Tree, tree_of, home, holds, parent_in, routing_in}
+use Rattle.sg_zones.specs.Tree.{Tree, tree_of, home, holds, routing_in}
 use Rattle.sg_zones.specs.declared.fault.ZoneFault.{ZoneFault}
 use Rattle.sg_zones.specs.declared.fault.ZoneFault.TheVariants.{NoRoot, TwoRoots, ParentCycle, TooDeep, GatewayOutside, WrongRouting}
 
@@ -36,22 +37,14 @@ abbrev pub roots : ℕ → List ZoneRow → List ℕ
 roots row [] = []
 roots row (zone ∷ zones) = if is_none zone.parent then row ∷ roots (row + 1) zones else roots (row + 1) zones
 
-abbrev pub second_root : List ℕ → Option ZoneFault
-second_root [] = None
-second_root (second ∷ rest) = Some (TwoRoots (place 1 second 2))
-
 -- there is one root
 abbrev pub root_fault : List ℕ → Option ZoneFault
 root_fault [] = Some (NoRoot (place 1 0 0))
-root_fault (first ∷ rest) = second_root rest
+root_fault (root ∷ others) = option_map (λ second. TwoRoots (place 1 second 2)) (first others)
 
--- the zone of this row still has a zone above it after 1,024 steps up: there are no more zones, so it never reaches the root
-abbrev pub cycle_at : ℕ → Option ZoneId → Option ZoneFault
-cycle_at row ancestor = fault_if (is_some ancestor) (ParentCycle (place 1 (row + 1) 2))
-
--- it still has one after 16 steps: its depth is above 16
-abbrev pub deep_at : ℕ → Option ZoneId → Option ZoneFault
-deep_at row ancestor = fault_if (is_some ancestor) (TooDeep (place 1 (row + 1) 2))
+-- the zone of this row still has a zone above it after some steps up
+abbrev pub ancestor_at : (Place → ZoneFault) → ℕ → Option ZoneId → Option ZoneFault
+ancestor_at fault row ancestor = fault_if (is_some ancestor) (fault (place 1 (row + 1) 2))
 
 -- ---- gateways
 
@@ -61,72 +54,50 @@ child_holds t (Point own) point = own.0 == point.0
 child_holds t (Zone zone) point = holds t zone point
 
 -- the gateway isn't held by its end
-abbrev pub src_gateway_at : Tree → ℕ → ZoneRouteRow → Option ZoneFault
-src_gateway_at t row r = fault_if (not (child_holds t r.src r.gw_src)) (GatewayOutside (place 6 (row + 1) 3))
-
-abbrev pub dst_gateway_at : Tree → ℕ → ZoneRouteRow → Option ZoneFault
-dst_gateway_at t row r = fault_if (not (child_holds t r.dst r.gw_dst)) (GatewayOutside (place 6 (row + 1) 4))
+abbrev pub gateway_fault : Tree → Child → PointId → Place → Option ZoneFault
+gateway_fault t end gateway at = fault_if (not (child_holds t end gateway)) (GatewayOutside at)
 
 abbrev pub gateways_at : Tree → ℕ → ZoneRouteRow → Option ZoneFault
-gateways_at t row r = option_or (src_gateway_at t row r) (dst_gateway_at t row r)
+gateways_at t row r = option_or (gateway_fault t r.src r.gw_src (place 6 (row + 1) 3)) (gateway_fault t r.dst r.gw_dst (place 6 (row + 1) 4))
 
 abbrev pub gateway_at : Tree → ℕ → SpokeRow → Option ZoneFault
-gateway_at t row s = fault_if (not (child_holds t s.child s.gateway)) (GatewayOutside (place 7 (row + 1) 3))
+gateway_at t row s = gateway_fault t s.child s.gateway (place 7 (row + 1) 3)
 
 -- ---- routing
 
 abbrev pub is_full : Routing → Bool
 is_full Full = true
-is_full Star = false
-is_full Dijkstra = false
+is_full other = false
 
 abbrev pub is_star : Routing → Bool
 is_star Star = true
-is_star Full = false
-is_star Dijkstra = false
+is_star other = false
 
 abbrev pub is_dijkstra : Routing → Bool
 is_dijkstra Dijkstra = true
-is_dijkstra Full = false
-is_dijkstra Star = false
-
--- zones of this routing have routes between points
-abbrev pub has_routes : Routing → Bool
-has_routes Full = true
-has_routes Dijkstra = true
-has_routes Star = false
+is_dijkstra other = false
 
 -- the zone whose child this is; the root is no child
 abbrev pub zone_above : Tree → Child → Option ZoneId
 zone_above t (Point point) = Some (home t point)
-zone_above t (Zone zone) = parent_in t zone
+zone_above t (Zone zone) = slice_index_or t.parents zone.0 None
 
 -- both stand in one zone, and it is Full
 abbrev pub in_one_full : Tree → Option ZoneId → Option ZoneId → Bool
-in_one_full t None b = false
-in_one_full t (Some a) None = false
 in_one_full t (Some a) (Some b) = a.0 == b.0 && is_full (routing_in t a)
-
-abbrev pub is_zone : ZoneId → Option ZoneId → Bool
-is_zone zone None = false
-is_zone zone (Some other) = other.0 == zone.0
+in_one_full t a b = false
 
 abbrev pub is_point : Child → Bool
 is_point (Point point) = true
 is_point (Zone zone) = false
 
--- the zone above is Dijkstra
-abbrev pub is_in_dijkstra : Tree → Option ZoneId → Bool
-is_in_dijkstra t None = false
-is_in_dijkstra t (Some zone) = is_dijkstra (routing_in t zone)
-
 -- no zone stands in a Dijkstra zone
 abbrev pub child_zone_at : Tree → ℕ → ZoneRow → Option ZoneFault
-child_zone_at t row z = fault_if (is_in_dijkstra t z.parent) (WrongRouting (place 1 (row + 1) 1))
+child_zone_at t row z = fault_if (option_map_or (λ above. is_dijkstra (routing_in t above)) z.parent false) (WrongRouting (place 1 (row + 1) 1))
 
--- both are one zone, and it has routes between points
+-- both are one zone, and it has routes between points: it is Full or Dijkstra
 abbrev pub in_one_routed : Tree → ZoneId → ZoneId → Bool
-in_one_routed t a b = a.0 == b.0 && has_routes (routing_in t a)
+in_one_routed t a b = a.0 == b.0 && not (is_star (routing_in t a))
 
 -- the ends of a route stand in one Full or Dijkstra zone
 abbrev pub route_at : Tree → ℕ → RouteRow → Option ZoneFault
@@ -141,16 +112,18 @@ zone_route_at t row r =
 -- the zone of a spoke is Star, and the child is its child
 abbrev pub spoke_at : Tree → ℕ → SpokeRow → Option ZoneFault
 spoke_at t row s =
-    fault_if (not (is_star (routing_in t s.zone)) || not (is_zone s.zone (zone_above t s.child)))
+    fault_if (not (is_star (routing_in t s.zone)) || not (option_map_or (λ above. above.0 == s.zone.0) (zone_above t s.child) false))
     (WrongRouting (place 7 (row + 1) 1))
 
 -- ---- the least kind, and within it the least place
 
+-- a zone from which 1,024 steps up don't leave the tree never reaches the root, as there are no more zones; one from which
+-- 16 don't is deeper than 16
 abbrev pub tree_fault : List ZoneRow → Option ZoneFault
 tree_fault zones =
     option_or (root_fault (roots 1 zones))
-    (option_or (first_along cycle_at 0 (ancestors_of 1024 zones))
-    (first_along deep_at 0 (ancestors_of 16 zones)))
+    (option_or (first_along (ancestor_at ParentCycle) 0 (ancestors_of 1024 zones))
+    (first_along (ancestor_at TooDeep) 0 (ancestors_of 16 zones)))
 
 abbrev pub row_fault : Tree → Platform → Option ZoneFault
 row_fault t p =
@@ -164,10 +137,6 @@ row_fault t p =
 abbrev pub zone_fault : Platform → Option ZoneFault
 zone_fault p = option_or (tree_fault p.zones) (row_fault (tree_of p) p)
 
-abbrev pub or_tree : Option ZoneFault → Tree → Result Tree ZoneFault
-or_tree None tree = Ok tree
-or_tree (Some fault) tree = Err fault
-
 -- the tree of the rows, or their first fault
 abbrev pub zones_of : Platform → Result Tree ZoneFault
-zones_of p = or_tree (zone_fault p) (tree_of p)
+zones_of p = option_map_or Err (zone_fault p) (Ok (tree_of p))

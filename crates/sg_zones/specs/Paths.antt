@@ -19,12 +19,9 @@ unfoldable pub path : ℕ → List ZoneRow → ZoneId → List ZoneId
 path zero zones zone = []
 path (suc levels) zones zone = option_map_or (path levels zones) (parent zones zone) [] ++ zone ∷ []
 
--- what this gives of each zone
-abbrev pub of_zones : {X : Type 0} → (ZoneId → X) → List ZoneRow → List X
-of_zones f zones = map (λ i. f (record { 0 = i })) (range_with_len 0 (length zones))
-
+-- of each zone
 abbrev pub ancestors_of : ℕ → List ZoneRow → List (Option ZoneId)
-ancestors_of steps zones = of_zones (ancestor steps zones) zones
+ancestors_of steps zones = map (λ i. ancestor steps zones (record { 0 = i })) (range_with_len 0 (length zones))
 
 abbrev pub paths_of : List ZoneRow → List (List ZoneId)
-paths_of zones = of_zones (path 16 zones) zones
+paths_of zones = map (λ i. path 16 zones (record { 0 = i })) (range_with_len 0 (length zones))

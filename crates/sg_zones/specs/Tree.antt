@@ -1,5 +1,5 @@
 -- The zone tree.
-use Rattle.std.specs.Prelude.{◌==◌, ℕ, Bool, Option, None, List, [], ◌++◌, length, map, slice_index_or}
+use Rattle.std.specs.Prelude.{◌==◌, ℕ, Bool, Option, List, [], ◌++◌, length, map, slice_index_or}
 use Rattle.std.specs.List.{list_any}
 use Rattle.sg_base.specs.declared.ids.PointId.{PointId}
 use Rattle.sg_base.specs.declared.ids.ZoneId.{ZoneId}
@@ -23,10 +23,7 @@ tree_of p = record {
   homes = map (λ row. row.zone) p.hosts ++ map (λ row. row.zone) p.routers;
 }
 
--- a zone that isn't there has no parent, an empty path and routing Full; a point that isn't there stands in the first zone
-abbrev pub parent_in : Tree → ZoneId → Option ZoneId
-parent_in t zone = slice_index_or t.parents zone.0 None
-
+-- a zone that isn't there has routing Full and an empty path; a point that isn't there stands in the first zone
 abbrev pub routing_in : Tree → ZoneId → Routing
 routing_in t zone = slice_index_or t.routings zone.0 Full
 

@@ -1,6 +1,7 @@
 //! The faults of the zone tree itself.
 ghost use Rattle.std.specs.Prelude.{◌≡◌, ◌≤◌, ◌<◌, length, IfOk};
-ghost use Rattle.sg_zones.specs.Faults.{first_along, roots, root_fault, cycle_at, deep_at, tree_fault};
+ghost use Rattle.sg_zones.specs.Faults.{ancestor_at, first_along, roots, root_fault, tree_fault};
+ghost use Rattle.sg_zones.specs.declared.fault.ZoneFault.TheVariants.{ParentCycle, TooDeep};
 
 use crate::fault::{ZoneFault, place};
 use crate::paths::ancestors_of;
@@ -36,7 +37,7 @@ fn root_fault(zones: &[ZoneRow]) -> Option<ZoneFault>
 /// That going up from a zone never reaches the root.
 fn cycle_at(i: usize, ancestor: &Option<ZoneId>) -> Option<ZoneFault>
     requires { i < 1024 }
-    ensures { result ≡ cycle_at i ancestor.now }
+    ensures { result ≡ ancestor_at ParentCycle i ancestor.now }
 {
     match ancestor {
         Some(_) => Some(ZoneFault::ParentCycle(place(1, i, 2))),
@@ -47,7 +48,7 @@ fn cycle_at(i: usize, ancestor: &Option<ZoneId>) -> Option<ZoneFault>
 /// That a zone is too deep.
 fn deep_at(i: usize, ancestor: &Option<ZoneId>) -> Option<ZoneFault>
     requires { i < 1024 }
-    ensures { result ≡ deep_at i ancestor.now }
+    ensures { result ≡ ancestor_at TooDeep i ancestor.now }
 {
     match ancestor {
         Some(_) => Some(ZoneFault::TooDeep(place(1, i, 2))),
@@ -58,7 +59,7 @@ fn deep_at(i: usize, ancestor: &Option<ZoneId>) -> Option<ZoneFault>
 /// The first zone that never reaches the root.
 fn first_cycle(ancestors: &[Option<ZoneId>]) -> Option<ZoneFault>
     requires { length ancestors.now ≤ 1024 }
-    ensures { result ≡ first_along cycle_at 0 ancestors.now }
+    ensures { result ≡ first_along (ancestor_at ParentCycle) 0 ancestors.now }
 {
     for (i, ancestor) in ancestors.iter().enumerate() {
         if let Some(fault) = cycle_at(i, ancestor) {
@@ -71,7 +72,7 @@ fn first_cycle(ancestors: &[Option<ZoneId>]) -> Option<ZoneFault>
 /// The first zone that is too deep.
 fn first_deep(ancestors: &[Option<ZoneId>]) -> Option<ZoneFault>
     requires { length ancestors.now ≤ 1024 }
-    ensures { result ≡ first_along deep_at 0 ancestors.now }
+    ensures { result ≡ first_along (ancestor_at TooDeep) 0 ancestors.now }
 {
     for (i, ancestor) in ancestors.iter().enumerate() {
         if let Some(fault) = deep_at(i, ancestor) {

@@ -1,7 +1,8 @@
 //! The zone tree.
-ghost use Rattle.std.specs.Prelude.{◌≡◌, ◌≢◌, ◌≤◌, ◌++◌, length, map, Err, IfOk};
-ghost use Rattle.sg_zones.specs.Faults.{child_holds, has_routes, in_one_full, in_one_routed, is_dijkstra, is_full, is_in_dijkstra, is_star, is_zone, row_fault, zone_above, zones_of};
-ghost use Rattle.sg_zones.specs.Tree.{depth, holds, home, parent_in, path_in, routing_in, tree_of};
+ghost use Rattle.std.specs.Prelude.{◌≡◌, ◌≢◌, ◌≤◌, ◌++◌, ◌==◌, false, length, map, not, slice_index_or, None, Err, IfOk};
+ghost use Rattle.std.specs.Option.{option_map_or};
+ghost use Rattle.sg_zones.specs.Faults.{child_holds, in_one_full, in_one_routed, is_dijkstra, is_full, is_star, row_fault, zone_above, zones_of};
+ghost use Rattle.sg_zones.specs.Tree.{depth, holds, home, path_in, routing_in, tree_of};
 ghost use Rattle.sg_zones.specs.declared.fault.ZoneFault.TheVariants.{Memory};
 
 use crate::fault::ZoneFault;
@@ -152,7 +153,7 @@ impl Zones {
 
     /// The zone above this one; none above the root.
     pub fn parent(&self, zone: ZoneId) -> Option<ZoneId>
-        ensures { result ≡ parent_in self.now zone }
+        ensures { result ≡ slice_index_or self.now.parents zone.0 None }
     {
         match self.parents.get(zone.0 as usize) {
             Some(parent) => *parent,
@@ -239,7 +240,8 @@ impl Zones {
 
     /// Whether there is such a zone, and it is Dijkstra.
     pub(crate) fn is_in_dijkstra(&self, zone: Option<ZoneId>) -> bool
-        ensures { result ≡ is_in_dijkstra self.now zone }
+        ensures { result
+            ≡ option_map_or (λ above. is_dijkstra (routing_in self.now above)) zone false }
     {
         match zone {
             Some(zone) => self.is_dijkstra(zone),
@@ -259,7 +261,7 @@ impl Zones {
 
     /// Whether the zone has routes between points.
     fn has_routes(&self, zone: ZoneId) -> bool
-        ensures { result ≡ has_routes (routing_in self.now zone) }
+        ensures { result ≡ not (is_star (routing_in self.now zone)) }
     {
         match self.routing(zone) {
             Routing::Full | Routing::Dijkstra => true,
@@ -296,7 +298,8 @@ impl Zones {
 
     /// Whether this is a child of the zone.
     pub(crate) fn is_child_of(&self, zone: ZoneId, child: Child) -> bool
-        ensures { result ≡ is_zone zone (zone_above self.now child) }
+        ensures { result
+            ≡ option_map_or (λ above. above.0 == zone.0) (zone_above self.now child) false }
     {
         match self.zone_above(child) {
             Some(above) => above.0 == zone.0,

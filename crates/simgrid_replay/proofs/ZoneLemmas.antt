@@ -1,15 +1,16 @@
 -- What zones that were built tell of the platform.
 use Rattle.std.proofs.Common.{◌≡◌, ◌≢◌, refl, Option, None, Some, Result, Ok, sym, ap}
 use Rattle.std.proofs.Common as C
+use Rattle.std.specs.Option.{option_map_or}
 use Rattle.sg_rows.specs.Platform.{Platform}
-use Rattle.sg_zones.specs.Faults.{or_tree, zone_fault, zones_of}
+use Rattle.sg_zones.specs.Faults.{zone_fault, zones_of}
 use Rattle.sg_zones.specs.Tree.{Tree, tree_of}
 use Rattle.sg_zones.specs.declared.fault.ZoneFault.{ZoneFault}
 use Rattle.simgrid_replay.specs.Settings.{or_zone_fault}
 use Rattle.simgrid_replay.specs.declared.refusal.Refusal.{Refusal}
 use Rattle.simgrid_replay.specs.declared.refusal.Refusal.TheVariants as R
 
-built_by : (fault : Option ZoneFault) (tree zones : Tree) → Ok zones ≡ or_tree fault tree → zones ≡ tree
+built_by : (fault : Option ZoneFault) (tree zones : Tree) → Ok zones ≡ option_map_or C.Err fault (Ok tree) → zones ≡ tree
 built_by None tree zones is = cc is
 built_by (Some fault) tree zones is = absurd (cc is)
 
