@@ -7,7 +7,7 @@ use Rattle.sg_base.specs.declared.ids.LinkId.{LinkId}
 use Rattle.sg_paths.specs.declared.route.PathRoute.{PathRoute}
 use Rattle.sg_paths.specs.Order.{IsNotAfter, not_after}
 use Rattle.sg_paths.specs.Path.{HasNoPath, HasPath, IsLeastPath, IsPath, links_of}
-use Rattle.sg_paths.specs.Least.{all_links, begun, ended, least_of, least_path, lesser, LeastPathIsLeast}
+use Rattle.sg_paths.specs.Least.{all_links, paths_starting_with, trivial_path, least_of, least_path, lesser, LeastPathIsLeast}
 use Rattle.sg_paths.proofs.OrderLemmas.{not_after_behind, not_after_both, not_after_false, not_after_longer, not_after_same, not_after_through, not_after_true}
 
 -- ---- elements of lists
@@ -129,14 +129,14 @@ path_of routes from to (route ∷ path) h = (contains_of routes route h.0, h.1, 
 abbrev no_links : List LinkId
 no_links = []
 
-ended_here : (from to : ℕ) → from ≡ to → Among no_links (ended from to)
+ended_here : (from to : ℕ) → from ≡ to → Among no_links (trivial_path from to)
 ended_here from to same = go (from == to) (grind (arith, nat_tests))
   where
     go : (t : Bool) → t ≡ true → Among no_links (cond t (no_links ∷ []) [])
     go true e = let same : no_links ≡ no_links = refl in inl same
     go false e = absurd (cc)
 
-of_ended : (from to : ℕ) (links : List LinkId) → Among links (ended from to) → (from ≡ to) × (no_links ≡ links)
+of_ended : (from to : ℕ) (links : List LinkId) → Among links (trivial_path from to) → (from ≡ to) × (no_links ≡ links)
 of_ended from to links h = go (from == to) refl h
   where
     go : (t : Bool) → (from == to) ≡ t → Among links (cond t (no_links ∷ []) []) → (from ≡ to) × (no_links ≡ links)
@@ -144,14 +144,14 @@ of_ended from to links h = go (from == to) refl h
     go true e (inr h) = absurd h
     go false e h = absurd h
 
-begun_with : (from : ℕ) (onward : ℕ → List (List LinkId)) (route : PathRoute) (links : List LinkId) → route.from ≡ from → Among links (onward route.to) → Among (route.links ++ links) (begun from onward route)
+begun_with : (from : ℕ) (onward : ℕ → List (List LinkId)) (route : PathRoute) (links : List LinkId) → route.from ≡ from → Among links (onward route.to) → Among (route.links ++ links) (paths_starting_with from onward route)
 begun_with from onward route links same h = go (route.from == from) (grind (arith, nat_tests)) (among_map (λ rest. route.links ++ rest) links (onward route.to) h)
   where
     go : (t : Bool) → t ≡ true → Among (route.links ++ links) (map (λ rest. route.links ++ rest) (onward route.to)) → Among (route.links ++ links) (cond t (map (λ rest. route.links ++ rest) (onward route.to)) [])
     go true e k = k
     go false e k = absurd (cc)
 
-of_begun : (from : ℕ) (onward : ℕ → List (List LinkId)) (route : PathRoute) (links : List LinkId) → Among links (begun from onward route)
+of_begun : (from : ℕ) (onward : ℕ → List (List LinkId)) (route : PathRoute) (links : List LinkId) → Among links (paths_starting_with from onward route)
     → (route.from ≡ from) × ((rest : List LinkId) × Among rest (onward route.to) × (route.links ++ rest ≡ links))
 of_begun from onward route links h = go (route.from == from) refl h
   where
@@ -165,25 +165,25 @@ listed : (most : ℕ) (routes : List PathRoute) (from to : ℕ) (path : List Pat
 unfolding all_links
 listed zero routes from to [] is few = ended_here from to is
 listed zero routes from to (route ∷ path) is few = absurd (omega arith)
-listed (suc most) routes from to [] is few = among_left no_links (ended from to) (flat_map (begun from (λ next. all_links most routes next to)) routes) (ended_here from to is)
+listed (suc most) routes from to [] is few = among_left no_links (trivial_path from to) (flat_map (paths_starting_with from (λ next. all_links most routes next to)) routes) (ended_here from to is)
 listed (suc most) routes from to (route ∷ path) is few =
     let onward : ℕ → List (List LinkId) = λ next. all_links most routes next to in
-    among_right (links_of (route ∷ path)) (ended from to) (flat_map (begun from onward) routes)
-    (among_flat (begun from onward) route (links_of (route ∷ path)) routes is.0
+    among_right (links_of (route ∷ path)) (trivial_path from to) (flat_map (paths_starting_with from onward) routes)
+    (among_flat (paths_starting_with from onward) route (links_of (route ∷ path)) routes is.0
     (begun_with from onward route (links_of path) is.1 (listed most routes route.to to path is.2 (omega arith))))
 
 -- and the list has nothing else
 of_list : (most : ℕ) (routes : List PathRoute) (from to : ℕ) (links : List LinkId) → Among links (all_links most routes from to) → (path : List PathRoute) × IsTour routes from to path × (links_of path ≡ links)
 unfolding all_links
 of_list zero routes from to links h = let r = of_ended from to links h in ([], r.0, r.1)
-of_list (suc most) routes from to links h = go (among_either links (ended from to) (flat_map (begun from (λ next. all_links most routes next to)) routes) h) (λ next rest k. of_list most routes next to rest k)
+of_list (suc most) routes from to links h = go (among_either links (trivial_path from to) (flat_map (paths_starting_with from (λ next. all_links most routes next to)) routes) h) (λ next rest k. of_list most routes next to rest k)
   where
-    go : (Among links (ended from to) ⊎ Among links (flat_map (begun from (λ next. all_links most routes next to)) routes))
+    go : (Among links (trivial_path from to) ⊎ Among links (flat_map (paths_starting_with from (λ next. all_links most routes next to)) routes))
         → ((next : ℕ) (rest : List LinkId) → Among rest (all_links most routes next to) → (path : List PathRoute) × IsTour routes next to path × (links_of path ≡ rest))
         → (path : List PathRoute) × IsTour routes from to path × (links_of path ≡ links)
     go (inl k) onward = let r = of_ended from to links k in ([], r.0, r.1)
     go (inr k) onward =
-        let f = of_flat (begun from (λ next. all_links most routes next to)) links routes k in
+        let f = of_flat (paths_starting_with from (λ next. all_links most routes next to)) links routes k in
         let b = of_begun from (λ next. all_links most routes next to) f.0 links f.2 in
         let p = onward (f.0).to (b.1).0 (b.1).1 in
         (f.0 ∷ p.0, (f.1, b.0, p.1), ap (λ rest. (f.0).links ++ rest) p.2 ∙ (b.1).2)

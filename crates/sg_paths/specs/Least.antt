@@ -7,17 +7,17 @@ use Rattle.sg_paths.specs.Order.{not_after}
 use Rattle.sg_paths.specs.Path.{HasNoPath, IsLeastPath}
 
 -- the path of no route
-abbrev pub ended : ℕ → ℕ → List (List LinkId)
-ended from to = if from == to then [] ∷ [] else []
+abbrev pub trivial_path : ℕ → ℕ → List (List LinkId)
+trivial_path from to = if from == to then [] ∷ [] else []
 
 -- the paths that begin with this route, and go on by one of these from its end
-abbrev pub begun : ℕ → (ℕ → List (List LinkId)) → PathRoute → List (List LinkId)
-begun from onward route = if route.from == from then map (λ links. route.links ++ links) (onward route.to) else []
+abbrev pub paths_starting_with : ℕ → (ℕ → List (List LinkId)) → PathRoute → List (List LinkId)
+paths_starting_with from onward route = if route.from == from then map (λ links. route.links ++ links) (onward route.to) else []
 
 -- the links of each path of at most so many routes
 unfoldable pub all_links : ℕ → List PathRoute → ℕ → ℕ → List (List LinkId)
-all_links zero routes from to = ended from to
-all_links (suc most) routes from to = ended from to ++ flat_map (begun from (λ next. all_links most routes next to)) routes
+all_links zero routes from to = trivial_path from to
+all_links (suc most) routes from to = trivial_path from to ++ flat_map (paths_starting_with from (λ next. all_links most routes next to)) routes
 
 -- the lesser of a list of links and of another, if there is one
 abbrev pub lesser : List LinkId → Option (List LinkId) → List LinkId
