@@ -1,5 +1,5 @@
 //! What is kept of flows and resources from one settling to the next.
-ghost use Rattle.std.specs.Prelude.{◌≡◌, ◌≢◌, ◌<◌, ◌≤◌, ℕ, [], All, AllPairs, IfOk, OnOk, length, slice_index};
+ghost use Rattle.std.specs.Prelude.{◌≡◌, ◌≢◌, ◌<◌, ◌≤◌, ◌-◌, ℕ, [], All, AllPairs, IfOk, OnOk, length, slice_index};
 ghost use Rattle.sg_maxmin.specs.Sharing.{IsExtended, Sharing};
 ghost use Rattle.sg_levels.specs.Kept.{HasRoom, IsBetween, IsFresh, IsUnmarked, KeepsAll, MarksNoMore, NotesChanged};
 ghost use Rattle.sg_levels.specs.Numbered.{level_at};
@@ -88,8 +88,8 @@ impl Levels {
         self.stale.reserve(n)
     }
 
-    /// Makes room for so many flows more in the system, with so many uses in all, and for their levels. Nothing but the
-    /// room changes, also where there is no memory, and the room doesn't shrink.
+    /// Makes room for so many flows more in the system, with so many uses in all, and for their levels: numbers come only
+    /// where too few are free. Nothing but the room changes, also where there is no memory, and the room doesn't shrink.
     pub fn reserve(&mut self, system: &mut System, flows: usize, uses: usize) -> Result<(), Memory>
         requires { IsBetween system.old self.old }
         ensures between { IsBetween system.new self.new }
@@ -99,11 +99,13 @@ impl Levels {
         ensures use_room { OnOk result (uses ≤ system.new.use_room) }
         ensures grows { (system.old.flow_room ≤ system.new.flow_room)
             × (system.old.use_room ≤ system.new.use_room) }
-        ensures slots { IsExtended system.old.slots system.new.slots flows }
+        ensures slots { IsExtended system.old.slots system.new.slots
+            (flows - system.old.flow_room) }
         ensures capacities { system.new.capacities ≡ system.old.capacities }
     {
         system.is_sound();
-        let Some(n) = system.numbers().checked_add(flows) else {
+        let more = flows.saturating_sub(system.spare());
+        let Some(n) = system.numbers().checked_add(more) else {
             return Err(Memory);
         };
         self.grow(n)?;

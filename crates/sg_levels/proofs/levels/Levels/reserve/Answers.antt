@@ -11,7 +11,7 @@ returns-clause-between c =
     let t = c.reserve-reserved.new.self in
     let out = c.reserve-reserved.ensures in
     let room = c.in_ok-grow.ensures.room in
-    let n : length t.slots ≤ c.in-Some.n = omega (arith, out.slots.few, c.numbers.ensures, c.in-Some.ensures) in
+    let n : length t.slots ≤ c.in-Some.n = omega (arith, out.few, c.numbers.ensures, c.in-Some.ensures, c.saturating_sub-more.ensures, c.spare.ensures) in
     between_extended s t c.is_sound.ensures c.is_sound-2.ensures c.grow.new.self (ap length out.capacities) (λ r. ap (λ cs. slice_index cs r) out.capacities) out.slots.same
     (record {
       levels = omega (arith, n, room.levels);
