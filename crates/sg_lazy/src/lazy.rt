@@ -1,5 +1,5 @@
 //! Flows whose rates are brought up to date only where something changed.
-ghost use Rattle.std.specs.Prelude.{◌≡◌, ◌≤◌, ◌<◌, ◌+◌, IsSome, IfSome, IfOk, OnOk, None, length};
+ghost use Rattle.std.specs.Prelude.{◌≡◌, ◌≤◌, ◌<◌, ◌+◌, ◌-◌, IsSome, IfSome, IfOk, OnOk, None, length};
 ghost use Rattle.sg_maxmin.specs.Fill.{flow};
 ghost use Rattle.sg_maxmin.specs.Sharing.{IsFlow};
 ghost use Rattle.sg_lazy.specs.RunningFlow.{running_at};
@@ -96,15 +96,24 @@ impl Lazy {
         self.system.numbers()
     }
 
-    /// Makes room for so many flows more, with so many uses in all; at most so many numbers come to those that there
-    /// are. Nothing but the room changes, also where there is no memory, and the room doesn't shrink.
+    /// For how many flows more there is room.
+    pub fn spare(&self) -> usize
+        ensures { result ≡ self.now.flow_room }
+    {
+        self.system.spare()
+    }
+
+    /// Makes room for so many flows more, with so many uses in all; numbers come only where too few are free. Nothing
+    /// but the room changes, also where there is no memory, and the room doesn't shrink.
     pub fn reserve(&mut self, flows: usize, uses: usize) -> Result<(), Memory>
         ensures flow_room { OnOk result (flows ≤ self.new.flow_room) }
         ensures use_room { OnOk result (uses ≤ self.new.use_room) }
         ensures kept { IsRoomier self.old self.new }
-        ensures few { length self.new.slots ≤ length self.old.slots + flows }
+        ensures few { length self.new.slots
+            ≤ length self.old.slots + (flows - self.old.flow_room) }
     {
-        let Some(n) = self.system.numbers().checked_add(flows) else {
+        let more = flows.saturating_sub(self.system.spare());
+        let Some(n) = self.system.numbers().checked_add(more) else {
             return Err(Memory);
         };
         grow_marks(n, &mut self.pending, &mut self.rated.changed)?;

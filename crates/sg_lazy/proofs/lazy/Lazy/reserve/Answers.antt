@@ -17,7 +17,7 @@ invariant_of-self-2 c =
     let marks = c.grow_marks.ensures in
     let rates = c.grow_rates.new.rates.items in
     let out = c.reserve-reserved.ensures in
-    let n : length t.slots ≤ c.in-Some.n = omega (arith, out.slots.few, c.numbers.ensures, c.in-Some.ensures) in
+    let n : length t.slots ≤ c.in-Some.n = omega (arith, out.slots.few, c.numbers.ensures, c.in-Some.ensures, c.saturating_sub-more.ensures, c.spare.ensures) in
     let caps = ap length out.capacities in
     let same = ap (λ (m : MarkSet). m.members) marks.resources in (
       subst (λ r. IsLazy t rates c.grow_marks.new.pending.began.members c.grow_marks.new.pending.marked.members c.grow_marks.new.pending.ended.members r) (sym same)
@@ -90,6 +90,7 @@ returns-clause-few c =
     omega (
       arith,
       c.reserve-reserved.ensures.slots.few,
+      ap (λ (v : Lazily). v.flow_room) c.self.view_is,
       ap (λ (v : Lazily). length v.slots) c.self.view_is,
       length_listed (length s.slots) (running_of s.slots i.rated.rates.items i.pending.began.members i.pending.marked.members i.pending.ended.members),
       length_listed (length t.slots) (running_of t.slots c.grow_rates.new.rates.items c.grow_marks.new.pending.began.members c.grow_marks.new.pending.marked.members c.grow_marks.new.pending.ended.members),
