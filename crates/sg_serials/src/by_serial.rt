@@ -1,5 +1,5 @@
 //! Values by serials.
-ghost use Rattle.std.specs.Prelude.{◌≡◌, ◌≤◌, ◌<◌, ◌+◌, ◌^◌, ℕ, nat_eq, None, Some, IsSome, OnOk, true, false, if◌then◌else◌, length, slice_index_or, slice_set};
+ghost use Rattle.std.specs.Prelude.{◌≡◌, ◌≤◌, ◌<◌, ◌+◌, ◌^◌, ℕ, nat_eq, None, Some, IsSome, OnOk, true, false, if◌then◌else◌, length, min, slice_index_or, slice_set};
 ghost use Rattle.std.specs.HashMap as hash;
 ghost use Rattle.sg_serials.specs.Serials.{at, place as place_spec, room, value_in as value_in_spec, Puts};
 
@@ -210,6 +210,17 @@ impl<T: Copy + Drop> BySerial<T> {
     {
         self.far.reserve(n)?;
         self.make_places(n)
+    }
+
+    /// Lets most of the memory go where there are few of the many values that there were; room for so many more stays.
+    pub fn trim(&mut self, n: usize)
+        ensures same { (serial : ℕ) → at self.new serial ≡ at self.old serial }
+        ensures room { min n (room self.old) ≤ room self.new }
+    {
+        let wanted = self.far.len().saturating_add(n);
+        if wanted < self.far.capacity() / 4 {
+            self.far.shrink_to(wanted);
+        }
     }
 
     /// The value of a serial.
