@@ -4,7 +4,7 @@ use Rattle.sg_base.specs.declared.call.Answer.{Answer}
 use Rattle.sg_base.specs.declared.call.Call.{Call}
 use Rattle.sg_base.specs.declared.call.Call.TheVariants as call
 use Rattle.sg_base.specs.declared.ids.ActorId.{ActorId}
-use Rattle.sg_base.specs.Limits.{Extent, IsActorNumber, IsCall}
+use Rattle.sg_base.specs.Limits.{Extent, IsActorIn, IsActorNumber, IsCall}
 use Rattle.sg_base.specs.declared.awaits.Await.{Await}
 use Rattle.sg_requests.specs.Requested.{oldest, queue_at, taken}
 use Rattle.sg_route.specs.Roads.{Roads}
@@ -15,7 +15,8 @@ use Rattle.sg_states.specs.Actors.{is_alive, is_ended, joiners}
 use Rattle.sg_kernel.specs.declared.owners.How.TheVariants as how
 use Rattle.sg_kernel.specs.declared.owners.Whose.{Whose}
 use Rattle.sg_kernel.specs.declared.owners.Whose.TheVariants.{Over, Alone, Posted, Pair}
-use Rattle.sg_kernel.specs.World.{Setup, Core, host_of, state_of, whose_at}
+use Rattle.sg_kernel.specs.declared.fields.Fields.{Fields}
+use Rattle.sg_kernel.specs.World.{Setup, Core, extent, host_of, state_of, whose_at}
 use Rattle.sg_kernel.specs.Steps.{Step, all_of, counted, each}
 use Rattle.sg_kernel.specs.Answers.{side_of}
 use Rattle.sg_kernel.specs.Meetings.{comer_of, sends_by, receives_by, answer_of_over, waits_by, waits_until}
@@ -23,10 +24,17 @@ use Rattle.sg_kernel.specs.Locks.{caller_gets, all_wake, caller_first, caller_la
 use Rattle.sg_kernel.specs.Lives.{joins_by, leaves}
 use Rattle.sg_kernel.specs.Kills.{awaited, gives_up, gives_up_by, kill_done, kill_stretches, kills, withdrawn}
 use Rattle.sg_kernel.specs.Calls.{answered_call, actor_of, computes}
-use Rattle.sg_kernel.specs.kept.Sound.{IsComer}
+use Rattle.sg_kernel.specs.kept.Acts.{CanName}
+use Rattle.sg_kernel.specs.kept.Sound.{setup_in, IsComer}
+use Rattle.sg_kernel.specs.kept.Whole.{CanStep}
 use Rattle.sg_kernel.proofs.Each.{both_on, each_on}
 use Rattle.sg_kernel.proofs.Ends.{finishes_goes}
+use Rattle.sg_kernel.proofs.Limits.{homes_counted}
 use Rattle.sg_kernel.proofs.Woken.{all_on, caller_goes}
+
+-- who is named by a call exists
+pub can_name : (fields : Fields) (actor : ℕ) (target : ActorId) → CanStep fields actor → IsActorIn (extent (setup_in fields)) target → CanName fields actor target.0
+can_name fields actor target able is = record { able = able; target = record { from = is.0; to = omega (arith, is.1, homes_counted fields able.whole.sound) } }
 
 -- ---- a side that comes keeps to the limits
 comes_limited : (ex : Extent) (one two : Comer) → Some one ≡ Some two → IsComer ex one → IsComer ex two

@@ -4,5 +4,6 @@ pub mod Sound
 pub mod Coming
 pub mod Waking
 pub mod Whole
+pub mod Acts
 pub mod Killing
 pub mod First

@@ -4,8 +4,9 @@ ghost use Rattle.sg_base.specs.Limits.{IsAmount, IsAnswer};
 ghost use Rattle.sg_states.specs.Records.{IsTellable};
 ghost use Rattle.sg_kernel.specs.World.{extent};
 ghost use Rattle.sg_kernel.specs.Steps.{at_once, readied};
-ghost use Rattle.sg_kernel.specs.kept.Sound.{setup_in, CallsBy, CountsBy};
-ghost use Rattle.sg_kernel.specs.kept.Whole.{CanStep, IsWhole};
+ghost use Rattle.sg_kernel.specs.kept.Acts.{Answers, Counts};
+ghost use Rattle.sg_kernel.specs.kept.Sound.{setup_in};
+ghost use Rattle.sg_kernel.specs.kept.Whole.{CanStep};
 
 use crate::fields::Fields;
 use sg_base::{ActorId, Answer, Call};
@@ -14,8 +15,7 @@ use sg_base::{ActorId, Answer, Call};
 pub(crate) fn go_on(fields: &mut Fields, actor: ActorId, answer: Answer)
     requires able { CanStep fields.old actor.0 }
     requires answer { IsAnswer (extent (setup_in fields.old)) answer }
-    ensures known { CountsBy (readied actor.0 answer) fields.old fields.new }
-    ensures whole { IsWhole fields.new }
+    ensures { Counts (readied actor.0 answer) fields.old fields.new }
 {
     fields.states.go_on(actor, answer);
     fields.events += 1;
@@ -33,8 +33,7 @@ pub(crate) fn answer_now(
     requires what { IsTellable (extent (setup_in fields.old)) what }
     requires bytes { IsAmount bytes }
     requires answer { IsAnswer (extent (setup_in fields.old)) answer }
-    ensures known { CallsBy (at_once actor.0 what bytes answer) fields.old fields.new }
-    ensures whole { IsWhole fields.new }
+    ensures { Answers (at_once actor.0 what bytes answer) fields.old fields.new }
 {
     let date = fields.doing.date();
     fields.states.answer(actor, what, bytes, answer, date);

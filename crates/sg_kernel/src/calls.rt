@@ -1,16 +1,16 @@
 //! How a call is answered.
 
-ghost use Rattle.std.specs.Prelude.{◌≡◌, ◌<◌, None, is_ok, true};
+ghost use Rattle.std.specs.Prelude.{◌≡◌, ◌<◌, None, true};
 ghost use Rattle.sg_base.specs.Limits.{IsCall};
 ghost use Rattle.sg_route.specs.Roads.{Roads};
 ghost use Rattle.sg_kernel.specs.World.{extent, MayCall};
 ghost use Rattle.sg_kernel.specs.Calls.{answered, answered_call};
 ghost use Rattle.sg_kernel.specs.Meetings.{comer_of as comer_of_spec};
-ghost use Rattle.sg_kernel.specs.Steps.{result_of};
 ghost use Rattle.sg_kernel.specs.Known.{after_call};
 ghost use Rattle.sg_kernel.specs.Roads.{AreOver};
 ghost use Rattle.sg_kernel.specs.kept.Sound.{core_of, known_of, setup_in};
-ghost use Rattle.sg_kernel.specs.kept.Whole.{CanStep, IsWhole};
+ghost use Rattle.sg_kernel.specs.kept.Acts.{CanMake, Replies};
+ghost use Rattle.sg_kernel.specs.kept.Whole.{IsWhole};
 
 use crate::at_once::{answer_now, go_on};
 use crate::creating::create;
@@ -28,8 +28,7 @@ use sg_route::Router;
 
 // Answers a call that is no side of a communication, where the budget isn't used up.
 fn answer_alone(fields: &mut Fields, actor: ActorId, call: Call)
-    requires able { CanStep fields.old actor.0 }
-    requires call { IsCall (extent (setup_in fields.old)) call }
+    requires makes { CanMake fields.old actor.0 call }
     requires alone { comer_of_spec actor.0 call ≡ None }
     ensures known { (roads : Roads) → known_of fields.new
         ≡ after_call true
@@ -72,13 +71,9 @@ pub(crate) fn answer_call(
     requires room { 0 < fields.old.states.room }
     requires roads { AreOver fields.old.links router.old }
     requires whole { IsWhole fields.old }
-    ensures known { let setup = setup_in fields.old in
-        let step = answered router.old setup (core_of fields.old) actor.0 call in
-        known_of fields.new ≡ after_call (is_ok result) step (known_of fields.old) }
-    ensures result { let setup = setup_in fields.old in
-        let step = answered router.old setup (core_of fields.old) actor.0 call in
-        result ≡ result_of step.stop }
-    ensures whole { IsWhole fields.new }
+    ensures replies { Replies
+        (answered router.old (setup_in fields.old) (core_of fields.old) actor.0 call)
+        fields.old fields.new result }
     ensures router { router.new ≡ router.old }
 {
     if fields.events == fields.budget {

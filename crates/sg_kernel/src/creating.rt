@@ -1,10 +1,10 @@
 //! Actors begin.
 ghost use Rattle.std.specs.Prelude.{◌≡◌, IsTrue};
 ghost use Rattle.sg_states.specs.Actors.{is_unstarted};
-ghost use Rattle.sg_kernel.specs.World.{state_of, IsActor};
+ghost use Rattle.sg_kernel.specs.World.{state_of};
 ghost use Rattle.sg_kernel.specs.Lives.{creates};
-ghost use Rattle.sg_kernel.specs.kept.Sound.{core_of, CallsBy};
-ghost use Rattle.sg_kernel.specs.kept.Whole.{CanStep, IsWhole};
+ghost use Rattle.sg_kernel.specs.kept.Acts.{Answers, CanName};
+ghost use Rattle.sg_kernel.specs.kept.Sound.{core_of};
 
 use crate::at_once::answer_now;
 use crate::fields::Fields;
@@ -12,11 +12,9 @@ use sg_base::{ActorId, Answer, Call};
 
 /// The named actor begins, where it was given a context. Else the call is refused.
 pub(crate) fn create(fields: &mut Fields, actor: ActorId, target: ActorId, given: bool)
-    requires able { CanStep fields.old actor.0 }
-    requires target { IsActor (core_of fields.old) target.0 }
+    requires named { CanName fields.old actor.0 target.0 }
     requires fresh { IsTrue given → IsTrue (is_unstarted (state_of (core_of fields.old) target.0)) }
-    ensures known { CallsBy (creates given actor.0 target) fields.old fields.new }
-    ensures whole { IsWhole fields.new }
+    ensures { Answers (creates given actor.0 target) fields.old fields.new }
 {
     if given {
         fields.states.begin(target);

@@ -1,12 +1,13 @@
 //! Entries of profiles.
 
-ghost use Rattle.std.specs.Prelude.{◌≡◌, ◌≢◌, ◌+◌, ◌<◌, [], MatchOption, Ok, OnOk, drop, length};
+ghost use Rattle.std.specs.Prelude.{◌≡◌, ◌<◌, [], MatchOption, Ok, OnOk, drop, length};
 ghost use Rattle.sg_profile.specs.Profiles.{IsEntry};
 ghost use Rattle.sg_rows.specs.Network.{IsNetwork};
-ghost use Rattle.sg_kernel.specs.Steps.{each, result_of};
+ghost use Rattle.sg_kernel.specs.Steps.{each};
 ghost use Rattle.sg_kernel.specs.Passes.{changes, enters_one};
-ghost use Rattle.sg_kernel.specs.kept.Coming.{CountsSome, IsApplied, IsDueEntry, LeavesDue};
-ghost use Rattle.sg_kernel.specs.kept.Sound.{core_of, row_next, rows_now, setup_in, IsTimely, StepsBy};
+ghost use Rattle.sg_kernel.specs.kept.Acts.{CanEnter, Changes, Enters};
+ghost use Rattle.sg_kernel.specs.kept.Coming.{CountsSome, IsApplied, IsDueEntry};
+ghost use Rattle.sg_kernel.specs.kept.Sound.{row_next, rows_now, setup_in, IsTimely};
 ghost use Rattle.sg_kernel.specs.kept.Whole.{IsPassing};
 
 use crate::failures::fail_all;
@@ -51,15 +52,10 @@ fn apply(doing: &mut Activities, network: Network, entry: Entry)
 
 // The next entry comes, and its row is gone past it.
 fn enter(fields: &mut Fields, entry: Entry)
-    requires due { IsDueEntry fields.old entry }
-    requires passing { IsPassing fields.old }
-    requires budget { fields.old.events ≢ fields.old.budget }
-    ensures known { StepsBy (enters_one (setup_in fields.old) (row_next fields.old))
+    requires { CanEnter fields.old entry }
+    ensures enters { Enters (enters_one (setup_in fields.old) (row_next fields.old))
         fields.old fields.new }
-    ensures passing { IsPassing fields.new }
     ensures rows { rows_now fields.new ≡ drop 1 (rows_now fields.old) }
-    ensures due { LeavesDue fields.old fields.new }
-    ensures events { fields.new.events ≡ fields.old.events + 1 }
 {
     apply(&mut fields.doing, fields.network, entry);
     fields.profiles.step();
@@ -70,14 +66,9 @@ fn enter(fields: &mut Fields, entry: Entry)
 fn change(fields: &mut Fields, entry: Entry) -> Result<(), Stop>
     requires due { IsDueEntry fields.old entry }
     requires passing { IsPassing fields.old }
-    ensures known { StepsBy (changes (setup_in fields.old) (row_next fields.old))
-        fields.old fields.new }
-    ensures result { result
-        ≡ result_of (changes (setup_in fields.old) (row_next fields.old)
-        (core_of fields.old)).stop }
-    ensures passing { IsPassing fields.new }
+    ensures changes { Changes (changes (setup_in fields.old) (row_next fields.old))
+        fields.old fields.new result }
     ensures rows { OnOk result (rows_now fields.new ≡ drop 1 (rows_now fields.old)) }
-    ensures due { LeavesDue fields.old fields.new }
     ensures events { CountsSome (rows_now fields.old) fields.old fields.new }
 {
     if fields.events == fields.budget {
@@ -89,14 +80,9 @@ fn change(fields: &mut Fields, entry: Entry) -> Result<(), Stop>
 
 /// The entries of the date come in order of rows, as far as the budget goes.
 pub(crate) fn change_due(fields: &mut Fields) -> Result<(), Stop>
-    requires passing { IsPassing fields.old }
-    ensures known { StepsBy (each (changes (setup_in fields.old)) (rows_now fields.old))
-        fields.old fields.new }
-    ensures result { result
-        ≡ result_of (each (changes (setup_in fields.old)) (rows_now fields.old)
-        (core_of fields.old)).stop }
-    ensures passing { IsPassing fields.new }
-    ensures due { LeavesDue fields.old fields.new }
+    requires { IsPassing fields.old }
+    ensures changes { Changes (each (changes (setup_in fields.old)) (rows_now fields.old))
+        fields.old fields.new result }
     ensures idle { rows_now fields.old ≡ [] → fields.new.doing.due ≡ fields.old.doing.due }
     ensures events { CountsSome (rows_now fields.old) fields.old fields.new }
 {

@@ -1,11 +1,11 @@
 //! Executions and sleeps begin.
 ghost use Rattle.std.specs.Prelude.{◌≡◌, ◌+◌, ◌<◌, IsTrue, length};
 ghost use Rattle.sg_activity.specs.Underway.{is_computing};
-ghost use Rattle.sg_base.specs.Limits.{IsAmount, IsPriority, IsTime};
 ghost use Rattle.sg_kernel.specs.World.{host_of};
 ghost use Rattle.sg_kernel.specs.Calls.{alone, computes, executed, with_execution, with_sleep};
-ghost use Rattle.sg_kernel.specs.kept.Sound.{setup_in, CallsBy, CountsBy, IsHome};
-ghost use Rattle.sg_kernel.specs.kept.Whole.{CanStep, IsWhole};
+ghost use Rattle.sg_kernel.specs.kept.Acts.{Answers, CanMake, Counts};
+ghost use Rattle.sg_kernel.specs.kept.Sound.{setup_in, IsHome};
+ghost use Rattle.sg_kernel.specs.kept.Whole.{CanStep};
 
 use crate::at_once::answer_now;
 use crate::fields::Fields;
@@ -33,15 +33,12 @@ fn home_of(fields: &Fields, actor: ActorId) -> PointId
 
 // An execution of the actor begins on its host, which is on.
 fn start(fields: &mut Fields, actor: ActorId, host: PointId, flops: u64, priority: u32) -> Serial
-    requires able { CanStep fields.old actor.0 }
-    requires flops { IsAmount flops }
-    requires priority { IsPriority priority }
+    requires computes { CanMake fields.old actor.0 (Call.Compute flops priority) }
     requires home { IsHome fields.old actor.0 host }
     ensures serial { result.0 ≡ length fields.old.doing.under.tasks + 1 }
     ensures computing { IsTrue (is_computing fields.new.doing.under result.0) }
-    ensures known { CountsBy (with_execution (setup_in fields.old) actor.0 flops priority)
+    ensures counts { Counts (with_execution (setup_in fields.old) actor.0 flops priority)
         fields.old fields.new }
-    ensures whole { IsWhole fields.new }
 {
     let date = fields.doing.date();
     let serial = fields.doing.start_exec(host, flops, priority);
@@ -58,13 +55,10 @@ fn start(fields: &mut Fields, actor: ActorId, host: PointId, flops: u64, priorit
 
 // The actor computes on its host, which is on. That is held as soon as it begins, where the actor is suspended.
 fn execute(fields: &mut Fields, actor: ActorId, host: PointId, flops: u64, priority: u32)
-    requires able { CanStep fields.old actor.0 }
-    requires flops { IsAmount flops }
-    requires priority { IsPriority priority }
+    requires computes { CanMake fields.old actor.0 (Call.Compute flops priority) }
     requires home { IsHome fields.old actor.0 host }
-    ensures known { CountsBy (executed (setup_in fields.old) actor.0 flops priority)
+    ensures { Counts (executed (setup_in fields.old) actor.0 flops priority)
         fields.old fields.new }
-    ensures whole { IsWhole fields.new }
 {
     let serial = start(fields, actor, host, flops, priority);
     hold_if(fields, actor, serial);
@@ -72,12 +66,9 @@ fn execute(fields: &mut Fields, actor: ActorId, host: PointId, flops: u64, prior
 
 /// The actor computes at a priority, unless its host is off.
 pub(crate) fn compute(fields: &mut Fields, actor: ActorId, flops: u64, priority: u32)
-    requires able { CanStep fields.old actor.0 }
-    requires flops { IsAmount flops }
-    requires priority { IsPriority priority }
-    ensures known { CallsBy (computes (setup_in fields.old) actor.0 flops priority)
+    requires { CanMake fields.old actor.0 (Call.Compute flops priority) }
+    ensures { Answers (computes (setup_in fields.old) actor.0 flops priority)
         fields.old fields.new }
-    ensures whole { IsWhole fields.new }
 {
     let host = home_of(fields, actor);
     if fields.doing.is_host_off(host) {
@@ -95,10 +86,8 @@ pub(crate) fn compute(fields: &mut Fields, actor: ActorId, flops: u64, priority:
 
 /// The actor sleeps.
 pub(crate) fn sleep(fields: &mut Fields, actor: ActorId, ns: u64)
-    requires able { CanStep fields.old actor.0 }
-    requires ns { IsTime ns }
-    ensures known { CountsBy (with_sleep actor.0 ns) fields.old fields.new }
-    ensures whole { IsWhole fields.new }
+    requires { CanMake fields.old actor.0 (Call.Sleep ns) }
+    ensures { Counts (with_sleep actor.0 ns) fields.old fields.new }
 {
     let date = fields.doing.date();
     let serial = fields.doing.start_timer(ns);

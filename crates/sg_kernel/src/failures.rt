@@ -1,12 +1,11 @@
 //! Failures of what uses a host or a link that is off.
 
-ghost use Rattle.std.specs.Prelude.{◌≡◌, ◌≢◌, ◌+◌, ◌≤◌, [], drop};
+ghost use Rattle.std.specs.Prelude.{◌≡◌, ◌≢◌, ◌≤◌, [], drop};
 ghost use Rattle.sg_activity.specs.Doing.{IsHit};
 ghost use Rattle.sg_activity.specs.Underway.{hits};
-ghost use Rattle.sg_kernel.specs.Steps.{result_of};
 ghost use Rattle.sg_kernel.specs.Passes.{all_fail, fails_one};
-ghost use Rattle.sg_kernel.specs.kept.Coming.{LeavesDue};
-ghost use Rattle.sg_kernel.specs.kept.Sound.{core_of, setup_in, StepsBy};
+ghost use Rattle.sg_kernel.specs.kept.Acts.{Changes, Enters};
+ghost use Rattle.sg_kernel.specs.kept.Sound.{setup_in};
 ghost use Rattle.sg_kernel.specs.kept.Whole.{IsPassing};
 
 use crate::answers::answer_owners;
@@ -20,12 +19,9 @@ fn fail(fields: &mut Fields, serial: Serial)
     requires hit { IsHit fields.old.doing serial.0 }
     requires passing { IsPassing fields.old }
     requires budget { fields.old.events ≢ fields.old.budget }
-    ensures known { StepsBy (fails_one serial.0) fields.old fields.new }
-    ensures passing { IsPassing fields.new }
+    ensures enters { Enters (fails_one serial.0) fields.old fields.new }
     ensures hits { hits fields.new.doing.under ≡ drop 1 (hits fields.old.doing.under) }
-    ensures due { LeavesDue fields.old fields.new }
     ensures profiles { fields.new.profiles ≡ fields.old.profiles }
-    ensures events { fields.new.events ≡ fields.old.events + 1 }
 {
     let whose = fields.whose.fail(serial);
     fields.doing.give_up(serial);
@@ -35,11 +31,8 @@ fn fail(fields: &mut Fields, serial: Serial)
 
 /// All that use something that is off fail, by rising serial, as far as the budget goes.
 pub(crate) fn fail_all(fields: &mut Fields) -> Result<(), Stop>
-    requires passing { IsPassing fields.old }
-    ensures known { StepsBy (all_fail (setup_in fields.old)) fields.old fields.new }
-    ensures result { result ≡ result_of (all_fail (setup_in fields.old) (core_of fields.old)).stop }
-    ensures passing { IsPassing fields.new }
-    ensures due { LeavesDue fields.old fields.new }
+    requires { IsPassing fields.old }
+    ensures changes { Changes (all_fail (setup_in fields.old)) fields.old fields.new result }
     ensures profiles { fields.new.profiles ≡ fields.old.profiles }
     ensures events { fields.old.events ≤ fields.new.events }
 {

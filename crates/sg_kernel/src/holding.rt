@@ -7,9 +7,10 @@ ghost use Rattle.sg_states.specs.States.{with_suspended, CanCall, IsAlive};
 ghost use Rattle.sg_kernel.specs.World.{extent, is_suspended, IsActor};
 ghost use Rattle.sg_kernel.specs.Steps.{at_once};
 ghost use Rattle.sg_kernel.specs.Suspensions.{held_by, held_if, held_to, resumes, suspended_to, suspends};
-ghost use Rattle.sg_kernel.specs.kept.Sound.{core_of, known_of, setup_in, AwaitsMade, CallsBy};
+ghost use Rattle.sg_kernel.specs.kept.Acts.{Answers, CanName};
+ghost use Rattle.sg_kernel.specs.kept.Sound.{core_of, known_of, setup_in, AwaitsMade};
 ghost use Rattle.sg_kernel.specs.kept.Waking.{LeavesCallers};
-ghost use Rattle.sg_kernel.specs.kept.Whole.{CanStep, IsWhole, IsWholeFor};
+ghost use Rattle.sg_kernel.specs.kept.Whole.{IsWhole, IsWholeFor};
 
 use crate::fields::Fields;
 use sg_activity::Activities;
@@ -100,8 +101,7 @@ fn answer_done(fields: &mut Fields, actor: ActorId, what: Call)
     requires budget { fields.old.events ≢ fields.old.budget }
     requires what { IsTellable (extent (setup_in fields.old)) what }
     requires whole { IsWholeFor (fields.old.states.room - 1) fields.old }
-    ensures known { CallsBy (at_once actor.0 what 0 answer.Done) fields.old fields.new }
-    ensures whole { IsWhole fields.new }
+    ensures { Answers (at_once actor.0 what 0 answer.Done) fields.old fields.new }
 {
     let date = fields.doing.date();
     fields.states.answer(actor, what, 0, Answer::Done, date);
@@ -110,10 +110,8 @@ fn answer_done(fields: &mut Fields, actor: ActorId, what: Call)
 
 /// The named actor takes no turns, and computes nothing, until it is resumed.
 pub(crate) fn suspend(fields: &mut Fields, actor: ActorId, target: ActorId)
-    requires able { CanStep fields.old actor.0 }
-    requires target { IsActor (core_of fields.old) target.0 }
-    ensures known { CallsBy (suspends actor.0 target) fields.old fields.new }
-    ensures whole { IsWhole fields.new }
+    requires { CanName fields.old actor.0 target.0 }
+    ensures { Answers (suspends actor.0 target) fields.old fields.new }
 {
     set(fields, target, true);
     answer_done(fields, actor, Call::Suspend(target));
@@ -121,10 +119,8 @@ pub(crate) fn suspend(fields: &mut Fields, actor: ActorId, target: ActorId)
 
 /// The named actor takes turns again, and what it computes goes on.
 pub(crate) fn resume(fields: &mut Fields, actor: ActorId, target: ActorId)
-    requires able { CanStep fields.old actor.0 }
-    requires target { IsActor (core_of fields.old) target.0 }
-    ensures known { CallsBy (resumes actor.0 target) fields.old fields.new }
-    ensures whole { IsWhole fields.new }
+    requires { CanName fields.old actor.0 target.0 }
+    ensures { Answers (resumes actor.0 target) fields.old fields.new }
 {
     set(fields, target, false);
     answer_done(fields, actor, Call::Resume(target));

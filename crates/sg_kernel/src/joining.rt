@@ -1,11 +1,9 @@
 //! Actors end, and those that wait for that go on.
 ghost use Rattle.std.specs.Prelude.{◌≡◌, drop};
 ghost use Rattle.sg_states.specs.Actors.{is_ended, joiners, IsJoiner};
-ghost use Rattle.sg_kernel.specs.World.{IsActor};
 ghost use Rattle.sg_kernel.specs.Lives.{exits, joins_one, leaves};
 ghost use Rattle.sg_kernel.specs.Locks.{joiners_wake, wakes};
-ghost use Rattle.sg_kernel.specs.kept.Sound.{core_of, CallsBy, CountsBy, StepsBy};
-ghost use Rattle.sg_kernel.specs.kept.Waking.{LeavesCallers};
+ghost use Rattle.sg_kernel.specs.kept.Acts.{Answers, CanName, Counts, Wakes};
 ghost use Rattle.sg_kernel.specs.kept.Whole.{CanStep, IsWhole};
 
 use crate::at_once::answer_now;
@@ -18,11 +16,9 @@ use sg_states::State;
 fn wake_joiner(fields: &mut Fields, target: ActorId, actor: ActorId)
     requires first { IsJoiner fields.old.states.actors target.0 actor }
     requires whole { IsWhole fields.old }
-    ensures known { StepsBy (wakes actor) fields.old fields.new }
+    ensures wakes { Wakes (wakes actor) fields.old fields.new }
     ensures rest { joiners target.0 1 fields.new.states.actors
         ≡ drop 1 (joiners target.0 1 fields.old.states.actors) }
-    ensures frees { LeavesCallers fields.old.states fields.new.states }
-    ensures whole { IsWhole fields.new }
 {
     if let Some(blocking) = fields.states.state(actor).blocking() {
         let date = fields.doing.date();
@@ -33,9 +29,7 @@ fn wake_joiner(fields: &mut Fields, target: ActorId, actor: ActorId)
 /// All that wait for an actor to end go on, by rising id.
 pub(crate) fn wake_joiners(fields: &mut Fields, target: ActorId)
     requires { IsWhole fields.old }
-    ensures known { StepsBy (joiners_wake target.0) fields.old fields.new }
-    ensures frees { LeavesCallers fields.old.states fields.new.states }
-    ensures whole { IsWhole fields.new }
+    ensures { Wakes (joiners_wake target.0) fields.old fields.new }
 {
     while let Some(actor) = fields.states.joiner(target) {
         wake_joiner(fields, target, actor);
@@ -44,9 +38,8 @@ pub(crate) fn wake_joiners(fields: &mut Fields, target: ActorId)
 
 // The actor has made its last call.
 fn leave(fields: &mut Fields, actor: ActorId)
-    requires able { CanStep fields.old actor.0 }
-    ensures known { CountsBy (leaves actor.0) fields.old fields.new }
-    ensures whole { IsWhole fields.new }
+    requires { CanStep fields.old actor.0 }
+    ensures { Counts (leaves actor.0) fields.old fields.new }
 {
     fields.states.exit(actor);
     fields.events += 1;
@@ -54,9 +47,8 @@ fn leave(fields: &mut Fields, actor: ActorId)
 
 /// The actor has made its last call, and those that wait for its end go on.
 pub(crate) fn exit(fields: &mut Fields, actor: ActorId)
-    requires able { CanStep fields.old actor.0 }
-    ensures known { CallsBy (exits actor.0) fields.old fields.new }
-    ensures whole { IsWhole fields.new }
+    requires { CanStep fields.old actor.0 }
+    ensures { Answers (exits actor.0) fields.old fields.new }
 {
     leave(fields, actor);
     wake_joiners(fields, actor);
@@ -73,10 +65,8 @@ fn has_ended(state: State) -> bool
 
 /// The actor waits until the named one has ended.
 pub(crate) fn join(fields: &mut Fields, actor: ActorId, target: ActorId)
-    requires able { CanStep fields.old actor.0 }
-    requires target { IsActor (core_of fields.old) target.0 }
-    ensures known { CallsBy (joins_one actor.0 target) fields.old fields.new }
-    ensures whole { IsWhole fields.new }
+    requires { CanName fields.old actor.0 target.0 }
+    ensures { Answers (joins_one actor.0 target) fields.old fields.new }
 {
     if has_ended(fields.states.state(target)) {
         answer_now(fields, actor, Call::Join(target), 0, Answer::Done)

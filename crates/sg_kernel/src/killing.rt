@@ -1,18 +1,19 @@
 //! Actors are killed.
 
-ghost use Rattle.std.specs.Prelude.{◌≡◌, ◌<◌, ◌≤◌, ◌^◌, IsTrue, false, length};
+ghost use Rattle.std.specs.Prelude.{◌≡◌, ◌<◌, ◌^◌, IsTrue, false, length};
 ghost use Rattle.sg_base.specs.declared.call.Call.TheVariants as call;
 ghost use Rattle.sg_kernel.specs.declared.owners.How.TheVariants as how;
 ghost use Rattle.sg_states.specs.Actors.{blocking_in, is_alive};
 ghost use Rattle.sg_states.specs.Records.{IsTellable};
 ghost use Rattle.sg_states.specs.States.{CanCall, IsAlive};
-ghost use Rattle.sg_kernel.specs.World.{state_of, whose_at, IsActor};
+ghost use Rattle.sg_kernel.specs.World.{state_of, whose_at};
 ghost use Rattle.sg_kernel.specs.Steps.{each};
 ghost use Rattle.sg_kernel.specs.Answers.{finishes};
 ghost use Rattle.sg_kernel.specs.Kills.{awaited, blocked_on, gives_up, kill_done, kills, withdrawn};
 ghost use Rattle.sg_kernel.specs.kept.Killing.{killed_by, AreSerials};
-ghost use Rattle.sg_kernel.specs.kept.Sound.{core_of, is_idle, is_posted, CallsBy, StepsBy};
-ghost use Rattle.sg_kernel.specs.kept.Whole.{CanStep, IsWhole};
+ghost use Rattle.sg_kernel.specs.kept.Acts.{Answers, CanGiveUp, CanName, GivesUp, Steps};
+ghost use Rattle.sg_kernel.specs.kept.Sound.{core_of, is_idle, is_posted};
+ghost use Rattle.sg_kernel.specs.kept.Whole.{IsWhole};
 
 use crate::answers::answer_owners;
 use crate::at_once::answer_now;
@@ -50,14 +51,12 @@ fn end(states: &mut States, actor: ActorId, target: ActorId, date: u128)
 
 // The target ends, waits nowhere any more and has no requests. Those and what it waited for are told by `awaited`.
 fn withdraw(fields: &mut Fields, actor: ActorId, target: ActorId)
-    requires able { CanStep fields.old actor.0 }
-    requires target { IsActor (core_of fields.old) target.0 }
+    requires named { CanName fields.old actor.0 target.0 }
     requires alive { IsTrue (is_alive (state_of (core_of fields.old) target.0)) }
-    ensures known { CallsBy (λ core. kill_done actor.0 target (withdrawn target core))
+    ensures answers { Answers (λ core. kill_done actor.0 target (withdrawn target core))
         fields.old fields.new }
     ensures awaited { fields.new.requests.awaited ≡ awaited target (core_of fields.old) }
     ensures made { AreSerials (length fields.new.whose.whose) fields.new.requests.awaited }
-    ensures whole { IsWhole fields.new }
 {
     let on = blocked_on(fields.states.state(target));
     let date = fields.doing.date();
@@ -69,14 +68,9 @@ fn withdraw(fields: &mut Fields, actor: ActorId, target: ActorId)
 
 // A communication of which one side is there fails: that one leaves its mailbox.
 fn fail_posted(fields: &mut Fields, serial: Serial)
-    requires from { 0 < serial.0 }
-    requires to { serial.0 ≤ length fields.old.whose.whose }
+    requires made { CanGiveUp fields.old serial.0 }
     requires posted { IsTrue (is_posted (whose_at (core_of fields.old) serial.0)) }
-    requires whole { IsWhole fields.old }
-    ensures known { StepsBy (finishes how.Failed serial.0) fields.old fields.new }
-    ensures requests { fields.new.requests ≡ fields.old.requests }
-    ensures many { length fields.new.whose.whose ≡ length fields.old.whose.whose }
-    ensures whole { IsWhole fields.new }
+    ensures { GivesUp (finishes how.Failed serial.0) fields.old fields.new }
 {
     fields.boxes.withdraw(serial);
     fields.whose.fail(serial);
@@ -84,14 +78,9 @@ fn fail_posted(fields: &mut Fields, serial: Serial)
 
 // What is under way fails, and whose it was is answered.
 fn fail_under_way(fields: &mut Fields, serial: Serial)
-    requires from { 0 < serial.0 }
-    requires to { serial.0 ≤ length fields.old.whose.whose }
+    requires made { CanGiveUp fields.old serial.0 }
     requires busy { is_idle (whose_at (core_of fields.old) serial.0) ≡ false }
-    requires whole { IsWhole fields.old }
-    ensures known { StepsBy (finishes how.Failed serial.0) fields.old fields.new }
-    ensures requests { fields.new.requests ≡ fields.old.requests }
-    ensures many { length fields.new.whose.whose ≡ length fields.old.whose.whose }
-    ensures whole { IsWhole fields.new }
+    ensures { GivesUp (finishes how.Failed serial.0) fields.old fields.new }
 {
     fields.doing.give_up(serial);
     let whose = fields.whose.fail(serial);
@@ -100,13 +89,8 @@ fn fail_under_way(fields: &mut Fields, serial: Serial)
 
 // The activity of this serial fails, unless it is over.
 fn give_up(fields: &mut Fields, serial: Serial)
-    requires from { 0 < serial.0 }
-    requires to { serial.0 ≤ length fields.old.whose.whose }
-    requires whole { IsWhole fields.old }
-    ensures known { StepsBy (gives_up serial.0) fields.old fields.new }
-    ensures requests { fields.new.requests ≡ fields.old.requests }
-    ensures many { length fields.new.whose.whose ≡ length fields.old.whose.whose }
-    ensures whole { IsWhole fields.new }
+    requires { CanGiveUp fields.old serial.0 }
+    ensures { GivesUp (gives_up serial.0) fields.old fields.new }
 {
     match fields.whose.of(serial) {
         Whose::Over(_) => {}
@@ -120,8 +104,7 @@ fn give_up(fields: &mut Fields, serial: Serial)
 fn give_up_all(fields: &mut Fields)
     requires made { AreSerials (length fields.old.whose.whose) fields.old.requests.awaited }
     requires whole { IsWhole fields.old }
-    ensures known { StepsBy (each gives_up fields.old.requests.awaited) fields.old fields.new }
-    ensures whole { IsWhole fields.new }
+    ensures { Steps (each gives_up fields.old.requests.awaited) fields.old fields.new }
 {
     for i in 0..fields.requests.awaited().len() {
         let serial = Serial(fields.requests.awaited()[i]);
@@ -131,10 +114,8 @@ fn give_up_all(fields: &mut Fields)
 
 /// The named actor ends, if it is alive: what it takes part in fails, and those that wait for its end go on.
 pub(crate) fn kill(fields: &mut Fields, actor: ActorId, target: ActorId)
-    requires able { CanStep fields.old actor.0 }
-    requires target { IsActor (core_of fields.old) target.0 }
-    ensures known { CallsBy (kills actor.0 target) fields.old fields.new }
-    ensures whole { IsWhole fields.new }
+    requires { CanName fields.old actor.0 target.0 }
+    ensures { Answers (kills actor.0 target) fields.old fields.new }
 {
     let alive = fields.states.state(target).is_alive();
     if alive {

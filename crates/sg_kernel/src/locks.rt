@@ -1,18 +1,16 @@
 //! Calls on mutexes, semaphores and the barrier.
 
-ghost use Rattle.std.specs.Prelude.{◌≡◌, ◌<◌, [], ◌∷◌, true, Contains, List, None, length};
+ghost use Rattle.std.specs.Prelude.{◌≡◌, [], ◌∷◌, true, Contains, List};
 ghost use Rattle.sg_base.specs.declared.ids.ActorId.{ActorId};
-ghost use Rattle.sg_states.specs.Actors.{joined_by};
-ghost use Rattle.sg_states.specs.Records.{IsTellable};
-ghost use Rattle.sg_states.specs.States.{CanCall};
 ghost use Rattle.sg_sync.specs.Laws.{comers};
 ghost use Rattle.sg_sync.specs.Objects.{locked, unlocked, acquired, released, arrived};
-ghost use Rattle.sg_kernel.specs.World.{IsActor, extent};
+ghost use Rattle.sg_kernel.specs.World.{IsActor};
 ghost use Rattle.sg_kernel.specs.Locks.{all_wake, caller_first, caller_gets, caller_last, gets_first, gets_last, wakes};
 ghost use Rattle.sg_kernel.specs.Known.{after_call};
-ghost use Rattle.sg_kernel.specs.kept.Sound.{core_of, known_of, setup_in, CallsBy, StepsBy};
+ghost use Rattle.sg_kernel.specs.kept.Acts.{Answers, CanMake, CanServe, Completes};
+ghost use Rattle.sg_kernel.specs.kept.Sound.{core_of, known_of, StepsBy};
 ghost use Rattle.sg_kernel.specs.kept.Waking.{AreWaking, LeavesCallers};
-ghost use Rattle.sg_kernel.specs.kept.Whole.{CanStep, IsSteady, IsWhole};
+ghost use Rattle.sg_kernel.specs.kept.Whole.{CanStep, IsSteady};
 
 use crate::fields::Fields;
 use sg_base::{ActorId, Answer, Call};
@@ -20,10 +18,7 @@ use sg_sync::Outcome;
 
 // What the one that made the call gets; that takes the room of the call.
 fn answer_caller(fields: &mut Fields, outcome: Outcome, actor: ActorId, what: Call)
-    requires able { CanCall fields.old.states actor.0 }
-    requires what { IsTellable (extent (setup_in fields.old)) what }
-    requires object { joined_by what ≡ None }
-    requires steady { IsSteady fields.old }
+    requires { CanServe fields.old actor.0 what }
     ensures known { known_of fields.new ≡ after_call true
         (caller_gets outcome actor.0 what (core_of fields.old)) (known_of fields.old) }
     ensures objects { fields.new.objects ≡ fields.old.objects }
@@ -75,15 +70,10 @@ fn wake_others(fields: &mut Fields)
 
 // The caller is answered before those that go on by its call.
 fn answer_first(fields: &mut Fields, outcome: Outcome, actor: ActorId, what: Call)
-    requires able { CanCall fields.old.states actor.0 }
-    requires what { IsTellable (extent (setup_in fields.old)) what }
-    requires object { joined_by what ≡ None }
-    requires steady { IsSteady fields.old }
+    requires serves { CanServe fields.old actor.0 what }
     requires waking { AreWaking fields.old (comers actor outcome) fields.old.objects.others }
-    ensures known { known_of fields.new ≡ after_call true
-        (gets_first outcome fields.old.objects.others actor.0 what (core_of fields.old))
-        (known_of fields.old) }
-    ensures whole { IsWhole fields.new }
+    ensures { Completes (gets_first outcome fields.old.objects.others actor.0 what)
+        fields.old fields.new }
 {
     answer_caller(fields, outcome, actor, what);
     wake_others(fields);
@@ -91,15 +81,10 @@ fn answer_first(fields: &mut Fields, outcome: Outcome, actor: ActorId, what: Cal
 
 // The caller is answered after them: so at the barrier.
 fn answer_last(fields: &mut Fields, outcome: Outcome, actor: ActorId, what: Call)
-    requires able { CanCall fields.old.states actor.0 }
-    requires what { IsTellable (extent (setup_in fields.old)) what }
-    requires object { joined_by what ≡ None }
-    requires steady { IsSteady fields.old }
+    requires serves { CanServe fields.old actor.0 what }
     requires waking { AreWaking fields.old (comers actor outcome) fields.old.objects.others }
-    ensures known { known_of fields.new ≡ after_call true
-        (gets_last outcome fields.old.objects.others actor.0 what (core_of fields.old))
-        (known_of fields.old) }
-    ensures whole { IsWhole fields.new }
+    ensures { Completes (gets_last outcome fields.old.objects.others actor.0 what)
+        fields.old fields.new }
 {
     wake_others(fields);
     answer_caller(fields, outcome, actor, what);
@@ -107,12 +92,10 @@ fn answer_last(fields: &mut Fields, outcome: Outcome, actor: ActorId, what: Call
 
 /// The actor locks a mutex.
 pub(crate) fn lock(fields: &mut Fields, actor: ActorId, mutex: u32)
-    requires able { CanStep fields.old actor.0 }
-    requires mutex { mutex < fields.old.mutexes }
-    ensures known { CallsBy
+    requires { CanMake fields.old actor.0 (Call.Lock mutex) }
+    ensures { Answers
         (caller_first (locked actor mutex fields.old.objects) actor.0 (Call.Lock mutex))
         fields.old fields.new }
-    ensures whole { IsWhole fields.new }
 {
     fields.events += 1;
     let outcome = fields.objects.lock(actor, mutex);
@@ -121,12 +104,10 @@ pub(crate) fn lock(fields: &mut Fields, actor: ActorId, mutex: u32)
 
 /// The actor gives a mutex up.
 pub(crate) fn unlock(fields: &mut Fields, actor: ActorId, mutex: u32)
-    requires able { CanStep fields.old actor.0 }
-    requires mutex { mutex < fields.old.mutexes }
-    ensures known { CallsBy
+    requires { CanMake fields.old actor.0 (Call.Unlock mutex) }
+    ensures { Answers
         (caller_first (unlocked actor mutex fields.old.objects) actor.0 (Call.Unlock mutex))
         fields.old fields.new }
-    ensures whole { IsWhole fields.new }
 {
     fields.events += 1;
     let outcome = fields.objects.unlock(actor, mutex);
@@ -135,13 +116,11 @@ pub(crate) fn unlock(fields: &mut Fields, actor: ActorId, mutex: u32)
 
 /// The actor acquires a semaphore.
 pub(crate) fn acquire(fields: &mut Fields, actor: ActorId, semaphore: u32)
-    requires able { CanStep fields.old actor.0 }
-    requires semaphore { semaphore < length fields.old.semaphores.items }
-    ensures known { CallsBy
+    requires { CanMake fields.old actor.0 (Call.Acquire semaphore) }
+    ensures { Answers
         (caller_first (acquired actor semaphore fields.old.objects)
         actor.0 (Call.Acquire semaphore))
         fields.old fields.new }
-    ensures whole { IsWhole fields.new }
 {
     fields.events += 1;
     let outcome = fields.objects.acquire(actor, semaphore);
@@ -150,13 +129,11 @@ pub(crate) fn acquire(fields: &mut Fields, actor: ActorId, semaphore: u32)
 
 /// The actor releases a semaphore.
 pub(crate) fn release(fields: &mut Fields, actor: ActorId, semaphore: u32)
-    requires able { CanStep fields.old actor.0 }
-    requires semaphore { semaphore < length fields.old.semaphores.items }
-    ensures known { CallsBy
+    requires { CanMake fields.old actor.0 (Call.Release semaphore) }
+    ensures { Answers
         (caller_first (released semaphore fields.old.objects)
         actor.0 (Call.Release semaphore))
         fields.old fields.new }
-    ensures whole { IsWhole fields.new }
 {
     fields.events += 1;
     let outcome = fields.objects.release(semaphore);
@@ -165,11 +142,10 @@ pub(crate) fn release(fields: &mut Fields, actor: ActorId, semaphore: u32)
 
 /// The actor arrives at the barrier.
 pub(crate) fn arrive(fields: &mut Fields, actor: ActorId)
-    requires able { CanStep fields.old actor.0 }
-    ensures known { CallsBy
+    requires { CanStep fields.old actor.0 }
+    ensures { Answers
         (caller_last (arrived actor fields.old.objects) actor.0 Call.Barrier)
         fields.old fields.new }
-    ensures whole { IsWhole fields.new }
 {
     fields.events += 1;
     let outcome = fields.objects.arrive(actor);

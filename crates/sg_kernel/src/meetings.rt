@@ -1,20 +1,19 @@
 //! Sides of communications come to mailboxes, and actors wait for their requests.
 
-ghost use Rattle.std.specs.Prelude.{◌≡◌, ◌≢◌, ◌-◌, ◌<◌, ◌≤◌, ◌^◌, AllPairs, IfSome, None, Some, false, is_ok, length, true};
+ghost use Rattle.std.specs.Prelude.{◌≡◌, ◌≢◌, ◌<◌, ◌^◌, AllPairs, IfSome, None, false, length};
 ghost use Rattle.sg_activity.specs.Task.{is_cut};
 ghost use Rattle.sg_base.specs.declared.ids.BoxId.{BoxId};
 ghost use Rattle.sg_base.specs.Limits.{IsActorIn};
 ghost use Rattle.sg_mailbox.specs.Posts.{meets, waiting, IsFound};
 ghost use Rattle.sg_states.specs.Records.{IsTellable};
-ghost use Rattle.sg_states.specs.States.{CanCall};
 ghost use Rattle.sg_kernel.specs.World.{extent};
-ghost use Rattle.sg_kernel.specs.Steps.{blocked_by, result_of};
+ghost use Rattle.sg_kernel.specs.Steps.{blocked_by};
 ghost use Rattle.sg_kernel.specs.Answers.{bare_side, side_of};
 ghost use Rattle.sg_kernel.specs.Meetings.{answer_of_over as answer_of_over_spec, comer_fails, comer_of, fails_with, joins_on, joins_with, other_fails, party_of, point_of, posts, receiver_of, receives_by, sender_of, sends_by, stop_of, takes_part, waits as waits_spec, way_with};
-ghost use Rattle.sg_kernel.specs.Known.{after_call};
 ghost use Rattle.sg_kernel.specs.Roads.{AreOver, IsOver};
-ghost use Rattle.sg_kernel.specs.kept.Sound.{core_of, known_of, setup_in, comes_in, CallsBy, CountsBy, IsComer, IsMade, IsSide, IsSound, StepsBy};
-ghost use Rattle.sg_kernel.specs.kept.Whole.{CanStep, IsWhole, IsWholeFor, KeepsWhole};
+ghost use Rattle.sg_kernel.specs.kept.Acts.{Answers, CanCome, CanMeet, CanTakePart, Completes, Counts, Replies};
+ghost use Rattle.sg_kernel.specs.kept.Sound.{setup_in, comes_in, IsComer, IsMade, IsSide, IsSound, StepsBy};
+ghost use Rattle.sg_kernel.specs.kept.Whole.{CanStep, KeepsWhole};
 
 use crate::answers::{answer_side, for_receiver};
 use crate::at_once::answer_now;
@@ -113,15 +112,8 @@ fn party_of(sends: bool) -> Party
 
 // The actor of a call that is counted takes part in the communication of this serial; that takes the room of the call.
 fn take_part(fields: &mut Fields, comer: Comer, serial: Serial)
-    requires able { CanCall fields.old.states comer.side.actor.0 }
-    requires comer { IsComer (extent (setup_in fields.old)) comer }
-    requires made { (0 < serial.0) × (serial.0 ≤ length fields.old.whose.whose) }
-    requires room { fields.old.states.room ≤ fields.old.requests.room }
-    requires few { fields.old.requests.asked < fields.old.events }
-    requires whole { IsWholeFor (fields.old.states.room - 1) fields.old }
-    ensures known { known_of fields.new ≡ after_call true
-        (takes_part comer.waits comer serial.0 (core_of fields.old)) (known_of fields.old) }
-    ensures whole { IsWhole fields.new }
+    requires { CanTakePart fields.old comer serial.0 }
+    ensures { Completes (takes_part comer.waits comer serial.0) fields.old fields.new }
 {
     let actor = comer.side.actor;
     let on = Await {
@@ -141,12 +133,10 @@ fn take_part(fields: &mut Fields, comer: Comer, serial: Serial)
 
 // The side is posted, as a communication with the next serial.
 fn post(fields: &mut Fields, comer: Comer, found: Found)
-    requires able { CanStep fields.old comer.side.actor.0 }
-    requires comer { IsComer (extent (setup_in fields.old)) comer }
+    requires comes { CanCome fields.old comer }
     requires found { IsFound fields.old.boxes comer.mailbox comer.sends found }
     requires alone { meets comer.sends (waiting fields.old.boxes comer.mailbox) ≡ None }
-    ensures known { CallsBy (posts comer) fields.old fields.new }
-    ensures whole { IsWhole fields.new }
+    ensures { Answers (posts comer) fields.old fields.new }
 {
     fields.events += 1;
     let serial = fields.doing.take_serial();
@@ -207,21 +197,17 @@ fn begin(
     links: &[LinkId],
     latency: u128,
 )
-    requires able { CanStep fields.old comer.side.actor.0 }
-    requires comer { IsComer (extent (setup_in fields.old)) comer }
-    requires found { IsFound fields.old.boxes comer.mailbox comer.sends found }
-    requires met { found.met ≡ Some met }
+    requires meets { CanMeet fields.old comer found met }
     requires route { IsOver fields.old.links
         (record { links = links.now; latency = latency }) }
     requires apart { AllPairs (λ a b. a ≢ b) links.now }
     requires on { is_cut fields.old.doing.under.on
         (way_with (record { links = links.now; latency = latency }) (setup_in fields.old)
         comer met.1) ≡ false }
-    ensures known { CallsBy
+    ensures { Answers
         (joins_with (record { links = links.now; latency = latency }) (setup_in fields.old)
         comer met.0 met.1)
         fields.old fields.new }
-    ensures whole { IsWhole fields.new }
 {
     let (serial, other) = met;
     let sender = sender_of(comer, other);
@@ -249,16 +235,9 @@ fn begin(
 
 // The actor of a call that is counted takes part in a communication that fails; that takes the room of the call.
 fn fail_comer(fields: &mut Fields, comer: Comer, serial: Serial, other: Side)
-    requires able { CanCall fields.old.states comer.side.actor.0 }
-    requires comer { IsComer (extent (setup_in fields.old)) comer }
+    requires takes_part { CanTakePart fields.old comer serial.0 }
     requires other { IsSide (extent (setup_in fields.old)) other }
-    requires made { (0 < serial.0) × (serial.0 ≤ length fields.old.whose.whose) }
-    requires room { fields.old.states.room ≤ fields.old.requests.room }
-    requires few { fields.old.requests.asked < fields.old.events }
-    requires whole { IsWholeFor (fields.old.states.room - 1) fields.old }
-    ensures known { known_of fields.new ≡ after_call true
-        (comer_fails comer serial.0 other (core_of fields.old)) (known_of fields.old) }
-    ensures whole { IsWhole fields.new }
+    ensures { Completes (comer_fails comer serial.0 other) fields.old fields.new }
 {
     let date = fields.doing.date();
     if comer.waits {
@@ -290,12 +269,8 @@ fn fail_other(fields: &mut Fields, comer: Comer, serial: Serial, other: Side)
 
 // Both sides are there, but something that they would use is off: the communication fails in the call.
 fn fail_at_once(fields: &mut Fields, comer: Comer, found: Found, met: (Serial, Side))
-    requires able { CanStep fields.old comer.side.actor.0 }
-    requires comer { IsComer (extent (setup_in fields.old)) comer }
-    requires found { IsFound fields.old.boxes comer.mailbox comer.sends found }
-    requires met { found.met ≡ Some met }
-    ensures known { CallsBy (fails_with comer met.0 met.1) fields.old fields.new }
-    ensures whole { IsWhole fields.new }
+    requires { CanMeet fields.old comer found met }
+    ensures { Answers (fails_with comer met.0 met.1) fields.old fields.new }
 {
     let (serial, other) = met;
     fields.events += 1;
@@ -322,18 +297,14 @@ fn meet(
     links: &[LinkId],
     latency: u128,
 )
-    requires able { CanStep fields.old comer.side.actor.0 }
-    requires comer { IsComer (extent (setup_in fields.old)) comer }
-    requires found { IsFound fields.old.boxes comer.mailbox comer.sends found }
-    requires met { found.met ≡ Some met }
+    requires meets { CanMeet fields.old comer found met }
     requires route { IsOver fields.old.links
         (record { links = links.now; latency = latency }) }
     requires apart { AllPairs (λ a b. a ≢ b) links.now }
-    ensures known { CallsBy
+    ensures { Answers
         (joins_on (record { links = links.now; latency = latency }) (setup_in fields.old)
         comer met.0 met.1)
         fields.old fields.new }
-    ensures whole { IsWhole fields.new }
 {
     let (_, other) = met;
     let sender = point_of(fields, sender_of(comer, other));
@@ -355,15 +326,10 @@ fn join(
     found: Found,
     met: (Serial, Side),
 ) -> Result<(), Stop>
-    requires able { CanStep fields.old comer.side.actor.0 }
-    requires comer { IsComer (extent (setup_in fields.old)) comer }
-    requires found { IsFound fields.old.boxes comer.mailbox comer.sends found }
-    requires met { found.met ≡ Some met }
+    requires meets { CanMeet fields.old comer found met }
     requires roads { AreOver fields.old.links router.old }
-    ensures known { known_of fields.new ≡ after_call (is_ok result)
-        (comes_in router.old comer fields.old) (known_of fields.old) }
-    ensures result { result ≡ result_of (comes_in router.old comer fields.old).stop }
-    ensures whole { IsWhole fields.new }
+    ensures replies { Replies (comes_in router.old comer fields.old)
+        fields.old fields.new result }
     ensures router { router.new ≡ router.old }
 {
     let (_, other) = met;
@@ -385,13 +351,10 @@ pub(crate) fn come(
     links: &mut ArrayVec<LinkId, 64>,
     comer: Comer,
 ) -> Result<(), Stop>
-    requires able { CanStep fields.old comer.side.actor.0 }
-    requires comer { IsComer (extent (setup_in fields.old)) comer }
+    requires comes { CanCome fields.old comer }
     requires roads { AreOver fields.old.links router.old }
-    ensures known { known_of fields.new ≡ after_call (is_ok result)
-        (comes_in router.old comer fields.old) (known_of fields.old) }
-    ensures result { result ≡ result_of (comes_in router.old comer fields.old).stop }
-    ensures whole { IsWhole fields.new }
+    ensures replies { Replies (comes_in router.old comer fields.old)
+        fields.old fields.new result }
     ensures router { router.new ≡ router.old }
 {
     let found = fields.boxes.look(comer.mailbox, comer.sends);
@@ -410,8 +373,7 @@ pub(crate) fn block(fields: &mut Fields, actor: ActorId, what: Call, on: Option<
     requires able { CanStep fields.old actor.0 }
     requires what { IsTellable (extent (setup_in fields.old)) what }
     requires made { IfSome on (IsMade (length fields.old.whose.whose)) }
-    ensures known { CountsBy (blocked_by actor.0 what on) fields.old fields.new }
-    ensures whole { IsWhole fields.new }
+    ensures { Counts (blocked_by actor.0 what on) fields.old fields.new }
 {
     let date = fields.doing.date();
     fields.states.block(actor, what, date, on);
@@ -431,9 +393,8 @@ fn answer_of_over(whose: Whose) -> Option<Answer>
 
 /// The actor waits for its oldest request.
 pub(crate) fn wait(fields: &mut Fields, actor: ActorId)
-    requires able { CanStep fields.old actor.0 }
-    ensures known { CallsBy (waits_spec actor.0) fields.old fields.new }
-    ensures whole { IsWhole fields.new }
+    requires { CanStep fields.old actor.0 }
+    ensures { Answers (waits_spec actor.0) fields.old fields.new }
 {
     match fields.requests.take(actor) {
         None => answer_now(fields, actor, Call::Wait, 0, Answer::Refused),

@@ -1,13 +1,13 @@
 //! Passes, and ends of phases.
 
-ghost use Rattle.std.specs.Prelude.{◌≡◌, ◌≢◌, ◌+◌, ◌<◌, ◌⊎◌, [], IsTrue, MatchOption, None, Some, drop, false, if◌then◌else◌};
+ghost use Rattle.std.specs.Prelude.{◌≡◌, ◌≢◌, ◌<◌, ◌⊎◌, [], IsTrue, MatchOption, None, Some, false, if◌then◌else◌};
 ghost use Rattle.sg_activity.specs.declared.kinds.PhaseKind.TheVariants as phase_kind;
-ghost use Rattle.sg_activity.specs.Doing.{IsDue};
 ghost use Rattle.sg_activity.specs.Underway.{is_running};
 ghost use Rattle.std.specs.List.{list_any};
 ghost use Rattle.sg_states.specs.Actors.{is_ready};
 ghost use Rattle.sg_kernel.specs.Steps.{all_of, each, result_of};
 ghost use Rattle.sg_kernel.specs.Passes.{ends, ends_one, next_span, settled_pass};
+ghost use Rattle.sg_kernel.specs.kept.Acts.{CanEnd, Ends, Passes};
 ghost use Rattle.sg_kernel.specs.kept.Coming.{coming, CountsSome, IsNextDate};
 ghost use Rattle.sg_kernel.specs.kept.Sound.{core_of, rows_now, setup_in, StepsBy};
 ghost use Rattle.sg_kernel.specs.kept.Whole.{IsPassing, IsWhole};
@@ -32,15 +32,9 @@ fn none_next(doing: &Activities) -> Stop
 
 // A latency that is due has passed, and its flow begins.
 fn begin_flow(fields: &mut Fields, phase: Phase)
-    requires due { IsDue fields.old.doing phase }
+    requires ends { CanEnd fields.old phase }
     requires latency { phase.kind ≡ phase_kind.Latency }
-    requires passing { IsPassing fields.old }
-    requires budget { fields.old.events ≢ fields.old.budget }
-    ensures known { StepsBy (ends_one phase.serial.0) fields.old fields.new }
-    ensures passing { IsPassing fields.new }
-    ensures due { fields.new.doing.due ≡ drop 1 fields.old.doing.due }
-    ensures date { fields.new.doing.under.date ≡ fields.old.doing.under.date }
-    ensures events { fields.new.events ≡ fields.old.events + 1 }
+    ensures { Ends (ends_one phase.serial.0) fields.old fields.new }
 {
     fields.doing.finish();
     fields.events += 1;
@@ -48,15 +42,9 @@ fn begin_flow(fields: &mut Fields, phase: Phase)
 
 // The last phase of an activity that is due ends: it is done, and whose it was is answered.
 fn end_activity(fields: &mut Fields, phase: Phase)
-    requires due { IsDue fields.old.doing phase }
+    requires ends { CanEnd fields.old phase }
     requires last { phase.kind ≢ phase_kind.Latency }
-    requires passing { IsPassing fields.old }
-    requires budget { fields.old.events ≢ fields.old.budget }
-    ensures known { StepsBy (ends_one phase.serial.0) fields.old fields.new }
-    ensures passing { IsPassing fields.new }
-    ensures due { fields.new.doing.due ≡ drop 1 fields.old.doing.due }
-    ensures date { fields.new.doing.under.date ≡ fields.old.doing.under.date }
-    ensures events { fields.new.events ≡ fields.old.events + 1 }
+    ensures { Ends (ends_one phase.serial.0) fields.old fields.new }
 {
     let whose = fields.whose.take(phase.serial);
     fields.doing.finish();
@@ -66,14 +54,8 @@ fn end_activity(fields: &mut Fields, phase: Phase)
 
 // Ends the first phase that is due.
 fn end_phase(fields: &mut Fields, phase: Phase)
-    requires due { IsDue fields.old.doing phase }
-    requires passing { IsPassing fields.old }
-    requires budget { fields.old.events ≢ fields.old.budget }
-    ensures known { StepsBy (ends_one phase.serial.0) fields.old fields.new }
-    ensures passing { IsPassing fields.new }
-    ensures due { fields.new.doing.due ≡ drop 1 fields.old.doing.due }
-    ensures date { fields.new.doing.under.date ≡ fields.old.doing.under.date }
-    ensures events { fields.new.events ≡ fields.old.events + 1 }
+    requires { CanEnd fields.old phase }
+    ensures { Ends (ends_one phase.serial.0) fields.old fields.new }
 {
     match phase.kind {
         PhaseKind::Latency => begin_flow(fields, phase),
@@ -84,13 +66,8 @@ fn end_phase(fields: &mut Fields, phase: Phase)
 // Ends the phases that are due, as far as the budget goes.
 fn end_due(fields: &mut Fields) -> Result<(), Stop>
     requires { IsPassing fields.old }
-    ensures known { StepsBy (each (ends (setup_in fields.old)) fields.old.doing.due)
-        fields.old fields.new }
-    ensures result { result
-        ≡ result_of (each (ends (setup_in fields.old)) fields.old.doing.due
-        (core_of fields.old)).stop }
-    ensures passing { IsPassing fields.new }
-    ensures date { fields.new.doing.under.date ≡ fields.old.doing.under.date }
+    ensures passes { Passes (each (ends (setup_in fields.old)) fields.old.doing.due)
+        fields.old fields.new result }
     ensures events { CountsSome fields.old.doing.due fields.old fields.new }
 {
     while let Some(phase) = fields.doing.due() {
@@ -107,10 +84,7 @@ fn come(fields: &mut Fields) -> Result<(), Stop>
     requires passing { IsPassing fields.old }
     requires some { (rows_now fields.old ≢ []) ⊎ (fields.old.doing.due ≢ []) }
     requires budget { fields.old.events ≢ fields.old.budget }
-    ensures known { StepsBy (all_of (coming fields.old)) fields.old fields.new }
-    ensures result { result ≡ result_of (all_of (coming fields.old) (core_of fields.old)).stop }
-    ensures passing { IsPassing fields.new }
-    ensures date { fields.new.doing.under.date ≡ fields.old.doing.under.date }
+    ensures passes { Passes (all_of (coming fields.old)) fields.old fields.new result }
     ensures events { fields.old.events < fields.new.events }
 {
     match change_due(fields) {

@@ -1,4 +1,4 @@
-use Rattle.std.proofs.Common.{ap, arith}
+use Rattle.std.proofs.Common.{ap, arith, rules}
 use Rattle.sg_states.specs.declared.state.State.TheVariants.{Ready}
 use Rattle.sg_states.specs.States.{ActorStates}
 use Rattle.sg_kernel.proofs.Limits.{date_below, states_answer, states_tell}
@@ -16,9 +16,12 @@ answer-requires-clause-date c =
     let old = c.args.fields.now in
     omega (arith, c.date-date.ensures, date_below old c.requires.able.whole.sound c.requires.able.whole.dated)
 
-pub returns-clause-whole : goal.returns-clause-whole
-returns-clause-whole c =
-    let old = c.args.fields.now in
-    let new = c.answer.new.self in
-    let moves = moves_answered old.states new c.args.actor.0 c.args.what c.date-date.result c.args.bytes c.args.answer c.date-date.result c.answer.ensures in
-    whole_called old new c.args.actor (Ready c.args.answer) c.requires.able tt moves (omega (arith, ap (λ (s : ActorStates). s.room) c.answer.ensures))
+pub returns : goal.returns
+returns c = record {
+  known = search rules;
+  whole =
+      let old = c.args.fields.now in
+      let new = c.answer.new.self in
+      let moves = moves_answered old.states new c.args.actor.0 c.args.what c.date-date.result c.args.bytes c.args.answer c.date-date.result c.answer.ensures in
+      whole_called old new c.args.actor (Ready c.args.answer) c.requires.able tt moves (omega (arith, ap (λ (s : ActorStates). s.room) c.answer.ensures));
+}

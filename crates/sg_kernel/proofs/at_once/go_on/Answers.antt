@@ -1,4 +1,4 @@
-use Rattle.std.proofs.Common.{ap, arith}
+use Rattle.std.proofs.Common.{ap, arith, rules}
 use Rattle.sg_states.specs.declared.state.State.TheVariants.{Ready}
 use Rattle.sg_states.specs.States.{ActorStates}
 use Rattle.sg_kernel.proofs.Limits.{states_answer}
@@ -8,9 +8,12 @@ use Rattle.sg_kernel.proofs.at_once.go_on.Goals as goal
 pub go_on-requires-clause-answer : goal.go_on-requires-clause-answer
 go_on-requires-clause-answer c = states_answer c.args.fields.now c.args.answer c.requires.able.whole.sound c.requires.answer
 
-pub returns-clause-whole : goal.returns-clause-whole
-returns-clause-whole c =
-    let old = c.args.fields.now in
-    let new = c.go_on.new.self in
-    whole_called old new c.args.actor (Ready c.args.answer) c.requires.able tt (moves_called old.states new c.args.actor.0 (Ready c.args.answer) c.go_on.ensures)
-    (omega (arith, ap (λ (s : ActorStates). s.room) c.go_on.ensures))
+pub returns : goal.returns
+returns c = record {
+  known = search rules;
+  whole =
+      let old = c.args.fields.now in
+      let new = c.go_on.new.self in
+      whole_called old new c.args.actor (Ready c.args.answer) c.requires.able tt (moves_called old.states new c.args.actor.0 (Ready c.args.answer) c.go_on.ensures)
+      (omega (arith, ap (λ (s : ActorStates). s.room) c.go_on.ensures));
+}

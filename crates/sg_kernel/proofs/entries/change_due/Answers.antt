@@ -1,4 +1,4 @@
-use Rattle.std.proofs.Common.{◌≡◌, ◌≢◌, None, [], drop, inl, refl, sym, ap, ◌∙◌}
+use Rattle.std.proofs.Common.{◌≡◌, ◌≢◌, None, [], drop, inl, refl, sym, ap, ◌∙◌, rules}
 use Rattle.sg_kernel.specs.Known.{Known, after}
 use Rattle.sg_kernel.specs.Passes.{changes}
 use Rattle.sg_kernel.specs.Steps.{Step, result_of}
@@ -13,7 +13,7 @@ use Rattle.sg_kernel.proofs.entries.change_due.Goals as goal
 pub loop-entry-init : goal.loop-entry-init
 loop-entry-init c =
     let fields = c.args.fields.now in
-    record { passing = c.requires.passing; setup = refl; known = refl; stop = refl; due = leaves_same fields fields refl refl refl; idle = λ none. (none, refl); events = inl (refl, refl) }
+    record { passing = c.requires; setup = refl; known = refl; stop = refl; due = leaves_same fields fields refl refl refl; idle = λ none. (none, refl); events = inl (refl, refl) }
 
 pub loop-entry-preserved : goal.loop-entry-preserved
 loop-entry-preserved c =
@@ -25,15 +25,15 @@ loop-entry-preserved c =
     let made = c.change.ensures in
     let due = c.in-Some.ensures.next in
     let row = row_next old in
-    let known : known_of new ≡ after (changes setup row (core_of old)) (known_of old) = made.known ∙ ap (λ s. after (changes s row (core_of old)) (known_of old)) inv.setup in
-    let on : (changes setup row (core_of old)).stop ≡ None = on_ok _ (sym (c.in-Ok.ensures.result ∙ ap (λ s. result_of (changes s row (core_of old)).stop) inv.setup)) in
+    let known : known_of new ≡ after (changes setup row (core_of old)) (known_of old) = made.changes.known ∙ ap (λ s. after (changes s row (core_of old)) (known_of old)) inv.setup in
+    let on : (changes setup row (core_of old)).stop ≡ None = on_ok _ (sym (c.in-Ok.ensures.changes.result ∙ ap (λ s. result_of (changes s row (core_of old)).stop) inv.setup)) in
     let rest : rows_now new ≡ due.rest = c.in-Ok.ensures.rows ∙ ap (drop 1) due.first in
     let more = still_next (changes setup) row due.rest (known_of old) (known_of new) known on in
     let go : old.events ≢ old.budget = λ used. cc (sym (ap (λ (s : Step). s.stop) (change_used setup row (core_of old) (used ∙ ap (λ (s : Setup). s.budget) inv.setup))) ∙ on) in
     let some : rows_now old ≢ [] = λ none. cc (sym due.first ∙ none) in
     record {
-      passing = made.passing;
-      setup = ap (λ (k : Known). k.setup) made.known ∙ inv.setup;
+      passing = made.changes.passing;
+      setup = ap (λ (k : Known). k.setup) made.changes.known ∙ inv.setup;
       known =
           ap (λ d. still (changes setup) d (known_of new)) rest
           ∙ more.0
@@ -44,40 +44,42 @@ loop-entry-preserved c =
           ∙ more.1
           ∙ ap (λ d. still_stops (changes setup) d (known_of old)) (sym due.first)
           ∙ inv.stop;
-      due = leaves_both first old new inv.due made.due;
+      due = leaves_both first old new inv.due made.changes.due;
       idle = λ none. absurd (some (inv.idle none).0);
       events = counted_more first old new (rows_now first) (rows_now old) (rows_now new) inv.events (made.events.some go some);
     }
 
-pub returns-in-Err-clause-known : goal.returns-in-Err-clause-known
-returns-in-Err-clause-known c =
-    let setup = setup_in c.args.fields.now in
-    let old = c.loop-entry.fields in
-    let inv = c.loop-entry.invariant in
-    let made = c.change.ensures in
-    let due = c.in-Some.ensures.next in
-    let row = row_next old in
-    let known = made.known ∙ ap (λ s. after (changes s row (core_of old)) (known_of old)) inv.setup in
-    let why = on_err _ c.in-Err.stop (sym (c.in-Err.ensures.result ∙ ap (λ s. result_of (changes s row (core_of old)).stop) inv.setup)) in
-    (still_last (changes setup) row due.rest (known_of old) (known_of c.change.new.fields) c.in-Err.stop known why).0
-    ∙ ap (λ d. still (changes setup) d (known_of old)) (sym due.first)
-    ∙ inv.known
-
-pub returns-in-Err-clause-result : goal.returns-in-Err-clause-result
-returns-in-Err-clause-result c =
-    let setup = setup_in c.args.fields.now in
-    let old = c.loop-entry.fields in
-    let inv = c.loop-entry.invariant in
-    let made = c.change.ensures in
-    let due = c.in-Some.ensures.next in
-    let row = row_next old in
-    let known = made.known ∙ ap (λ s. after (changes s row (core_of old)) (known_of old)) inv.setup in
-    let why = on_err _ c.in-Err.stop (sym (c.in-Err.ensures.result ∙ ap (λ s. result_of (changes s row (core_of old)).stop) inv.setup)) in
-    ap result_of (
-    sym (still_last (changes setup) row due.rest (known_of old) (known_of c.change.new.fields) c.in-Err.stop known why).1
-    ∙ ap (λ d. still_stops (changes setup) d (known_of old)) (sym due.first)
-    ∙ inv.stop
-    )
+pub returns-in-Err-clause-changes : goal.returns-in-Err-clause-changes
+returns-in-Err-clause-changes c = record {
+  known =
+      let setup = setup_in c.args.fields.now in
+      let old = c.loop-entry.fields in
+      let inv = c.loop-entry.invariant in
+      let made = c.change.ensures in
+      let due = c.in-Some.ensures.next in
+      let row = row_next old in
+      let known = made.changes.known ∙ ap (λ s. after (changes s row (core_of old)) (known_of old)) inv.setup in
+      let why = on_err _ c.in-Err.stop (sym (c.in-Err.ensures.changes.result ∙ ap (λ s. result_of (changes s row (core_of old)).stop) inv.setup)) in
+      (still_last (changes setup) row due.rest (known_of old) (known_of c.change.new.fields) c.in-Err.stop known why).0
+      ∙ ap (λ d. still (changes setup) d (known_of old)) (sym due.first)
+      ∙ inv.known;
+  result =
+      let setup = setup_in c.args.fields.now in
+      let old = c.loop-entry.fields in
+      let inv = c.loop-entry.invariant in
+      let made = c.change.ensures in
+      let due = c.in-Some.ensures.next in
+      let row = row_next old in
+      let known = made.changes.known ∙ ap (λ s. after (changes s row (core_of old)) (known_of old)) inv.setup in
+      let why = on_err _ c.in-Err.stop (sym (c.in-Err.ensures.changes.result ∙ ap (λ s. result_of (changes s row (core_of old)).stop) inv.setup)) in
+      ap result_of (
+      sym (still_last (changes setup) row due.rest (known_of old) (known_of c.change.new.fields) c.in-Err.stop known why).1
+      ∙ ap (λ d. still_stops (changes setup) d (known_of old)) (sym due.first)
+      ∙ inv.stop
+      );
+  passing = search rules;
+  due = leaves_both c.args.fields.now c.loop-entry.fields c.change.new.fields c.loop-entry.invariant.due c.change.ensures.changes.due;
+}
 
 pub returns-in-Err-clause-events : goal.returns-in-Err-clause-events
 returns-in-Err-clause-events c =
@@ -86,32 +88,31 @@ returns-in-Err-clause-events c =
     let inv = c.loop-entry.invariant in
     counts_some first old c.change.new.fields (rows_now first) (rows_now old) inv.events (sym (ap (λ (s : Setup). s.budget) inv.setup)) c.change.ensures.events
 
-pub returns-clause-known : goal.returns-clause-known
-returns-clause-known c =
-    let setup = setup_in c.args.fields.now in
-    let now = c.loop-entry.fields in
-    sym (still_none (changes setup) (known_of now))
-    ∙ ap (λ d. still (changes setup) d (known_of now)) (sym c.in_default.ensures)
-    ∙ c.loop-entry.invariant.known
-
-pub returns-clause-result : goal.returns-clause-result
-returns-clause-result c =
-    let setup = setup_in c.args.fields.now in
-    let now = c.loop-entry.fields in
-    ap result_of (
-    sym (stops_none (changes setup) (known_of now))
-    ∙ ap (λ d. still_stops (changes setup) d (known_of now)) (sym c.in_default.ensures)
-    ∙ c.loop-entry.invariant.stop
-    )
+pub returns-clause-changes : goal.returns-clause-changes
+returns-clause-changes c = record {
+  known =
+      let setup = setup_in c.args.fields.now in
+      let now = c.loop-entry.fields in
+      sym (still_none (changes setup) (known_of now))
+      ∙ ap (λ d. still (changes setup) d (known_of now)) (sym c.in_default.ensures)
+      ∙ c.loop-entry.invariant.known;
+  result =
+      let setup = setup_in c.args.fields.now in
+      let now = c.loop-entry.fields in
+      ap result_of (
+      sym (stops_none (changes setup) (known_of now))
+      ∙ ap (λ d. still_stops (changes setup) d (known_of now)) (sym c.in_default.ensures)
+      ∙ c.loop-entry.invariant.stop
+      );
+  passing = search rules;
+  due = search rules;
+}
 
 pub returns-clause-events : goal.returns-clause-events
 returns-clause-events c =
     let first = c.args.fields.now in
     let now = c.loop-entry.fields in
     counts_all first now (rows_now first) (rows_now now) c.loop-entry.invariant.events c.in_default.ensures
-
-pub returns-in-Err-clause-due : goal.returns-in-Err-clause-due
-returns-in-Err-clause-due c = leaves_both c.args.fields.now c.loop-entry.fields c.change.new.fields c.loop-entry.invariant.due c.change.ensures.due
 
 pub returns-in-Err-clause-idle : goal.returns-in-Err-clause-idle
 returns-in-Err-clause-idle c = λ none. absurd (cc (sym c.in-Some.ensures.next.first ∙ (c.loop-entry.invariant.idle none).0))

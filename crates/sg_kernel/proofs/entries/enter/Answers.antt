@@ -1,4 +1,4 @@
-use Rattle.std.proofs.Common.{◌<◌, ◌^◌, length, sym, subst}
+use Rattle.std.proofs.Common.{◌<◌, ◌^◌, length, sym, subst, rules}
 use Rattle.std.specs.Option.{IsSomeAnd}
 use Rattle.sg_profile.specs.Profiles.{IsEntry}
 use Rattle.sg_kernel.proofs.Entering.{entered_known, entered_passing, entered_rows, set_keeps, with_entry}
@@ -14,20 +14,19 @@ apply-requires-clause-entry c =
 pub step-requires : goal.step-requires
 step-requires c = subst (λ o. IsSomeAnd o (λ date. date < 10 ^ 33)) (sym c.requires.due.next.date_is) c.requires.passing.small
 
-pub returns-clause-known : goal.returns-clause-known
-returns-clause-known c = entered_known c.args.fields.now c.apply.new.doing c.step.new.self c.args.entry c.requires.due c.apply.ensures c.step.ensures
-
-pub returns-clause-passing : goal.returns-clause-passing
-returns-clause-passing c = entered_passing c.args.fields.now c.apply.new.doing c.step.new.self c.args.entry c.requires.due c.apply.ensures c.step.ensures c.requires.budget c.requires.passing
+pub returns-clause-enters : goal.returns-clause-enters
+returns-clause-enters c = record {
+  known = entered_known c.args.fields.now c.apply.new.doing c.step.new.self c.args.entry c.requires.due c.apply.ensures c.step.ensures;
+  passing = entered_passing c.args.fields.now c.apply.new.doing c.step.new.self c.args.entry c.requires.due c.apply.ensures c.step.ensures c.requires.budget c.requires.passing;
+  due =
+      let fields = c.args.fields.now in
+      let keeps = set_keeps fields.network c.args.entry fields.doing c.apply.new.doing c.apply.ensures in
+      leaves_same fields (with_entry fields c.apply.new.doing c.step.new.self) keeps.date keeps.tasks c.apply.ensures.due;
+  events = search rules;
+}
 
 pub returns-clause-rows : goal.returns-clause-rows
 returns-clause-rows c =
     let fields = c.args.fields.now in
     let keeps = set_keeps fields.network c.args.entry fields.doing c.apply.new.doing c.apply.ensures in
     entered_rows fields c.apply.new.doing c.step.new.self c.args.entry c.requires.due keeps.date c.step.ensures c.requires.passing.timely
-
-pub returns-clause-due : goal.returns-clause-due
-returns-clause-due c =
-    let fields = c.args.fields.now in
-    let keeps = set_keeps fields.network c.args.entry fields.doing c.apply.new.doing c.apply.ensures in
-    leaves_same fields (with_entry fields c.apply.new.doing c.step.new.self) keeps.date keeps.tasks c.apply.ensures.due

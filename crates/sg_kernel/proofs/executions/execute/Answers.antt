@@ -1,4 +1,4 @@
-use Rattle.std.proofs.Common.{◌≡◌, ℕ, ◌-◌, Bool, length, ap, ap₂, ◌∙◌, arith}
+use Rattle.std.proofs.Common.{◌≡◌, ℕ, ◌-◌, Bool, length, ap, ap₂, ◌∙◌, arith, rules}
 use Rattle.std.proofs.lemmas.List.{length-set}
 use Rattle.sg_states.specs.declared.state.Actor.{Actor}
 use Rattle.sg_kernel.specs.Calls.{with_execution}
@@ -12,8 +12,8 @@ use Rattle.sg_kernel.proofs.executions.execute.Goals as goal
 
 pub hold_if-requires-clause-actor : goal.hold_if-requires-clause-actor
 hold_if-requires-clause-actor c =
-    let may = c.requires.able.call.caller in
-    let long = ap (λ (k : Known). length k.core.actors) c.start-serial.ensures.known in
+    let may = c.requires.computes.able.call.caller in
+    let long = ap (λ (k : Known). length k.core.actors) c.start-serial.ensures.counts.known in
     let actors = c.args.fields.now.states.actors in
     let many : length (core_of c.start-serial.new.fields).actors ≡ length actors = long ∙ length-set actors (c.args.actor.0 - 1) _ in
     record { from = may.from; to = omega (arith, may.to, many) }
@@ -21,14 +21,17 @@ hold_if-requires-clause-actor c =
 pub hold_if-requires-clause-from : goal.hold_if-requires-clause-from
 hold_if-requires-clause-from c = omega (arith, c.start-serial.ensures.serial)
 
-pub returns-clause-known : goal.returns-clause-known
-returns-clause-known c =
-    let old = c.args.fields.now in
-    let actor = c.args.actor.0 in
-    let may = c.requires.able.call.caller in
-    let core = with_execution (setup_in old) actor c.args.flops c.args.priority (counted (core_of old)) in
-    let begun : Known = record (known_of old) { core = core; room = old.states.room - 1 } in
-    let same : is_suspended core actor ≡ is_suspended (core_of old) actor = ap (λ (a : Actor). a.suspended) (actor_same old.states.actors actor _ (record { from = may.from; to = may.to })) in
-    c.hold_if.ensures.known
-    ∙ ap (λ (k : Known). record k { core = held_if (is_suspended k.core actor) c.start-serial.result.0 k.core }) c.start-serial.ensures.known
-    ∙ ap₂ (λ (b : Bool) (n : ℕ). record begun { core = held_if b n core }) same c.start-serial.ensures.serial
+pub returns : goal.returns
+returns c = record {
+  known =
+      let old = c.args.fields.now in
+      let actor = c.args.actor.0 in
+      let may = c.requires.computes.able.call.caller in
+      let core = with_execution (setup_in old) actor c.args.flops c.args.priority (counted (core_of old)) in
+      let begun : Known = record (known_of old) { core = core; room = old.states.room - 1 } in
+      let same : is_suspended core actor ≡ is_suspended (core_of old) actor = ap (λ (a : Actor). a.suspended) (actor_same old.states.actors actor _ (record { from = may.from; to = may.to })) in
+      c.hold_if.ensures.known
+      ∙ ap (λ (k : Known). record k { core = held_if (is_suspended k.core actor) c.start-serial.result.0 k.core }) c.start-serial.ensures.counts.known
+      ∙ ap₂ (λ (b : Bool) (n : ℕ). record begun { core = held_if b n core }) same c.start-serial.ensures.serial;
+  whole = search rules;
+}

@@ -1,5 +1,5 @@
 use Rattle.std.specs.Prelude.{is_some}
-use Rattle.std.proofs.Common.{◌+◌, ◌-◌, drop, get_or, set, sym, ap, ◌∙◌, arith}
+use Rattle.std.proofs.Common.{◌+◌, ◌-◌, drop, get_or, set, sym, ap, ◌∙◌, arith, rules}
 use Rattle.sg_activity.specs.Doing.{Doing}
 use Rattle.sg_activity.specs.Underway.{hits}
 use Rattle.sg_kernel.specs.declared.fields.Fields.{Fields}
@@ -36,22 +36,26 @@ answer_owners-requires-clause-small c =
     let old = c.args.fields.now in
     (failed_passing old c.args.serial.0 c.fail-whose.new.self c.give_up.new.self c.requires.hit c.fail-whose.ensures.is c.give_up.ensures c.requires.budget c.requires.passing).small
 
-pub returns-clause-passing : goal.returns-clause-passing
-returns-clause-passing c =
-    let old = c.args.fields.now in
-    c.answer_owners.ensures.keeps.passing (failed_passing old c.args.serial.0 c.fail-whose.new.self c.give_up.new.self c.requires.hit c.fail-whose.ensures.is c.give_up.ensures c.requires.budget c.requires.passing)
-
-pub returns-clause-known : goal.returns-clause-known
-returns-clause-known c =
-    let old = c.args.fields.now in
-    let serial = c.args.serial.0 in
-    let gone = c.give_up.ensures in
-    let mid : Owned → Doing → Fields = λ whose doing. record old { whose = whose; doing = doing; events = old.events + 1 } in
-    let failed : Owned = record old.whose { whose = set old.whose.whose (serial - 1) (Over how.Failed) } in
-    c.answer_owners.ensures.known
-    ∙ ap (λ w. after (answers how.Failed serial w (core_of (mid c.fail-whose.new.self c.give_up.new.self))) (known_of (mid c.fail-whose.new.self c.give_up.new.self))) c.fail-whose.ensures.was
-    ∙ ap (λ o. after (answers how.Failed serial (get_or old.whose.whose (serial - 1) (Over how.Done)) (core_of (mid o c.give_up.new.self))) (known_of (mid o c.give_up.new.self))) c.fail-whose.ensures.is
-    ∙ ap (λ d. after (answers how.Failed serial (get_or old.whose.whose (serial - 1) (Over how.Done)) (core_of (mid failed d))) (known_of (mid failed d))) gone
+pub returns-clause-enters : goal.returns-clause-enters
+returns-clause-enters c = record {
+  known =
+      let old = c.args.fields.now in
+      let serial = c.args.serial.0 in
+      let gone = c.give_up.ensures in
+      let mid : Owned → Doing → Fields = λ whose doing. record old { whose = whose; doing = doing; events = old.events + 1 } in
+      let failed : Owned = record old.whose { whose = set old.whose.whose (serial - 1) (Over how.Failed) } in
+      c.answer_owners.ensures.known
+      ∙ ap (λ w. after (answers how.Failed serial w (core_of (mid c.fail-whose.new.self c.give_up.new.self))) (known_of (mid c.fail-whose.new.self c.give_up.new.self))) c.fail-whose.ensures.was
+      ∙ ap (λ o. after (answers how.Failed serial (get_or old.whose.whose (serial - 1) (Over how.Done)) (core_of (mid o c.give_up.new.self))) (known_of (mid o c.give_up.new.self))) c.fail-whose.ensures.is
+      ∙ ap (λ d. after (answers how.Failed serial (get_or old.whose.whose (serial - 1) (Over how.Done)) (core_of (mid failed d))) (known_of (mid failed d))) gone;
+  passing =
+      let old = c.args.fields.now in
+      c.answer_owners.ensures.keeps.passing (failed_passing old c.args.serial.0 c.fail-whose.new.self c.give_up.new.self c.requires.hit c.fail-whose.ensures.is c.give_up.ensures c.requires.budget c.requires.passing);
+  due =
+      let old = c.args.fields.now in
+      leaves_given old c.answer_owners.new.fields c.args.serial.0 (ap (λ (f : Fields). f.doing) c.answer_owners.ensures.keeps.rest ∙ c.give_up.ensures);
+  events = search rules;
+}
 
 pub returns-clause-hits : goal.returns-clause-hits
 returns-clause-hits c =
@@ -61,8 +65,3 @@ returns-clause-hits c =
     ap (λ (d : Doing). hits d.under) (ap (λ (f : Fields). f.doing) c.answer_owners.ensures.keeps.rest ∙ gone)
     ∙ rest_is_hit old.doing.under c.args.serial.0 hit.rest hit.first
     ∙ sym (ap (drop 1) hit.first)
-
-pub returns-clause-due : goal.returns-clause-due
-returns-clause-due c =
-    let old = c.args.fields.now in
-    leaves_given old c.answer_owners.new.fields c.args.serial.0 (ap (λ (f : Fields). f.doing) c.answer_owners.ensures.keeps.rest ∙ c.give_up.ensures)

@@ -1,4 +1,4 @@
-use Rattle.std.proofs.Common.{◌≡◌, drop, refl, sym, ap, subst, ◌∙◌, arith, false}
+use Rattle.std.proofs.Common.{◌≡◌, drop, refl, sym, ap, subst, ◌∙◌, arith, false, rules}
 use Rattle.sg_base.specs.declared.call.Answer.TheVariants as answer
 use Rattle.sg_states.specs.declared.state.Actor.{Actor}
 use Rattle.sg_states.specs.declared.state.State.TheVariants.{Ready}
@@ -29,25 +29,26 @@ returns-in-Some-clause-rest c =
     ∙ joiners_rest c.args.target.0 old.actors c.args.actor first.rest next first.first refl
     ∙ sym (ap (drop 1) first.first)
 
-pub returns-in-Some-clause-whole : goal.returns-in-Some-clause-whole
-returns-in-Some-clause-whole c =
-    let old = c.args.fields.now in
-    let new = c.reply.new.self in
-    let first = c.requires.first in
-    let blocking = c.in-Some.blocking in
-    let moves = moves_replied old.states new c.args.actor.0 blocking.what blocking.since 0 answer.Done c.date-date.result c.reply.ensures in
-    let room = ap (λ (s : ActorStates). s.room) c.reply.ensures in
-    let isnt : is_queued (state_at old.states.actors c.args.actor.0) ≡ false = joiner_free c.args.target.0 (state_at old.states.actors c.args.actor.0) first.joins in
-    let is : IsActor old.states.actors c.args.actor.0 = record { from = first.from; to = first.to } in
-    let keeps = whole_answered old new c.args.actor (Ready answer.Done) is refl isnt tt moves room c.requires.whole.sound in
-    subst (λ n. IsWholeFor n (record old { states = new })) (sym room) (keeps.whole old.states.room c.requires.whole)
-
-pub returns-in-Some-clause-frees : goal.returns-in-Some-clause-frees
-returns-in-Some-clause-frees c =
-    let old = c.args.fields.now in
-    let new = c.reply.new.self in
-    let first = c.requires.first in
-    let blocking = c.in-Some.blocking in
-    let moves = moves_replied old.states new c.args.actor.0 blocking.what blocking.since 0 answer.Done c.date-date.result c.reply.ensures in
-    let room = ap (λ (s : ActorStates). s.room) c.reply.ensures in
-    callers_left old.states new c.args.actor.0 (Ready answer.Done) (record { from = first.from; to = first.to }) refl moves room
+pub returns-in-Some-clause-wakes : goal.returns-in-Some-clause-wakes
+returns-in-Some-clause-wakes c = record {
+  known = search rules;
+  frees =
+      let old = c.args.fields.now in
+      let new = c.reply.new.self in
+      let first = c.requires.first in
+      let blocking = c.in-Some.blocking in
+      let moves = moves_replied old.states new c.args.actor.0 blocking.what blocking.since 0 answer.Done c.date-date.result c.reply.ensures in
+      let room = ap (λ (s : ActorStates). s.room) c.reply.ensures in
+      callers_left old.states new c.args.actor.0 (Ready answer.Done) (record { from = first.from; to = first.to }) refl moves room;
+  whole =
+      let old = c.args.fields.now in
+      let new = c.reply.new.self in
+      let first = c.requires.first in
+      let blocking = c.in-Some.blocking in
+      let moves = moves_replied old.states new c.args.actor.0 blocking.what blocking.since 0 answer.Done c.date-date.result c.reply.ensures in
+      let room = ap (λ (s : ActorStates). s.room) c.reply.ensures in
+      let isnt : is_queued (state_at old.states.actors c.args.actor.0) ≡ false = joiner_free c.args.target.0 (state_at old.states.actors c.args.actor.0) first.joins in
+      let is : IsActor old.states.actors c.args.actor.0 = record { from = first.from; to = first.to } in
+      let keeps = whole_answered old new c.args.actor (Ready answer.Done) is refl isnt tt moves room c.requires.whole.sound in
+      subst (λ n. IsWholeFor n (record old { states = new })) (sym room) (keeps.whole old.states.room c.requires.whole);
+}

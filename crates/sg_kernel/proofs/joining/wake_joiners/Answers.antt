@@ -1,4 +1,4 @@
-use Rattle.std.proofs.Common.{◌≡◌, drop, length, refl, sym, ap, ◌∙◌, arith}
+use Rattle.std.proofs.Common.{◌≡◌, drop, length, refl, sym, ap, ◌∙◌, arith, rules}
 use Rattle.sg_states.specs.Actors.{joiners}
 use Rattle.sg_kernel.specs.Known.{Known}
 use Rattle.sg_kernel.specs.Locks.{wakes}
@@ -21,15 +21,15 @@ loop-actor-preserved c =
     record {
       known =
           ap (λ q. still wakes q (known_of new)) rest
-          ∙ ap (λ (k : Known). still wakes first.rest k) made.known
+          ∙ ap (λ (k : Known). still wakes first.rest k) made.wakes.known
           ∙ still_one wakes c.in-Some.actor first.rest (known_of old) (wakes_goes c.in-Some.actor (core_of old))
           ∙ ap (λ q. still wakes q (known_of old)) (sym first.first)
           ∙ inv.known;
       frees = record {
-        actors = made.frees.actors ∙ inv.frees.actors;
-        callers = λ caller may. made.frees.callers caller (inv.frees.callers caller may);
+        actors = made.wakes.frees.actors ∙ inv.frees.actors;
+        callers = λ caller may. made.wakes.frees.callers caller (inv.frees.callers caller may);
       };
-      whole = made.whole;
+      whole = made.wakes.whole;
     }
 
 pub loop-actor-smaller : goal.loop-actor-smaller
@@ -37,9 +37,13 @@ loop-actor-smaller c =
     let first = c.in-Some.ensures in
     omega (arith, ap length (c.wake_joiner.ensures.rest ∙ ap (drop 1) first.first), ap length first.first)
 
-pub returns-clause-known : goal.returns-clause-known
-returns-clause-known c =
-    let fields = c.loop-actor.fields in
-    sym (still_none wakes (known_of fields))
-    ∙ ap (λ q. still wakes q (known_of fields)) (sym c.in_default.ensures)
-    ∙ c.loop-actor.invariant.known
+pub returns : goal.returns
+returns c = record {
+  known =
+      let fields = c.loop-actor.fields in
+      sym (still_none wakes (known_of fields))
+      ∙ ap (λ q. still wakes q (known_of fields)) (sym c.in_default.ensures)
+      ∙ c.loop-actor.invariant.known;
+  frees = search rules;
+  whole = search rules;
+}

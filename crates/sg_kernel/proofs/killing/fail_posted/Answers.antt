@@ -1,4 +1,4 @@
-use Rattle.std.proofs.Common.{◌-◌, length, ap, ◌∙◌}
+use Rattle.std.proofs.Common.{◌-◌, length, ap, ◌∙◌, rules}
 use Rattle.std.proofs.lemmas.List.{length-set}
 use Rattle.sg_kernel.specs.declared.owners.How.TheVariants as how
 use Rattle.sg_kernel.specs.declared.owners.Whose.TheVariants.{Over}
@@ -9,15 +9,14 @@ use Rattle.sg_kernel.proofs.killing.fail_posted.Goals as goal
 pub fail-requires-clause-under_way : goal.fail-requires-clause-under_way
 fail-requires-clause-under_way c = posted_isnt_over c.args.fields.now.whose.whose (c.args.serial.0 - 1) c.requires.posted
 
-pub returns-clause-known : goal.returns-clause-known
-returns-clause-known c =
-    let old = c.args.fields.now in
-    posted_known old c.args.serial.0 c.fail.new.self c.requires.posted (posted_none old c.args.serial.0 c.requires.posted c.requires.whole) c.fail.ensures.is
-
-pub returns-clause-many : goal.returns-clause-many
-returns-clause-many c = ap (λ (o : Owned). length o.whose) c.fail.ensures.is ∙ length-set c.args.fields.now.whose.whose (c.args.serial.0 - 1) (Over how.Failed)
-
-pub returns-clause-whole : goal.returns-clause-whole
-returns-clause-whole c =
-    let old = c.args.fields.now in
-    whole_posted old old.states.room c.args.serial c.fail.new.self c.withdraw.new.self c.requires.from (posted_none old c.args.serial.0 c.requires.posted c.requires.whole) c.fail.ensures.is c.withdraw.ensures.left c.withdraw.ensures.room c.requires.whole
+pub returns : goal.returns
+returns c = record {
+  known =
+      let old = c.args.fields.now in
+      posted_known old c.args.serial.0 c.fail.new.self c.requires.posted (posted_none old c.args.serial.0 c.requires.posted c.requires.made.whole) c.fail.ensures.is;
+  requests = search rules;
+  many = ap (λ (o : Owned). length o.whose) c.fail.ensures.is ∙ length-set c.args.fields.now.whose.whose (c.args.serial.0 - 1) (Over how.Failed);
+  whole =
+      let old = c.args.fields.now in
+      whole_posted old old.states.room c.args.serial c.fail.new.self c.withdraw.new.self c.requires.made.from (posted_none old c.args.serial.0 c.requires.posted c.requires.made.whole) c.fail.ensures.is c.withdraw.ensures.left c.withdraw.ensures.room c.requires.made.whole;
+}

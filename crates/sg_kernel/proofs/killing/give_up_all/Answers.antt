@@ -1,4 +1,4 @@
-use Rattle.std.proofs.Common.{◌≡◌, ◌<◌, [], ℕ, List, length, drop, get_or, arith, refl, ap, sym, ◌∙◌}
+use Rattle.std.proofs.Common.{◌≡◌, ◌<◌, [], ℕ, List, length, drop, get_or, arith, refl, ap, sym, ◌∙◌, rules}
 use Rattle.std.proofs.lemmas.List.{drop_all}
 use Rattle.sg_requests.specs.Requested.{Requested}
 use Rattle.sg_kernel.specs.Kills.{gives_up}
@@ -14,20 +14,21 @@ bounds-awaited-i c =
     let same : c.awaited.result.now ≡ serials = c.awaited.ensures ∙ ap (λ (r : Requested). r.awaited) c.loop-i.invariant.requests in
     omega (arith, c.loop-i-test.true, ap length c.awaited-i-end.ensures, ap length same)
 
-pub give_up-requires-clause-from : goal.give_up-requires-clause-from
-give_up-requires-clause-from c =
-    let serials = c.args.fields.now.requests.awaited in
-    let same : c.awaited.result.now ≡ serials = c.awaited.ensures ∙ ap (λ (r : Requested). r.awaited) c.loop-i.invariant.requests in
-    let within : c.loop-i.i < length serials = omega (arith, c.loop-i-test.true, ap length c.awaited-i-end.ensures) in
-    (serial_at (length c.args.fields.now.whose.whose) serials c.awaited.result.now c.loop-i.i same within c.requires.made).0
-
-pub give_up-requires-clause-to : goal.give_up-requires-clause-to
-give_up-requires-clause-to c =
-    let serials = c.args.fields.now.requests.awaited in
-    let same : c.awaited.result.now ≡ serials = c.awaited.ensures ∙ ap (λ (r : Requested). r.awaited) c.loop-i.invariant.requests in
-    let within : c.loop-i.i < length serials = omega (arith, c.loop-i-test.true, ap length c.awaited-i-end.ensures) in
-    let to = (serial_at (length c.args.fields.now.whose.whose) serials c.awaited.result.now c.loop-i.i same within c.requires.made).1 in
-    omega (arith, to, c.loop-i.invariant.many)
+pub give_up-requires : goal.give_up-requires
+give_up-requires c = record {
+  from =
+      let serials = c.args.fields.now.requests.awaited in
+      let same : c.awaited.result.now ≡ serials = c.awaited.ensures ∙ ap (λ (r : Requested). r.awaited) c.loop-i.invariant.requests in
+      let within : c.loop-i.i < length serials = omega (arith, c.loop-i-test.true, ap length c.awaited-i-end.ensures) in
+      (serial_at (length c.args.fields.now.whose.whose) serials c.awaited.result.now c.loop-i.i same within c.requires.made).0;
+  to =
+      let serials = c.args.fields.now.requests.awaited in
+      let same : c.awaited.result.now ≡ serials = c.awaited.ensures ∙ ap (λ (r : Requested). r.awaited) c.loop-i.invariant.requests in
+      let within : c.loop-i.i < length serials = omega (arith, c.loop-i-test.true, ap length c.awaited-i-end.ensures) in
+      let to = (serial_at (length c.args.fields.now.whose.whose) serials c.awaited.result.now c.loop-i.i same within c.requires.made).1 in
+      omega (arith, to, c.loop-i.invariant.many);
+  whole = search rules;
+}
 
 pub loop-i-preserved : goal.loop-i-preserved
 loop-i-preserved c =
@@ -41,8 +42,11 @@ loop-i-preserved c =
       whole = c.give_up.ensures.whole;
     }
 
-pub returns-clause-known : goal.returns-clause-known
-returns-clause-known c =
-    let serials = c.args.fields.now.requests.awaited in
-    let past : drop c.loop-i.i serials ≡ [] = drop_all c.loop-i.i serials (omega (arith, c.loop-i-test.false, ap length c.awaited-i-end.ensures)) in
-    sym (gives_up_none (known_of c.loop-i.fields)) ∙ ap (λ (l : List ℕ). after (each gives_up l (core_of c.loop-i.fields)) (known_of c.loop-i.fields)) (sym past) ∙ c.loop-i.invariant.known
+pub returns : goal.returns
+returns c = record {
+  known =
+      let serials = c.args.fields.now.requests.awaited in
+      let past : drop c.loop-i.i serials ≡ [] = drop_all c.loop-i.i serials (omega (arith, c.loop-i-test.false, ap length c.awaited-i-end.ensures)) in
+      sym (gives_up_none (known_of c.loop-i.fields)) ∙ ap (λ (l : List ℕ). after (each gives_up l (core_of c.loop-i.fields)) (known_of c.loop-i.fields)) (sym past) ∙ c.loop-i.invariant.known;
+  whole = search rules;
+}

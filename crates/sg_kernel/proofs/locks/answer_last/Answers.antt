@@ -1,4 +1,4 @@
-use Rattle.std.proofs.Common.{[]}
+use Rattle.std.proofs.Common.{[], rules}
 use Rattle.sg_sync.specs.Laws.{comers}
 use Rattle.sg_kernel.specs.kept.Sound.{known_of}
 use Rattle.sg_kernel.proofs.Waiting.{wakers_exist, held_again}
@@ -8,26 +8,30 @@ use Rattle.sg_kernel.proofs.locks.answer_last.Goals as goal
 pub wake_others-requires-clause-wakers : goal.wake_others-requires-clause-wakers
 wake_others-requires-clause-wakers c =
     let fields = c.args.fields.now in
-    wakers_exist fields c.args.actor c.args.outcome fields.objects.others c.requires.steady.sound c.requires.able.caller c.requires.waking
+    wakers_exist fields c.args.actor c.args.outcome fields.objects.others c.requires.serves.steady.sound c.requires.serves.able.caller c.requires.waking
 
-pub answer_caller-requires-clause-able : goal.answer_caller-requires-clause-able
-answer_caller-requires-clause-able c = c.wake_others.ensures.frees.callers c.args.actor.0 c.requires.able
+pub answer_caller-requires : goal.answer_caller-requires
+answer_caller-requires c = record {
+  able = c.wake_others.ensures.frees.callers c.args.actor.0 c.requires.serves.able;
+  what = search rules;
+  object = search rules;
+  steady = search rules;
+}
 
-pub returns-clause-known : goal.returns-clause-known
-returns-clause-known c =
-    then_caller (known_of c.args.fields.now) (known_of c.wake_others.new.fields) (known_of c.answer_caller.new.fields) c.args.fields.now.objects.others c.args.outcome c.args.actor.0 c.args.what c.wake_others.ensures.known c.answer_caller.ensures.known
-
-pub returns-clause-whole : goal.returns-clause-whole
-returns-clause-whole c =
-    let steady = c.answer_caller.ensures.steady in
-    let woken = c.answer_caller.ensures.waking [] (c.wake_others.ensures.waking (comers c.args.actor c.args.outcome) c.requires.waking) in
-    record {
-      sound = steady.sound;
-      roomy = steady.roomy;
-      dated = steady.dated;
-      timely = steady.timely;
-      limited = steady.limited;
-      meeting = steady.meeting;
-      held = held_again c.answer_caller.new.fields woken;
-      round = steady.round;
-    }
+pub returns : goal.returns
+returns c = record {
+  known = then_caller (known_of c.args.fields.now) (known_of c.wake_others.new.fields) (known_of c.answer_caller.new.fields) c.args.fields.now.objects.others c.args.outcome c.args.actor.0 c.args.what c.wake_others.ensures.known c.answer_caller.ensures.known;
+  whole =
+      let steady = c.answer_caller.ensures.steady in
+      let woken = c.answer_caller.ensures.waking [] (c.wake_others.ensures.waking (comers c.args.actor c.args.outcome) c.requires.waking) in
+      record {
+        sound = steady.sound;
+        roomy = steady.roomy;
+        dated = steady.dated;
+        timely = steady.timely;
+        limited = steady.limited;
+        meeting = steady.meeting;
+        held = held_again c.answer_caller.new.fields woken;
+        round = steady.round;
+      };
+}

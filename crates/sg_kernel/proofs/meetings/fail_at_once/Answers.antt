@@ -1,4 +1,4 @@
-use Rattle.std.proofs.Common.{◌≡◌, ◌-◌, ◌+◌, true, Some, length, sym, ap, subst, ◌∙◌, arith}
+use Rattle.std.proofs.Common.{◌≡◌, ◌-◌, ◌+◌, true, Some, length, sym, ap, subst, ◌∙◌, arith, rules}
 use Rattle.std.proofs.lemmas.List.{length-set}
 use Rattle.sg_base.specs.declared.ids.Serial.{Serial}
 use Rattle.sg_mailbox.specs.declared.sides.Found.{Found}
@@ -41,20 +41,24 @@ met_in fields comer met found able is there =
 pub fail_comer-requires-clause-other : goal.fail_comer-requires-clause-other
 fail_comer-requires-clause-other c = (met_in c.args.fields.now c.args.comer c.args.met c.args.found c.requires.able c.requires.found c.requires.met).limited
 
-pub fail_comer-requires-clause-made : goal.fail_comer-requires-clause-made
-fail_comer-requires-clause-made c =
-    let m = met_in c.args.fields.now c.args.comer c.args.met c.args.found c.requires.able c.requires.found c.requires.met in
-    (m.from, omega (arith, m.to, ap (λ (o : Owned). length o.whose) c.put.ensures, length-set c.args.fields.now.whose.whose (c.args.met.0.0 - 1) (Over how.Failed)))
-
-pub fail_comer-requires-clause-whole : goal.fail_comer-requires-clause-whole
-fail_comer-requires-clause-whole c =
-    let old = c.args.fields.now in
-    let comer = c.args.comer in
-    let counted = record old { events = old.events + 1 } in
-    let was = whole_counted old comer.side.actor.0 c.requires.able in
-    let m = met_in c.args.fields.now c.args.comer c.args.met c.args.found c.requires.able c.requires.found c.requires.met in
-    let unmet = whole_unmet counted comer c.args.met.0 c.args.met.1 c.next_serial-next.result c.put.new.self c.enter.new.self m was c.put.ensures c.enter.ensures.there c.enter.ensures.elsewhere (omega (arith, was.roomy.mailboxes, c.enter.ensures.room)) in
-    unmet
+pub fail_comer-requires-clause-takes_part : goal.fail_comer-requires-clause-takes_part
+fail_comer-requires-clause-takes_part c = record {
+  able = search rules;
+  comer = search rules;
+  made =
+      let m = met_in c.args.fields.now c.args.comer c.args.met c.args.found c.requires.able c.requires.found c.requires.met in
+      (m.from, omega (arith, m.to, ap (λ (o : Owned). length o.whose) c.put.ensures, length-set c.args.fields.now.whose.whose (c.args.met.0.0 - 1) (Over how.Failed)));
+  room = search rules;
+  few = search rules;
+  whole =
+      let old = c.args.fields.now in
+      let comer = c.args.comer in
+      let counted = record old { events = old.events + 1 } in
+      let was = whole_counted old comer.side.actor.0 c.requires.able in
+      let m = met_in c.args.fields.now c.args.comer c.args.met c.args.found c.requires.able c.requires.found c.requires.met in
+      let unmet = whole_unmet counted comer c.args.met.0 c.args.met.1 c.next_serial-next.result c.put.new.self c.enter.new.self m was c.put.ensures c.enter.ensures.there c.enter.ensures.elsewhere (omega (arith, was.roomy.mailboxes, c.enter.ensures.room)) in
+      unmet;
+}
 
 pub fail_other-requires-clause-sound : goal.fail_other-requires-clause-sound
 fail_other-requires-clause-sound c = c.fail_comer.ensures.whole.sound
@@ -72,44 +76,51 @@ fail_comer-requires-else-comer-clause-other c =
     let m = met_in c.args.fields.now c.args.comer c.args.met c.args.found c.requires.able c.requires.found c.requires.met in
     subst (λ (s : Setup). IsSide (extent s) c.args.met.1) (sym (ap (λ (k : Known). k.setup) c.fail_other-else-comer.ensures.known)) m.limited
 
-pub fail_comer-requires-else-comer-clause-made : goal.fail_comer-requires-else-comer-clause-made
-fail_comer-requires-else-comer-clause-made c =
-    let m = met_in c.args.fields.now c.args.comer c.args.met c.args.found c.requires.able c.requires.found c.requires.met in
-    let long = ap (λ (f : Fields). length f.whose.whose) c.fail_other-else-comer.ensures.keeps.rest in
-    (m.from, omega (arith, m.to, long, ap (λ (o : Owned). length o.whose) c.put.ensures, length-set c.args.fields.now.whose.whose (c.args.met.0.0 - 1) (Over how.Failed)))
+pub fail_comer-requires-else-comer-clause-takes_part : goal.fail_comer-requires-else-comer-clause-takes_part
+fail_comer-requires-else-comer-clause-takes_part c = record {
+  able = search rules;
+  comer = search rules;
+  made =
+      let m = met_in c.args.fields.now c.args.comer c.args.met c.args.found c.requires.able c.requires.found c.requires.met in
+      let long = ap (λ (f : Fields). length f.whose.whose) c.fail_other-else-comer.ensures.keeps.rest in
+      (m.from, omega (arith, m.to, long, ap (λ (o : Owned). length o.whose) c.put.ensures, length-set c.args.fields.now.whose.whose (c.args.met.0.0 - 1) (Over how.Failed)));
+  room = search rules;
+  few = search rules;
+  whole =
+      let old = c.args.fields.now in
+      let comer = c.args.comer in
+      let counted = record old { events = old.events + 1 } in
+      let was = whole_counted old comer.side.actor.0 c.requires.able in
+      let m = met_in c.args.fields.now c.args.comer c.args.met c.args.found c.requires.able c.requires.found c.requires.met in
+      let unmet = whole_unmet counted comer c.args.met.0 c.args.met.1 c.next_serial-next.result c.put.new.self c.enter.new.self m was c.put.ensures c.enter.ensures.there c.enter.ensures.elsewhere (omega (arith, was.roomy.mailboxes, c.enter.ensures.room)) in
+      let keeps = c.fail_other-else-comer.ensures.keeps in
+      subst (λ n. IsWholeFor (n - 1) c.fail_other-else-comer.new.fields) (sym keeps.room) (keeps.whole (old.states.room - 1) unmet);
+}
 
-pub fail_comer-requires-else-comer-clause-whole : goal.fail_comer-requires-else-comer-clause-whole
-fail_comer-requires-else-comer-clause-whole c =
-    let old = c.args.fields.now in
-    let comer = c.args.comer in
-    let counted = record old { events = old.events + 1 } in
-    let was = whole_counted old comer.side.actor.0 c.requires.able in
-    let m = met_in c.args.fields.now c.args.comer c.args.met c.args.found c.requires.able c.requires.found c.requires.met in
-    let unmet = whole_unmet counted comer c.args.met.0 c.args.met.1 c.next_serial-next.result c.put.new.self c.enter.new.self m was c.put.ensures c.enter.ensures.there c.enter.ensures.elsewhere (omega (arith, was.roomy.mailboxes, c.enter.ensures.room)) in
-    let keeps = c.fail_other-else-comer.ensures.keeps in
-    subst (λ n. IsWholeFor (n - 1) c.fail_other-else-comer.new.fields) (sym keeps.room) (keeps.whole (old.states.room - 1) unmet)
+pub returns-then-comer : goal.returns-then-comer
+returns-then-comer c = record {
+  known =
+      let old = c.args.fields.now in
+      let m = met_in c.args.fields.now c.args.comer c.args.met c.args.found c.requires.able c.requires.found c.requires.met in
+      let serial = c.args.met.0.0 in
+      let other = c.args.met.1 in
+      let over = record old { events = old.events + 1; whose = c.put.new.self; boxes = c.enter.new.self } in
+      comer_first (known_of over) (known_of c.fail_comer.new.fields) (known_of c.fail_other.new.fields) c.args.comer serial other c.if-comer.true c.fail_comer.ensures.known c.fail_other.ensures.known
+      ∙ ap (λ (core : Core). after_call true (both_fail c.args.comer serial other core) (known_of old)) (over_is old serial c.put.new.self m.idle c.put.ensures);
+  whole =
+      let keeps = c.fail_other.ensures.keeps in
+      subst (λ n. IsWholeFor n c.fail_other.new.fields) (sym keeps.room) (keeps.whole c.fail_comer.new.fields.states.room c.fail_comer.ensures.whole);
+}
 
-pub returns-then-comer-clause-whole : goal.returns-then-comer-clause-whole
-returns-then-comer-clause-whole c =
-    let keeps = c.fail_other.ensures.keeps in
-    subst (λ n. IsWholeFor n c.fail_other.new.fields) (sym keeps.room) (keeps.whole c.fail_comer.new.fields.states.room c.fail_comer.ensures.whole)
-
-pub returns-then-comer-clause-known : goal.returns-then-comer-clause-known
-returns-then-comer-clause-known c =
-    let old = c.args.fields.now in
-    let m = met_in c.args.fields.now c.args.comer c.args.met c.args.found c.requires.able c.requires.found c.requires.met in
-    let serial = c.args.met.0.0 in
-    let other = c.args.met.1 in
-    let over = record old { events = old.events + 1; whose = c.put.new.self; boxes = c.enter.new.self } in
-    comer_first (known_of over) (known_of c.fail_comer.new.fields) (known_of c.fail_other.new.fields) c.args.comer serial other c.if-comer.true c.fail_comer.ensures.known c.fail_other.ensures.known
-    ∙ ap (λ (core : Core). after_call true (both_fail c.args.comer serial other core) (known_of old)) (over_is old serial c.put.new.self m.idle c.put.ensures)
-
-pub returns-else-comer-clause-known : goal.returns-else-comer-clause-known
-returns-else-comer-clause-known c =
-    let old = c.args.fields.now in
-    let m = met_in c.args.fields.now c.args.comer c.args.met c.args.found c.requires.able c.requires.found c.requires.met in
-    let serial = c.args.met.0.0 in
-    let other = c.args.met.1 in
-    let over = record old { events = old.events + 1; whose = c.put.new.self; boxes = c.enter.new.self } in
-    other_first (known_of over) (known_of c.fail_other-else-comer.new.fields) (known_of c.fail_comer-else-comer.new.fields) c.args.comer serial other c.if-comer.false c.fail_other-else-comer.ensures.known c.fail_comer-else-comer.ensures.known
-    ∙ ap (λ (core : Core). after_call true (both_fail c.args.comer serial other core) (known_of old)) (over_is old serial c.put.new.self m.idle c.put.ensures)
+pub returns-else-comer : goal.returns-else-comer
+returns-else-comer c = record {
+  known =
+      let old = c.args.fields.now in
+      let m = met_in c.args.fields.now c.args.comer c.args.met c.args.found c.requires.able c.requires.found c.requires.met in
+      let serial = c.args.met.0.0 in
+      let other = c.args.met.1 in
+      let over = record old { events = old.events + 1; whose = c.put.new.self; boxes = c.enter.new.self } in
+      other_first (known_of over) (known_of c.fail_other-else-comer.new.fields) (known_of c.fail_comer-else-comer.new.fields) c.args.comer serial other c.if-comer.false c.fail_other-else-comer.ensures.known c.fail_comer-else-comer.ensures.known
+      ∙ ap (λ (core : Core). after_call true (both_fail c.args.comer serial other core) (known_of old)) (over_is old serial c.put.new.self m.idle c.put.ensures);
+  whole = search rules;
+}

@@ -44,23 +44,23 @@ asking_less fields actor requests is able =
 pub of-requires-clause-from : goal.of-requires-clause-from
 of-requires-clause-from c =
     let old = c.args.fields.now in
-    (made_oldest (length old.whose.whose) old.requests.queues c.args.actor.0 c.in-Some.on (sym c.take.ensures.oldest ∙ c.in-Some.is) c.requires.able.whole.meeting.asked).from
+    (made_oldest (length old.whose.whose) old.requests.queues c.args.actor.0 c.in-Some.on (sym c.take.ensures.oldest ∙ c.in-Some.is) c.requires.whole.meeting.asked).from
 
 pub of-requires-clause-to : goal.of-requires-clause-to
 of-requires-clause-to c =
     let old = c.args.fields.now in
-    (made_oldest (length old.whose.whose) old.requests.queues c.args.actor.0 c.in-Some.on (sym c.take.ensures.oldest ∙ c.in-Some.is) c.requires.able.whole.meeting.asked).to
+    (made_oldest (length old.whose.whose) old.requests.queues c.args.actor.0 c.in-Some.on (sym c.take.ensures.oldest ∙ c.in-Some.is) c.requires.whole.meeting.asked).to
 
 pub answer_now-requires-clause-able : goal.answer_now-requires-clause-able
-answer_now-requires-clause-able c = asking_less c.args.fields.now c.args.actor.0 c.take.new.self c.take.ensures.rest c.requires.able
+answer_now-requires-clause-able c = asking_less c.args.fields.now c.args.actor.0 c.take.new.self c.take.ensures.rest c.requires
 
 pub answer_now-requires-in-Some-answer_of_over-clause-able : goal.answer_now-requires-in-Some-answer_of_over-clause-able
-answer_now-requires-in-Some-answer_of_over-clause-able c = asking_less c.args.fields.now c.args.actor.0 c.take.new.self c.take.ensures.rest c.requires.able
+answer_now-requires-in-Some-answer_of_over-clause-able c = asking_less c.args.fields.now c.args.actor.0 c.take.new.self c.take.ensures.rest c.requires
 
 pub block-requires-clause-able : goal.block-requires-clause-able
-block-requires-clause-able c = asking_less c.args.fields.now c.args.actor.0 c.take.new.self c.take.ensures.rest c.requires.able
+block-requires-clause-able c = asking_less c.args.fields.now c.args.actor.0 c.take.new.self c.take.ensures.rest c.requires
 
 pub block-requires-clause-made : goal.block-requires-clause-made
 block-requires-clause-made c =
     let old = c.args.fields.now in
-    made_oldest (length old.whose.whose) old.requests.queues c.args.actor.0 c.in-Some.on (sym c.take.ensures.oldest ∙ c.in-Some.is) c.requires.able.whole.meeting.asked
+    made_oldest (length old.whose.whose) old.requests.queues c.args.actor.0 c.in-Some.on (sym c.take.ensures.oldest ∙ c.in-Some.is) c.requires.whole.meeting.asked

@@ -1,4 +1,4 @@
-use Rattle.std.proofs.Common.{◌≡◌, ◌≢◌, inl, refl, drop, sym, ap, ◌∙◌, arith}
+use Rattle.std.proofs.Common.{◌≡◌, ◌≢◌, inl, refl, drop, sym, ap, ◌∙◌, arith, rules}
 use Rattle.sg_kernel.specs.Known.{Known}
 use Rattle.sg_kernel.specs.Passes.{ends}
 use Rattle.sg_kernel.specs.Steps.{result_of}
@@ -9,29 +9,31 @@ use Rattle.sg_kernel.proofs.Each.{still, still_stops, still_none, stops_none}
 use Rattle.sg_kernel.proofs.Ends.{still_ends, still_used}
 use Rattle.sg_kernel.proofs.passes.end_due.Goals as goal
 
-pub returns-then-fields-clause-known : goal.returns-then-fields-clause-known
-returns-then-fields-clause-known c =
-    let setup = setup_in c.args.fields.now in
-    let now = c.loop-phase.fields in
-    let inv = c.loop-phase.invariant in
-    let due = c.in-Some.ensures in
-    let used = c.if-fields.true ∙ ap (λ (s : Setup). s.budget) inv.setup in
-    sym (still_used setup c.in-Some.phase.serial.0 due.task due.rest (known_of now) due.at used).0
-    ∙ ap (λ d. still (ends setup) d (known_of now)) (sym due.first)
-    ∙ inv.known
-
-pub returns-then-fields-clause-result : goal.returns-then-fields-clause-result
-returns-then-fields-clause-result c =
-    let setup = setup_in c.args.fields.now in
-    let now = c.loop-phase.fields in
-    let inv = c.loop-phase.invariant in
-    let due = c.in-Some.ensures in
-    let used = c.if-fields.true ∙ ap (λ (s : Setup). s.budget) inv.setup in
-    ap result_of (
-    sym (still_used setup c.in-Some.phase.serial.0 due.task due.rest (known_of now) due.at used).1
-    ∙ ap (λ d. still_stops (ends setup) d (known_of now)) (sym due.first)
-    ∙ inv.stop
-    )
+pub returns-then-fields-clause-passes : goal.returns-then-fields-clause-passes
+returns-then-fields-clause-passes c = record {
+  known =
+      let setup = setup_in c.args.fields.now in
+      let now = c.loop-phase.fields in
+      let inv = c.loop-phase.invariant in
+      let due = c.in-Some.ensures in
+      let used = c.if-fields.true ∙ ap (λ (s : Setup). s.budget) inv.setup in
+      sym (still_used setup c.in-Some.phase.serial.0 due.task due.rest (known_of now) due.at used).0
+      ∙ ap (λ d. still (ends setup) d (known_of now)) (sym due.first)
+      ∙ inv.known;
+  result =
+      let setup = setup_in c.args.fields.now in
+      let now = c.loop-phase.fields in
+      let inv = c.loop-phase.invariant in
+      let due = c.in-Some.ensures in
+      let used = c.if-fields.true ∙ ap (λ (s : Setup). s.budget) inv.setup in
+      ap result_of (
+      sym (still_used setup c.in-Some.phase.serial.0 due.task due.rest (known_of now) due.at used).1
+      ∙ ap (λ d. still_stops (ends setup) d (known_of now)) (sym due.first)
+      ∙ inv.stop
+      );
+  passing = search rules;
+  date = search rules;
+}
 
 pub returns-then-fields-clause-events : goal.returns-then-fields-clause-events
 returns-then-fields-clause-events c =
@@ -70,27 +72,32 @@ loop-phase-preserved c =
       events = counted_more c.args.fields.now old new c.args.fields.now.doing.due old.doing.due new.doing.due inv.events (omega (arith, made.events));
     }
 
-pub returns-clause-known : goal.returns-clause-known
-returns-clause-known c =
-    let setup = setup_in c.args.fields.now in
-    let now = c.loop-phase.fields in
-    let inv = c.loop-phase.invariant in
-    sym (still_none (ends setup) (known_of now))
-    ∙ ap (λ d. still (ends setup) d (known_of now)) (sym c.in_default.ensures)
-    ∙ inv.known
-
-pub returns-clause-result : goal.returns-clause-result
-returns-clause-result c =
-    let setup = setup_in c.args.fields.now in
-    let now = c.loop-phase.fields in
-    let inv = c.loop-phase.invariant in
-    ap result_of (
-    sym (stops_none (ends setup) (known_of now))
-    ∙ ap (λ d. still_stops (ends setup) d (known_of now)) (sym c.in_default.ensures)
-    ∙ inv.stop
-    )
+pub returns-clause-passes : goal.returns-clause-passes
+returns-clause-passes c = record {
+  known =
+      let setup = setup_in c.args.fields.now in
+      let now = c.loop-phase.fields in
+      let inv = c.loop-phase.invariant in
+      sym (still_none (ends setup) (known_of now))
+      ∙ ap (λ d. still (ends setup) d (known_of now)) (sym c.in_default.ensures)
+      ∙ inv.known;
+  result =
+      let setup = setup_in c.args.fields.now in
+      let now = c.loop-phase.fields in
+      let inv = c.loop-phase.invariant in
+      ap result_of (
+      sym (stops_none (ends setup) (known_of now))
+      ∙ ap (λ d. still_stops (ends setup) d (known_of now)) (sym c.in_default.ensures)
+      ∙ inv.stop
+      );
+  passing = search rules;
+  date = search rules;
+}
 
 pub returns-clause-events : goal.returns-clause-events
 returns-clause-events c =
     let now = c.loop-phase.fields in
     counts_all c.args.fields.now now c.args.fields.now.doing.due now.doing.due c.loop-phase.invariant.events c.in_default.ensures
+
+pub end_phase-requires : goal.end_phase-requires
+end_phase-requires c = record { due = c.in-Some.ensures; passing = c.loop-phase.invariant.passing; budget = c.if-fields.false }

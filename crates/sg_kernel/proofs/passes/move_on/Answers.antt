@@ -60,7 +60,7 @@ returns-clause-known c =
     let mid : ActorStates → Fields = λ states. record fields { doing = c.advance_to.new.self; states = states } in
     let moved : Doing → Fields = λ doing. record fields { doing = doing } in
     ap (λ (s : ActorStates). known_of (record stopped { states = s })) c.end_pass.ensures
-    ∙ c.come-stopped.ensures.known
+    ∙ c.come-stopped.ensures.passes.known
     ∙ ap (λ (s : ActorStates). after (all_of (coming (mid s)) (core_of (mid s))) (known_of (mid s))) c.begin_pass.ensures
     ∙ ap (λ (d : Doing). after (all_of (coming (moved d)) (core_of (moved d))) (known_of (moved d))) c.advance_to.ensures
     ∙ ap (λ s. after s (known_of fields)) (sym (pass_goes (setup_in fields) (core_of fields) span c.in-Some.ensures.in_time c.if-fields.false))
@@ -71,7 +71,7 @@ returns-clause-result c =
     let span = c.in-Some.date - fields.doing.under.date in
     let mid : ActorStates → Fields = λ states. record fields { doing = c.advance_to.new.self; states = states } in
     let moved : Doing → Fields = λ doing. record fields { doing = doing } in
-    c.come-stopped.ensures.result
+    c.come-stopped.ensures.passes.result
     ∙ ap (λ (s : ActorStates). result_of (all_of (coming (mid s)) (core_of (mid s))).stop) c.begin_pass.ensures
     ∙ ap (λ (d : Doing). result_of (all_of (coming (moved d)) (core_of (moved d))).stop) c.advance_to.ensures
     ∙ ap (λ (s : Step). result_of s.stop) (sym (pass_goes (setup_in fields) (core_of fields) span c.in-Some.ensures.in_time c.if-fields.false))
@@ -81,5 +81,5 @@ returns-clause-whole c =
     let fields = c.args.fields.now in
     let stopped = c.come-stopped.new.fields in
     let made = c.come-stopped.ensures in
-    let at : stopped.doing.under.date ≡ c.in-Some.date = omega (arith, made.date, ap (λ (d : Doing). d.under.date) c.advance_to.ensures, c.in-Some.ensures.from) in
-    whole_passed fields stopped c.end_pass.new.self c.in-Some.date c.in-Some.ensures at made.events c.end_pass.ensures made.passing
+    let at : stopped.doing.under.date ≡ c.in-Some.date = omega (arith, made.passes.date, ap (λ (d : Doing). d.under.date) c.advance_to.ensures, c.in-Some.ensures.from) in
+    whole_passed fields stopped c.end_pass.new.self c.in-Some.date c.in-Some.ensures at made.events c.end_pass.ensures made.passes.passing

@@ -1,0 +1,50 @@
+use Rattle.std.proofs.Common.{subst}
+use Rattle.sg_base.specs.Limits.{IsCall}
+use Rattle.sg_kernel.specs.World.{extent}
+use Rattle.sg_kernel.specs.kept.Acts.{CanMake}
+use Rattle.sg_kernel.specs.kept.Sound.{setup_in}
+use Rattle.sg_kernel.proofs.Alone.{can_name}
+use Rattle.sg_kernel.proofs.calls.answer_alone.Goals as goal
+
+pub compute-requires : goal.compute-requires
+compute-requires c = subst (CanMake c.args.fields.now c.args.actor.0) c.in-Compute.is c.requires.makes
+
+pub sleep-requires : goal.sleep-requires
+sleep-requires c = subst (CanMake c.args.fields.now c.args.actor.0) c.in-Sleep.is c.requires.makes
+
+pub lock-requires : goal.lock-requires
+lock-requires c = subst (CanMake c.args.fields.now c.args.actor.0) c.in-Lock.is c.requires.makes
+
+pub unlock-requires : goal.unlock-requires
+unlock-requires c = subst (CanMake c.args.fields.now c.args.actor.0) c.in-Unlock.is c.requires.makes
+
+pub acquire-requires : goal.acquire-requires
+acquire-requires c = subst (CanMake c.args.fields.now c.args.actor.0) c.in-Acquire.is c.requires.makes
+
+pub release-requires : goal.release-requires
+release-requires c = subst (CanMake c.args.fields.now c.args.actor.0) c.in-Release.is c.requires.makes
+
+pub create-requires-clause-named : goal.create-requires-clause-named
+create-requires-clause-named c =
+    let fields = c.args.fields.now in
+    can_name fields c.args.actor.0 c.in-Create.target c.requires.makes.able (subst (IsCall (extent (setup_in fields))) c.in-Create.is c.requires.makes.call)
+
+pub join-requires : goal.join-requires
+join-requires c =
+    let fields = c.args.fields.now in
+    can_name fields c.args.actor.0 c.in-Join.target c.requires.makes.able (subst (IsCall (extent (setup_in fields))) c.in-Join.is c.requires.makes.call)
+
+pub kill-requires : goal.kill-requires
+kill-requires c =
+    let fields = c.args.fields.now in
+    can_name fields c.args.actor.0 c.in-Kill.target c.requires.makes.able (subst (IsCall (extent (setup_in fields))) c.in-Kill.is c.requires.makes.call)
+
+pub suspend-requires : goal.suspend-requires
+suspend-requires c =
+    let fields = c.args.fields.now in
+    can_name fields c.args.actor.0 c.in-Suspend.target c.requires.makes.able (subst (IsCall (extent (setup_in fields))) c.in-Suspend.is c.requires.makes.call)
+
+pub resume-requires : goal.resume-requires
+resume-requires c =
+    let fields = c.args.fields.now in
+    can_name fields c.args.actor.0 c.in-Resume.target c.requires.makes.able (subst (IsCall (extent (setup_in fields))) c.in-Resume.is c.requires.makes.call)
