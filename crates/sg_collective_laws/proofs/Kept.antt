@@ -1,14 +1,15 @@
 -- What holds of each good line: its actor has a name, and a collective's amounts keep to their limits.
 use Rattle.std.proofs.Common.{◌≡◌, ◌≤◌, ◌^◌, ◌==◌, refl, subst, ℕ, Bool, true, false, cond, not, List, [], ◌∷◌, length, Option, None, Some, Result, Ok, Err, nat_le, nat_lt, leb-true}
 use Rattle.std.specs.List.{list_all}
-use Rattle.std.specs.Prelude.{⊤}
+use Rattle.std.specs.Prelude.{ok_or, slice_index, ⊤}
 use Rattle.sg_base.specs.declared.call.Action.{Action}
 use Rattle.sg_base.specs.declared.call.Action.TheVariants as action
 use Rattle.sg_base.specs.declared.ids.ActorId.{ActorId}
 use Rattle.sg_collectives.specs.Members.{HasAmounts}
+use Rattle.sg_collectives.specs.declared.collective.Collective.{Collective}
 use Rattle.sg_collectives.specs.declared.collective.Collective.TheVariants as collective
 use Rattle.sg_script.specs.Known.{Known}
-use Rattle.sg_script.specs.Line.{Judgement, actor_in, amount_in, amounts_of, anyone_of, begins_comment, computing_of, entry_by, entry_of, is_plain, line_of, mutex_in, no_words, of_words, one_word, operation_of, or_bad_amount, or_unknown_actor, receiving_of, semaphore_in, sending_of, text_of, then_go, time_in, together, two_words, with_action, without_return}
+use Rattle.sg_script.specs.Line.{Judgement, actor_in, alone, amount_in, computing_of, entry_of, is_plain, line_of, no_words, of_words, one_actor, one_amount, one_mutex, one_semaphore, one_time, one_word, operation_of, or_bad_amount, receiving_of, sending_of, text_of, then_go, together, two_amounts, with_action, without_return}
 use Rattle.sg_script.specs.Verbs.{verb_of}
 use Rattle.sg_script.specs.Words.{words}
 use Rattle.sg_script.specs.declared.fault.LineFault.{LineFault}
@@ -84,54 +85,50 @@ argument_small text = by (amount_of text) (amount_small text)
 abbrev AreSmall : ℕ × ℕ → Type 0
 AreSmall both = IsSmall both.0 × IsSmall both.1
 
-arguments_small : (args : List (List ℕ)) → Accepted AreSmall (amounts_of args)
-arguments_small args =
-    went (λ _. ⊤) AreSmall (two_words args) (λ both. then_go (amount_in both.0) (λ a. then_go (amount_in both.1) (λ b. Ok (a, b)))) (anything (two_words args))
-    (λ both _. went IsSmall AreSmall (amount_in both.0) (λ a. then_go (amount_in both.1) (λ b. Ok (a, b))) (argument_small both.0)
-    (λ a small. went IsSmall AreSmall (amount_in both.1) (λ b. Ok (a, b)) (argument_small both.1) (λ b small'. (small, small'))))
+one_small : (args : List (List ℕ)) → Accepted IsSmall (one_amount args)
+one_small args = went (λ _. ⊤) IsSmall (one_word args) amount_in (anything (one_word args)) (λ word _. argument_small word)
+
+both_small : (args : List (List ℕ)) → Accepted AreSmall (two_amounts args)
+both_small [] = tt
+both_small (one ∷ []) = tt
+both_small (one ∷ two ∷ []) =
+    went IsSmall AreSmall (amount_in one) (λ a. then_go (amount_in two) (λ b. Ok (a, b))) (argument_small one)
+    (λ a small. went IsSmall AreSmall (amount_in two) (λ b. Ok (a, b)) (argument_small two) (λ b small'. (small, small')))
+both_small (one ∷ two ∷ three ∷ more) = tt
 
 -- ---- operations
-alone_keeps : {X : Type 0} (r : Result X LineFault) (f : X → Action) → Accepted KeepsAmounts (then_go r (λ x. Ok (Alone (f x))))
-alone_keeps (Ok x) f = tt
-alone_keeps (Err kind) f = tt
+alone_keeps : {X : Type 0} (r : Result X LineFault) (make : X → Action) → Accepted KeepsAmounts (alone make r)
+alone_keeps (Ok x) make = tt
+alone_keeps (Err kind) make = tt
 
-named_keeps : (args : List (List ℕ)) (read : List ℕ → Result ℕ LineFault) (f : ℕ → Action) →
-    Accepted KeepsAmounts (then_go (one_word args) (λ word. then_go (read word) (λ n. Ok (Alone (f n)))))
-named_keeps args read f =
-    went (λ _. ⊤) KeepsAmounts (one_word args) (λ word. then_go (read word) (λ n. Ok (Alone (f n)))) (anything (one_word args))
-    (λ word _. alone_keeps (read word) f)
-
-one_amount_keeps : (args : List (List ℕ)) (f : ℕ → Operation) → ((n : ℕ) → IsSmall n → KeepsAmounts (f n)) →
-    Accepted KeepsAmounts (then_go (one_word args) (λ word. then_go (amount_in word) (λ n. Ok (f n))))
-one_amount_keeps args f each =
-    went (λ _. ⊤) KeepsAmounts (one_word args) (λ word. then_go (amount_in word) (λ n. Ok (f n))) (anything (one_word args))
-    (λ word _. went IsSmall KeepsAmounts (amount_in word) (λ n. Ok (f n)) (argument_small word) each)
+together_keeps : {X : Type 0} (P : X → Type 0) (r : Result X LineFault) (make : X → Collective) → Accepted P r → ((x : X) → P x → HasAmounts (make x)) →
+    Accepted KeepsAmounts (together make r)
+together_keeps P (Ok x) make held each = each x held
+together_keeps P (Err kind) make held each = tt
 
 operation_keeps : (known : Known) (verb : Verb) (args : List (List ℕ)) → Accepted KeepsAmounts (operation_of known verb args)
-operation_keeps known Compute args = alone_keeps (computing_of args) (λ both. action.Compute both.0 both.1)
-operation_keeps known Sleep args = named_keeps args time_in action.Sleep
-operation_keeps known Send args = alone_keeps (sending_of known args) (λ all. action.Send all.0 all.1 all.2)
-operation_keeps known ISend args = alone_keeps (sending_of known args) (λ all. action.ISend all.0 all.1 all.2)
+operation_keeps known Compute args = alone_keeps (computing_of args) (λ c. action.Compute c.0 c.1)
+operation_keeps known Sleep args = alone_keeps (one_time args) action.Sleep
+operation_keeps known Send args = alone_keeps (sending_of known args) (λ s. action.Send s.0 s.1 s.2)
+operation_keeps known ISend args = alone_keeps (sending_of known args) (λ s. action.ISend s.0 s.1 s.2)
 operation_keeps known Recv args = alone_keeps (receiving_of known args) action.Recv
 operation_keeps known IRecv args = alone_keeps (receiving_of known args) action.IRecv
 operation_keeps known Wait args = alone_keeps (no_words args) (λ _. action.Wait)
 operation_keeps known Barrier args = alone_keeps (no_words args) (λ _. action.Barrier)
 operation_keeps known Yield args = alone_keeps (no_words args) (λ _. action.Yield)
-operation_keeps known Lock args = named_keeps args (mutex_in known) action.Lock
-operation_keeps known Unlock args = named_keeps args (mutex_in known) action.Unlock
-operation_keeps known Acquire args = named_keeps args (semaphore_in known) action.Acquire
-operation_keeps known Release args = named_keeps args (semaphore_in known) action.Release
-operation_keeps known Create args = alone_keeps (anyone_of known args) action.Create
-operation_keeps known Join args = alone_keeps (anyone_of known args) action.Join
-operation_keeps known Kill args = alone_keeps (anyone_of known args) action.Kill
-operation_keeps known Suspend args = alone_keeps (anyone_of known args) action.Suspend
-operation_keeps known Resume args = alone_keeps (anyone_of known args) action.Resume
-operation_keeps known Bcast args = one_amount_keeps args (λ n. Together (collective.Bcast n)) (λ n small. small)
-operation_keeps known Reduce args =
-    went AreSmall KeepsAmounts (amounts_of args) (λ both. together (collective.Reduce both.0 both.1)) (arguments_small args) (λ both small. small)
-operation_keeps known Allreduce args =
-    went AreSmall KeepsAmounts (amounts_of args) (λ both. together (collective.Allreduce both.0 both.1)) (arguments_small args) (λ both small. small)
-operation_keeps known Alltoall args = one_amount_keeps args (λ n. Together (collective.Alltoall n)) (λ n small. small)
+operation_keeps known Lock args = alone_keeps (one_mutex known args) action.Lock
+operation_keeps known Unlock args = alone_keeps (one_mutex known args) action.Unlock
+operation_keeps known Acquire args = alone_keeps (one_semaphore known args) action.Acquire
+operation_keeps known Release args = alone_keeps (one_semaphore known args) action.Release
+operation_keeps known Create args = alone_keeps (one_actor known args) action.Create
+operation_keeps known Join args = alone_keeps (one_actor known args) action.Join
+operation_keeps known Kill args = alone_keeps (one_actor known args) action.Kill
+operation_keeps known Suspend args = alone_keeps (one_actor known args) action.Suspend
+operation_keeps known Resume args = alone_keeps (one_actor known args) action.Resume
+operation_keeps known Bcast args = together_keeps IsSmall (one_amount args) collective.Bcast (one_small args) (λ n small. small)
+operation_keeps known Reduce args = together_keeps AreSmall (two_amounts args) (λ b. collective.Reduce b.0 b.1) (both_small args) (λ b small. small)
+operation_keeps known Allreduce args = together_keeps AreSmall (two_amounts args) (λ b. collective.Allreduce b.0 b.1) (both_small args) (λ b small. small)
+operation_keeps known Alltoall args = together_keeps IsSmall (one_amount args) collective.Alltoall (one_small args) (λ n small. small)
 
 -- ---- entries
 abbrev IsFrom : Known → Entry → Type 0
@@ -141,7 +138,9 @@ abbrev IsGood : Known → Option Entry → Type 0
 IsGood known None = ⊤
 IsGood known (Some entry) = IsFrom known entry
 
-by_verb : (known : Known) (a : ActorId) (verb : Option Verb) (args : List (List ℕ)) → IsKnown known a → Accepted (IsGood known) (entry_by known a verb args)
+by_verb : (known : Known) (a : ActorId) (found : Option Verb) (args : List (List ℕ)) → IsKnown known a →
+    Accepted (IsGood known) (then_go (then_go (ok_or found fault.UnknownAction) (λ verb. operation_of known verb args))
+    (λ operation. Ok (Some (record { actor = a; operation = operation }))))
 by_verb known a None args is = tt
 by_verb known a (Some verb) args is =
     went KeepsAmounts (IsGood known) (operation_of known verb args) (λ operation. Ok (Some (record { actor = a; operation = operation })))
@@ -154,7 +153,7 @@ action_good known a (word ∷ args) is = by_verb known a (verb_of word) args is
 known_actor : (known : Known) (name : List ℕ) → Accepted (IsKnown known) (actor_in known name)
 known_actor known name = by (known.actor name) (λ a e. (name, e))
   where
-    by : (found : Option ActorId) → ((a : ActorId) → found ≡ Some a → IsKnown known a) → Accepted (IsKnown known) (or_unknown_actor found)
+    by : (found : Option ActorId) → ((a : ActorId) → found ≡ Some a → IsKnown known a) → Accepted (IsKnown known) (ok_or found fault.UnknownActor)
     by None told = tt
     by (Some a) told = told a refl
 
@@ -165,8 +164,8 @@ entry_good known name args =
 words_good : (known : Known) (plain : Bool) (all : List (List ℕ)) → Accepted (IsGood known) (of_words known plain all)
 words_good known plain [] = tt
 words_good known plain (word ∷ more) =
-    either_accepted (IsGood known) (begins_comment word) (Ok None) (cond (not plain) (Err fault.NotAscii) (entry_of known word more)) tt
-    (either_accepted (IsGood known) (not plain) (Err fault.NotAscii) (entry_of known word more) tt (entry_good known word more))
+    either_accepted (IsGood known) (slice_index word 0 == 35) (Ok None) (cond plain (entry_of known word more) (Err fault.NotAscii)) tt
+    (either_accepted (IsGood known) plain (entry_of known word more) (Err fault.NotAscii) (entry_good known word more) tt)
 
 line_good : (known : Known) (line : List ℕ) → Accepted (IsGood known) (line_of known line)
 line_good known line =

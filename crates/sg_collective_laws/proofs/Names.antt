@@ -2,7 +2,7 @@
 use Rattle.std.proofs.Common.{◌≡◌, ◌<◌, ◌+◌, ◌-◌, ◌∙◌, ◌==◌, ◌&&◌, ap, sym, refl, subst, ℕ, zero, suc, Bool, true, false, cond, not, List, [], ◌∷◌, ◌++◌, length, All, Option, None, Some, option_map, inl, inr, arith, ne_eqb, leb-true, nat_le}
 use Rattle.std.specs.List.{list_all, slice_get}
 use Rattle.std.specs.Map.{lookup}
-use Rattle.std.specs.Prelude.{IsTrue}
+use Rattle.std.specs.Prelude.{IsTrue, slice_index}
 use Rattle.std.specs.Str.{bytes_eq}
 use Rattle.std.proofs.lemmas.Bool.{and_parts, cases_Bool, eqb-false, not-true}
 use Rattle.std.proofs.lemmas.Bool.Decides.{nat_tests}
@@ -19,7 +19,6 @@ use Rattle.sg_rows.specs.declared.rows.Function.{Function}
 use Rattle.sg_rows.specs.declared.rows.Function.TheVariants.{Replay, Worker, Master, Churn}
 use Rattle.sg_rows.proofs.MemberIds.{members_exist}
 use Rattle.sg_script.specs.Known.{known_in}
-use Rattle.sg_script.specs.Line.{begins_comment}
 use Rattle.sg_tree.specs.Along.{along}
 use Rattle.sg_tree.specs.Names.{with_number}
 use Rattle.sg_tree.specs.Spelling.{is_name, is_name_byte}
@@ -47,7 +46,7 @@ name_is_word text is =
     positive zero isnt = absurd (isnt refl)
     positive (suc n) isnt = omega arith
 
-name_is_clear : (text : List ℕ) → is_name text ≡ true → begins_comment text ≡ false
+name_is_clear : (text : List ℕ) → is_name text ≡ true → (slice_index text 0 == 35) ≡ false
 unfolding is_name
 name_is_clear [] is = refl
 name_is_clear (b ∷ text) is =

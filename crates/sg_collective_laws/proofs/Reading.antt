@@ -1,6 +1,7 @@
 -- The lines of an expansion are read as its actions.
 use Rattle.std.proofs.Common.{◌≡◌, ◌<◌, ◌≤◌, ◌*◌, ◌∙◌, ap, refl, ℕ, Bool, true, false, cond, List, [], ◌∷◌, length, map, get_or, filter, All, Option, None, Some, Ok, Err, codes, decimal, arith, le-ltb}
 use Rattle.std.specs.List.{join_with_byte, list_all, slice_get, slice_split}
+use Rattle.std.specs.Prelude.{◌==◌, ok_or, slice_index}
 use Rattle.std.proofs.lemmas.List.Elements.{All-cons, All-get_or, All-head, All-map, All-nil, All-tail, All-weaker}
 use Rattle.std.proofs.lemmas.List.Sums.{AllPass-from_list_all}
 use Rattle.std.proofs.lemmas.Option.{slice_get-get_or}
@@ -17,8 +18,9 @@ use Rattle.sg_collectives.proofs.Limited.{step_keeps_limits}
 use Rattle.sg_collectives.proofs.MemberLemmas.{rank_below, step_names_member}
 use Rattle.sg_script.specs.Answer.{is_newline}
 use Rattle.sg_script.specs.Known.{Known}
-use Rattle.sg_script.specs.Line.{Judgement, begins_comment, entry_of, is_plain, line_of, of_words, or_unknown_actor, text_of, then_go, with_action, without_return}
-use Rattle.sg_script.specs.Words.{is_blank, is_some_word, words}
+use Rattle.sg_script.specs.Line.{Judgement, entry_of, is_plain, line_of, of_words, text_of, then_go, with_action, without_return}
+use Rattle.sg_script.specs.Words.{is_blank, words}
+use Rattle.sg_script.proofs.WordLemmas.{is_some_word}
 use Rattle.sg_script.specs.declared.fault.LineFault.TheVariants as fault
 use Rattle.sg_script.specs.declared.operation.Operation.TheVariants.{Alone}
 use Rattle.sg_collective_laws.specs.Written.{Naming, expansion_lines, lines_at, step_line, step_words}
@@ -28,7 +30,7 @@ use Rattle.sg_collective_laws.proofs.Texts.{IsWord, Lacks, all_joined, is_word_b
 
 -- ---- a line of words
 -- plain words with spaces between them, of which the first begins no comment, are read as these words
-pub reads_words : (known : Known) (word : List ℕ) (more : List (List ℕ)) → All IsWord (word ∷ more) → length more ≤ 3 → begins_comment word ≡ false →
+pub reads_words : (known : Known) (word : List ℕ) (more : List (List ℕ)) → All IsWord (word ∷ more) → length more ≤ 3 → (slice_index word 0 == 35) ≡ false →
     line_of known (join_with_byte 32 (word ∷ more)) ≡ entry_of known word more
 reads_words known word more all few clear =
     let text : List ℕ = join_with_byte 32 (word ∷ more) in
@@ -47,7 +49,7 @@ reads_words known word more all few clear =
 -- the name is a word that stands for the actor at the front of a line and behind
 pub record IsNamed (known : Known) (name : List ℕ) (actor : ActorId) : Type 0 where
   pub word : IsWord name
-  pub clear : begins_comment name ≡ false
+  pub clear : (slice_index name 0 == 35) ≡ false
   pub means : known.actor name ≡ Some actor
 
 -- every actor that can be named has a name, and each member can be; they exist
@@ -141,7 +143,7 @@ module _ (known : Known) (name : Naming) (are : AreNamed known name) where
       let rest : List (List ℕ) = step_words (λ rank. name (member known.members rank)) step in
       let all : All IsWord rest = step_are_words extent step names limited in
       reads_words known (name actor) rest (All-cons IsWord (name actor) rest own.word all) (few_words step) own.clear
-      ∙ ap (λ (found : Option ActorId). then_go (or_unknown_actor found) (λ a. with_action known a rest)) own.means
+      ∙ ap (λ (found : Option ActorId). then_go (ok_or found fault.UnknownActor) (λ a. with_action known a rest)) own.means
       ∙ words_say extent actor step names limited
 
   step_plain : (extent : Extent) (actor : ActorId) (step : Step) → IsKnown known actor → NamesMember (length known.members) step → IsAction extent (action_of known.members step) →

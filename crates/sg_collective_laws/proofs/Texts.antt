@@ -7,7 +7,8 @@ use Rattle.std.proofs.lemmas.List.Elements.{All-append, All-cons, All-head, All-
 use Rattle.std.proofs.lemmas.List.Splits.{slice_split-cons_no, slice_split-cons_yes, slice_split_at, slice_split_none}
 use Rattle.sg_script.specs.Answer.{is_newline}
 use Rattle.sg_script.specs.Line.{is_plain, without_return}
-use Rattle.sg_script.specs.Words.{is_blank, is_some_word}
+use Rattle.sg_script.specs.Words.{is_blank}
+use Rattle.sg_script.proofs.WordLemmas.{is_some_word}
 
 -- none of the bytes passes
 abbrev pub Lacks : (ℕ → Bool) → List ℕ → Type 0

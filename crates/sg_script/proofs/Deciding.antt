@@ -9,7 +9,11 @@ use Rattle.sg_script.specs.declared.line.Entry.{Entry}
 use Rattle.sg_script.specs.Known.{Known}
 use Rattle.sg_script.specs.Answer.{is_newline, judgements}
 use Rattle.sg_script.specs.Line.{Judgement}
-use Rattle.sg_script.specs.Needed.{behind_one, deciding_line, front_length, need_by, need_from, own_actions, through, told_at}
+use Rattle.sg_script.specs.Needed.{deciding_line, front_length, need_by, need_from, own_actions, through, told_at}
+
+-- a line behind one more
+abbrev behind_one : ℕ × Judgement → ℕ × Judgement
+behind_one at = (suc at.0, at.1)
 
 -- a line in front moves all that is told behind it
 told_more : (late : Bool) (k start end : ℕ) (said : Judgement) → told_at late (k + start) (k + end) said ≡ k + told_at late start end said

@@ -10,6 +10,7 @@ pub mod Meeting
 pub mod Needs
 pub mod PlainLemmas
 pub mod QueueLemmas
+pub mod Searching
 pub mod Repeating
 pub mod Spending
 pub mod Splits

@@ -1,5 +1,5 @@
 -- The members of a deployment, named by their actors, meet in each collective.
-use Rattle.std.proofs.Common.{◌≡◌, ◌≢◌, ◌<◌, ◌≤◌, ◌+◌, ◌∙◌, sym, ap, ap₂, refl, ℕ, Bool, true, false, eqb, cond, List, [], ◌∷◌, ◌++◌, map, length, get_or, zero, suc, Option, None, Some, inl, inr, arith, length-append}
+use Rattle.std.proofs.Common.{◌≡◌, ◌≢◌, ◌<◌, ◌≤◌, ◌+◌, ◌∙◌, sym, ap₂, refl, ℕ, Bool, true, false, eqb, cond, List, [], ◌∷◌, ◌++◌, length, get_or, Option, None, Some, inl, inr, arith}
 use Rattle.std.specs.List.{All, AllPairs, count_by, position_or_len}
 use Rattle.std.proofs.lemmas.Bool.{cases_Bool, cases_lt}
 use Rattle.std.proofs.lemmas.Bool.Decides.{nat_tests}

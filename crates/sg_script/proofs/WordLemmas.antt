@@ -1,9 +1,13 @@
 -- The first word of a text.
 use Rattle.std.proofs.Common.{◌≡◌, ◌<◌, ◌∙◌, ap, ℕ, List, [], ◌∷◌, length, arith}
-use Rattle.std.specs.Prelude.{filter}
+use Rattle.std.specs.Prelude.{Bool, filter, nat_lt}
 use Rattle.std.specs.List.{slice_split}
 use Rattle.std.proofs.lemmas.Bool.Decides.{nat_tests}
-use Rattle.sg_script.specs.Words.{words, is_blank, is_some_word}
+use Rattle.sg_script.specs.Words.{words, is_blank}
+
+-- a part between blanks that is a word
+abbrev pub is_some_word : List ℕ → Bool
+is_some_word part = nat_lt 0 (length part)
 
 kept : (word : List ℕ) (more : List (List ℕ)) → 0 < length word → filter is_some_word (word ∷ more) ≡ word ∷ filter is_some_word more
 kept [] more some = absurd (omega arith)

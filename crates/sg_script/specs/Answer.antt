@@ -56,19 +56,13 @@ first_bad before [] = None
 first_bad before (Ok said ∷ more) = first_bad (before + 1) more
 first_bad before (Err kind ∷ more) = Some (Line (before + 1) kind)
 
--- no bad line: the read fault, or no more
-abbrev pub at_end : Bool → Result (Option Action) ScriptFault
-at_end true = Err Read
-at_end false = Ok None
-
-abbrev pub without_line : Bool → Option ScriptFault → Result (Option Action) ScriptFault
-without_line broken (Some fault) = Err fault
-without_line broken None = at_end broken
-
+-- where no action is left the first bad line is told, else the read fault, else that there is no more
 abbrev pub answer_by : Bool → Option ScriptFault → Option Action →
     Result (Option Action) ScriptFault
 answer_by broken bad (Some action) = Ok (Some action)
-answer_by broken bad None = without_line broken bad
+answer_by broken (Some fault) None = Err fault
+answer_by true None None = Err Read
+answer_by false None None = Ok None
 
 -- the answer to the Ask that so many Asks of the actor came before
 abbrev pub answer_of : Known → Source → ℕ → ℕ → Result (Option Action) ScriptFault

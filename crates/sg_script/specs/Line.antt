@@ -1,5 +1,5 @@
 -- What one line of a script says.
-use Rattle.std.specs.Prelude.{ℕ, Bool, false, not, ◌==◌, ◌||◌, ◌&&◌, ◌-◌, List, [], ◌∷◌, length, take, slice_index, Option, None, Some, Result, Ok, Err, if◌then◌else◌, nat_lt, nat_le, ⊤}
+use Rattle.std.specs.Prelude.{ℕ, Bool, ◌==◌, ◌||◌, ◌&&◌, ◌-◌, List, [], ◌∷◌, length, take, slice_index, Option, None, Some, Result, Ok, Err, ok_or, if◌then◌else◌, nat_lt, nat_le, ⊤}
 use Rattle.std.specs.List.{list_all}
 use Rattle.sg_base.specs.declared.call.Action.{Action}
 use Rattle.sg_base.specs.declared.call.Action.TheVariants as action
@@ -31,6 +31,7 @@ abbrev pub then_go : {X Y : Type 0} → Result X LineFault → (X → Result Y L
 then_go (Ok x) next = next x
 then_go (Err kind) next = Err kind
 
+-- ---- the words of arguments
 -- no argument
 abbrev pub no_words : List (List ℕ) → Result (Unit {0}) LineFault
 no_words [] = Ok tt
@@ -41,11 +42,6 @@ abbrev pub one_word : List (List ℕ) → Result (List ℕ) LineFault
 one_word (word ∷ []) = Ok word
 one_word other = Err ArgumentCount
 
--- the only two arguments
-abbrev pub two_words : List (List ℕ) → Result (List ℕ × List ℕ) LineFault
-two_words (first ∷ second ∷ []) = Ok (first, second)
-two_words other = Err ArgumentCount
-
 -- an argument that a reader of units refuses is a bad amount
 abbrev pub or_bad_amount : Result ℕ AmountFault → Result ℕ LineFault
 or_bad_amount (Ok n) = Ok n
@@ -53,33 +49,6 @@ or_bad_amount (Err kind) = Err BadAmount
 
 abbrev pub amount_in : List ℕ → Result ℕ LineFault
 amount_in text = or_bad_amount (amount_of text)
-
-abbrev pub time_in : List ℕ → Result ℕ LineFault
-time_in text = or_bad_amount (time_of text)
-
--- a name that no actor of the kind has is an unknown actor
-abbrev pub or_unknown_actor : Option ActorId → Result ActorId LineFault
-or_unknown_actor (Some a) = Ok a
-or_unknown_actor None = Err UnknownActor
-
--- an actor that replays
-abbrev pub actor_in : Known → List ℕ → Result ActorId LineFault
-actor_in known name = or_unknown_actor (known.actor name)
-
--- an actor, whatever it does
-abbrev pub anyone_in : Known → List ℕ → Result ActorId LineFault
-anyone_in known name = or_unknown_actor (known.anyone name)
-
--- a name that no mutex, or semaphore, has is an unknown object
-abbrev pub or_unknown_object : Option ℕ → Result ℕ LineFault
-or_unknown_object (Some number) = Ok number
-or_unknown_object None = Err UnknownObject
-
-abbrev pub mutex_in : Known → List ℕ → Result ℕ LineFault
-mutex_in known name = or_unknown_object (known.mutex name)
-
-abbrev pub semaphore_in : Known → List ℕ → Result ℕ LineFault
-semaphore_in known name = or_unknown_object (known.semaphore name)
 
 -- a number from 1 on up to this one
 abbrev pub from_one_to : ℕ → ℕ → Result ℕ LineFault
@@ -91,18 +60,43 @@ priority_in text = then_go (amount_in text) (from_one_to 1000)
 abbrev pub rate_in : List ℕ → Result ℕ LineFault
 rate_in text = then_go (or_bad_amount (bandwidth_of text)) (from_one_to 1000000000000000)
 
+-- an actor that replays
+abbrev pub actor_in : Known → List ℕ → Result ActorId LineFault
+actor_in known name = ok_or (known.actor name) UnknownActor
+
+-- ---- arguments
+-- the only argument, as an amount, a time, an actor whatever it does, a mutex, or a semaphore
+abbrev pub one_amount : List (List ℕ) → Result ℕ LineFault
+one_amount args = then_go (one_word args) amount_in
+
+abbrev pub one_time : List (List ℕ) → Result ℕ LineFault
+one_time args = then_go (one_word args) (λ text. or_bad_amount (time_of text))
+
+abbrev pub one_actor : Known → List (List ℕ) → Result ActorId LineFault
+one_actor known args = then_go (one_word args) (λ name. ok_or (known.anyone name) UnknownActor)
+
+abbrev pub one_mutex : Known → List (List ℕ) → Result ℕ LineFault
+one_mutex known args = then_go (one_word args) (λ name. ok_or (known.mutex name) UnknownObject)
+
+abbrev pub one_semaphore : Known → List (List ℕ) → Result ℕ LineFault
+one_semaphore known args =
+    then_go (one_word args) (λ name. ok_or (known.semaphore name) UnknownObject)
+
+abbrev pub two_amounts : List (List ℕ) → Result (ℕ × ℕ) LineFault
+two_amounts (one ∷ two ∷ []) = then_go (amount_in one) (λ a. then_go (amount_in two) (λ b. Ok (a, b)))
+two_amounts other = Err ArgumentCount
+
 -- an amount, and optionally a priority, which is 1 else
 abbrev pub computing_of : List (List ℕ) → Result (ℕ × ℕ) LineFault
 computing_of (flops ∷ priority ∷ []) =
     then_go (amount_in flops) (λ n. then_go (priority_in priority) (λ p. Ok (n, p)))
-computing_of other = then_go (one_word other) (λ flops. then_go (amount_in flops) (λ n. Ok (n, 1)))
+computing_of other = then_go (one_amount other) (λ n. Ok (n, 1))
 
 -- a peer and an amount; the peer is judged first
 abbrev pub message_of : Known → List (List ℕ) → Result (ActorId × ℕ) LineFault
-message_of known args =
-    then_go (two_words args)
-    (λ both. then_go (actor_in known both.0)
-    (λ peer. then_go (amount_in both.1) (λ n. Ok (peer, n))))
+message_of known (peer ∷ bytes ∷ []) =
+    then_go (actor_in known peer) (λ to. then_go (amount_in bytes) (λ n. Ok (to, n)))
+message_of known other = Err ArgumentCount
 
 -- a peer and an amount, and optionally a rate, which is 0 else
 abbrev pub sending_of : Known → List (List ℕ) → Result (ActorId × ℕ × ℕ) LineFault
@@ -116,76 +110,47 @@ abbrev pub receiving_of : Known → List (List ℕ) → Result ActorId LineFault
 receiving_of known (peer ∷ []) = actor_in known peer
 receiving_of known other = then_go (message_of known other) (λ both. Ok both.0)
 
--- an actor, whatever it does
-abbrev pub anyone_of : Known → List (List ℕ) → Result ActorId LineFault
-anyone_of known args = then_go (one_word args) (anyone_in known)
+-- ---- operations
+-- an action alone, and a collective, of these arguments
+abbrev pub alone : {X : Type 0} → (X → Action) → Result X LineFault → Result Operation LineFault
+alone make args = then_go args (λ x. Ok (Alone (make x)))
 
--- two amounts
-abbrev pub amounts_of : List (List ℕ) → Result (ℕ × ℕ) LineFault
-amounts_of args =
-    then_go (two_words args)
-    (λ both. then_go (amount_in both.0) (λ a. then_go (amount_in both.1) (λ b. Ok (a, b))))
-
--- an action alone, and a collective
-abbrev pub alone : Action → Result Operation LineFault
-alone action = Ok (Alone action)
-
-abbrev pub together : Collective → Result Operation LineFault
-together collective = Ok (Together collective)
+abbrev pub together : {X : Type 0} → (X → Collective) → Result X LineFault →
+    Result Operation LineFault
+together make args = then_go args (λ x. Ok (Together (make x)))
 
 -- the table of actions
 abbrev pub operation_of : Known → Verb → List (List ℕ) → Result Operation LineFault
-operation_of known Compute args =
-    then_go (computing_of args) (λ both. alone (action.Compute both.0 both.1))
-operation_of known Sleep args =
-    then_go (one_word args) (λ word. then_go (time_in word) (λ n. alone (action.Sleep n)))
-operation_of known Send args =
-    then_go (sending_of known args) (λ all. alone (action.Send all.0 all.1 all.2))
-operation_of known ISend args =
-    then_go (sending_of known args) (λ all. alone (action.ISend all.0 all.1 all.2))
-operation_of known Recv args =
-    then_go (receiving_of known args) (λ peer. alone (action.Recv peer))
-operation_of known IRecv args =
-    then_go (receiving_of known args) (λ peer. alone (action.IRecv peer))
-operation_of known Wait args = then_go (no_words args) (λ _. alone action.Wait)
-operation_of known Barrier args = then_go (no_words args) (λ _. alone action.Barrier)
-operation_of known Yield args = then_go (no_words args) (λ _. alone action.Yield)
-operation_of known Lock args =
-    then_go (one_word args) (λ name. then_go (mutex_in known name) (λ i. alone (action.Lock i)))
-operation_of known Unlock args =
-    then_go (one_word args) (λ name. then_go (mutex_in known name) (λ i. alone (action.Unlock i)))
-operation_of known Acquire args =
-    then_go (one_word args)
-    (λ name. then_go (semaphore_in known name) (λ i. alone (action.Acquire i)))
-operation_of known Release args =
-    then_go (one_word args)
-    (λ name. then_go (semaphore_in known name) (λ i. alone (action.Release i)))
-operation_of known Create args = then_go (anyone_of known args) (λ a. alone (action.Create a))
-operation_of known Join args = then_go (anyone_of known args) (λ a. alone (action.Join a))
-operation_of known Kill args = then_go (anyone_of known args) (λ a. alone (action.Kill a))
-operation_of known Suspend args = then_go (anyone_of known args) (λ a. alone (action.Suspend a))
-operation_of known Resume args = then_go (anyone_of known args) (λ a. alone (action.Resume a))
-operation_of known Bcast args =
-    then_go (one_word args)
-    (λ word. then_go (amount_in word) (λ bytes. together (collective.Bcast bytes)))
-operation_of known Reduce args =
-    then_go (amounts_of args) (λ both. together (collective.Reduce both.0 both.1))
-operation_of known Allreduce args =
-    then_go (amounts_of args) (λ both. together (collective.Allreduce both.0 both.1))
-operation_of known Alltoall args =
-    then_go (one_word args)
-    (λ word. then_go (amount_in word) (λ bytes. together (collective.Alltoall bytes)))
+operation_of known Compute args = alone (λ c. action.Compute c.0 c.1) (computing_of args)
+operation_of known Sleep args = alone action.Sleep (one_time args)
+operation_of known Send args = alone (λ s. action.Send s.0 s.1 s.2) (sending_of known args)
+operation_of known ISend args = alone (λ s. action.ISend s.0 s.1 s.2) (sending_of known args)
+operation_of known Recv args = alone action.Recv (receiving_of known args)
+operation_of known IRecv args = alone action.IRecv (receiving_of known args)
+operation_of known Wait args = alone (λ _. action.Wait) (no_words args)
+operation_of known Barrier args = alone (λ _. action.Barrier) (no_words args)
+operation_of known Yield args = alone (λ _. action.Yield) (no_words args)
+operation_of known Lock args = alone action.Lock (one_mutex known args)
+operation_of known Unlock args = alone action.Unlock (one_mutex known args)
+operation_of known Acquire args = alone action.Acquire (one_semaphore known args)
+operation_of known Release args = alone action.Release (one_semaphore known args)
+operation_of known Create args = alone action.Create (one_actor known args)
+operation_of known Join args = alone action.Join (one_actor known args)
+operation_of known Kill args = alone action.Kill (one_actor known args)
+operation_of known Suspend args = alone action.Suspend (one_actor known args)
+operation_of known Resume args = alone action.Resume (one_actor known args)
+operation_of known Bcast args = together collective.Bcast (one_amount args)
+operation_of known Reduce args = together (λ b. collective.Reduce b.0 b.1) (two_amounts args)
+operation_of known Allreduce args = together (λ b. collective.Allreduce b.0 b.1) (two_amounts args)
+operation_of known Alltoall args = together collective.Alltoall (one_amount args)
 
-abbrev pub entry_by : Known → ActorId → Option Verb → List (List ℕ) → Judgement
-entry_by known a None args = Err UnknownAction
-entry_by known a (Some verb) args =
-    then_go (operation_of known verb args)
-    (λ operation. Ok (Some (record { actor = a; operation = operation })))
-
+-- ---- lines
 -- the second word is the action, those behind it are its arguments
 abbrev pub with_action : Known → ActorId → List (List ℕ) → Judgement
 with_action known a [] = Err UnknownAction
-with_action known a (word ∷ args) = entry_by known a (verb_of word) args
+with_action known a (word ∷ args) =
+    then_go (then_go (ok_or (verb_of word) UnknownAction) (λ verb. operation_of known verb args))
+    (λ operation. Ok (Some (record { actor = a; operation = operation })))
 
 -- the first word is the actor
 abbrev pub entry_of : Known → List ℕ → List (List ℕ) → Judgement
@@ -195,17 +160,12 @@ entry_of known name more = then_go (actor_in known name) (λ a. with_action know
 abbrev pub is_plain : ℕ → Bool
 is_plain b = (b == 9) || (nat_le 32 b && nat_le b 126)
 
-abbrev pub begins_comment : List ℕ → Bool
-begins_comment [] = false
-begins_comment (b ∷ word) = b == 35
-
--- a line of these words; it is passed over where it has none, or its first one begins a comment
+-- a line of these words; it is passed over where it has none, or its first one begins with `#`
 abbrev pub of_words : Known → Bool → List (List ℕ) → Judgement
 of_words known all_plain [] = Ok None
 of_words known all_plain (word ∷ more) =
-    if begins_comment word then Ok None
-    else if not all_plain then Err NotAscii
-    else entry_of known word more
+    if slice_index word 0 == 35 then Ok None
+    else if all_plain then entry_of known word more else Err NotAscii
 
 abbrev pub text_of : Known → List ℕ → Judgement
 text_of known text = of_words known (list_all is_plain text) (words text)

@@ -1,6 +1,6 @@
 -- How many bytes of a script the answer to an Ask needs: first the line that decides it, then
 -- the bytes through it.
-use Rattle.std.specs.Prelude.{ℕ, zero, suc, Bool, true, false, ◌+◌, ◌-◌, ◌==◌, List, [], ◌∷◌, length, max, min, Option, None, Some, Ok, Err, option_map, if◌then◌else◌, nat_lt}
+use Rattle.std.specs.Prelude.{ℕ, zero, suc, Bool, true, false, ◌+◌, ◌-◌, List, [], ◌∷◌, length, max, min, Option, None, Some, Ok, Err, option_map, if◌then◌else◌, nat_lt}
 use Rattle.std.specs.List.{slice_split}
 use Rattle.sg_edge.specs.Sources.{Source}
 use Rattle.sg_script.specs.declared.fault.LineFault.TheVariants.{TooLong}
@@ -15,10 +15,6 @@ use Rattle.sg_script.specs.Operation.{line_actions}
 abbrev pub own_actions : Known → ℕ → Option Entry → ℕ
 own_actions known actor said = length (line_actions known actor said)
 
--- a line behind one more
-abbrev pub behind_one : ℕ × Judgement → ℕ × Judgement
-behind_one at = (suc at.0, at.1)
-
 -- The line that decides the Ask of an actor that so many of its Asks come before: the one from
 -- which its action comes, or a bad one before that. How many lines stand before it, and its
 -- judgement.
@@ -27,7 +23,7 @@ deciding_line known actor earlier [] = None
 deciding_line known actor earlier (Err kind ∷ more) = Some (0, Err kind)
 deciding_line known actor earlier (Ok said ∷ more) =
     if nat_lt earlier (own_actions known actor said) then Some (0, Ok said)
-    else option_map behind_one
+    else option_map (λ at. (suc at.0, at.1))
     (deciding_line known actor (earlier - own_actions known actor said) more)
 
 -- ---- the bytes through it

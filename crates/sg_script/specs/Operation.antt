@@ -15,15 +15,11 @@ abbrev pub actions_for : List ActorId → ℕ → Operation → List Action
 actions_for members actor (Alone action) = action ∷ []
 actions_for members actor (Together collective) = collective_actions members actor collective
 
--- the expansion of a line: what its actor does for it
-abbrev pub expansion : Known → Entry → List Action
-expansion known entry = actions_for known.members entry.actor.0 entry.operation
-
--- what a line gives an actor: its expansion where it is this actor's line
+-- what a line gives an actor: what its own actor does for it, where it is this actor's line
 abbrev pub line_actions : Known → ℕ → Option Entry → List Action
 line_actions known actor None = []
 line_actions known actor (Some entry) =
-    if entry.actor.0 == actor then expansion known entry else []
+    if entry.actor.0 == actor then actions_for known.members entry.actor.0 entry.operation else []
 
 -- amounts and times keep to their limits, and what is named exists
 abbrev pub IsOperation : Extent → Operation → Type 0

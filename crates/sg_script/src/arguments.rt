@@ -3,12 +3,12 @@ ghost use Rattle.std.specs.Prelude.{◌≡◌, IfOk, Ok};
 ghost use Rattle.sg_base.specs.Limits.{IsActorIn, IsAmount, IsMutexIn, IsPriority, IsRate, IsSemaphoreIn, IsTime};
 ghost use Rattle.sg_rows.specs.Deployment.{extent_of};
 ghost use Rattle.sg_script.specs.Known.{known_in};
-ghost use Rattle.sg_script.specs.Line.{actor_in, alone, amount_in, amounts_of, anyone_in, anyone_of, computing_of, mutex_in, no_words, priority_in, rate_in, receiving_of, semaphore_in, sending_of, then_go, time_in};
+ghost use Rattle.sg_script.specs.Line.{actor_in, alone, amount_in, computing_of, no_words, one_actor, one_amount, one_mutex, one_semaphore, one_time, priority_in, rate_in, receiving_of, sending_of, two_amounts};
 ghost use Rattle.sg_script.specs.Words.{words};
 
 use crate::fault::LineFault;
 use crate::operation::Operation;
-use crate::words::{Arguments, cut_arguments, none, one, two};
+use crate::words::{Arguments, cut_arguments, none, one};
 use sg_base::{Action, ActorId};
 use sg_rows::Deployment;
 use sg_units::{read_amount, read_bandwidth, read_time};
@@ -18,16 +18,6 @@ pub fn amount(text: &[u8]) -> Result<u64, LineFault>
     ensures limit { IfOk result IsAmount }
 {
     match read_amount(text) {
-        Ok(n) => Ok(n),
-        Err(_) => Err(LineFault::BadAmount),
-    }
-}
-
-pub fn time(text: &[u8]) -> Result<u64, LineFault>
-    ensures value { result ≡ time_in text.now }
-    ensures limit { IfOk result IsTime }
-{
-    match read_time(text) {
         Ok(n) => Ok(n),
         Err(_) => Err(LineFault::BadAmount),
     }
@@ -68,37 +58,56 @@ pub fn actor(name: &[u8], deployment: &Deployment) -> Result<ActorId, LineFault>
     }
 }
 
-/// The actor of that name, whatever it does.
+/// The only argument as an amount.
+pub fn one_amount(text: &[u8]) -> Result<u64, LineFault>
+    ensures value { result ≡ one_amount (words text.now) }
+    ensures limit { IfOk result IsAmount }
+{
+    amount(one(text)?)
+}
+
+/// The only argument as a time.
+pub fn one_time(text: &[u8]) -> Result<u64, LineFault>
+    ensures value { result ≡ one_time (words text.now) }
+    ensures limit { IfOk result IsTime }
+{
+    match read_time(one(text)?) {
+        Ok(n) => Ok(n),
+        Err(_) => Err(LineFault::BadAmount),
+    }
+}
+
+/// The actor that the only argument names, whatever it does.
 #[tactic(auto, using(crate::proofs::KnownLemmas::anyone_exists))]
-fn anyone_named(name: &[u8], deployment: &Deployment) -> Result<ActorId, LineFault>
-    ensures named { result ≡ anyone_in (known_in deployment.now) name.now }
+pub fn one_actor(text: &[u8], deployment: &Deployment) -> Result<ActorId, LineFault>
+    ensures named { result ≡ one_actor (known_in deployment.now) (words text.now) }
     ensures exists { IfOk result (IsActorIn (extent_of deployment.now)) }
 {
-    match deployment.actor(name) {
+    match deployment.actor(one(text)?) {
         Some(actor) => Ok(actor),
         None => Err(LineFault::UnknownActor),
     }
 }
 
-/// The number of the mutex of that name.
+/// The number of the mutex that the only argument names.
 #[tactic(auto, using(crate::proofs::KnownLemmas::mutex_exists))]
-pub fn mutex(name: &[u8], deployment: &Deployment) -> Result<u32, LineFault>
-    ensures named { result ≡ mutex_in (known_in deployment.now) name.now }
+pub fn one_mutex(text: &[u8], deployment: &Deployment) -> Result<u32, LineFault>
+    ensures named { result ≡ one_mutex (known_in deployment.now) (words text.now) }
     ensures exists { IfOk result (IsMutexIn (extent_of deployment.now)) }
 {
-    match deployment.mutex_named(name) {
+    match deployment.mutex_named(one(text)?) {
         Some(number) => Ok(number),
         None => Err(LineFault::UnknownObject),
     }
 }
 
-/// The number of the semaphore of that name.
+/// The number of the semaphore that the only argument names.
 #[tactic(auto, using(crate::proofs::KnownLemmas::semaphore_exists))]
-pub fn semaphore(name: &[u8], deployment: &Deployment) -> Result<u32, LineFault>
-    ensures named { result ≡ semaphore_in (known_in deployment.now) name.now }
+pub fn one_semaphore(text: &[u8], deployment: &Deployment) -> Result<u32, LineFault>
+    ensures named { result ≡ one_semaphore (known_in deployment.now) (words text.now) }
     ensures exists { IfOk result (IsSemaphoreIn (extent_of deployment.now)) }
 {
-    match deployment.semaphore_named(name) {
+    match deployment.semaphore_named(one(text)?) {
         Some(number) => Ok(number),
         None => Err(LineFault::UnknownObject),
     }
@@ -157,26 +166,23 @@ pub fn receiving(text: &[u8], deployment: &Deployment) -> Result<ActorId, LineFa
     }
 }
 
-/// An actor, whatever it does.
-pub fn anyone(text: &[u8], deployment: &Deployment) -> Result<ActorId, LineFault>
-    ensures said { result ≡ anyone_of (known_in deployment.now) (words text.now) }
-    ensures exists { IfOk result (IsActorIn (extent_of deployment.now)) }
-{
-    anyone_named(one(text)?, deployment)
-}
-
 /// Two amounts.
-pub fn amounts(text: &[u8]) -> Result<(u64, u64), LineFault>
-    ensures said { result ≡ amounts_of (words text.now) }
+pub fn two_amounts(text: &[u8]) -> Result<(u64, u64), LineFault>
+    ensures said { result ≡ two_amounts (words text.now) }
     ensures limits { IfOk result (λ both. IsAmount both.0 × IsAmount both.1) }
 {
-    let (first, second) = two(text)?;
-    Ok((amount(first)?, amount(second)?))
+    match cut_arguments(text) {
+        Arguments::Two(one, two) => Ok((amount(one)?, amount(two)?)),
+        Arguments::Zero => Err(LineFault::ArgumentCount),
+        Arguments::One(_) => Err(LineFault::ArgumentCount),
+        Arguments::Three(_, _, _) => Err(LineFault::ArgumentCount),
+        Arguments::More => Err(LineFault::ArgumentCount),
+    }
 }
 
 /// An action without arguments.
 pub fn bare(action: Action, text: &[u8]) -> Result<Operation, LineFault>
-    ensures { result ≡ then_go (no_words (words text.now)) (λ _. alone action) }
+    ensures { result ≡ alone (λ _. action) (no_words (words text.now)) }
 {
     none(text)?;
     Ok(Operation::Alone(action))

@@ -7,6 +7,7 @@ ghost use Rattle.sg_script.specs.kept.Front.{FrontIs, IsUnbroken};
 
 use crate::judging::MOST_LINES;
 use crate::line::LONGEST_LINE;
+use memchr::memchr;
 use sg_edge::Stage;
 
 /// What stands at the front of bytes that were read.
@@ -23,10 +24,12 @@ pub enum Front {
     Broken,
 }
 
+// The place of the first newline, which is sought in many bytes at a time.
+#[tactic(auto, using(crate::proofs::Searching::first_newline))]
 fn newline_at(bytes: &[u8]) -> Option<usize>
     ensures { result ≡ position is_newline bytes.now }
 {
-    bytes.iter().position(|b| *b == b'\n')
+    memchr(b'\n', bytes)
 }
 
 // Whether these bytes make a bad line, however it goes on.

@@ -1,10 +1,10 @@
 //! The judgement of a line by its number too.
 ghost use Rattle.std.specs.Prelude.{◌≡◌, ◌≤◌, ◌+◌, IsTrue, true};
 ghost use Rattle.std.specs.List.{list_all};
-ghost use Rattle.sg_rows.specs.Deployment.{extent_of};
 ghost use Rattle.sg_script.specs.Answer.{judgement_of};
 ghost use Rattle.sg_script.specs.Known.{known_in};
-ghost use Rattle.sg_script.specs.Line.{is_plain, KeepsLimits};
+ghost use Rattle.sg_script.specs.Line.{is_plain};
+ghost use Rattle.sg_script.specs.kept.Asks.{IsJudged};
 
 use crate::fault::LineFault;
 use crate::line::{Entry, read_known_line};
@@ -22,8 +22,8 @@ pub fn judge(
 ) -> Result<Option<Entry>, LineFault>
     requires few { before ≤ 100000000 }
     requires plain { IsTrue plain → list_all is_plain line.now ≡ true }
-    ensures said { result ≡ judgement_of (known_in deployment.now) (before + 1) line.now }
-    ensures limits { KeepsLimits (extent_of deployment.now) result }
+    ensures { IsJudged deployment.now
+        (judgement_of (known_in deployment.now) (before + 1) line.now) result }
 {
     if before >= MOST_LINES {
         return Err(LineFault::TooManyLines);

@@ -1,20 +1,23 @@
 //! What one line of a script says.
-ghost use Rattle.std.specs.Prelude.{◌≡◌, IfOk, IsTrue, true};
+ghost use Rattle.std.specs.Prelude.{◌≡◌, IfOk, IsTrue, Ok, true};
 ghost use Rattle.std.specs.List.{list_all};
 ghost use Rattle.sg_rows.specs.Deployment.{extent_of};
 ghost use Rattle.sg_script.specs.Known.{known_in};
-ghost use Rattle.sg_script.specs.Line.{alone, entry_of, is_plain, KeepsLimits, line_of, operation_of, text_of, together, without_return};
+ghost use Rattle.sg_script.specs.Line.{entry_of, is_plain, KeepsLimits, line_of, operation_of, text_of, without_return};
 ghost use Rattle.sg_script.specs.Operation.{IsOperation};
 ghost use Rattle.sg_script.specs.Words.{words};
+ghost use Rattle.sg_script.specs.kept.Asks.{IsJudged};
+ghost use Rattle.sg_script.specs.declared.operation.Operation.TheVariants.{Alone, Together};
 ghost use Rattle.sg_script.specs.declared.verbs.Verb.TheVariants.{ISend, Send};
 
 use crate::arguments::{
-    actor, amount, amounts, anyone, bare, computing, mutex, receiving, semaphore, sending, time,
+    actor, bare, computing, one_actor, one_amount, one_mutex, one_semaphore, one_time, receiving,
+    sending, two_amounts,
 };
 use crate::fault::LineFault;
 use crate::operation::Operation;
 use crate::verbs::{Verb, read_verb};
-use crate::words::{next_word, one};
+use crate::words::next_word;
 use sg_base::{Action, ActorId};
 use sg_collectives::Collective;
 use sg_rows::Deployment;
@@ -30,13 +33,13 @@ pub struct Entry {
 }
 
 fn alone(action: Action) -> Result<Operation, LineFault>
-    ensures { result ≡ alone action }
+    ensures { result ≡ Ok (Alone action) }
 {
     Ok(Operation::Alone(action))
 }
 
 fn together(collective: Collective) -> Result<Operation, LineFault>
-    ensures { result ≡ together collective }
+    ensures { result ≡ Ok (Together collective) }
 {
     Ok(Operation::Together(collective))
 }
@@ -67,7 +70,7 @@ fn read_operation(verb: Verb, text: &[u8], deployment: &Deployment) -> Result<Op
             let (flops, priority) = computing(text)?;
             alone(Action::Compute(flops, priority))
         }
-        Verb::Sleep => alone(Action::Sleep(time(one(text)?)?)),
+        Verb::Sleep => alone(Action::Sleep(one_time(text)?)),
         Verb::Send => send(text, deployment),
         Verb::ISend => isend(text, deployment),
         Verb::Recv => alone(Action::Recv(receiving(text, deployment)?)),
@@ -75,29 +78,29 @@ fn read_operation(verb: Verb, text: &[u8], deployment: &Deployment) -> Result<Op
         Verb::Wait => bare(Action::Wait, text),
         Verb::Barrier => bare(Action::Barrier, text),
         Verb::Yield => bare(Action::Yield, text),
-        Verb::Lock => alone(Action::Lock(mutex(one(text)?, deployment)?)),
-        Verb::Unlock => alone(Action::Unlock(mutex(one(text)?, deployment)?)),
-        Verb::Acquire => alone(Action::Acquire(semaphore(one(text)?, deployment)?)),
-        Verb::Release => alone(Action::Release(semaphore(one(text)?, deployment)?)),
-        Verb::Create => alone(Action::Create(anyone(text, deployment)?)),
-        Verb::Join => alone(Action::Join(anyone(text, deployment)?)),
-        Verb::Kill => alone(Action::Kill(anyone(text, deployment)?)),
-        Verb::Suspend => alone(Action::Suspend(anyone(text, deployment)?)),
-        Verb::Resume => alone(Action::Resume(anyone(text, deployment)?)),
+        Verb::Lock => alone(Action::Lock(one_mutex(text, deployment)?)),
+        Verb::Unlock => alone(Action::Unlock(one_mutex(text, deployment)?)),
+        Verb::Acquire => alone(Action::Acquire(one_semaphore(text, deployment)?)),
+        Verb::Release => alone(Action::Release(one_semaphore(text, deployment)?)),
+        Verb::Create => alone(Action::Create(one_actor(text, deployment)?)),
+        Verb::Join => alone(Action::Join(one_actor(text, deployment)?)),
+        Verb::Kill => alone(Action::Kill(one_actor(text, deployment)?)),
+        Verb::Suspend => alone(Action::Suspend(one_actor(text, deployment)?)),
+        Verb::Resume => alone(Action::Resume(one_actor(text, deployment)?)),
         Verb::Bcast => {
-            let bytes = amount(one(text)?)?;
+            let bytes = one_amount(text)?;
             together(Collective::Bcast { bytes })
         }
         Verb::Reduce => {
-            let (bytes, flops) = amounts(text)?;
+            let (bytes, flops) = two_amounts(text)?;
             together(Collective::Reduce { bytes, flops })
         }
         Verb::Allreduce => {
-            let (bytes, flops) = amounts(text)?;
+            let (bytes, flops) = two_amounts(text)?;
             together(Collective::Allreduce { bytes, flops })
         }
         Verb::Alltoall => {
-            let bytes = amount(one(text)?)?;
+            let bytes = one_amount(text)?;
             together(Collective::Alltoall { bytes })
         }
     }
@@ -105,8 +108,8 @@ fn read_operation(verb: Verb, text: &[u8], deployment: &Deployment) -> Result<Op
 
 // The entry of a first word and the text behind it.
 fn read_entry(name: &[u8], text: &[u8], deployment: &Deployment) -> Result<Option<Entry>, LineFault>
-    ensures said { result ≡ entry_of (known_in deployment.now) name.now (words text.now) }
-    ensures limits { KeepsLimits (extent_of deployment.now) result }
+    ensures { IsJudged deployment.now
+        (entry_of (known_in deployment.now) name.now (words text.now)) result }
 {
     let actor = actor(name, deployment)?;
     let Some((word, rest)) = next_word(text) else {
@@ -145,8 +148,7 @@ fn without_end(line: &[u8]) -> &[u8]
 
 fn read_text(text: &[u8], plain: bool, deployment: &Deployment) -> Result<Option<Entry>, LineFault>
     requires { IsTrue plain → list_all is_plain text.now ≡ true }
-    ensures said { result ≡ text_of (known_in deployment.now) text.now }
-    ensures limits { KeepsLimits (extent_of deployment.now) result }
+    ensures { IsJudged deployment.now (text_of (known_in deployment.now) text.now) result }
 {
     let Some((first, rest)) = next_word(text) else {
         return Ok(None);
@@ -168,8 +170,7 @@ pub fn read_known_line(
     deployment: &Deployment,
 ) -> Result<Option<Entry>, LineFault>
     requires { IsTrue plain → list_all is_plain line.now ≡ true }
-    ensures said { result ≡ line_of (known_in deployment.now) line.now }
-    ensures limits { KeepsLimits (extent_of deployment.now) result }
+    ensures { IsJudged deployment.now (line_of (known_in deployment.now) line.now) result }
 {
     if line.len() > LONGEST_LINE {
         return Err(LineFault::TooLong);

@@ -3,7 +3,7 @@ ghost use Rattle.std.specs.Prelude.{◌≡◌, ◌<◌, [], ◌∷◌, length, r
 ghost use Rattle.std.specs.List.{flat_map};
 ghost use Rattle.sg_script.specs.declared.operation.Operation.TheVariants.{Alone};
 ghost use Rattle.sg_base.specs.Limits.{Extent, IsAction, IsActorIn};
-ghost use Rattle.sg_script.specs.kept.Queues.{AreOperations, left_of, queue_at, waits, with_first, with_line};
+ghost use Rattle.sg_script.specs.kept.Queues.{AreOperations, KeepsOperations, left_of, queue_at, waits, with_first, with_line};
 
 use crate::operation::Operation;
 use crate::waiting::Waiting;
@@ -52,9 +52,7 @@ fn take_next(lines: &mut VecDeque<Waiting>, actor: ActorId, members: &Members) -
     ensures first { flat_map (left_of members.now actor.0) lines.old.items
         ≡ with_first result (flat_map (left_of members.now actor.0) lines.new.items) }
     ensures empty { IfNone result (flat_map (left_of members.now actor.0) lines.old.items ≡ []) }
-    ensures limited { (extent : Extent) → All (IsActorIn extent) members.now
-        → AreOperations extent lines.old.items
-        → IfSome result (IsAction extent) × AreOperations extent lines.new.items }
+    ensures limited { KeepsOperations members.now lines.old.items result lines.new.items }
 {
     while let Some(line) = lines.front_mut() {
         if let Some(action) = line.take(actor, members) {
@@ -71,9 +69,7 @@ fn take_first(lines: &mut VecDeque<Waiting>, actor: ActorId, members: &Members) 
     ensures first { flat_map (left_of members.now actor.0) lines.old.items
         ≡ with_first result (flat_map (left_of members.now actor.0) lines.new.items) }
     ensures empty { IfNone result (flat_map (left_of members.now actor.0) lines.old.items ≡ []) }
-    ensures limited { (extent : Extent) → All (IsActorIn extent) members.now
-        → AreOperations extent lines.old.items
-        → IfSome result (IsAction extent) × AreOperations extent lines.new.items }
+    ensures limited { KeepsOperations members.now lines.old.items result lines.new.items }
 {
     match take_alone(lines) {
         Some(action) => Some(action),

@@ -1,15 +1,14 @@
 //! A script of which lines are read when an actor asks for one.
 ghost use Rattle.std.specs.Prelude.{◌≡◌, ◌≢◌, ◌<◌, ◌≤◌, ◌+◌, ℕ, ⊤, List, [], length, take, drop, IfOk, IfSome, MatchOption, Ok, Some, true};
-ghost use Rattle.std.specs.List.{list_all};
 ghost use Rattle.sg_base.specs.Limits.{Extent, IsAction};
 ghost use Rattle.sg_edge.specs.declared.files.Stage.TheVariants.{Fresh, Begun};
 ghost use Rattle.sg_edge.specs.Files.{Only};
-ghost use Rattle.sg_rows.specs.Deployment.{extent_of, members_of};
+ghost use Rattle.sg_rows.specs.Deployment.{extent_of};
 ghost use Rattle.sg_script.specs.Answer.{judgement_of};
 ghost use Rattle.sg_script.specs.Known.{known_in, actors_in};
 ghost use Rattle.sg_script.specs.declared.operation.Operation.TheVariants.{Alone};
 ghost use Rattle.sg_script.specs.Operation.{IsOperation};
-ghost use Rattle.sg_script.specs.kept.Front.{is_within};
+ghost use Rattle.sg_script.specs.Line.{KeepsLimits};
 
 use crate::fault::ScriptFault;
 use crate::front::{Front, front_of};
@@ -55,9 +54,9 @@ impl Script {
     ghost use Rattle.sg_edge.specs.declared.files.Stage.{Stage};
     ghost use Rattle.sg_script.specs.Frugal.{Frugal};
     ghost use Rattle.sg_script.specs.Known.{Known};
-    ghost use Rattle.sg_script.specs.kept.Queues.{waits};
     ghost use Rattle.sg_script.specs.Stands.{AreLimited, IsLimited, IsRead, LeadsAsk, BreaksOnFailure, actors_of, kept_of, Stands};
-    ghost use Rattle.sg_script.specs.kept.Steps.{Ends, LineIs, LineTells, Pops, ReadIs, StepIs};
+    ghost use Rattle.sg_script.specs.kept.Asks.{CanPass, IsAnswered, IsAtFront, IsIdle, IsReady, KeepsLimitsIf};
+    ghost use Rattle.sg_script.specs.kept.Steps.{LineIs, LineTells, Pops, ReadIs, StepIs};
 
     /// A script of which nothing was read, for so many actors.
     #[tactic(auto, using(crate::proofs::LimitLemmas::limited_none))]
@@ -76,8 +75,7 @@ impl Script {
 
     // Lets the line go that took so many bytes.
     fn pass(&mut self, end: usize)
-        requires end { end ≤ length self.old.pending }
-        requires few { self.old.before < 100000000 }
+        requires { CanPass end (kept_of self.old) }
         ensures queues { self.new.queues ≡ self.old.queues }
         ensures pending { self.new.pending ≡ drop end self.old.pending }
         ensures lines { self.new.before ≡ self.old.before + 1 }
@@ -89,8 +87,7 @@ impl Script {
     // Lets the line go into its actor's queue. Without memory it stays.
     #[tactic(auto, using(crate::proofs::LimitLemmas::limited_same, crate::proofs::LimitLemmas::limited_more))]
     fn take_entry(&mut self, entry: Entry, end: usize) -> Option<ScriptFault>
-        requires end { end ≤ length self.old.pending }
-        requires few { self.old.before < 100000000 }
+        requires pass { CanPass end (kept_of self.old) }
         requires within { entry.actor.0 < length self.old.queues }
         ensures line { LineIs (Ok (Some entry)) end result (kept_of self.old)
             (kept_of self.new) }
@@ -108,8 +105,7 @@ impl Script {
 
     // Takes the first action that waits for the actor.
     fn take_waiting(&mut self, actor: ActorId, deployment: &Deployment) -> Option<Action>
-        requires actor { actor.0 < length self.old.queues }
-        requires waiting { AreLimited (extent_of deployment.now) (kept_of self.old) }
+        requires { IsReady deployment.now actor.0 (kept_of self.old) }
         ensures pops { Pops (known_in deployment.now) actor.0 result (kept_of self.old)
             (kept_of self.new) }
         ensures limited { IfSome result (IsAction (extent_of deployment.now)) }
@@ -128,17 +124,12 @@ impl Script {
         actor: ActorId,
         deployment: &Deployment,
     ) -> Option<Answer>
-        requires end { end ≤ length self.old.pending }
-        requires few { self.old.before < 100000000 }
-        requires within { entry.actor.0 < length self.old.queues }
-        requires actor { actor.0 < length self.old.queues }
-        requires empty { waits (members_of deployment.now) self.old.queues actor.0 ≡ [] }
-        requires limited { IsOperation (extent_of deployment.now) entry.operation }
-        requires waiting { AreLimited (extent_of deployment.now) (kept_of self.old) }
+        requires pass { CanPass end (kept_of self.old) }
+        requires limits { KeepsLimits (extent_of deployment.now) (Ok (Some entry)) }
+        requires idle { IsIdle deployment.now actor.0 (kept_of self.old) }
         ensures line { LineTells (known_in deployment.now) (Ok (Some entry)) end actor.0 result
             (kept_of self.old) (kept_of self.new) }
-        ensures limited { IfSome result (IsLimited (extent_of deployment.now)) }
-        ensures waiting { AreLimited (extent_of deployment.now) (kept_of self.new) }
+        ensures limits { KeepsLimitsIf deployment.now result (kept_of self.new) }
     {
         if let Some(action) = own_action(entry, actor) {
             self.pass(end);
@@ -163,18 +154,12 @@ impl Script {
         actor: ActorId,
         deployment: &Deployment,
     ) -> Option<Answer>
-        requires len { len ≤ end }
-        requires end { end ≤ length self.old.pending }
-        requires unbroken { list_all is_within (take len self.old.pending) ≡ true }
-        requires actors { actors_in deployment.now < length self.old.queues }
-        requires actor { actor.0 < length self.old.queues }
-        requires empty { waits (members_of deployment.now) self.old.queues actor.0 ≡ [] }
-        requires waiting { AreLimited (extent_of deployment.now) (kept_of self.old) }
+        requires front { IsAtFront len end (kept_of self.old) }
+        requires idle { IsIdle deployment.now actor.0 (kept_of self.old) }
         ensures line { LineTells (known_in deployment.now)
             (judgement_of (known_in deployment.now) (self.old.before + 1)
             (take len self.old.pending)) end actor.0 result (kept_of self.old) (kept_of self.new) }
-        ensures limited { IfSome result (IsLimited (extent_of deployment.now)) }
-        ensures waiting { AreLimited (extent_of deployment.now) (kept_of self.new) }
+        ensures limits { KeepsLimitsIf deployment.now result (kept_of self.new) }
     {
         let plain = self.pending.is_plain();
         match judge(&self.pending.bytes()[..len], self.before, plain, deployment) {
@@ -211,15 +196,11 @@ impl Script {
         files: &mut F,
     ) -> Option<Answer>
         requires begun { (F.shows files.old Part.Script).stage ≢ Fresh }
-        requires actors { actors_in deployment.now < length self.old.queues }
-        requires actor { actor.0 < length self.old.queues }
-        requires empty { waits (members_of deployment.now) self.old.queues actor.0 ≡ [] }
-        requires waiting { AreLimited (extent_of deployment.now) (kept_of self.old) }
+        requires idle { IsIdle deployment.now actor.0 (kept_of self.old) }
         ensures step { StepIs (known_in deployment.now) actor.0 result
             (F.shows files.old Part.Script) (F.shows files.new Part.Script) (kept_of self.old)
             (kept_of self.new) }
-        ensures limited { IfSome result (IsLimited (extent_of deployment.now)) }
-        ensures waiting { AreLimited (extent_of deployment.now) (kept_of self.new) }
+        ensures limits { KeepsLimitsIf deployment.now result (kept_of self.new) }
         ensures others { Only Part.Script (F.shows files.old) (F.shows files.new) }
     {
         let front = front_of(self.pending.bytes(), self.before, files.stage(Part::Script));
@@ -242,17 +223,9 @@ impl Script {
         files: &mut F,
     ) -> Result<Option<Action>, ScriptFault>
         requires begun { (F.shows files.old Part.Script).stage ≢ Fresh }
-        requires actors { actors_in deployment.now < length self.old.queues }
-        requires actor { actor.0 < length self.old.queues }
-        requires empty { waits (members_of deployment.now) self.old.queues actor.0 ≡ [] }
-        requires waiting { AreLimited (extent_of deployment.now) (kept_of self.old) }
-        ensures ends { Ends (known_in deployment.now) actor.0 result
-            (F.shows files.old Part.Script) (F.shows files.new Part.Script) (kept_of self.old)
-            (kept_of self.new) }
-        ensures limited { IsLimited (extent_of deployment.now) result }
-        ensures waiting { AreLimited (extent_of deployment.now) (kept_of self.new) }
-        ensures read { IsRead result (F.shows files.new Part.Script) }
-        ensures others { Only Part.Script (F.shows files.old) (F.shows files.new) }
+        requires idle { IsIdle deployment.now actor.0 (kept_of self.old) }
+        ensures { IsAnswered deployment.now actor.0 result (F.shows files.old)
+            (F.shows files.new) (kept_of self.old) (kept_of self.new) }
     {
         loop {
             match self.step(actor, deployment, files) {
@@ -271,16 +244,9 @@ impl Script {
         files: &mut F,
     ) -> Result<Option<Action>, ScriptFault>
         requires begun { (F.shows files.old Part.Script).stage ≢ Fresh }
-        requires actors { actors_in deployment.now < length self.old.queues }
-        requires actor { actor.0 < length self.old.queues }
-        requires waiting { AreLimited (extent_of deployment.now) (kept_of self.old) }
-        ensures ends { Ends (known_in deployment.now) actor.0 result
-            (F.shows files.old Part.Script) (F.shows files.new Part.Script) (kept_of self.old)
-            (kept_of self.new) }
-        ensures limited { IsLimited (extent_of deployment.now) result }
-        ensures waiting { AreLimited (extent_of deployment.now) (kept_of self.new) }
-        ensures read { IsRead result (F.shows files.new Part.Script) }
-        ensures others { Only Part.Script (F.shows files.old) (F.shows files.new) }
+        requires ready { IsReady deployment.now actor.0 (kept_of self.old) }
+        ensures { IsAnswered deployment.now actor.0 result (F.shows files.old)
+            (F.shows files.new) (kept_of self.old) (kept_of self.new) }
     {
         match self.take_waiting(actor, deployment) {
             Some(action) => Ok(Some(action)),

@@ -1,6 +1,7 @@
 //! The actions of a script by their words.
 ghost use Rattle.std.specs.Prelude.{◌≡◌};
-ghost use Rattle.sg_script.specs.Verbs.{rarer_verbs, verb_in, verb_of};
+ghost use Rattle.sg_script.specs.Verbs.{verb_of};
+ghost use Rattle.sg_script.specs.kept.RarerVerbs.{rarer_verb_of};
 
 /// An action without its arguments.
 #[derive(Clone, Copy)]
@@ -33,7 +34,7 @@ pub enum Verb {
 
 // The action of a word that is none of the usual ones.
 fn read_rarer_verb(word: &[u8]) -> Option<Verb>
-    ensures { result ≡ verb_in rarer_verbs word.now }
+    ensures { result ≡ rarer_verb_of word.now }
 {
     if b"acquire".as_slice() == word {
         return Some(Verb::Acquire);

@@ -2,7 +2,7 @@
 ghost use Rattle.std.specs.Prelude.{◌≡◌, ◌∷◌, ◌<◌, [], length, IfSome, MatchOption, MatchResult, Ok, Err};
 ghost use Rattle.std.specs.List.{position, slice_split};
 ghost use Rattle.sg_script.specs.Words.{is_blank, words};
-ghost use Rattle.sg_script.specs.Line.{no_words, one_word, two_words};
+ghost use Rattle.sg_script.specs.Line.{no_words, one_word};
 ghost use Rattle.sg_script.specs.kept.Arguments.{AreArguments};
 
 use crate::fault::LineFault;
@@ -99,16 +99,4 @@ pub fn one(text: &[u8]) -> Result<&[u8], LineFault>
         },
         None => Err(LineFault::ArgumentCount),
     }
-}
-
-/// The only two words.
-pub fn two(text: &[u8]) -> Result<(&[u8], &[u8]), LineFault>
-    ensures { MatchResult result
-        (λ both. two_words (words text.entry.now) ≡ Ok (both.0.now, both.1.now))
-        (λ e. two_words (words text.entry.now) ≡ Err e) }
-{
-    let Some((first, rest)) = next_word(text) else {
-        return Err(LineFault::ArgumentCount);
-    };
-    Ok((first, one(rest)?))
 }

@@ -1,10 +1,10 @@
 -- The lines that wait for each actor, and what is left of them.
-use Rattle.std.specs.Prelude.{ℕ, List, [], ◌∷◌, ◌++◌, Option, drop, slice_index_or, slice_set}
+use Rattle.std.specs.Prelude.{ℕ, List, [], ◌∷◌, ◌++◌, IfSome, Option, drop, slice_index_or, slice_set}
 use Rattle.std.specs.List.{All, flat_map}
 use Rattle.std.specs.Option.{option_to_list}
 use Rattle.sg_base.specs.declared.call.Action.{Action}
 use Rattle.sg_base.specs.declared.ids.ActorId.{ActorId}
-use Rattle.sg_base.specs.Limits.{Extent}
+use Rattle.sg_base.specs.Limits.{Extent, IsAction, IsActorIn}
 use Rattle.sg_script.specs.declared.operation.Operation.{Operation}
 use Rattle.sg_script.specs.declared.waiting.Waiting.{Waiting}
 use Rattle.sg_script.specs.Operation.{actions_for, IsOperation}
@@ -34,3 +34,9 @@ with_line actor operation queues =
 -- lines that wait keep to the limits
 abbrev pub AreOperations : Extent → List Waiting → Type 0
 AreOperations extent lines = All (λ line. IsOperation extent line.operation) lines
+
+-- where the members exist and the lines keep to the limits, so do the action that was taken and the
+-- lines that are left
+abbrev pub KeepsOperations : List ActorId → List Waiting → Option Action → List Waiting → Type 0
+KeepsOperations members old first new = (extent : Extent) → All (IsActorIn extent) members →
+    AreOperations extent old → IfSome first (IsAction extent) × AreOperations extent new

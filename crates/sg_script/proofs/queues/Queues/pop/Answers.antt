@@ -1,6 +1,5 @@
-use Rattle.std.proofs.Common.{◌≡◌, ap, subst, sym}
-use Rattle.std.specs.List.{flat_map}
-use Rattle.sg_script.specs.kept.Queues.{AreOperations, left_of, queue_at}
+use Rattle.std.proofs.Common.{◌≡◌, subst, sym}
+use Rattle.sg_script.specs.kept.Queues.{AreOperations, queue_at}
 use Rattle.sg_script.proofs.QueueLemmas.{limited_at, limited_with, new_view, old_view, others_view, waits_first}
 use Rattle.sg_script.proofs.queues.Queues.pop.Goals as goal
 

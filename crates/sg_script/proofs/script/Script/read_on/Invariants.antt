@@ -1,18 +1,15 @@
-use Rattle.std.proofs.Common.{◌≡◌, []}
+use Rattle.sg_script.specs.kept.Asks.{IsIdle}
 use Rattle.sg_edge.specs.declared.files.Part.TheVariants.{Script as ScriptPart}
 use Rattle.sg_edge.specs.Files.{Only}
-use Rattle.sg_rows.specs.Deployment.{extent_of, members_of}
 use Rattle.sg_script.specs.Known.{known_in}
-use Rattle.sg_script.specs.kept.Queues.{waits}
-use Rattle.sg_script.specs.Stands.{AreLimited, kept_of}
+use Rattle.sg_script.specs.Stands.{kept_of}
 use Rattle.sg_script.specs.kept.Steps.{Goes, to_do}
 use Rattle.sg_script.proofs.script.Script.read_on.Given as goal
 
 abbrev pub invariant-loop-answer : goal.invariant-loop-answer
 invariant-loop-answer g l = record {
   goes : Goes (known_in l.deployment) l.actor.0 (g.F.Files.shows l.initial.files ScriptPart) (g.F.Files.shows l.files ScriptPart) (kept_of l.initial.self) (kept_of l.self);
-  empty : waits (members_of l.deployment) l.self.queues l.actor.0 ≡ [];
-  waiting : AreLimited (extent_of l.deployment) (kept_of l.self);
+  idle : IsIdle l.deployment l.actor.0 (kept_of l.self);
   others : Only ScriptPart (g.F.Files.shows l.initial.files) (g.F.Files.shows l.files);
 }
 
