@@ -2,6 +2,7 @@
 use Rattle.std.proofs.Common.{◌≡◌, ◌≢◌, ℕ, ◌<◌, ◌≤◌, Bool, cond, Option, None, Some, List, [], ◌∷◌, ◌++◌, length, get_or, refl, sym, ap, subst, ◌∙◌, arith}
 use Rattle.std.specs.Prelude.{All, map, vec_capacity, IfSome}
 use Rattle.std.specs.HashMap.{spare, hash_map_len}
+use Rattle.std.specs.Map.{lookup}
 use Rattle.std.proofs.lemmas.Bool.{eqb-false}
 use Rattle.std.proofs.Math.Bool.{beq}
 use Rattle.std.proofs.lemmas.List.{get_or-map, get_or-set_same, get_or-set_other, length-map}
@@ -17,7 +18,7 @@ use Rattle.sg_queues.proofs.Values.{values_at, queued_values}
 use Rattle.sg_mailbox.specs.declared.kept.Kept.{Kept}
 use Rattle.sg_mailbox.specs.declared.sides.Post.{Post}
 use Rattle.sg_mailbox.specs.declared.sides.Place.{Place}
-use Rattle.sg_mailbox.specs.Posts.{posts_in, waiting, meets, met, withdrawn, AreBelow, AreRising}
+use Rattle.sg_mailbox.specs.Posts.{box_eq, posts_in, waiting, meets, met, withdrawn, AreBelow, AreRising}
 use Rattle.sg_mailbox.specs.kept.Queues.{number, place, posts_of, is_at, IsPlace, AreNumbered, AreOrdered, AreKept, IsKept}
 use Rattle.sg_mailbox.proofs.Lists.{first_met}
 use Rattle.sg_mailbox.proofs.Numbers.{numbered_as}
@@ -49,16 +50,16 @@ unknown more may kept serial was above = go (place kept serial.0) refl (was.plac
         let one = side_at (number kept) (place kept) kept.queues.queues serial.0 p was.placed is held (λ (e : ℕ × Post). e.1.serial.0 < serial.0) (λ k d less. subst (λ (post : Post). post.serial.0 < serial.0) (get_or-map value queue k d d.1 less) (below k d.1 (omega (arith, less, length-map queue value)))) in
         absurd (omega (arith, one.2, one.3))
 
--- the maps and the queues grow
-pub grown : (old new : Kept) → IsKept old → ((m : BoxId) → number new m ≡ number old m) → hash_map_len new.numbers ≡ hash_map_len old.numbers → spare old.numbers ≤ spare new.numbers → ((s : ℕ) → place new s ≡ place old s) → serials.room old.places ≤ serials.room new.places
+-- the same sides wait, in maps and queues with room for those that come
+pub alike : (old new : Kept) → IsKept old → ((m : BoxId) → number new m ≡ number old m) → hash_map_len new.numbers ≡ hash_map_len old.numbers → old.room ≤ spare new.numbers → ((s : ℕ) → place new s ≡ place old s) → old.room ≤ serials.room new.places
     → new.queues.queues ≡ old.queues.queues → old.queues.room ≤ new.queues.room → new.empty ≡ old.empty → new.room ≡ old.room → IsKept new
-grown old new was numbers count numbers_fit places places_fit queues queues_fit empty room =
+alike old new was numbers count numbers_fit places places_fit queues queues_fit empty room =
     let items : new.empty.items ≡ old.empty.items = ap (λ v. v.items) empty in
     record {
       roomy = record {
-        numbers = omega (arith, was.roomy.numbers, numbers_fit, room);
+        numbers = omega (arith, numbers_fit, room);
         empty = omega (arith, was.roomy.empty, ap length items, room);
-        places = omega (arith, was.roomy.places, places_fit, room);
+        places = omega (arith, places_fit, room);
         queues = omega (arith, was.roomy.queues, queues_fit, room);
         stack = omega (arith, was.roomy.stack, count, ap length items, ap (λ v. vec_capacity v) empty);
       };
@@ -68,6 +69,20 @@ grown old new was numbers count numbers_fit places places_fit queues queues_fit 
       ordered = rw queues was.ordered;
       filled = rw queues (λ m q is none. was.filled m q (sym (numbers m) ∙ is) none);
     }
+
+-- there is more room
+pub grown : (old new : Kept) → IsKept old → ((m : BoxId) → number new m ≡ number old m) → hash_map_len new.numbers ≡ hash_map_len old.numbers → spare old.numbers ≤ spare new.numbers → ((s : ℕ) → place new s ≡ place old s) → serials.room old.places ≤ serials.room new.places
+    → new.queues.queues ≡ old.queues.queues → old.queues.room ≤ new.queues.room → new.empty ≡ old.empty → new.room ≡ old.room → IsKept new
+grown old new was numbers count numbers_fit places places_fit queues queues_fit empty room =
+    alike old new was numbers count (omega (arith, was.roomy.numbers, numbers_fit)) places (omega (arith, was.roomy.places, places_fit)) queues queues_fit empty room
+
+-- nobody waits where no mailbox has a queue
+pub nobody : (kept : Kept) → hash_map_len kept.numbers ≡ 0 → (mailbox : BoxId) → waiting (posts_of kept) mailbox ≡ []
+nobody kept none mailbox = ap (posts_in (values_of kept.queues.queues)) (ap (λ (es : List (BoxId × ℕ)). lookup (box_eq mailbox) es) (empty kept.numbers.entries none))
+  where
+    empty : (es : List (BoxId × ℕ)) → length es ≡ 0 → es ≡ []
+    empty [] h = refl
+    empty (e ∷ es) h = absurd (omega (arith, h))
 
 -- ---- a side comes to the end of a queue
 module _ (queues : List (List (ℕ × Post))) (queue slot : ℕ) (post : Post) where

@@ -3,26 +3,11 @@ ghost use Rattle.std.specs.Prelude.{◌≡◌, ◌-◌, ◌<◌, ◌≤◌, [], 
 ghost use Rattle.sg_base.specs.declared.ids.BoxId.{BoxId};
 ghost use Rattle.sg_mailbox.specs.Posts.{waiting, meets, arrives, meeting, met, withdrawn, AllStay, AreBelow, AreRising, IsFound, OthersStay};
 
-use crate::kept::{Kept, enter, look, reserve, withdraw};
-use crate::sides::{Found, Meeting, Post, Side};
-use sg_base::{ActorId, BoxId, Memory, Msg, Serial};
-use sg_queues::Queues;
-use sg_serials::BySerial;
+use crate::kept::{Kept, enter, first, look, reserve, withdraw};
+use crate::sides::{Found, Meeting, Side};
+use sg_base::{BoxId, Memory, Serial};
 use std::alloc::Global;
-use std::collections::HashMap;
 use std::marker::Model;
-
-// What stands where nobody waits.
-const BLANK: Post = Post {
-    serial: Serial(0),
-    sends: false,
-    side: Side {
-        actor: ActorId(0),
-        bytes: 0,
-        msg: Msg::Empty,
-        rate: 0,
-    },
-};
 
 /// Communications of which one side is there, mailbox by mailbox.
 ///
@@ -58,13 +43,7 @@ impl Boxes {
         ensures room { IfOk result (λ boxes. boxes.room ≡ 0) }
     {
         Ok(Boxes {
-            kept: Kept {
-                numbers: HashMap::new(alloc),
-                queues: Queues::new(alloc, BLANK)?,
-                empty: Vec::new(alloc),
-                places: BySerial::new(alloc),
-                room: 0,
-            },
+            kept: first(alloc)?,
         })
     }
 

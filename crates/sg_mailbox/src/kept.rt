@@ -1,16 +1,17 @@
 //! What the mailboxes keep: a queue for each in which somebody waits.
-ghost use Rattle.std.specs.Prelude.{◌≡◌, ◌+◌, ◌-◌, ◌<◌, ◌≤◌, [], ◌∷◌, ◌++◌, None, Some, OnOk, All, length, vec_len, vec_capacity};
-ghost use Rattle.std.specs.HashMap.{spare};
+ghost use Rattle.std.specs.Prelude.{◌≡◌, ◌+◌, ◌-◌, ◌<◌, ◌≤◌, [], ◌∷◌, ◌++◌, None, Some, IfOk, IsTrue, OnOk, All, length, min, vec_len, vec_capacity};
+ghost use Rattle.std.specs.HashMap.{get, hash_map_len, spare};
 ghost use Rattle.sg_base.specs.declared.ids.BoxId.{BoxId};
 ghost use Rattle.sg_serials.specs.Serials as serials;
 ghost use Rattle.sg_mailbox.specs.declared.sides.Post.{Post as PostSpec};
-ghost use Rattle.sg_mailbox.specs.Posts.{meets, arrives, meeting, waiting, withdrawn, AllStay, AreBelow, AreRising, IsFound, OthersStay};
+ghost use Rattle.sg_mailbox.specs.Posts.{box_eq, meets, arrives, meeting, waiting, withdrawn, AllStay, AreBelow, AreRising, IsFound, OthersStay};
 ghost use Rattle.sg_mailbox.specs.kept.Queues.{number, posts_of, IsKept, IsKeptBut};
 
 use crate::sides::{Found, Meeting, Place, Post, Side};
-use sg_base::{BoxId, Memory, Serial};
+use sg_base::{ActorId, BoxId, Memory, Msg, Serial};
 use sg_queues::Queues;
 use sg_serials::BySerial;
+use std::alloc::Global;
 use std::collections::HashMap;
 
 /// The fields of the mailboxes.
@@ -25,6 +26,34 @@ pub(crate) struct Kept {
     pub(crate) places: BySerial<Place>,
     /// Room for so many sides that come.
     pub(crate) room: usize,
+}
+
+// What stands where nobody waits.
+const BLANK: Post = Post {
+    serial: Serial(0),
+    sends: false,
+    side: Side {
+        actor: ActorId(0),
+        bytes: 0,
+        msg: Msg::Empty,
+        rate: 0,
+    },
+};
+
+/// Nobody waits, and there is no room.
+pub(crate) fn first(alloc: Global) -> Result<Kept, Memory>
+    ensures nobody { IfOk result (λ kept. (mailbox : BoxId) →
+        waiting (posts_of kept) mailbox ≡ []) }
+    ensures room { IfOk result (λ kept. kept.room ≡ 0) }
+    ensures kept { IfOk result IsKept }
+{
+    Ok(Kept {
+        numbers: HashMap::new(alloc),
+        queues: Queues::new(alloc, BLANK)?,
+        empty: Vec::new(alloc),
+        places: BySerial::new(alloc),
+        room: 0,
+    })
 }
 
 fn push(items: &mut Vec<usize>, item: usize)
@@ -72,7 +101,73 @@ fn add_queue(kept: &mut Kept) -> Result<(), Memory>
     Ok(())
 }
 
-/// Makes room for so many sides that come.
+// Most of the memory of a map goes where it has few of the many that it had; room for so many more stays.
+fn trim(numbers: &mut HashMap<BoxId, usize>, room: usize)
+    ensures same { (mailbox : BoxId) → get box_eq numbers.new mailbox
+        ≡ get box_eq numbers.old mailbox }
+    ensures count { hash_map_len numbers.new ≡ hash_map_len numbers.old }
+    ensures room { min room (spare numbers.old) ≤ spare numbers.new }
+{
+    let wanted = numbers.len().saturating_add(room);
+    if wanted < numbers.capacity() / 4 {
+        numbers.shrink_to(wanted);
+    }
+}
+
+// The maps let memory go that isn't needed for so much room.
+fn shrink(kept: &mut Kept, room: usize)
+    requires kept { IsKept kept.old }
+    requires more { kept.old.room ≤ room }
+    ensures same { AllStay (posts_of kept.old) (posts_of kept.new) }
+    ensures room { kept.new.room ≡ kept.old.room }
+    ensures kept { IsKept kept.new }
+{
+    trim(&mut kept.numbers, room);
+    kept.places.trim(room);
+}
+
+// Room for so many sides that come, and not less than there was.
+fn make_room(kept: &mut Kept, room: usize) -> Result<(), Memory>
+    requires kept { IsKept kept.old }
+    requires more { kept.old.room ≤ room }
+    ensures room { OnOk result (kept.new.room ≡ room) }
+    ensures grows { kept.old.room ≤ kept.new.room }
+    ensures same { AllStay (posts_of kept.old) (posts_of kept.new) }
+    ensures kept { IsKept kept.new }
+{
+    grow(kept, room)?;
+    while kept.empty.len() < room {
+        add_queue(kept)?;
+    }
+    kept.room = room;
+    Ok(())
+}
+
+// Whether nobody waits, and there were many more queues at once than are wanted.
+fn is_wide(kept: &Kept, room: usize) -> bool
+    ensures { IsTrue result → hash_map_len kept.now.numbers ≡ 0 }
+{
+    kept.numbers.is_empty() && kept.empty.len() / 4 > room
+}
+
+// Takes memory anew for so many sides that come, where nobody waits, and lets the old go.
+fn renew(kept: &mut Kept, room: usize) -> Result<(), Memory>
+    requires kept { IsKept kept.old }
+    requires more { kept.old.room ≤ room }
+    requires nobody { hash_map_len kept.old.numbers ≡ 0 }
+    ensures room { OnOk result (kept.new.room ≡ room) }
+    ensures grows { kept.old.room ≤ kept.new.room }
+    ensures same { AllStay (posts_of kept.old) (posts_of kept.new) }
+    ensures kept { IsKept kept.new }
+{
+    let mut other = first(*kept.empty.allocator())?;
+    make_room(&mut other, room)?;
+    *kept = other;
+    Ok(())
+}
+
+/// Makes room for so many sides that come. Where many waited at once and few do any more, memory that they took is let
+/// go, and all of it where nobody waits.
 pub(crate) fn reserve(kept: &mut Kept, n: usize) -> Result<(), Memory>
     requires kept { IsKept kept.old }
     ensures room { OnOk result (n ≤ kept.new.room) }
@@ -81,12 +176,11 @@ pub(crate) fn reserve(kept: &mut Kept, n: usize) -> Result<(), Memory>
     ensures kept { IsKept kept.new }
 {
     let room = n.max(kept.room);
-    grow(kept, room)?;
-    while kept.empty.len() < room {
-        add_queue(kept)?;
+    if is_wide(kept, room) {
+        return renew(kept, room);
     }
-    kept.room = room;
-    Ok(())
+    shrink(kept, room);
+    make_room(kept, room)
 }
 
 /// What a side finds that comes to this mailbox.

@@ -5,7 +5,7 @@ use Rattle.sg_base.specs.declared.ids.BoxId.{BoxId}
 use Rattle.sg_mailbox.specs.declared.kept.Kept.{Kept}
 use Rattle.sg_mailbox.specs.Posts.{waiting}
 use Rattle.sg_mailbox.specs.kept.Queues.{posts_of, IsKept}
-use Rattle.sg_mailbox.proofs.kept.reserve.Given as goal
+use Rattle.sg_mailbox.proofs.kept.make_room.Given as goal
 
 -- the same sides wait, and all but the queues is there for so many more
 pub record IsGrown (old new : Kept) (more : ℕ) : Type 0 where
