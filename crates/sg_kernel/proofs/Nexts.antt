@@ -6,7 +6,8 @@ use Rattle.sg_activity.specs.Slots.{sooner, soonest, serials, is_at}
 use Rattle.sg_activity.specs.Underway.{next_in, wait_in}
 use Rattle.sg_activity.proofs.Times.{sooner_cases, sooner_never}
 use Rattle.sg_profile.specs.Ahead.{IsNear}
-use Rattle.sg_profile.specs.Profiles.{dates_of, earlier_of, earliest, rows_from}
+use Rattle.sg_profile.specs.Profiles.{dates_of, earliest, rows_from}
+use Rattle.sg_profile.proofs.Cases.{earlier_of}
 use Rattle.sg_states.specs.States.{ActorStates}
 use Rattle.sg_kernel.specs.declared.fields.Fields.{Fields}
 use Rattle.sg_kernel.specs.Passes.{next_span, span_to}

@@ -6,7 +6,8 @@ use Rattle.sg_profile.specs.declared.turn.Turn.{Turn}
 use Rattle.sg_profile.specs.Ahead.{IsNear}
 use Rattle.sg_profile.specs.Laws.{AheadAtFirst, AheadMoves, AheadSteps, NextIsNear, NoneIsBefore, RowsAreLeft}
 use Rattle.sg_profile.specs.declared.profile.Profile.{Profile}
-use Rattle.sg_profile.specs.Profiles.{AreProfiles, IsSchedule, date_of, dates_of, earliest, first_turn, first_turns, no_profile, profile_at, rows_at, rows_from, stepped, turn_after, turn_at}
+use Rattle.sg_profile.specs.Profiles.{AreProfiles, IsSchedule, date_of, dates_of, earliest, first_turn, first_turns, profile_at, rows_at, rows_from, stepped, turn_after, turn_at}
+use Rattle.sg_profile.proofs.Cases.{no_profile}
 use Rattle.sg_profile.proofs.Dates.{IsDated, dates_set, row_dated}
 use Rattle.sg_profile.proofs.Earliest.{earliest_held, earliest_to}
 use Rattle.sg_profile.proofs.Rising.{date_left, date_small, entries_rise}

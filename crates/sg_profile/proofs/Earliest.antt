@@ -1,7 +1,8 @@
 -- The earliest of dates.
 use Rattle.std.proofs.Common.{◌≡◌, ℕ, zero, suc, ◌≤◌, min, Option, None, Some, List, [], ◌∷◌, get_or, refl, sym, ap, ◌∙◌, arith, ◌⊎◌, inl, inr}
 use Rattle.std.proofs.Math.Nat.{min-le_left, min-le_right}
-use Rattle.sg_profile.specs.Profiles.{earlier_of, earliest}
+use Rattle.sg_profile.specs.Profiles.{earliest}
+use Rattle.sg_profile.proofs.Cases.{earlier_of}
 
 -- This date is the earliest, and no later than that.
 pub record IsUpTo (dates : List (Option ℕ)) (date : ℕ) : Type 0 where

@@ -1,3 +1,4 @@
+pub mod Cases
 pub mod Earliest
 pub mod Ahead
 pub mod Dates

@@ -5,7 +5,8 @@ use Rattle.sg_heap.specs.Agenda.{IsLeast, IsNoLater, Key, key_at}
 use Rattle.sg_profile.specs.declared.turn.Turn.{Turn}
 use Rattle.sg_profile.specs.declared.entry.Entry.{Entry}
 use Rattle.sg_profile.specs.declared.profile.Profile.{Profile}
-use Rattle.sg_profile.specs.Profiles.{IsNextEntry, IsSchedule, Timetable, date_of, dates_of, entry_at, next_date, next_row, no_profile, profile_at, row_by, rows_at, turn_at}
+use Rattle.sg_profile.specs.Profiles.{IsNextEntry, IsSchedule, Timetable, date_of, dates_of, entry_at, next_date, next_row, profile_at, row_by, rows_at, turn_at}
+use Rattle.sg_profile.proofs.Cases.{no_profile}
 use Rattle.sg_profile.specs.kept.Slots.{IsKept, key_by, table_of}
 use Rattle.sg_profile.proofs.Dates.{IsDated, date_at, row_dated}
 use Rattle.sg_profile.proofs.Earliest.{earliest_is, none_earliest}

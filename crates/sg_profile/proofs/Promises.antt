@@ -12,7 +12,8 @@ use Rattle.sg_rows.specs.declared.rows.StateProfileRow.{StateProfileRow}
 use Rattle.sg_profile.specs.declared.entry.Entry.{Entry}
 use Rattle.sg_profile.specs.declared.profile.Profile.{Profile}
 use Rattle.sg_profile.specs.Laws.{EntriesExist, PlatformsPromise}
-use Rattle.sg_profile.specs.Profiles.{IsEntry, IsProfile, IsSchedule, entry_by, no_profile, profile_at, profile_of, state_entry_by, state_profile_of, turn_at}
+use Rattle.sg_profile.specs.Profiles.{IsEntry, IsProfile, IsSchedule, entry_by, profile_at, profile_of, state_entry_by, state_profile_of, turn_at}
+use Rattle.sg_profile.proofs.Cases.{no_profile}
 
 entry_kept : (counts : Counts) (of : Profiled) (value : ℕ) → IsProfiled counts of → value ≤ 10 ^ 15 → IsEntry counts.hosts counts.links (entry_by of value)
 entry_kept counts (Host host) value exists small = (exists, small)

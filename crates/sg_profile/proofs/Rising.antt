@@ -1,10 +1,12 @@
 -- The next entry of a profile is later.
 use Rattle.std.proofs.Common.{◌≡◌, ℕ, ◌+◌, ◌-◌, ◌*◌, ◌<◌, ◌≤◌, ◌==◌, ◌^◌, Bool, true, false, cond, Option, None, Some, length, option_map, slice_get, slice_index, IfSome, refl, sym, ap, subst, ◌∙◌, eqb-true, arith}
+use Rattle.std.specs.Option.{option_map_or}
 use Rattle.std.proofs.lemmas.Option.{get_or_from_slice_get, slice_get_within}
 use Rattle.sg_profile.specs.declared.turn.Turn.{Turn}
 use Rattle.sg_profile.specs.Laws.{EntriesRise}
 use Rattle.sg_profile.specs.declared.profile.Profile.{Profile}
-use Rattle.sg_profile.specs.Profiles.{IsSchedule, date_of, time_by, turn_over, turn_time}
+use Rattle.sg_profile.specs.Profiles.{IsSchedule, date_of, turn_time}
+use Rattle.sg_profile.proofs.Cases.{turn_over}
 
 mapped : (k : ℕ) (o : Option ℕ) (a : ℕ) → option_map (λ date. k + date) o ≡ Some a → (x : ℕ) × ((o ≡ Some x) × (a ≡ k + x))
 mapped k None a e = absurd (cc e)
@@ -28,7 +30,7 @@ one_more n t = omega arith
 
 -- the time of a turn, where another one follows
 pub time_is : (profile : Profile) (gap : ℕ) → profile.gap ≡ Some gap → turn_time profile ≡ slice_index profile.dates (length profile.dates - 1) + gap
-time_is profile gap some = ap (λ (o : Option ℕ). time_by o profile.dates) some
+time_is profile gap some = ap (λ (o : Option ℕ). option_map_or (λ gap. slice_index profile.dates (length profile.dates - 1) + gap) o 0) some
 
 pub gap_wide : (profile : Profile) (gap : ℕ) → IsSchedule profile → profile.gap ≡ Some gap → (1 ≤ gap) × (gap ≤ 10 ^ 18)
 gap_wide profile gap is some = subst (λ (o : Option ℕ). IfSome o (λ gap. (1 ≤ gap) × (gap ≤ 10 ^ 18))) some is.gap

@@ -1,6 +1,7 @@
 -- The rows that have a date.
 use Rattle.std.proofs.Common.{◌≡◌, ◌≢◌, ℕ, zero, suc, ◌+◌, ◌-◌, ◌<◌, ◌≤◌, ◌⊎◌, inl, inr, Bool, true, false, cond, Option, None, Some, List, [], ◌∷◌, get_or, set, refl, sym, ap, ◌∙◌, eqb-true, eq-eqb, arith}
-use Rattle.sg_profile.specs.Profiles.{is_at, rows_from}
+use Rattle.sg_profile.specs.Profiles.{rows_from}
+use Rattle.sg_profile.proofs.Cases.{is_at}
 
 same : (b : Bool) → (b ≡ true) ⊎ (b ≡ false)
 same true = inl refl

@@ -6,7 +6,8 @@ use Rattle.sg_heap.proofs.Changes.{lt_cases}
 use Rattle.sg_heap.specs.Agenda.{Key, key_at}
 use Rattle.sg_profile.specs.declared.turn.Turn.{Turn}
 use Rattle.sg_profile.specs.declared.profile.Profile.{Profile}
-use Rattle.sg_profile.specs.Profiles.{IsSchedule, Timetable, date_of, dates_of, first_turn, first_turns, profile_at, turn_after, turn_over, turn_time}
+use Rattle.sg_profile.specs.Profiles.{IsSchedule, Timetable, date_of, dates_of, first_turn, first_turns, profile_at, turn_after, turn_time}
+use Rattle.sg_profile.proofs.Cases.{turn_over}
 use Rattle.sg_profile.specs.kept.Slots.{AreKeys, IsKept, key_by, table_of}
 use Rattle.sg_profile.proofs.Dates.{dates_set, length_dates}
 use Rattle.sg_profile.proofs.Rising.{date_left, date_small, gap_wide, time_is}

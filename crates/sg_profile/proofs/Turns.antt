@@ -4,7 +4,8 @@ use Rattle.std.proofs.lemmas.Option.{slice_get-get_or}
 use Rattle.sg_profile.specs.declared.turn.Turn.{Turn}
 use Rattle.sg_profile.specs.Laws.{LoopsComeAgain, OthersComeOnce, turn_past}
 use Rattle.sg_profile.specs.declared.profile.Profile.{Profile}
-use Rattle.sg_profile.specs.Profiles.{date_of, turn_after, turn_over, turn_time}
+use Rattle.sg_profile.specs.Profiles.{date_of, turn_after, turn_time}
+use Rattle.sg_profile.proofs.Cases.{turn_over}
 use Rattle.sg_profile.proofs.Rising.{time_is}
 
 abbrev turn : ℕ → ℕ → Turn

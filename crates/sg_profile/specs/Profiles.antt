@@ -2,6 +2,7 @@
 use Rattle.std.specs.Prelude.{◌≡◌, ℕ, ◌+◌, ◌-◌, ◌*◌, ◌==◌, ◌≤◌, ◌<◌, ◌^◌, Bool, false, min, Option, None, Some, IfSome, option_map, if◌then◌else◌, List, [], ◌∷◌, ◌++◌, length, map, replicate, slice_get, slice_index, slice_index_or, slice_set}
 use Rattle.std.specs.List.{All}
 use Rattle.std.specs.List.Sorted.{IsStrictlyIncreasing}
+use Rattle.std.specs.Option.{option_map_or}
 use Rattle.sg_rows.specs.Platform.{Platform}
 use Rattle.sg_rows.specs.declared.rows.Profiled.{Profiled}
 use Rattle.sg_rows.specs.declared.rows.Profiled.TheVariants.{Host, Link}
@@ -26,12 +27,9 @@ state_entry_by (Link link) on = LinkOn link on
 abbrev pub state_profile_of : StateProfileRow → Profile
 state_profile_of row = record { dates = row.dates; entries = map (state_entry_by row.of) row.states; gap = row.gap }
 
-abbrev pub profiles_of : List ProfileRow → List StateProfileRow → List Profile
-profiles_of rows states = map profile_of rows ++ map state_profile_of states
-
 -- those of speeds and bandwidths, and behind them those of states
 abbrev pub profiles_in : Platform → List Profile
-profiles_in platform = profiles_of platform.profiles platform.state_profiles
+profiles_in platform = map profile_of platform.profiles ++ map state_profile_of platform.state_profiles
 
 -- ---- what a platform promises
 -- 1 to 1,024 dates that rise, and an entry for each
@@ -61,29 +59,21 @@ AreProfiles hosts links profiles = All (IsProfile hosts links) profiles
 abbrev pub first_turn : Turn
 first_turn = record { number = 0; entry = 0 }
 
-abbrev pub time_by : Option ℕ → List ℕ → ℕ
-time_by None dates = 0
-time_by (Some gap) dates = slice_index dates (length dates - 1) + gap
-
 -- how long a turn takes, where another one follows
 abbrev pub turn_time : Profile → ℕ
-turn_time profile = time_by profile.gap profile.dates
+turn_time profile = option_map_or (λ gap. slice_index profile.dates (length profile.dates - 1) + gap) profile.gap 0
 
 -- the date of the next entry; none: none is left
 abbrev pub date_of : Profile → Turn → Option ℕ
 date_of profile turn =
     option_map (λ date. turn.number * turn_time profile + date) (slice_get profile.dates turn.entry)
 
--- after the last entry the next turn begins, where there is one
-abbrev pub turn_over : Option ℕ → Turn → Turn
-turn_over None turn = record turn { entry = turn.entry + 1 }
-turn_over (Some gap) turn = record { number = turn.number + 1; entry = 0 }
-
--- past the next entry
+-- past the next entry; after the last one the next turn begins, where there is one
 abbrev pub turn_after : Profile → Turn → Turn
 turn_after profile turn =
-    if turn.entry + 1 == length profile.dates then turn_over profile.gap turn
-    else record turn { entry = turn.entry + 1 }
+    let next = record turn { entry = turn.entry + 1 } in
+    if turn.entry + 1 == length profile.dates
+    then option_map_or (λ gap. record { number = turn.number + 1; entry = 0 }) profile.gap next else next
 
 -- ---- all of them, by rows from 0 on
 -- The profiles, and how far each is.
@@ -99,32 +89,24 @@ first_table profiles = record { profiles = profiles; turns = first_turns profile
 
 -- the date of the next entry of each row
 unfoldable pub dates_of : List Profile → List Turn → List (Option ℕ)
-dates_of [] turns = []
-dates_of (profile ∷ profiles) [] = []
 dates_of (profile ∷ profiles) (turn ∷ turns) = date_of profile turn ∷ dates_of profiles turns
-
-abbrev pub earlier_of : ℕ → Option ℕ → ℕ
-earlier_of date None = date
-earlier_of date (Some other) = min date other
+dates_of profiles turns = []
 
 -- the earliest of these dates
 unfoldable pub earliest : List (Option ℕ) → Option ℕ
 earliest [] = None
 earliest (None ∷ dates) = earliest dates
-earliest (Some date ∷ dates) = Some (earlier_of date (earliest dates))
+earliest (Some date ∷ dates) = Some (option_map_or (min date) (earliest dates) date)
 
 abbrev pub next_date : List Profile → List Turn → Option ℕ
 next_date profiles turns = earliest (dates_of profiles turns)
-
-abbrev pub is_at : ℕ → Option ℕ → Bool
-is_at date None = false
-is_at date (Some other) = other == date
 
 -- from this row on, those that have this date
 unfoldable pub rows_from : ℕ → ℕ → List (Option ℕ) → List ℕ
 rows_from row date [] = []
 rows_from row date (its ∷ dates) =
-    if is_at date its then row ∷ rows_from (row + 1) date dates else rows_from (row + 1) date dates
+    let later = rows_from (row + 1) date dates in
+    if option_map_or (λ other. other == date) its false then row ∷ later else later
 
 -- the rows whose next entry is of this date, in order
 abbrev pub rows_at : ℕ → List Profile → List Turn → List ℕ
@@ -138,11 +120,8 @@ row_by (Some date) profiles turns = slice_index (rows_at date profiles turns) 0
 abbrev pub next_row : List Profile → List Turn → ℕ
 next_row profiles turns = row_by (next_date profiles turns) profiles turns
 
-abbrev pub no_profile : Profile
-no_profile = record { dates = []; entries = []; gap = None }
-
 abbrev pub profile_at : List Profile → ℕ → Profile
-profile_at profiles row = slice_index_or profiles row no_profile
+profile_at profiles row = slice_index_or profiles row (record { dates = []; entries = []; gap = None })
 
 abbrev pub turn_at : List Turn → ℕ → Turn
 turn_at turns row = slice_index_or turns row first_turn

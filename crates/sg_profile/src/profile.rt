@@ -1,6 +1,6 @@
 //! A profile, of a speed, a bandwidth or a state.
-ghost use Rattle.std.specs.Prelude.{◌≡◌, ◌<◌, IfOk, Some, length, map, slice_get};
-ghost use Rattle.sg_profile.specs.Profiles.{entry_by, profile_of, profiles_of, state_entry_by, state_profile_of};
+ghost use Rattle.std.specs.Prelude.{◌≡◌, ◌<◌, ◌++◌, IfOk, Some, length, map, slice_get};
+ghost use Rattle.sg_profile.specs.Profiles.{entry_by, profile_of, state_entry_by, state_profile_of};
 
 use crate::entry::{Entries, Entry};
 use crate::turn::Turn;
@@ -98,7 +98,8 @@ pub(crate) fn profiles_of(
     rows: &[ProfileRow],
     states: &[StateProfileRow],
 ) -> Result<Vec<Profile>, Memory>
-    ensures { IfOk result (λ profiles. profiles.items ≡ profiles_of rows.now states.now) }
+    ensures { IfOk result (λ profiles. profiles.items
+        ≡ map profile_of rows.now ++ map state_profile_of states.now) }
 {
     let mut profiles = Vec::new(alloc);
     for row in rows {

@@ -12,7 +12,8 @@ use Rattle.sg_profile.specs.declared.entry.Entry.{Entry}
 use Rattle.sg_profile.specs.declared.entry.Entry.TheVariants as entry
 use Rattle.sg_profile.specs.declared.turn.Turn.{Turn}
 use Rattle.sg_profile.specs.Ahead.{IsAhead, IsNear}
-use Rattle.sg_profile.specs.Profiles.{AreProfiles, dates_of, earlier_of, earliest, entry_at, next_date, rows_at, rows_from, stepped}
+use Rattle.sg_profile.specs.Profiles.{AreProfiles, dates_of, earliest, entry_at, next_date, rows_at, rows_from, stepped}
+use Rattle.sg_profile.proofs.Cases.{earlier_of}
 use Rattle.sg_profile.proofs.Ahead.{ahead_moves, ahead_steps, next_is_near, rows_are_left}
 use Rattle.sg_rows.specs.declared.network.Network.{Network}
 use Rattle.sg_states.specs.declared.state.Actor.{Actor}
