@@ -1,11 +1,11 @@
 -- Filling goes on from what is filled.
-use Rattle.std.proofs.Common.{◌≡◌, ◌≢◌, ℕ, ◌+◌, ◌-◌, ◌*◌, ◌<◌, ◌≤◌, ◌^◌, ◌⊎◌, inl, inr, Bool, true, false, true≢false, None, IsSome, is_some, List, ◌++◌, length, get_or, take, drop, All, AllPairs, ◌||◌, ltb, lt-ltb, le-ltb, Option, Some, [], ◌∷◌, set, slice_index, get_or-set_same, get_or-set_other, length-append, length-drop, refl, sym, ap, subst, ◌∙◌, arith}
+use Rattle.std.proofs.Common.{◌≡◌, ◌≢◌, ℕ, ◌+◌, ◌-◌, ◌*◌, ◌<◌, ◌≤◌, ◌⊎◌, inl, inr, Bool, true, false, true≢false, None, IsSome, is_some, List, ◌++◌, length, get_or, take, drop, All, AllPairs, ◌||◌, ltb, lt-ltb, le-ltb, Option, Some, [], ◌∷◌, set, slice_index, get_or-set_same, get_or-set_other, length-append, length-drop, refl, sym, ap, subst, ◌∙◌, arith}
 use Rattle.std.proofs.lemmas.List.{get_or-drop, take_all}
 use Rattle.std.proofs.lemmas.List.Elements.{All-get_or, All-from_get_or}
 use Rattle.std.proofs.lemmas.List.Sums.{sum_by-append}
 use Rattle.sg_base.specs.MarkSet.{MarkSet, is_in, with_mark}
 use Rattle.sg_chains.specs.Chained.{users_on}
-use Rattle.sg_maxmin.specs.Fill.{Flow, level_of, share_of}
+use Rattle.sg_maxmin.specs.Fill.{Flow, level_of}
 use Rattle.sg_maxmin.specs.Sharing.{Sharing, IsSound, flow_at, held, uses_at}
 use Rattle.sg_levels.specs.Held.{IsHold}
 use Rattle.sg_levels.proofs.Changing.{hold_is_local_lem}
@@ -13,30 +13,32 @@ use Rattle.sg_filling.specs.declared.component.Component.{Component}
 use Rattle.sg_filling.specs.declared.filling.Filling.{Filling}
 use Rattle.sg_filling.specs.Component.{AllPass, AreIn, AreVisited, Grows, IsClosure, IsClosedBy, IsOpen, PassAlong, StaysWithin, lengths}
 use Rattle.sg_filling.specs.Dates.{IsIdle}
-use Rattle.sg_levels.specs.Numbered.{bound_at, flow_in, row_waiting}
-use Rattle.sg_filling.specs.Filling.{AreJoined, HasPlaces, fixed_at, flows_at, given, given_at}
+use Rattle.sg_levels.specs.Numbered.{flow_in, row_waiting}
+use Rattle.sg_filling.specs.Filling.{AreJoined, HasPlaces, fixed_at}
 use Rattle.sg_filling.specs.Holds.{IsEnded}
-use Rattle.sg_filling.specs.Parts.{FillsOn, HasShare, IsFilled, part_looks}
-use Rattle.sg_filling.proofs.Apart.{came, came_closed, in_cases, in_one, in_right, shares_on}
+use Rattle.sg_filling.specs.Parts.{FillsOn, IsFilled, part_looks}
+use Rattle.sg_filling.proofs.Apart.{came, came_closed, in_cases, in_one, in_right}
 use Rattle.sg_filling.proofs.Growing.{all_stay, at_in, grows_mark, grows_on, grows_same, in_at, mark_cases}
 use Rattle.sg_filling.proofs.Holding.{joined_hold, joined_level}
 use Rattle.sg_filling.proofs.Listing.{bool_cases, eq_cases}
 use Rattle.sg_filling.proofs.Rows.{into, on_held, same_in}
 use Rattle.sg_filling.proofs.Twice.{counts_twice_lem}
 
-pub fills_none : (s : Sharing) (a : Component) (x : ℕ) → FillsOn s a a x x
-fills_none s a x = record { touched = grows_same a.touched.members; reached = grows_same a.reached.members; looks = omega arith }
+pub fills_none : (s : Sharing) (a : Component) (f : Filling) (x : ℕ) → IsFilled s a f → FillsOn s a a f x x
+fills_none s a f x filled = record { filled = filled; touched = grows_same a.touched.members; reached = grows_same a.reached.members; looks = omega arith }
 
 -- a resource more, that no flow uses
-pub fills_free : (s : Sharing) (a b : Component) (c x : ℕ) → b.touched ≡ a.touched → b.reached ≡ record a.reached { members = with_mark c a.reached.members } → FillsOn s a b x x
-fills_free s a b c x touched reached = record {
+pub fills_free : (s : Sharing) (a b : Component) (f : Filling) (c x : ℕ) → IsFilled s b f → b.touched ≡ a.touched → b.reached ≡ record a.reached { members = with_mark c a.reached.members } → FillsOn s a b f x x
+fills_free s a b f c x filled touched reached = record {
+  filled = filled;
   touched = subst (λ (m : MarkSet). Grows a.touched.members m.members) (sym touched) (grows_same a.touched.members);
   reached = subst (λ (m : MarkSet). Grows a.reached.members m.members) (sym reached) (grows_mark c a.reached.members);
   looks = subst (λ (m : MarkSet). x + part_looks s a ≤ x + 6 * lengths (uses_at s.slots) m.members) (sym touched) (omega arith);
 }
 
-pub fills_on : (s : Sharing) (a b c : Component) (x y z : ℕ) → FillsOn s a b x y → FillsOn s b c y z → FillsOn s a c x z
-fills_on s a b c x y z one two = record {
+pub fills_on : (s : Sharing) (a b c : Component) (f f' : Filling) (x y z : ℕ) → FillsOn s a b f x y → FillsOn s b c f' y z → FillsOn s a c f' x z
+fills_on s a b c f f' x y z one two = record {
+  filled = two.filled;
   touched = grows_on a.touched.members b.touched.members c.touched.members one.touched two.touched;
   reached = grows_on a.reached.members b.reached.members c.reached.members one.reached two.reached;
   looks = omega (arith, one.looks, two.looks);
@@ -111,17 +113,14 @@ module _ (s : Sharing) (sound : IsSound s) (a z : Component) (f : Filling) (old 
   pub part_twice : lengths (users_on s.users) resources ≤ lengths (uses_at s.slots) part
   part_twice = counts_twice_lem (uses_at s.slots) (users_on s.users) part resources sound.both (once_drop (length a.reached.members) z.reached.members distinct) part_closed.covered
 
-  pub filled_on : (f' : Filling) → IsOpen s z → All (λ c. c < length s.capacities) z.reached.members → HaveUsers s a z → IsEnded s part resources f f' →
-      ((i : ℕ) → i < length part → bound_at s.slots (get_or part i 0) ≡ None → share_of s.capacities (flows_at s.slots part) (flow_in s.slots (get_or part i 0)) < 2 ^ 64) → IsFilled s z f'
-  filled_on f' ready exist used ended fits = record {
+  pub filled_on : (f' : Filling) → IsOpen s z → All (λ c. c < length s.capacities) z.reached.members → HaveUsers s a z → IsEnded s part resources f f' → IsFilled s z f'
+  filled_on f' ready exist used ended = record {
     ready = ready;
     closed = closed;
     held = live;
     exist = exist;
     places = ended.places;
     idle = ended.idle;
-    shares = subst (λ xs. (id : ℕ) → is_in id xs ≡ true → HasShare s xs f' id) t_is
-        (shares_on s sound a.touched.members part a.reached.members resources old.closed whole whole_once whole_distinct (subst (AllPass (λ id. is_some (flow_at s.slots id))) (sym t_is) live) f f' old.shares ended.kept ended.fixed fits);
     levels = λ id i. elim (in_cases id a.touched.members part (subst (λ xs. is_in id xs ≡ true) (sym t_is) i)) [
       | inl k ↦ same id k
       | inr k ↦ joined_level s part resources f' (part_joined exist used) ended.fixed id k
@@ -255,15 +254,6 @@ reached_more s a f f' c r old below none e places idle fixed holds =
       exist = subst (All (λ x. x < length s.capacities)) (sym members) (All-marked (length s.capacities) c a.reached.members below old.exist);
       places = places;
       idle = idle;
-      shares = λ id i.
-          let h = old.shares id i in
-          let now = ap (λ xs. fixed_at xs id) fixed in
-          let same : given_at s.slots f'.fixed.items id ≡ given_at s.slots f.fixed.items id = ap (given (flow_in s.slots id)) now in
-          record {
-            fixed = subst IsSome (sym now) h.fixed;
-            share = same ∙ h.share;
-            fits = λ e. subst (λ n. n < 2 ^ 64) (sym same) (h.fits e);
-          };
       levels = λ id i. ap (λ xs. fixed_at xs id) fixed ∙ old.levels id i;
       holds = λ x h. elim (eq_cases x c) [
         | inl q ↦

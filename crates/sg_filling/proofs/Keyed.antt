@@ -139,6 +139,7 @@ pub partly_cleared : (s : Sharing) (low c : ℕ) (a b : Filling) → HasPlaces s
     b.stale ≡ record a.stale { members = with_mark c a.stale.members } → b.agenda ≡ set a.agenda c None → StepsPartly s low a b
 partly_cleared s low c a b places below fixed left waiting levels holds stale agenda = record {
   places = record {
+    sound = places.sound;
     fixed_len = omega (arith, places.fixed_len, ap length fixed);
     holds_len = ap length holds ∙ places.holds_len;
     left_len = ap length left ∙ places.left_len;

@@ -99,8 +99,9 @@ IsLessBy amount old new = (c : ℕ) → slice_index new c ≡ slice_index old c 
 abbrev pub IsMoreBy : (ℕ → ℕ) → List ℕ → List ℕ → Type 0
 IsMoreBy amount old new = (c : ℕ) → slice_index new c ≡ slice_index old c + amount c
 
--- there is a place for each flow and each resource
+-- there is a place for each flow and each resource of a system
 pub record HasPlaces (s : Sharing) (filling : Filling) : Type 0 where
+  pub sound : IsSound s
   pub fixed_len : length s.slots ≤ length filling.fixed.items
   pub holds_len : length filling.holds.items ≡ length s.capacities
   pub left_len : length filling.left.items ≡ length s.capacities

@@ -8,7 +8,7 @@ use Rattle.sg_levels.specs.Numbered.{below_at, row_level}
 use Rattle.sg_filling.specs.declared.filling.Filling.{Filling}
 use Rattle.sg_filling.specs.declared.filling.Low.{Low}
 use Rattle.sg_filling.specs.Dates.{AreDated, IsIdle}
-use Rattle.sg_filling.specs.Filling.{AreAbove, AreCounted, AreLeveled, AreLevels, AreTaken, HasPlaces, IsFloor, KeepsHolds, KeepsOthers, fixed_at, unfixed_bounds, unfixed_limits, unfixed_uses}
+use Rattle.sg_filling.specs.Filling.{AreAbove, AreCounted, AreFixed, AreJoined, AreLeveled, AreLevels, AreTaken, HasPlaces, IsFloor, KeepsHolds, KeepsOthers, StepsPartly, fixed_at, unfixed_bounds, unfixed_limits, unfixed_uses}
 
 -- a resource is noted where it is at this level
 abbrev pub noted_at : ℕ → ℕ → Filling → List (Option ℕ)
@@ -54,6 +54,7 @@ AreFresh reached low filling = (c : ℕ) → is_in c reached ≡ true → slice_
 
 -- a filling at the level of its next step
 pub record IsAtLevel (s : Sharing) (touched reached : List ℕ) (low : Low) (filling : Filling) : Type 0 where
+  pub joined : AreJoined s touched reached
   pub places : HasPlaces s filling
   pub above : AreAbove s touched low.level filling
   pub floor : IsFloor low.floor (unfixed_bounds s.slots filling.fixed.items touched)
@@ -66,6 +67,13 @@ pub record IsAtLevel (s : Sharing) (touched reached : List ℕ) (low : Low) (fil
 pub record CountsOnce (s : Sharing) (touched reached : List ℕ) (old new : Filling) (before after : ℕ) : Type 0 where
   pub counted : (test : ℕ → Bool) → AreCounted s old.fixed.items touched old.left.items old.waiting.items test → AreCounted s new.fixed.items touched new.left.items new.waiting.items test
   pub looks : after + 2 * unfixed_uses s.slots new.fixed.items touched + untaken s reached new ≤ before + 2 * unfixed_uses s.slots old.fixed.items touched + untaken s reached old
+
+-- the part of a step that is told by resources: all flows on those at its level are fixed
+pub record FixesUsers (s : Sharing) (touched reached : List ℕ) (low : Low) (old new : Filling) (before after : ℕ) : Type 0 where
+  pub partly : StepsPartly s low.level old new
+  pub noted : NotesHolds reached low.level old new
+  pub on : (i : ℕ) → i < length reached → slice_index old.levels.items (slice_index reached i) ≡ low.level → AreFixed (users_on s.users (slice_index reached i)) new
+  pub count : CountsOnce s touched reached old new before after
 
 -- a filling begins: no touched flow is fixed, and no reached resource is noted
 pub record IsBegun (s : Sharing) (touched reached : List ℕ) (filling : Filling) : Type 0 where

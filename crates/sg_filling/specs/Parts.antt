@@ -1,8 +1,8 @@
 -- What a settling has filled, part by part: a closed set of flows and resources, which grows by closed parts.
-use Rattle.std.specs.Prelude.{◌≡◌, ℕ, ◌+◌, ◌*◌, ◌<◌, ◌≤◌, ◌^◌, Bool, true, false, None, Some, All, List, IsSome, IsTrue, is_some, length, slice_index}
+use Rattle.std.specs.Prelude.{◌≡◌, ℕ, ◌+◌, ◌*◌, ◌<◌, ◌≤◌, Bool, true, false, Some, All, List, IsSome, IsTrue, is_some, length, slice_index}
 use Rattle.sg_base.specs.MarkSet.{MarkSet, is_in}
 use Rattle.sg_chains.specs.Chained.{users_on}
-use Rattle.sg_maxmin.specs.Fill.{level_of, share_of}
+use Rattle.sg_maxmin.specs.Fill.{level_of}
 use Rattle.sg_maxmin.specs.Sharing.{Sharing, flow_at, held}
 use Rattle.sg_levels.specs.Held.{IsHold}
 use Rattle.sg_levels.specs.Kept.{PassAlong}
@@ -11,20 +11,14 @@ use Rattle.sg_filling.specs.declared.filling.Filling.{Filling}
 use Rattle.sg_filling.specs.declared.parts.Parts.{Parts}
 use Rattle.sg_filling.specs.Component.{AllPass, Grows, IsClosedBy, IsOpen, touched_uses}
 use Rattle.sg_filling.specs.Dates.{IsIdle}
-use Rattle.sg_levels.specs.Numbered.{bound_at, flow_in}
-use Rattle.sg_filling.specs.Filling.{HasPlaces, HasResources, fixed_at, flows_at, given_at}
-
--- the flow is fixed, and what it is given is its share among the touched flows
-pub record HasShare (s : Sharing) (touched : List ℕ) (filling : Filling) (id : ℕ) : Type 0 where
-  pub fixed : IsSome (fixed_at filling.fixed.items id)
-  pub share : given_at s.slots filling.fixed.items id ≡ share_of s.capacities (flows_at s.slots touched) (flow_in s.slots id)
-  pub fits : bound_at s.slots id ≡ None → given_at s.slots filling.fixed.items id < 2 ^ 64
+use Rattle.sg_levels.specs.Numbered.{flow_in}
+use Rattle.sg_filling.specs.Filling.{HasPlaces, HasResources, fixed_at}
 
 -- the level of a flow in the whole
 abbrev pub level_in_all : Sharing → ℕ → ℕ
 level_in_all s id = level_of s.capacities (held s.slots) (flow_in s.slots id)
 
--- What is touched and reached shares with no other, and nobody waits; each of its flows has its share, and its level in the whole, and each of its resources its hold.
+-- What is touched and reached shares with no other, and nobody waits; each of its flows has its level in the whole, and each of its resources its hold.
 pub record IsFilled (s : Sharing) (component : Component) (filling : Filling) : Type 0 where
   pub ready : IsOpen s component
   pub closed : IsClosedBy s component
@@ -32,20 +26,16 @@ pub record IsFilled (s : Sharing) (component : Component) (filling : Filling) : 
   pub exist : All (λ c. c < length s.capacities) component.reached.members
   pub places : HasPlaces s filling
   pub idle : IsIdle filling
-  pub shares : (id : ℕ) → is_in id component.touched.members ≡ true → HasShare s component.touched.members filling id
   pub levels : (id : ℕ) → is_in id component.touched.members ≡ true → fixed_at filling.fixed.items id ≡ Some (level_in_all s id)
   pub holds : (c : ℕ) → is_in c component.reached.members ≡ true → IsHold (slice_index s.capacities c) s.slots filling.fixed.items (users_on s.users c) (fixed_at filling.holds.items c)
 
--- looks that suffice for the touched flows: six at each use, two to reach it, one to begin, and one to find and two to fix the flow
+-- looks that suffice for the touched flows: six at each use, of which two reach it, one begins, and the others find and fix the flow
 abbrev pub part_looks : Sharing → Component → ℕ
 part_looks s component = 6 * touched_uses s component
 
--- no less, where there are no more steps than touched flows and each takes three looks at each use
-abbrev pub fill_looks : Sharing → Component → ℕ
-fill_looks s component = 3 * touched_uses s component + length component.touched.members * (3 * touched_uses s component)
-
--- more is touched and reached, by so many looks
-pub record FillsOn (s : Sharing) (old new : Component) (before after : ℕ) : Type 0 where
+-- more is touched and reached, and filled, by so many looks
+pub record FillsOn (s : Sharing) (old new : Component) (filling : Filling) (before after : ℕ) : Type 0 where
+  pub filled : IsFilled s new filling
   pub touched : Grows old.touched.members new.touched.members
   pub reached : Grows old.reached.members new.reached.members
   pub looks : after + part_looks s old ≤ before + part_looks s new

@@ -2,7 +2,7 @@
 ghost use Rattle.std.specs.Prelude.{◌≡◌, ◌≤◌, ◌<◌, ◌+◌, ℕ, Bool, true, false, IsSome, IsTrue, All, length};
 ghost use Rattle.sg_base.specs.MarkSet.{is_in, with_mark};
 ghost use Rattle.sg_chains.specs.Chained.{users_on};
-ghost use Rattle.sg_maxmin.specs.Sharing.{IsSound, flow_at};
+ghost use Rattle.sg_maxmin.specs.Sharing.{flow_at};
 ghost use Rattle.sg_filling.specs.Component.{AllPass, PassAlong, StaysWithin};
 ghost use Rattle.sg_filling.specs.Parts.{AreHeldUnless, FillsOn, IsFilled};
 
@@ -22,10 +22,9 @@ fn fill_part<L: Ledger>(
 )
     requires held { IsSome (flow_at system.now.slots flow) }
     requires untouched { is_in flow component.old.touched.members ≡ false }
-    requires sound { IsSound system.now }
     requires filled { IsFilled system.now component.old filling.old }
-    ensures filled { IsFilled system.now component.new filling.new }
-    ensures on { FillsOn system.now component.old component.new steps.old steps.new }
+    ensures on { FillsOn system.now component.old component.new filling.new
+        steps.old steps.new }
     ensures there { IsTrue (is_in flow component.new.touched.members) }
     ensures least { (p q : ℕ → Bool) → PassAlong system.now p q → IsTrue (p flow)
         → StaysWithin p q component.old component.new }
@@ -54,10 +53,9 @@ fn fill_running<L: Ledger>(
 )
     requires flow { (flow < ended.now.room) × (flow < length system.now.slots) }
     requires held { is_in flow ended.now.members ≡ false → IsSome (flow_at system.now.slots flow) }
-    requires sound { IsSound system.now }
     requires filled { IsFilled system.now component.old filling.old }
-    ensures filled { IsFilled system.now component.new filling.new }
-    ensures on { FillsOn system.now component.old component.new steps.old steps.new }
+    ensures on { FillsOn system.now component.old component.new filling.new
+        steps.old steps.new }
     ensures there { is_in flow ended.now.members ≡ false
         → IsTrue (is_in flow component.new.touched.members) }
     ensures least { (p q : ℕ → Bool) → PassAlong system.now p q
@@ -83,10 +81,9 @@ pub fn fill_marked<L: Ledger>(
     steps: &mut Steps<L>,
 )
     requires marked { AreHeldUnless system.now ended.now marked.now }
-    requires sound { IsSound system.now }
     requires filled { IsFilled system.now component.old filling.old }
-    ensures filled { IsFilled system.now component.new filling.new }
-    ensures on { FillsOn system.now component.old component.new steps.old steps.new }
+    ensures on { FillsOn system.now component.old component.new filling.new
+        steps.old steps.new }
     ensures there { (id : ℕ) → is_in id marked.now ≡ true → is_in id ended.now.members ≡ false
         → IsTrue (is_in id component.new.touched.members) }
     ensures least { (p q : ℕ → Bool) → PassAlong system.now p q
@@ -108,10 +105,9 @@ fn fill_from<L: Ledger>(
 )
     requires resource { resource < length system.now.capacities }
     requires used { 0 < length (users_on system.now.users resource) }
-    requires sound { IsSound system.now }
     requires filled { IsFilled system.now component.old filling.old }
-    ensures filled { IsFilled system.now component.new filling.new }
-    ensures on { FillsOn system.now component.old component.new steps.old steps.new }
+    ensures on { FillsOn system.now component.old component.new filling.new
+        steps.old steps.new }
     ensures there { IsTrue (is_in resource component.new.reached.members) }
     ensures least { (p q : ℕ → Bool) → PassAlong system.now p q → IsTrue (q resource)
         → StaysWithin p q component.old component.new }
@@ -153,10 +149,9 @@ fn fill_on<L: Ledger>(
     steps: &mut Steps<L>,
 )
     requires resource { resource < length system.now.capacities }
-    requires sound { IsSound system.now }
     requires filled { IsFilled system.now component.old filling.old }
-    ensures filled { IsFilled system.now component.new filling.new }
-    ensures on { FillsOn system.now component.old component.new steps.old steps.new }
+    ensures on { FillsOn system.now component.old component.new filling.new
+        steps.old steps.new }
     ensures there { IsTrue (is_in resource component.new.reached.members) }
     ensures least { (p q : ℕ → Bool) → PassAlong system.now p q → IsTrue (q resource)
         → StaysWithin p q component.old component.new }
@@ -179,10 +174,9 @@ pub fn fill_on_all<L: Ledger>(
     steps: &mut Steps<L>,
 )
     requires resources { All (λ c. c < length system.now.capacities) resources.now }
-    requires sound { IsSound system.now }
     requires filled { IsFilled system.now component.old filling.old }
-    ensures filled { IsFilled system.now component.new filling.new }
-    ensures on { FillsOn system.now component.old component.new steps.old steps.new }
+    ensures on { FillsOn system.now component.old component.new filling.new
+        steps.old steps.new }
     ensures there { AllPass (λ c. is_in c component.new.reached.members) resources.now }
     ensures least { (p q : ℕ → Bool) → PassAlong system.now p q → AllPass q resources.now
         → StaysWithin p q component.old component.new }

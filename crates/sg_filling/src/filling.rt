@@ -9,7 +9,7 @@ ghost use Rattle.sg_filling.specs.Component.{AreIn, MarksRow, lengths};
 ghost use Rattle.sg_filling.specs.Dates.{AreDated, HaveKeys, IsIdle, StayDated};
 ghost use Rattle.sg_levels.specs.Numbered.{bound_at, flow_in};
 ghost use Rattle.sg_filling.specs.Filling.{AreAbove, AreAmong, AreCounted, AreFixed, AreJoined, AreLeveled, AreLevels, ArePart, AreTaken, FlowSteps, HasPlaces, HasResources, IsFloor, IsLeast, IsLessBy, IsLow, IsMoreBy, IsNext, IsNextOf, IsOver, IsUpTo, KeepsCount, KeepsFixed, KeepsHolds, KeepsLevels, StepsPartly, bound_limit, fixed_at, flows_at, least_with, limits_at, unfixed_bounds, unfixed_limits, waited_levels, weight_of, weight_on};
-ghost use Rattle.sg_filling.specs.Holds.{AreNoted, CountsOnce, IsAtLevel, IsBegun, IsEnded, NotesHolds, noted_at, users_at};
+ghost use Rattle.sg_filling.specs.Holds.{AreNoted, CountsOnce, FixesUsers, IsAtLevel, IsBegun, IsEnded, NotesHolds, noted_at, users_at};
 
 use crate::dates::{date_all, due, has_keys, is_late};
 use sg_base::{Marks, Memory, Steps};
@@ -98,17 +98,6 @@ fn capped_share(weight: u32, bound: Option<u64>, level: u64) -> u64
     match bound {
         None => share,
         Some(bound) => share.min(bound),
-    }
-}
-
-/// The share at a level.
-pub fn share_at_level(weight: u32, bound: Option<u64>, level: u64) -> u64
-    requires { bound ≡ None → weight * level < 2 ^ 64 }
-    ensures { result ≡ bounded bound (weight * level) }
-{
-    match bound {
-        None => weight as u64 * level,
-        Some(bound) => (weight as u64).saturating_mul(level).min(bound),
     }
 }
 
@@ -437,7 +426,6 @@ fn fix<L: Ledger>(
     filling: &mut Filling,
     steps: &mut Steps<L>,
 )
-    requires sound { IsSound system.now }
     requires held { IsSome (flow_at system.now.slots flow) }
     requires places { HasPlaces system.now filling.old }
     ensures places { HasPlaces system.now filling.new }
@@ -472,7 +460,6 @@ fn fix_flow<L: Ledger>(
     filling: &mut Filling,
     steps: &mut Steps<L>,
 )
-    requires sound { IsSound system.now }
     requires held { IsSome (flow_at system.now.slots flow) }
     requires places { HasPlaces system.now filling.old }
     requires at { fixed_at filling.old.fixed.items flow ≡ None
@@ -498,7 +485,6 @@ fn fix_users<L: Ledger>(
     filling: &mut Filling,
     steps: &mut Steps<L>,
 )
-    requires sound { IsSound system.now }
     requires places { HasPlaces system.now filling.old }
     requires resource { resource < length system.now.capacities }
     requires level { slice_index filling.old.levels.items resource ≡ low }
@@ -528,7 +514,6 @@ fn fix_on<L: Ledger>(
     filling: &mut Filling,
     steps: &mut Steps<L>,
 )
-    requires sound { IsSound system.now }
     requires places { HasPlaces system.now filling.old }
     requires resource { resource < length system.now.capacities }
     requires above { AreAbove system.now (users_on system.now.users resource) low filling.old }
@@ -569,7 +554,6 @@ fn fix_bounded<L: Ledger>(
     filling: &mut Filling,
     steps: &mut Steps<L>,
 )
-    requires sound { IsSound system.now }
     requires held { IsSome (flow_at system.now.slots flow) }
     requires places { HasPlaces system.now filling.old }
     requires above { AreAbove system.now (flow ∷ []) low filling.old }
@@ -629,14 +613,8 @@ fn fix_each<L: Ledger>(
     filling: &mut Filling,
     steps: &mut Steps<L>,
 )
-    requires joined { AreJoined system.now touched.now reached.now }
-    requires at { IsAtLevel system.now touched.now reached.now low filling.old }
-    ensures partly { StepsPartly system.now low.level filling.old filling.new }
-    ensures noted { NotesHolds reached.now low.level filling.old filling.new }
-    ensures on { (i : ℕ) → i < length reached.now
-        → slice_index filling.old.levels.items (slice_index reached.now i) ≡ low.level
-        → AreFixed (users_on system.now.users (slice_index reached.now i)) filling.new }
-    ensures count { CountsOnce system.now touched.now reached.now filling.old filling.new
+    requires { IsAtLevel system.now touched.now reached.now low filling.old }
+    ensures { FixesUsers system.now touched.now reached.now low filling.old filling.new
         steps.old steps.new }
 {
     for k in low.at.first..low.at.end {
@@ -653,15 +631,9 @@ fn fix_due<L: Ledger>(
     filling: &mut Filling,
     steps: &mut Steps<L>,
 )
-    requires joined { AreJoined system.now touched.now reached.now }
     requires at { IsAtLevel system.now touched.now reached.now low filling.old }
     requires keys { HaveKeys filling.old.agenda }
-    ensures partly { StepsPartly system.now low.level filling.old filling.new }
-    ensures noted { NotesHolds reached.now low.level filling.old filling.new }
-    ensures on { (i : ℕ) → i < length reached.now
-        → slice_index filling.old.levels.items (slice_index reached.now i) ≡ low.level
-        → AreFixed (users_on system.now.users (slice_index reached.now i)) filling.new }
-    ensures count { CountsOnce system.now touched.now reached.now filling.old filling.new
+    ensures { FixesUsers system.now touched.now reached.now low filling.old filling.new
         steps.old steps.new }
 {
     while let Some(c) = due(&filling.agenda, low.level) {
@@ -680,14 +652,8 @@ fn fix_all_users<L: Ledger>(
     filling: &mut Filling,
     steps: &mut Steps<L>,
 )
-    requires joined { AreJoined system.now touched.now reached.now }
-    requires at { IsAtLevel system.now touched.now reached.now low filling.old }
-    ensures partly { StepsPartly system.now low.level filling.old filling.new }
-    ensures noted { NotesHolds reached.now low.level filling.old filling.new }
-    ensures on { (i : ℕ) → i < length reached.now
-        → slice_index filling.old.levels.items (slice_index reached.now i) ≡ low.level
-        → AreFixed (users_on system.now.users (slice_index reached.now i)) filling.new }
-    ensures count { CountsOnce system.now touched.now reached.now filling.old filling.new
+    requires { IsAtLevel system.now touched.now reached.now low filling.old }
+    ensures { FixesUsers system.now touched.now reached.now low filling.old filling.new
         steps.old steps.new }
 {
     if has_keys(&filling.agenda) {
@@ -706,7 +672,6 @@ fn fix_all<L: Ledger>(
     filling: &mut Filling,
     steps: &mut Steps<L>,
 )
-    requires joined { AreJoined system.now touched.now reached.now }
     requires at { IsAtLevel system.now touched.now reached.now low filling.old }
     ensures partly { StepsPartly system.now low.level filling.old filling.new }
     ensures noted { NotesHolds reached.now low.level filling.old filling.new }
@@ -758,7 +723,6 @@ fn step<L: Ledger>(
     filling: &mut Filling,
     steps: &mut Steps<L>,
 )
-    requires joined { AreJoined system.now touched.now reached.now }
     requires at { IsAtLevel system.now touched.now reached.now low filling.old }
     requires levels { AreLevels reached.now filling.old }
     ensures places { HasPlaces system.now filling.new }
@@ -826,8 +790,6 @@ fn reset(system: &System, reached: &[usize], left: &mut [u64], holds: &mut [Opti
         → fixed_at holds.new (slice_index reached.now i) ≡ None }
     ensures holds_kept { (c : ℕ) → is_in c reached.now ≡ false
         → fixed_at holds.new c ≡ fixed_at holds.old c }
-    ensures fit { (i : ℕ) → i < length reached.now
-        → slice_index system.now.capacities (slice_index reached.now i) < 2 ^ 64 }
 {
     for c in reached {
         left[*c] = system.capacity(*c);
@@ -875,10 +837,6 @@ pub fn fill<L: Ledger>(
     requires places { HasPlaces system.now filling.old }
     requires idle { IsIdle filling.old }
     ensures ended { IsEnded system.now touched.now reached.now filling.old filling.new }
-    ensures fits { (i : ℕ) → i < length touched.now
-        → bound_at system.now.slots (slice_index touched.now i) ≡ None
-        → share_of system.now.capacities (flows_at system.now.slots touched.now)
-        (flow_in system.now.slots (slice_index touched.now i)) < 2 ^ 64 }
     ensures looks { steps.new ≤ steps.old + 4 * lengths (uses_at system.now.slots) touched.now }
 {
     reset(system, reached, &mut filling.left, &mut filling.holds);

@@ -11,7 +11,4 @@ mod dates;
 mod filling;
 mod parts;
 
-pub use by_part::{fill_marked, fill_on_all};
-pub use component::{Component, mark_uses};
-pub use filling::{Filling, share_at_level};
 pub use parts::Parts;

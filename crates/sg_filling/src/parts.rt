@@ -1,7 +1,7 @@
 //! What sharing joins to some flows and resources, with what a filling of it finds.
 ghost use Rattle.std.specs.Prelude.{◌≡◌, ◌≢◌, ◌≤◌, ◌<◌, ◌+◌, ℕ, All, AllPairs, IfOk, OnOk, length};
 ghost use Rattle.sg_levels.specs.Kept.{IsFound};
-ghost use Rattle.sg_filling.specs.Parts.{AreHeldUnless, IsJoinedTo, IsReady, fill_looks, part_looks};
+ghost use Rattle.sg_filling.specs.Parts.{AreHeldUnless, IsJoinedTo, IsReady, part_looks};
 
 use crate::by_part::{fill_marked, fill_on_all};
 use crate::component::Component;
@@ -68,8 +68,7 @@ impl Parts {
         ensures found { IsFound system.now self.new.component.touched.members
             self.new.component.reached.members
             self.new.filling.fixed.items self.new.filling.holds.items }
-        ensures looks { steps.new ≤ steps.old + fill_looks system.now self.new.component }
-        ensures few { steps.new ≤ steps.old + part_looks system.now self.new.component }
+        ensures looks { steps.new ≤ steps.old + part_looks system.now self.new.component }
     {
         system.is_sound();
         self.component.touched.clear();

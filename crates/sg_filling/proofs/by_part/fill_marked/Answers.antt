@@ -6,8 +6,7 @@ use Rattle.sg_filling.proofs.by_part.fill_marked.Goals as goal
 
 pub loop-flow-init : goal.loop-flow-init
 loop-flow-init g c = record {
-  filled = c.requires.filled;
-  on = fills_none c.args.system.now c.args.component.now c.args.steps.now;
+  on = fills_none c.args.system.now c.args.component.now c.args.filling.now c.args.steps.now c.requires.filled;
   done = λ i h off. absurd (omega (arith, h));
   least = λ p q along marked t r. (t, r);
 }
@@ -32,8 +31,7 @@ loop-flow-preserved g c =
     let old = c.loop-flow.component in
     let new = c.fill_running.new.component in
     record {
-      filled = out.filled;
-      on = fills_on s c.args.component.now old new c.args.steps.now c.loop-flow.steps c.fill_running.new.steps inv.on out.on;
+      on = fills_on s c.args.component.now old new c.loop-flow.filling c.fill_running.new.filling c.args.steps.now c.loop-flow.steps c.fill_running.new.steps inv.on out.on;
       done = below_more _ _ (λ i h off. stays (get_or items i 0) old.touched.members new.touched.members out.on.touched (inv.done i h off)) out.there;
       least = λ p q along marked t r.
           let b = inv.least p q along marked t r in

@@ -1,13 +1,12 @@
 use Rattle.std.proofs.Common.{◌≡◌, ℕ, Bool, true, false, ◌<◌, slice_index, IsTrue}
 use Rattle.sg_base.specs.MarkSet.{is_in}
 use Rattle.sg_filling.specs.Component.{PassAlong, StaysWithin}
-use Rattle.sg_filling.specs.Parts.{FillsOn, IsFilled}
+use Rattle.sg_filling.specs.Parts.{FillsOn}
 use Rattle.sg_filling.proofs.by_part.fill_marked.Given as goal
 
 abbrev pub invariant-loop-flow : goal.invariant-loop-flow
 invariant-loop-flow g l = record {
-  filled : IsFilled l.system l.component l.filling;
-  on : FillsOn l.system l.fn.component l.component l.fn.steps l.steps;
+  on : FillsOn l.system l.fn.component l.component l.filling l.fn.steps l.steps;
   done : (i : ℕ) → i < l.flow-index → is_in (slice_index l.marked i) l.ended.members ≡ false → IsTrue (is_in (slice_index l.marked i) l.component.touched.members);
   least : (p q : ℕ → Bool) → PassAlong l.system p q → ((id : ℕ) → is_in id l.marked ≡ true → is_in id l.ended.members ≡ false → IsTrue (p id)) → StaysWithin p q l.fn.component l.component;
 }

@@ -16,7 +16,7 @@ reach_free-requires-clause-free g c =
     sym (walked next_on user_of s.uses row 0 c.first_on.result walk (λ i e. none_some (sym c.in-None.is ∙ e)))
 
 pub returns-in-None-clause-on : goal.returns-in-None-clause-on
-returns-in-None-clause-on g c = fills_free c.args.system.now c.args.component.now c.reach_free.new.component c.args.resource c.args.steps.now c.reach_free.ensures.touched c.reach_free.ensures.reached
+returns-in-None-clause-on g c = fills_free c.args.system.now c.args.component.now c.reach_free.new.component c.reach_free.new.filling c.args.resource c.args.steps.now c.reach_free.ensures.filled c.reach_free.ensures.touched c.reach_free.ensures.reached
 
 pub returns-in-None-clause-there : goal.returns-in-None-clause-there
 returns-in-None-clause-there g c = ap (λ (m : MarkSet). is_in c.args.resource m.members) c.reach_free.ensures.reached ∙ mark_there c.args.resource c.args.component.now.reached.members

@@ -7,8 +7,7 @@ use Rattle.sg_filling.proofs.by_part.fill_on_all.Goals as goal
 
 pub loop-c-init : goal.loop-c-init
 loop-c-init g c = record {
-  filled = c.requires.filled;
-  on = fills_none c.args.system.now c.args.component.now c.args.steps.now;
+  on = fills_none c.args.system.now c.args.component.now c.args.filling.now c.args.steps.now c.requires.filled;
   done = λ i h. absurd (omega (arith, h));
   least = λ p q along those t r. (t, r);
 }
@@ -28,8 +27,7 @@ loop-c-preserved g c =
     let old = c.loop-c.component in
     let new = c.fill_on.new.component in
     record {
-      filled = out.filled;
-      on = fills_on s first old new c.args.steps.now c.loop-c.steps c.fill_on.new.steps inv.on out.on;
+      on = fills_on s first old new c.loop-c.filling c.fill_on.new.filling c.args.steps.now c.loop-c.steps c.fill_on.new.steps inv.on out.on;
       done = below_more _ _ (λ i h. stays (get_or items i 0) old.reached.members new.reached.members out.on.reached (inv.done i h)) out.there;
       least = λ p q along those t r.
           let b = inv.least p q along those t r in

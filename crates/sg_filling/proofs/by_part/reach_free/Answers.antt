@@ -9,6 +9,7 @@ returns-clause-filled c =
     let p = old.places in
     reached_more c.args.system.now c.args.component.now f _ c.args.resource c.insert.new.self old c.requires.resource c.requires.free c.insert.ensures
     (record {
+      sound = p.sound;
       fixed_len = p.fixed_len;
       holds_len = length-set f.holds.items c.args.resource None ∙ p.holds_len;
       left_len = p.left_len;

@@ -1,14 +1,10 @@
-use Rattle.std.proofs.Common.{◌≡◌, ◌+◌, ◌^◌, ◌/◌, ◌<◌, inl, ℕ, List, Option, get_or, refl, sym, ap, subst, arith, ◌∙◌}
+use Rattle.std.proofs.Common.{◌≡◌, ◌+◌, ◌^◌, ◌/◌, ◌<◌, inl, ℕ, List, Option, get_or, sym, ap, subst, arith, ◌∙◌}
 use Rattle.std.specs.Vec.{with_items}
 use Rattle.std.proofs.lemmas.List.{with_items_is}
 use Rattle.sg_base.specs.MarkSet.{is_in}
-use Rattle.sg_maxmin.specs.Sharing.{uses_at}
-use Rattle.sg_maxmin.proofs.Members.{In-map}
-use Rattle.sg_levels.specs.Numbered.{flow_in}
-use Rattle.sg_filling.specs.Filling.{AreCounted, fixed_at, flows_at, weight_of}
-use Rattle.sg_filling.proofs.Growing.{at_in, in_at}
-use Rattle.sg_filling.proofs.Rows.{in_is, into, is_in_In}
-use Rattle.sg_filling.proofs.Starts.{fits, nowhere, part_limits, share_fits, starts}
+use Rattle.sg_filling.specs.Filling.{AreCounted, fixed_at, weight_of}
+use Rattle.sg_filling.proofs.Growing.{at_in}
+use Rattle.sg_filling.proofs.Starts.{fits, nowhere, starts}
 use Rattle.sg_filling.proofs.filling.fill.Goals as goal
 
 pub unfix-requires-clause-fits : goal.unfix-requires-clause-fits
@@ -55,17 +51,6 @@ fill_steps-requires-clause-begun g c =
         keys = inl idle.keys;
       };
     }
-
-pub returns-clause-fits : goal.returns-clause-fits
-returns-clause-fits g c = λ i h free.
-    let s = c.args.system.now in
-    let touched = c.args.touched.now in
-    let reached = c.args.reached.now in
-    let id = get_or touched i 0 in
-    let here = in_at id touched i h refl in
-    share_fits s.capacities (flows_at s.slots touched) (flow_in s.slots id) (part_limits s touched c.requires.joined.part) (In-map (flow_in s.slots) touched id (is_in_In id touched here)) free
-    (λ x u. let at = at_in x reached (into (uses_at s.slots id) reached x (c.requires.joined.closed.covers id here) (in_is x (uses_at s.slots id) u)) in
-    subst (λ n. get_or s.capacities n 0 < 2 ^ 64) at.2 (c.reset.ensures.fit at.0 at.1))
 
 pub returns-clause-ended : goal.returns-clause-ended
 returns-clause-ended g c =

@@ -112,7 +112,9 @@ step-requires-clause-at g c =
     let p = inv.places in
     let out = c.date_all.ensures in
     record {
+      joined = joined;
       places = record {
+        sound = p.sound;
         fixed_len = p.fixed_len;
         holds_len = p.holds_len;
         left_len = p.left_len;

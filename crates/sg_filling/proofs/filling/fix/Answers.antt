@@ -23,6 +23,7 @@ loop-at-init g c =
       record {
         walk = walk_from next_of_flow resource_of s.uses row c.first_of-at.result c.first_of-at.ensures.leads c.first_of-at.ensures.few;
         places = record {
+          sound = p.sound;
           fixed_len = omega (arith, p.fixed_len, length-set f.fixed.items c.args.flow (Some c.args.low));
           holds_len = p.holds_len;
           left_len = p.left_len;
@@ -64,7 +65,7 @@ take_use-requires-clause-left g c =
     let row = uses_at s.slots c.args.flow in
     let inv = c.loop-at.invariant in
     let r = looked next_of_flow resource_of s.uses row inv.0 c.loop-at.at inv.1.walk c.in-Some.i c.look-one.result c.in-Some.is c.look-one.ensures.there in
-    let below : get_or row inv.0 0 < length s.capacities = All-get_or (λ n. n < length s.capacities) row inv.0 0 r.less (rows_exist s c.requires.sound c.args.flow) in
+    let below : get_or row inv.0 0 < length s.capacities = All-get_or (λ n. n < length s.capacities) row inv.0 0 r.less (rows_exist s c.requires.places.sound c.args.flow) in
     omega (arith, below, r.is, inv.1.places.left_len)
 
 pub take_use-requires-clause-waiting : goal.take_use-requires-clause-waiting
@@ -73,7 +74,7 @@ take_use-requires-clause-waiting g c =
     let row = uses_at s.slots c.args.flow in
     let inv = c.loop-at.invariant in
     let r = looked next_of_flow resource_of s.uses row inv.0 c.loop-at.at inv.1.walk c.in-Some.i c.look-one.result c.in-Some.is c.look-one.ensures.there in
-    let below : get_or row inv.0 0 < length s.capacities = All-get_or (λ n. n < length s.capacities) row inv.0 0 r.less (rows_exist s c.requires.sound c.args.flow) in
+    let below : get_or row inv.0 0 < length s.capacities = All-get_or (λ n. n < length s.capacities) row inv.0 0 r.less (rows_exist s c.requires.places.sound c.args.flow) in
     omega (arith, below, r.is, inv.1.places.waiting_len)
 
 pub take_use-requires-clause-stale : goal.take_use-requires-clause-stale
@@ -82,7 +83,7 @@ take_use-requires-clause-stale g c =
     let row = uses_at s.slots c.args.flow in
     let inv = c.loop-at.invariant in
     let r = looked next_of_flow resource_of s.uses row inv.0 c.loop-at.at inv.1.walk c.in-Some.i c.look-one.result c.in-Some.is c.look-one.ensures.there in
-    let below : get_or row inv.0 0 < length s.capacities = All-get_or (λ n. n < length s.capacities) row inv.0 0 r.less (rows_exist s c.requires.sound c.args.flow) in
+    let below : get_or row inv.0 0 < length s.capacities = All-get_or (λ n. n < length s.capacities) row inv.0 0 r.less (rows_exist s c.requires.places.sound c.args.flow) in
     omega (arith, below, r.is, inv.1.places.stale_room)
 
 pub loop-at-preserved : goal.loop-at-preserved
@@ -99,7 +100,7 @@ loop-at-preserved g c =
     let share = bounded c.bound-bound.result (c.weight-weight.result * c.args.low) in
     let weight = c.weight-weight.result in
     let r = looked next_of_flow resource_of s.uses row k c.loop-at.at inv.1.walk c.in-Some.i c.look-one.result c.in-Some.is c.look-one.ensures.there in
-    let below : get_or row k 0 < length s.capacities = All-get_or (λ n. n < length s.capacities) row k 0 r.less (rows_exist s c.requires.sound c.args.flow) in
+    let below : get_or row k 0 < length s.capacities = All-get_or (λ n. n < length s.capacities) row k 0 r.less (rows_exist s c.requires.places.sound c.args.flow) in
     let in_left : one < length f.left.items = omega (arith, below, r.is, p.left_len) in
     let in_waiting : one < length f.waiting.items = omega (arith, below, r.is, p.waiting_len) in
     let old = f.stale.members in
@@ -110,6 +111,7 @@ loop-at-preserved g c =
       record {
         walk = walk_on next_of_flow resource_of s.uses row k c.loop-at.at inv.1.walk c.in-Some.i c.look-one.result c.in-Some.is c.look-one.ensures.there;
         places = record {
+          sound = p.sound;
           fixed_len = omega (arith, p.fixed_len, ap length out.kept.fixed);
           holds_len = ap length out.kept.holds ∙ p.holds_len;
           left_len = ap length out.left ∙ length-set f.left.items one (get_or f.left.items one 0 - share) ∙ p.left_len;

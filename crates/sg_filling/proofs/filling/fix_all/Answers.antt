@@ -32,7 +32,7 @@ returns-clause-stepped g c = λ i h.
     let new = c.fix_all_bounded.new.filling in
     let partly = partly_on s low first mid new c.fix_all_users.ensures.partly c.fix_all_bounded.ensures.partly in
     may_step low (IsLeast (Some low) (limits_at s.slots first.levels.items f)) (fixed_at first.fixed.items f) (fixed_at new.fixed.items f) (partly.flows f)
-    (all_at s touched reached first.levels.items new low f c.requires.joined (in_at f touched i h refl)
+    (all_at s touched reached first.levels.items new low f c.requires.at.joined (in_at f touched i h refl)
     (λ k l e. fixed_stay s low (users_on s.users (get_or reached k 0)) mid new c.fix_all_bounded.ensures.partly (c.fix_all_users.ensures.on k l e)) (c.fix_all_bounded.ensures.bounds i h))
 
 pub returns-clause-count : goal.returns-clause-count

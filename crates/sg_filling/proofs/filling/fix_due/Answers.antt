@@ -32,7 +32,7 @@ fix_on-requires-clause-above g c =
     let row = users_on s.users n in
     let key = some_of (key_at f.agenda n) c.in-Some.ensures.first in
     let its = key_is c.args.reached.now first c.requires.at.dated.quiet (are_right c.args.reached.now first c.requires.at.dated c.requires.keys) n key.0 (key_left (key_at f.agenda n) (key_at first.agenda n) key.0 (c.loop-c.invariant.keys n) key.1) in
-    above_still s c.args.touched.now row c.args.low.level first f c.loop-c.invariant.partly (λ id i. into row c.args.touched.now id (c.requires.joined.closed.covered n its.0) i) c.requires.at.above
+    above_still s c.args.touched.now row c.args.low.level first f c.loop-c.invariant.partly (λ id i. into row c.args.touched.now id (c.requires.at.joined.closed.covered n its.0) i) c.requires.at.above
 
 pub loop-c-preserved : goal.loop-c-preserved
 loop-c-preserved g c =
@@ -58,8 +58,8 @@ loop-c-preserved g c =
     let level = λ (x : ℕ). ap (λ xs. get_or xs x 0) inv.partly.levels in
     let noted = λ (x : ℕ). ap (λ hs. fixed_at hs x) out.noted in
     let next = λ (x : ℕ). subst (λ o. MayHold low (get_or first.levels.items x 0) (fixed_at f.holds.items x) o) (sym (noted x)) (subst (λ y. MayHold low y (fixed_at f.holds.items x) (fixed_at (noted_at low n f) x)) (level x) (noted_may low n f held x)) in
-    let less = taken_less s reached low n f mid held c.requires.joined.distinct its.0 (λ e. inv.held n c.in-Some.ensures.first ∙ c.requires.at.fresh n its.0 (sym (level n) ∙ e)) out.noted in
-    let b = out.count touched c.requires.joined.once (c.requires.joined.closed.covered n its.0) in
+    let less = taken_less s reached low n f mid held c.requires.at.joined.distinct its.0 (λ e. inv.held n c.in-Some.ensures.first ∙ c.requires.at.fresh n its.0 (sym (level n) ∙ e)) out.noted in
+    let b = out.count touched c.requires.at.joined.once (c.requires.at.joined.closed.covered n its.0) in
     record {
       partly = partly_on s low first f new inv.partly p;
       keys = λ x. elim (eq_cases x n) [
@@ -85,39 +85,41 @@ loop-c-preserved g c =
       count = record { counted = λ r h. b.counted r (inv.count.counted r h); looks = omega (arith, inv.count.looks, b.looks, less) };
     }
 
-pub returns-clause-on : goal.returns-clause-on
-returns-clause-on g c = λ i h e.
-    let s = c.args.system.now in
-    let touched = c.args.touched.now in
-    let reached = c.args.reached.now in
-    let first = c.args.filling.now in
-    let f = c.loop-c.filling in
-    let inv = c.loop-c.invariant in
-    let n = get_or reached i 0 in
-    let r = in_at n reached i h refl in
-    let later = none_of c.due.result c.in_default.not-Some c.due.ensures.none in
-    elim (eq_cases (get_or first.waiting.items n 0) 0) [
-      | inl z ↦ fixed_stay s c.args.low.level (users_on s.users n) first f inv.partly (nobody_waits s touched reached first c.requires.joined c.requires.at.counted n r z)
-      | inr some ↦
-          elim (inv.keys n) [
-            | inl same ↦ absurd (omega (arith, later n (record { date = get_or first.levels.items n 0; serial = 0 }) (same ∙ has_key reached first c.requires.at.dated.quiet (are_right reached first c.requires.at.dated c.requires.keys) n some), e))
-            | inr gone ↦ (gone.1 e).0
-          ]
-    ]
-
-pub returns-clause-noted : goal.returns-clause-noted
-returns-clause-noted g c =
-    let reached = c.args.reached.now in
-    let first = c.args.filling.now in
-    let inv = c.loop-c.invariant in
-    let later = none_of c.due.result c.in_default.not-Some c.due.ensures.none in
-    record {
-      others = inv.others;
-      may = inv.may;
-      taken = λ n r e pos.
-          let some : get_or first.waiting.items n 0 ≡ 0 → ⊥ = λ z. omega (arith, z, pos) in
-          elim (inv.keys n) [
-            | inl same ↦ absurd (omega (arith, later n (record { date = get_or first.levels.items n 0; serial = 0 }) (same ∙ has_key reached first c.requires.at.dated.quiet (are_right reached first c.requires.at.dated c.requires.keys) n some), e))
-            | inr gone ↦ (gone.1 e).1
-          ];
-    }
+pub returns : goal.returns
+returns g c = record {
+  partly = c.loop-c.invariant.partly;
+  noted =
+      let reached = c.args.reached.now in
+      let first = c.args.filling.now in
+      let inv = c.loop-c.invariant in
+      let later = none_of c.due.result c.in_default.not-Some c.due.ensures.none in
+      record {
+        others = inv.others;
+        may = inv.may;
+        taken = λ n r e pos.
+            let some : get_or first.waiting.items n 0 ≡ 0 → ⊥ = λ z. omega (arith, z, pos) in
+            elim (inv.keys n) [
+              | inl same ↦ absurd (omega (arith, later n (record { date = get_or first.levels.items n 0; serial = 0 }) (same ∙ has_key reached first c.requires.at.dated.quiet (are_right reached first c.requires.at.dated c.requires.keys) n some), e))
+              | inr gone ↦ (gone.1 e).1
+            ];
+      };
+  on = λ i h e.
+      let s = c.args.system.now in
+      let touched = c.args.touched.now in
+      let reached = c.args.reached.now in
+      let first = c.args.filling.now in
+      let f = c.loop-c.filling in
+      let inv = c.loop-c.invariant in
+      let n = get_or reached i 0 in
+      let r = in_at n reached i h refl in
+      let later = none_of c.due.result c.in_default.not-Some c.due.ensures.none in
+      elim (eq_cases (get_or first.waiting.items n 0) 0) [
+        | inl z ↦ fixed_stay s c.args.low.level (users_on s.users n) first f inv.partly (nobody_waits s touched reached first c.requires.at.joined c.requires.at.counted n r z)
+        | inr some ↦
+            elim (inv.keys n) [
+              | inl same ↦ absurd (omega (arith, later n (record { date = get_or first.levels.items n 0; serial = 0 }) (same ∙ has_key reached first c.requires.at.dated.quiet (are_right reached first c.requires.at.dated c.requires.keys) n some), e))
+              | inr gone ↦ (gone.1 e).0
+            ]
+      ];
+  count = c.loop-c.invariant.count;
+}

@@ -14,8 +14,8 @@ use Rattle.sg_filling.proofs.filling.fix_each.Goals as goal
 
 pub loop-k-init : goal.loop-k-init
 loop-k-init g c = record {
-  partly = partly_same c.args.system.now c.args.low.level c.args.filling.now c.requires.at.places;
-  on = λ i h e. nobody_waits c.args.system.now c.args.touched.now c.args.reached.now c.args.filling.now c.requires.joined c.requires.at.counted (get_or c.args.reached.now i 0) (in_at (get_or c.args.reached.now i 0) c.args.reached.now i (within i h) refl) (free i h e);
+  partly = partly_same c.args.system.now c.args.low.level c.args.filling.now c.requires.places;
+  on = λ i h e. nobody_waits c.args.system.now c.args.touched.now c.args.reached.now c.args.filling.now c.requires.joined c.requires.counted (get_or c.args.reached.now i 0) (in_at (get_or c.args.reached.now i 0) c.args.reached.now i (within i h) refl) (free i h e);
   others = λ c off. refl;
   may = λ c. inl refl;
   taken = λ i h e w. absurd (omega (arith, w, free i h e));
@@ -27,20 +27,20 @@ loop-k-init g c = record {
     first = c.args.filling.now
 
     within : (i : ℕ) → i < c.args.low.at.first → i < length c.args.reached.now
-    within i h = omega (arith, h, c.requires.at.taken.order, c.requires.at.taken.few)
+    within i h = omega (arith, h, c.requires.taken.order, c.requires.taken.few)
 
     -- nobody waits before the first
     free : (i : ℕ) → i < c.args.low.at.first → get_or first.levels.items (get_or c.args.reached.now i 0) 0 ≡ c.args.low.level → get_or first.waiting.items (get_or c.args.reached.now i 0) 0 ≡ 0
-    free i h e = elim (eq_cases (get_or first.waiting.items (get_or c.args.reached.now i 0) 0) 0) [ inl z ↦ z | inr w ↦ absurd (omega (arith, h, (c.requires.at.taken.among i (within i h) w e).0)) ]
+    free i h e = elim (eq_cases (get_or first.waiting.items (get_or c.args.reached.now i 0) 0) 0) [ inl z ↦ z | inr w ↦ absurd (omega (arith, h, (c.requires.taken.among i (within i h) w e).0)) ]
 
 pub fix_on-requires-clause-above : goal.fix_on-requires-clause-above
 fix_on-requires-clause-above g c =
     let s = c.args.system.now in
     let n = get_or c.args.reached.now c.loop-k.k 0 in
-    let there : c.loop-k.k < length c.args.reached.now = omega (arith, c.loop-k-test.true, c.requires.at.taken.few) in
+    let there : c.loop-k.k < length c.args.reached.now = omega (arith, c.loop-k-test.true, c.requires.taken.few) in
     let row = users_on s.users n in
     above_still s c.args.touched.now row c.args.low.level c.args.filling.now c.loop-k.filling c.loop-k.invariant.partly
-    (λ id i. into row c.args.touched.now id (c.requires.joined.closed.covered n (in_at n c.args.reached.now c.loop-k.k there refl)) i) c.requires.at.above
+    (λ id i. into row c.args.touched.now id (c.requires.joined.closed.covered n (in_at n c.args.reached.now c.loop-k.k there refl)) i) c.requires.above
 
 pub loop-k-preserved : goal.loop-k-preserved
 loop-k-preserved g c =
@@ -49,7 +49,7 @@ loop-k-preserved g c =
     let reached = c.args.reached.now in
     let k = c.loop-k.k in
     let n = get_or reached k 0 in
-    let there : k < length reached = omega (arith, c.loop-k-test.true, c.requires.at.taken.few) in
+    let there : k < length reached = omega (arith, c.loop-k-test.true, c.requires.taken.few) in
     let inv = c.loop-k.invariant in
     let out = c.fix_on.ensures in
     let first = c.args.filling.now in
@@ -61,7 +61,7 @@ loop-k-preserved g c =
     let noted = λ (x : ℕ). ap (λ hs. fixed_at hs x) out.noted in
     let next = λ (x : ℕ). subst (λ o. MayHold low (get_or first.levels.items x 0) (fixed_at old.holds.items x) o) (sym (noted x)) (subst (λ y. MayHold low y (fixed_at old.holds.items x) (fixed_at (noted_at low n old) x)) (level x) (noted_may low n old below x)) in
     let here = in_at n reached k there refl in
-    let less = taken_less s reached low n old new below c.requires.joined.distinct here (λ e. inv.rest k (omega arith) there ∙ c.requires.at.fresh n here (sym (level n) ∙ e)) out.noted in
+    let less = taken_less s reached low n old new below c.requires.joined.distinct here (λ e. inv.rest k (omega arith) there ∙ c.requires.fresh n here (sym (level n) ∙ e)) out.noted in
     let a = inv.count in
     let b = out.count touched c.requires.joined.once (c.requires.joined.closed.covered n (in_at n reached k there refl)) in
     record {
@@ -84,34 +84,36 @@ past reached waiting levels low first end k i a b among e = elim (eq_cases (get_
 order : (i k : ℕ) → (i < k) ⊎ (k ≤ i)
 order i k = grind arith
 
-pub returns-clause-on : goal.returns-clause-on
-returns-clause-on g c = λ i h e.
-    let s = c.args.system.now in
-    let reached = c.args.reached.now in
-    let first = c.args.filling.now in
-    let inv = c.loop-k.invariant in
-    let n = get_or reached i 0 in
-    elim (order i c.loop-k.k) [
-      | inl before ↦ inv.on i before e
-      | inr after ↦
-          let z = past reached first.waiting.items first.levels.items c.args.low.level c.args.low.at.first c.args.low.at.end c.loop-k.k i (omega (arith, c.loop-k-test.false)) after (c.requires.at.taken.among i h) e in
-          fixed_stay s c.args.low.level (users_on s.users n) first c.loop-k.filling inv.partly (nobody_waits s c.args.touched.now reached first c.requires.joined c.requires.at.counted n (in_at n reached i h refl) z)
-    ]
-
-pub returns-clause-noted : goal.returns-clause-noted
-returns-clause-noted g c =
-    let inv = c.loop-k.invariant in
-    let reached = c.args.reached.now in
-    let first = c.args.filling.now in
-    record {
-      others = inv.others;
-      may = inv.may;
-      taken = λ x r at some.
-          let i = at_in x reached r in
-          let at' = ap (λ n. get_or first.levels.items n 0) i.2 ∙ at in
-          let some' : 0 < get_or first.waiting.items (get_or reached i.0 0) 0 = omega (arith, some, ap (λ n. get_or first.waiting.items n 0) i.2) in
-          elim (order i.0 c.loop-k.k) [
-            | inl before ↦ subst (λ n. fixed_at c.loop-k.filling.holds.items n ≡ Some c.args.low.level) i.2 (inv.taken i.0 before at' some')
-            | inr after ↦ absurd (omega (arith, some', past reached first.waiting.items first.levels.items c.args.low.level c.args.low.at.first c.args.low.at.end c.loop-k.k i.0 (omega (arith, c.loop-k-test.false)) after (c.requires.at.taken.among i.0 i.1) at'))
-          ];
-    }
+pub returns : goal.returns
+returns g c = record {
+  partly = c.loop-k.invariant.partly;
+  noted =
+      let inv = c.loop-k.invariant in
+      let reached = c.args.reached.now in
+      let first = c.args.filling.now in
+      record {
+        others = inv.others;
+        may = inv.may;
+        taken = λ x r at some.
+            let i = at_in x reached r in
+            let at' = ap (λ n. get_or first.levels.items n 0) i.2 ∙ at in
+            let some' : 0 < get_or first.waiting.items (get_or reached i.0 0) 0 = omega (arith, some, ap (λ n. get_or first.waiting.items n 0) i.2) in
+            elim (order i.0 c.loop-k.k) [
+              | inl before ↦ subst (λ n. fixed_at c.loop-k.filling.holds.items n ≡ Some c.args.low.level) i.2 (inv.taken i.0 before at' some')
+              | inr after ↦ absurd (omega (arith, some', past reached first.waiting.items first.levels.items c.args.low.level c.args.low.at.first c.args.low.at.end c.loop-k.k i.0 (omega (arith, c.loop-k-test.false)) after (c.requires.taken.among i.0 i.1) at'))
+            ];
+      };
+  on = λ i h e.
+      let s = c.args.system.now in
+      let reached = c.args.reached.now in
+      let first = c.args.filling.now in
+      let inv = c.loop-k.invariant in
+      let n = get_or reached i 0 in
+      elim (order i c.loop-k.k) [
+        | inl before ↦ inv.on i before e
+        | inr after ↦
+            let z = past reached first.waiting.items first.levels.items c.args.low.level c.args.low.at.first c.args.low.at.end c.loop-k.k i (omega (arith, c.loop-k-test.false)) after (c.requires.taken.among i h) e in
+            fixed_stay s c.args.low.level (users_on s.users n) first c.loop-k.filling inv.partly (nobody_waits s c.args.touched.now reached first c.requires.joined c.requires.counted n (in_at n reached i h refl) z)
+      ];
+  count = c.loop-k.invariant.count;
+}

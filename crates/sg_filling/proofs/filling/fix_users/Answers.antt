@@ -42,7 +42,7 @@ fix_flow-requires-clause-held g c =
     let row = users_on s.users c.args.resource in
     let inv = c.loop-at.invariant in
     let r = looked next_on user_of s.uses row inv.0 c.loop-at.at inv.1.walk c.in-Some.i c.look-one.result c.in-Some.is c.look-one.ensures.there in
-    let f = on_held s c.requires.sound c.args.resource c.look-one.result.flow (in_at c.look-one.result.flow row inv.0 r.less (sym r.is)) in
+    let f = on_held s c.requires.places.sound c.args.resource c.look-one.result.flow (in_at c.look-one.result.flow row inv.0 r.less (sym r.is)) in
     subst IsSome (sym f.1) refl
 
 pub fix_flow-requires-clause-at : goal.fix_flow-requires-clause-at
@@ -53,7 +53,7 @@ fix_flow-requires-clause-at g c = λ none.
     let r = looked next_on user_of s.uses row inv.0 c.loop-at.at inv.1.walk c.in-Some.i c.look-one.result c.in-Some.is c.look-one.ensures.there in
     let id = c.look-one.result.flow in
     let user = in_at id row inv.0 r.less (sym r.is) in
-    let used = same_in id c.args.resource row (uses_at s.slots id) (c.requires.sound.both id c.args.resource) user in (
+    let used = same_in id c.args.resource row (uses_at s.slots id) (c.requires.places.sound.both id c.args.resource) user in (
       level_in s c.loop-at.filling.levels.items id c.args.resource c.args.low used (ap (λ xs. get_or xs c.args.resource 0) inv.1.partly.levels ∙ c.requires.level),
       above_still s row row c.args.low c.args.filling.now c.loop-at.filling inv.1.partly (λ n i. i) c.requires.above id user none,
     )

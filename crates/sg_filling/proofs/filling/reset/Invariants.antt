@@ -1,4 +1,4 @@
-use Rattle.std.proofs.Common.{◌≡◌, ℕ, ◌<◌, ◌^◌, false, None, slice_index}
+use Rattle.std.proofs.Common.{◌≡◌, ℕ, ◌<◌, false, None, slice_index}
 use Rattle.sg_base.specs.MarkSet.{is_in}
 use Rattle.sg_filling.specs.Filling.{fixed_at}
 use Rattle.sg_filling.proofs.filling.reset.Given as goal
@@ -8,5 +8,4 @@ invariant-loop-c l = record {
   left : (i : ℕ) → i < l.c-index → slice_index l.left (slice_index l.reached i) ≡ slice_index l.system.capacities (slice_index l.reached i);
   holds : (i : ℕ) → i < l.c-index → fixed_at l.holds (slice_index l.reached i) ≡ None;
   holds_kept : (c : ℕ) → is_in c l.reached ≡ false → fixed_at l.holds c ≡ fixed_at l.fn.holds c;
-  fit : (i : ℕ) → i < l.c-index → slice_index l.system.capacities (slice_index l.reached i) < 2 ^ 64;
 }

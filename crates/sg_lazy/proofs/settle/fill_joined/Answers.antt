@@ -1,11 +1,12 @@
 use Rattle.std.proofs.Common.{◌≡◌, ◌≢◌, ℕ, ◌+◌, ◌<◌, ◌≤◌, ◌||◌, inl, inr, true, Option, IsSome, is_none, List, length, get_or, All, AllPairs, refl, ap, subst, sym, arith}
 use Rattle.std.proofs.lemmas.List.Elements.{All-get_or}
 use Rattle.sg_base.specs.MarkSet.{is_in}
-use Rattle.sg_maxmin.specs.Sharing.{flow_at}
+use Rattle.sg_maxmin.specs.Sharing.{flow_at, uses_at}
 use Rattle.sg_levels.specs.Kept.{FlowsStayWithin, IsFound, IsWithin, PassAlong}
 use Rattle.sg_levels.specs.Numbered.{all_uses}
 use Rattle.sg_filling.proofs.Growing.{in_at}
 use Rattle.sg_filling.proofs.Listing.{bool_cases}
+use Rattle.sg_filling.proofs.Notes.{few_looks}
 use Rattle.sg_lazy.proofs.Joining.{along_all, count_le, or_left, or_right, refilled, uses_le}
 use Rattle.sg_lazy.proofs.settle.fill_joined.Goals as goal
 
@@ -86,4 +87,4 @@ returns-clause-looks g c = λ p q along marked.
     let each : (i : ℕ) → i < length touched → IsSome (flow_at s.slots (get_or touched i 0)) × (p (get_or touched i 0) ≡ true) = λ i h. (All-get_or (λ id. IsSome (flow_at s.slots id)) touched i 0 h found.flows_held, pass.0 (get_or touched i 0) (in_at (get_or touched i 0) touched i h refl)) in
     let once : AllPairs (λ a b. a ≢ b) touched = subst (AllPairs (λ a b. a ≢ b)) c.touched.ensures.members c.touched.ensures.once in
     let spent : c.refill.new.steps ≤ c.fill.new.steps + all_uses s.slots touched = omega (arith, c.refill.ensures.looks, ap (all_uses s.slots) c.filled.ensures.flows) in
-    refilled (length touched) _ (all_uses s.slots touched) _ c.args.steps.now c.fill.new.steps c.refill.new.steps (count_le s.slots p touched once each) (uses_le s.slots p touched once each) c.fill.ensures.looks spent
+    refilled (length touched) _ (all_uses s.slots touched) _ c.args.steps.now c.fill.new.steps c.refill.new.steps (count_le s.slots p touched once each) (uses_le s.slots p touched once each) (omega (arith, c.fill.ensures.looks, few_looks (uses_at s.slots) touched)) spent

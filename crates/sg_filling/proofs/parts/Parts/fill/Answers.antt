@@ -6,7 +6,6 @@ use Rattle.sg_levels.specs.Kept.{PassAlong}
 use Rattle.sg_filling.specs.declared.component.Component.{Component}
 use Rattle.sg_filling.specs.Component.{PassAlong as PassRows, lengths}
 use Rattle.sg_filling.proofs.Growing.{in_at, stays}
-use Rattle.sg_filling.proofs.Notes.{few_looks}
 use Rattle.sg_filling.proofs.Rows.{into}
 use Rattle.sg_filling.proofs.parts.Parts.fill.Goals as goal
 
@@ -23,7 +22,7 @@ returns-clause-joined g c =
     let a : Component = record { touched = c.clear.new.self; reached = c.clear-2.new.self } in
     let b : Component = c.fill_marked.new.component in
     let z : Component = c.fill_on_all.new.component in
-    let closed = c.fill_on_all.ensures.filled.closed in
+    let closed = c.fill_on_all.ensures.on.filled.closed in
     let no_flow : a.touched.members ≡ [] = ap (λ (m : MarkSet). m.members) c.clear.ensures in
     let no_resource : a.reached.members ≡ [] = ap (λ (m : MarkSet). m.members) c.clear-2.ensures in
     record {
@@ -39,11 +38,8 @@ returns-clause-joined g c =
           c.fill_on_all.ensures.least p q rows resources one.0 one.1;
     }
 
-pub returns-clause-few : goal.returns-clause-few
-returns-clause-few g c =
+pub returns-clause-looks : goal.returns-clause-looks
+returns-clause-looks g c =
     let s = c.args.system.now in
     let none : 6 * lengths (uses_at s.slots) c.clear.new.self.members ≡ 0 = ap (λ (m : MarkSet). 6 * lengths (uses_at s.slots) m.members) c.clear.ensures in
     omega (arith, c.fill_marked.ensures.on.looks, c.fill_on_all.ensures.on.looks, none)
-
-pub returns-clause-looks : goal.returns-clause-looks
-returns-clause-looks g c = omega (arith, returns-clause-few g c, few_looks (uses_at c.args.system.now.slots) c.fill_on_all.new.component.touched.members)
