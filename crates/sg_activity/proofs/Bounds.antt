@@ -1,9 +1,10 @@
 -- Bounds of activities as they are set anew, one after the other.
-use Rattle.std.proofs.Common.{◌≡◌, ◌≢◌, ℕ, ◌==◌, ◌<◌, inl, inr, Bool, true, false, cond, ◌||◌, Option, None, Some, option_map, List, [], ◌∷◌, ◌++◌, length, length-set, set, get_or-set_same, get_or-set_other, slice_index, IsTrue, IsSome, refl, sym, ap, subst, ◌∙◌, arith}
+use Rattle.std.proofs.lemmas.List.{set-get_or}
+use Rattle.std.proofs.Common.{◌≡◌, ◌≢◌, ℕ, ◌==◌, ◌<◌, inl, inr, Bool, true, false, not, cond, ◌||◌, true≢false, Option, None, Some, option_map, List, [], ◌∷◌, ◌++◌, length, length-set, set, get_or-set_same, get_or-set_other, slice_index, IsTrue, IsSome, refl, sym, ap, ap₂, subst, ◌∙◌, arith}
 use Rattle.std.proofs.lemmas.List.Folds.{list_any-append}
 use Rattle.sg_base.specs.MarkSet.{is_in}
-use Rattle.sg_lazy.specs.Lazily.{Lazily, with_bound}
-use Rattle.sg_lazy.specs.RunningFlow.{RunningFlow, bounded_by, running_at}
+use Rattle.sg_lazy.specs.Lazily.{Lazily, with_bound, with_other_bound}
+use Rattle.sg_lazy.specs.RunningFlow.{RunningFlow, bounded_by, has_bound, is_same_bound, running_at}
 use Rattle.sg_activity.specs.declared.kept.Kept.{Kept}
 use Rattle.sg_activity.specs.declared.lives.Live.{Live}
 use Rattle.sg_activity.specs.Task.{takes_share}
@@ -23,7 +24,44 @@ pub some_is : {X : Type 0} (o : Option X) → IsSome o → (x : X) × (o ≡ Som
 some_is None some = absurd (cc some)
 some_is (Some x) some = (x, refl)
 
-bounded_is : (bound : ℕ) (b : Option ℕ) (o : Option RunningFlow) → b ≡ Some bound → option_map (bounded_by bound) o ≡ option_map (rebound_to b) o
+eqb_is : (a b : ℕ) → (a == b) ≡ true → a ≡ b
+eqb_is a b e = grind arith
+
+or_true : (b : Bool) → (b || true) ≡ true
+or_true true = refl
+or_true false = refl
+
+or_false : (b : Bool) → (b || false) ≡ b
+or_false true = refl
+or_false false = refl
+
+same_is : (old : Option ℕ) (bound : ℕ) → is_same_bound old (Some bound) ≡ true → old ≡ Some bound
+same_is None bound e = absurd (true≢false (sym e))
+same_is (Some a) bound e = ap (λ n. Some n) (eqb_is a bound e)
+
+-- a flow that has the bound stays as it is, and one that hasn't is marked
+rebound_same : (bound : ℕ) (r : RunningFlow) → is_same_bound r.flow.bound (Some bound) ≡ true → rebound_to (Some bound) r ≡ r
+rebound_same bound r e =
+    ap₂ (λ b m. record r { flow = record r.flow { bound = b }; marked = m }) (sym (same_is r.flow.bound bound e)) (ap (λ b. r.marked || not b) e ∙ or_false r.marked)
+
+rebound_other : (bound : ℕ) (r : RunningFlow) → is_same_bound r.flow.bound (Some bound) ≡ false → rebound_to (Some bound) r ≡ bounded_by bound r
+rebound_other bound r e = ap (λ m. record r { flow = record r.flow { bound = Some bound }; marked = m }) (ap (λ b. r.marked || not b) e ∙ or_true r.marked)
+
+-- what a bound changes, be it the same or another
+bound_lazy : (s : Lazily) (id bound : ℕ) → IsSome (running_at s.slots id) → with_bound s id bound ≡ record s { slots = set s.slots id (option_map (rebound_to (Some bound)) (running_at s.slots id)) }
+bound_lazy s id bound some =
+    let r = some_is (running_at s.slots id) some in
+    go r.0 r.1 (is_same_bound r.0.flow.bound (Some bound)) refl
+  where
+    go : (r : RunningFlow) → running_at s.slots id ≡ Some r → (b : Bool) → is_same_bound r.flow.bound (Some bound) ≡ b → with_bound s id bound ≡ record s { slots = set s.slots id (option_map (rebound_to (Some bound)) (running_at s.slots id)) }
+    go r at true e =
+        ap (λ b. cond b s (with_other_bound s id bound)) (ap (has_bound bound) at ∙ e)
+        ∙ ap (λ l. record s { slots = l }) (sym (set-get_or s.slots id None) ∙ ap (set s.slots id) (at ∙ ap (λ x. Some x) (sym (rebound_same bound r e)) ∙ sym (ap (option_map (rebound_to (Some bound))) at)))
+    go r at false e =
+        ap (λ b. cond b s (with_other_bound s id bound)) (ap (has_bound bound) at ∙ e)
+        ∙ ap (λ o. record s { slots = set s.slots id o }) (ap (option_map (bounded_by bound)) at ∙ ap (λ x. Some x) (sym (rebound_other bound r e)) ∙ sym (ap (option_map (rebound_to (Some bound))) at))
+
+bounded_is : (bound : ℕ) (b : Option ℕ) (o : Option RunningFlow) → b ≡ Some bound → option_map (rebound_to (Some bound)) o ≡ option_map (rebound_to b) o
 bounded_is bound b None e = refl
 bounded_is bound b (Some r) e = ap (λ c. Some (rebound_to c r)) (sym e)
 
@@ -32,7 +70,7 @@ pub rebound_one : (kept : Kept) (lazy : Lazily) (key bound : ℕ) (live : Live) 
     Rebounds kept (record kept { lazy = lazy }) (key ∷ [])
 rebound_one kept lazy key bound live has at full bound_is by = record {
   rest = refl;
-  lazy = by ∙ ap (λ l. record kept.lazy { slots = l }) (sym slots_are);
+  lazy = is ∙ ap (λ l. record kept.lazy { slots = l }) (sym slots_are);
   long = ap length slots_are ∙ length-set slots live.flow one;
   runs = λ k other at' full'. elim (eq_cases k key) [
     | inl e ↦
@@ -53,10 +91,13 @@ rebound_one kept lazy key bound live has at full bound_is by = record {
     slots = kept.lazy.slots
 
     one : Option RunningFlow
-    one = option_map (bounded_by bound) (running_at slots live.flow)
+    one = option_map (rebound_to (Some bound)) (running_at slots live.flow)
+
+    is : lazy ≡ record kept.lazy { slots = set slots live.flow one }
+    is = by ∙ bound_lazy kept.lazy live.flow bound (has.runs key live at full)
 
     slots_are : lazy.slots ≡ set slots live.flow one
-    slots_are = ap (λ (l : Lazily). l.slots) by
+    slots_are = ap (λ (l : Lazily). l.slots) is
 
     Fits : ℕ → Live → Type 0
     Fits n other = running_at lazy.slots other.flow ≡ cond (is_in n (key ∷ [])) (rebound_by kept n other (running_at slots other.flow)) (running_at slots other.flow)
@@ -84,7 +125,10 @@ twice : (b : Option ℕ) (o : Option RunningFlow) → option_map (rebound_to b) 
 twice None None = refl
 twice None (Some r) = refl
 twice (Some n) None = refl
-twice (Some n) (Some r) = refl
+twice (Some n) (Some r) = ap (λ m. Some (record r { flow = record r.flow { bound = Some n }; marked = m })) (ap (λ b. (r.marked || not (is_same_bound r.flow.bound (Some n))) || not b) (eqb_self n) ∙ or_false (r.marked || not (is_same_bound r.flow.bound (Some n))))
+  where
+    eqb_self : (n : ℕ) → (n == n) ≡ true
+    eqb_self n = grind arith
 
 -- one more gets its bound
 pub rebound_on : (old mid new : Kept) (keys : List ℕ) (key : ℕ) → Rebounds old mid keys → Rebounds mid new (key ∷ []) → Rebounds old new (keys ++ key ∷ [])

@@ -26,6 +26,7 @@ first_kept s slots keys runs fresh = record {
   apart = λ i j one other a b e. absurd (none_is (ap (λ l. slot_at l i) slots) a);
   back = λ id running e. absurd (none_is (ap (λ l. running_at l id) runs) e);
   fresh = λ key is. absurd (true≢false (sym (subst (λ (f : List ℕ). IsTrue (is_in key f)) fresh is)));
+  fresh_now = λ key live at. absurd (none_is (ap (λ l. slot_at l key) slots) at);
   none_fresh = λ set. fresh;
   rates = λ set id running e. absurd (none_is (ap (λ l. running_at l id) runs) e);
 }
@@ -34,8 +35,8 @@ pub first_told : (hosts : List HostCap) (links : List LinkCap) (slots : List (Op
     metered_in energy (doing_of (record { capacities = machines hosts links; on = on; date = 0; drawn = 0; slots = slots; ways = ways; keys = keys; runs = runs; by_flow = by_flow; fresh = fresh; ended = ended; resources = resources; settled = false; arrived = false }) 0) ≡ idle_on hosts links
 unfolding listed
 first_told hosts links slots ways keys runs by_flow fresh ended resources on energy gone same all used =
-    ap₂ (λ e r. record { under = record { date = 0; capacities = machines hosts links; on = on; tasks = []; marks = record { began = []; ended = e; resources = r }; energy = energy }; due = []; settled = false; room = 0; stamps = [] }) gone same
-    ∙ ap₂ (λ o n. record { under = record { date = 0; capacities = machines hosts links; on = o; tasks = []; marks = record { began = []; ended = []; resources = [] }; energy = n }; due = []; settled = false; room = 0; stamps = [] }) all used
+    ap₂ (λ e r. record { under = record { date = 0; capacities = machines hosts links; on = on; tasks = []; marks = record { changed = []; ended = e; resources = r }; energy = energy }; due = []; settled = false; room = 0; stamps = [] }) gone same
+    ∙ ap₂ (λ o n. record { under = record { date = 0; capacities = machines hosts links; on = o; tasks = []; marks = record { changed = []; ended = []; resources = [] }; energy = n }; due = []; settled = false; room = 0; stamps = [] }) all used
 
 -- all that are on
 pub all_true : {X : Type 0} (on : List Bool) (xs : List X) → length on ≡ length xs → All (λ b. b ≡ true) on → on ≡ map (λ _. true) xs

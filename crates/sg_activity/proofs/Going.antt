@@ -1,7 +1,8 @@
 -- Dates: the next one, going there, and what is due then.
-use Rattle.std.proofs.Common.{◌≡◌, ◌≢◌, ℕ, zero, suc, ◌+◌, ◌-◌, ◌*◌, ◌==◌, ◌<◌, ◌≤◌, ◌⊎◌, inl, inr, true, false, Option, None, Some, option_map, ◌∷◌, map, get_or, IsTrue, refl, sym, ap, ap₂, subst, ◌∙◌, arith}
+use Rattle.std.proofs.Common.{◌≡◌, ◌≢◌, ℕ, zero, suc, ◌+◌, ◌-◌, ◌*◌, ◌==◌, ◌<◌, ◌≤◌, ◌⊎◌, inl, inr, true, false, Option, None, Some, option_map, map, get_or, IsTrue, refl, sym, ap, ap₂, subst, ◌∙◌, arith, true≢false}
 use Rattle.std.specs.Option.{IfSome}
 use Rattle.std.proofs.Math.Nat.{mul-le-mul_left}
+use Rattle.sg_base.specs.MarkSet.{is_in}
 use Rattle.sg_heap.specs.Agenda.{Key, IsLeast, IsNoLater, key_at}
 use Rattle.sg_activity.specs.declared.lives.Live.{Live}
 use Rattle.sg_activity.specs.Slots.{listed, passes, serials, is_at}
@@ -12,7 +13,7 @@ use Rattle.sg_activity.specs.kept.Stamps.{left_at}
 use Rattle.sg_activity.specs.kept.Pool.{IsMissing, slot_at}
 use Rattle.sg_activity.specs.kept.State.{State, task_of, stamp_of, date_of, dated, due_at, is_dated, is_now, is_so, told_at, told_by, under_of, doing_of}
 use Rattle.sg_activity.specs.kept.Sound.{IsKept}
-use Rattle.sg_activity.proofs.Listing.{eq_cases, some_same, length-listed, at_listed, past_listed, same_listed, serials_alike, soonest_none, soonest_is, up_to_each}
+use Rattle.sg_activity.proofs.Listing.{eq_cases, some_same, length-listed, at_listed, past_listed, same_listed, serials_alike, soonest_none, soonest_is, up_to_each, map_listed}
 use Rattle.sg_activity.proofs.Lookup.{Sought, sought, told_found, told_missed, told_from}
 use Rattle.sg_activity.proofs.Pairing.{there_within}
 use Rattle.sg_activity.proofs.Rates.{rate_told, wait_told, task_there}
@@ -21,11 +22,6 @@ use Rattle.sg_activity.proofs.Told.{doing_same}
 
 less_or : (i n : ℕ) → (i < n) ⊎ (n ≤ i)
 less_or i n = grind arith
-
-map_listed : {X Y : Type 0} (n : ℕ) (h : X → Y) (f : ℕ → X) → map h (listed n f) ≡ listed n (λ i. h (f i))
-unfolding listed
-map_listed zero h f = refl
-map_listed (suc n) h f = ap (λ l. h (f 0) ∷ l) (map_listed n h (λ i. f (suc i)))
 
 wait_small : (rate left span : ℕ) → wait rate left ≡ Some span → span ≤ left
 wait_small rate left span e = go rate span (is_wait rate left span e)
@@ -143,13 +139,14 @@ module _ (s : State) (is : IsKept s) (set : IsTrue s.settled) where
             paced = h.paced;
             placed = h.placed;
             counted = h.counted;
-            flow = λ full. let f = h.flow full in record { runs = f.runs; limit = f.limit; within = f.within; known = f.known };
+            flow = λ full. let f = h.flow full in record { marked = f.marked; runs = f.runs; limit = f.limit; within = f.within; known = f.known };
             dated = h.dated;
           };
       idle = is.idle;
       apart = is.apart;
       back = λ id running e. let b = is.back id running e in record { live = b.live; there = b.there; full = b.full; is = b.is };
       fresh = is.fresh;
+      fresh_now = λ key live at marked. absurd (true≢false (sym marked ∙ ap (is_in key) (is.none_fresh set)));
       none_fresh = is.none_fresh;
       rates = is.rates;
     }

@@ -1,7 +1,8 @@
 -- There is more room, and all else is as it was.
-use Rattle.std.proofs.Common.{◌≡◌, ℕ, suc, ◌+◌, ◌*◌, ◌≤◌, cond, Option, None, Some, option_map, List, [], ◌∷◌, map, length, sum_by, slice_index, refl, sym, ap, ap₂, subst, ◌∙◌, arith}
+use Rattle.std.proofs.Common.{◌≡◌, ℕ, suc, ◌+◌, ◌*◌, ◌≤◌, cond, ◌||◌, ◌&&◌, Option, None, Some, option_map, List, [], ◌∷◌, map, length, sum_by, slice_index, refl, sym, ap, ap₂, subst, ◌∙◌, arith}
 use Rattle.std.specs.List.{cons_option}
 use Rattle.sg_base.specs.declared.ids.LinkId.{LinkId}
+use Rattle.sg_base.specs.MarkSet.{is_in}
 use Rattle.sg_heap.specs.Agenda.{Key, key_at}
 use Rattle.sg_maxmin.specs.Fill.{share_of}
 use Rattle.sg_lazy.specs.RunningFlow.{RunningFlow, running_at, flows_in}
@@ -10,9 +11,10 @@ use Rattle.std.proofs.lemmas.List.Sums.{sum_by-cons}
 use Rattle.sg_activity.specs.declared.kept.Kept.{Kept}
 use Rattle.sg_activity.specs.Links.{capacities_of, machines}
 use Rattle.sg_activity.specs.kept.Grows.{Grows}
+use Rattle.sg_activity.specs.Task.{takes_share}
 use Rattle.sg_activity.specs.Slots.{passes, serials}
 use Rattle.sg_activity.specs.kept.Pool.{slot_at}
-use Rattle.sg_activity.specs.kept.State.{State, state_of, links_at, task_from, task_of, stamp_of, is_now, is_dated, is_so, told_at, told_by, began_at, began_by, under_of, doing_of, ways_of}
+use Rattle.sg_activity.specs.kept.State.{State, state_of, links_at, task_from, task_of, stamp_of, is_now, is_dated, is_so, told_at, told_by, is_marked, changed_at, changed_by, under_of, doing_of, ways_of}
 use Rattle.sg_activity.specs.kept.Sound.{AreApart, IsKept, IsSound, slot_ahead, slot_uses}
 use Rattle.sg_activity.proofs.Indexing.{ways_grown}
 use Rattle.sg_activity.proofs.Listing.{same_listed}
@@ -42,13 +44,14 @@ module _ (s : State) (slots : List (Option Live)) (ways : ℕ → List LinkId) (
 
   pub grown_kept : IsKept grown
   grown_kept = record {
-    each = λ k live at. held_still s grown k live refl refl refl (omega arith) (same_links k) (same_keys k) refl longer (λ full. (same_runs live.flow, same_flows live.flow)) (is.each k live (sym (same_slots k) ∙ at));
+    each = λ k live at. held_still s grown k live refl refl (omega arith) (same_links k) (same_keys k) refl longer (λ full. (same_runs live.flow, same_flows live.flow)) (is.each k live (sym (same_slots k) ∙ at));
     idle = λ k none. same_keys k ∙ is.idle k (sym (same_slots k) ∙ none);
     apart = apart;
     back = λ id r e.
         let of = is.back id r (sym (same_runs id) ∙ e) in
         record { live = of.live; there = ap (slot_at slots) (same_flows id) ∙ same_slots (slice_index s.by_flow id) ∙ of.there; full = of.full; is = of.is };
     fresh = λ k marked. omega (arith, is.fresh k marked, more_slots);
+    fresh_now = λ k live at marked. is.fresh_now k live (sym (same_slots k) ∙ at) marked;
     none_fresh = is.none_fresh;
     rates = λ set id r e. is.rates set id r (sym (same_runs id) ∙ e) ∙ ap (λ l. share_of (capacities_of s.capacities) l r.flow) (sym (flows_same s.runs runs same_runs));
   }
@@ -60,9 +63,9 @@ module _ (s : State) (slots : List (Option Live)) (ways : ℕ → List LinkId) (
   pub grown_told : (room : ℕ) → doing_of grown room ≡ doing_of s room
   grown_told room =
       doing_same (under_of grown) (under_of s) (cond s.arrived (serials is_so 1 (told_by (is_now grown) grown)) []) (cond s.arrived (serials is_so 1 (told_by (is_now s) s)) []) s.settled s.settled room room (told_by stamp_of grown) (told_by stamp_of s)
-      (made_same s.date s.date s.capacities s.capacities s.on s.on (told_by (task_of grown) grown) (told_by (task_of s) s) (began_by grown) (began_by s) s.ended s.ended s.resources s.resources refl refl refl
+      (made_same s.date s.date s.capacities s.capacities s.on s.on (told_by (task_of grown) grown) (told_by (task_of s) s) (changed_by grown) (changed_by s) s.ended s.ended s.resources s.resources refl refl refl
       (tell_same (task_of s) (task_of grown) (λ k live. ap (λ l. task_from s.date l live) (same_links k)))
-      (ap (map (passes is_so)) (tell_same (began_at s.fresh) (began_at s.fresh) (λ k live. refl))) refl refl)
+      (ap (map (passes is_so)) (tell_same (changed_at s.fresh s.runs) (changed_at s.fresh runs) (λ k live. ap (λ o. is_in k s.fresh || (takes_share live.kind && is_marked o)) (same_runs live.flow)))) refl refl)
       (ap (λ l. cond s.arrived (serials is_so 1 l) []) (tell_same (is_now s) (is_now grown) (λ k live. ap (is_dated s.date) (same_keys k)))) refl refl (tell_same stamp_of stamp_of (λ k live. refl))
 
 -- what free keys don't add to

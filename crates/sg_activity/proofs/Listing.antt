@@ -1,5 +1,5 @@
 -- Lists of what stands under each number, and what is found in them.
-use Rattle.std.proofs.Common.{◌≡◌, ◌≢◌, ℕ, zero, suc, ◌+◌, ◌<◌, ◌≤◌, min, ◌⊎◌, inl, inr, Bool, true, false, cond, Option, None, Some, List, [], ◌∷◌, ◌++◌, length, get_or, set, length-set, get_or-set_same, get_or-set_other, refl, sym, ap, ap₂, subst, ◌∙◌, arith}
+use Rattle.std.proofs.Common.{◌≡◌, ◌≢◌, ℕ, zero, suc, ◌+◌, ◌<◌, ◌≤◌, min, ◌⊎◌, inl, inr, Bool, true, false, cond, Option, None, Some, List, [], ◌∷◌, ◌++◌, length, get_or, set, length-set, get_or-set_same, get_or-set_other, refl, sym, ap, ap₂, subst, ◌∙◌, arith, map}
 use Rattle.std.proofs.lemmas.List.{ext_get_or, get_or_past}
 use Rattle.sg_activity.specs.Slots.{listed, passes, serials, sooner, soonest}
 use Rattle.sg_activity.specs.Doing.{IsUpTo}
@@ -47,6 +47,11 @@ listed_suc : {X : Type 0} (n : ℕ) (f : ℕ → X) → listed (suc n) f ≡ lis
 unfolding listed
 listed_suc zero f = refl
 listed_suc (suc n) f = ap (λ l. f 0 ∷ l) (listed_suc n (λ i. f (suc i)))
+
+pub map_listed : {X Y : Type 0} (n : ℕ) (h : X → Y) (f : ℕ → X) → map h (listed n f) ≡ listed n (λ i. h (f i))
+unfolding listed
+map_listed zero h f = refl
+map_listed (suc n) h f = ap (λ l. h (f 0) ∷ l) (map_listed n h (λ i. f (suc i)))
 
 pub listed_more : {X : Type 0} (n : ℕ) (f : ℕ → X) → listed (n + 1) f ≡ listed n f ++ f n ∷ []
 listed_more n f = let e : n + 1 ≡ suc n = omega arith in ap (λ k. listed k f) e ∙ listed_suc n f

@@ -10,7 +10,8 @@ use Rattle.sg_activity.specs.declared.kinds.LinkCap.{LinkCap}
 use Rattle.sg_activity.specs.Hosts.{offer_of, offers_of, host_at}
 use Rattle.sg_activity.specs.Links.{Capacities, at_bandwidth, at_speed, bandwidths_of, bound_of_link, cap_at, capacities_of, link_at, route_bound, shared_of}
 use Rattle.sg_activity.specs.Slots.{sooner}
-use Rattle.sg_activity.specs.Task.{Place, nowhere, on_host, over, Task, flow_at, is_rebound_at}
+use Rattle.sg_activity.specs.Task.{Place, nowhere, on_host, over, Task, flow_at}
+use Rattle.sg_activity.specs.kept.Bounds.{is_rebound_at}
 use Rattle.sg_activity.specs.kept.Index.{used_at}
 use Rattle.sg_activity.specs.kept.Sound.{IsPlace}
 use Rattle.sg_activity.proofs.Listing.{bool_cases, eq_cases}
@@ -108,16 +109,6 @@ pub rebound_some : (c : Capacities) (resources : List ℕ) (place : Place) → i
 rebound_some c resources nowhere e = absurd (true≢false (sym e))
 rebound_some c resources (on_host host) e = refl
 rebound_some c resources (over way) e = rebound_route c resources way.links e
-
--- one more capacity changed
-pub rebound_more : (c : Capacities) (resource : ℕ) (resources : List ℕ) (place : Place) → is_rebound_at c (with_mark resource resources) place ≡ (is_rebound_at c (resource ∷ []) place || is_rebound_at c resources place)
-rebound_more c resource resources nowhere = refl
-rebound_more c resource resources (on_host host) = in_mark host resource resources
-rebound_more c resource resources (over way) =
-    any_same (λ (link : LinkId). (link_at c.links link).fatpipe && is_in (length c.hosts + link.0) (with_mark resource resources))
-    (λ (link : LinkId). ((link_at c.links link).fatpipe && is_in (length c.hosts + link.0) (resource ∷ [])) || ((link_at c.links link).fatpipe && is_in (length c.hosts + link.0) resources)) way.links
-    (λ link. ap (λ b. (link_at c.links link).fatpipe && b) (in_mark (length c.hosts + link.0) resource resources) ∙ and_or (link_at c.links link).fatpipe (is_in (length c.hosts + link.0) (resource ∷ [])) (is_in (length c.hosts + link.0) resources))
-    ∙ any_or (λ (link : LinkId). (link_at c.links link).fatpipe && is_in (length c.hosts + link.0) (resource ∷ [])) (λ (link : LinkId). (link_at c.links link).fatpipe && is_in (length c.hosts + link.0) resources) way.links
 
 -- ---- the capacities after a change of that of one resource
 pub record IsMoved (c new : Capacities) (resource : ℕ) : Type 0 where

@@ -1,5 +1,5 @@
 -- The flows that are kept are those of the phases under way, and go at their rates.
-use Rattle.std.proofs.Common.{◌≡◌, ℕ, zero, suc, ◌+◌, ◌-◌, ◌<◌, ◌≤◌, ◌⊎◌, inl, inr, Bool, true, false, cond, ◌||◌, Option, None, Some, option_map, List, [], ◌∷◌, length, map, get_or, filter_map, slice_index, IsTrue, refl, sym, ap, subst, ◌∙◌, arith}
+use Rattle.std.proofs.Common.{◌≡◌, ℕ, zero, suc, ◌+◌, ◌-◌, ◌<◌, ◌≤◌, ◌⊎◌, inl, inr, Bool, true, false, cond, ◌||◌, ◌&&◌, Option, None, Some, option_map, List, [], ◌∷◌, length, map, get_or, filter_map, slice_index, IsTrue, refl, sym, ap, ap₂, subst, ◌∙◌, arith}
 use Rattle.std.specs.List.{cons_option}
 use Rattle.std.specs.Prelude.{Contains}
 use Rattle.std.proofs.lemmas.Option.{cond_some}
@@ -17,10 +17,10 @@ use Rattle.sg_activity.specs.declared.lives.Live.{Live}
 use Rattle.sg_activity.specs.Links.{Capacities, capacities_of}
 use Rattle.sg_activity.specs.Slots.{passes}
 use Rattle.sg_activity.specs.Task.{Task, takes_share, pace, wait_by, flow_in, flow_of, flows, task_at}
-use Rattle.sg_activity.specs.Underway.{is_rebound, rate, wait, wait_in, running_under, runnings, work_of}
+use Rattle.sg_activity.specs.Underway.{rate, wait, wait_in, running_under, runnings, work_of}
 use Rattle.sg_activity.specs.kept.Stamps.{left_at}
 use Rattle.sg_activity.specs.kept.Pool.{slot_at, IsMissing}
-use Rattle.sg_activity.specs.kept.State.{State, task_of, asked_by, serial_in, serial_at, is_so, told_at, told_by, began_at, under_of}
+use Rattle.sg_activity.specs.kept.State.{State, task_of, asked_by, serial_in, serial_at, is_so, told_at, told_by, is_marked, changed_at, under_of}
 use Rattle.sg_activity.specs.kept.Sound.{IsFlowOf, IsKept, run_of}
 use Rattle.sg_activity.proofs.Listing.{some_same, length-listed, at_listed, past_listed}
 use Rattle.sg_activity.proofs.Lookup.{Sought, told_found, told_from, told_missed}
@@ -50,22 +50,33 @@ module _ (s : State) (is : IsKept s) where
     | inr more ↦ past_listed s.drawn (λ i. told_at (task_of s) s.slots (i + 1)) (serial - 1) None more
   ]
 
-  -- whether it began stands there too
-  pub began_there : (key : ℕ) (live : Live) → slot_at s.slots key ≡ Some live → get_or (under_of s).marks.began (live.serial - 1) false ≡ is_in key s.fresh
-  began_there key live at =
+  -- whether its flow is marked stands there too
+  changed_there : (key : ℕ) (live : Live) → slot_at s.slots key ≡ Some live → get_or (under_of s).marks.changed (live.serial - 1) false ≡ changed_at s.fresh s.runs key live
+  changed_there key live at =
       let h = is.each key live at in
       let back : live.serial - 1 + 1 ≡ live.serial = omega (arith, h.from) in
-      get_or-map (passes is_so) (told_by (began_at s.fresh) s) (live.serial - 1) None
-      ∙ ap (passes is_so) (at_listed s.drawn (λ i. told_at (began_at s.fresh) s.slots (i + 1)) (live.serial - 1) None (omega (arith, h.from, h.to)) ∙ ap (told_at (began_at s.fresh) s.slots) back ∙ told_found (began_at s.fresh) s.slots live.serial key live is.apart at refl)
+      get_or-map (passes is_so) (told_by (changed_at s.fresh s.runs) s) (live.serial - 1) None
+      ∙ ap (passes is_so) (at_listed s.drawn (λ i. told_at (changed_at s.fresh s.runs) s.slots (i + 1)) (live.serial - 1) None (omega (arith, h.from, h.to)) ∙ ap (told_at (changed_at s.fresh s.runs) s.slots) back ∙ told_found (changed_at s.fresh s.runs) s.slots live.serial key live is.apart at refl)
+
+  marked_there : (key : ℕ) (live : Live) (at : slot_at s.slots key ≡ Some live) (full : IsTrue (takes_share live.kind)) → get_or (under_of s).marks.changed (live.serial - 1) false ≡ (is_in key s.fresh || ((is.each key live at).flow full).marked)
+  marked_there key live at full =
+      let has = (is.each key live at).flow full in
+      changed_there key live at
+      ∙ ap₂ (λ b o. is_in key s.fresh || (b && is_marked o)) full has.runs
+      ∙ twice (is_in key s.fresh) has.marked
+    where
+      twice : (a b : Bool) → (a || (true && (a || b))) ≡ (a || b)
+      twice true b = refl
+      twice false b = refl
 
   pub drawn_told : length (under_of s).tasks ≡ s.drawn
   drawn_told = length-listed s.drawn (λ i. told_at (task_of s) s.slots (i + 1))
 
   running_there : (key : ℕ) (live : Live) → slot_at s.slots key ≡ Some live → IsTrue (takes_share live.kind) →
-      running_under (under_of s) live.serial ≡ Some (record { flow = asked_by s key live; rate = 0; began = false; marked = get_or (under_of s).marks.began (live.serial - 1) false || is_rebound (under_of s) (task_of s key live) })
+      running_under (under_of s) live.serial ≡ Some (record { flow = asked_by s key live; rate = 0; began = false; marked = get_or (under_of s).marks.changed (live.serial - 1) false })
   running_there key live at full =
-      ap (λ o. option_map (λ flow. record { flow = flow; rate = 0; began = false; marked = get_or (under_of s).marks.began (live.serial - 1) false || passes (is_rebound (under_of s)) o }) (flow_in s.capacities o)) (task_there key live at)
-      ∙ ap (option_map (λ flow. record { flow = flow; rate = 0; began = false; marked = get_or (under_of s).marks.began (live.serial - 1) false || is_rebound (under_of s) (task_of s key live) })) (filled_flow s.capacities (task_of s key live) full)
+      ap (λ o. option_map (λ flow. record { flow = flow; rate = 0; began = false; marked = get_or (under_of s).marks.changed (live.serial - 1) false }) (flow_in s.capacities o)) (task_there key live at)
+      ∙ ap (option_map (λ flow. record { flow = flow; rate = 0; began = false; marked = get_or (under_of s).marks.changed (live.serial - 1) false })) (filled_flow s.capacities (task_of s key live) full)
 
   running_place : (i : ℕ) → i < s.drawn → get_or (runnings (under_of s)) i None ≡ running_under (under_of s) (i + 1)
   running_place i less = at_listed (length (under_of s).tasks) (λ j. running_under (under_of s) (j + 1)) i None (omega (arith, less, drawn_told))
@@ -76,7 +87,7 @@ module _ (s : State) (is : IsKept s) where
   place_is : (id : ℕ) (of : IsFlowOf s id) → place id ≡ of.live.serial - 1
   place_is id of = ap (λ o. serial_in o - 1) of.there
 
-  run_is : (id : ℕ) (of : IsFlowOf s id) (running : RunningFlow) → running_at s.runs id ≡ Some running → running ≡ run_of s (slice_index s.by_flow id) of.live
+  run_is : (id : ℕ) (of : IsFlowOf s id) (running : RunningFlow) → running_at s.runs id ≡ Some running → running ≡ run_of s (slice_index s.by_flow id) of.live ((is.each (slice_index s.by_flow id) of.live of.there).flow of.full).marked
   run_is id of running e = some_same (sym e ∙ ap (running_at s.runs) (sym of.is) ∙ ((is.each (slice_index s.by_flow id) of.live of.there).flow of.full).runs)
 
   to : (amount : Flow → Bool → ℕ) (id : ℕ) (running : RunningFlow) → running_at s.runs id ≡ Some running →
@@ -86,10 +97,10 @@ module _ (s : State) (is : IsKept s) where
       let key = slice_index s.by_flow id in
       let h = is.each key of.live of.there in
       let back : place id + 1 ≡ of.live.serial = omega (arith, place_is id of, h.from) in (
-        record { flow = asked_by s key of.live; rate = 0; began = false; marked = get_or (under_of s).marks.began (of.live.serial - 1) false || is_rebound (under_of s) (task_of s key of.live) },
+        record { flow = asked_by s key of.live; rate = 0; began = false; marked = get_or (under_of s).marks.changed (of.live.serial - 1) false },
         running_place (place id) (omega (arith, back, h.to)) ∙ ap (running_under (under_of s)) back ∙ running_there key of.live of.there of.full,
         ap (λ (r : RunningFlow). amount r.flow r.marked) (run_is id of running e)
-            ∙ ap (λ b. amount (asked_by s key of.live) (b || is_rebound (under_of s) (task_of s key of.live))) (sym (began_there key of.live of.there)),
+            ∙ ap (amount (asked_by s key of.live)) (sym (marked_there key of.live of.there of.full)),
       )
 
   own : (i j : ℕ) (one other : RunningFlow) → running_at s.runs i ≡ Some one → running_at s.runs j ≡ Some other → place i ≡ place j → i ≡ j
@@ -114,7 +125,7 @@ module _ (s : State) (is : IsKept s) where
   -- the activity of a serial that runs
   runs_under : (serial : ℕ) (r : RunningFlow) → 0 < serial → serial ≤ s.drawn → running_under (under_of s) serial ≡ Some r → (f : Sought s.slots serial) × IsTrue (takes_share f.live.kind)
   runs_under serial r from to e =
-      let t = some_flow (get_or (under_of s).marks.began (serial - 1) false || passes (is_rebound (under_of s)) (task_at (under_of s).tasks serial)) (task_at (under_of s).tasks serial) r e in
+      let t = some_flow (get_or (under_of s).marks.changed (serial - 1) false) (task_at (under_of s).tasks serial) r e in
       let f = told_from (task_of s) s.slots serial t.0 is.apart (sym (task_told s serial from to) ∙ t.1) in
       (f.0, ap (λ (u : Task). takes_share u.kind) f.1 ∙ t.2)
 
@@ -124,7 +135,7 @@ module _ (s : State) (is : IsKept s) where
       let f = runs_under (j + 1) r (omega arith) (omega (arith, less)) (sym (running_place j less) ∙ e) in
       let key = f.0.key in
       let has = (is.each key f.0.live f.0.at).flow f.1 in
-      (f.0.live.flow, run_of s key f.0.live, has.runs, ap (λ k. serial_at s.slots k - 1) has.known ∙ ap (λ o. serial_in o - 1) f.0.at ∙ back f.0.is)
+      (f.0.live.flow, run_of s key f.0.live has.marked, has.runs, ap (λ k. serial_at s.slots k - 1) has.known ∙ ap (λ o. serial_in o - 1) f.0.at ∙ back f.0.is)
     where
       back : {n : ℕ} → n ≡ j + 1 → n - 1 ≡ j
       back e = omega (arith, e)
@@ -168,7 +179,7 @@ module _ (s : State) (is : IsKept s) where
       alike : (i : ℕ) → (i < length (under_of s).tasks) ⊎ (length (under_of s).tasks ≤ i) → part (λ (r : RunningFlow). h r.flow) (get_or (runnings (under_of s)) i None) ≡ part h (flow_in s.capacities (get_or (under_of s).tasks i None))
       alike i (inl less) =
           ap (part (λ (r : RunningFlow). h r.flow)) (at_listed (length (under_of s).tasks) (λ j. running_under (under_of s) (j + 1)) i None less)
-          ∙ made_parts h (get_or (under_of s).marks.began (i + 1 - 1) false || passes (is_rebound (under_of s)) (task_at (under_of s).tasks (i + 1))) (flow_in s.capacities (task_at (under_of s).tasks (i + 1)))
+          ∙ made_parts h (get_or (under_of s).marks.changed (i + 1 - 1) false) (flow_in s.capacities (task_at (under_of s).tasks (i + 1)))
           ∙ ap (λ n. part h (flow_in s.capacities (get_or (under_of s).tasks n None))) (back i)
       alike i (inr more) =
           ap (part (λ (r : RunningFlow). h r.flow)) (past_listed (length (under_of s).tasks) (λ j. running_under (under_of s) (j + 1)) i None more)
@@ -214,9 +225,9 @@ module _ (s : State) (is : IsKept s) where
       cases : (b : Bool) → takes_share live.kind ≡ b → ◌≡◌ {A = ℕ} (cond b (share_of (capacities_of s.capacities) (flows s.capacities (under_of s).tasks) (asked_by s key live)) (pace live.kind)) live.rate
       cases true full =
           let has = (is.each key live at).flow full in
-          sym (is.rates set live.flow (run_of s key live) has.runs
+          sym (is.rates set live.flow (run_of s key live has.marked) has.runs
           ∙ shares_same_lem (capacities_of s.capacities) (flows_in s.runs) (flows s.capacities (under_of s).tasks) (asked_by s key live) sums limits
-          (subst (λ l. Contains l (asked_by s key live)) (mapped_held s.runs) (is_held_lem (map (option_map (λ (r : RunningFlow). r.flow)) s.runs) live.flow (asked_by s key live) (mapped_there s.runs live.flow (run_of s key live) has.runs))))
+          (subst (λ l. Contains l (asked_by s key live)) (mapped_held s.runs) (is_held_lem (map (option_map (λ (r : RunningFlow). r.flow)) s.runs) live.flow (asked_by s key live) (mapped_there s.runs live.flow (run_of s key live has.marked) has.runs))))
       cases false empty = sym ((is.each key live at).paced empty)
 
   pub wait_told : IsTrue s.settled → (key : ℕ) (live : Live) → slot_at s.slots key ≡ Some live → wait_in (under_of s) (task_of s key live) ≡ wait_by live.kind (wait live.rate (left_at live.kept live.rate live.stamp s.date))

@@ -1,6 +1,5 @@
 -- The rates are brought up to date: all stays of one mind, and what is left of each activity is told as before.
-use Rattle.std.proofs.Common.{◌≡◌, ℕ, zero, suc, map, replicate, option_and_then, ◌+◌, ◌-◌, ◌*◌, ◌==◌, ◌^◌, ◌<◌, ◌⊎◌, inl, inr, Bool, true, false, not, cond, ◌||◌, ◌&&◌, true≢false, Option, None, Some, option_map, List, [], ◌∷◌, length, get_or, slice_index, sum_by, All, IsTrue, IsSome, refl, sym, ap, ap₂, subst, ◌∙◌, arith}
-use Rattle.std.specs.List.{list_any}
+use Rattle.std.proofs.Common.{◌≡◌, ℕ, zero, suc, map, replicate, option_and_then, ◌+◌, ◌-◌, ◌*◌, ◌==◌, ◌^◌, ◌<◌, ◌⊎◌, inl, inr, Bool, true, false, not, cond, ◌||◌, ◌&&◌, true≢false, Option, None, Some, option_map, List, [], ◌∷◌, length, get_or, slice_index, sum_by, All, IsTrue, IsSome, refl, sym, ap, ap₂, subst, ◌∙◌, arith, ◌≢◌}
 use Rattle.sg_base.specs.declared.ids.LinkId.{LinkId}
 use Rattle.sg_base.specs.MarkSet.{MarkSet, is_in}
 use Rattle.sg_heap.specs.Agenda.{Key, key_at}
@@ -8,15 +7,15 @@ use Rattle.sg_maxmin.specs.Fill.{share_of}
 use Rattle.sg_lazy.specs.Lazily.{Lazily, IsSettled, DidChange}
 use Rattle.sg_lazy.specs.RunningFlow.{RunningFlow, running_at, flow_under, flows_in}
 use Rattle.sg_activity.specs.declared.lives.Live.{Live}
-use Rattle.sg_activity.specs.Links.{Capacities, capacities_of, link_at}
-use Rattle.sg_activity.specs.Task.{Place, Task, nowhere, on_host, over, takes_share, is_rebound_at}
+use Rattle.sg_activity.specs.Links.{capacities_of}
+use Rattle.sg_activity.specs.Task.{Task, takes_share}
 use Rattle.sg_activity.specs.Stamp.{Stamp, rerated, rerated_at, all_rerated}
 use Rattle.sg_activity.specs.Underway.{Underway, rate, settled}
 use Rattle.sg_activity.specs.Doing.{settled_in}
 use Rattle.sg_activity.specs.kept.Stamps.{left_at}
 use Rattle.sg_activity.specs.kept.Pool.{Pool, slot_at}
-use Rattle.sg_activity.specs.kept.State.{State, links_at, task_from, task_of, stamp_of, asked_by, date_of, is_so, key_from, told_at, told_by, began_at, began_by, under_of, doing_of}
-use Rattle.sg_activity.specs.kept.Sound.{IsHeld, AreApart, IsKept, slot_ahead, slot_uses, place_at, run_of}
+use Rattle.sg_activity.specs.kept.State.{State, links_at, task_from, task_of, stamp_of, asked_by, date_of, is_so, key_from, is_marked, told_at, told_by, changed_at, changed_by, under_of, doing_of}
+use Rattle.sg_activity.specs.kept.Sound.{IsHeld, AreApart, IsKept, slot_ahead, slot_uses, run_of}
 use Rattle.sg_activity.specs.kept.Renewal.{IsKeyed, HaveKeys, rate_in, is_among, restamped, is_renewed, AreRestamped, AreSmall, date_in, AreRenewed}
 use Rattle.sg_activity.proofs.Listing.{eq_cases, length-listed, some_same, same_listed}
 use Rattle.sg_activity.specs.Slots.{listed, passes}
@@ -34,20 +33,6 @@ mapped_false : (n : ℕ) (f : ℕ → Option Bool) → ((i : ℕ) → passes is_
 unfolding listed
 mapped_false zero f h = refl
 mapped_false (suc n) f h = ap₂ (λ b l. b ∷ l) (h 0) (mapped_false n (λ i. f (suc i)) (λ i. h (suc i)))
-
--- no capacity changed, and so no bound
-never_bound : (capacities : Capacities) (links : List LinkId) → list_any (λ (link : LinkId). (link_at capacities.links link).fatpipe && false) links ≡ false
-never_bound capacities [] = refl
-never_bound capacities (link ∷ links) = ap (λ b. b || list_any (λ (l : LinkId). (link_at capacities.links l).fatpipe && false) links) (none (link_at capacities.links link).fatpipe) ∙ never_bound capacities links
-  where
-    none : (b : Bool) → (b && false) ≡ false
-    none true = refl
-    none false = refl
-
-pub never_rebound : (capacities : Capacities) (place : Place) → is_rebound_at capacities [] place ≡ false
-never_rebound capacities nowhere = refl
-never_rebound capacities (on_host host) = refl
-never_rebound capacities (over way) = never_bound capacities way.links
 
 -- an activity that was there before it was restamped, and which of the two it is
 pub record WasStamped (flows : List ℕ) (runs : List (Option RunningFlow)) (date : ℕ) (slots : List (Option Live)) (key : ℕ) (live : Live) : Type 0 where
@@ -124,10 +109,10 @@ module _ (s : State) (lazy new : Lazily) (pool : Pool) (marks more : MarkSet) (k
 
   -- as a flow runs that isn't marked
   same_run : (key : ℕ) (live : Live) (q : RunningFlow) (n : ℕ) → q.flow ≡ asked_by s key live → q.rate ≡ n → q.began ≡ false → q.marked ≡ false →
-      Some q ≡ Some (record { flow = asked_by s key live; rate = n; began = false; marked = is_rebound_at s.capacities new.resources (place_at s key live) })
+      Some q ≡ Some (record { flow = asked_by s key live; rate = n; began = false; marked = false })
   same_run key live q n a b c d =
       ap (λ x. Some (record { flow = x; rate = q.rate; began = q.began; marked = q.marked })) a ∙ ap (λ x. Some (record { flow = asked_by s key live; rate = x; began = q.began; marked = q.marked })) b
-      ∙ ap₂ (λ x m. Some (record { flow = asked_by s key live; rate = n; began = x; marked = m })) c (d ∙ sym (ap (λ r. is_rebound_at s.capacities r (place_at s key live)) by.no_resources ∙ never_rebound s.capacities (place_at s key live)))
+      ∙ ap₂ (λ x m. Some (record { flow = asked_by s key live; rate = n; began = x; marked = m })) c d
 
   date_there : (key : ℕ) (live : Live) (w : WasStamped new.changed new.slots s.date s.slots key live) → slot_at pool.slots key ≡ Some live → key_at keys key ≡ date_of live
   date_there key live w at = renewed key ∙ go (is_in key more.members) refl
@@ -164,8 +149,9 @@ module _ (s : State) (lazy new : Lazily) (pool : Pool) (marks more : MarkSet) (k
               counted = h.counted;
               flow = λ _.
                   let has = h.flow full.0 in
-                  let r = runs_now w.old.flow (run_of s key w.old) has.runs in
+                  let r = runs_now w.old.flow (run_of s key w.old has.marked) has.runs in
                   record {
+                    marked = false;
                     runs = r.1 ∙ same_run key w.old r.0 (rate_in (running_at new.slots w.old.flow)) r.2 (ap rate_in (sym r.1)) r.3 r.4;
                     limit = has.limit;
                     within = has.within;
@@ -189,9 +175,10 @@ module _ (s : State) (lazy new : Lazily) (pool : Pool) (marks more : MarkSet) (k
               counted = h.counted;
               flow = λ full.
                   let has = h.flow full in
-                  let r = runs_now w.old.flow (run_of s key w.old) has.runs in
-                  let rate = kept_rate lazy new w.old.flow (run_of s key w.old) r.0 by (ap (λ l. running_at l w.old.flow) runs ∙ has.runs) r.1 (not_among new.changed w.old full c.0) in
+                  let r = runs_now w.old.flow (run_of s key w.old has.marked) has.runs in
+                  let rate = kept_rate lazy new w.old.flow (run_of s key w.old has.marked) r.0 by (ap (λ l. running_at l w.old.flow) runs ∙ has.runs) r.1 (not_among new.changed w.old full c.0) in
                   record {
+                    marked = false;
                     runs = r.1 ∙ same_run key w.old r.0 w.old.rate r.2 rate r.3 r.4;
                     limit = has.limit;
                     within = has.within;
@@ -236,6 +223,7 @@ module _ (s : State) (lazy new : Lazily) (pool : Pool) (marks more : MarkSet) (k
           is = kind_stays (λ (l : Live). l.flow ≡ id) of.live of.is of.is;
         };
     fresh = λ key marked. absurd (true≢false (sym marked));
+    fresh_now = λ key live at marked. absurd (true≢false (sym marked));
     none_fresh = λ _. refl;
     rates = λ _ id q e. by.rates id q e ∙ ap (λ c. share_of c (flows_in new.slots) q.flow) (by.capacities_kept ∙ caps);
   }
@@ -268,27 +256,35 @@ module _ (s : State) (lazy new : Lazily) (pool : Pool) (marks more : MarkSet) (k
       go true = ap (λ n. record (task_from s.date links live) { left = n }) (same (left_at live.kept live.rate live.stamp s.date) (rate_in (running_at new.slots live.flow)))
       go false = refl
 
-  none_began : began_by settled_state ≡ replicate (length (told_by (task_of s) s)) false
-  none_began =
-      mapped_false s.drawn (λ i. told_at (began_at []) pool.slots (i + 1)) (λ i. not_so (key_from 0 (i + 1) pool.slots))
+  none_changed : changed_by settled_state ≡ replicate (length (told_by (task_of s) s)) false
+  none_changed =
+      mapped_false s.drawn (λ i. told_at (changed_at [] new.slots) pool.slots (i + 1)) (λ i. not_so (key_from 0 (i + 1) pool.slots))
       ∙ ap (λ n. replicate n false) (sym (length-listed s.drawn (λ i. told_at (task_of s) s.slots (i + 1))))
     where
-      some_so : (o : Option Live) → passes is_so (option_map (λ live. false) o) ≡ false
-      some_so None = refl
-      some_so (Some live) = refl
+      unmarked : (id : ℕ) (o : Option RunningFlow) → running_at new.slots id ≡ o → is_marked o ≡ false
+      unmarked id None e = refl
+      unmarked id (Some r) e = by.unmarked id r e
 
-      not_so : (o : Option ℕ) → passes is_so (option_and_then (λ key. option_map (began_at [] key) (slot_at pool.slots key)) o) ≡ false
+      and_none : (a b : Bool) → b ≡ false → (a && b) ≡ false
+      and_none true b e = e
+      and_none false b e = refl
+
+      some_so : (key : ℕ) (o : Option Live) → passes is_so (option_map (changed_at [] new.slots key) o) ≡ false
+      some_so key None = refl
+      some_so key (Some live) = and_none (takes_share live.kind) (is_marked (running_at new.slots live.flow)) (unmarked live.flow (running_at new.slots live.flow) refl)
+
+      not_so : (o : Option ℕ) → passes is_so (option_and_then (λ key. option_map (changed_at [] new.slots key) (slot_at pool.slots key)) o) ≡ false
       not_so None = refl
-      not_so (Some key) = some_so (slot_at pool.slots key)
+      not_so (Some key) = some_so key (slot_at pool.slots key)
 
   under_told : under_of settled_state ≡ settled (under_of s)
   under_told =
-      made_same s.date s.date s.capacities s.capacities s.on s.on (told_by (task_of settled_state) settled_state) (told_by (task_of s) s) (began_by settled_state) (replicate (length (told_by (task_of s) s)) false) new.ended [] new.resources [] refl refl refl
+      made_same s.date s.date s.capacities s.capacities s.on s.on (told_by (task_of settled_state) settled_state) (told_by (task_of s) s) (changed_by settled_state) (replicate (length (told_by (task_of s) s)) false) new.ended [] new.resources [] refl refl refl
       (same_listed s.drawn (λ i. told_at (task_of settled_state) pool.slots (i + 1)) (λ i. told_at (task_of s) s.slots (i + 1)) (λ i less.
       told_alike (task_of s) (task_of settled_state) s.slots pool.slots (i + 1) is.apart apart
       (λ f. (restamped new.changed new.slots s.date f.live, there_now f.key f.live f.at, serial_stamped new.changed new.slots s.date f.live ∙ f.is, left_now (links_at s.ways f.key) f.live))
       (λ f. let w = was_at f.key f.live f.at in record { key = f.key; live = w.old; at = w.there; is = serial_was f.key f.live w ∙ f.is })))
-      none_began by.none_ended by.no_resources
+      none_changed by.none_ended by.no_resources
 
   rate_settled : (under : Underway) (task : Task) → rate (settled under) task ≡ rate under task
   unfolding rate
@@ -308,33 +304,47 @@ module _ (s : State) (lazy new : Lazily) (pool : Pool) (marks more : MarkSet) (k
     chosen : (b : Bool) → is_in live.flow new.changed ≡ b → (cond b (taken live) live).rate ≡ now
     chosen b e = ap (λ c. (cond c (taken live) live).rate) (sym (ap₂ (λ a d. a && d) full e)) ∙ rate_now key live at
 
-    changed_so : is_in live.flow new.changed ≡ true → (is_in key s.fresh || not (now == live.rate)) ≡ true
-    changed_so e = go (running_at new.slots live.flow) refl (subst (λ o. DidChange o (running_at new.slots live.flow)) (ap (λ l. running_at l live.flow) runs ∙ ((is.each key live at).flow full).runs) ((by.changes live.flow).0 e))
+    -- one that isn't listed keeps its rate
+    kept_so : is_in live.flow new.changed ≡ false → not (now == live.rate) ≡ false
+    kept_so e = is_same now live.rate (sym (chosen false e))
+
+    -- One that is listed has another rate, or began: then its stamp is of now, and may be the same.
+    began_so : is_in live.flow new.changed ≡ true → IsTrue (is_in key s.fresh) ⊎ (now ≢ live.rate)
+    began_so e =
+        let has = (is.each key live at).flow full in
+        go has.marked (running_at new.slots live.flow) refl (subst (λ o. DidChange o (running_at new.slots live.flow)) (ap (λ l. running_at l live.flow) runs ∙ has.runs) ((by.changes live.flow).0 e))
       where
-        go : (o : Option RunningFlow) → running_at new.slots live.flow ≡ o → DidChange (Some (run_of s key live)) o → (is_in key s.fresh || not (now == live.rate)) ≡ true
-        go None z d = absurd d
-        go (Some q) z (inl b) = is_another (is_in key s.fresh) now live.rate (inl b)
-        go (Some q) z (inr ne) = is_another (is_in key s.fresh) now live.rate (inr (λ same. ne (ap rate_in (sym z) ∙ chosen true e ∙ same)))
+        go : (marked : Bool) (o : Option RunningFlow) → running_at new.slots live.flow ≡ o → DidChange (Some (run_of s key live marked)) o → IsTrue (is_in key s.fresh) ⊎ (now ≢ live.rate)
+        go marked None z d = absurd d
+        go marked (Some q) z (inl b) = inl b
+        go marked (Some q) z (inr ne) = inr (λ same. ne (ap rate_in (sym z) ∙ chosen true e ∙ same))
 
-    kept_so : is_in live.flow new.changed ≡ false → (is_in key s.fresh || not (now == live.rate)) ≡ false
-    kept_so e = is_same (is_in key s.fresh) now live.rate (began (is_in key s.fresh) refl) (sym (chosen false e))
+    abbrev at_now : Stamp
+    at_now = record { left = left_at live.kept live.rate live.stamp s.date; date = s.date; rate = now }
+
+    taken_so : IsTrue (is_in key s.fresh) ⊎ (now ≢ live.rate) → at_now ≡ cond (not (now == live.rate)) at_now (stamp_of key live)
+    taken_so (inr ne) = sym (ap (λ b. cond b at_now (stamp_of key live)) (is_another now live.rate ne))
+    taken_so (inl fresh) = elim (eq_cases now live.rate) [
+      | inl same ↦ here (is.fresh_now key live at fresh) same ∙ sym (ap (λ b. cond b at_now (stamp_of key live)) (is_same now live.rate same))
+      | inr ne ↦ sym (ap (λ b. cond b at_now (stamp_of key live)) (is_another now live.rate ne))
+    ]
       where
-        run : running_at lazy.slots live.flow ≡ Some (run_of s key live)
-        run = ap (λ l. running_at l live.flow) runs ∙ ((is.each key live at).flow full).runs
+        none : (left rate : ℕ) → left - rate * 0 ≡ left
+        none left rate = omega arith
 
-        began : (b : Bool) → is_in key s.fresh ≡ b → is_in key s.fresh ≡ false
-        began false z = z
-        began true z =
-            let q = runs_now live.flow (run_of s key live) ((is.each key live at).flow full).runs in
-            absurd (true≢false (sym ((by.changes live.flow).1 (subst (λ o. DidChange o (running_at new.slots live.flow)) (sym run) (subst (λ o. DidChange (Some (run_of s key live)) o) (sym q.1) (inl z)))) ∙ e))
+        still : (left rate date : ℕ) → left_at left rate date date ≡ left
+        still left rate date = let e : date - date ≡ 0 = omega arith in ap (λ n. left - rate * n) e ∙ none left rate
 
-    pub rerated_full : (b : Bool) → is_in live.flow new.changed ≡ b → stamp_of key (cond b (taken live) live) ≡ cond (is_in key s.fresh || not (now == live.rate)) (record { left = left_at live.kept live.rate live.stamp s.date; date = s.date; rate = now }) (stamp_of key live)
-    rerated_full true e =
-        ap (λ r. record { left = left_at live.kept live.rate live.stamp s.date; date = s.date; rate = r }) (chosen true e)
-        ∙ sym (ap (λ b. cond b (record { left = left_at live.kept live.rate live.stamp s.date; date = s.date; rate = now }) (stamp_of key live)) (changed_so e))
-    rerated_full false e = sym (ap (λ b. cond b (record { left = left_at live.kept live.rate live.stamp s.date; date = s.date; rate = now }) (stamp_of key live)) (kept_so e))
+        here : live.stamp ≡ s.date → now ≡ live.rate → at_now ≡ stamp_of key live
+        here stamp same =
+            ap (λ n. record { left = n; date = s.date; rate = now }) (ap (λ d. left_at live.kept live.rate d s.date) stamp ∙ still live.kept live.rate s.date)
+            ∙ ap₂ (λ d r. record { left = live.kept; date = d; rate = r }) (sym stamp) same
 
-  rerated_now : (key : ℕ) (live : Live) → slot_at s.slots key ≡ Some live → stamp_of key (restamped new.changed new.slots s.date live) ≡ rerated (under_of s) (is_in key s.fresh) (task_of s key live) (stamp_of key live)
+    pub rerated_full : (b : Bool) → is_in live.flow new.changed ≡ b → stamp_of key (cond b (taken live) live) ≡ cond (not (now == live.rate)) at_now (stamp_of key live)
+    rerated_full true e = ap (λ r. record { left = left_at live.kept live.rate live.stamp s.date; date = s.date; rate = r }) (chosen true e) ∙ taken_so (began_so e)
+    rerated_full false e = sym (ap (λ b. cond b at_now (stamp_of key live)) (kept_so e))
+
+  rerated_now : (key : ℕ) (live : Live) → slot_at s.slots key ≡ Some live → stamp_of key (restamped new.changed new.slots s.date live) ≡ rerated (under_of s) (task_of s key live) (stamp_of key live)
   rerated_now key live at = go (takes_share live.kind) refl
     where
       at_rate : Stamp
@@ -343,10 +353,10 @@ module _ (s : State) (lazy new : Lazily) (pool : Pool) (marks more : MarkSet) (k
       kept : (b : Bool) → takes_share live.kind ≡ b → stamp_of key (restamped new.changed new.slots s.date live) ≡ stamp_of key (cond (b && is_in live.flow new.changed) (taken live) live)
       kept b e = ap (λ a. stamp_of key (cond (a && is_in live.flow new.changed) (taken live) live)) e
 
-      told : (b : Bool) → takes_share live.kind ≡ b → cond (b && (is_in key s.fresh || not (rate (under_of s) (task_of s key live) == live.rate))) at_rate (stamp_of key live) ≡ rerated (under_of s) (is_in key s.fresh) (task_of s key live) (stamp_of key live)
-      told b e = sym (ap (λ a. cond (a && (is_in key s.fresh || not (rate (under_of s) (task_of s key live) == live.rate))) at_rate (stamp_of key live)) e)
+      told : (b : Bool) → takes_share live.kind ≡ b → cond (b && not (rate (under_of s) (task_of s key live) == live.rate)) at_rate (stamp_of key live) ≡ rerated (under_of s) (task_of s key live) (stamp_of key live)
+      told b e = sym (ap (λ a. cond (a && not (rate (under_of s) (task_of s key live) == live.rate)) at_rate (stamp_of key live)) e)
 
-      go : (b : Bool) → takes_share live.kind ≡ b → stamp_of key (restamped new.changed new.slots s.date live) ≡ rerated (under_of s) (is_in key s.fresh) (task_of s key live) (stamp_of key live)
+      go : (b : Bool) → takes_share live.kind ≡ b → stamp_of key (restamped new.changed new.slots s.date live) ≡ rerated (under_of s) (task_of s key live) (stamp_of key live)
       go false e = kept false e ∙ told false e
       go true e = kept true e ∙ rerated_full key live at e (is_in live.flow new.changed) refl ∙ told true e
 
@@ -361,7 +371,7 @@ module _ (s : State) (lazy new : Lazily) (pool : Pool) (marks more : MarkSet) (k
           ∙ ap Some (rerated_now f.key f.live f.at) ∙ sym (rerated_there s is f.key f.live f.at) ∙ ap (rerated_at (under_of s) (told_by stamp_of s)) f.is
       at_serial serial from (inr none) =
           told_missed stamp_of pool.slots serial (λ k live at e. let w = was_at k live at in none k w.old w.there (serial_was k live w ∙ e))
-          ∙ sym (ap (option_and_then (λ task. option_map (rerated (under_of s) (get_or (under_of s).marks.began (serial - 1) false) task) (get_or (told_by stamp_of s) (serial - 1) None))) (task_missed s is serial from none))
+          ∙ sym (ap (option_and_then (λ task. option_map (rerated (under_of s) task) (get_or (told_by stamp_of s) (serial - 1) None))) (task_missed s is serial from none))
 
   pub settled_told : (room : ℕ) → doing_of settled_state room ≡ settled_in (doing_of s room)
   settled_told room =

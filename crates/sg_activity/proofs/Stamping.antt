@@ -1,6 +1,5 @@
 -- The stamps of phases.
-use Rattle.std.proofs.Common.{◌≡◌, ◌≢◌, ℕ, ◌+◌, ◌-◌, ◌==◌, ◌⊎◌, inl, inr, Bool, true, false, not, ◌||◌, None, Some, List, option_and_then, option_map, get_or, eq-eqb, ne_eqb, refl, sym, ap, ap₂, ◌∙◌, arith}
-use Rattle.sg_base.specs.MarkSet.{is_in}
+use Rattle.std.proofs.Common.{◌≡◌, ◌≢◌, ℕ, ◌+◌, ◌-◌, ◌==◌, true, false, not, None, Some, List, option_and_then, option_map, get_or, eq-eqb, ne_eqb, refl, sym, ap, ◌∙◌, arith}
 use Rattle.sg_activity.specs.declared.lives.Live.{Live}
 use Rattle.sg_activity.specs.Doing.{HaveStamps, Doing}
 use Rattle.sg_activity.specs.Stamp.{rerated, rerated_at}
@@ -12,7 +11,7 @@ use Rattle.sg_activity.specs.kept.State.{State, task_of, told_at, told_by, stamp
 use Rattle.sg_activity.specs.kept.Sound.{IsKept}
 use Rattle.sg_activity.proofs.Listing.{at_listed, length-listed}
 use Rattle.sg_activity.proofs.Lookup.{told_found, told_from}
-use Rattle.sg_activity.proofs.Rates.{began_there, rate_told, task_there}
+use Rattle.sg_activity.proofs.Rates.{rate_told, task_there}
 use Rattle.sg_activity.proofs.Told.{task_told}
 
 module _ (s : State) (is : IsKept s) where
@@ -23,13 +22,11 @@ module _ (s : State) (is : IsKept s) where
       at_listed s.drawn (λ i. told_at stamp_of s.slots (i + 1)) (live.serial - 1) None (omega (arith, h.from, h.to)) ∙ ap (told_at stamp_of s.slots) back ∙ told_found stamp_of s.slots live.serial key live is.apart at refl
 
   -- that of a phase as the rates are brought up to date
-  pub rerated_there : (key : ℕ) (live : Live) → slot_at s.slots key ≡ Some live → rerated_at (under_of s) (told_by stamp_of s) live.serial ≡ Some (rerated (under_of s) (is_in key s.fresh) (task_of s key live) (stamp_of key live))
+  pub rerated_there : (key : ℕ) (live : Live) → slot_at s.slots key ≡ Some live → rerated_at (under_of s) (told_by stamp_of s) live.serial ≡ Some (rerated (under_of s) (task_of s key live) (stamp_of key live))
   rerated_there key live at =
-      let began = get_or (under_of s).marks.began (live.serial - 1) false in
       let stamp = get_or (told_by stamp_of s) (live.serial - 1) None in
-      ap (option_and_then (λ task. option_map (rerated (under_of s) began task) stamp)) (task_there s is key live at)
-      ∙ ap (option_map (rerated (under_of s) began (task_of s key live))) (stamp_there key live at)
-      ∙ ap (λ b. Some (rerated (under_of s) b (task_of s key live) (stamp_of key live))) (began_there s is key live at)
+      ap (option_and_then (λ task. option_map (rerated (under_of s) task) stamp)) (task_there s is key live at)
+      ∙ ap (option_map (rerated (under_of s) (task_of s key live))) (stamp_there key live at)
 
   -- each phase has a stamp, from which follows what is left of it
   pub stamps_are : (room : ℕ) → HaveStamps (doing_of s room)
@@ -54,13 +51,8 @@ stamps_metered energy doing have serial task from to at =
     (r.0, r.1, record { from = r.2.from; left = r.2.left; rate = r.2.rate })
 
 -- ---- whether a rate is another
-pub is_another : (began : Bool) (now was : ℕ) → (began ≡ true) ⊎ (now ≢ was) → (began || not (now == was)) ≡ true
-is_another began now was (inl e) = ap (λ b. b || not (now == was)) e
-is_another began now was (inr ne) = ap (λ b. began || not b) (ne_eqb now was ne) ∙ or_true began
-  where
-    or_true : (b : Bool) → (b || true) ≡ true
-    or_true true = refl
-    or_true false = refl
+pub is_another : (now was : ℕ) → now ≢ was → not (now == was) ≡ true
+is_another now was ne = ap not (ne_eqb now was ne)
 
-pub is_same : (began : Bool) (now was : ℕ) → began ≡ false → now ≡ was → (began || not (now == was)) ≡ false
-is_same began now was e same = ap₂ (λ a b. a || not b) e (eq-eqb now was same)
+pub is_same : (now was : ℕ) → now ≡ was → not (now == was) ≡ false
+is_same now was same = ap not (eq-eqb now was same)

@@ -8,7 +8,7 @@ use Rattle.sg_maxmin.specs.Sharing.{HasLimit}
 use Rattle.sg_lazy.specs.RunningFlow.{RunningFlow, running_at}
 use Rattle.sg_activity.specs.declared.kinds.PhaseKind.TheVariants as phase
 use Rattle.sg_activity.specs.declared.lives.Live.{Live}
-use Rattle.sg_activity.specs.Task.{takes_share, pace, is_rebound_at}
+use Rattle.sg_activity.specs.Task.{takes_share, pace}
 use Rattle.sg_activity.specs.kept.Pool.{slot_at}
 use Rattle.sg_activity.specs.kept.State.{State, links_at, task_of, asked_by, date_of, dated, due_at, told_at}
 use Rattle.sg_activity.specs.kept.Sound.{IsPlace, IsHeld, IsFlowOf, IsKept, place_at}
@@ -55,7 +55,8 @@ held_filled new key live full from to stamp small bytes weighs runs limit placed
   placed = placed;
   counted = λ latency. absurd (true≢false (sym full ∙ ap takes_share latency));
   flow = λ _. record {
-    runs = runs ∙ ap (λ b. Some (record { flow = asked_by new key live; rate = live.rate; began = b; marked = b || is_rebound_at new.capacities new.resources (place_at new key live) })) (sym fresh);
+    marked = true;
+    runs = runs ∙ ap (λ b. Some (record { flow = asked_by new key live; rate = live.rate; began = b; marked = b || true })) (sym fresh);
     limit = limit;
     within = within;
     known = known;

@@ -74,13 +74,14 @@ flipped_kept s on is = record {
         paced = h.paced;
         placed = h.placed;
         counted = h.counted;
-        flow = λ full. let f = h.flow full in record { runs = f.runs; limit = f.limit; within = f.within; known = f.known };
+        flow = λ full. let f = h.flow full in record { marked = f.marked; runs = f.runs; limit = f.limit; within = f.within; known = f.known };
         dated = h.dated;
       };
   idle = is.idle;
   apart = is.apart;
   back = λ id running e. let b = is.back id running e in record { live = b.live; there = b.there; full = b.full; is = b.is };
   fresh = is.fresh;
+  fresh_now = is.fresh_now;
   none_fresh = is.none_fresh;
   rates = is.rates;
 }

@@ -1,10 +1,11 @@
 -- What is kept stands for what the definitions say, as a phase comes, as one follows another and as one goes.
-use Rattle.std.proofs.Common.{◌≡◌, ◌≢◌, ℕ, zero, suc, ◌+◌, ◌-◌, ◌*◌, ◌==◌, ◌<◌, ◌≤◌, inl, inr, Bool, true, false, cond, ◌||◌, is_some, Option, None, Some, option_to_list, List, [], ◌∷◌, ◌++◌, length, map, set, get_or, IsTrue, option_map, refl, sym, ap, ap₂, ◌∙◌, arith}
+use Rattle.std.proofs.Common.{◌≡◌, ◌≢◌, ℕ, zero, suc, ◌+◌, ◌-◌, ◌*◌, ◌==◌, ◌<◌, ◌≤◌, inl, inr, Bool, true, false, cond, ◌||◌, ◌&&◌, is_some, Option, None, Some, option_to_list, List, [], ◌∷◌, ◌++◌, length, map, set, get_or, IsTrue, option_map, refl, sym, ap, ap₂, ◌∙◌, arith}
 use Rattle.std.proofs.lemmas.List.{map-append, map-set, append-nil}
 use Rattle.std.proofs.lemmas.List.Folds.{list_any-append}
 use Rattle.sg_base.specs.declared.ids.LinkId.{LinkId}
 use Rattle.sg_base.specs.MarkSet.{is_in, with_mark}
 use Rattle.sg_maxmin.specs.Fill.{Flow}
+use Rattle.sg_lazy.specs.RunningFlow.{running_at}
 use Rattle.sg_activity.specs.declared.lives.Live.{Live}
 use Rattle.sg_activity.specs.Links.{Capacities, Switches}
 use Rattle.sg_activity.specs.Slots.{passes, serials}
@@ -14,7 +15,7 @@ use Rattle.sg_activity.specs.Underway.{Underway, started, drawn, with_task}
 use Rattle.sg_activity.specs.Doing.{Doing, started_in, begun_in}
 use Rattle.sg_activity.specs.kept.Pool.{slot_at}
 use Rattle.sg_activity.specs.kept.Stamps.{left_at}
-use Rattle.sg_activity.specs.kept.State.{State, links_at, task_from, task_of, stamp_of, is_now, is_so, told_at, told_by, began_at, began_by, under_of, doing_of}
+use Rattle.sg_activity.specs.kept.State.{State, links_at, task_from, task_of, stamp_of, is_now, is_so, told_at, told_by, is_marked, changed_at, changed_by, under_of, doing_of}
 use Rattle.sg_activity.specs.kept.Sound.{IsKept}
 use Rattle.sg_activity.specs.kept.Turns.{Turns}
 use Rattle.sg_activity.proofs.Listing.{bool_cases, at_listed}
@@ -69,7 +70,7 @@ mark_other number k xs ne = elim (bool_cases (is_in number xs)) [
 
 -- ---- records
 abbrev pub made : ℕ → Capacities → Switches → List (Option Task) → List Bool → List Flow → List ℕ → Underway
-made date capacities on tasks began ended resources = record { date = date; capacities = capacities; on = on; tasks = tasks; marks = record { began = began; ended = ended; resources = resources }; energy = [] }
+made date capacities on tasks changed ended resources = record { date = date; capacities = capacities; on = on; tasks = tasks; marks = record { changed = changed; ended = ended; resources = resources }; energy = [] }
 
 pub made_same : (d d' : ℕ) (c c' : Capacities) (o o' : Switches) (t t' : List (Option Task)) (b b' : List Bool) (e e' : List Flow) (f f' : List ℕ) → d ≡ d' → c ≡ c' → o ≡ o' → t ≡ t' → b ≡ b' → e ≡ e' → f ≡ f' → made d c o t b e f ≡ made d' c' o' t' b' e' f'
 made_same d d' c c' o o' t t' b b' e e' f f' p q z r u v w =
@@ -111,22 +112,32 @@ task_told s serial from to =
     at_listed s.drawn (λ i. told_at (task_of s) s.slots (i + 1)) (serial - 1) None (omega (arith, from, to)) ∙ ap (told_at (task_of s) s.slots) back
 
 module _ (s new : State) (key serial : ℕ) (slot : Option Live) (is : IsKept s) (by : Turns s new key serial slot) where
-  -- by serial what began
-  pub began_set : new.drawn ≡ s.drawn → 0 < serial → serial ≤ s.drawn → began_by new ≡ set (began_by s) (serial - 1) (passes is_so (told_at (began_at new.fresh) new.slots serial))
-  began_set drawn from to =
-      ap (map (passes is_so)) (told_set s new key serial slot is by (began_at s.fresh) (began_at new.fresh) drawn from to (λ k live ne at. by.fresh k ne))
-      ∙ map-set (passes is_so) (told_by (began_at s.fresh) s) (serial - 1) (told_at (began_at new.fresh) new.slots serial)
+  -- elsewhere the same is marked
+  changed_elsewhere : (k : ℕ) (live : Live) → k ≢ key → slot_at s.slots k ≡ Some live → changed_at new.fresh new.runs k live ≡ changed_at s.fresh s.runs k live
+  changed_elsewhere k live ne at = ap₂ (λ f m. f || m) (by.fresh k ne) (marked (takes_share live.kind) refl)
+    where
+      marked : (b : Bool) → takes_share live.kind ≡ b → (takes_share live.kind && is_marked (running_at new.runs live.flow)) ≡ (takes_share live.kind && is_marked (running_at s.runs live.flow))
+      marked true e = ap (λ o. takes_share live.kind && is_marked o) (by.flows k live ne at e).0
+      marked false e = ap (λ b. b && is_marked (running_at new.runs live.flow)) e ∙ sym (ap (λ b. b && is_marked (running_at s.runs live.flow)) e)
 
-  began_pushed : new.drawn ≡ s.drawn + 1 → serial ≡ s.drawn + 1 → began_by new ≡ began_by s ++ passes is_so (told_at (began_at new.fresh) new.slots serial) ∷ []
-  began_pushed drawn is_next =
-      ap (map (passes is_so)) (told_pushed s new key serial slot is by (began_at s.fresh) (began_at new.fresh) drawn is_next (λ k live ne at. by.fresh k ne))
-      ∙ map-append (passes is_so) (told_by (began_at s.fresh) s) (told_at (began_at new.fresh) new.slots serial ∷ [])
+  -- by serial what is marked
+  pub changed_set : new.drawn ≡ s.drawn → 0 < serial → serial ≤ s.drawn → changed_by new ≡ set (changed_by s) (serial - 1) (passes is_so (told_at (changed_at new.fresh new.runs) new.slots serial))
+  changed_set drawn from to =
+      ap (map (passes is_so)) (told_set s new key serial slot is by (changed_at s.fresh s.runs) (changed_at new.fresh new.runs) drawn from to changed_elsewhere)
+      ∙ map-set (passes is_so) (told_by (changed_at s.fresh s.runs) s) (serial - 1) (told_at (changed_at new.fresh new.runs) new.slots serial)
 
-  pub began_here : (live : Live) → slot ≡ Some live → is_in key new.fresh ≡ true → passes is_so (told_at (began_at new.fresh) new.slots serial) ≡ true
-  began_here live e fresh = ap (passes is_so) (told_here s new key serial slot is by (began_at new.fresh) live e) ∙ fresh
+  changed_pushed : new.drawn ≡ s.drawn + 1 → serial ≡ s.drawn + 1 → changed_by new ≡ changed_by s ++ passes is_so (told_at (changed_at new.fresh new.runs) new.slots serial) ∷ []
+  changed_pushed drawn is_next =
+      ap (map (passes is_so)) (told_pushed s new key serial slot is by (changed_at s.fresh s.runs) (changed_at new.fresh new.runs) drawn is_next changed_elsewhere)
+      ∙ map-append (passes is_so) (told_by (changed_at s.fresh s.runs) s) (told_at (changed_at new.fresh new.runs) new.slots serial ∷ [])
 
-  pub began_gone : slot ≡ None → passes is_so (told_at (began_at new.fresh) new.slots serial) ≡ false
-  began_gone e = ap (passes is_so) (told_gone s new key serial slot is by (began_at new.fresh) e)
+  pub changed_here : (live : Live) → slot ≡ Some live → is_in key new.fresh ≡ true → passes is_so (told_at (changed_at new.fresh new.runs) new.slots serial) ≡ true
+  changed_here live e fresh =
+      ap (passes is_so) (told_here s new key serial slot is by (changed_at new.fresh new.runs) live e)
+      ∙ ap (λ b. b || (takes_share live.kind && is_marked (running_at new.runs live.flow))) fresh
+
+  pub changed_gone : slot ≡ None → passes is_so (told_at (changed_at new.fresh new.runs) new.slots serial) ≡ false
+  changed_gone e = ap (passes is_so) (told_gone s new key serial slot is by (changed_at new.fresh new.runs) e)
 
   -- the stamp of what is under the key now
   stamp_here : (live : Live) → slot ≡ Some live → told_at stamp_of new.slots serial ≡ Some (stamped new.date (task_of new key live))
@@ -152,30 +163,30 @@ module _ (s new : State) (key serial : ℕ) (slot : Option Live) (is : IsKept s)
   pub started_told : (live : Live) (room : ℕ) → slot ≡ Some live → new.drawn ≡ s.drawn + 1 → serial ≡ s.drawn + 1 → is_in key new.fresh ≡ true → new.ended ≡ s.ended → doing_of new (room - 1) ≡ started_in (task_of new key live) (doing_of s room)
   started_told live room e drawn is_next fresh ended =
       let under : under_of new ≡ started (task_of new key live) (under_of s) =
-      made_same new.date s.date new.capacities s.capacities new.on s.on (told_by (task_of new) new) (told_by (task_of s) s ++ Some (task_of new key live) ∷ []) (began_by new) (began_by s ++ true ∷ []) new.ended s.ended new.resources s.resources by.date by.capacities by.on
+      made_same new.date s.date new.capacities s.capacities new.on s.on (told_by (task_of new) new) (told_by (task_of s) s ++ Some (task_of new key live) ∷ []) (changed_by new) (changed_by s ++ true ∷ []) new.ended s.ended new.resources s.resources by.date by.capacities by.on
       (tasks_pushed s new key serial slot is by drawn is_next ∙ ap (λ o. told_by (task_of s) s ++ o ∷ []) (told_here s new key serial slot is by (task_of new) live e))
-      (began_pushed drawn is_next ∙ ap (λ b. began_by s ++ b ∷ []) (began_here live e fresh)) ended by.resources in
+      (changed_pushed drawn is_next ∙ ap (λ b. changed_by s ++ b ∷ []) (changed_here live e fresh)) ended by.resources in
       doing_same (under_of new) (started (task_of new key live) (under_of s)) (cond new.arrived (serials is_so 1 (told_by (is_now new) new)) []) (cond s.arrived (serials is_so 1 (told_by (is_now s) s)) []) new.settled false (room - 1) (room - 1)
       (told_by stamp_of new) (told_by stamp_of s ++ Some (stamped s.date (task_of new key live)) ∷ []) under
       (ap₂ (λ b l. cond b l []) by.arrived (due_pushed s new key serial slot is by drawn is_next)) by.unsettled refl (stamps_pushed live e drawn is_next)
 
   -- under a serial that was drawn another phase is under way, or none
-  pub under_set : (x : Option Task) → new.drawn ≡ s.drawn → 0 < serial → serial ≤ s.drawn → told_at (task_of new) new.slots serial ≡ x → (is_some (told_at (task_of s) s.slots serial) || is_some x) ≡ true → passes is_so (told_at (began_at new.fresh) new.slots serial) ≡ is_some x →
+  pub under_set : (x : Option Task) → new.drawn ≡ s.drawn → 0 < serial → serial ≤ s.drawn → told_at (task_of new) new.slots serial ≡ x → (is_some (told_at (task_of s) s.slots serial) || is_some x) ≡ true → passes is_so (told_at (changed_at new.fresh new.runs) new.slots serial) ≡ is_some x →
       new.ended ≡ s.ended ++ option_to_list (flow_in s.capacities (told_at (task_of s) s.slots serial)) → under_of new ≡ with_task serial x (under_of s)
-  under_set x drawn from to told some began ended =
+  under_set x drawn from to told some changed ended =
       let before = task_at (told_by (task_of s) s) serial in
-      made_same new.date s.date new.capacities s.capacities new.on s.on (told_by (task_of new) new) (set (told_by (task_of s) s) (serial - 1) x) (began_by new) (cond (is_some before || is_some x) (set (began_by s) (serial - 1) (is_some x)) (began_by s))
+      made_same new.date s.date new.capacities s.capacities new.on s.on (told_by (task_of new) new) (set (told_by (task_of s) s) (serial - 1) x) (changed_by new) (cond (is_some before || is_some x) (set (changed_by s) (serial - 1) (is_some x)) (changed_by s))
       new.ended (s.ended ++ option_to_list (flow_in s.capacities before)) new.resources s.resources by.date by.capacities by.on
       (tasks_set s new key serial slot is by drawn from to ∙ ap (set (told_by (task_of s) s) (serial - 1)) told)
-      (began_set drawn from to ∙ ap (set (began_by s) (serial - 1)) began
-      ∙ sym (ap (λ b. cond b (set (began_by s) (serial - 1) (is_some x)) (began_by s)) (ap (λ o. is_some o || is_some x) (task_told s serial from to) ∙ some)))
+      (changed_set drawn from to ∙ ap (set (changed_by s) (serial - 1)) changed
+      ∙ sym (ap (λ b. cond b (set (changed_by s) (serial - 1) (is_some x)) (changed_by s)) (ap (λ o. is_some o || is_some x) (task_told s serial from to) ∙ some)))
       (ended ∙ ap (λ o. s.ended ++ option_to_list (flow_in s.capacities o)) (sym (task_told s serial from to))) by.resources
 
   pub begun_told : (live : Live) (room : ℕ) → slot ≡ Some live → new.drawn ≡ s.drawn → 0 < serial → serial ≤ s.drawn → told_at (task_of s) s.slots serial ≡ None → slot_at s.slots key ≡ None → is_in key new.fresh ≡ true → new.ended ≡ s.ended →
       doing_of new (room - 1) ≡ begun_in serial (task_of new key live) (doing_of s room)
   begun_told live room e drawn from to idle none fresh ended =
       let under : under_of new ≡ with_task serial (Some (task_of new key live)) (under_of s) =
-      under_set (Some (task_of new key live)) drawn from to (told_here s new key serial slot is by (task_of new) live e) (ap (λ o. is_some o || true) idle) (began_here live e fresh)
+      under_set (Some (task_of new key live)) drawn from to (told_here s new key serial slot is by (task_of new) live e) (ap (λ o. is_some o || true) idle) (changed_here live e fresh)
       (ended ∙ sym (append-nil s.ended) ∙ ap (λ o. s.ended ++ option_to_list (flow_in s.capacities o)) (sym idle)) in
       doing_same (under_of new) (with_task serial (Some (task_of new key live)) (under_of s)) (cond new.arrived (serials is_so 1 (told_by (is_now new) new)) []) (cond s.arrived (serials is_so 1 (told_by (is_now s) s)) []) new.settled false (room - 1) (room - 1)
       (told_by stamp_of new) (anew serial (with_task serial (Some (task_of new key live)) (under_of s)) (told_by stamp_of s)) under

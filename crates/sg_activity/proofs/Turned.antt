@@ -8,7 +8,7 @@ use Rattle.sg_lazy.specs.RunningFlow.{running_at}
 use Rattle.sg_activity.specs.declared.lives.Live.{Live}
 use Rattle.sg_activity.specs.Links.{Capacities}
 use Rattle.sg_activity.specs.Slots.{listed, passes, serials}
-use Rattle.sg_activity.specs.Task.{takes_share, flow_of, is_rebound_at}
+use Rattle.sg_activity.specs.Task.{takes_share, flow_of}
 use Rattle.sg_activity.specs.kept.Pool.{IsMissing, slot_at}
 use Rattle.sg_activity.specs.kept.State.{State, links_at, place_of, task_from, task_of, asked_by, date_of, due_at, is_now, is_dated, is_so, told_at, told_by}
 use Rattle.sg_activity.specs.kept.Sound.{IsPlace, IsHeld, AreApart, IsKept, place_at}
@@ -28,12 +28,10 @@ asked_same c d date later links others live e l =
     ap (λ w. flow_of w (task_from date links live)) e ∙ ap (λ w. flow_of d (task_from date w live)) l
 
 -- an activity elsewhere is held as it was
-pub held_still : (s new : State) (k : ℕ) (live : Live) → new.capacities ≡ s.capacities → new.resources ≡ s.resources → new.date ≡ s.date → s.drawn ≤ new.drawn → links_at new.ways k ≡ links_at s.ways k → key_at new.keys k ≡ key_at s.keys k → is_in k new.fresh ≡ is_in k s.fresh → length s.by_flow ≤ length new.by_flow →
+pub held_still : (s new : State) (k : ℕ) (live : Live) → new.capacities ≡ s.capacities → new.date ≡ s.date → s.drawn ≤ new.drawn → links_at new.ways k ≡ links_at s.ways k → key_at new.keys k ≡ key_at s.keys k → is_in k new.fresh ≡ is_in k s.fresh → length s.by_flow ≤ length new.by_flow →
     (IsTrue (takes_share live.kind) → (running_at new.runs live.flow ≡ running_at s.runs live.flow) × (slice_index new.by_flow live.flow ≡ slice_index s.by_flow live.flow)) → IsHeld s k live → IsHeld new k live
-held_still s new k live caps resources date drawn ways keys fresh long flows is =
+held_still s new k live caps date drawn ways keys fresh long flows is =
     let asked : asked_by new k live ≡ asked_by s k live = asked_same new.capacities s.capacities new.date s.date (links_at new.ways k) (links_at s.ways k) live caps ways in
-    let rebound : is_rebound_at new.capacities new.resources (place_at new k live) ≡ is_rebound_at s.capacities s.resources (place_at s k live) =
-    ap₂ (λ c r. is_rebound_at c r (place_at new k live)) caps resources ∙ ap (λ l. is_rebound_at s.capacities s.resources (place_of live.kind live.host live.peer l)) ways in
     record {
       from = is.from;
       to = omega (arith, is.to, drawn);
@@ -49,8 +47,8 @@ held_still s new k live caps resources date drawn ways keys fresh long flows is 
           let has = is.flow full in
           let stays = flows full in
           record {
-            runs = stays.0 ∙ has.runs ∙ ap₂ (λ f b. Some (record { flow = f; rate = live.rate; began = b; marked = b || is_rebound_at s.capacities s.resources (place_at s k live) })) (sym asked) (sym fresh)
-                ∙ ap (λ m. Some (record { flow = asked_by new k live; rate = live.rate; began = is_in k new.fresh; marked = is_in k new.fresh || m })) (sym rebound);
+            marked = has.marked;
+            runs = stays.0 ∙ has.runs ∙ ap₂ (λ f b. Some (record { flow = f; rate = live.rate; began = b; marked = b || has.marked })) (sym asked) (sym fresh);
             limit = subst HasLimit (sym asked) has.limit;
             within = omega (arith, has.within, long);
             known = stays.1 ∙ has.known;
@@ -76,7 +74,7 @@ turned s new key serial slot is by = record {
     | inl e ↦ subst (λ n. IsHeld new n live) (sym e) (by.holds live (sym by.here ∙ ap (slot_at new.slots) (sym e) ∙ at))
     | inr ne ↦
         let was = sym (by.others k ne) ∙ at in
-        held_still s new k live by.capacities by.resources by.date by.drawn (by.ways k ne) (by.keys k ne) (by.fresh k ne) by.by_flow_long (by.flows k live ne was) (is.each k live was)
+        held_still s new k live by.capacities by.date by.drawn (by.ways k ne) (by.keys k ne) (by.fresh k ne) by.by_flow_long (by.flows k live ne was) (is.each k live was)
   ];
   idle = λ k none. elim (eq_cases k key) [
     | inl e ↦ ap (key_at new.keys) e ∙ by.no_key
@@ -87,6 +85,10 @@ turned s new key serial slot is by = record {
   fresh = λ k marked. elim (eq_cases k key) [
     | inl e ↦ omega (arith, e, by.within)
     | inr ne ↦ omega (arith, is.fresh k (sym (by.fresh k ne) ∙ marked), by.longer)
+  ];
+  fresh_now = λ k live at marked. elim (eq_cases k key) [
+    | inl e ↦ by.stamped live (sym by.here ∙ ap (slot_at new.slots) (sym e) ∙ at)
+    | inr ne ↦ is.fresh_now k live (sym (by.others k ne) ∙ at) (sym (by.fresh k ne) ∙ marked) ∙ sym by.date
   ];
   none_fresh = λ set. absurd (true≢false (sym set ∙ by.unsettled));
   rates = λ set. absurd (true≢false (sym set ∙ by.unsettled));

@@ -23,7 +23,7 @@ use Rattle.sg_activity.specs.kept.Turns.{Turns}
 use Rattle.sg_activity.proofs.Listing.{some_same}
 use Rattle.sg_activity.proofs.Lookup.{told_found}
 use Rattle.sg_activity.proofs.Starts.{held_unfilled, held_filled, back_still, flows_came, back_came, flows_went, back_went, fresh_serial, idle_serial, own_serial, set_here, set_there}
-use Rattle.sg_activity.proofs.Told.{mark_self, mark_other, under_set, began_here, began_gone}
+use Rattle.sg_activity.proofs.Told.{mark_self, mark_other, under_set, changed_here, changed_gone}
 use Rattle.sg_activity.proofs.Turned.{told_here, told_gone}
 
 pub left_fresh : (kept rate date : ℕ) → left_at kept rate date date ≡ kept
@@ -243,7 +243,7 @@ again_under s key old live keys runs by_flow is at empty serial by =
     let h = is.each key old at in
     let before : told_at (task_of s) s.slots live.serial ≡ Some (task_of s key old) = told_found (task_of s) s.slots live.serial key old is.apart at (sym serial) in
     under_set s new key live.serial (Some live) is by (Some (task_of new key live)) refl (omega (arith, h.from, serial)) (omega (arith, h.to, serial)) (told_here s new key live.serial (Some live) is by (task_of new) live refl)
-    (ap (λ o. is_some o || true) before) (began_here s new key live.serial (Some live) is by live refl (mark_self key s.fresh))
+    (ap (λ o. is_some o || true) before) (changed_here s new key live.serial (Some live) is by live refl (mark_self key s.fresh))
     (sym (append-nil s.ended) ∙ ap (λ o. s.ended ++ option_to_list o) (sym (ap (flow_in s.capacities) before ∙ unfilled_flow s.capacities (task_of s key old) empty)))
     ∙ ap (λ n. with_task n (Some (task_of new key live)) (under_of s)) serial
 
@@ -282,7 +282,7 @@ end_under s key live ways runs ended is at ended_is by =
     let new = ended_state s key ways runs ended in
     let h = is.each key live at in
     let before = told_found (task_of s) s.slots live.serial key live is.apart at refl in
-    under_set s new key live.serial None is by None refl h.from h.to (told_gone s new key live.serial None is by (task_of new) refl) (ap (λ o. is_some o || false) before) (began_gone s new key live.serial None is by refl)
+    under_set s new key live.serial None is by None refl h.from h.to (told_gone s new key live.serial None is by (task_of new) refl) (ap (λ o. is_some o || false) before) (changed_gone s new key live.serial None is by refl)
     (ended_is ∙ ap (λ o. s.ended ++ option_to_list (flow_in s.capacities o)) (sym before))
 
 pub ended_filled : (s : State) (key : ℕ) (live : Live) → IsTrue (takes_share live.kind) → s.ended ++ asked_by s key live ∷ [] ≡ s.ended ++ option_to_list (flow_in s.capacities (Some (task_of s key live)))
@@ -336,7 +336,7 @@ held_under s key old live runs ended is at exec live_is ended_is by =
     let place : task_from s.date (links_at s.ways key) (record old { kind = phase.Kept; kept = left_at old.kept old.rate old.stamp s.date; stamp = s.date; rate = 0 }) ≡ rekinded phase.Kept (task_of s key old) =
     ap₂ (λ n p. record { kind = phase.Kept; left = n; place = p; weight = old.weight; bound = old.bound; bytes = old.bytes }) (left_fresh (left_at old.kept old.rate old.stamp s.date) 0 s.date) (ap (λ k. place_of k old.host old.peer (links_at s.ways key)) (sym exec)) in
     under_set s new key live.serial (Some live) is by (Some (task_of new key live)) refl (omega (arith, h.from, serial)) (omega (arith, h.to, serial)) (told_here s new key live.serial (Some live) is by (task_of new) live refl)
-    (ap (λ o. is_some o || true) before) (began_here s new key live.serial (Some live) is by live refl (mark_self key s.fresh))
+    (ap (λ o. is_some o || true) before) (changed_here s new key live.serial (Some live) is by live refl (mark_self key s.fresh))
     (ended_is ∙ ap (λ o. s.ended ++ option_to_list (flow_in s.capacities o)) (sym before))
     ∙ ap₂ (λ n t. with_task n (Some t) (under_of s)) serial (ap (task_from s.date (links_at s.ways key)) live_is ∙ place)
 

@@ -1,5 +1,5 @@
 -- What was left of phases at which date, and how fast they went from then on.
-use Rattle.std.specs.Prelude.{ℕ, ◌+◌, ◌-◌, ◌==◌, ◌&&◌, ◌||◌, not, Bool, false, Option, None, option_and_then, option_map, if◌then◌else◌, List, length, slice_index_or, slice_set}
+use Rattle.std.specs.Prelude.{ℕ, ◌+◌, ◌-◌, ◌==◌, ◌&&◌, not, Option, None, option_and_then, option_map, if◌then◌else◌, List, length, slice_index_or, slice_set}
 use Rattle.sg_activity.specs.Slots.{listed}
 use Rattle.sg_activity.specs.Task.{Task, is_filled, pace, task_at}
 use Rattle.sg_activity.specs.Underway.{Underway, rate}
@@ -24,10 +24,10 @@ anew serial under stamps =
     slice_set stamps (serial - 1)
     (option_map (stamped under.date) (task_at under.tasks serial))
 
--- The stamp once the rates are up to date. Only of what takes a share, and began or has another rate now, it is another: what is left now.
-abbrev pub rerated : Underway → Bool → Task → Stamp → Stamp
-rerated under began task stamp =
-    if is_filled task && (began || not (rate under task == stamp.rate))
+-- The stamp once the rates are up to date. Only of what takes a share, and has another rate now, it is another: what is left now.
+abbrev pub rerated : Underway → Task → Stamp → Stamp
+rerated under task stamp =
+    if is_filled task && not (rate under task == stamp.rate)
     then record { left = task.left; date = under.date; rate = rate under task }
     else stamp
 
@@ -35,8 +35,8 @@ rerated under began task stamp =
 abbrev pub rerated_at : Underway → List (Option Stamp) → ℕ → Option Stamp
 rerated_at under stamps serial =
     option_and_then (λ task.
-    option_map (rerated under (slice_index_or under.marks.began (serial - 1) false) task)
-    (slice_index_or stamps (serial - 1) None)) (task_at under.tasks serial)
+    option_map (rerated under task) (slice_index_or stamps (serial - 1) None))
+    (task_at under.tasks serial)
 
 -- those of all serials
 abbrev pub all_rerated : Underway → List (Option Stamp) → List (Option Stamp)

@@ -1,13 +1,12 @@
 -- Phases: what goes on and where, what it asks for, and what follows it.
-use Rattle.std.specs.Prelude.{ℕ, ◌+◌, ◌-◌, ◌*◌, ◌&&◌, ◌||◌, Bool, true, false, Option, None, Some, if◌then◌else◌, List, [], ◌∷◌, filter_map, length, slice_index_or}
+use Rattle.std.specs.Prelude.{ℕ, ◌-◌, ◌*◌, ◌||◌, Bool, true, false, Option, None, Some, if◌then◌else◌, List, [], ◌∷◌, filter_map, length, slice_index_or}
 use Rattle.std.specs.List.{list_any}
 use Rattle.sg_base.specs.declared.ids.LinkId.{LinkId}
-use Rattle.sg_base.specs.MarkSet.{is_in}
 use Rattle.sg_maxmin.specs.Fill.{Flow, flow}
 use Rattle.sg_activity.specs.declared.kinds.PhaseKind.{PhaseKind}
 use Rattle.sg_activity.specs.declared.kinds.PhaseKind.TheVariants as phase
 use Rattle.sg_activity.specs.Hosts.{host_at}
-use Rattle.sg_activity.specs.Links.{Capacities, Switches, is_off, link_at, route_bound, shared_of}
+use Rattle.sg_activity.specs.Links.{Capacities, Switches, is_off, route_bound, shared_of}
 use Rattle.sg_activity.specs.Slots.{sooner}
 
 -- all links of a route, FATPIPE links too, and the hosts of the sender and of the receiver
@@ -76,14 +75,6 @@ flow_at capacities task (over way) =
 
 abbrev pub flow_of : Capacities → Task → Flow
 flow_of capacities task = flow_at capacities task task.place
-
--- whether the bound that a place gives changes with the capacities of these resources
-abbrev pub is_rebound_at : Capacities → List ℕ → Place → Bool
-is_rebound_at capacities resources nowhere = false
-is_rebound_at capacities resources (on_host host) = is_in host resources
-is_rebound_at capacities resources (over way) =
-    list_any (λ link. (link_at capacities.links link).fatpipe
-    && is_in (length capacities.hosts + link.0) resources) way.links
 
 -- ---- what is off
 -- whether a link of a way is off, or a host at an end of it

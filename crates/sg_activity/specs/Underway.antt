@@ -1,31 +1,27 @@
 -- The part of the world that `Activities` keeps: when its phases are due, and how it changes.
-use Rattle.std.specs.Prelude.{ℕ, ◌+◌, ◌-◌, ◌*◌, ◌==◌, ◌++◌, ◌||◌, Bool, true, false, Option, None, Some, is_some, option_map, option_to_list, if◌then◌else◌, List, [], ◌∷◌, filter_map, length, map, replicate, slice_index_or, slice_set}
+use Rattle.std.specs.Prelude.{ℕ, ◌+◌, ◌-◌, ◌*◌, ◌==◌, ◌++◌, ◌||◌, ◌&&◌, not, Bool, true, false, Option, None, Some, is_some, option_map, option_to_list, if◌then◌else◌, List, [], ◌∷◌, filter_map, length, map, replicate, slice_index, slice_index_or, slice_set}
 use Rattle.std.specs.Int.{div_ceil}
 use Rattle.std.specs.List.{list_any}
 use Rattle.sg_base.specs.MarkSet.{with_mark}
 use Rattle.sg_maxmin.specs.Fill.{Flow, share_of}
-use Rattle.sg_lazy.specs.RunningFlow.{RunningFlow}
+use Rattle.sg_lazy.specs.RunningFlow.{RunningFlow, is_same_bound}
 use Rattle.sg_lazy.specs.Work.{work}
 use Rattle.sg_activity.specs.Links.{Capacities, Switches, all_on, capacities_of, at_speed, at_bandwidth}
 use Rattle.sg_activity.specs.Slots.{soonest, passes, serials, is_at, listed}
 use Rattle.sg_activity.specs.declared.kinds.PhaseKind.{PhaseKind}
 use Rattle.sg_activity.specs.declared.kinds.PhaseKind.TheVariants as phase
 use Rattle.sg_activity.specs.Power.{load_by, power_of}
-use Rattle.sg_activity.specs.Task.{Task, is_filled, pace, wait_by, goes, flow_in, flow_of, flows, is_hit, is_rebound_at, phase_after, task_at, is_exec, is_held, of_kind, rekinded}
+use Rattle.sg_activity.specs.Task.{Task, is_filled, pace, wait_by, goes, flow_in, flow_of, flows, is_hit, phase_after, task_at, is_exec, is_held, of_kind, rekinded}
 
--- What changed since the rates were brought up to date: by serial whether the phase that is under way began, what those asked for that ended, and the numbers of the resources whose capacity changed.
+-- What changed since the rates were brought up to date: by serial whether the phase that is under way began, or has another bound; what those asked for that ended; and the numbers of the resources whose capacity changed.
 pub record Marks : Type 0 where
-  pub began : List Bool
+  pub changed : List Bool
   pub ended : List Flow
   pub resources : List ℕ
 
 -- nothing changed, of so many serials
 abbrev pub no_marks : ℕ → Marks
-no_marks drawn = record { began = replicate drawn false; ended = []; resources = [] }
-
--- the capacity of this resource changed too
-abbrev pub noted : ℕ → Marks → Marks
-noted resource marks = record marks { resources = with_mark resource marks.resources }
+no_marks drawn = record { changed = replicate drawn false; ended = []; resources = [] }
 
 -- The date, the hosts and links as they are now and which of them are on, by serial from 1 on the phase that is under way, or nothing, what changed since the rates were brought up to date, and by host the energy that it used, in milliwatt-nanoseconds.
 pub record Underway : Type 0 where
@@ -52,10 +48,6 @@ abbrev pub is_running : Underway → Bool
 is_running under = list_any (passes goes) under.tasks
 
 -- ---- how much a change touches
--- whether what bounds a phase, besides its own bound, changed since the rates were brought up to date
-abbrev pub is_rebound : Underway → Task → Bool
-is_rebound under task = is_rebound_at under.capacities under.marks.resources task.place
-
 -- What runs under a serial and takes shares, and whether it began, or its bound changed, since the rates were brought up to date.
 abbrev pub running_under : Underway → ℕ → Option RunningFlow
 running_under under serial =
@@ -63,7 +55,7 @@ running_under under serial =
       flow = flow;
       rate = 0;
       began = false;
-      marked = slice_index_or under.marks.began (serial - 1) false || passes (is_rebound under) (task_at under.tasks serial);
+      marked = slice_index_or under.marks.changed (serial - 1) false;
     }) (flow_in under.capacities (task_at under.tasks serial))
 
 -- all that runs and takes shares, by serial
@@ -129,9 +121,9 @@ later span under = record under {
 -- what changed, once a phase of this serial makes way for another
 abbrev pub marked : Capacities → ℕ → Option Task → Option Task → Marks → Marks
 marked capacities serial before after marks = record {
-  began =
-      if is_some before || is_some after then slice_set marks.began (serial - 1) (is_some after)
-      else marks.began;
+  changed =
+      if is_some before || is_some after then slice_set marks.changed (serial - 1) (is_some after)
+      else marks.changed;
   ended = marks.ended ++ option_to_list (flow_in capacities before);
   resources = marks.resources;
 }
@@ -147,14 +139,14 @@ with_task serial task under = record under {
 abbrev pub drawn : Underway → Underway
 drawn under = record under {
   tasks = under.tasks ++ None ∷ [];
-  marks = record under.marks { began = under.marks.began ++ false ∷ [] };
+  marks = record under.marks { changed = under.marks.changed ++ false ∷ [] };
 }
 
 -- the next serial is of this phase
 abbrev pub started : Task → Underway → Underway
 started task under = record under {
   tasks = under.tasks ++ Some task ∷ [];
-  marks = record under.marks { began = under.marks.began ++ true ∷ [] };
+  marks = record under.marks { changed = under.marks.changed ++ true ∷ [] };
 }
 
 -- the activity of this serial, which was drawn before, begins with this phase
@@ -169,19 +161,36 @@ ended serial under = with_task serial (phase_after (task_at under.tasks serial))
 abbrev pub settled : Underway → Underway
 settled under = record under { marks = no_marks (length under.tasks) }
 
+-- whether a phase takes a share, and has another bound at the new capacities
+abbrev pub is_rebound : Capacities → Capacities → Task → Bool
+is_rebound old new task =
+    is_filled task && not (is_same_bound (flow_of old task).bound (flow_of new task).bound)
+
+-- The hosts and links are these now, and differ in this resource alone. It is marked where its capacity is another, and so is what has another bound by that.
+abbrev pub with_capacities : Capacities → ℕ → Underway → Underway
+with_capacities capacities resource under = record under {
+  capacities = capacities;
+  marks = record under.marks {
+    changed = listed (length under.tasks) (λ i.
+        slice_index_or under.marks.changed i false
+        || passes (is_rebound under.capacities capacities) (slice_index_or under.tasks i None));
+    resources =
+        if slice_index (capacities_of under.capacities) resource
+        == slice_index (capacities_of capacities) resource
+        then under.marks.resources
+        else with_mark resource under.marks.resources;
+  };
+}
+
 -- a host gets this speed
 abbrev pub with_speed : ℕ → ℕ → Underway → Underway
-with_speed host speed under = record under {
-  capacities = at_speed host speed under.capacities;
-  marks = noted host under.marks;
-}
+with_speed host speed under = with_capacities (at_speed host speed under.capacities) host under
 
 -- a link gets this bandwidth
 abbrev pub with_bandwidth : ℕ → ℕ → Underway → Underway
-with_bandwidth link bandwidth under = record under {
-  capacities = at_bandwidth link bandwidth under.capacities;
-  marks = noted (length under.capacities.hosts + link) under.marks;
-}
+with_bandwidth link bandwidth under =
+    with_capacities (at_bandwidth link bandwidth under.capacities)
+    (length under.capacities.hosts + link) under
 
 -- ---- what fails
 -- the serials of the phases that use something that is off

@@ -1,10 +1,10 @@
 -- What contracts see of a `Lazy`, and what a start, an end, a change, a settling and more room do to it.
-use Rattle.std.specs.Prelude.{◌≡◌, ◌≢◌, ℕ, ◌+◌, ◌-◌, ◌≤◌, ◌⊎◌, ◌↔◌, Bool, true, false, IsTrue, Option, None, Some, List, [], ◌∷◌, ◌++◌, AllPairs, length, sum_by, slice_set, option_map, refl}
+use Rattle.std.specs.Prelude.{◌≡◌, ◌≢◌, ℕ, ◌+◌, ◌-◌, ◌==◌, ◌≤◌, ◌⊎◌, ◌↔◌, Bool, true, false, IsTrue, Option, None, Some, if◌then◌else◌, List, [], ◌∷◌, ◌++◌, AllPairs, length, sum_by, slice_index, slice_set, option_map, refl}
 use Rattle.std.specs.Coded.{Coded, code_by, coded×, coded_ℕ, coded_bool, coded_list, coded_option}
 use Rattle.sg_base.specs.MarkSet.{is_in, with_mark}
 use Rattle.sg_maxmin.specs.Fill.{Flow, share_of}
 use Rattle.sg_maxmin.specs.Sharing.{flow_code}
-use Rattle.sg_lazy.specs.RunningFlow.{RunningFlow, bounded_by, running_at, flow_under, running_flows, flows_in}
+use Rattle.sg_lazy.specs.RunningFlow.{RunningFlow, bounded_by, has_bound, running_at, flow_under, running_flows, flows_in}
 use Rattle.sg_lazy.specs.Work.{is_joined, work}
 
 -- the capacities, what runs under each number, the flows that ended since the last settling, the resources whose capacities changed since, the numbers of the flows whose rates it changed, and room for so many flows and uses more
@@ -56,12 +56,20 @@ abbrev pub without_flow : Lazily → ℕ → Flow → Lazily
 without_flow s id flow = record s { slots = slice_set s.slots id None; ended = s.ended ++ flow ∷ [] }
 
 -- with another capacity of a resource, which is one of those whose capacities changed
+abbrev pub with_other_capacity : Lazily → ℕ → ℕ → Lazily
+with_other_capacity s resource capacity = record s { capacities = slice_set s.capacities resource capacity; resources = with_mark resource s.resources }
+
+-- with this capacity of a resource: nothing changes where it is what it was
 abbrev pub with_capacity : Lazily → ℕ → ℕ → Lazily
-with_capacity s resource capacity = record s { capacities = slice_set s.capacities resource capacity; resources = with_mark resource s.resources }
+with_capacity s resource capacity = if slice_index s.capacities resource == capacity then s else with_other_capacity s resource capacity
 
 -- with another bound of a flow, which is marked; its rate stays until the next settling
+abbrev pub with_other_bound : Lazily → ℕ → ℕ → Lazily
+with_other_bound s id bound = record s { slots = slice_set s.slots id (option_map (bounded_by bound) (running_at s.slots id)) }
+
+-- with this bound of a flow: nothing changes where it is what it was
 abbrev pub with_bound : Lazily → ℕ → ℕ → Lazily
-with_bound s id bound = record s { slots = slice_set s.slots id (option_map (bounded_by bound) (running_at s.slots id)) }
+with_bound s id bound = if has_bound bound (running_at s.slots id) then s else with_other_bound s id bound
 
 -- whether a settling changed the rate of a flow: one that began counts as changed
 abbrev pub DidChange : Option RunningFlow → Option RunningFlow → Type 0

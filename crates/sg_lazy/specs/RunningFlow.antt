@@ -1,5 +1,5 @@
 -- The flows of a `Lazy`.
-use Rattle.std.specs.Prelude.{ℕ, Bool, true, Option, None, Some, option_map, List, filter_map, slice_index_or}
+use Rattle.std.specs.Prelude.{ℕ, ◌==◌, Bool, true, false, Option, None, Some, option_map, List, filter_map, slice_index_or}
 use Rattle.sg_maxmin.specs.Fill.{Flow}
 
 -- a flow that runs, the rate that it was given last, whether it began since the last settling, and whether it is marked: it began, or its bound changed since
@@ -8,6 +8,17 @@ pub record RunningFlow : Type 0 where
   pub rate : ℕ
   pub began : Bool
   pub marked : Bool
+
+-- whether two bounds are the same
+abbrev pub is_same_bound : Option ℕ → Option ℕ → Bool
+is_same_bound None None = true
+is_same_bound (Some a) (Some b) = a == b
+is_same_bound a b = false
+
+-- whether a flow runs, and has this bound
+abbrev pub has_bound : ℕ → Option RunningFlow → Bool
+has_bound bound None = false
+has_bound bound (Some running) = is_same_bound running.flow.bound (Some bound)
 
 -- the same under another bound, and marked
 abbrev pub bounded_by : ℕ → RunningFlow → RunningFlow

@@ -1,9 +1,9 @@
 //! Flows whose rates are brought up to date only where something changed.
-ghost use Rattle.std.specs.Prelude.{◌≡◌, ◌≤◌, ◌<◌, ◌+◌, ◌-◌, IsSome, IfSome, IfOk, OnOk, None, length};
+ghost use Rattle.std.specs.Prelude.{◌≡◌, ◌≤◌, ◌<◌, ◌+◌, ◌-◌, IsSome, IfSome, IfOk, OnOk, None, Some, length};
 ghost use Rattle.sg_maxmin.specs.Fill.{flow};
 ghost use Rattle.sg_maxmin.specs.Sharing.{IsFlow};
-ghost use Rattle.sg_lazy.specs.RunningFlow.{running_at};
-ghost use Rattle.sg_lazy.specs.Lazily.{IsFresh, IsRoomier, IsSettled, KeepUntouched, looks_of, with_bound, with_capacity, with_flow, without_flow};
+ghost use Rattle.sg_lazy.specs.RunningFlow.{is_same_bound, running_at};
+ghost use Rattle.sg_lazy.specs.Lazily.{IsFresh, IsRoomier, IsSettled, KeepUntouched, looks_of, with_bound, with_capacity, with_flow, with_other_bound, with_other_capacity, without_flow};
 
 use crate::room::{all_fit, grow_marks, grow_rates};
 use crate::settle::{Pending, Rated, Solver, settle_flows};
@@ -66,6 +66,16 @@ impl Model for Lazy {
         × HasRoom s.system s.pending s.solver.parts s.rated
         × AreLeveled s.system s.solver.levels s.rated.rates.items s.pending.began.members
         s.pending.marked.members s.pending.resources.members };
+}
+
+// Whether the bound is this one.
+fn is_bound(bound: Option<u64>, other: u64) -> bool
+    ensures { result ≡ is_same_bound bound (Some other) }
+{
+    match bound {
+        Some(bound) => bound == other,
+        None => false,
+    }
 }
 
 impl Lazy {
@@ -153,10 +163,20 @@ impl Lazy {
         self.pending.ended.insert(flow);
     }
 
-    /// Changes the capacity of a resource; 0 is one too. The rates stay until the next settling.
+    /// Gives a resource this capacity; 0 is one too. The rates stay until the next settling.
     pub fn set_capacity(&mut self, resource: usize, capacity: u64)
         requires { resource < length self.old.capacities }
         ensures { self.new ≡ with_capacity self.old resource capacity }
+    {
+        if self.system.capacity(resource) != capacity {
+            self.change_capacity(resource, capacity);
+        }
+    }
+
+    // Changes the capacity of a resource.
+    fn change_capacity(&mut self, resource: usize, capacity: u64)
+        requires { resource < length self.old.capacities }
+        ensures { self.new ≡ with_other_capacity self.old resource capacity }
     {
         let levels = &mut self.solver.levels;
         levels.set_capacity(&mut self.system, resource, capacity);
@@ -164,10 +184,20 @@ impl Lazy {
         self.pending.resources.insert(resource);
     }
 
-    /// Changes the bound of a flow, also of one that has none. Its rate stays until the next settling.
+    /// Gives a flow this bound, also one that has none. Its rate stays until the next settling.
     pub fn set_bound(&mut self, flow: usize, bound: u64)
         requires { IsSome (running_at self.old.slots flow) }
         ensures { self.new ≡ with_bound self.old flow bound }
+    {
+        if !is_bound(self.system.bound(flow), bound) {
+            self.change_bound(flow, bound);
+        }
+    }
+
+    // Changes the bound of a flow.
+    fn change_bound(&mut self, flow: usize, bound: u64)
+        requires { IsSome (running_at self.old.slots flow) }
+        ensures { self.new ≡ with_other_bound self.old flow bound }
     {
         let levels = &mut self.solver.levels;
         levels.set_bound(&mut self.system, flow, bound);

@@ -1,5 +1,5 @@
 -- What `Activities` keeps is of one mind.
-use Rattle.std.specs.Prelude.{◌≡◌, ◌≢◌, ℕ, ◌+◌, ◌*◌, ◌^◌, ◌<◌, ◌≤◌, ◌||◌, false, Option, None, Some, IfSome, List, [], length, slice_index, sum_by, All, AllPairs, IsTrue}
+use Rattle.std.specs.Prelude.{◌≡◌, ◌≢◌, ℕ, ◌+◌, ◌*◌, ◌^◌, ◌<◌, ◌≤◌, ◌||◌, Bool, false, Option, None, Some, IfSome, List, [], length, slice_index, sum_by, All, AllPairs, IsTrue}
 use Rattle.sg_base.specs.declared.ids.LinkId.{LinkId}
 use Rattle.sg_base.specs.Limits.{IsPriority}
 use Rattle.sg_base.specs.MarkSet.{is_in}
@@ -11,7 +11,7 @@ use Rattle.sg_activity.specs.declared.kept.Kept.{Kept}
 use Rattle.sg_activity.specs.declared.kinds.PhaseKind.TheVariants as phase
 use Rattle.sg_activity.specs.declared.lives.Live.{Live}
 use Rattle.sg_activity.specs.Links.{Capacities, capacities_of}
-use Rattle.sg_activity.specs.Task.{Place, Way, nowhere, on_host, over, flows_ahead, takes_share, pace, is_rebound_at}
+use Rattle.sg_activity.specs.Task.{Place, Way, nowhere, on_host, over, flows_ahead, takes_share, pace}
 use Rattle.sg_activity.specs.kept.Pool.{slot_at, uses_ahead}
 use Rattle.sg_activity.specs.kept.State.{State, state_of, links_at, place_of, asked_by, dated, due_at}
 
@@ -39,18 +39,19 @@ IsPlace capacities (over way) = IsPath capacities way
 abbrev pub place_at : State → ℕ → Live → Place
 place_at s key live = place_of live.kind live.host live.peer (links_at s.ways key)
 
--- the flow of an activity as it runs
-abbrev pub run_of : State → ℕ → Live → RunningFlow
-run_of s key live = record {
+-- the flow of an activity as it runs, which is marked where it began, or otherwise
+abbrev pub run_of : State → ℕ → Live → Bool → RunningFlow
+run_of s key live marked = record {
   flow = asked_by s key live;
   rate = live.rate;
   began = is_in key s.fresh;
-  marked = is_in key s.fresh || is_rebound_at s.capacities s.resources (place_at s key live);
+  marked = is_in key s.fresh || marked;
 }
 
 -- What takes a share has its flow, which goes at the rate that is kept, and whose key is known.
 pub record HasFlow (s : State) (key : ℕ) (live : Live) : Type 0 where
-  pub runs : running_at s.runs live.flow ≡ Some (run_of s key live)
+  pub marked : Bool
+  pub runs : running_at s.runs live.flow ≡ Some (run_of s key live marked)
   pub limit : HasLimit (asked_by s key live)
   pub within : live.flow < length s.by_flow
   pub known : slice_index s.by_flow live.flow ≡ key
@@ -88,6 +89,7 @@ pub record IsKept (s : State) : Type 0 where
   pub apart : AreApart s.slots
   pub back : (id : ℕ) (running : RunningFlow) → running_at s.runs id ≡ Some running → IsFlowOf s id
   pub fresh : (key : ℕ) → IsTrue (is_in key s.fresh) → key < length s.slots
+  pub fresh_now : (key : ℕ) (live : Live) → slot_at s.slots key ≡ Some live → IsTrue (is_in key s.fresh) → live.stamp ≡ s.date
   pub none_fresh : IsTrue s.settled → s.fresh ≡ []
   pub rates : IsTrue s.settled → (id : ℕ) (running : RunningFlow) → running_at s.runs id ≡ Some running →
       running.rate ≡ share_of (capacities_of s.capacities) (flows_in s.runs) running.flow

@@ -1,10 +1,10 @@
 -- What is kept, and what it stands for.
-use Rattle.std.specs.Prelude.{ℕ, suc, ◌+◌, ◌==◌, Bool, false, Option, None, Some, option_map, option_and_then, if◌then◌else◌, List, [], ◌∷◌, length, map}
+use Rattle.std.specs.Prelude.{ℕ, suc, ◌+◌, ◌==◌, ◌||◌, ◌&&◌, Bool, false, Option, None, Some, option_map, option_and_then, if◌then◌else◌, List, [], ◌∷◌, length, map}
 use Rattle.sg_base.specs.declared.ids.LinkId.{LinkId}
 use Rattle.sg_base.specs.MarkSet.{is_in}
 use Rattle.sg_heap.specs.Agenda.{Key, key_at}
 use Rattle.sg_maxmin.specs.Fill.{Flow}
-use Rattle.sg_lazy.specs.RunningFlow.{RunningFlow}
+use Rattle.sg_lazy.specs.RunningFlow.{RunningFlow, running_at}
 use Rattle.sg_activity.specs.declared.kept.Kept.{Kept}
 use Rattle.sg_activity.specs.declared.kinds.PhaseKind.{PhaseKind}
 use Rattle.sg_activity.specs.declared.kinds.PhaseKind.TheVariants as phase
@@ -13,7 +13,7 @@ use Rattle.sg_activity.specs.Doing.{Doing}
 use Rattle.sg_activity.specs.Links.{Capacities, Switches, machines}
 use Rattle.sg_activity.specs.Slots.{listed, passes, serials}
 use Rattle.sg_activity.specs.Stamp.{Stamp}
-use Rattle.sg_activity.specs.Task.{Place, nowhere, on_host, over, Task, flow_of, wait_by}
+use Rattle.sg_activity.specs.Task.{Place, nowhere, on_host, over, Task, flow_of, takes_share, wait_by}
 use Rattle.sg_activity.specs.Underway.{Underway}
 use Rattle.sg_activity.specs.kept.Stamps.{left_at, due_of}
 use Rattle.sg_activity.specs.kept.Pool.{slot_at}
@@ -116,9 +116,15 @@ is_dated date (Some key) = key.date == date
 abbrev pub is_now : State → ℕ → Live → Bool
 is_now s key live = is_dated s.date (key_at s.keys key)
 
--- whether the phase under a key began since the rates were brought up to date
-abbrev pub began_at : List ℕ → ℕ → Live → Bool
-began_at fresh key live = is_in key fresh
+-- whether a flow runs, and is marked
+abbrev pub is_marked : Option RunningFlow → Bool
+is_marked None = false
+is_marked (Some running) = running.marked
+
+-- whether the phase under a key began since the rates were brought up to date, or has another bound
+abbrev pub changed_at : List ℕ → List (Option RunningFlow) → ℕ → Live → Bool
+changed_at fresh runs key live =
+    is_in key fresh || (takes_share live.kind && is_marked (running_at runs live.flow))
 
 -- the serial of the activity under a key
 abbrev pub serial_in : Option Live → ℕ
@@ -146,9 +152,9 @@ told_by tell s = listed s.drawn (λ i. told_at tell s.slots (i + 1))
 abbrev pub is_so : Bool → Bool
 is_so b = b
 
--- whether the phase under way under each serial began since the rates were brought up to date
-abbrev pub began_by : State → List Bool
-began_by s = map (passes is_so) (told_by (began_at s.fresh) s)
+-- whether the phase under way under each serial did
+abbrev pub changed_by : State → List Bool
+changed_by s = map (passes is_so) (told_by (changed_at s.fresh s.runs) s)
 
 abbrev pub under_of : State → Underway
 under_of s = record {
@@ -157,7 +163,7 @@ under_of s = record {
   on = s.on;
   tasks = told_by (task_of s) s;
   marks = record {
-    began = began_by s;
+    changed = changed_by s;
     ended = s.ended;
     resources = s.resources;
   };

@@ -42,7 +42,7 @@ returns-clause-ends c =
     let old = c.args.live in
     let h = sound.are.each key old c.requires.at in
     let full : takes_share old.kind ≡ true = ap takes_share c.requires.kind in
-    let is = gone kept.lazy c.end.new.self old.flow (run_of s key old) (h.flow full).runs c.end.ensures in
+    let is = gone kept.lazy c.end.new.self old.flow (run_of s key old (h.flow full).marked) (h.flow full).runs c.end.ensures in
     let left = left_at old.kept old.rate old.stamp kept.date in
     let live : Live = record old { kind = phase.Kept; kept = left; stamp = kept.date; rate = 0 } in
     let runs : c.end.new.self.slots ≡ set s.runs old.flow None = ap (λ (l : Lazily). l.slots) is in

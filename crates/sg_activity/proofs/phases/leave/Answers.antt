@@ -44,7 +44,7 @@ returns-clause-ends c =
       | then-takes_share w ↦
           let full : takes_share live.kind ≡ true = sym c.takes_share.ensures ∙ w.if-takes_share.true in
           let has = (sound.are.each key live c.requires.at).flow full in
-          let is = gone kept.lazy w.end.new.self live.flow (run_of s key live) has.runs w.end.ensures in
+          let is = gone kept.lazy w.end.new.self live.flow (run_of s key live has.marked) has.runs w.end.ensures in
           let goes : Goes kept w.end.new.self key live = record {
             went = with_flow full (ap (λ (l : Lazily). l.slots) is);
             ended = ap (λ (l : Lazily). l.ended) is ∙ ended_filled s key live full;

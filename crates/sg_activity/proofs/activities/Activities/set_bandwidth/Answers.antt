@@ -1,4 +1,4 @@
-use Rattle.std.proofs.Common.{◌+◌, ◌<◌, All, length, sym, ap, ap₂, subst, ◌∙◌}
+use Rattle.std.proofs.Common.{◌+◌, ◌<◌, All, length, sym, ap, ap₂, subst, ◌∙◌, false}
 use Rattle.sg_activity.specs.Doing.{Doing, set_in}
 use Rattle.sg_activity.specs.Hosts.{IsHost}
 use Rattle.sg_activity.specs.Links.{at_bandwidth}
@@ -28,7 +28,7 @@ invariant_of-self c =
       switches = switches_alike s (state_of c.set_bandwidth.new.kept) (ap (λ (st : State). st.on) r.state) (ap (λ (st : State). length st.capacities.hosts) r.state ∙ (bandwidth_moved s.capacities c.args.link.0 c.args.bandwidth there).hosts) (ap (λ (st : State). length st.capacities.links) r.state ∙ (bandwidth_moved s.capacities c.args.link.0 c.args.bandwidth there).links) c.self.invariant.switches;
       hit = subst (λ (st : State). AreHits st.on st.slots st.ways c.self.inside.hits) (sym r.state) c.self.invariant.hit;
       metered = metered_kept kept c.set_bandwidth.new.kept c.self.inside.meter c.self.inside.touched c.self.invariant.metered (ap (λ (st : State). length st.capacities.hosts) r.state ∙ (bandwidth_moved s.capacities c.args.link.0 c.args.bandwidth there).hosts) (ap (λ (st : State). st.date) r.state) c.self.invariant.sound.are r.sound.are
-          (λ host. subst (λ u. IsSameHost (under_of s) u host) (sym (ap under_of r.state)) (same_bandwidth (under_of s) host c.args.link.0 c.args.bandwidth));
+          (λ host. subst (λ u. IsSameHost (under_of s) u host) (sym r.told) (same_bandwidth (under_of s) host c.args.link.0 c.args.bandwidth));
     }
 
 pub returns : goal.returns
@@ -36,6 +36,8 @@ returns c =
     let r = c.set_bandwidth.ensures in
     let kept = c.self.inside.kept in
     let meter = c.self.inside.meter in
+    let lazy = c.set_bandwidth.new.kept.lazy in
+    let new : State = record (state_of kept) { capacities = at_bandwidth c.args.link.0 c.args.bandwidth (state_of kept).capacities; runs = lazy.slots; resources = lazy.resources; settled = false } in
     ap (λ date. metered_in (energies date meter) (doing_of (state_of c.set_bandwidth.new.kept) c.set_bandwidth.new.kept.room)) (ap (λ (st : State). st.date) r.state)
-    ∙ ap (metered_in (energies kept.date meter)) (ap₂ doing_of r.state r.room)
+    ∙ ap (metered_in (energies kept.date meter)) (ap₂ doing_of r.state r.room ∙ ap (λ u. record (doing_of new kept.room) { under = u }) (sym (ap under_of r.state) ∙ r.told))
     ∙ ap (set_in (with_bandwidth c.args.link.0 c.args.bandwidth)) c.self.view_is

@@ -1,4 +1,4 @@
-use Rattle.std.proofs.Common.{◌<◌, None, All, length, sym, ap, ap₂, subst, ◌∙◌}
+use Rattle.std.proofs.Common.{◌<◌, None, All, length, sym, ap, ap₂, subst, ◌∙◌, false}
 use Rattle.std.proofs.lemmas.List.Elements.{All-set}
 use Rattle.sg_activity.specs.Doing.{Doing, set_in}
 use Rattle.sg_activity.specs.Hosts.{IsHost, host_at}
@@ -32,7 +32,7 @@ invariant_of-self c =
       hit = subst (λ (st : State). AreHits st.on st.slots st.ways c.self.inside.hits) (sym r.state) c.self.invariant.hit;
       metered = subst (IsMetered c.set_speed.new.kept c.self.inside.meter) (sym c.insert.ensures)
           (metered_marked kept c.set_speed.new.kept c.self.inside.meter c.self.inside.touched c.args.host.0 c.self.invariant.metered long (ap (λ (st : State). st.date) r.state) c.self.invariant.sound.are r.sound.are
-          (λ host ne. subst (λ u. IsSameHost (under_of s) u host) (sym (ap under_of r.state)) (same_speed (under_of s) host c.args.host.0 c.args.speed ne)));
+          (λ host ne. subst (λ u. IsSameHost (under_of s) u host) (sym r.told) (same_speed (under_of s) host c.args.host.0 c.args.speed ne)));
     }
 
 pub returns : goal.returns
@@ -40,6 +40,8 @@ returns c =
     let r = c.set_speed.ensures in
     let kept = c.self.inside.kept in
     let meter = c.self.inside.meter in
+    let lazy = c.set_speed.new.kept.lazy in
+    let new : State = record (state_of kept) { capacities = at_speed c.args.host.0 c.args.speed (state_of kept).capacities; runs = lazy.slots; resources = lazy.resources; settled = false } in
     ap (λ date. metered_in (energies date meter) (doing_of (state_of c.set_speed.new.kept) c.set_speed.new.kept.room)) (ap (λ (st : State). st.date) r.state)
-    ∙ ap (metered_in (energies kept.date meter)) (ap₂ doing_of r.state r.room)
+    ∙ ap (metered_in (energies kept.date meter)) (ap₂ doing_of r.state r.room ∙ ap (λ u. record (doing_of new kept.room) { under = u }) (sym (ap under_of r.state) ∙ r.told))
     ∙ ap (set_in (with_speed c.args.host.0 c.args.speed)) c.self.view_is

@@ -6,7 +6,7 @@ use Rattle.sg_lazy.specs.kept.Held.{IsLazy}
 use Rattle.sg_lazy.specs.kept.Leveled.{AreLeveled}
 use Rattle.sg_lazy.proofs.Leveled.{capacity_leveled, ready_on}
 use Rattle.sg_lazy.proofs.Starting.{capacity_lazy}
-use Rattle.sg_lazy.proofs.lazy.Lazy.set_capacity.Goals as goal
+use Rattle.sg_lazy.proofs.lazy.Lazy.change_capacity.Goals as goal
 
 pub invariant_of-self : goal.invariant_of-self
 invariant_of-self c =
