@@ -127,16 +127,18 @@ second_works slots id resource second below free uses one calm few =
       | inr ne ↦ inr (sym (get_or-set_other slots id other (Some second) None ne) ∙ at)
     ]
 
--- A capacity that changes, of a resource with one flow at most, where nothing is marked: that flow alone is touched.
-pub capacity_works : (slots : List (Option RunningFlow)) (resource : ℕ) → ((id : ℕ) (r : RunningFlow) → running_at slots id ≡ Some r → UsesOne r.flow) → ((id : ℕ) (r : RunningFlow) → running_at slots id ≡ Some r → r.marked ≡ false) → users_of resource slots ≤ 1 →
-    work (running_flows slots) [] (resource ∷ []) ≤ 16
+pub is_the_one : (resource c : ℕ) → is_in c (resource ∷ []) ≡ true → resource ≡ c
+is_the_one resource c e = eqb-true resource c (or_none (eqb resource c) e)
+
+-- No other capacity than that of a resource with one flow at most changes, and nothing is marked: that flow alone is touched.
+pub capacity_works : (slots : List (Option RunningFlow)) (resource : ℕ) (those : List ℕ) → ((c : ℕ) → is_in c those ≡ true → resource ≡ c) → ((id : ℕ) (r : RunningFlow) → running_at slots id ≡ Some r → UsesOne r.flow) → ((id : ℕ) (r : RunningFlow) → running_at slots id ≡ Some r → r.marked ≡ false) → users_of resource slots ≤ 1 →
+    work (running_flows slots) [] those ≤ 16
 unfolding work
-capacity_works slots resource one calm few =
+capacity_works slots resource those no_other one calm few =
     let running = running_flows slots in
-    let those = resource ∷ [] in
     let ones : (r : RunningFlow) → In r running → UsesOne r.flow = λ r i. let k = In-running_back slots r i in one k.0 r k.1 in
     let none : (r : RunningFlow) → In r running → r.marked ≡ true → r.flow.uses ≡ resource ∷ [] = λ r i b. let k = In-running_back slots r i in absurd (true≢false (sym b ∙ calm k.0 r k.1)) in
-    let on = joined_on running those resource ones none (λ c e. eqb-true resource c (or_none (eqb resource c) e)) in
+    let on = joined_on running those resource ones none no_other in
     let g = λ (f : Flow). cond (is_on resource f) 1 0 in
     let most : sum_by (λ (r : RunningFlow). g r.flow) running ≤ 1 = omega (arith, sum_running g slots, few) in
     fewer_looks (touched_count running [] those) (touched_uses running [] those) (omega (arith, count_le running those resource on, most)) (omega (arith, uses_le running those resource ones on, most))
