@@ -2,3 +2,4 @@ pub mod Queues
 pub mod Objects
 pub mod Laws
 pub mod kept
+pub mod Waits

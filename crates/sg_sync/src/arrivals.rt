@@ -1,6 +1,7 @@
 //! Those that have arrived at the barrier.
 ghost use Rattle.std.specs.Prelude.{◌≡◌, ◌<◌, ◌≤◌, ◌+◌, ◌^◌, [], ◌∷◌, length, IfOk};
-ghost use Rattle.sg_sync.specs.Queues.{IsActor, front, joined, left, queue_at, shortened, waits};
+ghost use Rattle.sg_sync.specs.Waits.{CanJoin};
+ghost use Rattle.sg_sync.specs.Queues.{IsActor, front, joined, left, queue_at, shortened};
 
 use crate::queues::Queues;
 use sg_base::{ActorId, Memory};
@@ -52,8 +53,7 @@ impl Arrivals {
 
     /// An actor comes, behind all others.
     pub(crate) fn join(&mut self, actor: ActorId)
-        requires actor { IsActor self.old.actors actor }
-        requires free { waits actor self.old.queues ≡ 0 }
+        requires joins { CanJoin self.old actor }
         requires few { length (queue_at self.old.queues 0) + 1 < 2 ^ 32 }
         ensures { self.new ≡ record self.old { queues = joined self.old.queues 0 actor } }
     {

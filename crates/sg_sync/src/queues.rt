@@ -1,6 +1,7 @@
 //! First-in-first-out queues of actors, which can also let go an actor from the middle.
 ghost use Rattle.std.specs.Prelude.{◌≡◌, ◌<◌, ◌≤◌, ◌+◌, [], length, replicate, IfOk, IfSome};
-ghost use Rattle.sg_sync.specs.Queues.{IsActor, front, joined, left, queue_at, shortened, waits};
+ghost use Rattle.sg_sync.specs.Waits.{CanJoin};
+ghost use Rattle.sg_sync.specs.Queues.{IsActor, front, joined, left, queue_at, shortened};
 
 use sg_base::{ActorId, Memory};
 use sg_queues::Rings;
@@ -46,8 +47,7 @@ impl Queues {
     /// An actor goes to the end of a queue.
     pub(crate) fn join(&mut self, queue: u32, actor: ActorId)
         requires queue { queue < length self.old.queues }
-        requires actor { IsActor self.old.actors actor }
-        requires free { waits actor self.old.queues ≡ 0 }
+        requires joins { CanJoin self.old actor }
         ensures joined { self.new ≡ record self.old {
           queues = joined self.old.queues queue actor;
         } }

@@ -2,7 +2,8 @@
 ghost use Rattle.std.specs.Prelude.{◌≡◌, ◌<◌, ◌≤◌, ◌+◌, ◌∷◌, ◌++◌, ◌^◌, [], None, IfOk, length, replicate};
 ghost use Rattle.std.specs.Vec.{vec_capacity};
 ghost use Rattle.sg_sync.specs.Queues.{IsActor, queue_at};
-ghost use Rattle.sg_sync.specs.Objects.{acquired, arrived, count_of, locked, passed_on, released, unlocked, waiting, withdrawn};
+ghost use Rattle.sg_sync.specs.Objects.{acquired, arrived, count_of, locked, passed_on, released, unlocked, withdrawn};
+ghost use Rattle.sg_sync.specs.Waits.{CanWait};
 
 use crate::arrivals::Arrivals;
 use crate::outcome::Outcome;
@@ -124,9 +125,8 @@ impl Sync {
 
     /// A lock: a free mutex gets its owner, and who finds an owner waits, also the owner itself.
     pub fn lock(&mut self, actor: ActorId, mutex: u32) -> Outcome
-        requires actor { IsActor self.old.actors actor }
+        requires waits { CanWait self.old actor }
         requires mutex { mutex < length self.old.owners }
-        requires free { waiting self.old actor ≡ 0 }
         ensures outcome { result ≡ (locked actor mutex self.old).outcome }
         ensures after { self.new ≡ (locked actor mutex self.old).after }
     {
@@ -174,9 +174,8 @@ impl Sync {
 
     /// An acquire: a count above 0 falls by one, else the actor waits.
     pub fn acquire(&mut self, actor: ActorId, semaphore: u32) -> Outcome
-        requires actor { IsActor self.old.actors actor }
+        requires waits { CanWait self.old actor }
         requires semaphore { semaphore < length self.old.counts }
-        requires free { waiting self.old actor ≡ 0 }
         ensures outcome { result ≡ (acquired actor semaphore self.old).outcome }
         ensures after { self.new ≡ (acquired actor semaphore self.old).after }
     {
@@ -209,8 +208,7 @@ impl Sync {
     /// An arrival at the barrier: where it makes the members complete, all that have arrived go on in the order of
     /// arrival, this one last. A barrier of no members lets each one through.
     pub fn arrive(&mut self, actor: ActorId) -> Outcome
-        requires actor { IsActor self.old.actors actor }
-        requires free { waiting self.old actor ≡ 0 }
+        requires { CanWait self.old actor }
         ensures outcome { result ≡ (arrived actor self.old).outcome }
         ensures after { self.new ≡ (arrived actor self.old).after }
     {

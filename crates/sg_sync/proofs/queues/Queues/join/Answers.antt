@@ -10,7 +10,7 @@ use Rattle.sg_sync.proofs.Slots.{alone_is, waiting_at}
 use Rattle.sg_sync.proofs.queues.Queues.join.Goals as goal
 
 pub join-requires-clause-alone : goal.join-requires-clause-alone
-join-requires-clause-alone c = alone_is c.self.inside.rings c.args.actor c.self.invariant.idle (rw (← c.self.view_is) at c.requires.free)
+join-requires-clause-alone c = alone_is c.self.inside.rings c.args.actor c.self.invariant.idle (rw (← c.self.view_is) at c.requires.joins.free)
 
 pub returns-clause-joined : goal.returns-clause-joined
 returns-clause-joined c =
