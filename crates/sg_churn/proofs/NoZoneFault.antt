@@ -7,7 +7,7 @@ use Rattle.sg_base.specs.declared.ids.ZoneId.{ZoneId}
 use Rattle.sg_churn.specs.Generated.{host_of, platform_of_seed, spoke_of, star}
 use Rattle.sg_rows.specs.Platform.{Platform}
 use Rattle.sg_zones.proofs.FaultLemmas.{zones_good}
-use Rattle.sg_zones.specs.Faults.{first_along, gateway_at, place, row_fault, spoke_at, fault_if, tree_fault, zone_fault, zones_of}
+use Rattle.sg_zones.specs.Faults.{first_along, spoke_gateway_fault, place, row_fault, spoke_fault, fault_if, tree_fault, zone_fault, zones_of}
 use Rattle.sg_zones.specs.Paths.{ancestor}
 use Rattle.sg_zones.specs.Tree.{Tree, tree_of}
 use Rattle.sg_zones.specs.declared.fault.ZoneFault.{ZoneFault}
@@ -30,10 +30,10 @@ home_is_star seed from (suc count) (suc k) = home_is_star seed (from + 1) count 
 same_number : (k : ℕ) → (k == k) ≡ true
 same_number k = grind (arith, nat_tests)
 
-own_gateway : (t : Tree) (row k : ℕ) → gateway_at t row (spoke_of k) ≡ None
+own_gateway : (t : Tree) (row k : ℕ) → spoke_gateway_fault t row (spoke_of k) ≡ None
 own_gateway t row k = rw (same_number k)
 
-star_child : (seed actors row k : ℕ) → spoke_at (tree_of (platform_of_seed seed actors)) row (spoke_of k) ≡ None
+star_child : (seed actors row k : ℕ) → spoke_fault (tree_of (platform_of_seed seed actors)) row (spoke_of k) ≡ None
 unfolding platform_of_seed
 star_child seed actors row k = ap (λ (zone : ZoneId). fault_if (false || not (zone.0 == 0)) (WrongRouting (place 7 (row + 1) 1))) (home_is_star seed 0 actors k)
 
@@ -41,7 +41,7 @@ rows_right : (seed actors : ℕ) → row_fault (tree_of (platform_of_seed seed a
 unfolding platform_of_seed
 rows_right seed actors =
     let tree : Tree = tree_of (platform_of_seed seed actors) in
-    rw (none_along (gateway_at tree) spoke_of (own_gateway tree) 0 0 actors) (none_along (spoke_at tree) spoke_of (star_child seed actors) 0 0 actors)
+    rw (none_along (spoke_gateway_fault tree) spoke_of (own_gateway tree) 0 0 actors) (none_along (spoke_fault tree) spoke_of (star_child seed actors) 0 0 actors)
 
 one_zone : (seed actors : ℕ) → tree_fault (platform_of_seed seed actors).zones ≡ None
 unfolding platform_of_seed

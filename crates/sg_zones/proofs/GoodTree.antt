@@ -10,7 +10,7 @@ use Rattle.sg_base.specs.declared.ids.ZoneId.{ZoneId}
 use Rattle.sg_zones.specs.declared.fault.ZoneFault.{ZoneFault}
 use Rattle.sg_zones.specs.declared.fault.ZoneFault.TheVariants.{ParentCycle, TooDeep}
 use Rattle.sg_zones.specs.Paths.{ancestor, ancestors_of, parent, path, paths_of}
-use Rattle.sg_zones.specs.Faults.{first_along, fault_if, roots, root_fault, ancestor_at, tree_fault}
+use Rattle.sg_zones.specs.Faults.{first_along, fault_if, roots, root_fault, ancestor_fault, tree_fault}
 use Rattle.sg_zones.proofs.TreeLemmas.{AboveIs, IsDepth, depth_found, path_length, path_last, split, inner_of}
 
 -- ---- options and rows
@@ -49,11 +49,11 @@ not_some (Some zone) h = absurd (cc)
 
 pub depth_here : (zones : List ZoneRow) (zone : ZoneId) → tree_fault zones ≡ None → zone.0 < length zones → HasDepth zones zone
 depth_here zones zone good inside =
-    let one = both_none (root_fault (roots 1 zones)) (option_or (first_along (ancestor_at ParentCycle) 0 (ancestors_of 1024 zones)) (first_along (ancestor_at TooDeep) 0 (ancestors_of 16 zones))) good in
-    let two = both_none (first_along (ancestor_at ParentCycle) 0 (ancestors_of 1024 zones)) (first_along (ancestor_at TooDeep) 0 (ancestors_of 16 zones)) one.1 in
+    let one = both_none (root_fault (roots 1 zones)) (option_or (first_along (ancestor_fault ParentCycle) 0 (ancestors_of 1024 zones)) (first_along (ancestor_fault TooDeep) 0 (ancestors_of 16 zones))) good in
+    let two = both_none (first_along (ancestor_fault ParentCycle) 0 (ancestors_of 1024 zones)) (first_along (ancestor_fault TooDeep) 0 (ancestors_of 16 zones)) one.1 in
     let few : zone.0 < length (ancestors_of 16 zones) = omega (arith, length-map-range_with_len (λ i. ancestor 16 zones (record { 0 = i })) 0 (length zones)) in
     let here : get_or (ancestors_of 16 zones) zone.0 None ≡ ancestor 16 zones zone = get_or-map-range_with_len (λ i. ancestor 16 zones (record { 0 = i })) 0 (length zones) zone.0 zone.0 None inside (omega arith) in
-    let told = each_told (ancestor_at TooDeep) 0 zone.0 zone.0 (ancestors_of 16 zones) None two.1 few (omega arith) in
+    let told = each_told (ancestor_fault TooDeep) 0 zone.0 zone.0 (ancestors_of 16 zones) None two.1 few (omega arith) in
     some_depth zones zone (sym here ∙ not_some (get_or (ancestors_of 16 zones) zone.0 None) (not_told (is_some (get_or (ancestors_of 16 zones) zone.0 None)) _ told))
 
 -- ---- the root
@@ -104,7 +104,7 @@ two_roots n (suc i) (suc j) (z ∷ zones) less few h k = go (is_none z.parent) (
 
 pub root_once : (zones : List ZoneRow) (a b : ZoneId) → tree_fault zones ≡ None → a.0 < length zones → b.0 < length zones → parent zones a ≡ None → parent zones b ≡ None → a.0 ≡ b.0
 root_once zones a b good there here up over =
-    let one = both_none (root_fault (roots 1 zones)) (option_or (first_along (ancestor_at ParentCycle) 0 (ancestors_of 1024 zones)) (first_along (ancestor_at TooDeep) 0 (ancestors_of 16 zones))) good in
+    let one = both_none (root_fault (roots 1 zones)) (option_or (first_along (ancestor_fault ParentCycle) 0 (ancestors_of 1024 zones)) (first_along (ancestor_fault TooDeep) 0 (ancestors_of 16 zones))) good in
     let only = only_one (roots 1 zones) one.0 in
     let less : a.0 < b.0 → ⊥ = λ l. let two = two_roots 1 a.0 b.0 zones l here up over in absurd (cc) in
     let more : b.0 < a.0 → ⊥ = λ l. let two = two_roots 1 b.0 a.0 zones l there over up in absurd (cc) in

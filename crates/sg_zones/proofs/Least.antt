@@ -8,7 +8,7 @@ use Rattle.sg_rows.specs.declared.rows.ZoneRouteRow.{ZoneRouteRow}
 use Rattle.sg_rows.specs.declared.rows.ZoneRow.{ZoneRow}
 use Rattle.sg_tree.specs.Along.{along, first}
 use Rattle.sg_zones.specs.AllFaults.{TellsLeast, IsBefore, IsRising, faults_along, gateway_faults, kind_number, as_list, place_of, root_faults, row_faults, tree_faults}
-use Rattle.sg_zones.specs.Faults.{child_zone_at, ancestor_at, first_along, gateway_at, gateway_fault, gateways_at, place, root_fault, roots, route_at, row_fault, spoke_at, fault_if, tree_fault, zone_route_at}
+use Rattle.sg_zones.specs.Faults.{child_zone_fault, ancestor_fault, first_along, spoke_gateway_fault, gateway_fault, zone_route_gateway_fault, place, root_fault, roots, route_fault, row_fault, spoke_fault, fault_if, tree_fault, zone_route_fault}
 use Rattle.sg_zones.specs.Paths.{ancestors_of}
 use Rattle.sg_zones.specs.Tree.{Tree, tree_of}
 use Rattle.sg_zones.specs.declared.fault.ZoneFault.{ZoneFault}
@@ -44,14 +44,14 @@ first-root_faults (r ∷ (s ∷ rs)) = refl
 
 first-tree_faults : (zones : List ZoneRow) → first (tree_faults zones) ≡ tree_fault zones
 first-tree_faults zones =
-    let cycles = faults_along (ancestor_at ParentCycle) (ancestors_of 1024 zones) in
-    let deep = faults_along (ancestor_at TooDeep) (ancestors_of 16 zones) in
-    let c = first_along (ancestor_at ParentCycle) 0 (ancestors_of 1024 zones) in
-    let d = first_along (ancestor_at TooDeep) 0 (ancestors_of 16 zones) in
+    let cycles = faults_along (ancestor_fault ParentCycle) (ancestors_of 1024 zones) in
+    let deep = faults_along (ancestor_fault TooDeep) (ancestors_of 16 zones) in
+    let c = first_along (ancestor_fault ParentCycle) 0 (ancestors_of 1024 zones) in
+    let d = first_along (ancestor_fault TooDeep) 0 (ancestors_of 16 zones) in
     first_of_both (root_faults (roots 1 zones)) (cycles ++ deep) (root_fault (roots 1 zones)) (option_or c d) (first-root_faults (roots 1 zones))
-    (first_of_both cycles deep c d (first-faults_along (ancestor_at ParentCycle) (ancestors_of 1024 zones)) (first-faults_along (ancestor_at TooDeep) (ancestors_of 16 zones)))
+    (first_of_both cycles deep c d (first-faults_along (ancestor_fault ParentCycle) (ancestors_of 1024 zones)) (first-faults_along (ancestor_fault TooDeep) (ancestors_of 16 zones)))
 
-first-gateway_faults : (t : Tree) (i : ℕ) (r : ZoneRouteRow) → first (gateway_faults t i r) ≡ gateways_at t i r
+first-gateway_faults : (t : Tree) (i : ℕ) (r : ZoneRouteRow) → first (gateway_faults t i r) ≡ zone_route_gateway_fault t i r
 first-gateway_faults t i r =
     let src = gateway_fault t r.src r.gw_src (place 6 (i + 1) 3) in
     let dst = gateway_fault t r.dst r.gw_dst (place 6 (i + 1) 4) in
@@ -60,22 +60,22 @@ first-gateway_faults t i r =
 first-row_faults : (t : Tree) (p : Platform) → first (row_faults t p) ≡ row_fault t p
 first-row_faults t p =
     let g = along (gateway_faults t) 0 p.zone_routes in
-    let s = faults_along (gateway_at t) p.spokes in
-    let c = faults_along (child_zone_at t) p.zones in
-    let r = faults_along (route_at t) p.routes in
-    let z = faults_along (zone_route_at t) p.zone_routes in
-    let w = faults_along (spoke_at t) p.spokes in
-    let z1 = first_along (zone_route_at t) 0 p.zone_routes in
-    let w1 = first_along (spoke_at t) 0 p.spokes in
-    let r1 = first_along (route_at t) 0 p.routes in
-    let c1 = first_along (child_zone_at t) 0 p.zones in
-    let s1 = first_along (gateway_at t) 0 p.spokes in
-    let g1 = first_along (gateways_at t) 0 p.zone_routes in
-    first_of_both g (s ++ (c ++ (r ++ (z ++ w)))) g1 (option_or s1 (option_or c1 (option_or r1 (option_or z1 w1)))) (first-along (gateway_faults t) (gateways_at t) (first-gateway_faults t) 0 p.zone_routes)
-    (first_of_both s (c ++ (r ++ (z ++ w))) s1 (option_or c1 (option_or r1 (option_or z1 w1))) (first-faults_along (gateway_at t) p.spokes)
-    (first_of_both c (r ++ (z ++ w)) c1 (option_or r1 (option_or z1 w1)) (first-faults_along (child_zone_at t) p.zones)
-    (first_of_both r (z ++ w) r1 (option_or z1 w1) (first-faults_along (route_at t) p.routes)
-    (first_of_both z w z1 w1 (first-faults_along (zone_route_at t) p.zone_routes) (first-faults_along (spoke_at t) p.spokes)))))
+    let s = faults_along (spoke_gateway_fault t) p.spokes in
+    let c = faults_along (child_zone_fault t) p.zones in
+    let r = faults_along (route_fault t) p.routes in
+    let z = faults_along (zone_route_fault t) p.zone_routes in
+    let w = faults_along (spoke_fault t) p.spokes in
+    let z1 = first_along (zone_route_fault t) 0 p.zone_routes in
+    let w1 = first_along (spoke_fault t) 0 p.spokes in
+    let r1 = first_along (route_fault t) 0 p.routes in
+    let c1 = first_along (child_zone_fault t) 0 p.zones in
+    let s1 = first_along (spoke_gateway_fault t) 0 p.spokes in
+    let g1 = first_along (zone_route_gateway_fault t) 0 p.zone_routes in
+    first_of_both g (s ++ (c ++ (r ++ (z ++ w)))) g1 (option_or s1 (option_or c1 (option_or r1 (option_or z1 w1)))) (first-along (gateway_faults t) (zone_route_gateway_fault t) (first-gateway_faults t) 0 p.zone_routes)
+    (first_of_both s (c ++ (r ++ (z ++ w))) s1 (option_or c1 (option_or r1 (option_or z1 w1))) (first-faults_along (spoke_gateway_fault t) p.spokes)
+    (first_of_both c (r ++ (z ++ w)) c1 (option_or r1 (option_or z1 w1)) (first-faults_along (child_zone_fault t) p.zones)
+    (first_of_both r (z ++ w) r1 (option_or z1 w1) (first-faults_along (route_fault t) p.routes)
+    (first_of_both z w z1 w1 (first-faults_along (zone_route_fault t) p.zone_routes) (first-faults_along (spoke_fault t) p.spokes)))))
 
 -- ---- they rise
 
@@ -128,11 +128,11 @@ told_rise : {X : Type 0} (kind table : ℕ) (told : ℕ → X → Option ZoneFau
     → Rise kind table 1 (faults_along told xs)
 told_rise kind table told each xs = along_rises kind table (λ row x. as_list (told row x)) (λ i x. one_rises (told i x)) each 0 xs
 
-cycles_rise : (xs : List (Option ZoneId)) → Rise 3 1 1 (faults_along (ancestor_at ParentCycle) xs)
-cycles_rise xs = told_rise 3 1 (ancestor_at ParentCycle) (λ i x. one_each (IsOf 3 1 (i + 1)) (is_some x) _ (refl, refl, refl)) xs
+cycles_rise : (xs : List (Option ZoneId)) → Rise 3 1 1 (faults_along (ancestor_fault ParentCycle) xs)
+cycles_rise xs = told_rise 3 1 (ancestor_fault ParentCycle) (λ i x. one_each (IsOf 3 1 (i + 1)) (is_some x) _ (refl, refl, refl)) xs
 
-deep_rise : (xs : List (Option ZoneId)) → Rise 4 1 1 (faults_along (ancestor_at TooDeep) xs)
-deep_rise xs = told_rise 4 1 (ancestor_at TooDeep) (λ i x. one_each (IsOf 4 1 (i + 1)) (is_some x) _ (refl, refl, refl)) xs
+deep_rise : (xs : List (Option ZoneId)) → Rise 4 1 1 (faults_along (ancestor_fault TooDeep) xs)
+deep_rise xs = told_rise 4 1 (ancestor_fault TooDeep) (λ i x. one_each (IsOf 4 1 (i + 1)) (is_some x) _ (refl, refl, refl)) xs
 
 gateways_rise : (t : Tree) (xs : List ZoneRouteRow) → Rise 5 6 1 (along (gateway_faults t) 0 xs)
 gateways_rise t xs =
@@ -180,8 +180,8 @@ from k n kind table xs many r = each_mono (IsIn kind table n) (IsFrom k) (λ g p
 tree_rises : (zones : List ZoneRow) → IsRising (tree_faults zones) × Each (IsUpTo 4) (tree_faults zones)
 tree_rises zones =
     let roots_here = root_faults (roots 1 zones) in
-    let cycles = faults_along (ancestor_at ParentCycle) (ancestors_of 1024 zones) in
-    let deep = faults_along (ancestor_at TooDeep) (ancestors_of 16 zones) in
+    let cycles = faults_along (ancestor_fault ParentCycle) (ancestors_of 1024 zones) in
+    let deep = faults_along (ancestor_fault TooDeep) (ancestors_of 16 zones) in
     let r = root_rising (roots 1 zones) (roots_rise 1 zones) in
     let c = cycles_rise (ancestors_of 1024 zones) in
     let d = deep_rise (ancestors_of 16 zones) in (
@@ -241,15 +241,15 @@ rows_rise g s rest rg rs (rising, six) = (
 
 row_faults_rise : (t : Tree) (p : Platform) → IsRising (row_faults t p) × Each (IsFrom 5) (row_faults t p)
 row_faults_rise t p =
-    rows_rise (along (gateway_faults t) 0 p.zone_routes) (faults_along (gateway_at t) p.spokes)
-    (faults_along (child_zone_at t) p.zones ++ (faults_along (route_at t) p.routes ++ (faults_along (zone_route_at t) p.zone_routes ++ faults_along (spoke_at t) p.spokes)))
+    rows_rise (along (gateway_faults t) 0 p.zone_routes) (faults_along (spoke_gateway_fault t) p.spokes)
+    (faults_along (child_zone_fault t) p.zones ++ (faults_along (route_fault t) p.routes ++ (faults_along (zone_route_fault t) p.zone_routes ++ faults_along (spoke_fault t) p.spokes)))
     (gateways_rise t p.zone_routes)
-    (told_rise 5 7 (gateway_at t) (λ i x. one_each (IsOf 5 7 (i + 1)) _ _ (refl, refl, refl)) p.spokes)
-    (last_rise (faults_along (child_zone_at t) p.zones) (faults_along (route_at t) p.routes) (faults_along (zone_route_at t) p.zone_routes) (faults_along (spoke_at t) p.spokes)
-    (told_rise 6 1 (child_zone_at t) (λ i x. one_each (IsOf 6 1 (i + 1)) _ _ (refl, refl, refl)) p.zones)
-    (told_rise 6 5 (route_at t) (λ i x. one_each (IsOf 6 5 (i + 1)) _ _ (refl, refl, refl)) p.routes)
-    (told_rise 6 6 (zone_route_at t) (λ i x. one_each (IsOf 6 6 (i + 1)) _ _ (refl, refl, refl)) p.zone_routes)
-    (told_rise 6 7 (spoke_at t) (λ i x. one_each (IsOf 6 7 (i + 1)) _ _ (refl, refl, refl)) p.spokes))
+    (told_rise 5 7 (spoke_gateway_fault t) (λ i x. one_each (IsOf 5 7 (i + 1)) _ _ (refl, refl, refl)) p.spokes)
+    (last_rise (faults_along (child_zone_fault t) p.zones) (faults_along (route_fault t) p.routes) (faults_along (zone_route_fault t) p.zone_routes) (faults_along (spoke_fault t) p.spokes)
+    (told_rise 6 1 (child_zone_fault t) (λ i x. one_each (IsOf 6 1 (i + 1)) _ _ (refl, refl, refl)) p.zones)
+    (told_rise 6 5 (route_fault t) (λ i x. one_each (IsOf 6 5 (i + 1)) _ _ (refl, refl, refl)) p.routes)
+    (told_rise 6 6 (zone_route_fault t) (λ i x. one_each (IsOf 6 6 (i + 1)) _ _ (refl, refl, refl)) p.zone_routes)
+    (told_rise 6 7 (spoke_fault t) (λ i x. one_each (IsOf 6 7 (i + 1)) _ _ (refl, refl, refl)) p.spokes))
 
 pub tells_least : (p : Platform) → TellsLeast p
 tells_least p =

@@ -6,7 +6,7 @@ use Rattle.sg_rows.specs.declared.rows.ZoneRouteRow.{ZoneRouteRow}
 use Rattle.sg_rows.specs.declared.rows.ZoneRow.{ZoneRow}
 use Rattle.sg_tree.specs.Along.{along, first}
 use Rattle.sg_tree.specs.declared.fault.Place.{Place}
-use Rattle.sg_zones.specs.Faults.{place, roots, ancestor_at, gateway_fault, gateway_at, child_zone_at, route_at, zone_route_at, spoke_at, zone_fault}
+use Rattle.sg_zones.specs.Faults.{place, roots, ancestor_fault, gateway_fault, spoke_gateway_fault, child_zone_fault, route_fault, zone_route_fault, spoke_fault, zone_fault}
 use Rattle.sg_zones.specs.FaultWords.{zone_place}
 use Rattle.sg_zones.specs.Paths.{ancestors_of}
 use Rattle.sg_zones.specs.Tree.{Tree, tree_of}
@@ -36,17 +36,17 @@ gateway_faults t row r =
 abbrev pub tree_faults : List ZoneRow → List ZoneFault
 tree_faults zones =
     root_faults (roots 1 zones)
-    ++ (faults_along (ancestor_at ParentCycle) (ancestors_of 1024 zones)
-    ++ faults_along (ancestor_at TooDeep) (ancestors_of 16 zones))
+    ++ (faults_along (ancestor_fault ParentCycle) (ancestors_of 1024 zones)
+    ++ faults_along (ancestor_fault TooDeep) (ancestors_of 16 zones))
 
 abbrev pub row_faults : Tree → Platform → List ZoneFault
 row_faults t p =
     along (gateway_faults t) 0 p.zone_routes
-    ++ (faults_along (gateway_at t) p.spokes
-    ++ (faults_along (child_zone_at t) p.zones
-    ++ (faults_along (route_at t) p.routes
-    ++ (faults_along (zone_route_at t) p.zone_routes
-    ++ faults_along (spoke_at t) p.spokes))))
+    ++ (faults_along (spoke_gateway_fault t) p.spokes
+    ++ (faults_along (child_zone_fault t) p.zones
+    ++ (faults_along (route_fault t) p.routes
+    ++ (faults_along (zone_route_fault t) p.zone_routes
+    ++ faults_along (spoke_fault t) p.spokes))))
 
 abbrev pub zone_faults : Platform → List ZoneFault
 zone_faults p = tree_faults p.zones ++ row_faults (tree_of p) p

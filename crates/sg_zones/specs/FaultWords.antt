@@ -4,20 +4,18 @@ use Rattle.sg_tree.specs.declared.fault.Place.{Place}
 use Rattle.sg_zones.specs.declared.fault.ZoneFault.{ZoneFault}
 use Rattle.sg_zones.specs.declared.fault.ZoneFault.TheVariants.{NoRoot, TwoRoots, ParentCycle, TooDeep, GatewayOutside, WrongRouting, Memory}
 
+-- what is wrong, in words, and where
+abbrev pub words_and_place : ZoneFault → List ℕ × Option Place
+words_and_place (NoRoot at) = (codes "no root zone", Some at)
+words_and_place (TwoRoots at) = (codes "two root zones", Some at)
+words_and_place (ParentCycle at) = (codes "zone cycle", Some at)
+words_and_place (TooDeep at) = (codes "zones too deep", Some at)
+words_and_place (GatewayOutside at) = (codes "gateway outside", Some at)
+words_and_place (WrongRouting at) = (codes "wrong routing", Some at)
+words_and_place Memory = ([], None)
+
 abbrev pub zone_words : ZoneFault → List ℕ
-zone_words (NoRoot at) = codes "no root zone"
-zone_words (TwoRoots at) = codes "two root zones"
-zone_words (ParentCycle at) = codes "zone cycle"
-zone_words (TooDeep at) = codes "zones too deep"
-zone_words (GatewayOutside at) = codes "gateway outside"
-zone_words (WrongRouting at) = codes "wrong routing"
-zone_words Memory = []
+zone_words fault = (words_and_place fault).0
 
 abbrev pub zone_place : ZoneFault → Option Place
-zone_place (NoRoot at) = Some at
-zone_place (TwoRoots at) = Some at
-zone_place (ParentCycle at) = Some at
-zone_place (TooDeep at) = Some at
-zone_place (GatewayOutside at) = Some at
-zone_place (WrongRouting at) = Some at
-zone_place Memory = None
+zone_place fault = (words_and_place fault).1

@@ -43,8 +43,8 @@ root_fault [] = Some (NoRoot (place 1 0 0))
 root_fault (root ∷ others) = option_map (λ second. TwoRoots (place 1 second 2)) (first others)
 
 -- the zone of this row still has a zone above it after some steps up
-abbrev pub ancestor_at : (Place → ZoneFault) → ℕ → Option ZoneId → Option ZoneFault
-ancestor_at fault row ancestor = fault_if (is_some ancestor) (fault (place 1 (row + 1) 2))
+abbrev pub ancestor_fault : (Place → ZoneFault) → ℕ → Option ZoneId → Option ZoneFault
+ancestor_fault fault row ancestor = fault_if (is_some ancestor) (fault (place 1 (row + 1) 2))
 
 -- ---- gateways
 
@@ -57,11 +57,11 @@ child_holds t (Zone zone) point = holds t zone point
 abbrev pub gateway_fault : Tree → Child → PointId → Place → Option ZoneFault
 gateway_fault t end gateway at = fault_if (not (child_holds t end gateway)) (GatewayOutside at)
 
-abbrev pub gateways_at : Tree → ℕ → ZoneRouteRow → Option ZoneFault
-gateways_at t row r = option_or (gateway_fault t r.src r.gw_src (place 6 (row + 1) 3)) (gateway_fault t r.dst r.gw_dst (place 6 (row + 1) 4))
+abbrev pub zone_route_gateway_fault : Tree → ℕ → ZoneRouteRow → Option ZoneFault
+zone_route_gateway_fault t row r = option_or (gateway_fault t r.src r.gw_src (place 6 (row + 1) 3)) (gateway_fault t r.dst r.gw_dst (place 6 (row + 1) 4))
 
-abbrev pub gateway_at : Tree → ℕ → SpokeRow → Option ZoneFault
-gateway_at t row s = gateway_fault t s.child s.gateway (place 7 (row + 1) 3)
+abbrev pub spoke_gateway_fault : Tree → ℕ → SpokeRow → Option ZoneFault
+spoke_gateway_fault t row s = gateway_fault t s.child s.gateway (place 7 (row + 1) 3)
 
 -- ---- routing
 
@@ -92,26 +92,26 @@ is_point (Point point) = true
 is_point (Zone zone) = false
 
 -- no zone stands in a Dijkstra zone
-abbrev pub child_zone_at : Tree → ℕ → ZoneRow → Option ZoneFault
-child_zone_at t row z = fault_if (option_map_or (λ above. is_dijkstra (routing_in t above)) z.parent false) (WrongRouting (place 1 (row + 1) 1))
+abbrev pub child_zone_fault : Tree → ℕ → ZoneRow → Option ZoneFault
+child_zone_fault t row z = fault_if (option_map_or (λ above. is_dijkstra (routing_in t above)) z.parent false) (WrongRouting (place 1 (row + 1) 1))
 
 -- both are one zone, and it has routes between points: it is Full or Dijkstra
 abbrev pub in_one_routed : Tree → ZoneId → ZoneId → Bool
 in_one_routed t a b = a.0 == b.0 && not (is_star (routing_in t a))
 
 -- the ends of a route stand in one Full or Dijkstra zone
-abbrev pub route_at : Tree → ℕ → RouteRow → Option ZoneFault
-route_at t row r = fault_if (not (in_one_routed t (home t r.src) (home t r.dst))) (WrongRouting (place 5 (row + 1) 1))
+abbrev pub route_fault : Tree → ℕ → RouteRow → Option ZoneFault
+route_fault t row r = fault_if (not (in_one_routed t (home t r.src) (home t r.dst))) (WrongRouting (place 5 (row + 1) 1))
 
 -- those of a zone_route are children of one Full zone, and not both points
-abbrev pub zone_route_at : Tree → ℕ → ZoneRouteRow → Option ZoneFault
-zone_route_at t row r =
+abbrev pub zone_route_fault : Tree → ℕ → ZoneRouteRow → Option ZoneFault
+zone_route_fault t row r =
     fault_if (not (in_one_full t (zone_above t r.src) (zone_above t r.dst)) || is_point r.src && is_point r.dst)
     (WrongRouting (place 6 (row + 1) 1))
 
 -- the zone of a spoke is Star, and the child is its child
-abbrev pub spoke_at : Tree → ℕ → SpokeRow → Option ZoneFault
-spoke_at t row s =
+abbrev pub spoke_fault : Tree → ℕ → SpokeRow → Option ZoneFault
+spoke_fault t row s =
     fault_if (not (is_star (routing_in t s.zone)) || not (option_map_or (λ above. above.0 == s.zone.0) (zone_above t s.child) false))
     (WrongRouting (place 7 (row + 1) 1))
 
@@ -122,17 +122,17 @@ spoke_at t row s =
 abbrev pub tree_fault : List ZoneRow → Option ZoneFault
 tree_fault zones =
     option_or (root_fault (roots 1 zones))
-    (option_or (first_along (ancestor_at ParentCycle) 0 (ancestors_of 1024 zones))
-    (first_along (ancestor_at TooDeep) 0 (ancestors_of 16 zones)))
+    (option_or (first_along (ancestor_fault ParentCycle) 0 (ancestors_of 1024 zones))
+    (first_along (ancestor_fault TooDeep) 0 (ancestors_of 16 zones)))
 
 abbrev pub row_fault : Tree → Platform → Option ZoneFault
 row_fault t p =
-    option_or (first_along (gateways_at t) 0 p.zone_routes)
-    (option_or (first_along (gateway_at t) 0 p.spokes)
-    (option_or (first_along (child_zone_at t) 0 p.zones)
-    (option_or (first_along (route_at t) 0 p.routes)
-    (option_or (first_along (zone_route_at t) 0 p.zone_routes)
-    (first_along (spoke_at t) 0 p.spokes)))))
+    option_or (first_along (zone_route_gateway_fault t) 0 p.zone_routes)
+    (option_or (first_along (spoke_gateway_fault t) 0 p.spokes)
+    (option_or (first_along (child_zone_fault t) 0 p.zones)
+    (option_or (first_along (route_fault t) 0 p.routes)
+    (option_or (first_along (zone_route_fault t) 0 p.zone_routes)
+    (first_along (spoke_fault t) 0 p.spokes)))))
 
 abbrev pub zone_fault : Platform → Option ZoneFault
 zone_fault p = option_or (tree_fault p.zones) (row_fault (tree_of p) p)

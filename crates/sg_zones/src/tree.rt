@@ -1,6 +1,6 @@
 //! The faults of the zone tree itself.
 ghost use Rattle.std.specs.Prelude.{◌≡◌, ◌≤◌, ◌<◌, length, IfOk};
-ghost use Rattle.sg_zones.specs.Faults.{ancestor_at, first_along, roots, root_fault, tree_fault};
+ghost use Rattle.sg_zones.specs.Faults.{ancestor_fault, first_along, roots, root_fault, tree_fault};
 ghost use Rattle.sg_zones.specs.declared.fault.ZoneFault.TheVariants.{ParentCycle, TooDeep};
 
 use crate::fault::{ZoneFault, place};
@@ -37,7 +37,7 @@ fn root_fault(zones: &[ZoneRow]) -> Option<ZoneFault>
 /// That going up from a zone never reaches the root.
 fn cycle_at(i: usize, ancestor: &Option<ZoneId>) -> Option<ZoneFault>
     requires { i < 1024 }
-    ensures { result ≡ ancestor_at ParentCycle i ancestor.now }
+    ensures { result ≡ ancestor_fault ParentCycle i ancestor.now }
 {
     match ancestor {
         Some(_) => Some(ZoneFault::ParentCycle(place(1, i, 2))),
@@ -48,7 +48,7 @@ fn cycle_at(i: usize, ancestor: &Option<ZoneId>) -> Option<ZoneFault>
 /// That a zone is too deep.
 fn deep_at(i: usize, ancestor: &Option<ZoneId>) -> Option<ZoneFault>
     requires { i < 1024 }
-    ensures { result ≡ ancestor_at TooDeep i ancestor.now }
+    ensures { result ≡ ancestor_fault TooDeep i ancestor.now }
 {
     match ancestor {
         Some(_) => Some(ZoneFault::TooDeep(place(1, i, 2))),
@@ -59,7 +59,7 @@ fn deep_at(i: usize, ancestor: &Option<ZoneId>) -> Option<ZoneFault>
 /// The first zone that never reaches the root.
 fn first_cycle(ancestors: &[Option<ZoneId>]) -> Option<ZoneFault>
     requires { length ancestors.now ≤ 1024 }
-    ensures { result ≡ first_along (ancestor_at ParentCycle) 0 ancestors.now }
+    ensures { result ≡ first_along (ancestor_fault ParentCycle) 0 ancestors.now }
 {
     for (i, ancestor) in ancestors.iter().enumerate() {
         if let Some(fault) = cycle_at(i, ancestor) {
@@ -72,7 +72,7 @@ fn first_cycle(ancestors: &[Option<ZoneId>]) -> Option<ZoneFault>
 /// The first zone that is too deep.
 fn first_deep(ancestors: &[Option<ZoneId>]) -> Option<ZoneFault>
     requires { length ancestors.now ≤ 1024 }
-    ensures { result ≡ first_along (ancestor_at TooDeep) 0 ancestors.now }
+    ensures { result ≡ first_along (ancestor_fault TooDeep) 0 ancestors.now }
 {
     for (i, ancestor) in ancestors.iter().enumerate() {
         if let Some(fault) = deep_at(i, ancestor) {

@@ -1,6 +1,6 @@
 use Rattle.std.proofs.Common.{◌≡◌, drop}
-use Rattle.sg_zones.specs.Faults.{first_along, child_zone_at}
+use Rattle.sg_zones.specs.Faults.{first_along, child_zone_fault}
 use Rattle.sg_zones.proofs.routing.first_child_zone.Given as goal
 
 abbrev pub invariant-loop-i : goal.invariant-loop-i
-invariant-loop-i l = first_along (child_zone_at l.zones) 0 l.rows ≡ first_along (child_zone_at l.zones) l.i (drop l.i l.rows)
+invariant-loop-i l = first_along (child_zone_fault l.zones) 0 l.rows ≡ first_along (child_zone_fault l.zones) l.i (drop l.i l.rows)
