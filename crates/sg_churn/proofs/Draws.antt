@@ -1,7 +1,7 @@
 -- The generator, draw by draw.
-use Rattle.std.proofs.Common.{◌≡◌, ℕ, ◌+◌, ◌*◌, ◌%◌, codes, ap, ◌∙◌, refl, arith, add-one}
+use Rattle.std.proofs.Common.{◌≡◌, ℕ, ◌+◌, ◌*◌, ◌%◌, codes, None, ap, ◌∙◌, refl, arith, add-one}
 use Rattle.sg_base.specs.Draw.{drawn, next_state}
-use Rattle.sg_churn.specs.Generated.{drawn_after, host_of, host_with, link_of, link_with, name_of, state_after}
+use Rattle.sg_churn.specs.Generated.{drawn_after, host_of, link_of, link_with, name_of, state_after}
 use Rattle.sg_rows.specs.declared.rows.HostRow.{HostRow}
 use Rattle.sg_rows.specs.declared.rows.LinkRow.{LinkRow}
 
@@ -21,6 +21,9 @@ next_drawn seed draws more state next one here drawn = drawn ∙ ap next_state h
 pub drawn_here : (seed draws most state n : ℕ) → state ≡ state_after seed draws → n ≡ 1 + drawn state % most → n ≡ drawn_after seed draws most
 unfolding drawn_after
 drawn_here seed draws most state n here drawn_now = drawn_now ∙ ap (λ s. 1 + drawn s % most) here
+
+abbrev host_with : ℕ → ℕ → HostRow
+host_with row speed = record { id = name_of (codes "h") row; zone = record { 0 = 0 }; speed = speed; cores = 1; power = None }
 
 pub host_drawn : (seed row speed : ℕ) (host : HostRow) → host ≡ host_with row (speed * 100000000) → speed ≡ drawn_after seed (3 * row) 8 → host ≡ host_of seed row
 host_drawn seed row speed host made drawn = made ∙ ap (λ s. host_with row (s * 100000000)) drawn

@@ -38,15 +38,6 @@ name_of letter row = letter ++ decimal (row + 1)
 abbrev pub star : ZoneRow
 star = record { id = codes "z"; parent = None; routing = Star }
 
-abbrev pub host_with : ℕ → ℕ → HostRow
-host_with row speed = record {
-  id = name_of (codes "h") row;
-  zone = record { 0 = 0 };
-  speed = speed;
-  cores = 1;
-  power = None;
-}
-
 abbrev pub link_with : List ℕ → ℕ → ℕ → LinkRow
 link_with id bandwidth latency = record { id = id; bandwidth = bandwidth; latency = latency; policy = Shared }
 
@@ -68,7 +59,13 @@ spoke_of row = record {
 
 -- each actor takes three draws: for the speed of its host, and for the bandwidth and the latency of its link
 abbrev pub host_of : ℕ → ℕ → HostRow
-host_of seed row = host_with row (drawn_after seed (3 * row) 8 * 100000000)
+host_of seed row = record {
+  id = name_of (codes "h") row;
+  zone = record { 0 = 0 };
+  speed = drawn_after seed (3 * row) 8 * 100000000;
+  cores = 1;
+  power = None;
+}
 
 abbrev pub link_of : ℕ → ℕ → LinkRow
 link_of seed row = link_with (name_of (codes "l") row) (drawn_after seed (3 * row + 1) 8 * 1000000) (drawn_after seed (3 * row + 2) 100 * 1000)
@@ -79,20 +76,14 @@ platform_of_seed seed actors =
 
 -- ---- the actors: a ring, one on each host
 
--- the actor behind that of this row, and the one before it
-abbrev pub next_of : ℕ → ℕ → ℕ
-next_of actors row = 1 + (row + 1) % actors
-
-abbrev pub prev_of : ℕ → ℕ → ℕ
-prev_of actors row = 1 + (row + (actors - 1)) % actors
-
-abbrev pub actor_of : ℕ → ℕ → ℕ → ℕ → ActorRow
-actor_of seed actors steps row = record {
+-- each sends to the one behind it, and receives from the one before it
+abbrev pub ring_actor : ℕ → ℕ → ℕ → ℕ → ActorRow
+ring_actor seed actors steps row = record {
   name = name_of (codes "a") row;
   host = record { 0 = row };
-  function = Churn ((seed + (row + 1)) % 2 ^ 64) (record { 0 = next_of actors row }) (record { 0 = prev_of actors row }) steps;
+  function = Churn ((seed + (row + 1)) % 2 ^ 64) (record { 0 = 1 + (row + 1) % actors }) (record { 0 = 1 + (row + (actors - 1)) % actors }) steps;
   start = true;
 }
 
 unfoldable pub deployed_of_seed : ℕ → ℕ → ℕ → Deployed
-deployed_of_seed seed actors steps = deployed_with (rows (actor_of seed actors steps) actors)
+deployed_of_seed seed actors steps = deployed_with (rows (ring_actor seed actors steps) actors)

@@ -1,6 +1,6 @@
 //! The actors of a churn.
 ghost use Rattle.std.specs.Prelude.{◌≡◌, ◌<◌, ◌≤◌, ◌^◌, IfOk};
-ghost use Rattle.sg_churn.specs.Generated.{actor_of, deployed_of_seed, platform_of_seed, rows};
+ghost use Rattle.sg_churn.specs.Generated.{ring_actor, deployed_of_seed, platform_of_seed, rows};
 ghost use Rattle.sg_rows.specs.Deployment.{IsDeployedOn};
 
 use crate::names::row_name;
@@ -17,7 +17,7 @@ fn actor_row(
 ) -> Result<ActorRow, Memory>
     requires row { row < actors }
     requires few { actors ≤ 4096 }
-    ensures { IfOk result (λ actor. actor ≡ actor_of seed actors steps row) }
+    ensures { IfOk result (λ actor. actor ≡ ring_actor seed actors steps row) }
 {
     Ok(ActorRow {
         name: row_name(alloc, "a", row)?,
@@ -34,7 +34,7 @@ fn actor_row(
 
 fn actor_rows(alloc: Global, seed: u64, actors: u32, steps: u32) -> Result<Vec<ActorRow>, Memory>
     requires { actors ≤ 4096 }
-    ensures { IfOk result (λ made. made.items ≡ rows (actor_of seed actors steps) actors) }
+    ensures { IfOk result (λ made. made.items ≡ rows (ring_actor seed actors steps) actors) }
 {
     let mut made = Vec::new(alloc);
     for row in 0..actors {

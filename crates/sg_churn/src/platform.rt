@@ -1,6 +1,6 @@
 //! The platform of a churn.
-ghost use Rattle.std.specs.Prelude.{◌≡◌, ◌<◌, ◌≤◌, ◌^◌, ◌∷◌, [], codes, IfOk};
-ghost use Rattle.sg_churn.specs.Generated.{backbone, host_of, host_with, link_of, link_with, name_of, platform_of_seed, rows, spoke_of, star};
+ghost use Rattle.std.specs.Prelude.{◌≡◌, ◌<◌, ◌≤◌, ◌^◌, ◌∷◌, [], None, codes, IfOk};
+ghost use Rattle.sg_churn.specs.Generated.{backbone, host_of, link_of, link_with, name_of, platform_of_seed, rows, spoke_of, star};
 
 use crate::names::row_name;
 use sg_actor::draw;
@@ -37,7 +37,13 @@ fn backbone(alloc: Global) -> Result<LinkRow, Memory>
 
 fn host_row(alloc: Global, row: u32, speed: u64) -> Result<HostRow, Memory>
     requires { row < 4096 }
-    ensures { IfOk result (λ host. host ≡ host_with row speed) }
+    ensures { IfOk result (λ host. host ≡ record {
+      id = name_of (codes "h") row;
+      zone = record { 0 = 0 };
+      speed = speed;
+      cores = 1;
+      power = None;
+    }) }
 {
     Ok(HostRow {
         id: row_name(alloc, "h", row)?,
