@@ -8,7 +8,7 @@ use Rattle.sg_route.specs.declared.router.RouteFault.{RouteFault}
 use Rattle.sg_route.specs.declared.router.RouteFault.TheVariants.{TooLong}
 use Rattle.sg_route.specs.Roads.{Roads}
 use Rattle.sg_route.specs.Route.{Way, whole_way, route_of, route_or_fault, latency_of, LeavesRoute}
-use Rattle.sg_route.specs.Firsts.{is_among, firsts}
+use Rattle.sg_route.specs.DistinctLinks.{is_among, distinct_links}
 
 -- no link stands twice
 abbrev pub AreOnce : List LinkId → Type 0
@@ -32,16 +32,16 @@ among_last x (s ∷ seen) = go (s.0 == x.0) (among_last x seen)
     go false h = h
 
 -- what was seen does not come again
-not_again : (y : LinkId) (seen xs : List LinkId) → is_among y seen ≡ true → is_among y (firsts seen xs) ≡ false
+not_again : (y : LinkId) (seen xs : List LinkId) → is_among y seen ≡ true → is_among y (distinct_links seen xs) ≡ false
 not_again y seen [] h = refl
 not_again y seen (x ∷ xs) h = go (is_among x seen) refl (not_again y seen xs h) (not_again y (seen ++ x ∷ []) xs (among_more y x seen h))
   where
-    go : (b : Bool) → is_among x seen ≡ b → is_among y (firsts seen xs) ≡ false → is_among y (firsts (seen ++ x ∷ []) xs) ≡ false
-        → is_among y (cond b (firsts seen xs) (x ∷ firsts (seen ++ x ∷ []) xs)) ≡ false
+    go : (b : Bool) → is_among x seen ≡ b → is_among y (distinct_links seen xs) ≡ false → is_among y (distinct_links (seen ++ x ∷ []) xs) ≡ false
+        → is_among y (cond b (distinct_links seen xs) (x ∷ distinct_links (seen ++ x ∷ []) xs)) ≡ false
     go true e f g = f
     go false e f g = other (x.0 == y.0) refl
       where
-        other : (t : Bool) → (x.0 == y.0) ≡ t → (t || is_among y (firsts (seen ++ x ∷ []) xs)) ≡ false
+        other : (t : Bool) → (x.0 == y.0) ≡ t → (t || is_among y (distinct_links (seen ++ x ∷ []) xs)) ≡ false
         other true q =
             let n : x.0 ≡ y.0 = grind (arith, nat_tests) in
             let make : ℕ → LinkId = λ k. record { 0 = k } in
@@ -50,11 +50,11 @@ not_again y seen (x ∷ xs) h = go (is_among x seen) refl (not_again y seen xs h
             absurd (cc)
         other false q = g
 
-pub firsts_once : (seen xs : List LinkId) → AreOnce (firsts seen xs)
+pub firsts_once : (seen xs : List LinkId) → AreOnce (distinct_links seen xs)
 firsts_once seen [] = tt
 firsts_once seen (x ∷ xs) = go (is_among x seen) (firsts_once seen xs) (firsts_once (seen ++ x ∷ []) xs)
   where
-    go : (b : Bool) → AreOnce (firsts seen xs) → AreOnce (firsts (seen ++ x ∷ []) xs) → AreOnce (cond b (firsts seen xs) (x ∷ firsts (seen ++ x ∷ []) xs))
+    go : (b : Bool) → AreOnce (distinct_links seen xs) → AreOnce (distinct_links (seen ++ x ∷ []) xs) → AreOnce (cond b (distinct_links seen xs) (x ∷ distinct_links (seen ++ x ∷ []) xs))
     go true f g = f
     go false f g = (not_again x (seen ++ x ∷ []) xs (among_last x seen), g)
 
@@ -82,9 +82,9 @@ pairs_apart (x ∷ rest) once (suc i) (suc j) d less few = pairs_apart rest once
 
 once_of : (m : Roads) (w : Way) (result : Result ℕ RouteFault) (links : List LinkId) → LeavesRoute (route_or_fault m w) result links → AreOnce links
 once_of m (Err missing) result links h = let P : List LinkId → Type 0 = AreOnce in subst P (sym h.1) tt
-once_of m (Ok all) result links h = go (nat_lt 64 (length (firsts [] all))) h
+once_of m (Ok all) result links h = go (nat_lt 64 (length (distinct_links [] all))) h
   where
-    go : (t : Bool) → LeavesRoute (cond t (Err TooLong) (Ok (record { links = firsts [] all; latency = sum_by (latency_of m) (firsts [] all) }))) result links → AreOnce links
+    go : (t : Bool) → LeavesRoute (cond t (Err TooLong) (Ok (record { links = distinct_links [] all; latency = sum_by (latency_of m) (distinct_links [] all) }))) result links → AreOnce links
     go true h = let P : List LinkId → Type 0 = AreOnce in subst P (sym h.1) tt
     go false h = let P : List LinkId → Type 0 = AreOnce in subst P (sym h.1) (firsts_once [] all)
 

@@ -4,7 +4,7 @@ use Rattle.std.proofs.lemmas.List.{append-nil}
 use Rattle.std.proofs.lemmas.Bool.Decides.{nat_tests}
 use Rattle.std.specs.Prelude.{nat_lt, ◌==◌}
 use Rattle.sg_base.specs.declared.ids.LinkId.{LinkId}
-use Rattle.sg_route.specs.Firsts.{is_among, firsts}
+use Rattle.sg_route.specs.DistinctLinks.{is_among, distinct_links}
 use Rattle.sg_route.specs.kept.Kept.{Kept, keep_one, keep_all}
 
 -- links in two parts
@@ -23,8 +23,8 @@ keep_all-over kept (x ∷ xs) over = keep_all-over (keep_one kept x) xs (go (is_
     go false false = over
 
 pub record IsKept (seen rest : List LinkId) (kept : Kept) : Type 0 where
-  pub over : kept.over ≡ nat_lt 64 (length (seen ++ firsts seen rest))
-  pub links : kept.over ≡ false → kept.links ≡ seen ++ firsts seen rest
+  pub over : kept.over ≡ nat_lt 64 (length (seen ++ distinct_links seen rest))
+  pub links : kept.over ≡ false → kept.links ≡ seen ++ distinct_links seen rest
 
 -- at most 64 links are kept, the first places of those that came
 pub keep_all_is : (seen rest : List LinkId) → length seen ≤ 64 → IsKept seen rest (keep_all (record { links = seen; over = false }) rest)
@@ -40,7 +40,7 @@ keep_all_is seen (x ∷ rest) few =
     kept_with : (b full : Bool) → full ≡ (length seen == 64) → IsKept seen rest (keep_all (record { links = seen; over = false }) rest)
         → (length (seen ++ x ∷ []) ≤ 64 → IsKept (seen ++ x ∷ []) rest (keep_all (record { links = seen ++ x ∷ []; over = false }) rest))
         → (let kept : Kept = keep_all (cond b (record { links = seen; over = false }) (cond full (record { links = seen; over = true }) (record { links = seen ++ x ∷ []; over = false }))) rest in
-        let all : List LinkId = cond b (firsts seen rest) (x ∷ firsts (seen ++ x ∷ []) rest) in
+        let all : List LinkId = cond b (distinct_links seen rest) (x ∷ distinct_links (seen ++ x ∷ []) rest) in
         (kept.over ≡ nat_lt 64 (length (seen ++ all))) × (kept.over ≡ false → kept.links ≡ seen ++ all))
     kept_with true full e there more = (there.over, there.links)
     kept_with false true e there more =
@@ -48,5 +48,5 @@ keep_all_is seen (x ∷ rest) few =
         (o ∙ rw length-append (grind (arith, nat_tests)), λ none. absurd (cc))
     kept_with false false e there more =
         let m = more (rw length-append (grind (arith, nat_tests))) in
-        let a = append_assoc seen (x ∷ []) (firsts (seen ++ x ∷ []) rest) in
+        let a = append_assoc seen (x ∷ []) (distinct_links (seen ++ x ∷ []) rest) in
         (m.over ∙ ap (λ xs. nat_lt 64 (length xs)) a, λ none. m.links none ∙ a)

@@ -10,7 +10,7 @@ use Rattle.sg_rows.specs.declared.ends.LinkEnd.{LinkEnd}
 use Rattle.sg_rows.specs.declared.rows.LinkRow.{LinkRow}
 use Rattle.sg_rows.specs.declared.rows.Policy.{Policy}
 use Rattle.sg_rows.specs.declared.rows.Policy.TheVariants.{Shared, Fatpipe, SplitDuplex}
-use Rattle.sg_route.specs.Firsts.{firsts}
+use Rattle.sg_route.specs.DistinctLinks.{distinct_links}
 use Rattle.sg_route.specs.Roads.{Roads, roads_of}
 use Rattle.sg_route.specs.Route.{Route, Way, route_or_fault, latency_of, route_of, whole_way}
 use Rattle.sg_route.specs.declared.router.RouteFault.TheVariants.{TooLong}
@@ -55,17 +55,17 @@ pub record IsQuick (r : Route) : Type 0 where
 
 judged_quick : (m : Roads) (w : Way) (r : Route) → ((link : LinkId) → latency_of m link ≤ 1000000000000000) → route_or_fault m w ≡ Ok r → IsQuick r
 judged_quick m (Err e) r h is = absurd (cc)
-judged_quick m (Ok links) r h is = go (nat_lt 64 (length (firsts [] links))) refl is
+judged_quick m (Ok links) r h is = go (nat_lt 64 (length (distinct_links [] links))) refl is
   where
-    go : (t : Bool) → nat_lt 64 (length (firsts [] links)) ≡ t
-        → cond t (Err TooLong) (Ok (record { links = firsts [] links; latency = sum_by (latency_of m) (firsts [] links) })) ≡ Ok r → IsQuick r
+    go : (t : Bool) → nat_lt 64 (length (distinct_links [] links)) ≡ t
+        → cond t (Err TooLong) (Ok (record { links = distinct_links [] links; latency = sum_by (latency_of m) (distinct_links [] links) })) ≡ Ok r → IsQuick r
     go true e f = absurd (cc)
     go false e f =
-        let same : firsts [] links ≡ r.links = cc in
-        let sum : sum_by (latency_of m) (firsts [] links) ≡ r.latency = cc in
-        let few : length (firsts [] links) ≤ 64 = grind (arith, nat_tests) in
-        let most = sum_quick (latency_of m) (firsts [] links) h in
-        let n : length (firsts [] links) ≡ length r.links = ap length same in
+        let same : distinct_links [] links ≡ r.links = cc in
+        let sum : sum_by (latency_of m) (distinct_links [] links) ≡ r.latency = cc in
+        let few : length (distinct_links [] links) ≤ 64 = grind (arith, nat_tests) in
+        let most = sum_quick (latency_of m) (distinct_links [] links) h in
+        let n : length (distinct_links [] links) ≡ length r.links = ap length same in
         record { few = omega (arith, few, n); latency = omega (arith, few, most, sum) }
 
 pub route_quick : (p : Platform) → IsPlatform p → (a b : PointId) (r : Route) → route_of (roads_of p) a b ≡ Ok r → IsQuick r

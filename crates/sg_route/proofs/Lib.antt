@@ -4,6 +4,7 @@ pub mod LegLemmas
 pub mod WalkLemmas
 pub mod RouteLemmas
 pub mod MadeLemmas
+pub mod Passages
 pub mod FirstsLemmas
 pub mod EndsLemmas
 pub mod Each

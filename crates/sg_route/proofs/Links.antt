@@ -14,15 +14,16 @@ use Rattle.sg_rows.specs.declared.rows.Routing.TheVariants.{Full, Star, Dijkstra
 use Rattle.sg_rows.specs.declared.rows.SpokeRow.{SpokeRow}
 use Rattle.sg_rows.specs.declared.rows.ZoneRouteRow.{ZoneRouteRow}
 use Rattle.sg_route.specs.Equal.{child_eq, pair_eq}
-use Rattle.sg_route.specs.Firsts.{firsts, is_among}
+use Rattle.sg_route.specs.DistinctLinks.{distinct_links, is_among}
 use Rattle.sg_route.specs.Local.{row_locals, declared_route, route_local, routes_declared, spoke_at, zone_route_local, zone_routes_declared}
 use Rattle.sg_paths.proofs.LeastLemmas.{least_found}
 use Rattle.sg_paths.specs.Least.{least_path}
 use Rattle.sg_paths.specs.Path.{IsPath, links_of}
 use Rattle.sg_paths.specs.declared.route.PathRoute.{PathRoute}
 use Rattle.sg_route.specs.Roads.{Roads, roads_of}
-use Rattle.sg_route.specs.Steps.{local_steps, steps_between, steps_of}
-use Rattle.sg_route.specs.Route.{Passage, Route, Way, by_declared, by_passage, by_path, by_spokes, way_over, latency_of, leg, route_or_fault, or_loopback, passage, passage_on, route_of, to_itself, unless_there, way, whole_way}
+use Rattle.sg_route.specs.PathRoutes.{path_routes_between, path_routes}
+use Rattle.sg_route.specs.Route.{Passage, Route, Way, by_path, by_spokes, way_over, latency_of, leg, route_or_fault, passage, passage_on, route_of, to_itself, unless_there, way, whole_way}
+use Rattle.sg_route.proofs.Passages.{by_declared, by_passage, or_loopback}
 use Rattle.sg_route.specs.declared.leg.Leg.{Leg}
 use Rattle.sg_route.specs.declared.locals.Local.{Local}
 use Rattle.sg_route.specs.declared.locals.Pair.{Pair}
@@ -95,13 +96,13 @@ star_links p kept from to (Some a) (Some b) w found other is =
     subst P e (record { some = omega arith; each = each_append (Exists p) a.up b.down r.up.each s.down.each })
 
 -- each step of a path has links that exist
-steps_links : (p : Platform) → IsPlatform p → Each (λ (r : PathRoute). Good p r.links) (steps_of (tree_of p) (roads_of p).locals)
+steps_links : (p : Platform) → IsPlatform p → Each (λ (r : PathRoute). Good p r.links) (path_routes (tree_of p) (roads_of p).locals)
 steps_links p kept =
     let G : PathRoute → Type 0 = λ r. Good p r.links in
     let L : Local → Type 0 = λ l. Good p l.links in
-    each_flat G L (local_steps (tree_of p)) (roads_of p).locals (λ l good. one l.pair.from l.pair.to l.links good) (locals_links p kept)
+    each_flat G L (λ l. path_routes_between (tree_of p) l.pair.from l.pair.to l.links) (roads_of p).locals (λ l good. one l.pair.from l.pair.to l.links good) (locals_links p kept)
   where
-    one : (from to : Child) (links : List LinkId) → Good p links → Each (λ (r : PathRoute). Good p r.links) (steps_between (tree_of p) from to links)
+    one : (from to : Child) (links : List LinkId) → Good p links → Each (λ (r : PathRoute). Good p r.links) (path_routes_between (tree_of p) from to links)
     one (Zone a) to links good = tt
     one (Point a) (Zone b) links good = tt
     one (Point a) (Point b) links good = go (is_dijkstra (routing_in (tree_of p) (home (tree_of p) a)))
@@ -124,19 +125,19 @@ some_links p steps from to (route ∷ path) each is apart =
     let some = good.some in
     omega (arith, length-append route.links (links_of path))
 
-path_links : (p : Platform) → IsPlatform p → (from to : Child) (w : Passage) → by_path (steps_of (tree_of p) (roads_of p).locals) from to ≡ Some w → Good p w.links
+path_links : (p : Platform) → IsPlatform p → (from to : Child) (w : Passage) → by_path (path_routes (tree_of p) (roads_of p).locals) from to ≡ Some w → Good p w.links
 path_links p kept (Zone x) to w is = absurd (cc)
 path_links p kept (Point a) (Zone x) w is = absurd (cc)
-path_links p kept (Point a) (Point b) w is = go (a.0 == b.0) refl (least_path (steps_of (tree_of p) (roads_of p).locals) a.0 b.0) refl is
+path_links p kept (Point a) (Point b) w is = go (a.0 == b.0) refl (least_path (path_routes (tree_of p) (roads_of p).locals) a.0 b.0) refl is
   where
-    go : (t : Bool) → (a.0 == b.0) ≡ t → (o : Option (List LinkId)) → least_path (steps_of (tree_of p) (roads_of p).locals) a.0 b.0 ≡ o
+    go : (t : Bool) → (a.0 == b.0) ≡ t → (o : Option (List LinkId)) → least_path (path_routes (tree_of p) (roads_of p).locals) a.0 b.0 ≡ o
         → cond t None (option_map (λ links. record { start = a; end = b; links = links }) o) ≡ Some w → Good p w.links
     go true e o f h = absurd (cc)
     go false e None f h = absurd (cc)
     go false e (Some links) f h =
         let apart : a.0 ≢ b.0 = grind (arith, nat_tests) in
         let same : links ≡ w.links = cc in
-        let steps = steps_of (tree_of p) (roads_of p).locals in
+        let steps = path_routes (tree_of p) (roads_of p).locals in
         let r = (least_found steps a.0 b.0 links f).reached in
         let each = steps_links p kept in
         let G : List LinkId → Type 0 = Good p in
@@ -221,26 +222,26 @@ whole_good p kept a b = go (a.0 == b.0)
 
 -- ---- first places
 
-firsts_exist : (p : Platform) (seen xs : List LinkId) → Each (Exists p) xs → Each (Exists p) (firsts seen xs)
+firsts_exist : (p : Platform) (seen xs : List LinkId) → Each (Exists p) xs → Each (Exists p) (distinct_links seen xs)
 firsts_exist p seen [] h = tt
 firsts_exist p seen (x ∷ xs) h = go (is_among x seen) (firsts_exist p seen xs h.1) (firsts_exist p (seen ++ x ∷ []) xs h.1)
   where
-    go : (t : Bool) → Each (Exists p) (firsts seen xs) → Each (Exists p) (firsts (seen ++ x ∷ []) xs) → Each (Exists p) (cond t (firsts seen xs) (x ∷ firsts (seen ++ x ∷ []) xs))
+    go : (t : Bool) → Each (Exists p) (distinct_links seen xs) → Each (Exists p) (distinct_links (seen ++ x ∷ []) xs) → Each (Exists p) (cond t (distinct_links seen xs) (x ∷ distinct_links (seen ++ x ∷ []) xs))
     go true f g = f
     go false f g = (h.0, g)
 
-firsts_some : (xs : List LinkId) → 0 < length xs → 0 < length (firsts [] xs)
+firsts_some : (xs : List LinkId) → 0 < length xs → 0 < length (distinct_links [] xs)
 firsts_some [] some = absurd (omega arith)
 firsts_some (x ∷ xs) some = omega arith
 
 judged_good : (p : Platform) (m : Roads) (w : Way) (r : Route) → WayGood p w → route_or_fault m w ≡ Ok r → Good p r.links
 judged_good p m (Err e) r g is = absurd (cc)
-judged_good p m (Ok links) r g is = go (nat_lt 64 (length (firsts [] links))) is
+judged_good p m (Ok links) r g is = go (nat_lt 64 (length (distinct_links [] links))) is
   where
-    go : (t : Bool) → cond t (Err TooLong) (Ok (record { links = firsts [] links; latency = sum_by (latency_of m) (firsts [] links) })) ≡ Ok r → Good p r.links
+    go : (t : Bool) → cond t (Err TooLong) (Ok (record { links = distinct_links [] links; latency = sum_by (latency_of m) (distinct_links [] links) })) ≡ Ok r → Good p r.links
     go true e = absurd (cc)
     go false e =
-        let same : firsts [] links ≡ r.links = cc in
+        let same : distinct_links [] links ≡ r.links = cc in
         let P : List LinkId → Type 0 = Good p in
         subst P same (record { some = firsts_some links g.some; each = firsts_exist p [] links g.each })
 

@@ -16,11 +16,12 @@ use Rattle.sg_rows.specs.declared.rows.Routing.TheVariants.{Dijkstra}
 use Rattle.sg_route.specs.declared.leg.Leg.{Leg}
 use Rattle.sg_route.specs.declared.router.RouteFault.{RouteFault}
 use Rattle.sg_route.specs.declared.router.RouteFault.TheVariants.{NoRoute, TooLong}
-use Rattle.sg_route.specs.Firsts.{firsts}
+use Rattle.sg_route.specs.DistinctLinks.{distinct_links}
 use Rattle.sg_route.specs.Made.{HasNoneFrom, IsJoined, IsLeastThere, IsMadeOf, IsReached, IsWithoutPath, LeavesMade, UnlessThere}
 use Rattle.sg_route.specs.Roads.{Roads}
-use Rattle.sg_route.specs.Route.{LeavesRoute, Passage, Route, Way, by_passage, by_path, latency_of, leg, passage, passage_on, route_of, route_or_fault, unless_there, way, way_over, whole_way}
-use Rattle.sg_route.specs.Steps.{steps_of}
+use Rattle.sg_route.specs.Route.{LeavesRoute, Passage, Route, Way, by_path, latency_of, leg, passage, passage_on, route_of, route_or_fault, unless_there, way, way_over, whole_way}
+use Rattle.sg_route.proofs.Passages.{by_passage}
+use Rattle.sg_route.specs.PathRoutes.{path_routes}
 use Rattle.sg_route.proofs.LegLemmas.{from_point, to_point}
 use Rattle.sg_route.proofs.RouteLemmas.{whole_elsewhere, whole_there}
 use Rattle.sg_route.proofs.WalkLemmas.{elsewhere}
@@ -48,11 +49,11 @@ found_path steps (Point a) (Point b) own is = go (a.0 == b.0) (least_path steps 
         let P : Passage → Type 0 = IsFoundPath steps (Point a) (Point b) in
         subst P same (record { from = refl; to = refl; least = least_found steps a.0 b.0 links e })
 
-by_paths : (m : Roads) (l : Leg) → routing_in m.tree l.zone ≡ Dijkstra → passage_on m l ≡ by_path (steps_of m.tree m.locals) l.from l.to
+by_paths : (m : Roads) (l : Leg) → routing_in m.tree l.zone ≡ Dijkstra → passage_on m l ≡ by_path (path_routes m.tree m.locals) l.from l.to
 by_paths m l dijkstra = ap (λ (r : Routing). passage m r l.from l.to) dijkstra
 
-in_dijkstra : (m : Roads) (l : Leg) (own : Passage) → passage_on m l ≡ Some own → routing_in m.tree l.zone ≡ Dijkstra → IsFoundPath (steps_of m.tree m.locals) l.from l.to own
-in_dijkstra m l own is dijkstra = found_path (steps_of m.tree m.locals) l.from l.to own (sym (by_paths m l dijkstra) ∙ is)
+in_dijkstra : (m : Roads) (l : Leg) (own : Passage) → passage_on m l ≡ Some own → routing_in m.tree l.zone ≡ Dijkstra → IsFoundPath (path_routes m.tree m.locals) l.from l.to own
+in_dijkstra m l own is dijkstra = found_path (path_routes m.tree m.locals) l.from l.to own (sym (by_paths m l dijkstra) ∙ is)
 
 -- all local routes have something
 abbrev AllHave : (Leg → Passage → Type 0) → Roads → Type 0
@@ -120,12 +121,12 @@ judged_made : (has : Leg → Passage → Type 0) (m : Roads) (a b : PointId) (w 
 judged_made has m a b (Err missing) result links made h =
     let P : Result ℕ RouteFault → Type 0 = λ r. LeavesMade has m a b r links in
     subst P (sym h.0) tt
-judged_made has m a b (Ok all) result links made h = go (nat_lt 64 (length (firsts [] all))) refl h
+judged_made has m a b (Ok all) result links made h = go (nat_lt 64 (length (distinct_links [] all))) refl h
   where
-    go : (t : Bool) → nat_lt 64 (length (firsts [] all)) ≡ t
-        → LeavesRoute (cond t (Err TooLong) (Ok (record { links = firsts [] all; latency = sum_by (latency_of m) (firsts [] all) }))) result links → LeavesMade has m a b result links
+    go : (t : Bool) → nat_lt 64 (length (distinct_links [] all)) ≡ t
+        → LeavesRoute (cond t (Err TooLong) (Ok (record { links = distinct_links [] all; latency = sum_by (latency_of m) (distinct_links [] all) }))) result links → LeavesMade has m a b result links
     go true e h =
-        let more : 64 < length (firsts [] all) = grind (arith, nat_tests) in
+        let more : 64 < length (distinct_links [] all) = grind (arith, nat_tests) in
         let P : Result ℕ RouteFault → Type 0 = λ r. LeavesMade has m a b r links in
         subst P (sym h.0) (all, made all refl, more)
     go false e h = let P : Result ℕ RouteFault → Type 0 = λ r. LeavesMade has m a b r links in subst P (sym h.0) (all, made all refl, h.1)
@@ -183,15 +184,15 @@ way_missing zero m a b missing far is = absurd (cc)
 way_missing (suc levels) m a b missing far is =
     step_missing (way levels m) m a b (passage_on m (leg m a b)) missing far (λ x y apart h. way_missing levels m x y missing apart h) refl is
 
-none_between : (m : Roads) (f t : Child) → ((x y : PointId) → f ≡ Point x → t ≡ Point y → x.0 ≢ y.0) → by_path (steps_of m.tree m.locals) f t ≡ None → HasNoneFrom m f t
+none_between : (m : Roads) (f t : Child) → ((x y : PointId) → f ≡ Point x → t ≡ Point y → x.0 ≢ y.0) → by_path (path_routes m.tree m.locals) f t ≡ None → HasNoneFrom m f t
 none_between m (Zone x) t apart is = tt
 none_between m (Point x) (Zone y) apart is = tt
-none_between m (Point x) (Point y) apart is = go (x.0 == y.0) refl (least_path (steps_of m.tree m.locals) x.0 y.0) refl is
+none_between m (Point x) (Point y) apart is = go (x.0 == y.0) refl (least_path (path_routes m.tree m.locals) x.0 y.0) refl is
   where
-    go : (t : Bool) → (x.0 == y.0) ≡ t → (o : Option (List LinkId)) → least_path (steps_of m.tree m.locals) x.0 y.0 ≡ o
-        → cond {A = Option Passage} t None (option_map (λ links. record { start = x; end = y; links = links }) o) ≡ None → HasNoPath (steps_of m.tree m.locals) x.0 y.0
+    go : (t : Bool) → (x.0 == y.0) ≡ t → (o : Option (List LinkId)) → least_path (path_routes m.tree m.locals) x.0 y.0 ≡ o
+        → cond {A = Option Passage} t None (option_map (λ links. record { start = x; end = y; links = links }) o) ≡ None → HasNoPath (path_routes m.tree m.locals) x.0 y.0
     go true e o f h = let same : x.0 ≡ y.0 = grind (arith, nat_tests) in absurd (apart x y refl refl same)
-    go false e None f h = none_found (steps_of m.tree m.locals) x.0 y.0 f
+    go false e None f h = none_found (path_routes m.tree m.locals) x.0 y.0 f
     go false e (Some links) f h = absurd (cc)
 
 missing_none : (m : Roads) (missing : Leg) → IsMissing m missing → routing_in m.tree missing.zone ≡ Dijkstra → HasNoneFrom m missing.from missing.to
@@ -202,7 +203,7 @@ missing_none m missing is dijkstra =
     let l : Leg = leg m is.a is.b in
     let Q : Leg → Type 0 = λ k. routing_in m.tree k.zone ≡ Dijkstra in
     let P : Leg → Type 0 = λ k. HasNoneFrom m k.from k.to in
-    let none : by_path (steps_of m.tree m.locals) l.from l.to ≡ None = sym (by_paths m l (subst Q (sym is.same) dijkstra)) ∙ is.none in
+    let none : by_path (path_routes m.tree m.locals) l.from l.to ≡ None = sym (by_paths m l (subst Q (sym is.same) dijkstra)) ∙ is.none in
     subst P is.same
     (none_between m l.from l.to (λ x y f t same. is.far (ap (λ p. p.0) (from_point za is.a is.b us vs x f) ∙ same ∙ sym (ap (λ p. p.0) (to_point za is.a is.b us vs y t)))) none)
 
@@ -211,9 +212,9 @@ judged_none : (m : Roads) (w : Way) (result : Result ℕ RouteFault) (links : Li
 judged_none m (Err missing) result links is h =
     let P : Result ℕ RouteFault → Type 0 = λ r. IfErr r (IsWithoutPath m) in
     subst P (sym h.0) (λ dijkstra. missing_none m missing (is missing refl) dijkstra)
-judged_none m (Ok all) result links is h = go (nat_lt 64 (length (firsts [] all))) h
+judged_none m (Ok all) result links is h = go (nat_lt 64 (length (distinct_links [] all))) h
   where
-    go : (t : Bool) → LeavesRoute (cond t (Err TooLong) (Ok (record { links = firsts [] all; latency = sum_by (latency_of m) (firsts [] all) }))) result links → IfErr result (IsWithoutPath m)
+    go : (t : Bool) → LeavesRoute (cond t (Err TooLong) (Ok (record { links = distinct_links [] all; latency = sum_by (latency_of m) (distinct_links [] all) }))) result links → IfErr result (IsWithoutPath m)
     go true h = let P : Result ℕ RouteFault → Type 0 = λ r. IfErr r (IsWithoutPath m) in subst P (sym h.0) tt
     go false h = let P : Result ℕ RouteFault → Type 0 = λ r. IfErr r (IsWithoutPath m) in subst P (sym h.0) tt
 

@@ -10,7 +10,7 @@ use Rattle.sg_route.specs.declared.router.RouteFault.TheVariants.{NoRoute, TooLo
 use Rattle.sg_route.specs.Roads.{Roads}
 use Rattle.sg_zones.specs.Tree.{home, routing_in}
 use Rattle.sg_route.specs.Route.{Way, Route, to_itself, unless_there, way, whole_way, route_of, route_or_fault, latency_of, LeavesRoute}
-use Rattle.sg_route.specs.Firsts.{firsts}
+use Rattle.sg_route.specs.DistinctLinks.{distinct_links}
 use Rattle.sg_route.specs.kept.Kept.{Kept, keep_all, KeepsWay}
 use Rattle.sg_route.proofs.KeptLemmas.{IsKept, keep_all_is}
 use Rattle.sg_route.proofs.WalkLemmas.{elsewhere}
@@ -38,10 +38,10 @@ judged_missing m (Err missing) leg old new h =
 
 judged_ok : (m : Roads) (links : List LinkId) (kept : Kept) → IsKept [] links kept
     → ((kept.over ≡ true → LeavesRoute (route_or_fault m (Ok links)) (Err TooLong) []) × (kept.over ≡ false → LeavesRoute (route_or_fault m (Ok links)) (Ok (sum_by (latency_of m) kept.links)) kept.links))
-judged_ok m links kept is = go (nat_lt 64 (length (firsts [] links))) is.over is.links
+judged_ok m links kept is = go (nat_lt 64 (length (distinct_links [] links))) is.over is.links
   where
-    go : (t : Bool) → kept.over ≡ t → (kept.over ≡ false → kept.links ≡ firsts [] links)
-        → (let r : Result Route RouteFault = cond t (Err TooLong) (Ok (record { links = firsts [] links; latency = sum_by (latency_of m) (firsts [] links) })) in
+    go : (t : Bool) → kept.over ≡ t → (kept.over ≡ false → kept.links ≡ distinct_links [] links)
+        → (let r : Result Route RouteFault = cond t (Err TooLong) (Ok (record { links = distinct_links [] links; latency = sum_by (latency_of m) (distinct_links [] links) })) in
         (kept.over ≡ true → LeavesRoute r (Err TooLong) []) × (kept.over ≡ false → LeavesRoute r (Ok (sum_by (latency_of m) kept.links)) kept.links))
     go true e h = ((λ o. (refl, refl)), (λ o. absurd (cc)))
     go false e h = ((λ o. absurd (cc)), (λ o. (ap (λ xs. Ok (sum_by (latency_of m) xs)) (h o), h o)))

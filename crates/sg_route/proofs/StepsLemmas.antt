@@ -15,7 +15,7 @@ use Rattle.sg_rows.specs.declared.rows.RouterRow.{RouterRow}
 use Rattle.sg_rows.specs.declared.rows.ZoneRouteRow.{ZoneRouteRow}
 use Rattle.sg_route.specs.Local.{row_locals, route_local, routes_declared, zone_route_local, zone_routes_declared}
 use Rattle.sg_route.specs.Roads.{roads_of}
-use Rattle.sg_route.specs.Steps.{local_steps, steps_between, steps_of}
+use Rattle.sg_route.specs.PathRoutes.{path_routes_between, path_routes}
 use Rattle.sg_route.specs.declared.locals.Local.{Local}
 use Rattle.sg_route.specs.declared.locals.Pair.{Pair}
 use Rattle.sg_route.proofs.Each.{each_all, each_flat, each_from}
@@ -46,11 +46,11 @@ locals_join p kept =
 abbrev pub IsWithin : Platform → PathRoute → Type 0
 IsWithin p r = (r.from < (counts_of p).points) × (r.to < (counts_of p).points)
 
-pub steps_join : (p : Platform) → IsPlatform p → Each (IsWithin p) (steps_of (tree_of p) (roads_of p).locals)
+pub steps_join : (p : Platform) → IsPlatform p → Each (IsWithin p) (path_routes (tree_of p) (roads_of p).locals)
 steps_join p kept =
-    each_flat (IsWithin p) (λ l. Joins p l.pair) (local_steps (tree_of p)) (roads_of p).locals (λ l joins. one l.pair.from l.pair.to l.links joins.from joins.to) (locals_join p kept)
+    each_flat (IsWithin p) (λ l. Joins p l.pair) (λ l. path_routes_between (tree_of p) l.pair.from l.pair.to l.links) (roads_of p).locals (λ l joins. one l.pair.from l.pair.to l.links joins.from joins.to) (locals_join p kept)
   where
-    one : (from to : Child) (links : List LinkId) → IsChild (counts_of p) from → IsChild (counts_of p) to → Each (IsWithin p) (steps_between (tree_of p) from to links)
+    one : (from to : Child) (links : List LinkId) → IsChild (counts_of p) from → IsChild (counts_of p) to → Each (IsWithin p) (path_routes_between (tree_of p) from to links)
     one (Zone a) to links f t = tt
     one (Point a) (Zone b) links f t = tt
     one (Point a) (Point b) links f t = go (is_dijkstra (routing_in (tree_of p) (home (tree_of p) a)))
@@ -59,8 +59,8 @@ steps_join p kept =
         go true = ((f, t), tt)
         go false = tt
 
-pub steps_within : (p : Platform) → IsPlatform p → All (λ r. (r.from < (counts_of p).points) × (r.to < (counts_of p).points)) (steps_of (tree_of p) (roads_of p).locals)
-steps_within p kept = each_all (IsWithin p) (steps_of (tree_of p) (roads_of p).locals) (steps_join p kept)
+pub steps_within : (p : Platform) → IsPlatform p → All (λ r. (r.from < (counts_of p).points) × (r.to < (counts_of p).points)) (path_routes (tree_of p) (roads_of p).locals)
+steps_within p kept = each_all (IsWithin p) (path_routes (tree_of p) (roads_of p).locals) (steps_join p kept)
 
 -- the points are the hosts and the routers
 pub points_count : (p : Platform) → length (tree_of p).homes ≡ length p.hosts + length p.routers

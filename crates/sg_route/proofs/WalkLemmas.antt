@@ -14,8 +14,9 @@ use Rattle.sg_paths.proofs.LeastLemmas.{least_path_is, no_least_path}
 use Rattle.sg_paths.specs.Least.{least_path}
 use Rattle.sg_paths.specs.Path.{HasNoPath, IsLeastPath}
 use Rattle.sg_paths.specs.declared.route.PathRoute.{PathRoute}
-use Rattle.sg_route.specs.Route.{Way, Passage, by_path, leg, passage, passage_on, way_over, unless_there, by_passage, through_lowest, way}
-use Rattle.sg_route.specs.Steps.{steps_of}
+use Rattle.sg_route.specs.Route.{Way, Passage, by_path, leg, passage, passage_on, way_over, unless_there, through_lowest, way}
+use Rattle.sg_route.proofs.Passages.{by_passage}
+use Rattle.sg_route.specs.PathRoutes.{path_routes}
 use Rattle.sg_zones.specs.Tree.{home, path_in, routing_in}
 use Rattle.sg_route.specs.kept.Kept.{Kept, keep_all, path_way, KeepsWay}
 use Rattle.sg_route.proofs.KeptLemmas.{keep_all-append}
@@ -127,19 +128,19 @@ way_by_path w a b l steps (Point p) (Point q) from to = go (p.0 == q.0) (least_p
         direct w a b l passage (ap (λ x. x.0) (from p refl)) (ap (λ x. x.0) (sym (to q refl)))
 
 pub walked_path : (levels : ℕ) (m : Roads) (a b : PointId) (l : Leg) (steps : List PathRoute) (result : Result (Unit {0}) Leg) (old new : Kept) → a.0 ≢ b.0 → 0 < levels
-    → l ≡ leg m a b → routing_in m.tree l.zone ≡ Dijkstra → steps ≡ steps_of m.tree m.locals
+    → l ≡ leg m a b → routing_in m.tree l.zone ≡ Dijkstra → steps ≡ path_routes m.tree m.locals
     → KeepsWay (path_way l (by_path steps l.from l.to)) result old new
     → KeepsWay (unless_there (way levels m) a b) result old new
 walked_path levels m a b l steps result old new apart some is routing over keeps =
     let P : Way → Type 0 = λ x. KeepsWay x result old new in
     let Q : Leg → Type 0 = λ k. routing_in m.tree k.zone ≡ Dijkstra in
-    let R : Leg → Type 0 = λ k. KeepsWay (path_way k (by_path (steps_of m.tree m.locals) k.from k.to)) result old new in
+    let R : Leg → Type 0 = λ k. KeepsWay (path_way k (by_path (path_routes m.tree m.locals) k.from k.to)) result old new in
     let S : List PathRoute → Type 0 = λ s. KeepsWay (path_way l (by_path s l.from l.to)) result old new in
     let k : Leg = leg m a b in
-    let own : Child → Child → Option Passage = by_path (steps_of m.tree m.locals) in
+    let own : Child → Child → Option Passage = by_path (path_routes m.tree m.locals) in
     let found : passage_on m k ≡ own k.from k.to = ap (λ (r : Routing). passage m r k.from k.to) (subst Q is routing) in
     let za = home m.tree a in
-    let same = way_by_path (way (levels - 1) m) a b k (steps_of m.tree m.locals) k.from k.to
+    let same = way_by_path (way (levels - 1) m) a b k (path_routes m.tree m.locals) k.from k.to
     (λ q e. from_point za a b (path_in m.tree za) (path_in m.tree (home m.tree b)) q e)
     (λ q e. to_point za a b (path_in m.tree za) (path_in m.tree (home m.tree b)) q e) in
     subst P (sym (way_by levels m a b (own k.from k.to) apart some found ∙ same)) (subst R is (subst S over keeps))

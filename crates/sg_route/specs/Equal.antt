@@ -6,9 +6,8 @@ use Rattle.sg_route.specs.declared.locals.Pair.{Pair}
 
 abbrev pub child_eq : Child → Child → Bool
 child_eq (Point a) (Point b) = a.0 == b.0
-child_eq (Point a) (Zone b) = false
-child_eq (Zone a) (Point b) = false
 child_eq (Zone a) (Zone b) = a.0 == b.0
+child_eq a b = false
 
 abbrev pub pair_eq : Pair → Pair → Bool
 pair_eq p q = child_eq p.from q.from && child_eq p.to q.to

@@ -1,9 +1,9 @@
 pub mod Equal
-pub mod Firsts
+pub mod DistinctLinks
 pub mod Leg
 pub mod Local
 pub mod Roads
-pub mod Steps
+pub mod PathRoutes
 pub mod Route
 pub mod Made
 pub mod Good

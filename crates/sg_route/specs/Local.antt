@@ -1,5 +1,5 @@
 -- Local routes: those that rows declare, and their ways back.
-use Rattle.std.specs.Prelude.{Bool, true, false, Option, List, [], ◌∷◌, ◌++◌, find}
+use Rattle.std.specs.Prelude.{Bool, if◌then◌else◌, Option, List, [], ◌∷◌, ◌++◌, find}
 use Rattle.std.specs.List.{flat_map}
 use Rattle.sg_base.specs.declared.ids.Child.{Child}
 use Rattle.sg_base.specs.declared.ids.Child.TheVariants.{Point}
@@ -25,8 +25,7 @@ local_back ends l = record { pair = record { from = l.pair.to; to = l.pair.from 
 
 -- a local route, and behind it its way back where it is symmetrical
 abbrev pub row_locals : List LinkEnd → Bool → Local → List Local
-row_locals ends false l = l ∷ []
-row_locals ends true l = l ∷ (local_back ends l ∷ [])
+row_locals ends symmetrical l = if symmetrical then l ∷ (local_back ends l ∷ []) else l ∷ []
 
 abbrev pub routes_declared : List LinkEnd → List RouteRow → List Local
 routes_declared ends rows = flat_map (λ row. row_locals ends row.symmetrical (route_local row)) rows

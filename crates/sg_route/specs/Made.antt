@@ -9,10 +9,10 @@ use Rattle.sg_rows.specs.declared.rows.Routing.TheVariants.{Dijkstra}
 use Rattle.sg_route.specs.declared.leg.Leg.{Leg}
 use Rattle.sg_route.specs.declared.router.RouteFault.{RouteFault}
 use Rattle.sg_route.specs.declared.router.RouteFault.TheVariants.{NoRoute, TooLong}
-use Rattle.sg_route.specs.Firsts.{firsts}
+use Rattle.sg_route.specs.DistinctLinks.{distinct_links}
 use Rattle.sg_route.specs.Roads.{Roads}
 use Rattle.sg_route.specs.Route.{Passage, leg, passage_on}
-use Rattle.sg_route.specs.Steps.{steps_of}
+use Rattle.sg_route.specs.PathRoutes.{path_routes}
 use Rattle.sg_zones.specs.Tree.{routing_in}
 
 -- ---- what is said of a local route in a Dijkstra zone
@@ -21,18 +21,18 @@ use Rattle.sg_zones.specs.Tree.{routing_in}
 pub record IsPathOf (m : Roads) (l : Leg) (own : Passage) : Type 0 where
   pub from : l.from ≡ Point own.start
   pub to : l.to ≡ Point own.end
-  pub path : HasPath (steps_of m.tree m.locals) own.start.0 own.end.0 own.links
+  pub path : HasPath (path_routes m.tree m.locals) own.start.0 own.end.0 own.links
 
 abbrev pub IsReached : Roads → Leg → Passage → Type 0
 IsReached m l own = routing_in m.tree l.zone ≡ Dijkstra → IsPathOf m l own
 
 -- no path has fewer links, or as many with a smaller list
 abbrev pub IsLeastThere : Roads → Leg → Passage → Type 0
-IsLeastThere m l own = routing_in m.tree l.zone ≡ Dijkstra → IsLeast (steps_of m.tree m.locals) own.start.0 own.end.0 own.links
+IsLeastThere m l own = routing_in m.tree l.zone ≡ Dijkstra → IsLeast (path_routes m.tree m.locals) own.start.0 own.end.0 own.links
 
 -- no path leads from the one to the other, where these are points
 abbrev pub HasNoneFrom : Roads → Child → Child → Type 0
-HasNoneFrom m (Point a) (Point b) = HasNoPath (steps_of m.tree m.locals) a.0 b.0
+HasNoneFrom m (Point a) (Point b) = HasNoPath (path_routes m.tree m.locals) a.0 b.0
 HasNoneFrom m (Point a) (Zone b) = Unit {0}
 HasNoneFrom m (Zone a) to = Unit {0}
 
@@ -66,6 +66,6 @@ IsMadeOf has (suc levels) m a b links = IsJoined has (IsMadeOf has levels m) m a
 
 -- what is left of such a route: each link once, at its first place, or none where these are more than 64
 abbrev pub LeavesMade : (Leg → Passage → Type 0) → Roads → PointId → PointId → Result ℕ RouteFault → List LinkId → Type 0
-LeavesMade has m a b (Ok latency) links = (all : List LinkId) × IsMadeOf has 16 m a b all × (links ≡ firsts [] all)
-LeavesMade has m a b (Err TooLong) links = (all : List LinkId) × IsMadeOf has 16 m a b all × (64 < length (firsts [] all))
+LeavesMade has m a b (Ok latency) links = (all : List LinkId) × IsMadeOf has 16 m a b all × (links ≡ distinct_links [] all)
+LeavesMade has m a b (Err TooLong) links = (all : List LinkId) × IsMadeOf has 16 m a b all × (64 < length (distinct_links [] all))
 LeavesMade has m a b (Err (NoRoute zone from to)) links = Unit {0}

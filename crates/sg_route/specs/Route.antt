@@ -1,9 +1,10 @@
 -- The route between two points.
 use Rattle.std.specs.Prelude.{◌≡◌, ◌==◌, ℕ, suc, zero, ◌-◌, if◌then◌else◌, nat_lt, Option, None, Some, option_map, Result, Ok, Err, List, [], ◌∷◌, ◌++◌, length, slice_index_or, sum_by}
+use Rattle.std.specs.Option.{option_map_or}
 use Rattle.sg_base.specs.declared.ids.LinkId.{LinkId}
 use Rattle.sg_base.specs.declared.ids.PointId.{PointId}
 use Rattle.sg_base.specs.declared.ids.Child.{Child}
-use Rattle.sg_base.specs.declared.ids.Child.TheVariants.{Point, Zone}
+use Rattle.sg_base.specs.declared.ids.Child.TheVariants.{Point}
 use Rattle.sg_rows.specs.declared.rows.Routing.{Routing}
 use Rattle.sg_rows.specs.declared.rows.Routing.TheVariants.{Full, Star, Dijkstra}
 use Rattle.sg_rows.specs.declared.rows.SpokeRow.{SpokeRow}
@@ -14,11 +15,11 @@ use Rattle.sg_route.specs.declared.locals.Local.{Local}
 use Rattle.sg_route.specs.declared.leg.Leg.{Leg}
 use Rattle.sg_route.specs.declared.router.RouteFault.{RouteFault}
 use Rattle.sg_route.specs.declared.router.RouteFault.TheVariants.{NoRoute, TooLong}
-use Rattle.sg_route.specs.Firsts.{firsts}
-use Rattle.sg_route.specs.Leg.{parting}
+use Rattle.sg_route.specs.DistinctLinks.{distinct_links}
+use Rattle.sg_route.specs.Leg.{lowest_leg}
 use Rattle.sg_route.specs.Local.{declared_route, spoke_at}
 use Rattle.sg_route.specs.Roads.{Roads}
-use Rattle.sg_route.specs.Steps.{steps_of}
+use Rattle.sg_route.specs.PathRoutes.{path_routes}
 use Rattle.sg_zones.specs.Tree.{home, path_in, routing_in}
 
 -- ---- the local route from one child of a zone to another
@@ -29,32 +30,28 @@ pub record Passage : Type 0 where
   pub end : PointId
   pub links : List LinkId
 
-abbrev pub by_declared : Option Local → Option Passage
-by_declared local = option_map (λ l. record { start = l.start; end = l.end; links = l.links }) local
-
 -- up from the one child and down to the other
 abbrev pub by_spokes : Option SpokeRow → Option SpokeRow → Option Passage
-by_spokes None to = None
-by_spokes (Some from) None = None
 by_spokes (Some from) (Some to) = Some (record { start = from.gateway; end = to.gateway; links = from.up ++ to.down })
+by_spokes from to = None
 
 -- the least path from a point to another: it begins and ends at the points themselves
 abbrev pub by_path : List PathRoute → Child → Child → Option Passage
 by_path steps (Point a) (Point b) =
     if a.0 == b.0 then None else option_map (λ links. record { start = a; end = b; links = links }) (least_path steps a.0 b.0)
-by_path steps (Point a) (Zone b) = None
-by_path steps (Zone a) to = None
+by_path steps from to = None
 
 abbrev pub passage : Roads → Routing → Child → Child → Option Passage
-passage m Full from to = by_declared (declared_route m.locals (record { from = from; to = to }))
+passage m Full from to =
+    option_map (λ l. record { start = l.start; end = l.end; links = l.links }) (declared_route m.locals (record { from = from; to = to }))
 passage m Star from to = by_spokes (spoke_at m.spokes from) (spoke_at m.spokes to)
-passage m Dijkstra from to = by_path (steps_of m.tree m.locals) from to
+passage m Dijkstra from to = by_path (path_routes m.tree m.locals) from to
 
 -- ---- whole routes
 
 -- the lowest zone that holds both points, and its children that hold them
 abbrev pub leg : Roads → PointId → PointId → Leg
-leg m a b = parting (home m.tree a) a b (path_in m.tree (home m.tree a)) (path_in m.tree (home m.tree b))
+leg m a b = lowest_leg (home m.tree a) a b (path_in m.tree (home m.tree a)) (path_in m.tree (home m.tree b))
 
 abbrev pub passage_on : Roads → Leg → Option Passage
 passage_on m l = passage m (routing_in m.tree l.zone) l.from l.to
@@ -73,15 +70,12 @@ way_over (Ok front) links (Ok behind) = Ok (front ++ links ++ behind)
 abbrev pub unless_there : (PointId → PointId → Way) → PointId → PointId → Way
 unless_there way a b = if a.0 == b.0 then Ok [] else way a b
 
--- the zone's own local route, where it is missing, is told before all others
-abbrev pub by_passage : (PointId → PointId → Way) → PointId → PointId → Leg → Option Passage → Way
-by_passage way a b l None = Err l
-by_passage way a b l (Some p) = way_over (unless_there way a p.start) p.links (unless_there way p.end b)
-
 -- The route from a to another point b: the local route of the lowest zone that holds both, between its children that
 -- hold them; in front of it the way from a to its first gateway, and behind it the way from its second gateway to b.
+-- Where the local route is missing, this is told before all others.
 abbrev pub through_lowest : (PointId → PointId → Way) → Roads → PointId → PointId → Way
-through_lowest way m a b = by_passage way a b (leg m a b) (passage_on m (leg m a b))
+through_lowest way m a b =
+    option_map_or (λ p. way_over (unless_there way a p.start) p.links (unless_there way p.end b)) (passage_on m (leg m a b)) (Err (leg m a b))
 
 -- such a route through so many levels of zones
 unfoldable pub way : ℕ → Roads → PointId → PointId → Way
@@ -94,15 +88,10 @@ way (suc levels) m a b = through_lowest (way levels m) m a b
 abbrev pub loopback : Roads → LinkId
 loopback m = record { 0 = length m.ends - 1 }
 
-abbrev pub or_loopback : Roads → Option Local → List LinkId
-or_loopback m None = loopback m ∷ []
-or_loopback m (Some local) = local.links
-
 -- the route that a Full zone declares for it, else the loopback
 abbrev pub to_itself : Roads → Routing → PointId → List LinkId
-to_itself m Star a = loopback m ∷ []
-to_itself m Dijkstra a = loopback m ∷ []
-to_itself m Full a = or_loopback m (declared_route m.locals (record { from = Point a; to = Point a }))
+to_itself m Full a = option_map_or (λ l. l.links) (declared_route m.locals (record { from = Point a; to = Point a })) (loopback m ∷ [])
+to_itself m other a = loopback m ∷ []
 
 -- ---- what is answered
 
@@ -117,8 +106,8 @@ pub record Route : Type 0 where
 abbrev pub route_or_fault : Roads → Way → Result Route RouteFault
 route_or_fault m (Err missing) = Err (NoRoute missing.zone missing.from missing.to)
 route_or_fault m (Ok links) =
-    if nat_lt 64 (length (firsts [] links)) then Err TooLong
-    else Ok (record { links = firsts [] links; latency = sum_by (latency_of m) (firsts [] links) })
+    if nat_lt 64 (length (distinct_links [] links)) then Err TooLong
+    else Ok (record { links = distinct_links [] links; latency = sum_by (latency_of m) (distinct_links [] links) })
 
 -- the links from a point to another, or from a host to itself; zones are at most 16 deep
 unfoldable pub whole_way : Roads → PointId → PointId → Way

@@ -2,7 +2,7 @@
 ghost use Rattle.std.specs.Prelude.{◌≡◌, ◌++◌, IfOk, OnOk};
 ghost use Rattle.sg_route.specs.Local.{local_back, row_locals, routes_declared, zone_routes_declared, locals_of};
 ghost use Rattle.sg_route.specs.Roads.{roads_of};
-ghost use Rattle.sg_route.specs.Steps.{local_steps, net_of, steps_of};
+ghost use Rattle.sg_route.specs.PathRoutes.{net_of, path_routes_between, path_routes};
 ghost use Rattle.sg_zones.specs.Tree.{tree_of};
 
 use crate::locals::{Local, Locals, Pair};
@@ -149,7 +149,8 @@ fn add_steps(
     local: &Local,
     steps: &mut Vec<PathRoute>,
 ) -> Result<(), Memory>
-    ensures { OnOk result (steps.new.items ≡ steps.old.items ++ local_steps zones.now local.now) }
+    ensures { OnOk result (steps.new.items ≡ steps.old.items
+        ++ path_routes_between zones.now local.now.pair.from local.now.pair.to local.now.links) }
 {
     match (local.pair.from, local.pair.to) {
         (Child::Point(from), Child::Point(to)) => match zones.routing(zones.home(from)) {
@@ -168,8 +169,8 @@ fn add_steps(
 }
 
 /// The routes over which paths go.
-fn steps_of(alloc: Global, zones: &Zones, locals: &[Local]) -> Result<Vec<PathRoute>, Memory>
-    ensures { IfOk result (λ steps. steps.items ≡ steps_of zones.now locals.now) }
+fn path_routes(alloc: Global, zones: &Zones, locals: &[Local]) -> Result<Vec<PathRoute>, Memory>
+    ensures { IfOk result (λ steps. steps.items ≡ path_routes zones.now locals.now) }
 {
     let mut steps = Vec::new(alloc);
     for local in locals {
@@ -190,7 +191,7 @@ fn paths_of(
     ensures { IfOk result (λ paths. paths ≡ net_of (roads_of platform.now)) }
 {
     let points = platform.hosts().len() as u32 + platform.routers().len() as u32;
-    let steps = steps_of(alloc, zones, rows)?;
+    let steps = path_routes(alloc, zones, rows)?;
     Paths::build(alloc, points, steps.as_slice())
 }
 

@@ -1,6 +1,6 @@
 //! The links of a route, each once.
 ghost use Rattle.std.specs.Prelude.{◌≡◌, [], Err};
-ghost use Rattle.sg_route.specs.Firsts.{is_among};
+ghost use Rattle.sg_route.specs.DistinctLinks.{is_among};
 ghost use Rattle.sg_route.specs.kept.Kept.{keep_one, keep_all};
 
 use crate::router::RouteFault;

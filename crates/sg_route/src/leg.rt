@@ -1,6 +1,6 @@
 //! The lowest zone that holds two points.
 ghost use Rattle.std.specs.Prelude.{◌≡◌};
-ghost use Rattle.sg_route.specs.Leg.{next, parting};
+ghost use Rattle.sg_route.specs.Leg.{child_towards, lowest_leg};
 
 use sg_base::{Child, PointId, ZoneId};
 
@@ -13,8 +13,8 @@ pub struct Leg {
 }
 
 /// The child at which the rest of a path begins: its first zone, or the point itself.
-fn next(point: PointId, rest: &[ZoneId]) -> Child
-    ensures { result ≡ next point rest.now }
+fn child_towards(point: PointId, rest: &[ZoneId]) -> Child
+    ensures { result ≡ child_towards point rest.now }
 {
     match rest {
         [] => Child::Point(point),
@@ -23,25 +23,25 @@ fn next(point: PointId, rest: &[ZoneId]) -> Child
 }
 
 /// The last zone that both paths share, where `last` is that above them, and its children on the two ways.
-pub(crate) fn parting(
+pub(crate) fn lowest_leg(
     last: ZoneId,
     from: PointId,
     to: PointId,
     above_from: &[ZoneId],
     above_to: &[ZoneId],
 ) -> Leg
-    ensures { result ≡ parting last from to above_from.now above_to.now }
+    ensures { result ≡ lowest_leg last from to above_from.now above_to.now }
 {
     if let [x, rest_from @ ..] = above_from {
         if let [y, rest_to @ ..] = above_to {
             if x.0 == y.0 {
-                return parting(*x, from, to, rest_from, rest_to);
+                return lowest_leg(*x, from, to, rest_from, rest_to);
             }
         }
     }
     Leg {
         zone: last,
-        from: next(from, above_from),
-        to: next(to, above_to),
+        from: child_towards(from, above_from),
+        to: child_towards(to, above_to),
     }
 }

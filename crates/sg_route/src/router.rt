@@ -2,7 +2,7 @@
 ghost use Rattle.std.specs.Prelude.{◌≡◌, ◌≢◌, AllPairs, IfErr};
 ghost use Rattle.sg_route.specs.Made.{IsLeastThere, IsReached, IsWithoutPath, LeavesMade};
 ghost use Rattle.sg_route.specs.Route.{route_of, LeavesRoute};
-ghost use Rattle.sg_route.specs.Steps.{net_of};
+ghost use Rattle.sg_route.specs.PathRoutes.{net_of};
 
 use crate::kept::refuse;
 use crate::walk::{Trip, keep_whole};
@@ -42,7 +42,7 @@ impl Drop for Router {
 impl Model for Router {
     ghost use Rattle.std.specs.Prelude.{◌≡◌};
     ghost use Rattle.sg_route.specs.Roads.{Roads};
-    ghost use Rattle.sg_route.specs.Steps.{net_of};
+    ghost use Rattle.sg_route.specs.PathRoutes.{net_of};
 
     ghost Value = { Roads };
 

@@ -2,7 +2,7 @@
 ghost use Rattle.std.specs.Prelude.{◌≡◌};
 ghost use Rattle.sg_route.specs.kept.Kept.{KeepsWay};
 ghost use Rattle.sg_route.specs.Route.{unless_there, way, whole_way};
-ghost use Rattle.sg_route.specs.Steps.{net_of};
+ghost use Rattle.sg_route.specs.PathRoutes.{net_of};
 
 use crate::kept::keep_all;
 use crate::leg::Leg;

@@ -7,7 +7,7 @@ ghost use Rattle.sg_route.specs.Route.{latency_of, leg, loopback, passage_on, to
 ghost use Rattle.sg_zones.specs.Tree.{home, routing_in};
 
 use crate::kept::keep_all;
-use crate::leg::{Leg, parting};
+use crate::leg::{Leg, lowest_leg};
 use crate::locals::{Locals, Pair};
 use crate::spokes::Spokes;
 use arrayvec::ArrayVec;
@@ -69,7 +69,7 @@ impl Ways {
         ensures { result ≡ leg self.now a b }
     {
         let (from, to) = (self.zones.home(a), self.zones.home(b));
-        parting(from, a, b, self.zones.path(from), self.zones.path(to))
+        lowest_leg(from, a, b, self.zones.path(from), self.zones.path(to))
     }
 
     /// The local route of a leg in a zone that isn't Dijkstra.

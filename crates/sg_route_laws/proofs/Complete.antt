@@ -6,7 +6,8 @@ use Rattle.sg_base.specs.declared.ids.LinkId.{LinkId}
 use Rattle.sg_base.specs.declared.ids.PointId.{PointId}
 use Rattle.sg_rows.specs.Platform.{Platform}
 use Rattle.sg_route.specs.Roads.{Roads, roads_of}
-use Rattle.sg_route.specs.Route.{Passage, Way, by_passage, way_over, leg, passage_on, to_itself, unless_there, way, whole_way}
+use Rattle.sg_route.specs.Route.{Passage, Way, way_over, leg, passage_on, to_itself, unless_there, way, whole_way}
+use Rattle.sg_route.proofs.Passages.{by_passage}
 use Rattle.sg_route.specs.declared.leg.Leg.{Leg}
 use Rattle.sg_route_laws.specs.Laws.{HasRoutes, IsComplete, IsPoint}
 use Rattle.sg_route_laws.proofs.Nested.{IsNested, home, routing}

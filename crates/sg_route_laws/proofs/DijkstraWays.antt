@@ -12,8 +12,9 @@ use Rattle.sg_paths.specs.Path.{HasNoPath, IsLeastPath}
 use Rattle.sg_paths.specs.declared.route.PathRoute.{PathRoute}
 use Rattle.sg_rows.specs.Platform.{Platform}
 use Rattle.sg_route.specs.Roads.{Roads, roads_of}
-use Rattle.sg_route.specs.Route.{Passage, Way, by_passage, by_path, leg, passage, passage_on, way, whole_way}
-use Rattle.sg_route.specs.Steps.{steps_of}
+use Rattle.sg_route.specs.Route.{Passage, Way, by_path, leg, passage, passage_on, way, whole_way}
+use Rattle.sg_route.proofs.Passages.{by_passage}
+use Rattle.sg_route.specs.PathRoutes.{path_routes}
 use Rattle.sg_route.specs.declared.leg.Leg.{Leg}
 use Rattle.sg_route.proofs.WalkLemmas.{direct}
 use Rattle.sg_route_laws.specs.Laws.{DijkstraTakesLeastPaths}
@@ -34,7 +35,7 @@ between steps a b far = go (a.0 == b.0) (grind (arith, nat_tests))
 pub dijkstra_takes_least_paths : (p : Platform) → IsGood p → DijkstraTakesLeastPaths p
 dijkstra_takes_least_paths p good a b isa isb far same dijkstra =
     let m : Roads = roads_of p in
-    let steps : List PathRoute = steps_of m.tree m.locals in
+    let steps : List PathRoute = path_routes m.tree m.locals in
     let l : Leg = leg m a b in
     let found : passage_on m l ≡ made a b (least_path steps a.0 b.0) =
     ap (passage_on m) (leg_same p good a b isa same) ∙ ap (λ r. passage m r (Point a) (Point b)) dijkstra ∙ between steps a b far in

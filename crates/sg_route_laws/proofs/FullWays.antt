@@ -9,7 +9,8 @@ use Rattle.sg_rows.specs.Platform.{Platform}
 use Rattle.sg_route.specs.Equal.{pair_eq}
 use Rattle.sg_route.specs.Local.{declared_route}
 use Rattle.sg_route.specs.Roads.{Roads, roads_of}
-use Rattle.sg_route.specs.Route.{Passage, by_declared, by_passage, leg, passage, passage_on, way}
+use Rattle.sg_route.specs.Route.{Passage, leg, passage, passage_on, way}
+use Rattle.sg_route.proofs.Passages.{by_declared, by_passage}
 use Rattle.sg_route.specs.declared.locals.Local.{Local}
 use Rattle.sg_route.specs.declared.locals.Pair.{Pair}
 use Rattle.sg_route.proofs.Each.{each_found}

@@ -5,7 +5,8 @@ use Rattle.std.proofs.lemmas.Bool.Decides.{nat_tests}
 use Rattle.sg_base.specs.declared.ids.PointId.{PointId}
 use Rattle.sg_route.specs.declared.leg.Leg.{Leg}
 use Rattle.sg_route.specs.Roads.{Roads}
-use Rattle.sg_route.specs.Route.{Way, Passage, leg, way_over, unless_there, by_passage, through_lowest, to_itself, way, whole_way}
+use Rattle.sg_route.specs.Route.{Way, Passage, leg, way_over, unless_there, through_lowest, to_itself, way, whole_way}
+use Rattle.sg_route.proofs.Passages.{by_passage}
 use Rattle.sg_route_laws.specs.Laws.{IsPoint, FollowsLowestZone}
 use Rattle.sg_route_laws.proofs.Nested.{IsNested, depth_of_both, home, passage_between, routing}
 

@@ -18,7 +18,7 @@ use Rattle.sg_zones.proofs.Cycles.{parents_exist}
 use Rattle.sg_zones.proofs.TreeLemmas.{AboveIs, IsDepth, inner_of, path_deep, path_front, path_last, path_length}
 use Rattle.sg_zones.proofs.GoodTree.{depth_here, exists_on, any_at, path_at}
 use Rattle.sg_route.specs.Roads.{roads_of}
-use Rattle.sg_route.specs.Leg.{parting}
+use Rattle.sg_route.specs.Leg.{lowest_leg}
 use Rattle.sg_route.specs.Route.{leg}
 use Rattle.sg_route_laws.specs.Laws.{IsChildOver, IsPoint, LegsAreLowest}
 use Rattle.sg_route_laws.proofs.Nested.{depth_of_both, home, path_to, shared}
@@ -26,13 +26,13 @@ use Rattle.sg_route_laws.proofs.Parting.{from_parts, got, to_parts, zone_from, z
 use Rattle.sg_route.proofs.LegLemmas.{from_point, to_point}
 use Rattle.sg_route_laws.proofs.Good.{IsGood, common_front, home_exists, path_of, root_shared, shared_short}
 
-parted_zone : (last : ZoneId) (a b : PointId) (xs ys : List ZoneId) → (parting last a b xs ys).zone ≡ get_or (last ∷ xs) (shared xs ys) last
+parted_zone : (last : ZoneId) (a b : PointId) (xs ys : List ZoneId) → (lowest_leg last a b xs ys).zone ≡ get_or (last ∷ xs) (shared xs ys) last
 parted_zone last a b [] ys = refl
 parted_zone last a b (x ∷ xs) [] = refl
 parted_zone last a b (x ∷ xs) (y ∷ ys) = go (x.0 == y.0) (parted_zone x a b xs ys) (shared_short xs ys)
   where
-    go : (t : Bool) → (parting x a b xs ys).zone ≡ get_or (x ∷ xs) (shared xs ys) x → shared xs ys ≤ length xs
-        → (cond t (parting x a b xs ys) (record { zone = last; from = Zone x; to = Zone y })).zone ≡ get_or (last ∷ (x ∷ xs)) (cond t (suc (shared xs ys)) 0) last
+    go : (t : Bool) → (lowest_leg x a b xs ys).zone ≡ get_or (x ∷ xs) (shared xs ys) x → shared xs ys ≤ length xs
+        → (cond t (lowest_leg x a b xs ys) (record { zone = last; from = Zone x; to = Zone y })).zone ≡ get_or (last ∷ (x ∷ xs)) (cond t (suc (shared xs ys)) 0) last
     go true h short = h ∙ got (x ∷ xs) (shared xs ys) x last (omega arith)
     go false h short = refl
 

@@ -5,7 +5,7 @@ use Rattle.std.proofs.lemmas.Bool.Decides.{nat_tests}
 use Rattle.sg_base.specs.declared.ids.ZoneId.{ZoneId}
 use Rattle.sg_base.specs.declared.ids.PointId.{PointId}
 use Rattle.sg_base.specs.declared.ids.Child.TheVariants.{Point, Zone}
-use Rattle.sg_route.specs.Leg.{parting}
+use Rattle.sg_route.specs.Leg.{lowest_leg}
 use Rattle.sg_route_laws.proofs.Nested.{shared}
 
 -- an element doesn't depend on what stands for those that aren't there
@@ -22,24 +22,24 @@ pub record Parts (x : ZoneId) (own : List ZoneId) (common : ℕ) : Type 0 where
 zone_is : (x y : ZoneId) → Zone x ≡ Zone y → x ≡ y
 zone_is x y h = cc
 
-pub from_parts : (last : ZoneId) (a b : PointId) (xs ys : List ZoneId) (x : ZoneId) → (parting last a b xs ys).from ≡ Zone x → Parts x xs (shared xs ys)
+pub from_parts : (last : ZoneId) (a b : PointId) (xs ys : List ZoneId) (x : ZoneId) → (lowest_leg last a b xs ys).from ≡ Zone x → Parts x xs (shared xs ys)
 from_parts last a b [] ys x h = absurd (cc)
 from_parts last a b (u ∷ us) [] x h = record { inside = omega arith; at = zone_is u x h }
 from_parts last a b (u ∷ us) (v ∷ vs) x h = go (u.0 == v.0) h (λ k. from_parts u a b us vs x k)
   where
-    go : (t : Bool) → (cond t (parting u a b us vs) (record { zone = last; from = Zone u; to = Zone v })).from ≡ Zone x
-        → ((parting u a b us vs).from ≡ Zone x → Parts x us (shared us vs)) → Parts x (u ∷ us) (cond t (suc (shared us vs)) 0)
+    go : (t : Bool) → (cond t (lowest_leg u a b us vs) (record { zone = last; from = Zone u; to = Zone v })).from ≡ Zone x
+        → ((lowest_leg u a b us vs).from ≡ Zone x → Parts x us (shared us vs)) → Parts x (u ∷ us) (cond t (suc (shared us vs)) 0)
     go true h more = let r = more h in let i = r.inside in record { inside = omega arith; at = r.at }
     go false h more = record { inside = omega arith; at = zone_is u x h }
 
-pub to_parts : (last : ZoneId) (a b : PointId) (xs ys : List ZoneId) (x : ZoneId) → (parting last a b xs ys).to ≡ Zone x → Parts x ys (shared xs ys)
+pub to_parts : (last : ZoneId) (a b : PointId) (xs ys : List ZoneId) (x : ZoneId) → (lowest_leg last a b xs ys).to ≡ Zone x → Parts x ys (shared xs ys)
 to_parts last a b [] [] x h = absurd (cc)
 to_parts last a b [] (v ∷ vs) x h = record { inside = omega arith; at = zone_is v x h }
 to_parts last a b (u ∷ us) [] x h = absurd (cc)
 to_parts last a b (u ∷ us) (v ∷ vs) x h = go (u.0 == v.0) h (λ k. to_parts u a b us vs x k)
   where
-    go : (t : Bool) → (cond t (parting u a b us vs) (record { zone = last; from = Zone u; to = Zone v })).to ≡ Zone x
-        → ((parting u a b us vs).to ≡ Zone x → Parts x vs (shared us vs)) → Parts x (v ∷ vs) (cond t (suc (shared us vs)) 0)
+    go : (t : Bool) → (cond t (lowest_leg u a b us vs) (record { zone = last; from = Zone u; to = Zone v })).to ≡ Zone x
+        → ((lowest_leg u a b us vs).to ≡ Zone x → Parts x vs (shared us vs)) → Parts x (v ∷ vs) (cond t (suc (shared us vs)) 0)
     go true h more = let r = more h in let i = r.inside in record { inside = omega arith; at = r.at }
     go false h more = record { inside = omega arith; at = zone_is v x h }
 
@@ -59,26 +59,26 @@ shared_front (suc n) (x ∷ xs) (y ∷ ys) e few more =
     go false e h = absurd (cc)
 
 -- where the one path ends, the last of its zones is the lowest
-pub zone_from : (last : ZoneId) (a b : PointId) (xs ys : List ZoneId) (q : PointId) → (parting last a b xs ys).from ≡ Point q → (parting last a b xs ys).zone ≡ get_or (last ∷ xs) (length xs) last
+pub zone_from : (last : ZoneId) (a b : PointId) (xs ys : List ZoneId) (q : PointId) → (lowest_leg last a b xs ys).from ≡ Point q → (lowest_leg last a b xs ys).zone ≡ get_or (last ∷ xs) (length xs) last
 zone_from last a b [] ys q h = refl
 zone_from last a b (u ∷ us) [] q h = absurd (cc)
 zone_from last a b (u ∷ us) (v ∷ vs) q h = go (u.0 == v.0) h (λ k. zone_from u a b us vs q k)
   where
-    go : (t : Bool) → (cond t (parting u a b us vs) (record { zone = last; from = Zone u; to = Zone v })).from ≡ Point q
-        → ((parting u a b us vs).from ≡ Point q → (parting u a b us vs).zone ≡ get_or (u ∷ us) (length us) u)
-        → (cond t (parting u a b us vs) (record { zone = last; from = Zone u; to = Zone v })).zone ≡ get_or (last ∷ (u ∷ us)) (length (u ∷ us)) last
+    go : (t : Bool) → (cond t (lowest_leg u a b us vs) (record { zone = last; from = Zone u; to = Zone v })).from ≡ Point q
+        → ((lowest_leg u a b us vs).from ≡ Point q → (lowest_leg u a b us vs).zone ≡ get_or (u ∷ us) (length us) u)
+        → (cond t (lowest_leg u a b us vs) (record { zone = last; from = Zone u; to = Zone v })).zone ≡ get_or (last ∷ (u ∷ us)) (length (u ∷ us)) last
     go true h more = more h ∙ got (u ∷ us) (length us) u last (omega arith)
     go false h more = absurd (cc)
 
-pub zone_to : (last : ZoneId) (a b : PointId) (xs ys : List ZoneId) (q : PointId) → (parting last a b xs ys).to ≡ Point q → (parting last a b xs ys).zone ≡ get_or (last ∷ ys) (length ys) last
+pub zone_to : (last : ZoneId) (a b : PointId) (xs ys : List ZoneId) (q : PointId) → (lowest_leg last a b xs ys).to ≡ Point q → (lowest_leg last a b xs ys).zone ≡ get_or (last ∷ ys) (length ys) last
 zone_to last a b [] [] q h = refl
 zone_to last a b [] (v ∷ vs) q h = absurd (cc)
 zone_to last a b (u ∷ us) [] q h = refl
 zone_to last a b (u ∷ us) (v ∷ vs) q h = go (u.0 == v.0) refl h (λ k. zone_to u a b us vs q k)
   where
-    go : (t : Bool) → (u.0 == v.0) ≡ t → (cond t (parting u a b us vs) (record { zone = last; from = Zone u; to = Zone v })).to ≡ Point q
-        → ((parting u a b us vs).to ≡ Point q → (parting u a b us vs).zone ≡ get_or (u ∷ vs) (length vs) u)
-        → (cond t (parting u a b us vs) (record { zone = last; from = Zone u; to = Zone v })).zone ≡ get_or (last ∷ (v ∷ vs)) (length (v ∷ vs)) last
+    go : (t : Bool) → (u.0 == v.0) ≡ t → (cond t (lowest_leg u a b us vs) (record { zone = last; from = Zone u; to = Zone v })).to ≡ Point q
+        → ((lowest_leg u a b us vs).to ≡ Point q → (lowest_leg u a b us vs).zone ≡ get_or (u ∷ vs) (length vs) u)
+        → (cond t (lowest_leg u a b us vs) (record { zone = last; from = Zone u; to = Zone v })).zone ≡ get_or (last ∷ (v ∷ vs)) (length (v ∷ vs)) last
     go true e h more =
         let n : u.0 ≡ v.0 = grind (arith, nat_tests) in
         let make : ℕ → ZoneId = λ k. record { 0 = k } in

@@ -11,10 +11,11 @@ use Rattle.sg_base.specs.declared.ids.ZoneId.{ZoneId}
 use Rattle.sg_rows.specs.Platform.{Platform}
 use Rattle.sg_rows.specs.declared.rows.ZoneRow.{ZoneRow}
 use Rattle.sg_route.specs.Equal.{child_eq}
-use Rattle.sg_route.specs.Leg.{next, parting}
+use Rattle.sg_route.specs.Leg.{child_towards, lowest_leg}
 use Rattle.sg_route.specs.Local.{spoke_at}
 use Rattle.sg_route.specs.Roads.{Roads, roads_of}
-use Rattle.sg_route.specs.Route.{Passage, by_passage, by_spokes, leg, passage, passage_on, way, whole_way}
+use Rattle.sg_route.specs.Route.{Passage, by_spokes, leg, passage, passage_on, way, whole_way}
+use Rattle.sg_route.proofs.Passages.{by_passage}
 use Rattle.sg_route.specs.declared.leg.Leg.{Leg}
 use Rattle.sg_route_laws.specs.Laws.{StarJoinsGateways}
 use Rattle.sg_route.proofs.Each.{each_found}
@@ -33,21 +34,21 @@ use Rattle.sg_zones.specs.Tree.{tree_of}
 
 -- ---- where two paths part behind what they share
 
-parted_behind : (last : ZoneId) (a b : PointId) (front xs ys : List ZoneId) → parting last a b (front ++ xs) (front ++ ys) ≡ parting (get_or (last ∷ front) (length front) last) a b xs ys
+parted_behind : (last : ZoneId) (a b : PointId) (front xs ys : List ZoneId) → lowest_leg last a b (front ++ xs) (front ++ ys) ≡ lowest_leg (get_or (last ∷ front) (length front) last) a b xs ys
 parted_behind last a b [] xs ys = refl
 parted_behind last a b (z ∷ front) xs ys = go (z.0 == z.0) (grind (arith, nat_tests)) (parted_behind z a b front xs ys)
   where
-    go : (t : Bool) → t ≡ true → parting z a b (front ++ xs) (front ++ ys) ≡ parting (get_or (z ∷ front) (length front) z) a b xs ys
-        → cond t (parting z a b (front ++ xs) (front ++ ys)) (record { zone = last; from = Zone z; to = Zone z }) ≡ parting (get_or (last ∷ (z ∷ front)) (length (z ∷ front)) last) a b xs ys
-    go true e h = h ∙ ap (λ k. parting k a b xs ys) (got (z ∷ front) (length front) z last (omega arith))
+    go : (t : Bool) → t ≡ true → lowest_leg z a b (front ++ xs) (front ++ ys) ≡ lowest_leg (get_or (z ∷ front) (length front) z) a b xs ys
+        → cond t (lowest_leg z a b (front ++ xs) (front ++ ys)) (record { zone = last; from = Zone z; to = Zone z }) ≡ lowest_leg (get_or (last ∷ (z ∷ front)) (length (z ∷ front)) last) a b xs ys
+    go true e h = h ∙ ap (λ k. lowest_leg k a b xs ys) (got (z ∷ front) (length front) z last (omega arith))
     go false e h = absurd (cc)
 
-parted_now : (last : ZoneId) (a b : PointId) (xs ys : List ZoneId) → child_eq (next a xs) (next b ys) ≡ false → parting last a b xs ys ≡ record { zone = last; from = next a xs; to = next b ys }
+parted_now : (last : ZoneId) (a b : PointId) (xs ys : List ZoneId) → child_eq (child_towards a xs) (child_towards b ys) ≡ false → lowest_leg last a b xs ys ≡ record { zone = last; from = child_towards a xs; to = child_towards b ys }
 parted_now last a b [] ys far = refl
 parted_now last a b (x ∷ xs) [] far = refl
 parted_now last a b (x ∷ xs) (y ∷ ys) far = go (x.0 == y.0) far
   where
-    go : (t : Bool) → t ≡ false → cond t (parting x a b xs ys) (record { zone = last; from = Zone x; to = Zone y }) ≡ record { zone = last; from = Zone x; to = Zone y }
+    go : (t : Bool) → t ≡ false → cond t (lowest_leg x a b xs ys) (record { zone = last; from = Zone x; to = Zone y }) ≡ record { zone = last; from = Zone x; to = Zone y }
     go true e = absurd (cc)
     go false e = refl
 
@@ -59,7 +60,7 @@ pub record GoesOn (zones : List ZoneRow) (zone : ZoneId) (child : Child) (point 
   pub is : IsDepth (suc depth) zones zone
   pub rest : List ZoneId
   pub same : whole_way ≡ path (suc depth) zones zone ++ rest
-  pub on : next point rest ≡ child
+  pub on : child_towards point rest ≡ child
 
 above_depth : (zones : List ZoneRow) (x zone : ZoneId) (k : ℕ) → parent zones x ≡ Some zone → IsDepth (suc k) zones x → IsDepth k zones zone
 above_depth zones x zone k up is =
@@ -127,7 +128,7 @@ gateways_apart zones zone c d g k path_of r s far e =
     let both : path (suc s.depth) zones zone ++ r.rest ≡ path (suc s.depth) zones zone ++ s.rest =
     sym (ap (λ n. path n zones zone ++ r.rest) deep) ∙ sym r.same ∙ ap path_of same ∙ s.same in
     let rest : r.rest ≡ s.rest = append_cancel_left (path (suc s.depth) zones zone) r.rest s.rest both in
-    let one : c ≡ d = sym r.on ∙ ap (λ q. next q r.rest) same ∙ ap (next k) rest ∙ s.on in
+    let one : c ≡ d = sym r.on ∙ ap (λ q. child_towards q r.rest) same ∙ ap (child_towards k) rest ∙ s.on in
     let t : child_eq c d ≡ true = ap (child_eq c) (sym one) ∙ child_itself c in
     cc
 
@@ -140,11 +141,11 @@ leg_between p zone c d g k r s far =
     let other : path_to (roads_of p) k ≡ front ++ s.rest = s.same ∙ ap (λ n. path n p.zones zone ++ s.rest) deep in
     let last : get_or (own ∷ front) (length front) own ≡ zone =
     ap (λ i. get_or (own ∷ front) i own) (path_length (suc r.depth) p.zones zone r.is) ∙ path_last r.depth p.zones zone own r.is in
-    let apart : child_eq (next g r.rest) (next k s.rest) ≡ false = ap (λ x. child_eq x (next k s.rest)) r.on ∙ ap (child_eq c) s.on ∙ far in
-    let one : Child → Leg = λ x. record { zone = zone; from = x; to = next k s.rest } in
+    let apart : child_eq (child_towards g r.rest) (child_towards k s.rest) ≡ false = ap (λ x. child_eq x (child_towards k s.rest)) r.on ∙ ap (child_eq c) s.on ∙ far in
+    let one : Child → Leg = λ x. record { zone = zone; from = x; to = child_towards k s.rest } in
     let two : Child → Leg = λ x. record { zone = zone; from = c; to = x } in
-    ap (λ q. parting own g k q (path_to (roads_of p) k)) r.same ∙ ap (parting own g k (front ++ r.rest)) other ∙ parted_behind own g k front r.rest s.rest
-    ∙ ap (λ z. parting z g k r.rest s.rest) last ∙ parted_now zone g k r.rest s.rest apart ∙ ap one r.on ∙ ap two s.on
+    ap (λ q. lowest_leg own g k q (path_to (roads_of p) k)) r.same ∙ ap (lowest_leg own g k (front ++ r.rest)) other ∙ parted_behind own g k front r.rest s.rest
+    ∙ ap (λ z. lowest_leg z g k r.rest s.rest) last ∙ parted_now zone g k r.rest s.rest apart ∙ ap one r.on ∙ ap two s.on
 
 pub star_joins_gateways : (p : Platform) → IsGood p → StarJoinsGateways p
 star_joins_gateways p good from to zone found other far above over star =

@@ -9,10 +9,11 @@ use Rattle.sg_base.specs.declared.ids.ZoneId.{ZoneId}
 use Rattle.sg_rows.specs.Platform.{Platform}
 use Rattle.sg_rows.specs.declared.rows.SpokeRow.{SpokeRow}
 use Rattle.sg_route.specs.Equal.{child_eq}
-use Rattle.sg_route.specs.Leg.{parting}
+use Rattle.sg_route.specs.Leg.{lowest_leg}
 use Rattle.sg_route.specs.Local.{spoke_at}
 use Rattle.sg_route.specs.Roads.{Roads, roads_of}
-use Rattle.sg_route.specs.Route.{Passage, by_passage, by_spokes, leg, passage, passage_on, way}
+use Rattle.sg_route.specs.Route.{Passage, by_spokes, leg, passage, passage_on, way}
+use Rattle.sg_route.proofs.Passages.{by_passage}
 use Rattle.sg_route.specs.declared.leg.Leg.{Leg}
 use Rattle.sg_route_laws.specs.Laws.{IsPoint, StarGoesUpAndDown}
 use Rattle.sg_route.proofs.Each.{each_found}
@@ -31,12 +32,12 @@ same_nat : (n : ℕ) → (n == n) ≡ true
 same_nat n = grind (arith, nat_tests)
 
 -- where both paths are one, it ends at the lowest zone, and both points are its children
-parted_same : (last : ZoneId) (a b : PointId) (xs : List ZoneId) → parting last a b xs xs ≡ record { zone = get_or (last ∷ xs) (length xs) last; from = Point a; to = Point b }
+parted_same : (last : ZoneId) (a b : PointId) (xs : List ZoneId) → lowest_leg last a b xs xs ≡ record { zone = get_or (last ∷ xs) (length xs) last; from = Point a; to = Point b }
 parted_same last a b [] = refl
 parted_same last a b (x ∷ xs) = go (x.0 == x.0) (same_nat x.0) (parted_same x a b xs)
   where
-    go : (t : Bool) → t ≡ true → parting x a b xs xs ≡ record { zone = get_or (x ∷ xs) (length xs) x; from = Point a; to = Point b }
-        → cond t (parting x a b xs xs) (record { zone = last; from = Zone x; to = Zone x }) ≡ record { zone = get_or (last ∷ (x ∷ xs)) (length (x ∷ xs)) last; from = Point a; to = Point b }
+    go : (t : Bool) → t ≡ true → lowest_leg x a b xs xs ≡ record { zone = get_or (x ∷ xs) (length xs) x; from = Point a; to = Point b }
+        → cond t (lowest_leg x a b xs xs) (record { zone = last; from = Zone x; to = Zone x }) ≡ record { zone = get_or (last ∷ (x ∷ xs)) (length (x ∷ xs)) last; from = Point a; to = Point b }
     go true e h =
         let make : ZoneId → Leg = λ z. record { zone = z; from = Point a; to = Point b } in
         h ∙ ap make (got (x ∷ xs) (length xs) x last (omega arith))
@@ -51,7 +52,7 @@ leg_same p good a b there same =
     let d = depth_here p.zones za good.tree (home_exists p good a there) in
     let e = path_of p good a there d in
     let n : length xs ≡ suc d.depth = ap length e ∙ path_length (suc d.depth) p.zones za d.is in
-    let P : ZoneId → Leg = λ z. parting za a b xs (tree.path_in m.tree z) in
+    let P : ZoneId → Leg = λ z. lowest_leg za a b xs (tree.path_in m.tree z) in
     let make : ZoneId → Leg = λ z. record { zone = z; from = Point a; to = Point b } in
     let last : get_or (za ∷ xs) (length xs) za ≡ za = ap (λ i. get_or (za ∷ xs) i za) n ∙ ap (λ q. get_or q d.depth za) e ∙ path_last d.depth p.zones za za d.is in
     ap P (sym same) ∙ parted_same za a b xs ∙ ap make last

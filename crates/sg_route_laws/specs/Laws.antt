@@ -16,7 +16,7 @@ use Rattle.sg_route.specs.Local.{declared_route, spoke_at}
 use Rattle.sg_route.specs.Roads.{Roads, roads_of}
 use Rattle.sg_paths.specs.Path.{HasNoPath, IsLeastPath}
 use Rattle.sg_route.specs.Route.{leg, passage_on, through_lowest, whole_way}
-use Rattle.sg_route.specs.Steps.{steps_of}
+use Rattle.sg_route.specs.PathRoutes.{path_routes}
 use Rattle.sg_zones.specs.Faults.{child_holds, zone_above}
 use Rattle.sg_zones.specs.Tree.{Tree, depth, holds, home, routing_in, tree_of}
 
@@ -74,8 +74,8 @@ FullJoinsGateways p = (from to : Child) (l : Local) (zone : ZoneId)
 -- the links between two points are those of a least path, or no path leads from the one to the other
 abbrev pub TakesLeastPath : Roads → PointId → PointId → Type 0
 TakesLeastPath m a b = MatchResult (whole_way m a b)
-    (λ links. IsLeastPath (steps_of m.tree m.locals) a.0 b.0 links)
-    (λ missing. HasNoPath (steps_of m.tree m.locals) a.0 b.0)
+    (λ links. IsLeastPath (path_routes m.tree m.locals) a.0 b.0 links)
+    (λ missing. HasNoPath (path_routes m.tree m.locals) a.0 b.0)
 
 -- so between any two that stand in one Dijkstra zone
 abbrev pub DijkstraTakesLeastPaths : Platform → Type 0

@@ -1,7 +1,7 @@
 -- What is kept of a route while it is gone along.
 use Rattle.std.specs.Prelude.{◌≡◌, Bool, true, ◌==◌, if◌then◌else◌, List, [], ◌∷◌, ◌++◌, length, Option, None, Some, Result, Ok, Err}
 use Rattle.sg_base.specs.declared.ids.LinkId.{LinkId}
-use Rattle.sg_route.specs.Firsts.{is_among}
+use Rattle.sg_route.specs.DistinctLinks.{is_among}
 use Rattle.sg_route.specs.Route.{Passage, Way}
 use Rattle.sg_route.specs.declared.leg.Leg.{Leg}
 

@@ -3,7 +3,7 @@ use Rattle.std.proofs.Common.{◌≡◌, ◌+◌, ◌<◌, ℕ, List, All, ap, a
 use Rattle.sg_paths.specs.declared.route.PathRoute.{PathRoute}
 use Rattle.sg_rows.specs.Platform.{counts_of}
 use Rattle.sg_route.specs.Roads.{roads_of}
-use Rattle.sg_route.specs.Steps.{steps_of}
+use Rattle.sg_route.specs.PathRoutes.{path_routes}
 use Rattle.sg_zones.specs.Tree.{Tree, tree_of}
 use Rattle.sg_route.specs.declared.locals.Local.{Local}
 use Rattle.sg_route.proofs.StepsLemmas.{steps_within}
@@ -13,8 +13,8 @@ pub build-requires : goal.build-requires
 build-requires c =
     let locals : List Local = (roads_of c.args.platform.now).locals in
     let tree : Tree = tree_of c.args.platform.now in
-    let same : steps_of tree locals ≡ c.as_slice.result.now =
-    sym (c.as_slice.ensures.value ∙ c.in_ok-steps.ensures ∙ ap (λ (t : Tree). steps_of t c.args.rows.now) c.requires.zones ∙ ap (steps_of tree) c.requires.rows) in
+    let same : path_routes tree locals ≡ c.as_slice.result.now =
+    sym (c.as_slice.ensures.value ∙ c.in_ok-steps.ensures ∙ ap (λ (t : Tree). path_routes t c.args.rows.now) c.requires.zones ∙ ap (path_routes tree) c.requires.rows) in
     let count : (counts_of c.args.platform.now).points ≡ length c.hosts.result.now + length c.routers.result.now =
     sym (ap₂ (λ (x y : ℕ). x + y) (ap length c.hosts.ensures.rows) (ap length c.routers.ensures.rows)) in
     let P : List PathRoute → Type 0 = λ rs. All (λ r. (r.from < (counts_of c.args.platform.now).points) × (r.to < (counts_of c.args.platform.now).points)) rs in

@@ -7,6 +7,6 @@ abbrev pub is_among : LinkId → List LinkId → Bool
 is_among link links = list_any (λ other. other.0 == link.0) links
 
 -- the links that haven't been seen, each at its first place
-abbrev pub firsts : List LinkId → List LinkId → List LinkId
-firsts seen [] = []
-firsts seen (link ∷ rest) = if is_among link seen then firsts seen rest else link ∷ firsts (seen ++ link ∷ []) rest
+abbrev pub distinct_links : List LinkId → List LinkId → List LinkId
+distinct_links seen [] = []
+distinct_links seen (link ∷ rest) = if is_among link seen then distinct_links seen rest else link ∷ distinct_links (seen ++ link ∷ []) rest
