@@ -34,7 +34,8 @@ pub(crate) fn grow(kept: &mut Kept, n: usize, flows: usize, uses: usize) -> Resu
     let Some(keys) = kept.lives.numbers().checked_add(n) else {
         return Err(Memory);
     };
-    let Some(numbers) = kept.lazy.numbers().checked_add(flows) else {
+    let more = flows.saturating_sub(kept.lazy.spare());
+    let Some(numbers) = kept.lazy.numbers().checked_add(more) else {
         return Err(Memory);
     };
     let Some(ways) = n.checked_mul(66) else {
