@@ -9,7 +9,7 @@ use Rattle.sg_maxmin.specs.Sharing.{IsFlow}
 use Rattle.sg_activity.specs.declared.kinds.LinkCap.{LinkCap}
 use Rattle.sg_activity.specs.Slots.{sooner}
 use Rattle.sg_activity.specs.Hosts.{offer_of, offers_of}
-use Rattle.sg_activity.specs.Links.{Capacities, capacities_of, bandwidth_of, bandwidths_of, bound_of_link, link_at, route_bound, shared_of}
+use Rattle.sg_activity.specs.Links.{Capacities, capacities_of, bandwidths_of, bound_of_link, link_at, route_bound, shared_of}
 use Rattle.sg_activity.specs.kept.Sound.{IsWay}
 use Rattle.sg_activity.proofs.Times.{sooner_assoc, sooner_never}
 
@@ -109,7 +109,7 @@ pub resources_are : (capacities : Capacities) → length (capacities_of capaciti
 resources_are capacities =
     length-append (offers_of capacities.hosts) (bandwidths_of capacities.links)
     ∙ ap (λ n. n + length (bandwidths_of capacities.links)) (length-map capacities.hosts offer_of)
-    ∙ ap (λ n. length capacities.hosts + n) (length-map capacities.links bandwidth_of)
+    ∙ ap (λ n. length capacities.hosts + n) (length-map capacities.links (λ (link : LinkCap). link.bandwidth))
 
 -- a second bound changes nothing of that there is one
 pub sooner_more : (one other : Option ℕ) → IsSome one → IsSome (sooner one other)

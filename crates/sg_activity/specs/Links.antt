@@ -34,11 +34,8 @@ all_on capacities = record {
 abbrev pub is_off : List Bool → ℕ → Bool
 is_off on number = not (slice_index_or on number true)
 
-abbrev pub bandwidth_of : LinkCap → ℕ
-bandwidth_of link = link.bandwidth
-
 abbrev pub bandwidths_of : List LinkCap → List ℕ
-bandwidths_of links = map bandwidth_of links
+bandwidths_of links = map (λ (link : LinkCap). link.bandwidth) links
 
 -- The resources are the hosts, and behind them the links. A FATPIPE link has a number there like any other, but no flow uses it.
 abbrev pub capacities_of : Capacities → List ℕ

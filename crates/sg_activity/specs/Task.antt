@@ -95,38 +95,27 @@ is_hit on task = uses_off on task.place
 -- ---- what takes shares
 -- whether phases of this kind take shares of resources
 abbrev pub takes_share : PhaseKind → Bool
-takes_share phase.Latency = false
 takes_share phase.Flow = true
 takes_share phase.Exec = true
-takes_share phase.Timer = false
-takes_share phase.Kept = false
+takes_share other = false
 
 abbrev pub is_filled : Task → Bool
 is_filled task = takes_share task.kind
 
 -- how much a nanosecond takes of a phase that takes no share
 abbrev pub pace : PhaseKind → ℕ
-pace phase.Latency = 1
-pace phase.Flow = 1
-pace phase.Exec = 1
-pace phase.Timer = 1
 pace phase.Kept = 0
+pace other = 1
 
 -- when a phase is due, of which nothing is left in that time: an execution that is held never is
 abbrev pub wait_by : PhaseKind → Option ℕ → Option ℕ
-wait_by phase.Latency time = time
-wait_by phase.Flow time = time
-wait_by phase.Exec time = time
-wait_by phase.Timer time = time
 wait_by phase.Kept time = None
+wait_by other time = time
 
 -- whether a phase of this kind goes on: an execution that is held doesn't
 abbrev pub goes_by : PhaseKind → Bool
-goes_by phase.Latency = true
-goes_by phase.Flow = true
-goes_by phase.Exec = true
-goes_by phase.Timer = true
 goes_by phase.Kept = false
+goes_by other = true
 
 abbrev pub goes : Task → Bool
 goes task = goes_by task.kind
@@ -144,18 +133,12 @@ flows capacities tasks = filter_map (flow_in capacities) tasks
 abbrev pub next_phase : PhaseKind → Task → Option Task
 next_phase phase.Latency task =
     Some (record task { kind = phase.Flow; left = task.bytes * 1000000000 })
-next_phase phase.Flow task = None
-next_phase phase.Exec task = None
-next_phase phase.Timer task = None
-next_phase phase.Kept task = None
+next_phase other task = None
 
 -- how many flows begin once a phase of this kind is over
 abbrev pub flows_ahead : PhaseKind → ℕ
 flows_ahead phase.Latency = 1
-flows_ahead phase.Flow = 0
-flows_ahead phase.Exec = 0
-flows_ahead phase.Timer = 0
-flows_ahead phase.Kept = 0
+flows_ahead other = 0
 
 abbrev pub phase_after : Option Task → Option Task
 phase_after None = None
@@ -167,18 +150,12 @@ task_at tasks serial = slice_index_or tasks (serial - 1) None
 
 -- ---- executions that are held
 abbrev pub is_exec : PhaseKind → Bool
-is_exec phase.Latency = false
-is_exec phase.Flow = false
 is_exec phase.Exec = true
-is_exec phase.Timer = false
-is_exec phase.Kept = false
+is_exec other = false
 
 abbrev pub is_held : PhaseKind → Bool
-is_held phase.Latency = false
-is_held phase.Flow = false
-is_held phase.Exec = false
-is_held phase.Timer = false
 is_held phase.Kept = true
+is_held other = false
 
 abbrev pub of_kind : (PhaseKind → Bool) → Task → Bool
 of_kind test task = test task.kind

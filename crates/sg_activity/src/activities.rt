@@ -107,6 +107,18 @@ impl Activities {
         ensures grows { self.old.room ≤ self.new.room }
         ensures kept { self.new ≡ record self.old { room = self.new.room } }
     {
+        if n <= self.kept.room {
+            return Ok(());
+        }
+        self.grow(n)
+    }
+
+    // The same, where there isn't that much room yet.
+    fn grow(&mut self, n: usize) -> Result<(), Memory>
+        ensures room { OnOk result (n ≤ self.new.room) }
+        ensures grows { self.old.room ≤ self.new.room }
+        ensures kept { self.new ≡ record self.old { room = self.new.room } }
+    {
         let n = n.max(self.kept.room);
         let more = n - self.kept.room;
         // each latency that passes is followed by a flow, over the links of its own way

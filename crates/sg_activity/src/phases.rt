@@ -2,14 +2,13 @@
 
 ghost use Rattle.std.specs.Prelude.{◌≡◌, ◌<◌, List, MatchOption, None, Option, Some};
 ghost use Rattle.sg_activity.specs.declared.kinds.PhaseKind.TheVariants as phase;
-ghost use Rattle.sg_activity.specs.kept.Pool.{slot_at};
 ghost use Rattle.sg_activity.specs.kept.State.{state_of, task_of};
 ghost use Rattle.sg_activity.specs.Task.{next_phase, rekinded};
 ghost use Rattle.sg_heap.specs.Agenda.{Key};
 ghost use Rattle.sg_activity.specs.kept.Hits.{AreHit};
 ghost use Rattle.sg_activity.specs.kept.Sound.{IsSound};
 ghost use Rattle.sg_activity.specs.kept.Ends.{Ends, GoesOn, IsFirst, IsIdle};
-ghost use Rattle.sg_activity.specs.kept.Whole.{IsUsed};
+ghost use Rattle.sg_activity.specs.kept.Whole.{IsLiveAt, IsUsed};
 
 use crate::kept::Kept;
 use crate::kinds::PhaseKind;
@@ -41,9 +40,7 @@ pub(crate) fn first_due(kept: &Kept) -> Option<(usize, Live)>
 // A latency is over, and the bytes of its communication begin to flow over its way.
 fn begin_flow(kept: &mut Kept, key: usize, live: Live)
     requires kind { live.kind ≡ phase.Latency }
-    requires at { slot_at kept.old.lives.slots key ≡ Some live }
-    requires sound { IsSound kept.old }
-    requires used { IsUsed kept.old kept.old.index }
+    requires there { IsLiveAt kept.old key live }
     ensures ends { Ends kept.old kept.new key live
         (next_phase live.kind (task_of (state_of kept.old) key live)) }
     ensures used { IsUsed kept.new kept.new.index }
@@ -77,9 +74,7 @@ fn begin_flow(kept: &mut Kept, key: usize, live: Live)
 
 /// The activity is done, or given up: its flow ends, it uses nothing, and its key is free.
 pub(crate) fn leave(kept: &mut Kept, hits: &mut Agenda, key: usize, live: Live)
-    requires at { slot_at kept.old.lives.slots key ≡ Some live }
-    requires sound { IsSound kept.old }
-    requires used { IsUsed kept.old kept.old.index }
+    requires there { IsLiveAt kept.old key live }
     requires hit { AreHit kept.old hits.old }
     ensures ends { Ends kept.old kept.new key live None }
     ensures used { IsUsed kept.new kept.new.index }
@@ -99,9 +94,7 @@ pub(crate) fn leave(kept: &mut Kept, hits: &mut Agenda, key: usize, live: Live)
 
 /// Ends the phase of the activity under a key: a latency becomes a flow, and else the activity is done.
 pub(crate) fn end_phase(kept: &mut Kept, hits: &mut Agenda, key: usize, live: Live)
-    requires at { slot_at kept.old.lives.slots key ≡ Some live }
-    requires sound { IsSound kept.old }
-    requires used { IsUsed kept.old kept.old.index }
+    requires there { IsLiveAt kept.old key live }
     requires hit { AreHit kept.old hits.old }
     ensures ends { Ends kept.old kept.new key live
         (next_phase live.kind (task_of (state_of kept.old) key live)) }
@@ -119,8 +112,7 @@ pub(crate) fn end_phase(kept: &mut Kept, hits: &mut Agenda, key: usize, live: Li
 /// Holds an execution: its flow ends, and it keeps what is left of it.
 pub(crate) fn hold(kept: &mut Kept, key: usize, live: Live)
     requires kind { live.kind ≡ phase.Exec }
-    requires at { slot_at kept.old.lives.slots key ≡ Some live }
-    requires sound { IsSound kept.old }
+    requires there { IsLiveAt kept.old key live }
     ensures ends { Ends kept.old kept.new key live
         (Some (rekinded phase.Kept (task_of (state_of kept.old) key live))) }
     ensures used { IsUsed kept.old kept.old.index → IsUsed kept.new kept.new.index }
@@ -145,9 +137,8 @@ pub(crate) fn hold(kept: &mut Kept, key: usize, live: Live)
 /// An execution that is held goes on: its flow begins, with what was left of it.
 pub(crate) fn go_on(kept: &mut Kept, key: usize, live: Live)
     requires kind { live.kind ≡ phase.Kept }
-    requires at { slot_at kept.old.lives.slots key ≡ Some live }
+    requires there { IsLiveAt kept.old key live }
     requires room { 0 < kept.old.room }
-    requires sound { IsSound kept.old }
     ensures goes_on { GoesOn kept.old kept.new key live }
     ensures used { IsUsed kept.old kept.old.index → IsUsed kept.new kept.new.index }
     ensures hit { (hits : List (Option Key)) → AreHit kept.old hits → AreHit kept.new hits }

@@ -10,9 +10,9 @@ ghost use Rattle.sg_activity.specs.kept.Hits.{AreHit, AreLooked, ArePlaced, AreS
 ghost use Rattle.sg_activity.specs.kept.Index.{used_in};
 ghost use Rattle.sg_activity.specs.kept.Pool.{slot_at};
 ghost use Rattle.sg_activity.specs.kept.Rows.{row_at};
-ghost use Rattle.sg_activity.specs.kept.Sound.{IsPlace, IsSound, place_at};
+ghost use Rattle.sg_activity.specs.kept.Sound.{IsPlace, place_at};
 ghost use Rattle.sg_activity.specs.kept.State.{links_at, state_of, ways_of};
-ghost use Rattle.sg_activity.specs.kept.Whole.{IsUsed};
+ghost use Rattle.sg_activity.specs.kept.Whole.{CanSwitch, IsUsed};
 
 use crate::kept::Kept;
 use crate::kinds::PhaseKind;
@@ -116,10 +116,7 @@ fn update_hits<L: Ledger>(kept: &Kept, hits: &mut Agenda, thing: usize, blank: B
 /// Puts a host on or off: an execution there uses it, and a communication from it or to it.
 pub(crate) fn set_host_on(kept: &mut Kept, hits: &mut Agenda, host: usize, on: bool)
     requires host { host < length kept.old.hosts.items }
-    requires sound { IsSound kept.old }
-    requires used { IsUsed kept.old kept.old.index }
-    requires switches { AreSwitches kept.old }
-    requires hit { AreHit kept.old hits.old }
+    requires can { CanSwitch kept.old hits.old }
     ensures flips { Flips kept.old kept.new
         (record (state_of kept.old).on { hosts = slice_set kept.old.hosts_on.items host on }) }
     ensures switches { AreSwitches kept.new }
@@ -135,10 +132,7 @@ pub(crate) fn set_host_on(kept: &mut Kept, hits: &mut Agenda, host: usize, on: b
 /// Puts a link on or off.
 pub(crate) fn set_link_on(kept: &mut Kept, hits: &mut Agenda, link: usize, on: bool)
     requires link { link < length kept.old.links.items }
-    requires sound { IsSound kept.old }
-    requires used { IsUsed kept.old kept.old.index }
-    requires switches { AreSwitches kept.old }
-    requires hit { AreHit kept.old hits.old }
+    requires can { CanSwitch kept.old hits.old }
     ensures flips { Flips kept.old kept.new
         (record (state_of kept.old).on { links = slice_set kept.old.links_on.items link on }) }
     ensures switches { AreSwitches kept.new }

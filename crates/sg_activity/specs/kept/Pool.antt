@@ -26,10 +26,7 @@ goes_on live = goes_by live.kind
 -- over how many links a flow goes that begins once a phase of this kind is over, which is over a way of so many
 abbrev pub uses_ahead : PhaseKind → ℕ → ℕ
 uses_ahead phase.Latency links = links
-uses_ahead phase.Flow links = 0
-uses_ahead phase.Exec links = 0
-uses_ahead phase.Timer links = 0
-uses_ahead phase.Kept links = 0
+uses_ahead other links = 0
 
 -- no activity is of this serial
 abbrev pub IsMissing : List (Option Live) → ℕ → Type 0

@@ -1,16 +1,18 @@
 -- All that `Activities` keeps is of one mind.
-use Rattle.std.specs.Prelude.{◌≡◌, Option, List, All, IsTrue, length, replicate}
+use Rattle.std.specs.Prelude.{◌≡◌, ℕ, Option, Some, List, All, IsTrue, length, replicate}
 use Rattle.sg_base.specs.MarkSet.{MarkSet}
 use Rattle.sg_heap.specs.Agenda.{Key}
 use Rattle.sg_energy.specs.Meter.{Metered}
 use Rattle.sg_activity.specs.declared.kept.Kept.{Kept}
 use Rattle.sg_activity.specs.declared.kinds.HostCap.{HostCap}
 use Rattle.sg_activity.specs.declared.kinds.LinkCap.{LinkCap}
+use Rattle.sg_activity.specs.declared.lives.Live.{Live}
 use Rattle.sg_activity.specs.Doing.{idle_on}
 use Rattle.sg_activity.specs.Hosts.{IsHost}
 use Rattle.sg_activity.specs.kept.Hits.{AreHit, AreSwitches}
 use Rattle.sg_activity.specs.kept.Index.{IsIndexed}
 use Rattle.sg_activity.specs.kept.Metered.{IsMetered, metered_in}
+use Rattle.sg_activity.specs.kept.Pool.{slot_at}
 use Rattle.sg_activity.specs.kept.Rows.{Indexed}
 use Rattle.sg_activity.specs.kept.Sound.{IsSound}
 use Rattle.sg_activity.specs.kept.State.{doing_of, state_of, ways_of}
@@ -26,6 +28,19 @@ pub record IsWhole (kept : Kept) (hits : List (Option Key)) (meters : List Meter
   pub switches : AreSwitches kept
   pub hit : AreHit kept hits
   pub metered : IsMetered kept meters touched
+
+-- The activity is under the key, and what is kept is of one mind, with the index.
+pub record IsLiveAt (kept : Kept) (key : ℕ) (live : Live) : Type 0 where
+  pub at : slot_at kept.lives.slots key ≡ Some live
+  pub sound : IsSound kept
+  pub used : IsUsed kept kept.index
+
+-- Hosts and links can go on and off: it is known what is, what the activities use, and which of them use what is off.
+pub record CanSwitch (kept : Kept) (hits : List (Option Key)) : Type 0 where
+  pub sound : IsSound kept
+  pub used : IsUsed kept kept.index
+  pub switches : AreSwitches kept
+  pub hit : AreHit kept hits
 
 -- The rates are up to date, and the index has what the activities use: so loads can be told.
 pub record CanTell (kept : Kept) : Type 0 where

@@ -52,18 +52,18 @@ read : (kept : Kept) (key hosts : ℕ) (links : List LinkId) → hosts ≡ lengt
 read kept key hosts links many is = is ∙ ap (λ n. way_in n (row_at kept.index.rows key)) many
 
 pub write_way-requires-clause-key : goal.write_way-requires-clause-key
-write_way-requires-clause-key c = omega (arith, there_within c.args.kept.now.lives.slots c.args.key c.args.live c.requires.at, c.requires.sound.room.rows_long)
+write_way-requires-clause-key c = omega (arith, there_within c.args.kept.now.lives.slots c.args.key c.args.live c.requires.there.at, c.requires.there.sound.room.rows_long)
 
 pub write_way-requires-clause-way : goal.write_way-requires-clause-way
 write_way-requires-clause-way c =
     let kept = c.args.kept.now in
-    subst (λ n. IsWayRow n (row_at kept.index.rows c.args.key)) (sym (c.len-hosts.ensures ∙ kept.hosts.ok.0)) (row_of kept c.args.key c.args.live c.requires.sound c.requires.used c.requires.at c.requires.kind)
+    subst (λ n. IsWayRow n (row_at kept.index.rows c.args.key)) (sym (c.len-hosts.ensures ∙ kept.hosts.ok.0)) (row_of kept c.args.key c.args.live c.requires.there.sound c.requires.there.used c.requires.there.at c.requires.kind)
 
 pub write_uses-requires-clause-exist : goal.write_uses-requires-clause-exist
 write_uses-requires-clause-exist c =
     let kept = c.args.kept.now in
     let route = c.as_slice.ensures.value ∙ read kept c.args.key c.len-hosts.result c.write_way.new.links.items (c.len-hosts.ensures ∙ kept.hosts.ok.0) c.write_way.ensures in
-    let way = way_of kept c.args.key c.args.live c.requires.sound c.requires.at c.requires.kind in
+    let way = way_of kept c.args.key c.args.live c.requires.there.sound c.requires.there.at c.requires.kind in
     subst (λ l. All (λ (link : LinkId). link.0 < length l) c.as_slice.result.now) (sym c.deref.ensures.value)
     (subst (All (λ (link : LinkId). link.0 < length kept.links.items)) (sym route) way.exist)
 
@@ -71,14 +71,14 @@ pub write_uses-requires-clause-few : goal.write_uses-requires-clause-few
 write_uses-requires-clause-few c =
     let kept = c.args.kept.now in
     let route = c.as_slice.ensures.value ∙ read kept c.args.key c.len-hosts.result c.write_way.new.links.items (c.len-hosts.ensures ∙ kept.hosts.ok.0) c.write_way.ensures in
-    let way = way_of kept c.args.key c.args.live c.requires.sound c.requires.at c.requires.kind in
+    let way = way_of kept c.args.key c.args.live c.requires.there.sound c.requires.there.at c.requires.kind in
     omega (arith, way.few, ap length route)
 
 pub bound_of-requires : goal.bound_of-requires
 bound_of-requires c =
     let kept = c.args.kept.now in
     let route = c.as_slice-2.ensures.value ∙ read kept c.args.key c.len-hosts.result c.write_way.new.links.items (c.len-hosts.ensures ∙ kept.hosts.ok.0) c.write_way.ensures in
-    let way = way_of kept c.args.key c.args.live c.requires.sound c.requires.at c.requires.kind in
+    let way = way_of kept c.args.key c.args.live c.requires.there.sound c.requires.there.at c.requires.kind in
     subst (λ l. All (λ (link : LinkId). link.0 < length l) c.as_slice-2.result.now) (sym c.deref-2.ensures.value)
     (subst (All (λ (link : LinkId). link.0 < length kept.links.items)) (sym route) way.exist)
 
@@ -88,13 +88,13 @@ start-flow-requires-clause-flow c =
     let s : State = state_of kept in
     let links = links_at (ways_of kept) c.args.key in
     let way_is = read kept c.args.key c.len-hosts.result c.write_way.new.links.items (c.len-hosts.ensures ∙ kept.hosts.ok.0) c.write_way.ensures in
-    let way = way_of kept c.args.key c.args.live c.requires.sound c.requires.at c.requires.kind in
+    let way = way_of kept c.args.key c.args.live c.requires.there.sound c.requires.there.at c.requires.kind in
     let hosts : c.len-hosts.result ≡ length kept.hosts.items = c.len-hosts.ensures ∙ kept.hosts.ok.0 in
     let uses : c.as_slice-3.result.now ≡ shared_of (length kept.hosts.items) kept.links.items links = c.as_slice-3.ensures.value ∙ c.write_uses.ensures ∙ ap (λ n. shared_of n c.deref.result.now c.as_slice.result.now) hosts
     ∙ ap₂ (shared_of (length kept.hosts.items)) c.deref.ensures.value (c.as_slice.ensures.value ∙ way_is) in
     let bound : c.tighter-bound.result ≡ sooner (route_bound kept.links.items links) c.args.live.bound = c.tighter-bound.ensures ∙ ap (λ b. sooner b c.args.live.bound) (c.bound_of.ensures ∙ ap₂ route_bound c.deref-2.ensures.value (c.as_slice-2.ensures.value ∙ way_is)) in
-    let weighs = (c.requires.sound.are.each c.args.key c.args.live c.requires.at).weighs in
-    subst (λ l. IsFlow l (flow c.as_slice-3.result.now c.args.live.weight c.tighter-bound.result)) (sym c.requires.sound.room.capacities)
+    let weighs = (c.requires.there.sound.are.each c.args.key c.args.live c.requires.there.at).weighs in
+    subst (λ l. IsFlow l (flow c.as_slice-3.result.now c.args.live.weight c.tighter-bound.result)) (sym c.requires.there.sound.room.capacities)
     (subst (IsFlow (capacities_of s.capacities)) (sym (ap₂ (λ u b. flow u c.args.live.weight b) uses bound)) (way_is_flow s.capacities links c.args.live.weight c.args.live.bound way weighs))
 
 pub start-flow-requires-clause-use_room : goal.start-flow-requires-clause-use_room
@@ -104,40 +104,40 @@ start-flow-requires-clause-use_room c =
     let links = links_at (ways_of kept) c.args.key in
     let way_is = read kept c.args.key c.len-hosts.result c.write_way.new.links.items (c.len-hosts.ensures ∙ kept.hosts.ok.0) c.write_way.ensures in
     let uses : c.as_slice-3.result.now ≡ shared_of c.len-hosts.result kept.links.items links = c.as_slice-3.ensures.value ∙ c.write_uses.ensures ∙ ap₂ (shared_of c.len-hosts.result) c.deref.ensures.value (c.as_slice.ensures.value ∙ way_is) in
-    let sound = c.requires.sound in
-    omega (arith, ap length uses, shared_few c.len-hosts.result kept.links.items links, (sound.are.each c.args.key old c.requires.at).counted c.requires.kind, ap (λ k. uses_ahead k old.links) c.requires.kind, uses_counted kept.lives.slots c.args.key old (there_within kept.lives.slots c.args.key old c.requires.at) c.requires.at, sound.room.uses, sound.room.use_room)
+    let sound = c.requires.there.sound in
+    omega (arith, ap length uses, shared_few c.len-hosts.result kept.links.items links, (sound.are.each c.args.key old c.requires.there.at).counted c.requires.kind, ap (λ k. uses_ahead k old.links) c.requires.kind, uses_counted kept.lives.slots c.args.key old (there_within kept.lives.slots c.args.key old c.requires.there.at) c.requires.there.at, sound.room.uses, sound.room.use_room)
 
 pub set-requires-clause-there : goal.set-requires-clause-there
-set-requires-clause-there c = ap is_some c.requires.at
+set-requires-clause-there c = ap is_some c.requires.there.at
 
 pub set-requires-clause-same : goal.set-requires-clause-same
-set-requires-clause-same c = subst (λ o. IfSome o (λ (l : Live). l.serial ≡ c.args.live.serial)) (sym c.requires.at) refl
+set-requires-clause-same c = subst (λ o. IfSome o (λ (l : Live). l.serial ≡ c.args.live.serial)) (sym c.requires.there.at) refl
 
 pub overflow_mul-from : goal.overflow_mul-from
 overflow_mul-from c =
-    let small = (c.requires.sound.are.each c.args.key c.args.live c.requires.at).few_bytes in
+    let small = (c.requires.there.sound.are.each c.args.key c.args.live c.requires.there.at).few_bytes in
     omega (arith, c.from.ensures, small)
 
 pub returns-clause-ends : goal.returns-clause-ends
 returns-clause-ends c =
     let kept = c.args.kept.now in
     let s : State = state_of kept in
-    let sound = c.requires.sound in
+    let sound = c.requires.there.sound in
     let key = c.args.key in
     let old = c.args.live in
     let id = c.start-flow.result in
     let links = links_at (ways_of kept) key in
     let way_is = read kept c.args.key c.len-hosts.result c.write_way.new.links.items (c.len-hosts.ensures ∙ kept.hosts.ok.0) c.write_way.ensures in
-    let way = way_of kept key old sound c.requires.at c.requires.kind in
+    let way = way_of kept key old sound c.requires.there.at c.requires.kind in
     let hosts : c.len-hosts.result ≡ length kept.hosts.items = c.len-hosts.ensures ∙ kept.hosts.ok.0 in
     let uses : c.as_slice-3.result.now ≡ shared_of (length kept.hosts.items) kept.links.items links = c.as_slice-3.ensures.value ∙ c.write_uses.ensures ∙ ap (λ n. shared_of n c.deref.result.now c.as_slice.result.now) hosts
     ∙ ap₂ (shared_of (length kept.hosts.items)) c.deref.ensures.value (c.as_slice.ensures.value ∙ way_is) in
     let bound : c.tighter-bound.result ≡ sooner (route_bound kept.links.items links) c.args.live.bound = c.tighter-bound.ensures ∙ ap (λ b. sooner b c.args.live.bound) (c.bound_of.ensures ∙ ap₂ route_bound c.deref-2.ensures.value (c.as_slice-2.ensures.value ∙ way_is)) in
-    let weighs = (sound.are.each key old c.requires.at).weighs in
+    let weighs = (sound.are.each key old c.requires.there.at).weighs in
     let asked : Flow = flow (shared_of (length kept.hosts.items) kept.links.items links) old.weight (sooner (route_bound kept.links.items links) old.bound) in
     let run : RunningFlow = record { flow = asked; rate = 0; began = true; marked = true } in
     let live : Live = record old { kind = phase.Flow; kept = old.bytes * 1000000000; stamp = kept.date; rate = 0; flow = id } in
-    let within = there_within s.slots key old c.requires.at in
+    let within = there_within s.slots key old c.requires.there.at in
     let keys_in : key < length s.keys = omega (arith, within, sound.room.agenda_long) in
     let by_in : id < length s.by_flow = omega (arith, c.start-flow.ensures.in_range, sound.room.by_flow_long) in
     let starts = c.start-flow.ensures.starts in
@@ -145,15 +145,15 @@ returns-clause-ends c =
     let lives : c.set.new.self.slots ≡ set s.slots key (Some live) = c.set.ensures.slots ∙ ap (λ n. set s.slots key (Some (record old { kind = phase.Flow; kept = n * 1000000000; stamp = kept.date; rate = 0; flow = id }))) c.from.ensures in
     let new : State = begun_state s s.drawn key live s.ways (set s.keys key None) (set s.runs id (Some run)) (set s.by_flow id key) in
     let turns : Turns s new key live.serial (Some live) =
-    flow_turns s s.drawn key live (set s.keys key None) sound.are (flow_begins s key old live sound.are c.requires.at c.requires.kind within keys_in refl refl refl refl refl) refl refl c.start-flow.ensures.free c.start-flow.ensures.in_range by_in (way_is_flow s.capacities links old.weight old.bound way weighs).limit (path_of kept key old sound c.requires.at c.requires.kind) in
+    flow_turns s s.drawn key live (set s.keys key None) sound.are (flow_begins s key old live sound.are c.requires.there.at c.requires.kind within keys_in refl refl refl refl refl) refl refl c.start-flow.ensures.free c.start-flow.ensures.in_range by_in (way_is_flow s.capacities links old.weight old.bound way weighs).limit (path_of kept key old sound c.requires.there.at c.requires.kind) in
     let state_is = state_same s s.drawn false c.set.new.self.slots (set s.slots key (Some live)) s.ways s.ways c.clear.new.self (set s.keys key None) c.start-flow.new.self.slots (set s.runs id (Some run)) (set s.by_flow id key) (set s.by_flow id key) c.insert.new.self.members (with_mark key s.fresh) c.start-flow.new.self.ended s.ended c.start-flow.new.self.resources s.resources
     lives refl c.clear.ensures runs refl (ap (λ (m : MarkSet). m.members) c.insert.ensures) (ap (λ (l : Lazily). l.ended) starts) (ap (λ (l : Lazily). l.resources) starts) in
-    let counted = ahead_counted s.slots key old within c.requires.at in
-    let few : length c.as_slice-3.result.now ≤ uses_ahead old.kind old.links = omega (arith, ap length uses, shared_few (length kept.hosts.items) kept.links.items links, (sound.are.each key old c.requires.at).counted c.requires.kind, ap (λ k. uses_ahead k old.links) c.requires.kind) in
+    let counted = ahead_counted s.slots key old within c.requires.there.at in
+    let few : length c.as_slice-3.result.now ≤ uses_ahead old.kind old.links = omega (arith, ap length uses, shared_few (length kept.hosts.items) kept.links.items links, (sound.are.each key old c.requires.there.at).counted c.requires.kind, ap (λ k. uses_ahead k old.links) c.requires.kind) in
     record {
       slot = Some live;
       turns = subst (λ st. Turns s st key live.serial (Some live)) (sym state_is) turns;
-      under = ap under_of state_is ∙ flow_under s key old live (set s.keys key None) (set s.runs id (Some run)) (set s.by_flow id key) sound.are c.requires.at c.requires.kind refl turns;
+      under = ap under_of state_is ∙ flow_under s key old live (set s.keys key None) (set s.runs id (Some run)) (set s.by_flow id key) sound.are c.requires.there.at c.requires.kind refl turns;
       drawn = refl;
       sound = record {
         are = subst IsKept (sym state_is) (turned s new key live.serial (Some live) sound.are turns);
@@ -161,9 +161,9 @@ returns-clause-ends c =
           capacities = ap (λ (l : Lazily). l.capacities) starts ∙ sound.room.capacities;
           few = sound.room.few;
           early = sound.room.early;
-          flows = omega (arith, sound.room.flows, counted, ap flows_ahead c.requires.kind, ahead_set s.slots key (Some live) within, ap slot_ahead c.requires.at, ap (sum_by slot_ahead) lives);
+          flows = omega (arith, sound.room.flows, counted, ap flows_ahead c.requires.kind, ahead_set s.slots key (Some live) within, ap slot_ahead c.requires.there.at, ap (sum_by slot_ahead) lives);
           flow_room = omega (arith, sound.room.flow_room, ap (λ (l : Lazily). l.flow_room) starts);
-          uses = omega (arith, sound.room.uses, c.uses_ahead.ensures, uses_counted s.slots key old within c.requires.at, uses_set s.slots key (Some live) within, ap slot_uses c.requires.at, ap (sum_by slot_uses) lives);
+          uses = omega (arith, sound.room.uses, c.uses_ahead.ensures, uses_counted s.slots key old within c.requires.there.at, uses_set s.slots key (Some live) within, ap slot_uses c.requires.there.at, ap (sum_by slot_uses) lives);
           use_room = omega (arith, sound.room.use_room, c.uses_ahead.ensures, few, ap (λ (l : Lazily). l.use_room) starts);
           keys_free = omega (arith, sound.room.keys_free, c.set.ensures.room);
           rows_long = omega (arith, sound.room.rows_long, ap length lives, length-set s.slots key (Some live));
@@ -182,12 +182,12 @@ returns-clause-used c =
     let key = c.args.key in
     let old = c.args.live in
     let live : Live = record old { kind = phase.Flow; kept = c.from.result * 1000000000; stamp = kept.date; rate = 0; flow = c.start-flow.result } in
-    let within = there_within s.slots key old c.requires.at in
-    used_still s.capacities s.slots s.ways kept.room kept.index c.requires.used c.set.new.self.slots s.ways kept.room
+    let within = there_within s.slots key old c.requires.there.at in
+    used_still s.capacities s.slots s.ways kept.room kept.index c.requires.there.used c.set.new.self.slots s.ways kept.room
     (λ k. ap (λ l. used_by (length s.capacities.hosts) (length s.capacities.links) (links_at s.ways k) (get_or l k None)) c.set.ensures.slots ∙ elim (eq_cases k key) [
       | inl e ↦ ap (λ n. used_by (length s.capacities.hosts) (length s.capacities.links) (links_at s.ways k) (get_or (set s.slots key (Some live)) n None)) e ∙ ap (used_by (length s.capacities.hosts) (length s.capacities.links) (links_at s.ways k)) (set_here s.slots key (Some live) within)
           ∙ used_on (length s.capacities.hosts) (length s.capacities.links) (links_at s.ways k) old live c.requires.kind refl refl
-          ∙ sym (ap (λ n. used_by (length s.capacities.hosts) (length s.capacities.links) (links_at s.ways k) (get_or s.slots n None)) e ∙ ap (used_by (length s.capacities.hosts) (length s.capacities.links) (links_at s.ways k)) c.requires.at)
+          ∙ sym (ap (λ n. used_by (length s.capacities.hosts) (length s.capacities.links) (links_at s.ways k) (get_or s.slots n None)) e ∙ ap (used_by (length s.capacities.hosts) (length s.capacities.links) (links_at s.ways k)) c.requires.there.at)
       | inr ne ↦ ap (used_by (length s.capacities.hosts) (length s.capacities.links) (links_at s.ways k)) (set_there s.slots key k (Some live) ne)
     ])
     (ap length c.set.ensures.slots ∙ length-set s.slots key (Some live)) (omega arith)
@@ -199,18 +199,18 @@ returns-clause-hit c hits is =
     let key = c.args.key in
     let old = c.args.live in
     let live : Live = record old { kind = phase.Flow; kept = c.from.result * 1000000000; stamp = kept.date; rate = 0; flow = c.start-flow.result } in
-    let within = there_within s.slots key old c.requires.at in
+    let within = there_within s.slots key old c.requires.there.at in
     hits_still s.on s.slots s.ways hits is c.set.new.self.slots s.ways
     (λ k. ap (λ l. hit_in s.on (links_at s.ways k) (get_or l k None)) c.set.ensures.slots ∙ elim (eq_cases k key) [
       | inl e ↦ ap (λ n. hit_in s.on (links_at s.ways k) (get_or (set s.slots key (Some live)) n None)) e ∙ ap (hit_in s.on (links_at s.ways k)) (set_here s.slots key (Some live) within)
           ∙ hit_on s.on (links_at s.ways k) old live c.requires.kind refl refl
-          ∙ sym (ap (λ n. hit_in s.on (links_at s.ways k) (get_or s.slots n None)) e ∙ ap (hit_in s.on (links_at s.ways k)) c.requires.at)
+          ∙ sym (ap (λ n. hit_in s.on (links_at s.ways k) (get_or s.slots n None)) e ∙ ap (hit_in s.on (links_at s.ways k)) c.requires.there.at)
       | inr ne ↦ ap (hit_in s.on (links_at s.ways k)) (set_there s.slots key k (Some live) ne)
     ])
     (ap length c.set.ensures.slots ∙ length-set s.slots key (Some live))
 
 pub set-requires-clause-host : goal.set-requires-clause-host
-set-requires-clause-host c = subst (λ o. IfSome o (λ (l : Live). l.host ≡ c.args.live.host)) (sym c.requires.at) refl
+set-requires-clause-host c = subst (λ o. IfSome o (λ (l : Live). l.host ≡ c.args.live.host)) (sym c.requires.there.at) refl
 
 pub set-requires-clause-peer : goal.set-requires-clause-peer
-set-requires-clause-peer c = subst (λ o. IfSome o (λ (l : Live). l.peer ≡ c.args.live.peer)) (sym c.requires.at) refl
+set-requires-clause-peer c = subst (λ o. IfSome o (λ (l : Live). l.peer ≡ c.args.live.peer)) (sym c.requires.there.at) refl

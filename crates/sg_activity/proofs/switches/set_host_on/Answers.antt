@@ -9,18 +9,18 @@ use Rattle.sg_activity.proofs.switches.set_host_on.Goals as goal
 pub overflow_add-end-2 : goal.overflow_add-end-2
 overflow_add-end-2 c =
     let kept = c.args.kept.now in
-    omega (arith, c.requires.host, c.len.ensures, c.len-2.ensures, kept.hosts.ok.0, kept.links.ok.0, c.requires.switches.1.1.0)
+    omega (arith, c.requires.host, c.len.ensures, c.len-2.ensures, kept.hosts.ok.0, kept.links.ok.0, c.requires.can.switches.1.1.0)
 
 pub update_hits-requires-clause-keys : goal.update_hits-requires-clause-keys
-update_hits-requires-clause-keys c = users_below c.args.kept.now c.args.kept.now.index c.requires.used c.is_both_ways.ensures c.args.host
+update_hits-requires-clause-keys c = users_below c.args.kept.now c.args.kept.now.index c.requires.can.used c.is_both_ways.ensures c.args.host
 
 pub update_hits-requires-2-clause-keys : goal.update_hits-requires-2-clause-keys
-update_hits-requires-2-clause-keys c = users_below c.args.kept.now c.args.kept.now.index c.requires.used c.is_both_ways.ensures (c.len.result + c.len-2.result + c.args.host)
+update_hits-requires-2-clause-keys c = users_below c.args.kept.now c.args.kept.now.index c.requires.can.used c.is_both_ways.ensures (c.len.result + c.len-2.result + c.args.host)
 
 pub returns-clause-hit : goal.returns-clause-hit
 returns-clause-hit c =
     let kept = c.args.kept.now in
     let index = c.args.kept.now.index in
     let end : c.len.result + c.len-2.result + c.args.host ≡ length kept.hosts.items + length kept.links.items + c.args.host = ap₂ (λ n m. n + m + c.args.host) (c.len.ensures ∙ kept.hosts.ok.0) (c.len-2.ensures ∙ kept.links.ok.0) in
-    hosts_looked kept index c.requires.used c.is_both_ways.ensures c.args.hits.now c.requires.hit c.args.host c.args.on c.update_hits.new.hits c.update_hits-2.new.hits c.update_hits.ensures
+    hosts_looked kept index c.requires.can.used c.is_both_ways.ensures c.args.hits.now c.requires.can.hit c.args.host c.args.on c.update_hits.new.hits c.update_hits-2.new.hits c.update_hits.ensures
     (subst (λ n. AreLooked (record (state_of kept).on { hosts = set kept.hosts_on.items c.args.host c.args.on }) kept.lives.slots (ways_of kept) c.update_hits.new.hits c.update_hits-2.new.hits (users_on index.users n)) end c.update_hits-2.ensures)

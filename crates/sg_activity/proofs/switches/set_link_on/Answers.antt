@@ -7,12 +7,12 @@ use Rattle.sg_activity.proofs.Switched.{link_looked}
 use Rattle.sg_activity.proofs.switches.set_link_on.Goals as goal
 
 pub update_hits-requires-clause-keys : goal.update_hits-requires-clause-keys
-update_hits-requires-clause-keys c = users_below c.args.kept.now c.args.kept.now.index c.requires.used c.is_both_ways.ensures (c.len.result + c.args.link)
+update_hits-requires-clause-keys c = users_below c.args.kept.now c.args.kept.now.index c.requires.can.used c.is_both_ways.ensures (c.len.result + c.args.link)
 
 pub returns-clause-hit : goal.returns-clause-hit
 returns-clause-hit c =
     let kept = c.args.kept.now in
     let index = c.args.kept.now.index in
     let thing : c.len.result + c.args.link ≡ length kept.hosts.items + c.args.link = ap (λ n. n + c.args.link) (c.len.ensures ∙ kept.hosts.ok.0) in
-    link_looked kept index c.requires.used c.is_both_ways.ensures c.args.hits.now c.requires.hit c.args.link c.args.on c.update_hits.new.hits
+    link_looked kept index c.requires.can.used c.is_both_ways.ensures c.args.hits.now c.requires.can.hit c.args.link c.args.on c.update_hits.new.hits
     (subst (λ n. AreLooked (record (state_of kept).on { links = set kept.links_on.items c.args.link c.args.on }) kept.lives.slots (ways_of kept) c.args.hits.now c.update_hits.new.hits (users_on index.users n)) thing c.update_hits.ensures)

@@ -19,6 +19,9 @@ unreachable-requires c =
     let s : State = state_of kept in
     c.requires (subst (λ (d : Doing). d.due ≡ []) c.self.view_is (none_due_told s c.self.invariant.sound.are kept.room c.in_default.ensures))
 
+pub end_phase-requires-clause-there : goal.end_phase-requires-clause-there
+end_phase-requires-clause-there c = record { at = c.in-Some.ensures.at; sound = c.self.invariant.sound; used = c.self.invariant.used }
+
 pub note-requires : goal.note-requires
 note-requires c = λ exec. omega (arith, exec_host (state_of c.self.inside.kept) c.in-Some.key c.in-Some.live c.self.invariant.sound.are c.in-Some.ensures.at exec, c.self.invariant.metered.room)
 

@@ -18,8 +18,8 @@ unreachable-requires c =
     let none = task_missed s c.self.invariant.sound.are c.args.serial.0 c.requires.from c.in_default.ensures in
     true≢false (sym c.requires.under_way ∙ ap (λ (d : Doing). is_some (task_at d.under.tasks c.args.serial.0)) (sym c.self.view_is) ∙ ap is_some none)
 
-pub leave-requires-clause-at : goal.leave-requires-clause-at
-leave-requires-clause-at c = c.in-Some.ensures.at
+pub leave-requires-clause-there : goal.leave-requires-clause-there
+leave-requires-clause-there c = record { at = c.in-Some.ensures.at; sound = c.self.invariant.sound; used = c.self.invariant.used }
 
 pub note-requires : goal.note-requires
 note-requires c = λ exec. omega (arith, exec_host (state_of c.self.inside.kept) c.in-Some.key c.in-Some.live c.self.invariant.sound.are c.in-Some.ensures.at exec, c.self.invariant.metered.room)

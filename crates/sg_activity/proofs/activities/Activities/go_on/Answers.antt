@@ -26,8 +26,8 @@ go_on-requires-clause-kind c =
     let s : State = state_of c.self.inside.kept in
     held_is c.in-Some.live.kind (sym (kind_found s c.self.invariant.sound.are c.args.serial.0 is_held c.in-Some.key c.in-Some.live c.in-Some.ensures) ∙ ap (λ (d : Doing). is_kept d.under c.args.serial.0) c.self.view_is ∙ c.requires.held)
 
-pub go_on-requires-clause-at : goal.go_on-requires-clause-at
-go_on-requires-clause-at c = c.in-Some.ensures.at
+pub go_on-requires-clause-there : goal.go_on-requires-clause-there
+go_on-requires-clause-there c = record { at = c.in-Some.ensures.at; sound = c.self.invariant.sound; used = c.self.invariant.used }
 
 pub insert-requires : goal.insert-requires
 insert-requires c =

@@ -25,8 +25,8 @@ hold-requires-clause-kind c =
     let s : State = state_of c.self.inside.kept in
     exec_is c.in-Some.live.kind (sym (kind_found s c.self.invariant.sound.are c.args.serial.0 is_exec c.in-Some.key c.in-Some.live c.in-Some.ensures) ∙ ap (λ (d : Doing). is_computing d.under c.args.serial.0) c.self.view_is ∙ c.requires.computes)
 
-pub hold-requires-clause-at : goal.hold-requires-clause-at
-hold-requires-clause-at c = c.in-Some.ensures.at
+pub hold-requires-clause-there : goal.hold-requires-clause-there
+hold-requires-clause-there c = record { at = c.in-Some.ensures.at; sound = c.self.invariant.sound; used = c.self.invariant.used }
 
 pub note-requires : goal.note-requires
 note-requires c = λ exec. omega (arith, exec_host (state_of c.self.inside.kept) c.in-Some.key c.in-Some.live c.self.invariant.sound.are c.in-Some.ensures.at exec, c.self.invariant.metered.room)

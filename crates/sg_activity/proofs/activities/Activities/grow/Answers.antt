@@ -11,7 +11,7 @@ use Rattle.sg_activity.proofs.Indexing.{used_grown}
 use Rattle.sg_activity.specs.Underway.{power_at}
 use Rattle.sg_activity.specs.kept.Metered.{energies, metered_in}
 use Rattle.sg_activity.proofs.Metering.{metered_same}
-use Rattle.sg_activity.proofs.activities.Activities.reserve.Goals as goal
+use Rattle.sg_activity.proofs.activities.Activities.grow.Goals as goal
 
 pub invariant_of-self : goal.invariant_of-self
 invariant_of-self c =
