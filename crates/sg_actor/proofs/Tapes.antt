@@ -4,7 +4,7 @@ use Prim.Native.Nat.{suc}
 use Rattle.std.proofs.lemmas.List.{length-map, map_more}
 use Rattle.std.proofs.lemmas.Grind.{common_steps}
 use Rattle.sg_base.specs.declared.ids.ActorId.{ActorId}
-use Rattle.sg_base.specs.Mind.{master_mind}
+use Rattle.sg_base.specs.Mind.{master, mind}
 use Rattle.sg_actor.specs.Roles.{number_of}
 use Rattle.sg_actor.specs.kept.Tape.{tape_mind, IsTape, FitActorsFrom}
 
@@ -21,9 +21,9 @@ fit_more n words word fit small k from within = grind (arith, common_steps, fit 
 pub master_tape : (tasks flops bytes : ℕ) (workers : List ActorId) (words : List ℕ)
     → words ≡ (2 ∷ tasks ∷ flops ∷ bytes ∷ 0 ∷ []) ++ map number_of workers → FitActorsFrom 5 words
     → 0 < length workers → tasks + length workers < 2 ^ 64
-    → IsTape words × (tape_mind words ≡ Some (master_mind tasks flops bytes (map number_of workers)))
+    → IsTape words × (tape_mind words ≡ Some (mind master (tasks ∷ flops ∷ bytes ∷ 0 ∷ map number_of workers)))
 master_tape tasks flops bytes workers words is fit some few =
-    let Begins : List ℕ → Type 0 = λ l. IsTape l × (tape_mind l ≡ Some (master_mind tasks flops bytes (map number_of workers))) in
+    let Begins : List ℕ → Type 0 = λ l. IsTape l × (tape_mind l ≡ Some (mind master (tasks ∷ flops ∷ bytes ∷ 0 ∷ map number_of workers))) in
     let count : length (map number_of workers) ≡ length workers = length-map workers number_of in
     let fit_here : FitActorsFrom 5 (2 ∷ tasks ∷ flops ∷ bytes ∷ 0 ∷ map number_of workers) = subst (FitActorsFrom 5) is fit in
     subst Begins (sym is) ((omega arith, (omega arith, omega arith, omega arith, λ k from within. fit_here (suc k) (omega arith) (omega arith))), refl)

@@ -1,20 +1,24 @@
 -- The minds of roles.
-use Rattle.std.specs.Prelude.{ℕ, ◌+◌, ◌^◌, ◌<◌, length, map, All, ⊤}
+use Rattle.std.specs.Prelude.{ℕ, ◌+◌, ◌^◌, ◌<◌, [], ◌∷◌, length, map, All, ⊤}
 use Rattle.sg_base.specs.declared.ids.ActorId.{ActorId}
 use Rattle.sg_base.specs.Limits.{Extent, IsActorIn, IsAmount}
-use Rattle.sg_base.specs.Mind.{Mind, replay_mind, worker_mind, master_mind, churn_mind}
+use Rattle.sg_base.specs.Mind.{Mind, mind, replay, worker, master, churn}
 use Rattle.sg_actor.specs.declared.role.Role.{Role}
 use Rattle.sg_actor.specs.declared.role.Role.TheVariants as role
 
 abbrev pub number_of : ActorId → ℕ
 number_of actor = actor.0
 
--- the mind with which an actor of this role begins
+-- The mind with which an actor of this role begins. One that replays its script lines, and a worker, keep their own
+-- number. A master: how many tasks it hands out, the flops and the bytes of each, how many messages it has sent, and its
+-- workers; behind the tasks each worker is told once that there are no more. One that churns: the state of its generator,
+-- its step and its phase, how many steps it does, its own number, and those of the next actor of the ring and of the one
+-- before it.
 abbrev pub mind_of : Role → Mind
-mind_of (role.Replay me) = replay_mind me.0
-mind_of (role.Worker me) = worker_mind me.0
-mind_of (role.Master tasks flops bytes workers) = master_mind tasks flops bytes (map number_of workers)
-mind_of (role.Churn seed steps me next prev) = churn_mind seed steps me.0 next.0 prev.0
+mind_of (role.Replay me) = mind replay (me.0 ∷ [])
+mind_of (role.Worker me) = mind worker (me.0 ∷ [])
+mind_of (role.Master tasks flops bytes workers) = mind master (tasks ∷ flops ∷ bytes ∷ 0 ∷ map number_of workers)
+mind_of (role.Churn seed steps me next prev) = mind churn (seed ∷ 0 ∷ 0 ∷ steps ∷ me.0 ∷ next.0 ∷ prev.0 ∷ [])
 
 -- a master has a worker, and can count the messages that it sends
 abbrev pub CanCast : Role → Type 0

@@ -52,11 +52,7 @@ call_of me action.Yield = call.Yield
 abbrev pub replay_turn : List ℕ → Answer → Turn
 replay_turn numbers (answer.Act what) = turned replay numbers (call_of (actor_of (slice_index numbers 0)) what)
 replay_turn numbers answer.NoMore = leaves numbers
-replay_turn numbers answer.Start = turned replay numbers call.Ask
-replay_turn numbers answer.Done = turned replay numbers call.Ask
-replay_turn numbers (answer.Got message) = turned replay numbers call.Ask
-replay_turn numbers answer.Refused = turned replay numbers call.Ask
-replay_turn numbers answer.Failed = turned replay numbers call.Ask
+replay_turn numbers other = turned replay numbers call.Ask
 
 -- a worker receives from the mailbox under its name
 abbrev pub receives : List ℕ → Turn
@@ -70,12 +66,7 @@ worker_got numbers msg.Empty = receives numbers
 -- it does the task that it got, at priority 1, ends when it is told to, and else receives
 abbrev pub worker_turn : List ℕ → Answer → Turn
 worker_turn numbers (answer.Got message) = worker_got numbers message
-worker_turn numbers (answer.Act what) = receives numbers
-worker_turn numbers answer.NoMore = receives numbers
-worker_turn numbers answer.Start = receives numbers
-worker_turn numbers answer.Done = receives numbers
-worker_turn numbers answer.Refused = receives numbers
-worker_turn numbers answer.Failed = receives numbers
+worker_turn numbers other = receives numbers
 
 -- what a master sends to its worker of this place
 abbrev pub sends : List ℕ → ℕ → ℕ → Msg → Turn
