@@ -59,7 +59,7 @@ module _ (order place : List ℕ) (count : ℕ) (s : IsSparse order place count)
     ]
 
     pub sparse_more : IsSparse (set (set order at other) count number) (set (set place other at) number count) (count + 1)
-    sparse_more = rw (other_is, its) (record { placed = placed_in; within = omega (arith, count_in, length-set (set place (get_or order count 0) at) (get_or order at 0) count, length-set place (get_or order count 0) at) })
+    sparse_more = rw (other_is, its) (record { placed = placed_in; within = omega (arith, count_in, length-set (set place (get_or order count 0) at) (get_or order at 0) count, length-set place (get_or order count 0) at); few = omega (arith, s.few, length-set (set place (get_or order count 0) at) (get_or order at 0) count, length-set place (get_or order count 0) at) })
 
     next : count + 1 ≡ suc count
     next = omega arith
@@ -113,7 +113,7 @@ module _ (order place : List ℕ) (count : ℕ) (s : IsSparse order place count)
   len' = length-set (set place other at) number last ∙ length-set place other at
 
   pub sparse_less : IsSparse order' place' last
-  sparse_less = rw (other_is, it_is) (record { placed = placed_less; within = omega (arith, last_in, length-set (set place (get_or order last 0) at) (get_or order at 0) last, length-set place (get_or order last 0) at) })
+  sparse_less = rw (other_is, it_is) (record { placed = placed_less; within = omega (arith, last_in, length-set (set place (get_or order last 0) at) (get_or order at 0) last, length-set place (get_or order last 0) at); few = omega (arith, s.few, length-set (set place (get_or order last 0) at) (get_or order at 0) last, length-set place (get_or order last 0) at) })
 
   number_in : number < length place'
   number_in = omega (arith, h, len')

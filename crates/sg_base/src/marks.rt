@@ -7,13 +7,16 @@ use crate::memory::Memory;
 use std::alloc::Global;
 use std::marker::Model;
 
+// So many numbers there may be: their places have 32 bits.
+const MOST: usize = 1 << 32;
+
 /// Numbers below a room, each once, in the order in which they came.
 #[derive(Drop)]
 pub struct Marks {
     // all numbers below the room: first the members, in the order in which they came, and then the others
     order: Vec<usize>,
     // where each number stands in it
-    place: Vec<usize>,
+    place: Vec<u32>,
     // how many members there are
     count: usize,
 }
@@ -49,7 +52,7 @@ impl Marks {
         requires { number < self.now.room }
         ensures { result ≡ is_in number self.now.members }
     {
-        self.place[number] < self.count
+        (self.place[number] as usize) < self.count
     }
 
     /// The members, in the order in which they came.
@@ -67,14 +70,14 @@ impl Marks {
         requires { number < self.old.room }
         ensures { self.new ≡ record self.old { members = with_mark number self.old.members } }
     {
-        let at = self.place[number];
+        let at = self.place[number] as usize;
         if at >= self.count {
             let last = self.count;
             let other = self.order[last];
             self.order[at] = other;
-            self.place[other] = at;
+            self.place[other] = at as u32;
             self.order[last] = number;
-            self.place[number] = last;
+            self.place[number] = last as u32;
             self.count = last + 1;
         }
     }
@@ -87,14 +90,14 @@ impl Marks {
             → is_in other self.new.members ≡ is_in other self.old.members }
         ensures room { self.new.room ≡ self.old.room }
     {
-        let at = self.place[number];
+        let at = self.place[number] as usize;
         if at < self.count {
             let last = self.count - 1;
             let other = self.order[last];
             self.order[at] = other;
-            self.place[other] = at;
+            self.place[other] = at as u32;
             self.order[last] = number;
-            self.place[number] = last;
+            self.place[number] = last as u32;
             self.count = last;
         }
     }
@@ -112,11 +115,14 @@ impl Marks {
         ensures failed { OnErr result (self.new ≡ self.old) }
     {
         let number = self.place.len();
+        if number >= MOST {
+            return Err(Memory);
+        }
         match self.order.push(number) {
             Ok(()) => {}
             Err(_) => return Err(Memory),
         }
-        match self.place.push(number) {
+        match self.place.push(number as u32) {
             Ok(()) => Ok(()),
             Err(_) => {
                 self.order.truncate(number);
