@@ -48,6 +48,7 @@ fresh kept resources holds_len demands_len counts_len active_len holds demands p
     record {
       kept = record {
         places = record {
+          sound = sound;
           levels = omega (arith, few);
           parts = omega (arith, few);
           moved = omega (arith, few);
@@ -79,6 +80,7 @@ grown_kept s old new keeps kept =
     let places = kept.places in
     record {
       places = record {
+        sound = places.sound;
         levels = omega (arith, places.levels, keeps.levels_room);
         parts = omega (arith, places.parts, keeps.parts_room);
         moved = omega (arith, places.moved, keeps.moved_room);
@@ -141,6 +143,7 @@ between_extended s t sound sound' kept caps capacities same room before =
       flows = λ id. inl (record { flow = same id; level = refl; still = λ off. off });
     }) refl
     (system_kept s t sound sound' kept before.kept (record {
+      sound = sound';
       levels = room.levels;
       parts = room.parts;
       moved = room.moved;

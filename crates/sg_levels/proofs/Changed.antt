@@ -38,6 +38,7 @@ module _ (s t : Sharing) (sound : IsSound s) (sound' : IsSound t) (id : ℕ) (it
       let places = are.places in
       let caps = ap length capacities in
       system_kept s t sound sound' kept are (record {
+        sound = sound';
         levels = omega (arith, places.levels, numbers);
         parts = omega (arith, places.parts, numbers);
         moved = omega (arith, places.moved, numbers);
@@ -115,6 +116,7 @@ module _ (s t : Sharing) (sound : IsSound s) (sound' : IsSound t) (id : ℕ) (re
       let places = kept.places in
       let caps = ap length capacities in
       system_kept s t sound sound' new kept (record {
+        sound = sound';
         levels = omega (arith, places.levels, numbers);
         parts = omega (arith, places.parts, numbers);
         moved = omega (arith, places.moved, numbers);
@@ -190,6 +192,7 @@ module _ (s t : Sharing) (sound : IsSound s) (sound' : IsSound t) (id : ℕ) (us
       let places = kept.places in
       let caps = ap length capacities in
       system_kept s t sound sound' new kept (record {
+        sound = sound';
         levels = omega (arith, places.levels, numbers);
         parts = omega (arith, places.parts, numbers);
         moved = omega (arith, places.moved, numbers);
@@ -242,6 +245,7 @@ module _ (s t : Sharing) (sound : IsSound s) (sound' : IsSound t) (c : ℕ) (slo
       let places = kept.places in
       let numbers = ap length slots in
       system_kept s t sound sound' new kept (record {
+        sound = sound';
         levels = omega (arith, places.levels, numbers);
         parts = omega (arith, places.parts, numbers);
         moved = omega (arith, places.moved, numbers);

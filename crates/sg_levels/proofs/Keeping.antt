@@ -42,7 +42,7 @@ pub longer_kept : (s : Sharing) (old : Levels) (longest : ℕ) → old.longest �
 longer_kept s old longest more kept =
     let places = kept.places in
     record {
-      places = record { levels = places.levels; parts = places.parts; moved = places.moved; stale = places.stale; holds = places.holds; demands = places.demands; counts = places.counts; active = places.active };
+      places = record { sound = places.sound; levels = places.levels; parts = places.parts; moved = places.moved; stale = places.stale; holds = places.holds; demands = places.demands; counts = places.counts; active = places.active };
       demands = kept.demands;
       counts = kept.counts;
       fit = kept.fit;

@@ -91,7 +91,7 @@ rested : (s : Sharing) (all : Levels) (active : MarkSet) → active.room ≡ all
 rested s all active room kept =
     let places = kept.places in
     record {
-      places = record { levels = places.levels; parts = places.parts; moved = places.moved; stale = places.stale; holds = places.holds; demands = places.demands; counts = places.counts; active = room ∙ places.active };
+      places = record { sound = places.sound; levels = places.levels; parts = places.parts; moved = places.moved; stale = places.stale; holds = places.holds; demands = places.demands; counts = places.counts; active = room ∙ places.active };
       demands = kept.demands;
       counts = kept.counts;
       fit = kept.fit;
@@ -160,6 +160,7 @@ written_kept s old new keeps kept =
     let places = kept.places in
     record {
       places = record {
+        sound = places.sound;
         levels = omega (arith, places.levels, ap length keeps.levels);
         parts = omega (arith, places.parts, ap length keeps.parts);
         moved = omega (arith, places.moved, ap (λ (m : MarkSet). m.room) keeps.moved);

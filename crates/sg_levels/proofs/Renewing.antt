@@ -63,7 +63,7 @@ told_between s all stale but room are =
     let places = kept.places in
     record {
       kept = record {
-        places = record { levels = places.levels; parts = places.parts; moved = places.moved; stale = omega (arith, places.stale, room); holds = places.holds; demands = places.demands; counts = places.counts; active = places.active };
+        places = record { sound = places.sound; levels = places.levels; parts = places.parts; moved = places.moved; stale = omega (arith, places.stale, room); holds = places.holds; demands = places.demands; counts = places.counts; active = places.active };
         demands = kept.demands;
         counts = kept.counts;
         fit = kept.fit;

@@ -10,8 +10,9 @@ use Rattle.sg_levels.specs.Demand.{demand_of}
 use Rattle.sg_levels.specs.Held.{AreFilled, AreHeld, IsHold}
 use Rattle.sg_levels.specs.Settling.{AreNoted, AreSettling, AreSettlingBut, AreSettlingOn, is_active}
 
--- there is a place for each flow and each resource
+-- there is a place for each flow and each resource of a system
 pub record HasPlaces (s : Sharing) (kept : Levels) : Type 0 where
+  pub sound : IsSound s
   pub levels : length s.slots ≤ length kept.levels.items
   pub parts : length s.slots ≤ length kept.parts.items
   pub moved : length s.slots ≤ kept.moved.room
@@ -31,6 +32,17 @@ pub record IsKept (s : Sharing) (kept : Levels) : Type 0 where
   pub longest : (id : ℕ) → length (uses_at s.slots id) ≤ kept.longest
   pub counts : (c : ℕ) → slice_index kept.counts.items c ≤ length (users_on s.users c)
 
+-- and the flow is held
+pub record HasFlow (s : Sharing) (all : Levels) (id : ℕ) : Type 0 where
+  pub kept : IsKept s all
+  pub held : IsSome (flow_at s.slots id)
+
+-- and the flow is a user of the resource
+pub record IsUser (s : Sharing) (all : Levels) (r id : ℕ) : Type 0 where
+  pub kept : IsKept s all
+  pub resource : r < length s.capacities
+  pub user : is_in id (users_on s.users r) ≡ true
+
 -- a flow's part is what it asks for at its level, but for some flows
 abbrev pub AreParts : Sharing → Levels → List ℕ → Type 0
 AreParts s kept but = (id : ℕ) → IsSome (flow_at s.slots id) → is_in id but ≡ false → slice_index kept.parts.items id ≡ demand_of (flow_in s.slots id) (level_at kept.levels.items id)
@@ -40,6 +52,11 @@ pub record IsSettling (s : Sharing) (all : Levels) : Type 0 where
   pub kept : IsKept s all
   pub parts : AreParts s all []
   pub written : AreSettling s all.levels.items all.holds.items all.active.members
+
+-- and the resource is one
+pub record IsSettlingAt (s : Sharing) (all : Levels) (r : ℕ) : Type 0 where
+  pub settling : IsSettling s all
+  pub resource : r < length s.capacities
 
 -- the same while the users of a resource are looked at
 pub record IsSettlingOn (s : Sharing) (all : Levels) (resource : ℕ) (was : Option ℕ) (todo : List ℕ) : Type 0 where
@@ -155,6 +172,11 @@ ActivatesAll resources old new = (r : ℕ) → is_active new r ≡ false → (is
 abbrev pub ActivatesOnly : List ℕ → List ℕ → List ℕ → Type 0
 ActivatesOnly resources old new = (r : ℕ) → is_active new r ≡ true → is_in r resources ≡ false → is_active old r ≡ true
 
+-- both
+pub record Activates (resources old new : List ℕ) : Type 0 where
+  pub all : ActivatesAll resources old new
+  pub only : ActivatesOnly resources old new
+
 -- the same but for one of them, which stays as it was
 abbrev pub ActivatesBut : ℕ → List ℕ → List ℕ → List ℕ → Type 0
 ActivatesBut but resources old new = (r : ℕ) → is_active new r ≡ false → (is_active old r ≡ false) × (is_in r resources ≡ true → r ≡ but)
@@ -188,8 +210,20 @@ ResourceJoins resource old new = (p q : ℕ → Bool) → IsTrue (q resource) �
 abbrev pub FlowStaysWithin : Sharing → ℕ → Levels → Levels → Type 0
 FlowStaysWithin s flow old new = (p q : ℕ → Bool) → PassAlong s p q → IsTrue (p flow) → IsWithin p q old → IsWithin p q new
 
+-- what is kept is right still, and what a flow moves is noted and joined
+pub record Moves (s : Sharing) (flow : ℕ) (old new : Levels) : Type 0 where
+  pub kept : IsKept s new
+  pub moved : NotesMoved old new
+  pub within : FlowStaysWithin s flow old new
+
 abbrev pub ResourceStaysWithin : Sharing → ℕ → Levels → Levels → Type 0
 ResourceStaysWithin s resource old new = (p q : ℕ → Bool) → PassAlong s p q → IsTrue (q resource) → IsWithin p q old → IsWithin p q new
+
+-- what is written is right still, and what a look at a resource moves is noted and joined
+pub record Settles (s : Sharing) (resource : ℕ) (old new : Levels) : Type 0 where
+  pub settling : IsSettling s new
+  pub moved : NotesMoved old new
+  pub within : ResourceStaysWithin s resource old new
 
 abbrev pub UsesStayWithin : List ℕ → Levels → Levels → Type 0
 UsesStayWithin resources old new = (p q : ℕ → Bool) → ((r : ℕ) → is_in r resources ≡ true → IsTrue (q r)) → IsWithin p q old → IsWithin p q new

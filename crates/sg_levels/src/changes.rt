@@ -3,7 +3,7 @@ ghost use Rattle.std.specs.Prelude.{◌≡◌, ◌≤◌, ◌<◌, ◌+◌, ◌*
 ghost use Rattle.sg_chains.specs.Chained.{times};
 ghost use Rattle.sg_maxmin.specs.Fill.{flow};
 ghost use Rattle.sg_maxmin.specs.Sharing.{IsFlow, IsSound, flow_at, uses_at};
-ghost use Rattle.sg_levels.specs.Kept.{ActivatesAll, ActivatesOnly, FlowJoins, HasLeft, IsBetween, IsEnded, IsKept, IsMoved, IsStarted, KeepsLevels, NotesChanged, ResourceJoins, UsesStayWithin};
+ghost use Rattle.sg_levels.specs.Kept.{Activates, FlowJoins, HasFlow, HasLeft, IsBetween, IsEnded, IsKept, IsMoved, IsStarted, KeepsLevels, NotesChanged, ResourceJoins, UsesStayWithin};
 ghost use Rattle.sg_levels.specs.Numbered.{bound_of as bound_of_flow, flow_in};
 
 use crate::levels::Levels;
@@ -26,13 +26,9 @@ fn count_in(uses: &[usize], counts: &mut Vec<u64>)
 
 // A flow that ends has no part any more; its resources are active.
 fn leave<L: Ledger>(system: &System, flow: usize, kept: &mut Levels, steps: &mut Steps<L>)
-    requires sound { IsSound system.now }
-    requires held { IsSome (flow_at system.now.slots flow) }
-    requires kept { IsKept system.now kept.old }
+    requires { HasFlow system.now kept.old flow }
     ensures left { HasLeft kept.old kept.new flow }
-    ensures activates { ActivatesAll (uses_at system.now.slots flow)
-        kept.old.active.members kept.new.active.members }
-    ensures only { ActivatesOnly (uses_at system.now.slots flow)
+    ensures activates { Activates (uses_at system.now.slots flow)
         kept.old.active.members kept.new.active.members }
     ensures kept { IsKept system.now kept.new }
     ensures counts { (c : ℕ) → slice_index kept.new.counts.items c

@@ -5,7 +5,7 @@ ghost use Rattle.sg_chains.specs.Chained.{times};
 ghost use Rattle.sg_maxmin.specs.Sharing.{IsSound, flow_at, uses_at};
 ghost use Rattle.sg_levels.specs.Demand.{demand_of};
 ghost use Rattle.sg_levels.specs.Held.{AreFilled};
-ghost use Rattle.sg_levels.specs.Kept.{AreGiven, AreHeldAt, AreParts, FlowStaysWithin, FlowsStayWithin, IsBetween, IsFound, IsGiven, IsKept, IsWithin, KeepsFlows, NotesMoved, PassAlong, Shifts, is_one_of};
+ghost use Rattle.sg_levels.specs.Kept.{AreGiven, AreHeldAt, AreParts, FlowsStayWithin, HasFlow, IsBetween, IsFound, IsGiven, IsKept, IsWithin, KeepsFlows, Moves, NotesMoved, PassAlong, Shifts, is_one_of};
 ghost use Rattle.sg_levels.specs.Numbered.{all_uses, flow_in, level_at};
 ghost use Rattle.sg_levels.specs.Settling.{is_active};
 
@@ -80,13 +80,9 @@ fn write_level<L: Ledger>(
     kept: &mut Levels,
     steps: &mut Steps<L>,
 )
-    requires sound { IsSound system.now }
-    requires held { IsSome (flow_at system.now.slots flow) }
-    requires kept { IsKept system.now kept.old }
+    requires { HasFlow system.now kept.old flow }
     ensures given { IsGiven system.now kept.old kept.new flow level }
-    ensures kept { IsKept system.now kept.new }
-    ensures moved { NotesMoved kept.old kept.new }
-    ensures within { FlowStaysWithin system.now flow kept.old kept.new }
+    ensures moves { Moves system.now flow kept.old kept.new }
     ensures looks { steps.new ≡ steps.old + length (uses_at system.now.slots flow) }
 {
     let before = kept.part(flow);
@@ -105,15 +101,12 @@ fn give<L: Ledger>(
     kept: &mut Levels,
     steps: &mut Steps<L>,
 )
-    requires sound { IsSound system.now }
-    requires held { IsSome (flow_at system.now.slots flow) }
-    requires kept { IsKept system.now kept.old }
-    requires part { is_in flow kept.old.stale.members ≡ false → slice_index kept.old.parts.items flow
+    requires of { HasFlow system.now kept.old flow }
+    requires part { is_in flow kept.old.stale.members ≡ false
+        → slice_index kept.old.parts.items flow
         ≡ demand_of (flow_in system.now.slots flow) (level_at kept.old.levels.items flow) }
     ensures given { IsGiven system.now kept.old kept.new flow level }
-    ensures kept { IsKept system.now kept.new }
-    ensures moved { NotesMoved kept.old kept.new }
-    ensures within { FlowStaysWithin system.now flow kept.old kept.new }
+    ensures moves { Moves system.now flow kept.old kept.new }
     ensures looks { steps.new ≤ steps.old + length (uses_at system.now.slots flow) }
 {
     if kept.stale.contains(flow) || !is_same(kept.level(flow), level) {
@@ -129,7 +122,6 @@ fn give_all<L: Ledger>(
     kept: &mut Levels,
     steps: &mut Steps<L>,
 )
-    requires sound { IsSound system.now }
     requires held { All (λ id. IsSome (flow_at system.now.slots id)) flows.now }
     requires places { length system.now.slots ≤ length levels.now }
     requires kept { IsKept system.now kept.old }

@@ -4,7 +4,7 @@ ghost use Rattle.sg_base.specs.MarkSet.{is_in};
 ghost use Rattle.sg_chains.specs.Chained.{users_on};
 ghost use Rattle.sg_maxmin.specs.Sharing.{IsSound, flow_at, uses_at};
 ghost use Rattle.sg_levels.specs.Held.{AreFilled, IsHold};
-ghost use Rattle.sg_levels.specs.Kept.{FlowStaysWithin, IsBetween, IsBetweenBut, IsKept, IsLevelAbove, IsPass, IsSettling, HasPlaces, NotesChanged, NotesMoved, ResourceStaysWithin, StaysWithin};
+ghost use Rattle.sg_levels.specs.Kept.{HasFlow, IsBetween, IsBetweenBut, IsKept, IsLevelAbove, IsPass, IsSettling, IsSettlingAt, HasPlaces, Moves, NotesChanged, NotesMoved, Settles, StaysWithin};
 ghost use Rattle.sg_levels.specs.Allowed.{AreNew, IsSpent, KnowsUsers, SparesLooks};
 ghost use Rattle.sg_levels.specs.Joined.{spare_looks};
 ghost use Rattle.sg_levels.specs.Numbered.{all_uses, level_at};
@@ -61,16 +61,12 @@ fn after_walk(looks: u64, users: u64, times: u64, longest: usize) -> u64
 
 // A flow that began or has another bound has the level of its bound.
 fn renew<L: Ledger>(system: &System, flow: usize, kept: &mut Levels, steps: &mut Steps<L>)
-    requires sound { IsSound system.now }
-    requires held { IsSome (flow_at system.now.slots flow) }
-    requires kept { IsKept system.now kept.old }
+    requires { HasFlow system.now kept.old flow }
     ensures renewed { (rest : List ℕ) → IsBetweenBut system.now kept.old (flow ∷ rest)
         → IsBetweenBut system.now kept.new rest }
-    ensures kept { IsKept system.now kept.new }
     ensures stale { kept.new.stale ≡ kept.old.stale }
-    ensures moved { NotesMoved kept.old kept.new }
     ensures noted { is_in flow kept.new.moved.members ≡ true }
-    ensures within { FlowStaysWithin system.now flow kept.old kept.new }
+    ensures moves { Moves system.now flow kept.old kept.new }
     ensures looks { steps.new ≤ steps.old + length (uses_at system.now.slots flow) }
 {
     move_flow(system, flow, bound_of(system, flow), kept, steps);
@@ -78,8 +74,7 @@ fn renew<L: Ledger>(system: &System, flow: usize, kept: &mut Levels, steps: &mut
 
 // The same of each such flow.
 fn renew_all<L: Ledger>(system: &System, kept: &mut Levels, steps: &mut Steps<L>)
-    requires sound { IsSound system.now }
-    requires between { IsBetween system.now kept.old }
+    requires { IsBetween system.now kept.old }
     ensures settling { IsSettling system.now kept.new }
     ensures stale { AreNew system.now kept.new }
     ensures once { AllPairs (λ a b. a ≢ b) kept.old.stale.members }
@@ -108,14 +103,11 @@ impl Levels {
 
     // A resource that held none and holds none needs no look.
     fn put_to_rest(&mut self, system: &System, resource: usize)
-        requires resource { resource < length system.now.capacities }
-        requires settling { IsSettling system.now self.old }
+        requires at { IsSettlingAt system.now self.old resource }
         requires held { level_at self.old.holds.items resource ≡ None }
         requires none { IsHold (slice_index system.now.capacities resource) system.now.slots
             self.old.levels.items (users_on system.now.users resource) None }
-        ensures settling { IsSettling system.now self.new }
-        ensures moved { NotesMoved self.old self.new }
-        ensures within { StaysWithin system.now self.old self.new }
+        ensures { Settles system.now resource self.old self.new }
     {
         system.is_sound();
         self.active.remove(resource);
@@ -131,13 +123,10 @@ impl Levels {
         hold: Option<u64>,
         steps: &mut Steps<L>,
     ) -> u64
-        requires resource { resource < length system.now.capacities }
-        requires settling { IsSettling system.now self.old }
+        requires at { IsSettlingAt system.now self.old resource }
         requires hold { IsHold (slice_index system.now.capacities resource) system.now.slots
             self.old.levels.items (users_on system.now.users resource) hold }
-        ensures settling { IsSettling system.now self.new }
-        ensures moved { NotesMoved self.old self.new }
-        ensures within { ResourceStaysWithin system.now resource self.old self.new }
+        ensures settles { Settles system.now resource self.old self.new }
         ensures looks { steps.new ≤ steps.old + length (users_on system.now.users resource)
             + result * self.old.longest }
         ensures few { result ≤ 2 * length (users_on system.now.users resource) }
@@ -160,13 +149,10 @@ impl Levels {
         looks: u64,
         steps: &mut Steps<L>,
     ) -> Option<u64>
-        requires resource { resource < length system.now.capacities }
-        requires settling { IsSettling system.now self.old }
+        requires at { IsSettlingAt system.now self.old resource }
         requires first { IsLevelAbove system.now resource self.old.levels.items 0 first.level }
         requires users { IsPass system.now resource looks first.users }
-        ensures settling { IsSettling system.now self.new }
-        ensures moved { NotesMoved self.old self.new }
-        ensures within { ResourceStaysWithin system.now resource self.old self.new }
+        ensures settles { Settles system.now resource self.old self.new }
         ensures spent { IfSome result (λ left.
             steps.new + first.users + left ≤ steps.old + looks) }
         ensures looks { steps.new + first.users ≤ steps.old + looks }
@@ -197,12 +183,9 @@ impl Levels {
         given: Allowance,
         steps: &mut Steps<L>,
     ) -> Option<Allowance>
-        requires resource { resource < length system.now.capacities }
-        requires settling { IsSettling system.now self.old }
+        requires at { IsSettlingAt system.now self.old resource }
         requires given { given.spent ≤ spare_looks given.known given.row given.ended }
-        ensures settling { IsSettling system.now self.new }
-        ensures moved { NotesMoved self.old self.new }
-        ensures within { ResourceStaysWithin system.now resource self.old self.new }
+        ensures settles { Settles system.now resource self.old self.new }
         ensures spent { IfSome result (IsSpent given steps.old steps.new) }
         ensures known { IfSome result (KnowsUsers given
             (length (users_on system.now.users resource))) }

@@ -6,7 +6,7 @@ ghost use Rattle.sg_maxmin.specs.Fill.{bound_level as level_of_bound};
 ghost use Rattle.sg_maxmin.specs.Sharing.{IsSound, flow_at, uses_at};
 ghost use Rattle.sg_levels.specs.Demand.{demand_of};
 ghost use Rattle.sg_levels.specs.Held.{AreFilled, IsAtMost, IsHold, IsUnder};
-ghost use Rattle.sg_levels.specs.Kept.{ActivatesAll, ActivatesBut, ActivatesOnly, FlowStaysWithin, HasPlaces, IsKept, IsMoved, IsSettling, IsSettlingOn, KeepsLevels, Lessens, NotesMoved, ResourceStaysWithin, Shifts};
+ghost use Rattle.sg_levels.specs.Kept.{Activates, ActivatesBut, ActivatesOnly, HasFlow, HasPlaces, IsKept, IsMoved, IsSettling, IsSettlingOn, IsUser, KeepsLevels, Lessens, Moves, NotesMoved, ResourceStaysWithin, Shifts};
 ghost use Rattle.sg_levels.specs.Numbered.{all_uses, bound_of as bound_of_flow, flow_in, level_at};
 ghost use Rattle.sg_levels.specs.Settling.{HasCause, is_active};
 
@@ -97,8 +97,8 @@ pub(crate) fn visit(resource: usize, before: u128, after: u128, kept: &mut Level
     requires counts { resource < length kept.old.counts.items }
     requires some { before ≤ slice_index kept.old.demands.items resource }
     requires fits { slice_index kept.old.demands.items resource + after < 2 ^ 128 + before }
-    ensures activates { ActivatesAll (resource ∷ []) kept.old.active.members kept.new.active.members }
-    ensures only { ActivatesOnly (resource ∷ []) kept.old.active.members kept.new.active.members }
+    ensures activates { Activates (resource ∷ [])
+        kept.old.active.members kept.new.active.members }
     ensures demands { kept.new.demands.items ≡ slice_set kept.old.demands.items resource
         (slice_index kept.old.demands.items resource - before + after) }
     ensures counts { kept.new.counts.items ≡ slice_set kept.old.counts.items resource
@@ -119,15 +119,12 @@ pub(crate) fn visit_uses<L: Ledger>(
     kept: &mut Levels,
     steps: &mut Steps<L>,
 )
-    requires sound { IsSound system.now }
     requires places { HasPlaces system.now kept.old }
     requires some { (c : ℕ) → times c (uses_at system.now.slots flow) * before
         ≤ slice_index kept.old.demands.items c }
     requires fits { (c : ℕ) → slice_index kept.old.demands.items c
         + times c (uses_at system.now.slots flow) * after < 2 ^ 128 }
-    ensures activates { ActivatesAll (uses_at system.now.slots flow)
-        kept.old.active.members kept.new.active.members }
-    ensures only { ActivatesOnly (uses_at system.now.slots flow)
+    ensures activates { Activates (uses_at system.now.slots flow)
         kept.old.active.members kept.new.active.members }
     ensures shifts { Shifts before after (uses_at system.now.slots flow)
         kept.old.demands.items kept.new.demands.items }
@@ -151,7 +148,6 @@ fn has_cause<L: Ledger>(
     kept: &Levels,
     steps: &mut Steps<L>,
 ) -> bool
-    requires sound { IsSound system.now }
     requires held { IsSome (flow_at system.now.slots flow) }
     requires places { HasPlaces system.now kept.now }
     ensures cause { IsTrue result
@@ -180,13 +176,9 @@ pub(crate) fn move_flow<L: Ledger>(
     kept: &mut Levels,
     steps: &mut Steps<L>,
 )
-    requires sound { IsSound system.now }
-    requires held { IsSome (flow_at system.now.slots flow) }
-    requires kept { IsKept system.now kept.old }
+    requires { HasFlow system.now kept.old flow }
     ensures moved { IsMoved system.now kept.old kept.new flow level }
-    ensures activates { ActivatesAll (uses_at system.now.slots flow)
-        kept.old.active.members kept.new.active.members }
-    ensures only { ActivatesOnly (uses_at system.now.slots flow)
+    ensures activates { Activates (uses_at system.now.slots flow)
         kept.old.active.members kept.new.active.members }
     ensures kept { IsKept system.now kept.new }
     ensures looks { steps.new ≡ steps.old + length (uses_at system.now.slots flow) }
@@ -208,10 +200,7 @@ fn lower<L: Ledger>(
     kept: &mut Levels,
     steps: &mut Steps<L>,
 )
-    requires sound { IsSound system.now }
-    requires kept { IsKept system.now kept.old }
-    requires resource { resource < length system.now.capacities }
-    requires user { is_in flow (users_on system.now.users resource) ≡ true }
+    requires { IsUser system.now kept.old resource flow }
     ensures moved { IsMoved system.now kept.old kept.new flow (Some hold) }
     ensures activates { ActivatesBut resource (uses_at system.now.slots flow)
         kept.old.active.members kept.new.active.members }
@@ -235,18 +224,13 @@ fn settle_held<L: Ledger>(
     kept: &mut Levels,
     steps: &mut Steps<L>,
 ) -> u64
-    requires sound { IsSound system.now }
-    requires kept { IsKept system.now kept.old }
-    requires resource { resource < length system.now.capacities }
-    requires user { is_in flow (users_on system.now.users resource) ≡ true }
+    requires of { IsUser system.now kept.old resource flow }
     requires most { IsAtMost (level_at kept.old.levels.items flow)
         (level_at kept.old.holds.items resource) }
     ensures settles { (was : Option ℕ) (todo : List ℕ)
         → IsSettlingOn system.now kept.old resource was (flow ∷ todo)
         → IsSettlingOn system.now kept.new resource was todo }
-    ensures kept { IsKept system.now kept.new }
-    ensures moved { NotesMoved kept.old kept.new }
-    ensures within { FlowStaysWithin system.now flow kept.old kept.new }
+    ensures moves { Moves system.now flow kept.old kept.new }
     ensures looks { steps.new ≤ steps.old + result * length (uses_at system.now.slots flow) }
     ensures few { result ≤ 2 }
 {
@@ -271,16 +255,11 @@ fn settle_user<L: Ledger>(
     kept: &mut Levels,
     steps: &mut Steps<L>,
 ) -> u64
-    requires sound { IsSound system.now }
-    requires kept { IsKept system.now kept.old }
-    requires resource { resource < length system.now.capacities }
-    requires user { is_in flow (users_on system.now.users resource) ≡ true }
+    requires { IsUser system.now kept.old resource flow }
     ensures settles { (todo : List ℕ)
         → IsSettlingOn system.now kept.old resource was (flow ∷ todo)
         → IsSettlingOn system.now kept.new resource was todo }
-    ensures kept { IsKept system.now kept.new }
-    ensures moved { NotesMoved kept.old kept.new }
-    ensures within { FlowStaysWithin system.now flow kept.old kept.new }
+    ensures moves { Moves system.now flow kept.old kept.new }
     ensures looks { steps.new ≤ steps.old + result * length (uses_at system.now.slots flow) }
     ensures few { result ≤ 2 }
 {
@@ -309,7 +288,6 @@ pub(crate) fn settle_users<L: Ledger>(
     kept: &mut Levels,
     steps: &mut Steps<L>,
 ) -> u64
-    requires sound { IsSound system.now }
     requires kept { IsKept system.now kept.old }
     requires resource { resource < length system.now.capacities }
     ensures settles { IsSettlingOn system.now kept.old resource was

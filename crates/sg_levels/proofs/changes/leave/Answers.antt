@@ -15,6 +15,7 @@ pub visit_uses-requires-clause-places : goal.visit_uses-requires-clause-places
 visit_uses-requires-clause-places g c =
     let places = c.requires.kept.places in
     record {
+      sound = places.sound;
       levels = places.levels;
       parts = omega (arith, places.parts, length-set c.args.kept.now.parts.items c.args.flow 0);
       moved = places.moved;
@@ -29,12 +30,12 @@ pub visit_uses-requires-clause-some : goal.visit_uses-requires-clause-some
 visit_uses-requires-clause-some g c = λ x.
     let s = c.args.system.now in
     let f = c.args.flow in
-    subst (λ b. times x (uses_at s.slots f) * b ≤ slice_index c.args.kept.now.demands.items x) (sym c.part-part.ensures) (omega (arith, part_in s c.requires.sound c.args.kept.now.parts.items f x, c.requires.kept.demands x))
+    subst (λ b. times x (uses_at s.slots f) * b ≤ slice_index c.args.kept.now.demands.items x) (sym c.part-part.ensures) (omega (arith, part_in s c.requires.kept.places.sound c.args.kept.now.parts.items f x, c.requires.kept.demands x))
 
 pub visit_uses-requires-clause-fits : goal.visit_uses-requires-clause-fits
 visit_uses-requires-clause-fits g c = λ x.
     let s = c.args.system.now in
-    omega (arith, parts_fit s c.requires.sound c.args.kept.now.parts.items c.requires.kept.fit c.args.flow 0 (omega arith) x, c.requires.kept.demands x)
+    omega (arith, parts_fit s c.requires.kept.places.sound c.args.kept.now.parts.items c.requires.kept.fit c.args.flow 0 (omega arith) x, c.requires.kept.demands x)
 
 pub returns-clause-left : goal.returns-clause-left
 returns-clause-left g c =
@@ -50,8 +51,9 @@ returns-clause-kept g c =
     let out = c.visit_uses.ensures.levels in
     let places = c.requires.kept.places in
     let below : f < length old.parts.items = omega (arith, held_below s.slots f c.requires.held, places.parts) in
-    moved_kept s c.requires.sound old new f 0 c.requires.held below (omega arith) c.requires.kept
+    moved_kept s c.requires.kept.places.sound old new f 0 c.requires.held below (omega arith) c.requires.kept
     (record {
+      sound = places.sound;
       levels = omega (arith, places.levels, ap length out.levels);
       parts = omega (arith, places.parts, ap length out.parts, length-set old.parts.items f 0);
       moved = omega (arith, places.moved, ap (λ (m : MarkSet). m.room) out.moved);

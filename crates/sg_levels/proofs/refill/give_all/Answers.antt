@@ -27,8 +27,8 @@ under-requires g c =
     let held = All-get_or (λ id. IsSome (flow_at s.slots id)) c.args.flows.now c.loop-flow.flow-index 0 c.loop-flow-test.true c.requires.held in
     omega (arith, held_below s.slots (get_or c.args.flows.now c.loop-flow.flow-index 0) held, c.requires.places)
 
-pub give-requires-clause-held : goal.give-requires-clause-held
-give-requires-clause-held g c = All-get_or (λ id. IsSome (flow_at c.args.system.now.slots id)) c.args.flows.now c.loop-flow.flow-index 0 c.loop-flow-test.true c.requires.held
+pub give-requires-clause-of : goal.give-requires-clause-of
+give-requires-clause-of g c = record { kept = c.loop-flow.invariant.kept; held = All-get_or (λ id. IsSome (flow_at c.args.system.now.slots id)) c.args.flows.now c.loop-flow.flow-index 0 c.loop-flow-test.true c.requires.held }
 
 pub give-requires-clause-part : goal.give-requires-clause-part
 give-requires-clause-part g c = λ off.
@@ -53,9 +53,9 @@ loop-flow-preserved g c =
     let out = c.give.ensures in
     record {
       given = given_on s flows levels k first before after less (subst (IsGiven s before after id) c.under.ensures out.given) inv.given;
-      kept = out.kept;
-      moved = noted_on first.moved before.moved after.moved first.levels.items before.levels.items after.levels.items inv.moved out.moved;
-      within = λ p q along each are. out.within p q along (each id (in_at id flows k less refl)) (inv.within p q along each are);
+      kept = out.moves.kept;
+      moved = noted_on first.moved before.moved after.moved first.levels.items before.levels.items after.levels.items inv.moved out.moves.moved;
+      within = λ p q along each are. out.moves.within p q along (each id (in_at id flows k less refl)) (inv.within p q along each are);
       looks = omega (arith, inv.looks, out.looks, part_next (λ n. length (uses_at s.slots n)) flows k less);
     }
 

@@ -23,14 +23,14 @@ shift_uses-requires-clause-some g c = λ x.
     let s = c.args.system.now in
     let f = c.args.flow in
     let parts = c.args.kept.now.parts.items in
-    subst (λ b. times x (uses_at s.slots f) * b ≤ slice_index c.args.kept.now.demands.items x) (sym c.part-before.ensures) (omega (arith, part_in s c.requires.sound parts f x, c.requires.kept.demands x))
+    subst (λ b. times x (uses_at s.slots f) * b ≤ slice_index c.args.kept.now.demands.items x) (sym c.part-before.ensures) (omega (arith, part_in s c.requires.kept.places.sound parts f x, c.requires.kept.demands x))
 
 pub shift_uses-requires-clause-fits : goal.shift_uses-requires-clause-fits
 shift_uses-requires-clause-fits g c = λ x.
     let s = c.args.system.now in
     let f = c.args.flow in
-    let le : c.part_of-after.result ≤ 2 ^ 65 = omega (arith, c.part_of-after.ensures, part_le (flow_in s.slots f) c.args.level (weighs s c.requires.sound f).1) in
-    omega (arith, parts_fit s c.requires.sound c.args.kept.now.parts.items c.requires.kept.fit f c.part_of-after.result le x, c.requires.kept.demands x)
+    let le : c.part_of-after.result ≤ 2 ^ 65 = omega (arith, c.part_of-after.ensures, part_le (flow_in s.slots f) c.args.level (weighs s c.requires.kept.places.sound f).1) in
+    omega (arith, parts_fit s c.requires.kept.places.sound c.args.kept.now.parts.items c.requires.kept.fit f c.part_of-after.result le x, c.requires.kept.demands x)
 
 pub returns-clause-given : goal.returns-clause-given
 returns-clause-given g c =
@@ -49,36 +49,33 @@ returns-clause-given g c =
       holds = refl;
     })
 
-pub returns-clause-kept : goal.returns-clause-kept
-returns-clause-kept g c =
-    let s = c.args.system.now in
-    let f = c.args.flow in
-    let old = c.args.kept.now in
-    let part = c.part_of-after.result in
-    let places = c.requires.kept.places in
-    let below : f < length old.parts.items = omega (arith, held_below s.slots f c.requires.held, places.parts) in
-    let le : part ≤ 2 ^ 65 = omega (arith, c.part_of-after.ensures, part_le (flow_in s.slots f) c.args.level (weighs s c.requires.sound f).1) in
-    moved_kept s c.requires.sound old _ f part c.requires.held below le c.requires.kept
-    (record {
-      levels = omega (arith, places.levels, length-set old.levels.items f c.args.level);
-      parts = omega (arith, places.parts, length-set old.parts.items f part);
-      moved = omega (arith, places.moved, ap (λ (m : MarkSet). m.room) c.insert.ensures);
-      stale = places.stale;
-      holds = places.holds;
-      demands = c.shift_uses.ensures.places ∙ places.demands;
-      counts = places.counts;
-      active = places.active;
-    }) refl refl
-    (subst (λ b. Shifts b part (uses_at s.slots f) old.demands.items c.shift_uses.new.demands.items) c.part-before.ensures c.shift_uses.ensures.shifts) (λ n. omega arith)
-
-pub returns-clause-moved : goal.returns-clause-moved
-returns-clause-moved g c =
-    let old = c.args.kept.now in
-    noted_one old.moved c.insert.new.self old.levels.items (set old.levels.items c.args.flow c.args.level) c.args.flow c.args.level c.insert.ensures refl
-
-pub returns-clause-within : goal.returns-clause-within
-returns-clause-within g c = λ p q along here are. record {
-  active = are.active;
-  moved = λ id i. elim (marked_or id c.args.flow c.args.kept.now.moved.members (subst (λ (m : MarkSet). is_in id m.members ≡ true) c.insert.ensures i)) [ inl e ↦ subst (λ n. IsTrue (p n)) (sym e) here | inr j ↦ are.moved id j ];
-  stale = are.stale;
+pub returns-clause-moves : goal.returns-clause-moves
+returns-clause-moves g c = record {
+  kept =
+      let s = c.args.system.now in
+      let f = c.args.flow in
+      let old = c.args.kept.now in
+      let part = c.part_of-after.result in
+      let places = c.requires.kept.places in
+      let below : f < length old.parts.items = omega (arith, held_below s.slots f c.requires.held, places.parts) in
+      let le : part ≤ 2 ^ 65 = omega (arith, c.part_of-after.ensures, part_le (flow_in s.slots f) c.args.level (weighs s c.requires.kept.places.sound f).1) in
+      moved_kept s c.requires.kept.places.sound old _ f part c.requires.held below le c.requires.kept
+      (record {
+        sound = places.sound;
+        levels = omega (arith, places.levels, length-set old.levels.items f c.args.level);
+        parts = omega (arith, places.parts, length-set old.parts.items f part);
+        moved = omega (arith, places.moved, ap (λ (m : MarkSet). m.room) c.insert.ensures);
+        stale = places.stale;
+        holds = places.holds;
+        demands = c.shift_uses.ensures.places ∙ places.demands;
+        counts = places.counts;
+        active = places.active;
+      }) refl refl
+      (subst (λ b. Shifts b part (uses_at s.slots f) old.demands.items c.shift_uses.new.demands.items) c.part-before.ensures c.shift_uses.ensures.shifts) (λ n. omega arith);
+  moved = noted_one c.args.kept.now.moved c.insert.new.self c.args.kept.now.levels.items (set c.args.kept.now.levels.items c.args.flow c.args.level) c.args.flow c.args.level c.insert.ensures refl;
+  within = λ p q along here are. record {
+    active = are.active;
+    moved = λ id i. elim (marked_or id c.args.flow c.args.kept.now.moved.members (subst (λ (m : MarkSet). is_in id m.members ≡ true) c.insert.ensures i)) [ inl e ↦ subst (λ n. IsTrue (p n)) (sym e) here | inr j ↦ are.moved id j ];
+    stale = are.stale;
+  };
 }

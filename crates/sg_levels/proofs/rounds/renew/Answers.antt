@@ -14,14 +14,17 @@ returns-clause-renewed g c = λ rest before.
     let id = c.args.flow in
     let old = c.args.kept.now in
     let below = held_below s.slots id c.requires.held in
-    renewed_between s c.requires.sound old c.move_flow.new.kept id rest (omega (arith, below, c.requires.kept.places.levels)) (omega (arith, below, c.requires.kept.places.parts))
-    (subst (IsMoved s old c.move_flow.new.kept id) c.bound_of.ensures c.move_flow.ensures.moved) c.move_flow.ensures.activates c.move_flow.ensures.kept before
-
-pub returns-clause-moved : goal.returns-clause-moved
-returns-clause-moved g c = moved_notes c.args.system.now c.args.kept.now c.move_flow.new.kept c.args.flow c.bound_of.result c.move_flow.ensures.moved
-
-pub returns-clause-within : goal.returns-clause-within
-returns-clause-within g c = moved_within c.args.system.now c.args.kept.now c.move_flow.new.kept c.args.flow c.bound_of.result c.move_flow.ensures.moved c.move_flow.ensures.only
+    renewed_between s c.requires.kept.places.sound old c.move_flow.new.kept id rest (omega (arith, below, c.requires.kept.places.levels)) (omega (arith, below, c.requires.kept.places.parts))
+    (subst (IsMoved s old c.move_flow.new.kept id) c.bound_of.ensures c.move_flow.ensures.moved) c.move_flow.ensures.activates.all c.move_flow.ensures.kept before
 
 pub returns-clause-noted : goal.returns-clause-noted
 returns-clause-noted g c = subst (λ (m : MarkSet). is_in c.args.flow m.members ≡ true) (sym c.move_flow.ensures.moved.noted) (mark_there c.args.flow c.args.kept.now.moved.members)
+
+pub returns-clause-moves : goal.returns-clause-moves
+returns-clause-moves g c =
+    let out = c.move_flow.ensures in
+    record {
+      kept = out.kept;
+      moved = moved_notes c.args.system.now c.args.kept.now c.move_flow.new.kept c.args.flow c.bound_of.result out.moved;
+      within = moved_within c.args.system.now c.args.kept.now c.move_flow.new.kept c.args.flow c.bound_of.result out.moved out.activates.only;
+    }

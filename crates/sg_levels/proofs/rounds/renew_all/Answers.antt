@@ -9,14 +9,14 @@ use Rattle.sg_levels.proofs.Steps.{drop_end, drop_step}
 use Rattle.sg_levels.proofs.Renewing.{settling_from}
 use Rattle.sg_levels.proofs.rounds.renew_all.Goals as goal
 
-pub renew-requires-clause-held : goal.renew-requires-clause-held
-renew-requires-clause-held g c =
+pub renew-requires : goal.renew-requires
+renew-requires g c =
     let stale = c.args.kept.now.stale.members in
     let k = c.loop-k.k in
     let inv = c.loop-k.invariant in
     let less : k < length stale = omega (arith, c.loop-k-test.true, ap (λ (xs : List ℕ). length xs) c.members-k-end.ensures.members) in
     let is : get_or c.members.result.now k 0 ≡ get_or stale k 0 = ap (λ xs. get_or xs k 0) (c.members.ensures.members ∙ ap (λ (m : MarkSet). m.members) inv.stale) in
-    inv.alive (get_or c.members.result.now k 0) (in_at (get_or c.members.result.now k 0) stale k less (sym is))
+    record { kept = inv.between.kept; held = inv.alive (get_or c.members.result.now k 0) (in_at (get_or c.members.result.now k 0) stale k less (sym is)) }
 
 pub loop-k-preserved : goal.loop-k-preserved
 loop-k-preserved g c =
@@ -37,11 +37,11 @@ loop-k-preserved g c =
       stale = c.renew.ensures.stale ∙ inv.stale;
       noted = λ id i. elim (in_take id stale k less i) [
         | inl e ↦ subst (λ n. is_in n after.moved.members ≡ true) (is ∙ sym e) c.renew.ensures.noted
-        | inr j ↦ c.renew.ensures.moved.grows id (inv.noted id j)
+        | inr j ↦ c.renew.ensures.moves.moved.grows id (inv.noted id j)
       ];
       alive = inv.alive;
-      moved = noted_on first.moved before.moved after.moved first.levels.items before.levels.items after.levels.items inv.moved c.renew.ensures.moved;
-      within = λ p q along are. c.renew.ensures.within p q along (are.stale (get_or c.members.result.now k 0) (in_at (get_or c.members.result.now k 0) stale k less (sym is))) (inv.within p q along are);
+      moved = noted_on first.moved before.moved after.moved first.levels.items before.levels.items after.levels.items inv.moved c.renew.ensures.moves.moved;
+      within = λ p q along are. c.renew.ensures.moves.within p q along (are.stale (get_or c.members.result.now k 0) (in_at (get_or c.members.result.now k 0) stale k less (sym is))) (inv.within p q along are);
       looks = omega (arith, inv.looks, c.renew.ensures.looks, part_next (λ id. length (uses_at s.slots id)) stale k less, ap (λ id. length (uses_at s.slots id)) is);
     }
 

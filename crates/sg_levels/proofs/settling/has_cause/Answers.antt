@@ -28,7 +28,7 @@ hold-requires g c =
     let row = uses_at s.slots c.args.flow in
     let inv = c.loop-at.invariant in
     let r = looked next_of_flow resource_of s.uses row inv.0 c.loop-at.at inv.1.walk c.in-Some.i c.look-one.result c.in-Some.is c.look-one.ensures.there in
-    let below : get_or row inv.0 0 < length s.capacities = All-get_or (λ n. n < length s.capacities) row inv.0 0 r.less (rows_exist s c.requires.sound c.args.flow) in
+    let below : get_or row inv.0 0 < length s.capacities = All-get_or (λ n. n < length s.capacities) row inv.0 0 r.less (rows_exist s c.requires.places.sound c.args.flow) in
     omega (arith, below, r.is, c.requires.places.holds)
 
 pub returns-then-is_same-2-clause-cause : goal.returns-then-is_same-2-clause-cause

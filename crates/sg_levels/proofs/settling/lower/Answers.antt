@@ -4,8 +4,8 @@ use Rattle.sg_levels.proofs.Listed.{eq_cases}
 use Rattle.sg_levels.proofs.Steps.{held_user}
 use Rattle.sg_levels.proofs.settling.lower.Goals as goal
 
-pub move_flow-requires-clause-held : goal.move_flow-requires-clause-held
-move_flow-requires-clause-held g c = subst IsSome (sym (held_user c.args.system.now c.requires.sound c.args.resource c.args.flow c.requires.user)) refl
+pub move_flow-requires : goal.move_flow-requires
+move_flow-requires g c = record { kept = c.requires.kept; held = subst IsSome (sym (held_user c.args.system.now c.requires.kept.places.sound c.args.resource c.args.flow c.requires.user)) refl }
 
 pub returns-then-not-was-clause-moved : goal.returns-then-not-was-clause-moved
 returns-then-not-was-clause-moved g c = let m = c.move_flow.ensures.moved in record { level_is = m.level_is; part_is = m.part_is; noted = m.noted; stale = m.stale; holds = m.holds }
@@ -16,6 +16,7 @@ returns-then-not-was-clause-kept g c =
     let places = kept.places in
     record {
       places = record {
+        sound = places.sound;
         levels = places.levels;
         parts = places.parts;
         moved = places.moved;
@@ -38,7 +39,7 @@ returns-then-not-was-clause-activates g c = λ r off.
     elim (eq_cases r n) [
       | inl e ↦ (ap (is_active c.args.kept.now.active.members) e ∙ sym c.is_active-was.ensures ∙ c.if-not-was.true, λ i. e)
       | inr ne ↦
-          let step = c.move_flow.ensures.activates r (sym (c.remove.ensures.others r ne) ∙ off) in
+          let step = c.move_flow.ensures.activates.all r (sym (c.remove.ensures.others r ne) ∙ off) in
           (step.0, λ i. absurd (true≢false (sym i ∙ step.1)))
     ]
 
@@ -47,10 +48,10 @@ returns-then-not-was-clause-only g c = λ r on unused.
     let n = c.args.resource in
     elim (eq_cases r n) [
       | inl e ↦ absurd (true≢false (sym on ∙ ap (is_active c.remove.new.self.members) e ∙ c.remove.ensures.gone))
-      | inr ne ↦ c.move_flow.ensures.only r (sym (c.remove.ensures.others r ne) ∙ on) unused
+      | inr ne ↦ c.move_flow.ensures.activates.only r (sym (c.remove.ensures.others r ne) ∙ on) unused
     ]
 
 pub returns-else-not-was-clause-activates : goal.returns-else-not-was-clause-activates
 returns-else-not-was-clause-activates g c = λ r off.
-    let step = c.move_flow.ensures.activates r off in
+    let step = c.move_flow.ensures.activates.all r off in
     (step.0, λ i. absurd (true≢false (sym i ∙ step.1)))

@@ -19,6 +19,7 @@ pub visit_uses-requires-clause-places : goal.visit_uses-requires-clause-places
 visit_uses-requires-clause-places g c =
     let places = c.requires.kept.places in
     record {
+      sound = places.sound;
       levels = omega (arith, places.levels, length-set c.args.kept.now.levels.items c.args.flow c.args.level);
       parts = omega (arith, places.parts, length-set c.args.kept.now.parts.items c.args.flow c.part_of-after.result);
       moved = omega (arith, places.moved, ap (λ (m : MarkSet). m.room) c.insert.ensures);
@@ -34,14 +35,14 @@ visit_uses-requires-clause-some g c = λ x.
     let s = c.args.system.now in
     let f = c.args.flow in
     let parts = c.args.kept.now.parts.items in
-    subst (λ b. times x (uses_at s.slots f) * b ≤ slice_index c.args.kept.now.demands.items x) (sym c.part-before.ensures) (omega (arith, part_in s c.requires.sound parts f x, c.requires.kept.demands x))
+    subst (λ b. times x (uses_at s.slots f) * b ≤ slice_index c.args.kept.now.demands.items x) (sym c.part-before.ensures) (omega (arith, part_in s c.requires.kept.places.sound parts f x, c.requires.kept.demands x))
 
 pub visit_uses-requires-clause-fits : goal.visit_uses-requires-clause-fits
 visit_uses-requires-clause-fits g c = λ x.
     let s = c.args.system.now in
     let f = c.args.flow in
-    let le : c.part_of-after.result ≤ 2 ^ 65 = omega (arith, c.part_of-after.ensures, part_le (flow_in s.slots f) c.args.level (weighs s c.requires.sound f).1) in
-    omega (arith, parts_fit s c.requires.sound c.args.kept.now.parts.items c.requires.kept.fit f c.part_of-after.result le x, c.requires.kept.demands x)
+    let le : c.part_of-after.result ≤ 2 ^ 65 = omega (arith, c.part_of-after.ensures, part_le (flow_in s.slots f) c.args.level (weighs s c.requires.kept.places.sound f).1) in
+    omega (arith, parts_fit s c.requires.kept.places.sound c.args.kept.now.parts.items c.requires.kept.fit f c.part_of-after.result le x, c.requires.kept.demands x)
 
 pub returns-clause-moved : goal.returns-clause-moved
 returns-clause-moved g c =
@@ -64,9 +65,10 @@ returns-clause-kept g c =
     let out = c.visit_uses.ensures.levels in
     let places = c.requires.kept.places in
     let below : f < length old.parts.items = omega (arith, held_below s.slots f c.requires.held, places.parts) in
-    let le : part ≤ 2 ^ 65 = omega (arith, c.part_of-after.ensures, part_le (flow_in s.slots f) c.args.level (weighs s c.requires.sound f).1) in
-    moved_kept s c.requires.sound old new f part c.requires.held below le c.requires.kept
+    let le : part ≤ 2 ^ 65 = omega (arith, c.part_of-after.ensures, part_le (flow_in s.slots f) c.args.level (weighs s c.requires.kept.places.sound f).1) in
+    moved_kept s c.requires.kept.places.sound old new f part c.requires.held below le c.requires.kept
     (record {
+      sound = places.sound;
       levels = omega (arith, places.levels, ap length out.levels, length-set old.levels.items f c.args.level);
       parts = omega (arith, places.parts, ap length out.parts, length-set old.parts.items f part);
       moved = omega (arith, places.moved, ap (λ (m : MarkSet). m.room) (out.moved ∙ c.insert.ensures));

@@ -8,7 +8,7 @@ use Rattle.sg_levels.proofs.Within.{moved_within}
 use Rattle.sg_levels.proofs.settling.settle_user.Goals as goal
 
 pub level-level-requires : goal.level-level-requires
-level-level-requires g c = user_below c.args.system.now c.requires.sound c.args.resource c.args.flow (length c.args.kept.now.levels.items) c.requires.user c.requires.kept.places.levels
+level-level-requires g c = user_below c.args.system.now c.requires.kept.places.sound c.args.resource c.args.flow (length c.args.kept.now.levels.items) c.requires.user c.requires.kept.places.levels
 
 pub settle_held-requires-clause-most : goal.settle_held-requires-clause-most
 settle_held-requires-clause-most g c = subst (λ o. IsAtMost o (level_at c.args.kept.now.holds.items c.args.resource)) c.level-level.ensures (subst (IsAtMost c.level-level.result) c.hold.ensures (c.hold_below.ensures.none c.in-None.is))
@@ -16,23 +16,23 @@ settle_held-requires-clause-most g c = subst (λ o. IsAtMost o (level_at c.args.
 pub returns-in-Some-clause-settles : goal.returns-in-Some-clause-settles
 returns-in-Some-clause-settles g c = λ todo are.
     let told = subst (λ o. IfSome o (λ h. (c.hold.result ≡ Some h) × IsUnder h c.level-level.result)) c.in-Some.is c.hold_below.ensures.some in
-    lowered c.args.system.now c.requires.sound c.args.resource c.args.flow c.requires.user c.args.kept.now c.lower.new.kept c.args.was todo c.in-Some.hold c.requires.kept c.lower.ensures.moved c.lower.ensures.activates
+    lowered c.args.system.now c.requires.kept.places.sound c.args.resource c.args.flow c.requires.user c.args.kept.now c.lower.new.kept c.args.was todo c.in-Some.hold c.requires.kept c.lower.ensures.moved c.lower.ensures.activates
     (sym c.hold.ensures ∙ told.0) (subst (IsUnder c.in-Some.hold) c.level-level.ensures told.1) are
-
-pub returns-in-Some-clause-moved : goal.returns-in-Some-clause-moved
-returns-in-Some-clause-moved g c = moved_notes c.args.system.now c.args.kept.now c.lower.new.kept c.args.flow (Some c.in-Some.hold) c.lower.ensures.moved
 
 pub returns-else-is_same-clause-settles : goal.returns-else-is_same-clause-settles
 returns-else-is_same-clause-settles g c = λ todo are.
     let most = subst (λ o. IsAtMost o (level_at c.args.kept.now.holds.items c.args.resource)) c.level-level.ensures (subst (IsAtMost c.level-level.result) c.hold.ensures (c.hold_below.ensures.none c.in-None.is)) in
-    skipped c.args.system.now c.requires.sound c.args.resource c.args.flow c.requires.user c.args.kept.now c.args.was todo
+    skipped c.args.system.now c.requires.kept.places.sound c.args.resource c.args.flow c.requires.user c.args.kept.now c.args.was todo
     most (λ e. absurd (true≢false (sym (c.is_same.ensures.told (c.level-level.ensures ∙ e)) ∙ c.if-is_same.false))) are
 
-pub returns-else-is_same-clause-moved : goal.returns-else-is_same-clause-moved
-returns-else-is_same-clause-moved g c = noted_none c.args.kept.now.moved c.args.kept.now.levels.items
+pub returns-in-Some-clause-moves : goal.returns-in-Some-clause-moves
+returns-in-Some-clause-moves g c =
+    let out = c.lower.ensures in
+    record {
+      kept = out.kept;
+      moved = moved_notes c.args.system.now c.args.kept.now c.lower.new.kept c.args.flow (Some c.in-Some.hold) out.moved;
+      within = moved_within c.args.system.now c.args.kept.now c.lower.new.kept c.args.flow (Some c.in-Some.hold) out.moved out.only;
+    }
 
-pub returns-in-Some-clause-within : goal.returns-in-Some-clause-within
-returns-in-Some-clause-within g c = moved_within c.args.system.now c.args.kept.now c.lower.new.kept c.args.flow (Some c.in-Some.hold) c.lower.ensures.moved c.lower.ensures.only
-
-pub returns-else-is_same-clause-within : goal.returns-else-is_same-clause-within
-returns-else-is_same-clause-within g c = λ p q along here are. are
+pub returns-else-is_same-clause-moves : goal.returns-else-is_same-clause-moves
+returns-else-is_same-clause-moves g c = record { kept = c.requires.kept; moved = noted_none c.args.kept.now.moved c.args.kept.now.levels.items; within = λ p q along here are. are }

@@ -39,13 +39,13 @@ loop-at-smaller g c =
     let inv = c.loop-at.invariant in
     nearer next_on user_of s.uses row inv.0 c.loop-at.at inv.1.walk c.in-Some.i c.look-one.result c.in-Some.is c.look-one.ensures.there
 
-pub settle_user-times-requires-clause-user : goal.settle_user-times-requires-clause-user
-settle_user-times-requires-clause-user g c =
+pub settle_user-times-requires : goal.settle_user-times-requires
+settle_user-times-requires g c =
     let s = c.args.system.now in
     let row = users_on s.users c.args.resource in
     let inv = c.loop-at.invariant in
     let r = looked next_on user_of s.uses row inv.0 c.loop-at.at inv.1.walk c.in-Some.i c.look-one.result c.in-Some.is c.look-one.ensures.there in
-    in_at c.look-one.result.flow row inv.0 r.less (sym r.is)
+    record { kept = inv.1.kept; resource = c.requires.resource; user = in_at c.look-one.result.flow row inv.0 r.less (sym r.is) }
 
 pub overflow_add-times : goal.overflow_add-times
 overflow_add-times g c =
@@ -53,7 +53,7 @@ overflow_add-times g c =
     let row = users_on s.users c.args.resource in
     let inv = c.loop-at.invariant in
     let r = looked next_on user_of s.uses row inv.0 c.loop-at.at inv.1.walk c.in-Some.i c.look-one.result c.in-Some.is c.look-one.ensures.there in
-    omega (arith, inv.1.few, r.less, c.settle_user-times.ensures.few, row_few s c.requires.sound c.args.resource, c.requires.sound.few)
+    omega (arith, inv.1.few, r.less, c.settle_user-times.ensures.few, row_few s c.requires.kept.places.sound c.args.resource, c.requires.kept.places.sound.few)
 
 pub loop-at-preserved : goal.loop-at-preserved
 loop-at-preserved g c =
@@ -71,9 +71,9 @@ loop-at-preserved g c =
       record {
         walk = walk_on next_on user_of s.uses row k c.loop-at.at inv.1.walk c.in-Some.i c.look-one.result c.in-Some.is c.look-one.ensures.there;
         settling = λ are. c.settle_user-times.ensures.settles (drop (suc k) row) (subst (IsSettlingOn s before n was) first (inv.1.settling are));
-        kept = c.settle_user-times.ensures.kept;
-        moved = noted_on c.args.kept.now.moved before.moved after.moved c.args.kept.now.levels.items before.levels.items after.levels.items inv.1.moved c.settle_user-times.ensures.moved;
-        within = λ p q along here are. c.settle_user-times.ensures.within p q along (along.users n c.look-one.result.flow here (in_at c.look-one.result.flow row k r.less (sym r.is))) (inv.1.within p q along here are);
+        kept = c.settle_user-times.ensures.moves.kept;
+        moved = noted_on c.args.kept.now.moved before.moved after.moved c.args.kept.now.levels.items before.levels.items after.levels.items inv.1.moved c.settle_user-times.ensures.moves.moved;
+        within = λ p q along here are. c.settle_user-times.ensures.moves.within p q along (along.users n c.look-one.result.flow here (in_at c.look-one.result.flow row k r.less (sym r.is))) (inv.1.within p q along here are);
         looks = omega (arith, inv.1.looks, c.look-one.ensures.looks, c.settle_user-times.ensures.looks, uses_most c.settle_user-times.result (c.requires.kept.longest c.look-one.result.flow), times_more c.loop-at.times c.settle_user-times.result c.args.kept.now.longest);
         few = omega (arith, inv.1.few, c.settle_user-times.ensures.few);
       },

@@ -5,13 +5,13 @@ use Rattle.sg_levels.proofs.Within.{marked_or}
 use Rattle.sg_levels.proofs.settling.visit.Goals as goal
 
 pub returns-clause-activates : goal.returns-clause-activates
-returns-clause-activates c = λ r off.
-    let n = c.args.resource in
-    let is = off_mark r n c.args.kept.now.active.members (subst (λ (m : MarkSet). is_in r m.members ≡ false) c.insert.ensures off) in
-    (is.1, one_off r n is.0)
-
-pub returns-clause-only : goal.returns-clause-only
-returns-clause-only c = λ r on off. elim (marked_or r c.args.resource c.args.kept.now.active.members (subst (λ (m : MarkSet). is_in r m.members ≡ true) c.insert.ensures on)) [
-  | inl e ↦ absurd (off_one r c.args.resource off e)
-  | inr was ↦ was
-]
+returns-clause-activates c = record {
+  all = λ r off.
+      let n = c.args.resource in
+      let is = off_mark r n c.args.kept.now.active.members (subst (λ (m : MarkSet). is_in r m.members ≡ false) c.insert.ensures off) in
+      (is.1, one_off r n is.0);
+  only = λ r on off. elim (marked_or r c.args.resource c.args.kept.now.active.members (subst (λ (m : MarkSet). is_in r m.members ≡ true) c.insert.ensures on)) [
+    | inl e ↦ absurd (off_one r c.args.resource off e)
+    | inr was ↦ was
+  ];
+}

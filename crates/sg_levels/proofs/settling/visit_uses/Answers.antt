@@ -53,7 +53,7 @@ visit-requires-clause-active g c =
     let row = uses_at s.slots c.args.flow in
     let inv = c.loop-at.invariant in
     let r = looked next_of_flow resource_of s.uses row inv.0 c.loop-at.at inv.1.walk c.in-Some.i c.look-one.result c.in-Some.is c.look-one.ensures.there in
-    let below : get_or row inv.0 0 < length s.capacities = All-get_or (λ n. n < length s.capacities) row inv.0 0 r.less (rows_exist s c.requires.sound c.args.flow) in
+    let below : get_or row inv.0 0 < length s.capacities = All-get_or (λ n. n < length s.capacities) row inv.0 0 r.less (rows_exist s c.requires.places.sound c.args.flow) in
     omega (arith, below, r.is, c.requires.places.active, inv.1.levels.active)
 
 pub visit-requires-clause-demand : goal.visit-requires-clause-demand
@@ -62,7 +62,7 @@ visit-requires-clause-demand g c =
     let row = uses_at s.slots c.args.flow in
     let inv = c.loop-at.invariant in
     let r = looked next_of_flow resource_of s.uses row inv.0 c.loop-at.at inv.1.walk c.in-Some.i c.look-one.result c.in-Some.is c.look-one.ensures.there in
-    let below : get_or row inv.0 0 < length s.capacities = All-get_or (λ n. n < length s.capacities) row inv.0 0 r.less (rows_exist s c.requires.sound c.args.flow) in
+    let below : get_or row inv.0 0 < length s.capacities = All-get_or (λ n. n < length s.capacities) row inv.0 0 r.less (rows_exist s c.requires.places.sound c.args.flow) in
     omega (arith, below, r.is, c.requires.places.demands, inv.1.levels.demands)
 
 pub visit-requires-clause-counts : goal.visit-requires-clause-counts
@@ -71,7 +71,7 @@ visit-requires-clause-counts g c =
     let row = uses_at s.slots c.args.flow in
     let inv = c.loop-at.invariant in
     let r = looked next_of_flow resource_of s.uses row inv.0 c.loop-at.at inv.1.walk c.in-Some.i c.look-one.result c.in-Some.is c.look-one.ensures.there in
-    let below : get_or row inv.0 0 < length s.capacities = All-get_or (λ n. n < length s.capacities) row inv.0 0 r.less (rows_exist s c.requires.sound c.args.flow) in
+    let below : get_or row inv.0 0 < length s.capacities = All-get_or (λ n. n < length s.capacities) row inv.0 0 r.less (rows_exist s c.requires.places.sound c.args.flow) in
     omega (arith, below, r.is, c.requires.places.counts, inv.1.levels.counts)
 
 pub visit-requires-clause-some : goal.visit-requires-clause-some
@@ -104,16 +104,16 @@ loop-at-preserved g c =
     let new = c.visit.new.kept in
     let out = c.visit.ensures in
     let r = looked next_of_flow resource_of s.uses row k c.loop-at.at inv.1.walk c.in-Some.i c.look-one.result c.in-Some.is c.look-one.ensures.there in
-    let below : get_or row k 0 < length s.capacities = All-get_or (λ n. n < length s.capacities) row k 0 r.less (rows_exist s c.requires.sound c.args.flow) in
+    let below : get_or row k 0 < length s.capacities = All-get_or (λ n. n < length s.capacities) row k 0 r.less (rows_exist s c.requires.places.sound c.args.flow) in
     let here : one < length old.demands.items = omega (arith, below, r.is, c.requires.places.demands, inv.1.levels.demands) in
     let counted : one < length old.counts.items = omega (arith, below, r.is, c.requires.places.counts, inv.1.levels.counts) in
     let some = shift_some before after first.demands.items old.demands.items row k one r.less r.is inv.1.shifts c.requires.some in (
       suc k,
       record {
         walk = walk_on next_of_flow resource_of s.uses row k c.loop-at.at inv.1.walk c.in-Some.i c.look-one.result c.in-Some.is c.look-one.ensures.there;
-        stays = λ n d. inv.1.stays n (out.activates n d).0;
-        only = λ n on off. inv.1.only n (out.only n on (one_off n one (λ e. true≢false (sym (in_at n row k r.less (sym r.is ∙ sym e)) ∙ off)))) off;
-        done = λ i h. below_more (λ i. (n : ℕ) → is_active new.active.members n ≡ false → n ≢ get_or row i 0) k (λ i h n d. inv.1.done i h n (out.activates n d).0) (λ n d e. off_one n one (out.activates n d).1 (e ∙ sym r.is)) i (omega (arith, h));
+        stays = λ n d. inv.1.stays n (out.activates.all n d).0;
+        only = λ n on off. inv.1.only n (out.activates.only n on (one_off n one (λ e. true≢false (sym (in_at n row k r.less (sym r.is ∙ sym e)) ∙ off)))) off;
+        done = λ i h. below_more (λ i. (n : ℕ) → is_active new.active.members n ≡ false → n ≢ get_or row i 0) k (λ i h n d. inv.1.done i h n (out.activates.all n d).0) (λ n d e. off_one n one (out.activates.all n d).1 (e ∙ sym r.is)) i (omega (arith, h));
         shifts = λ x. ap (λ xs. get_or xs x 0 + times x (take (suc k) row) * before) out.demands ∙ shift_more before after first.demands.items old.demands.items row k one r.less r.is inv.1.shifts some here x;
         counts = subst (λ ns. (n : ℕ) → get_or ns n 0 ≤ get_or first.counts.items n 0 - cond (eqb after 0) (times n (take (suc k) row)) 0) (sym out.counts) (less_more (eqb after 0) first.counts.items old.counts.items row k one r.less r.is counted inv.1.counts);
         levels = record {
@@ -132,17 +132,20 @@ loop-at-preserved g c =
     )
 
 pub returns-clause-activates : goal.returns-clause-activates
-returns-clause-activates g c = λ n d.
-    let s = c.args.system.now in
-    let row = uses_at s.slots c.args.flow in
-    let inv = c.loop-at.invariant in
-    let end = walked next_of_flow resource_of s.uses row inv.0 c.loop-at.at inv.1.walk c.in_default.not-Some in (
-      inv.1.stays n d,
-      elim (bool_cases (is_in n row)) [
-        | inl i ↦ let at = at_in n row i in absurd (inv.1.done at.0 (omega (arith, at.1, end)) n d (sym at.2))
-        | inr off ↦ off
-      ],
-    )
+returns-clause-activates g c = record {
+  all = λ n d.
+      let s = c.args.system.now in
+      let row = uses_at s.slots c.args.flow in
+      let inv = c.loop-at.invariant in
+      let end = walked next_of_flow resource_of s.uses row inv.0 c.loop-at.at inv.1.walk c.in_default.not-Some in (
+        inv.1.stays n d,
+        elim (bool_cases (is_in n row)) [
+          | inl i ↦ let at = at_in n row i in absurd (inv.1.done at.0 (omega (arith, at.1, end)) n d (sym at.2))
+          | inr off ↦ off
+        ],
+      );
+  only = c.loop-at.invariant.1.only;
+}
 
 pub returns-clause-shifts : goal.returns-clause-shifts
 returns-clause-shifts g c =
@@ -169,6 +172,3 @@ returns-clause-looks g c =
     let row = uses_at s.slots c.args.flow in
     let inv = c.loop-at.invariant in
     omega (arith, inv.1.looks, walked next_of_flow resource_of s.uses row inv.0 c.loop-at.at inv.1.walk c.in_default.not-Some)
-
-pub returns-clause-only : goal.returns-clause-only
-returns-clause-only g c = c.loop-at.invariant.1.only

@@ -9,6 +9,9 @@ use Rattle.sg_levels.proofs.Joined.{spare_more}
 use Rattle.sg_levels.proofs.Allowing.{round_joined, spared, users_joined}
 use Rattle.sg_levels.proofs.levels.Levels.look_on.Goals as goal
 
+pub refresh-requires-clause-at : goal.refresh-requires-clause-at
+refresh-requires-clause-at g c = record { settling = c.loop-round.invariant.settling; resource = c.in-Some.ensures.some }
+
 pub refresh-requires-clause-given : goal.refresh-requires-clause-given
 refresh-requires-clause-given g c =
     let inv = c.loop-round.invariant in
@@ -38,9 +41,9 @@ loop-round-preserved g c =
     let out = c.in-Some-refresh.ensures in
     let after = c.refresh.new.self in
     record {
-      settling = c.refresh.ensures.settling;
-      moved = noted_on first.moved now.moved after.moved first.levels.items now.levels.items after.levels.items inv.moved c.refresh.ensures.moved;
-      within = λ p q along are. let here = inv.within p q along are in c.refresh.ensures.within p q along (here.active c.in-Some.resource c.in-Some.ensures.active) here;
+      settling = c.refresh.ensures.settles.settling;
+      moved = noted_on first.moved now.moved after.moved first.levels.items now.levels.items after.levels.items inv.moved c.refresh.ensures.settles.moved;
+      within = λ p q along are. let here = inv.within p q along are in c.refresh.ensures.settles.within p q along (here.active c.in-Some.resource c.in-Some.ensures.active) here;
       joined = λ p q along are.
           let k = known p q along are in
           let u = users p q along are in

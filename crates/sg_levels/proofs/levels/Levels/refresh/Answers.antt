@@ -14,7 +14,7 @@ put_to_rest-requires-clause-none g c =
     let kept = c.args.self.now in
     let sound = c.is_sound.ensures in
     let told = c.has_slack.ensures c.if-has_slack.true in
-    let settling = c.requires.settling in
+    let settling = c.requires.at.settling in
     demand_holds_none_lem s kept.levels.items n sound (λ id i. settling.written.within id (flow_in s.slots id) (held_user s sound n id i)) told.1
     (omega (arith, told.0, settling.kept.demands n, parts_demand s sound kept.parts.items kept.levels.items (λ id held. settling.parts id held refl) n))
 

@@ -18,6 +18,7 @@ returns-then-not-is_same-clause-between c =
     bounded_between s t c.is_sound.ensures c.is_sound-2.ensures id (uses_held t.slots id (record is.its { bound = Some c.args.bound }) is.here ∙ sym (uses_held s.slots id is.its is.was)) c.requires.held (subst IsSome (sym is.here) refl) is.others is.numbers is.capacities c.args.self.now _ c.requires.between
     (record {
       places = record {
+        sound = places.sound;
         levels = places.levels;
         parts = places.parts;
         moved = omega (arith, places.moved, ap (λ (m : MarkSet). m.room) c.insert-then-not-is_same.ensures);

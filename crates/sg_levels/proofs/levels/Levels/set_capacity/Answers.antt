@@ -18,7 +18,7 @@ returns-then-before-capacity-clause-between c =
     offered_between s c.set_capacity.new.self c.is_sound.ensures c.is_sound-2.ensures n (ap (λ (x : Sharing). x.slots) c.set_capacity.ensures) (ap length caps ∙ length-set s.capacities n cap)
     (λ r ne. ap (λ cs. slice_index cs r) caps ∙ get_or-set_other s.capacities n r cap 0 ne) c.args.self.now _ c.requires.between
     (record {
-      places = record { levels = places.levels; parts = places.parts; moved = places.moved; stale = places.stale; holds = places.holds; demands = places.demands; counts = places.counts; active = ap (λ (m : MarkSet). m.room) c.insert.ensures ∙ places.active };
+      places = record { sound = places.sound; levels = places.levels; parts = places.parts; moved = places.moved; stale = places.stale; holds = places.holds; demands = places.demands; counts = places.counts; active = ap (λ (m : MarkSet). m.room) c.insert.ensures ∙ places.active };
       demands = kept.demands;
       counts = kept.counts;
       fit = kept.fit;

@@ -21,6 +21,7 @@ returns-clause-between c =
     started_between s t c.is_sound.ensures c.is_sound-2.ensures id its out.free out.added out.numbers out.capacities old _ c.requires.between
     (record {
       places = record {
+        sound = places.sound;
         levels = places.levels;
         parts = places.parts;
         moved = omega (arith, places.moved, ap (λ (m : MarkSet). m.room) c.insert-2.ensures);
