@@ -4,6 +4,7 @@ ghost use Rattle.std.specs.List.{list_all, list_any};
 ghost use Rattle.sg_states.specs.declared.state.State.TheVariants.{Blocked, Ready};
 ghost use Rattle.sg_states.specs.Actors.{actor_at, first_actor, is_answered, is_blocked, is_over, is_ready, joined_in, joiners, put_state, put_suspended, state_at, IsActor, IsJoiner};
 ghost use Rattle.sg_states.specs.Queue.{is_ready_in, IsQueue};
+ghost use Rattle.sg_states.specs.kept.Standing.{CanAnswer};
 ghost use Rattle.sg_states.specs.kept.Waiting.{is_joining};
 
 use crate::joiners::{self, Joiner};
@@ -172,9 +173,7 @@ impl Crowd {
 
     /// An actor that has an answer has this one from now on. It is ready as before, so only its state is touched.
     pub(crate) fn put_answer(&mut self, actor: ActorId, answer: Answer)
-        requires actor { IsActor self.old.actors actor.0 }
-        requires answered { IsTrue (is_answered (state_at self.old.actors actor.0)) }
-        requires round { self.old.passing ≡ false }
+        requires { CanAnswer self.old actor.0 }
         ensures { self.new
             ≡ record self.old { actors = put_state self.old.actors actor.0 (Ready answer) } }
     {
@@ -183,9 +182,7 @@ impl Crowd {
 
     /// An actor that has an answer is blocked from now on.
     pub(crate) fn put_blocked(&mut self, actor: ActorId, what: Call, since: u128, on: Option<Await>)
-        requires actor { IsActor self.old.actors actor.0 }
-        requires answered { IsTrue (is_answered (state_at self.old.actors actor.0)) }
-        requires round { self.old.passing ≡ false }
+        requires { CanAnswer self.old actor.0 }
         ensures { self.new ≡ record self.old {
           actors = put_state self.old.actors actor.0 (Blocked what since on);
         } }

@@ -6,7 +6,7 @@ ghost use Rattle.sg_states.specs.declared.state.Actor.{Actor};
 ghost use Rattle.sg_states.specs.Actors.{actor_at, joined_by as joined_by_spec, joined_in, joiners, put_actor, state_at, IsJoiner};
 ghost use Rattle.sg_states.specs.Queue.{IsIdOf};
 ghost use Rattle.sg_states.specs.kept.Places.{IsPlace};
-ghost use Rattle.sg_states.specs.kept.Waiting.{is_joining, rank as rank_spec, AreWaiting};
+ghost use Rattle.sg_states.specs.kept.Waiting.{is_joining, rank as rank_spec, AreWaiting, HasTurned};
 
 use crate::state::Actor;
 use sg_base::{ActorId, Call};
@@ -85,9 +85,7 @@ pub(crate) fn enter_by(list: &mut Vec<Joiner>, actors: &[Actor], actor: ActorId,
     requires idle { is_joining (actor_at actors.now actor.0) ≡ false }
     requires waiting { AreWaiting actors.now list.old.items }
     requires room { length actors.now ≤ vec_capacity list.old }
-    ensures waiting { (next : Actor) → joined_in next.state ≡ joined_by_spec what
-        → AreWaiting (put_actor actors.now actor.0 next) list.new.items }
-    ensures capacity { vec_capacity list.new ≡ vec_capacity list.old }
+    ensures { HasTurned actors.now actor (joined_by_spec what) list.old list.new }
 {
     match joined_by(what) {
         Some(of) => enter(list, of, actor),
@@ -100,9 +98,7 @@ pub(crate) fn enter_by(list: &mut Vec<Joiner>, actors: &[Actor], actor: ActorId,
 pub(crate) fn let_go(list: &mut Vec<Joiner>, actors: &[Actor], actor: ActorId)
     requires actor { IsIdOf actors.now actor }
     requires waiting { AreWaiting actors.now list.old.items }
-    ensures waiting { (next : Actor) → joined_in next.state ≡ None
-        → AreWaiting (put_actor actors.now actor.0 next) list.new.items }
-    ensures capacity { vec_capacity list.new ≡ vec_capacity list.old }
+    ensures { HasTurned actors.now actor None list.old list.new }
 {
     match actors[actor.index()].state.joined() {
         Some(of) => leave(list, of, actor),

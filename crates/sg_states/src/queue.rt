@@ -4,8 +4,8 @@ ghost use Rattle.std.specs.List.Sorted.{IsNonDecreasingBy, IsPermutation};
 ghost use Rattle.sg_base.specs.declared.ids.ActorId.{ActorId};
 ghost use Rattle.sg_states.specs.declared.state.Actor.{Actor};
 ghost use Rattle.sg_states.specs.Queue.{is_ready_in as is_ready_in_spec, IsIdOf, IsQueue};
-ghost use Rattle.sg_states.specs.Actors.{is_ready, put_actor};
-ghost use Rattle.sg_states.specs.kept.Standing.{IsQueued};
+ghost use Rattle.sg_states.specs.Actors.{put_actor};
+ghost use Rattle.sg_states.specs.kept.Standing.{CanFollow, HasFollowed, IsQueued};
 ghost use Rattle.sg_states.specs.kept.Places.{IsPlace};
 
 use crate::state::Actor;
@@ -70,13 +70,9 @@ fn join_in_order(queue: &mut Vec<ActorId>, actor: ActorId)
 
 // One that isn't ready is to take a turn.
 fn join(queue: &mut Vec<ActorId>, actors: &[Actor], passing: bool, actor: ActorId)
-    requires actor { IsIdOf actors.now actor }
+    requires follows { CanFollow passing actors.now queue.old actor }
     requires idle { is_ready_in_spec actors.now actor.0 ≡ false }
-    requires queued { IsQueued passing actors.now queue.old.items }
-    requires room { length actors.now ≤ vec_capacity queue.old }
-    ensures queued { (next : Actor) → is_ready next ≡ true
-        → IsQueued passing (put_actor actors.now actor.0 next) queue.new.items }
-    ensures capacity { vec_capacity queue.new ≡ vec_capacity queue.old }
+    ensures { HasFollowed passing actors.now actor true queue.old queue.new }
 {
     if passing {
         queue.push_reserved(actor)
@@ -94,13 +90,9 @@ pub(crate) fn join_unless(
     actor: ActorId,
     suspended: bool,
 )
-    requires actor { IsIdOf actors.now actor }
+    requires follows { CanFollow passing actors.now queue.old actor }
     requires idle { is_ready_in_spec actors.now actor.0 ≡ false }
-    requires queued { IsQueued passing actors.now queue.old.items }
-    requires room { length actors.now ≤ vec_capacity queue.old }
-    ensures queued { (next : Actor) → is_ready next ≡ not suspended
-        → IsQueued passing (put_actor actors.now actor.0 next) queue.new.items }
-    ensures capacity { vec_capacity queue.new ≡ vec_capacity queue.old }
+    ensures { HasFollowed passing actors.now actor (not suspended) queue.old queue.new }
 {
     if !suspended {
         join(queue, actors, passing, actor);
@@ -115,10 +107,8 @@ pub(crate) fn follow(
     actor: ActorId,
     next: Actor,
 )
-    requires actor { IsIdOf actors.now actor }
+    requires follows { CanFollow passing actors.now queue.old actor }
     requires turn { passing ≡ true → is_ready_in_spec actors.now actor.0 ≡ false }
-    requires queued { IsQueued passing actors.now queue.old.items }
-    requires room { length actors.now ≤ vec_capacity queue.old }
     ensures queued { IsQueued passing (put_actor actors.now actor.0 next) queue.new.items }
     ensures capacity { vec_capacity queue.new ≡ vec_capacity queue.old }
 {

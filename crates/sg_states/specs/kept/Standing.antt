@@ -1,9 +1,10 @@
 -- What always holds of the fields of `Crowd`.
-use Rattle.std.specs.Prelude.{◌≡◌, ℕ, ◌==◌, ◌<◌, ◌≤◌, ◌^◌, Bool, true, false, if◌then◌else◌, List, length, count_by, All}
+use Rattle.std.specs.Prelude.{◌≡◌, ℕ, ◌==◌, ◌<◌, ◌≤◌, ◌^◌, Bool, true, false, IsTrue, if◌then◌else◌, List, length, count_by, All, vec_capacity}
+use Rattle.std.specs.Global.{Vec}
 use Rattle.sg_base.specs.declared.ids.ActorId.{ActorId}
 use Rattle.sg_states.specs.declared.joiners.Joiner.{Joiner}
 use Rattle.sg_states.specs.declared.state.Actor.{Actor}
-use Rattle.sg_states.specs.Actors.{is_over, is_ready}
+use Rattle.sg_states.specs.Actors.{is_answered, is_over, is_ready, put_actor, state_at, IsActor}
 use Rattle.sg_states.specs.Queue.{is_ready_in, IsIdOf, IsQueue}
 use Rattle.sg_states.specs.kept.Waiting.{AreWaiting}
 
@@ -18,10 +19,27 @@ abbrev pub IsQueued : Bool → List Actor → List ActorId → Type 0
 IsQueued true actors queue = HasAnswered actors queue
 IsQueued false actors queue = IsQueue actors queue
 
+-- there is a queue of those actors, and an actor whose state may change
+pub record CanFollow (passing : Bool) (actors : List Actor) (queue : Vec ActorId) (one : ActorId) : Type 0 where
+  pub actor : IsIdOf actors one
+  pub queued : IsQueued passing actors queue.items
+  pub room : length actors ≤ vec_capacity queue
+
+-- the actor follows in the queue as the next one that is ready or not
+pub record HasFollowed (passing : Bool) (actors : List Actor) (actor : ActorId) (ready : Bool) (old new : Vec ActorId) : Type 0 where
+  pub queued : (next : Actor) → is_ready next ≡ ready → IsQueued passing (put_actor actors actor.0 next) new.items
+  pub capacity : vec_capacity new ≡ vec_capacity old
+
 -- what the actors do, and whether a pass goes on
 pub record Standing : Type 0 where
   pub actors : List Actor
   pub passing : Bool
+
+-- between passes, an actor has an answer
+pub record CanAnswer (standing : Standing) (one : ℕ) : Type 0 where
+  pub actor : IsActor standing.actors one
+  pub answered : IsTrue (is_answered (state_at standing.actors one))
+  pub round : standing.passing ≡ false
 
 -- how many actors are ready and how many are over, and for how many there is room in the queue and among the joiners
 pub record Counts : Type 0 where

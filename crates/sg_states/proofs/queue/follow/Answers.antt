@@ -25,4 +25,4 @@ returns-else-is_ready-clause-queued c =
       | else-is_ready-via-then-is_ready+else-not-is_ready_in w ↦ λ now. sym w.is_ready_in.ensures ∙ w.if-not-is_ready_in.false
       | else-is_ready-via-else-is_ready w ↦ λ now. absurd (true≢false (sym now ∙ (sym c.is_ready.ensures ∙ w.if-is_ready.false)))
     ] in
-    stays c.args.passing actors c.args.queue.now.items c.args.actor c.args.next c.requires.actor c.requires.turn was c.requires.queued
+    stays c.args.passing actors c.args.queue.now.items c.args.actor c.args.next c.requires.follows.actor c.requires.turn was c.requires.follows.queued

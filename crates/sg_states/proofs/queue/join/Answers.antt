@@ -9,19 +9,22 @@ pub push_reserved-requires : goal.push_reserved-requires
 push_reserved-requires c =
     let actors = c.args.actors.now in
     let queue = c.args.queue.now in
-    let answered = subst (λ p. IsQueued p actors queue.items) c.if-passing.true c.requires.queued in
-    omega (arith, answered_room actors queue.items c.args.actor.0 c.requires.actor.0 c.requires.actor.1 c.requires.idle answered, c.requires.room, queue.ok.0)
+    let answered = subst (λ p. IsQueued p actors queue.items) c.if-passing.true c.requires.follows.queued in
+    omega (arith, answered_room actors queue.items c.args.actor.0 c.requires.follows.actor.0 c.requires.follows.actor.1 c.requires.idle answered, c.requires.follows.room, queue.ok.0)
 
 pub join_in_order-requires-clause-room : goal.join_in_order-requires-clause-room
 join_in_order-requires-clause-room c = λ none.
     let actors = c.args.actors.now in
     let queue = c.args.queue.now in
-    let queued = subst (λ p. IsQueued p actors queue.items) c.if-passing.false c.requires.queued in
-    omega (arith, queue_room actors queue.items c.args.actor queued c.requires.actor none, c.requires.room, queue.ok.0)
+    let queued = subst (λ p. IsQueued p actors queue.items) c.if-passing.false c.requires.follows.queued in
+    omega (arith, queue_room actors queue.items c.args.actor queued c.requires.follows.actor none, c.requires.follows.room, queue.ok.0)
 
-pub returns-else-passing-clause-queued : goal.returns-else-passing-clause-queued
-returns-else-passing-clause-queued c = λ next ready.
-    let actors = c.args.actors.now in
-    let actor = c.args.actor in
-    let queued = subst (λ p. IsQueued p actors c.args.queue.now.items) c.if-passing.false c.requires.queued in
-    subst (λ p. IsQueued p (put_actor actors actor.0 next) c.join_in_order.new.queue.items) (sym c.if-passing.false) (c.join_in_order.ensures.queue actors next c.requires.actor queued)
+pub returns-else-passing : goal.returns-else-passing
+returns-else-passing c = record {
+  queued = λ next ready.
+      let actors = c.args.actors.now in
+      let actor = c.args.actor in
+      let queued = subst (λ p. IsQueued p actors c.args.queue.now.items) c.if-passing.false c.requires.follows.queued in
+      subst (λ p. IsQueued p (put_actor actors actor.0 next) c.join_in_order.new.queue.items) (sym c.if-passing.false) (c.join_in_order.ensures.queue actors next c.requires.follows.actor queued);
+  capacity = c.join_in_order.ensures.capacity;
+}
