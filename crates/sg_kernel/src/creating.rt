@@ -3,7 +3,7 @@ ghost use Rattle.std.specs.Prelude.{◌≡◌, IsTrue};
 ghost use Rattle.sg_states.specs.Actors.{is_unstarted};
 ghost use Rattle.sg_kernel.specs.World.{state_of};
 ghost use Rattle.sg_kernel.specs.Lives.{creates};
-ghost use Rattle.sg_kernel.specs.kept.Acts.{Answers, CanName};
+ghost use Rattle.sg_kernel.specs.kept.Acts.{Answers, CanMake};
 ghost use Rattle.sg_kernel.specs.kept.Sound.{core_of};
 
 use crate::at_once::answer_now;
@@ -12,7 +12,7 @@ use sg_base::{ActorId, Answer, Call};
 
 /// The named actor begins, where it was given a context. Else the call is refused.
 pub(crate) fn create(fields: &mut Fields, actor: ActorId, target: ActorId, given: bool)
-    requires named { CanName fields.old actor.0 target.0 }
+    requires makes { CanMake fields.old actor.0 (Call.Create target) }
     requires fresh { IsTrue given → IsTrue (is_unstarted (state_of (core_of fields.old) target.0)) }
     ensures { Answers (creates given actor.0 target) fields.old fields.new }
 {

@@ -7,7 +7,7 @@ ghost use Rattle.sg_states.specs.States.{with_suspended, CanCall, IsAlive};
 ghost use Rattle.sg_kernel.specs.World.{extent, is_suspended, IsActor};
 ghost use Rattle.sg_kernel.specs.Steps.{at_once};
 ghost use Rattle.sg_kernel.specs.Suspensions.{held_by, held_if, held_to, resumes, suspended_to, suspends};
-ghost use Rattle.sg_kernel.specs.kept.Acts.{Answers, CanName};
+ghost use Rattle.sg_kernel.specs.kept.Acts.{Answers, CanMake};
 ghost use Rattle.sg_kernel.specs.kept.Sound.{core_of, known_of, setup_in, AwaitsMade};
 ghost use Rattle.sg_kernel.specs.kept.Waking.{LeavesCallers};
 ghost use Rattle.sg_kernel.specs.kept.Whole.{IsWhole, IsWholeFor};
@@ -110,7 +110,7 @@ fn answer_done(fields: &mut Fields, actor: ActorId, what: Call)
 
 /// The named actor takes no turns, and computes nothing, until it is resumed.
 pub(crate) fn suspend(fields: &mut Fields, actor: ActorId, target: ActorId)
-    requires { CanName fields.old actor.0 target.0 }
+    requires { CanMake fields.old actor.0 (Call.Suspend target) }
     ensures { Answers (suspends actor.0 target) fields.old fields.new }
 {
     set(fields, target, true);
@@ -119,7 +119,7 @@ pub(crate) fn suspend(fields: &mut Fields, actor: ActorId, target: ActorId)
 
 /// The named actor takes turns again, and what it computes goes on.
 pub(crate) fn resume(fields: &mut Fields, actor: ActorId, target: ActorId)
-    requires { CanName fields.old actor.0 target.0 }
+    requires { CanMake fields.old actor.0 (Call.Resume target) }
     ensures { Answers (resumes actor.0 target) fields.old fields.new }
 {
     set(fields, target, false);

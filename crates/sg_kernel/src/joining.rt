@@ -3,7 +3,7 @@ ghost use Rattle.std.specs.Prelude.{◌≡◌, drop};
 ghost use Rattle.sg_states.specs.Actors.{is_ended, joiners, IsJoiner};
 ghost use Rattle.sg_kernel.specs.Lives.{exits, joins_one, leaves};
 ghost use Rattle.sg_kernel.specs.Locks.{joiners_wake, wakes};
-ghost use Rattle.sg_kernel.specs.kept.Acts.{Answers, CanName, Counts, Wakes};
+ghost use Rattle.sg_kernel.specs.kept.Acts.{Answers, CanMake, Counts, Wakes};
 ghost use Rattle.sg_kernel.specs.kept.Whole.{CanStep, IsWhole};
 
 use crate::at_once::answer_now;
@@ -65,7 +65,7 @@ fn has_ended(state: State) -> bool
 
 /// The actor waits until the named one has ended.
 pub(crate) fn join(fields: &mut Fields, actor: ActorId, target: ActorId)
-    requires { CanName fields.old actor.0 target.0 }
+    requires { CanMake fields.old actor.0 (Call.Join target) }
     ensures { Answers (joins_one actor.0 target) fields.old fields.new }
 {
     if has_ended(fields.states.state(target)) {

@@ -11,7 +11,7 @@ ghost use Rattle.sg_kernel.specs.Steps.{each};
 ghost use Rattle.sg_kernel.specs.Answers.{finishes};
 ghost use Rattle.sg_kernel.specs.Kills.{awaited, blocked_on, gives_up, kill_done, kills, withdrawn};
 ghost use Rattle.sg_kernel.specs.kept.Killing.{killed_by, AreSerials};
-ghost use Rattle.sg_kernel.specs.kept.Acts.{Answers, CanGiveUp, CanName, GivesUp, Steps};
+ghost use Rattle.sg_kernel.specs.kept.Acts.{Answers, CanGiveUp, CanMake, CanName, GivesUp, Steps};
 ghost use Rattle.sg_kernel.specs.kept.Sound.{core_of, is_idle, is_posted};
 ghost use Rattle.sg_kernel.specs.kept.Whole.{IsWhole};
 
@@ -114,7 +114,7 @@ fn give_up_all(fields: &mut Fields)
 
 /// The named actor ends, if it is alive: what it takes part in fails, and those that wait for its end go on.
 pub(crate) fn kill(fields: &mut Fields, actor: ActorId, target: ActorId)
-    requires { CanName fields.old actor.0 target.0 }
+    requires { CanMake fields.old actor.0 (Call.Kill target) }
     ensures { Answers (kills actor.0 target) fields.old fields.new }
 {
     let alive = fields.states.state(target).is_alive();

@@ -1,9 +1,5 @@
 use Rattle.std.proofs.Common.{subst}
-use Rattle.sg_base.specs.Limits.{IsCall}
-use Rattle.sg_kernel.specs.World.{extent}
 use Rattle.sg_kernel.specs.kept.Acts.{CanMake}
-use Rattle.sg_kernel.specs.kept.Sound.{setup_in}
-use Rattle.sg_kernel.proofs.Alone.{can_name}
 use Rattle.sg_kernel.proofs.calls.answer_alone.Goals as goal
 
 pub compute-requires : goal.compute-requires
@@ -24,27 +20,17 @@ acquire-requires c = subst (CanMake c.args.fields.now c.args.actor.0) c.in-Acqui
 pub release-requires : goal.release-requires
 release-requires c = subst (CanMake c.args.fields.now c.args.actor.0) c.in-Release.is c.requires.makes
 
-pub create-requires-clause-named : goal.create-requires-clause-named
-create-requires-clause-named c =
-    let fields = c.args.fields.now in
-    can_name fields c.args.actor.0 c.in-Create.target c.requires.makes.able (subst (IsCall (extent (setup_in fields))) c.in-Create.is c.requires.makes.call)
+pub create-requires-clause-makes : goal.create-requires-clause-makes
+create-requires-clause-makes c = subst (CanMake c.args.fields.now c.args.actor.0) c.in-Create.is c.requires.makes
 
 pub join-requires : goal.join-requires
-join-requires c =
-    let fields = c.args.fields.now in
-    can_name fields c.args.actor.0 c.in-Join.target c.requires.makes.able (subst (IsCall (extent (setup_in fields))) c.in-Join.is c.requires.makes.call)
+join-requires c = subst (CanMake c.args.fields.now c.args.actor.0) c.in-Join.is c.requires.makes
 
 pub kill-requires : goal.kill-requires
-kill-requires c =
-    let fields = c.args.fields.now in
-    can_name fields c.args.actor.0 c.in-Kill.target c.requires.makes.able (subst (IsCall (extent (setup_in fields))) c.in-Kill.is c.requires.makes.call)
+kill-requires c = subst (CanMake c.args.fields.now c.args.actor.0) c.in-Kill.is c.requires.makes
 
 pub suspend-requires : goal.suspend-requires
-suspend-requires c =
-    let fields = c.args.fields.now in
-    can_name fields c.args.actor.0 c.in-Suspend.target c.requires.makes.able (subst (IsCall (extent (setup_in fields))) c.in-Suspend.is c.requires.makes.call)
+suspend-requires c = subst (CanMake c.args.fields.now c.args.actor.0) c.in-Suspend.is c.requires.makes
 
 pub resume-requires : goal.resume-requires
-resume-requires c =
-    let fields = c.args.fields.now in
-    can_name fields c.args.actor.0 c.in-Resume.target c.requires.makes.able (subst (IsCall (extent (setup_in fields))) c.in-Resume.is c.requires.makes.call)
+resume-requires c = subst (CanMake c.args.fields.now c.args.actor.0) c.in-Resume.is c.requires.makes

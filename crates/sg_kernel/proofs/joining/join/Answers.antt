@@ -6,7 +6,11 @@ use Rattle.sg_kernel.specs.Lives.{joins_by}
 use Rattle.sg_kernel.specs.Steps.{blocked_by, counted}
 use Rattle.sg_kernel.specs.kept.Sound.{core_of, known_of}
 use Rattle.sg_kernel.proofs.Each.{called_alone}
+use Rattle.sg_kernel.proofs.Alone.{can_name}
 use Rattle.sg_kernel.proofs.joining.join.Goals as goal
+
+pub state-requires : goal.state-requires
+state-requires c = (can_name c.args.fields.now c.args.actor.0 c.args.target c.requires.able c.requires.call).target
 
 pub returns-then-has_ended : goal.returns-then-has_ended
 returns-then-has_ended c = record {

@@ -7,14 +7,21 @@ use Rattle.sg_kernel.specs.Known.{after, after_call}
 use Rattle.sg_kernel.specs.Locks.{joiners_wake}
 use Rattle.sg_kernel.specs.Steps.{at_once, counted, each}
 use Rattle.sg_kernel.specs.kept.Sound.{core_of, known_of}
-use Rattle.sg_kernel.proofs.Killed.{kill_known, kill_told}
+use Rattle.sg_kernel.proofs.Alone.{can_name}
+use Rattle.sg_kernel.proofs.Killed.{kill_known}
 use Rattle.sg_kernel.proofs.killing.kill.Goals as goal
+
+pub state-requires : goal.state-requires
+state-requires c = (can_name c.args.fields.now c.args.actor.0 c.args.target c.requires.able c.requires.call).target
+
+pub withdraw-requires-clause-named : goal.withdraw-requires-clause-named
+withdraw-requires-clause-named c = can_name c.args.fields.now c.args.actor.0 c.args.target c.requires.able c.requires.call
 
 pub withdraw-requires-clause-alive : goal.withdraw-requires-clause-alive
 withdraw-requires-clause-alive c = sym (c.is_alive-alive.ensures ∙ ap is_alive c.state.ensures.is) ∙ c.if-alive.true
 
 pub answer_now-requires-clause-what : goal.answer_now-requires-clause-what
-answer_now-requires-clause-what c = kill_told c.args.fields.now c.args.target c.requires.able.whole.sound c.requires.target
+answer_now-requires-clause-what c = record { told = tt; call = c.requires.call }
 
 pub returns-then-alive : goal.returns-then-alive
 returns-then-alive c = record {

@@ -1,0 +1,21 @@
+use Rattle.std.proofs.Common.{◌≢◌, ◌<◌, sym, subst, arith}
+use Rattle.sg_kernel.specs.Known.{Known}
+use Rattle.sg_kernel.specs.World.{IsActor, MayCall}
+use Rattle.sg_kernel.proofs.Limits.{homes_counted}
+use Rattle.sg_kernel.proofs.Moves.{can_step}
+use Rattle.sg_kernel.proofs.kernel.Kernel.create.Goals as goal
+
+pub create-requires-clause-makes : goal.create-requires-clause-makes
+create-requires-clause-makes c =
+    let fields = c.self.inside.fields in
+    let actor = c.args.actor.0 in
+    let target = c.args.target in
+    let whole = c.self.invariant in
+    let caller = subst (λ (k : Known). MayCall k.core actor) (sym c.self.view_is) c.requires.caller in
+    let room = subst (λ (k : Known). 0 < k.room) (sym c.self.view_is) c.requires.room in
+    let budget = subst (λ (k : Known). k.core.events ≢ k.setup.budget) (sym c.self.view_is) c.requires.budget in
+    let there = subst (λ (k : Known). IsActor k.core target.0) (sym c.self.view_is) c.requires.target in
+    record {
+      able = can_step fields actor whole caller room budget;
+      call = (there.from, omega (arith, there.to, homes_counted fields whole.sound));
+    }
