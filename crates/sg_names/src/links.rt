@@ -1,28 +1,22 @@
 //! The names of links.
-ghost use Rattle.std.specs.Prelude.{◌≡◌, ◌+◌, ◌<◌, ◌^◌, ◌++◌, ◌∷◌, [], ℕ, List, IfOk, OnOk, codes, length, map};
+ghost use Rattle.std.specs.Prelude.{◌≡◌, ◌+◌, ◌<◌, ◌^◌, ◌++◌, ◌∷◌, [], IfOk, OnOk, codes, length, map};
 ghost use Rattle.std.specs.HashMap.{get_by_text};
 ghost use Rattle.std.specs.List.{flat_map};
-ghost use Rattle.std.specs.Map.{lookup};
-ghost use Rattle.std.specs.Str.{bytes_eq};
-ghost use Rattle.sg_names.specs.LinkNames.{declared_numbers, is_split, link_names, one_name, taken_names, taken_numbers};
-ghost use Rattle.sg_tree.specs.Along.{along};
-ghost use Rattle.sg_tree.specs.Names.{with_number, or_else};
+ghost use Rattle.sg_names.specs.LinkNames.{is_split, link_names, taken_names};
+ghost use Rattle.sg_tree.specs.Names.{Adds, SameNames, found_in, numbered, with_number};
 ghost use Rattle.sg_toml.specs.View.{view};
 
 use indexmap::IndexMap;
 use sg_base::Memory;
 use sg_toml::Value;
-use sg_tree::{add_name, text_at};
+use sg_tree::{add_name, text_at, text_or_empty};
 use std::alloc::Global;
 
 /// Whether a link is SPLITDUPLEX: one for each direction.
 pub fn is_split(row: &Value) -> bool
     ensures { result ≡ is_split (view row.now) }
 {
-    match text_at(row, "sharing_policy") {
-        Some(policy) => policy == "SPLITDUPLEX",
-        None => false,
-    }
+    text_or_empty(row, "sharing_policy") == "SPLITDUPLEX"
 }
 
 /// Gives the names of both directions of a link their numbers.
@@ -35,11 +29,8 @@ fn add_split(
     down: usize,
 ) -> Result<(), Memory>
     ensures { OnOk result
-        ((q : List ℕ)
-        → get_by_text space.new q
-        ≡ or_else (get_by_text space.old q)
-        (lookup (bytes_eq q)
-        ((id.now ++ codes "_UP", up) ∷ (id.now ++ codes "_DOWN", down) ∷ []))) }
+        (Adds ((id.now ++ codes "_UP", up) ∷ (id.now ++ codes "_DOWN", down) ∷ [])
+        (get_by_text space.old) (get_by_text space.new)) }
 {
     let mut name = String::from_str(alloc, id)?;
     name.push_str("_UP")?;
@@ -57,10 +48,8 @@ fn add_taken(
     row: &Value,
 ) -> Result<(), Memory>
     ensures { OnOk result
-        ((q : List ℕ)
-        → get_by_text space.new q
-        ≡ or_else (get_by_text space.old q)
-        (lookup (bytes_eq q) (with_number number (taken_names (view row.now))))) }
+        (Adds (with_number number (taken_names (view row.now))) (get_by_text space.old)
+        (get_by_text space.new)) }
 {
     match text_at(row, "id") {
         Some(id) => {
@@ -82,11 +71,8 @@ fn add_all_taken(
     rows: &[Value],
 ) -> Result<(), Memory>
     ensures { OnOk result
-        ((q : List ℕ)
-        → get_by_text space.new q
-        ≡ or_else (get_by_text space.old q)
-        (lookup (bytes_eq q)
-        (along (λ i row. with_number i (taken_names (view row))) 0 rows.now))) }
+        (Adds (numbered (λ row. taken_names (view row)) 0 rows.now) (get_by_text space.old)
+        (get_by_text space.new)) }
 {
     for (i, row) in rows.iter().enumerate() {
         add_taken(alloc, space, i, row)?;
@@ -103,10 +89,8 @@ fn add_link(
 ) -> Result<usize, Memory>
     requires { next + 2 < 2 ^ 64 }
     ensures given { OnOk result
-        ((q : List ℕ)
-        → get_by_text space.new q
-        ≡ or_else (get_by_text space.old q)
-        (lookup (bytes_eq q) (along one_name next (link_names (view row.now))))) }
+        (Adds (numbered (λ name. name ∷ []) next (link_names (view row.now)))
+        (get_by_text space.old) (get_by_text space.new)) }
     ensures count { IfOk result (λ n. n ≡ length (link_names (view row.now))) }
 {
     match text_at(row, "id") {
@@ -127,11 +111,8 @@ fn add_link(
 fn add_links(alloc: Global, space: &mut IndexMap<String, u32>, rows: &[Value]) -> Result<(), Memory>
     requires { length rows.now < 2 ^ 62 }
     ensures { OnOk result
-        ((q : List ℕ)
-        → get_by_text space.new q
-        ≡ or_else (get_by_text space.old q)
-        (lookup (bytes_eq q)
-        (along one_name 0 (flat_map (λ row. link_names (view row)) rows.now)))) }
+        (Adds (numbered (λ name. name ∷ []) 0 (flat_map (λ row. link_names (view row)) rows.now))
+        (get_by_text space.old) (get_by_text space.new)) }
 {
     let mut next = 0;
     for row in rows {
@@ -143,8 +124,8 @@ fn add_links(alloc: Global, space: &mut IndexMap<String, u32>, rows: &[Value]) -
 /// The names that link rows take, under the numbers of the rows.
 pub fn taken_links(alloc: Global, rows: &[Value]) -> Result<IndexMap<String, u32>, Memory>
     ensures { IfOk result
-        (λ made. (q : List ℕ)
-        → get_by_text made q ≡ lookup (bytes_eq q) (taken_numbers (map view rows.now))) }
+        (λ made. SameNames (get_by_text made)
+        (found_in (numbered taken_names 0 (map view rows.now)))) }
 {
     let mut made = IndexMap::new(alloc);
     add_all_taken(alloc, &mut made, rows)?;
@@ -154,8 +135,8 @@ pub fn taken_links(alloc: Global, rows: &[Value]) -> Result<IndexMap<String, u32
 /// The names by which lists name links, under the numbers of the links.
 pub fn declared_links(alloc: Global, rows: &[Value]) -> Result<IndexMap<String, u32>, Memory>
     ensures { IfOk result
-        (λ made. (q : List ℕ)
-        → get_by_text made q ≡ lookup (bytes_eq q) (declared_numbers (map view rows.now))) }
+        (λ made. SameNames (get_by_text made)
+        (found_in (numbered (λ name. name ∷ []) 0 (flat_map link_names (map view rows.now))))) }
 {
     let mut made = IndexMap::new(alloc);
     add_links(alloc, &mut made, rows)?;

@@ -1,15 +1,11 @@
 //! The names that the rows of a tree give.
-ghost use Rattle.std.specs.Prelude.{◌≡◌, ℕ, List, IfOk, None, codes, length, map};
+ghost use Rattle.std.specs.Prelude.{◌≡◌, ◌++◌, IfOk, codes, length, map};
 ghost use Rattle.std.specs.HashMap.{get_by, get_by_text};
-ghost use Rattle.std.specs.Map.{lookup};
-ghost use Rattle.std.specs.Str.{bytes_eq};
-ghost use Rattle.sg_names.specs.Pairs.{pair_numbers};
-ghost use Rattle.sg_names.specs.Names.{deployment_known, platform_known, point_numbers, points_in};
-ghost use Rattle.sg_names.specs.Subjects.{subjects_of};
-ghost use Rattle.sg_tree.specs.Names.{Pair, names_from, pair_eq};
+ghost use Rattle.sg_names.specs.Names.{known_by, platform_known, point_rows, rows_by};
+ghost use Rattle.sg_tree.specs.Names.{SameNames, SamePairs, pair_eq};
 ghost use Rattle.sg_tree.specs.Tree.{rows_at};
 ghost use Rattle.sg_names.specs.kept.NamesView.{names_view};
-ghost use Rattle.sg_names.specs.kept.Parts.{AreActors, AreLinks, AreLocks, ArePoints, AreProfiled, AreRoutes, parts_view};
+ghost use Rattle.sg_names.specs.kept.Parts.{AreActors, AreLinks, AreLocks, ArePoints, AreProfiled, AreRoutes, AreSubjects, pair_rows, parts_view};
 ghost use Rattle.sg_toml.specs.View.{view, table_view};
 
 use crate::links::{declared_links, taken_links};
@@ -149,79 +145,6 @@ fn names_of(
     }
 }
 
-/// A space where no name has a number.
-fn no_names(alloc: Global) -> IndexMap<String, u32>
-    ensures { (q : List ℕ) → get_by_text result q ≡ None }
-{
-    IndexMap::new(alloc)
-}
-
-/// A space where no pair has a number.
-fn no_pairs(alloc: Global) -> IndexMap<(u32, u32), u32>
-    ensures { (q : Pair) → get_by (pair_eq q) result ≡ None }
-{
-    IndexMap::new(alloc)
-}
-
-/// No names of links.
-fn no_links(alloc: Global) -> Links
-    ensures taken { (q : List ℕ) → get_by_text result.taken q ≡ None }
-    ensures declared { (q : List ℕ) → get_by_text result.declared q ≡ None }
-{
-    Links {
-        taken: no_names(alloc),
-        declared: no_names(alloc),
-    }
-}
-
-/// No routes and spokes.
-fn no_routes(alloc: Global) -> Routes
-    ensures pairs { (q : Pair) → get_by (pair_eq q) result.pairs ≡ None }
-    ensures zone_pairs { (q : Pair) → get_by (pair_eq q) result.zone_pairs ≡ None }
-    ensures children { (q : List ℕ) → get_by_text result.children q ≡ None }
-{
-    Routes {
-        pairs: no_pairs(alloc),
-        zone_pairs: no_pairs(alloc),
-        children: no_names(alloc),
-    }
-}
-
-/// No profiles and rows of states.
-fn no_profiled(alloc: Global) -> Profiled
-    ensures speed_hosts { (q : List ℕ) → get_by_text result.speeds.hosts q ≡ None }
-    ensures speed_links { (q : List ℕ) → get_by_text result.speeds.links q ≡ None }
-    ensures state_hosts { (q : List ℕ) → get_by_text result.states.hosts q ≡ None }
-    ensures state_links { (q : List ℕ) → get_by_text result.states.links q ≡ None }
-{
-    Profiled {
-        speeds: Subjects::none(alloc),
-        states: Subjects::none(alloc),
-    }
-}
-
-/// No names of actors.
-fn no_actors(alloc: Global) -> Actors
-    ensures actors { (q : List ℕ) → get_by_text result.actors q ≡ None }
-    ensures workers { (q : List ℕ) → get_by_text result.workers q ≡ None }
-{
-    Actors {
-        actors: no_names(alloc),
-        workers: no_names(alloc),
-    }
-}
-
-/// No names of mutexes and semaphores.
-fn no_locks(alloc: Global) -> Locks
-    ensures mutexes { (q : List ℕ) → get_by_text result.mutexes q ≡ None }
-    ensures semaphores { (q : List ℕ) → get_by_text result.semaphores q ≡ None }
-{
-    Locks {
-        mutexes: no_names(alloc),
-        semaphores: no_names(alloc),
-    }
-}
-
 /// The names at a key of the rows of a table.
 fn names_in(
     alloc: Global,
@@ -230,9 +153,8 @@ fn names_in(
     key: &str,
 ) -> Result<IndexMap<String, u32>, Memory>
     ensures { IfOk result
-        (λ made. (q : List ℕ)
-        → get_by_text made q
-        ≡ lookup (bytes_eq q) (names_from key.now 0 (rows_at table.now (table_view tree.now)))) }
+        (λ made. SameNames (get_by_text made)
+        (rows_by key.now (rows_at table.now (table_view tree.now)))) }
 {
     names_at(alloc, key, rows_at(tree, table))
 }
@@ -252,10 +174,8 @@ fn points_of(
     routers: &[Value],
 ) -> Result<IndexMap<String, u32>, Memory>
     ensures { IfOk result
-        (λ made. (q : List ℕ)
-        → get_by_text made q
-        ≡ lookup (bytes_eq q)
-        (point_numbers (map view zones.now) (map view hosts.now) (map view routers.now))) }
+        (λ made. SameNames (get_by_text made)
+        (rows_by (codes "id") (map view zones.now ++ map view hosts.now ++ map view routers.now))) }
 {
     let mut made = names_at(alloc, "id", zones)?;
     add_names(alloc, &mut made, "id", zones.len(), hosts)?;
@@ -266,7 +186,8 @@ fn points_of(
 /// The numbers of zones, hosts and routers.
 fn numbers_in(alloc: Global, tree: &Table) -> Result<IndexMap<String, u32>, Memory>
     ensures { IfOk result
-        (λ made. (q : List ℕ) → get_by_text made q ≡ points_in (table_view tree.now) q) }
+        (λ made. SameNames (get_by_text made)
+        (rows_by (codes "id") (point_rows (table_view tree.now)))) }
 {
     let zones = rows_at(tree, "zone");
     let hosts = rows_at(tree, "host");
@@ -305,10 +226,8 @@ fn pairs_at(
     table: &str,
 ) -> Result<IndexMap<(u32, u32), u32>, Memory>
     ensures { IfOk result
-        (λ made. (q : Pair)
-        → get_by (pair_eq q) made
-        ≡ lookup (pair_eq q)
-        (pair_numbers (λ q. get_by_text points.now q) (rows_at table.now (table_view tree.now)))) }
+        (λ made. SamePairs (λ q. get_by (pair_eq q) made)
+        (pair_rows (λ q. get_by_text points.now q) (rows_at table.now (table_view tree.now)))) }
 {
     pairs_in(alloc, points, rows_at(tree, table))
 }
@@ -320,16 +239,12 @@ fn route_pairs(
     tree: &Table,
 ) -> Result<(IndexMap<(u32, u32), u32>, IndexMap<(u32, u32), u32>), Memory>
     ensures pairs { IfOk result
-        (λ made. (q : Pair)
-        → get_by (pair_eq q) made.0
-        ≡ lookup (pair_eq q)
-        (pair_numbers (λ q. get_by_text points.now q)
+        (λ made. SamePairs (λ q. get_by (pair_eq q) made.0)
+        (pair_rows (λ q. get_by_text points.now q)
         (rows_at (codes "route") (table_view tree.now)))) }
     ensures zone_pairs { IfOk result
-        (λ made. (q : Pair)
-        → get_by (pair_eq q) made.1
-        ≡ lookup (pair_eq q)
-        (pair_numbers (λ q. get_by_text points.now q)
+        (λ made. SamePairs (λ q. get_by (pair_eq q) made.1)
+        (pair_rows (λ q. get_by_text points.now q)
         (rows_at (codes "zone_route") (table_view tree.now)))) }
 {
     let pairs = pairs_at(alloc, points, tree, "route")?;
@@ -352,14 +267,7 @@ fn routes_in(alloc: Global, points: &IndexMap<String, u32>, tree: &Table) -> Res
 
 /// The hosts and links that the rows of a table are of.
 fn subjects_at(alloc: Global, tree: &Table, table: &str) -> Result<Subjects, Memory>
-    ensures hosts { IfOk result
-        (λ made. (q : List ℕ)
-        → get_by_text made.hosts q
-        ≡ (subjects_of (rows_at table.now (table_view tree.now))).hosts q) }
-    ensures links { IfOk result
-        (λ made. (q : List ℕ)
-        → get_by_text made.links q
-        ≡ (subjects_of (rows_at table.now (table_view tree.now))).links q) }
+    ensures { IfOk result (AreSubjects (rows_at table.now (table_view tree.now))) }
 {
     Subjects::of_rows(alloc, rows_at(tree, table))
 }
@@ -394,40 +302,50 @@ fn locks_in(alloc: Global, tree: &Table) -> Result<Locks, Memory>
     })
 }
 
-/// The names of points and of links.
-fn places_in(alloc: Global, tree: &Table) -> Result<(Points, Links), Memory>
-    ensures points { IfOk result (λ made. ArePoints (table_view tree.now) made.0) }
-    ensures links { IfOk result (λ made. AreLinks (table_view tree.now) made.1) }
-{
-    let points = counted_points(alloc, tree)?;
-    let links = links_in(alloc, tree)?;
-    Ok((points, links))
-}
-
-/// What all other rows of a platform give.
-fn others_in(
+/// The names of links, and what routes between these points give.
+fn ways_in(
     alloc: Global,
     points: &IndexMap<String, u32>,
     tree: &Table,
-) -> Result<(Routes, Profiled), Memory>
+) -> Result<(Links, Routes), Memory>
+    ensures links { IfOk result (λ made. AreLinks (table_view tree.now) made.0) }
     ensures routes { IfOk result
-        (λ made. AreRoutes (table_view tree.now) (λ q. get_by_text points.now q) made.0) }
-    ensures profiled { IfOk result (λ made. AreProfiled (table_view tree.now) made.1) }
+        (λ made. AreRoutes (table_view tree.now) (λ q. get_by_text points.now q) made.1) }
 {
+    let links = links_in(alloc, tree)?;
     let routes = routes_in(alloc, points, tree)?;
+    Ok((links, routes))
+}
+
+/// The names of actors, and of what they hold.
+fn owners_in(alloc: Global, tree: &Table) -> Result<(Actors, Locks), Memory>
+    ensures actors { IfOk result (λ made. AreActors (table_view tree.now) made.0) }
+    ensures locks { IfOk result (λ made. AreLocks (table_view tree.now) made.1) }
+{
+    let actors = actors_in(alloc, tree)?;
+    let locks = locks_in(alloc, tree)?;
+    Ok((actors, locks))
+}
+
+/// The names of a text that may name these points.
+fn names_with(alloc: Global, tree: &Table, points: Points) -> Result<Names, Memory>
+    ensures { IfOk result
+        (λ names. names_view names
+        ≡ known_by points.zones points.hosts (λ q. get_by_text points.numbers q)
+        (table_view tree.now)) }
+{
+    let ways = ways_in(alloc, &points.numbers, tree)?;
     let profiled = profiled_in(alloc, tree)?;
-    Ok((routes, profiled))
+    let owners = owners_in(alloc, tree)?;
+    Ok(names_of(points, ways.0, ways.1, profiled, owners.0, owners.1))
 }
 
 /// The names of a platform text.
 pub fn platform_names(alloc: Global, tree: &Table) -> Result<Names, Memory>
     ensures { IfOk result (λ names. names_view names ≡ platform_known (table_view tree.now)) }
 {
-    let places = places_in(alloc, tree)?;
-    let others = others_in(alloc, &places.0.numbers, tree)?;
-    let actors = no_actors(alloc);
-    let locks = no_locks(alloc);
-    Ok(names_of(places.0, places.1, others.0, others.1, actors, locks))
+    let points = counted_points(alloc, tree)?;
+    names_with(alloc, tree, points)
 }
 
 /// The names of a deployment text, on a platform that has so many hosts with these names.
@@ -439,18 +357,13 @@ pub fn deployment_names(
 ) -> Result<Names, Memory>
     ensures { IfOk result
         (λ names. names_view names
-        ≡ deployment_known hosts (λ q. get_by_text points q) (table_view tree.now)) }
+        ≡ known_by 0 hosts (λ q. get_by_text points q) (table_view tree.now)) }
 {
     let hosts = small_number(hosts)?;
-    let actors = actors_in(alloc, tree)?;
-    let locks = locks_in(alloc, tree)?;
     let points = Points {
         zones: 0,
         hosts,
         numbers: points,
     };
-    let links = no_links(alloc);
-    let routes = no_routes(alloc);
-    let profiled = no_profiled(alloc);
-    Ok(names_of(points, links, routes, profiled, actors, locks))
+    names_with(alloc, tree, points)
 }

@@ -1,12 +1,10 @@
 //! The ordered pairs that routes give.
-ghost use Rattle.std.specs.Prelude.{◌≡◌, ℕ, List, true, IfOk, OnOk, codes, map, option_and_then};
+ghost use Rattle.std.specs.Prelude.{◌≡◌, IfOk, OnOk, codes, map, option_and_then};
 ghost use Rattle.std.specs.HashMap.{get_by, get_by_text};
-ghost use Rattle.std.specs.Map.{lookup};
-ghost use Rattle.sg_names.specs.Pairs.{pair_numbers, pairs_of, truth_or};
-ghost use Rattle.sg_tree.specs.Along.{along};
-ghost use Rattle.sg_tree.specs.Names.{Pair, with_number, or_else, pair_eq};
+ghost use Rattle.sg_names.specs.Pairs.{pairs_of, truth_at};
+ghost use Rattle.sg_names.specs.kept.Parts.{pair_rows};
+ghost use Rattle.sg_tree.specs.Names.{AddsPairs, SamePairs, numbered, pair_eq, with_number};
 ghost use Rattle.sg_tree.specs.Tree.{text_at};
-ghost use Rattle.toml.specs.Data.{get};
 ghost use Rattle.sg_toml.specs.View.{view};
 
 use indexmap::IndexMap;
@@ -28,7 +26,7 @@ pub fn point_at(points: &IndexMap<String, u32>, row: &Value, key: &str) -> Optio
 
 /// The truth value at a key, which is true where the row doesn't have the key.
 pub fn truth_at(row: &Value, key: &str) -> bool
-    ensures { result ≡ truth_or true (get key.now (view row.now)) }
+    ensures { result ≡ truth_at key.now (view row.now) }
 {
     match row.get(key) {
         Some(value) => match value.as_bool() {
@@ -41,7 +39,7 @@ pub fn truth_at(row: &Value, key: &str) -> bool
 
 /// Whether a route serves the way back too.
 pub fn is_symmetrical(row: &Value) -> bool
-    ensures { result ≡ truth_or true (get (codes "symmetrical") (view row.now)) }
+    ensures { result ≡ truth_at (codes "symmetrical") (view row.now) }
 {
     truth_at(row, "symmetrical")
 }
@@ -55,10 +53,8 @@ fn add_route(
     row: &Value,
 ) -> Result<(), Memory>
     ensures { OnOk result
-        ((q : Pair) → get_by (pair_eq q) pairs.new
-        ≡ or_else (get_by (pair_eq q) pairs.old)
-        (lookup (pair_eq q)
-        (with_number number (pairs_of (λ q. get_by_text points.now q) (view row.now))))) }
+        (AddsPairs (with_number number (pairs_of (λ q. get_by_text points.now q) (view row.now)))
+        (λ q. get_by (pair_eq q) pairs.old) (λ q. get_by (pair_eq q) pairs.new)) }
 {
     match (point_at(points, row, "src"), point_at(points, row, "dst")) {
         (Some(a), Some(b)) => {
@@ -80,11 +76,9 @@ fn add_routes(
     rows: &[Value],
 ) -> Result<(), Memory>
     ensures { OnOk result
-        ((q : Pair) → get_by (pair_eq q) pairs.new
-        ≡ or_else (get_by (pair_eq q) pairs.old)
-        (lookup (pair_eq q)
-        (along (λ i row.
-        with_number i (pairs_of (λ q. get_by_text points.now q) (view row))) 0 rows.now))) }
+        (AddsPairs
+        (numbered (λ row. pairs_of (λ q. get_by_text points.now q) (view row)) 0 rows.now)
+        (λ q. get_by (pair_eq q) pairs.old) (λ q. get_by (pair_eq q) pairs.new)) }
 {
     for (i, row) in rows.iter().enumerate() {
         add_route(points, pairs, i, row)?;
@@ -99,9 +93,8 @@ pub fn pairs_in(
     rows: &[Value],
 ) -> Result<IndexMap<(u32, u32), u32>, Memory>
     ensures { IfOk result
-        (λ made. (q : Pair)
-        → get_by (pair_eq q) made
-        ≡ lookup (pair_eq q) (pair_numbers (λ q. get_by_text points.now q) (map view rows.now))) }
+        (λ made. SamePairs (λ q. get_by (pair_eq q) made)
+        (pair_rows (λ q. get_by_text points.now q) (map view rows.now))) }
 {
     let mut made = IndexMap::new(alloc);
     add_routes(points, &mut made, rows)?;

@@ -1,7 +1,6 @@
 //! What the profiles of a table are of.
-ghost use Rattle.std.specs.Prelude.{◌≡◌, ℕ, List, IfOk, None, map};
-ghost use Rattle.std.specs.HashMap.{get_by_text};
-ghost use Rattle.sg_names.specs.Subjects.{subjects_of};
+ghost use Rattle.std.specs.Prelude.{IfOk, map};
+ghost use Rattle.sg_names.specs.kept.Parts.{AreSubjects};
 ghost use Rattle.sg_toml.specs.View.{view};
 
 use indexmap::IndexMap;
@@ -18,25 +17,9 @@ pub struct Subjects {
 }
 
 impl Subjects {
-    /// Nothing.
-    pub fn none(alloc: Global) -> Subjects
-        ensures hosts { (q : List ℕ) → get_by_text result.hosts q ≡ None }
-        ensures links { (q : List ℕ) → get_by_text result.links q ≡ None }
-    {
-        Subjects {
-            hosts: IndexMap::new(alloc),
-            links: IndexMap::new(alloc),
-        }
-    }
-
     /// Those of the rows of a table.
     pub fn of_rows(alloc: Global, rows: &[Value]) -> Result<Subjects, Memory>
-        ensures hosts { IfOk result
-            (λ made. (q : List ℕ)
-            → get_by_text made.hosts q ≡ (subjects_of (map view rows.now)).hosts q) }
-        ensures links { IfOk result
-            (λ made. (q : List ℕ)
-            → get_by_text made.links q ≡ (subjects_of (map view rows.now)).links q) }
+        ensures { IfOk result (AreSubjects (map view rows.now)) }
     {
         let hosts = names_at(alloc, "host", rows)?;
         let links = names_at(alloc, "link", rows)?;

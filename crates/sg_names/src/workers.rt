@@ -1,11 +1,9 @@
 //! The names of workers.
-ghost use Rattle.std.specs.Prelude.{◌≡◌, ◌+◌, ℕ, List, IfOk, OnOk, codes, map};
+ghost use Rattle.std.specs.Prelude.{◌≡◌, ◌+◌, IfOk, OnOk, map};
 ghost use Rattle.std.specs.HashMap.{get_by_text};
-ghost use Rattle.std.specs.Map.{lookup};
-ghost use Rattle.std.specs.Str.{bytes_eq};
-ghost use Rattle.sg_names.specs.Workers.{has_function, worker_names, worker_numbers};
+ghost use Rattle.sg_names.specs.Workers.{has_function, worker_names};
 ghost use Rattle.sg_tree.specs.Along.{along};
-ghost use Rattle.sg_tree.specs.Names.{with_number, or_else};
+ghost use Rattle.sg_tree.specs.Names.{Adds, SameNames, found_in, numbered, with_number};
 ghost use Rattle.sg_toml.specs.View.{view};
 
 use indexmap::IndexMap;
@@ -29,10 +27,8 @@ fn add_worker(
     row: &Value,
 ) -> Result<(), Memory>
     ensures { OnOk result
-        ((q : List ℕ)
-        → get_by_text space.new q
-        ≡ or_else (get_by_text space.old q)
-        (lookup (bytes_eq q) (with_number number (worker_names (view row.now))))) }
+        (Adds (with_number number (worker_names (view row.now))) (get_by_text space.old)
+        (get_by_text space.new)) }
 {
     if !has_function(row, "worker") {
         return Ok(());
@@ -51,14 +47,11 @@ fn add_workers(
     rows: &[Value],
 ) -> Result<(), Memory>
     ensures { OnOk result
-        ((q : List ℕ)
-        → get_by_text space.new q
-        ≡ or_else (get_by_text space.old q)
-        (lookup (bytes_eq q)
-        (along (λ i row. with_number (i + 1) (worker_names (view row))) 0 rows.now))) }
+        (Adds (along (λ i row. with_number (1 + i) (worker_names (view row))) 0 rows.now)
+        (get_by_text space.old) (get_by_text space.new)) }
 {
     for (i, row) in rows.iter().enumerate() {
-        add_worker(alloc, space, i + 1, row)?;
+        add_worker(alloc, space, 1 + i, row)?;
     }
     Ok(())
 }
@@ -66,8 +59,8 @@ fn add_workers(
 /// The names of workers, under their identifiers.
 pub fn workers_in(alloc: Global, rows: &[Value]) -> Result<IndexMap<String, u32>, Memory>
     ensures { IfOk result
-        (λ made. (q : List ℕ)
-        → get_by_text made q ≡ lookup (bytes_eq q) (worker_numbers (map view rows.now))) }
+        (λ made. SameNames (get_by_text made)
+        (found_in (numbered worker_names 1 (map view rows.now)))) }
 {
     let mut made = IndexMap::new(alloc);
     add_workers(alloc, &mut made, rows)?;

@@ -8,7 +8,7 @@ use Rattle.std.specs.Map.{lookup}
 use Rattle.std.specs.Str.{bytes_eq}
 use Rattle.sg_tree.proofs.Along.{along_map}
 use Rattle.sg_tree.specs.Along.{along}
-use Rattle.sg_tree.specs.Names.{or_else}
+use Rattle.sg_tree.specs.Names.{numbered, or_else, with_number}
 
 -- what holds holds after an error
 pub on_err : {A E : Type 0} (r : Result A E) (P : Type 0) → P → OnErr r P
@@ -62,7 +62,7 @@ along_turn test f xs i d old new within step =
     let rest = along f (i + 1) (drop (i + 1) xs) in
     rw (step, drop_more xs i d within) (or_else_assoc old (lookup test here) (lookup test rest) ∙ ap (or_else old) (sym (lookup_append test here rest)))
 
-along_append : {A B : Type 0} (f : ℕ → A → List B) (k : ℕ) (xs ys : List A) → along f k (xs ++ ys) ≡ along f k xs ++ along f (k + length xs) ys
+pub along_append : {A B : Type 0} (f : ℕ → A → List B) (k : ℕ) (xs ys : List A) → along f k (xs ++ ys) ≡ along f k xs ++ along f (k + length xs) ys
 along_append f k [] ys =
     let same : k ≡ k + 0 = omega arith in
     ap (λ n. along f n ys) same
@@ -70,6 +70,16 @@ along_append f k (x ∷ xs) ys =
     let next : k + 1 + length xs ≡ k + suc (length xs) = omega arith in
     ap (λ rest. f k x ++ rest) (along_append f (k + 1) xs ys ∙ ap (λ n. along f (k + 1) xs ++ along f n ys) next)
     ∙ sym (append_assoc (f k x) (along f (k + 1) xs) (along f (k + suc (length xs)) ys))
+
+along_from : {A B : Type 0} (f : ℕ → A → List B) (before i n : ℕ) (xs : List A) → before + i ≡ n → along (λ j x. f (before + j) x) i xs ≡ along f n xs
+along_from f before i n [] same = refl
+along_from f before i n (x ∷ xs) same =
+    ap (λ k. f k x ++ along (λ j y. f (before + j) y) (i + 1) xs) same ∙ ap (λ rest. f n x ++ rest) (along_from f before (i + 1) (n + 1) xs (omega (arith, same)))
+
+-- a loop that counts from 0 gives rows the numbers from another on
+pub numbered_from : {X A K : Type 0} (v : X → A) (keys : A → List K) (before : ℕ) (xs : List X) → along (λ i x. with_number (before + i) (keys (v x))) 0 xs ≡ numbered keys before (map v xs)
+numbered_from v keys before xs =
+    along_from (λ i x. with_number i (keys (v x))) before 0 before xs (omega arith) ∙ sym (along_map v (λ i row. with_number i (keys row)) before xs)
 
 -- a turn of a loop that has given numbers along a front of a list
 pub along_front : {K A : Type 0} (test : K → Bool) (f : ℕ → A → List (K × ℕ)) (xs : List A) (i : ℕ) (d : A) (first old new : Option ℕ) → i < length xs → d ≡ get_or xs i d

@@ -1,5 +1,6 @@
 -- Lists of faults: which rules are broken at a place.
-use Rattle.std.specs.Prelude.{ℕ, Bool, List, [], ◌∷◌, if◌then◌else◌, Option, Some, None, map, codes}
+use Rattle.std.specs.Prelude.{ℕ, Bool, List, [], ◌∷◌, if◌then◌else◌, Option, map, codes}
+use Rattle.std.specs.Option.{option_map_or}
 use Rattle.sg_tree.specs.declared.fault.Kind.{Kind}
 use Rattle.sg_tree.specs.declared.fault.Kind.TheVariants.{MissingKey, WrongType, BadValue, BadName, Duplicate, Unknown, Limit, Function, Arguments}
 use Rattle.sg_tree.specs.declared.fault.Fault.{Fault}
@@ -34,8 +35,7 @@ kind_if b kind = if b then kind ∷ [] else []
 
 -- what is wrong with a value of the type; without one the type is wrong
 abbrev pub of_type : {A : Type 0} → (A → List Kind) → Option A → List Kind
-of_type kinds None = WrongType ∷ []
-of_type kinds (Some x) = kinds x
+of_type kinds value = option_map_or kinds value (WrongType ∷ [])
 
 -- the faults at one place: table t, row r, key k
 abbrev pub at_place : ℕ → ℕ → ℕ → List Kind → List Fault

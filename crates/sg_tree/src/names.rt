@@ -1,10 +1,9 @@
 //! The number under which a name stands first.
 ghost use Rattle.std.specs.Prelude.{◌≡◌, ◌+◌, ◌<◌, ◌≤◌, ◌^◌, ℕ, List, Some, None, if◌then◌else◌, IfOk, OnOk, OnErr, length, map, take};
 ghost use Rattle.std.specs.HashMap.{get_by, get_by_text, IsUnchanged};
-ghost use Rattle.std.specs.Map.{lookup};
 ghost use Rattle.std.specs.Str.{bytes_eq};
 ghost use Rattle.sg_tree.specs.Along.{along};
-ghost use Rattle.sg_tree.specs.Names.{Adds, AddsFront, Pair, pair_eq, names_from, with_number, or_else, texts_at};
+ghost use Rattle.sg_tree.specs.Names.{Adds, AddsFront, Pair, SameNames, found_in, pair_eq, numbered, with_number, or_else, texts_at};
 ghost use Rattle.sg_toml.specs.View.{view};
 
 use crate::tree::text_at;
@@ -66,9 +65,9 @@ fn add_text(
     number: usize,
     row: &Value,
 ) -> Result<(), Memory>
-    ensures added { OnOk result ((q : List ℕ) → get_by_text space.new q
-        ≡ or_else (get_by_text space.old q)
-        (lookup (bytes_eq q) (with_number number (texts_at key.now (view row.now))))) }
+    ensures added { OnOk result
+        (Adds (with_number number (texts_at key.now (view row.now))) (get_by_text space.old)
+        (get_by_text space.new)) }
     ensures memory { OnErr result (IsUnchanged space.old space.new) }
 {
     match text_at(row, key) {
@@ -111,7 +110,7 @@ pub fn add_names(
 ) -> Result<(), Memory>
     requires { before + length rows.now < 2 ^ 64 }
     ensures added { OnOk result
-        (Adds (names_from key.now before (map view rows.now)) (get_by_text space.old)
+        (Adds (numbered (texts_at key.now) before (map view rows.now)) (get_by_text space.old)
         (get_by_text space.new)) }
     ensures memory { OnErr result
         (AddsFront key.now before (map view rows.now) (get_by_text space.old)
@@ -124,8 +123,8 @@ pub fn add_names(
 /// The names at a key of rows, with the numbers of the rows from 0 on.
 pub fn names_at(alloc: Global, key: &str, rows: &[Value]) -> Result<IndexMap<String, u32>, Memory>
     ensures { IfOk result
-        (λ made. (q : List ℕ)
-        → get_by_text made q ≡ lookup (bytes_eq q) (names_from key.now 0 (map view rows.now))) }
+        (λ made. SameNames (get_by_text made)
+        (found_in (numbered (texts_at key.now) 0 (map view rows.now)))) }
 {
     let mut made = IndexMap::new(alloc);
     add_names(alloc, &mut made, key, 0, rows)?;

@@ -1,13 +1,8 @@
 -- What the code has collected of the names of a tree.
 use Rattle.std.specs.HashMap.{get_by, get_by_text}
 use Rattle.sg_names.specs.Names.{Known}
-use Rattle.sg_names.specs.Subjects.{Subjects}
 use Rattle.sg_names.specs.declared.names.Names.{Names}
-use Rattle.sg_names.specs.declared.subjects.Subjects.{Subjects as SubjectMaps}
 use Rattle.sg_tree.specs.Names.{pair_eq}
-
-abbrev pub subjects_view : SubjectMaps → Subjects
-subjects_view maps = record { hosts = λ q. get_by_text maps.hosts q; links = λ q. get_by_text maps.links q }
 
 -- what the code has collected
 abbrev pub names_view : Names → Known
@@ -20,8 +15,10 @@ names_view names = record {
   pairs = λ q. get_by (pair_eq q) names.pairs;
   zone_pairs = λ q. get_by (pair_eq q) names.zone_pairs;
   children = λ q. get_by_text names.children q;
-  profiles = subjects_view names.profiles;
-  state_profiles = subjects_view names.state_profiles;
+  profiled_hosts = λ q. get_by_text names.profiles.hosts q;
+  profiled_links = λ q. get_by_text names.profiles.links q;
+  switched_hosts = λ q. get_by_text names.state_profiles.hosts q;
+  switched_links = λ q. get_by_text names.state_profiles.links q;
   actors = λ q. get_by_text names.actors q;
   workers = λ q. get_by_text names.workers q;
   mutexes = λ q. get_by_text names.mutexes q;

@@ -1,17 +1,14 @@
-use Rattle.std.proofs.Common.{◌≡◌, ◌≤◌, ◌*◌, ℕ, List, drop}
+use Rattle.std.proofs.Common.{◌≡◌, ◌≤◌, ◌*◌, ℕ, List, [], ◌∷◌, drop}
 use Rattle.std.specs.HashMap.{get_by_text}
 use Rattle.std.specs.List.{flat_map}
-use Rattle.std.specs.Map.{lookup}
-use Rattle.std.specs.Str.{bytes_eq}
-use Rattle.sg_names.specs.LinkNames.{link_names, one_name}
-use Rattle.sg_tree.specs.Along.{along}
-use Rattle.sg_tree.specs.Names.{or_else}
+use Rattle.sg_names.specs.LinkNames.{link_names}
+use Rattle.sg_tree.specs.Names.{found_in, numbered, or_else}
 use Rattle.sg_toml.specs.View.{view}
 use Rattle.sg_names.proofs.links.add_links.Given as goal
 
 abbrev pub invariant-loop-row : goal.invariant-loop-row
 invariant-loop-row l = record {
   few : l.next ≤ 2 * l.row-index;
-  given : (q : List ℕ) → or_else (get_by_text l.space q) (lookup (bytes_eq q) (along one_name l.next (flat_map (λ row. link_names (view row)) (drop l.row-index l.rows))))
-      ≡ or_else (get_by_text l.initial.space q) (lookup (bytes_eq q) (along one_name 0 (flat_map (λ row. link_names (view row)) l.rows)));
+  given : (q : List ℕ) → or_else (get_by_text l.space q) (found_in (numbered (λ name. name ∷ []) l.next (flat_map (λ row. link_names (view row)) (drop l.row-index l.rows))) q)
+      ≡ or_else (get_by_text l.initial.space q) (found_in (numbered (λ name. name ∷ []) 0 (flat_map (λ row. link_names (view row)) l.rows)) q);
 }

@@ -1,9 +1,9 @@
 use Rattle.std.proofs.Common.{◌∙◌, ◌+◌, ◌++◌, ℕ, List, Option, sym, ap, map, length, codes}
 use Rattle.std.proofs.lemmas.List.{length-map}
-use Rattle.std.specs.Map.{lookup}
 use Rattle.std.specs.Str.{bytes_eq}
+use Rattle.sg_names.proofs.NameLemmas.{three_numbered}
 use Rattle.sg_tree.proofs.NameLemmas.{lookup_append}
-use Rattle.sg_tree.specs.Names.{names_from, or_else}
+use Rattle.sg_tree.specs.Names.{found_in, numbered, or_else, texts_at}
 use Rattle.sg_toml.specs.View.{view}
 use Rattle.sg_names.proofs.names.points_of.Goals as goal
 
@@ -12,10 +12,11 @@ returns c = λ q.
     let zones = map view c.args.zones.now in
     let hosts = map view c.args.hosts.now in
     let routers = map view c.args.routers.now in
-    let found : List (List ℕ × ℕ) → Option ℕ = λ names. lookup (bytes_eq q) names in
-    let first = names_from (codes "id") 0 zones in
-    let second = names_from (codes "id") (length zones) hosts in
-    let third = names_from (codes "id") (length zones + length hosts) routers in
+    let found : List (List ℕ × ℕ) → Option ℕ = λ names. found_in names q in
+    let first = numbered (texts_at (codes "id")) 0 zones in
+    let second = numbered (texts_at (codes "id")) (length zones) hosts in
+    let third = numbered (texts_at (codes "id")) (length zones + length hosts) routers in
     c.in_ok-add_names-2.ensures.added q
     ∙ rw (c.in_ok-add_names.ensures.added q, c.in_ok-made.ensures q, ← length-map c.args.zones.now view, ← length-map c.args.hosts.now view)
     (sym (lookup_append (bytes_eq q) (first ++ second) third ∙ ap (λ o. or_else o (found third)) (lookup_append (bytes_eq q) first second)))
+    ∙ ap found (three_numbered (texts_at (codes "id")) zones hosts routers)

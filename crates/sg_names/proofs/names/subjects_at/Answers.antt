@@ -1,7 +1,4 @@
 use Rattle.sg_names.proofs.names.subjects_at.Goals as goal
 
 pub returns : goal.returns
-returns c = record {
-  hosts = rw c.rows_at.ensures at c.of_rows.ensures.hosts;
-  links = rw c.rows_at.ensures at c.of_rows.ensures.links;
-}
+returns c = rw c.rows_at.ensures at c.of_rows.ensures

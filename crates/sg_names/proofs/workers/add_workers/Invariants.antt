@@ -10,5 +10,5 @@ use Rattle.sg_names.proofs.workers.add_workers.Given as goal
 
 abbrev pub invariant-loop-i : goal.invariant-loop-i
 invariant-loop-i l =
-    (q : List ℕ) → or_else (get_by_text l.space q) (lookup (bytes_eq q) (along (λ i row. with_number (i + 1) (worker_names (view row))) l.i (drop l.i l.rows)))
-    ≡ or_else (get_by_text l.initial.space q) (lookup (bytes_eq q) (along (λ i row. with_number (i + 1) (worker_names (view row))) 0 l.rows))
+    (q : List ℕ) → or_else (get_by_text l.space q) (lookup (bytes_eq q) (along (λ i row. with_number (1 + i) (worker_names (view row))) l.i (drop l.i l.rows)))
+    ≡ or_else (get_by_text l.initial.space q) (lookup (bytes_eq q) (along (λ i row. with_number (1 + i) (worker_names (view row))) 0 l.rows))

@@ -1,12 +1,11 @@
-use Rattle.std.proofs.Common.{◌+◌}
+use Rattle.std.proofs.Common.{◌≡◌, ◌∙◌, None}
 use Rattle.std.specs.HashMap.{get_by_text}
-use Rattle.std.specs.Str.{bytes_eq}
 use Rattle.sg_names.specs.Workers.{worker_names}
-use Rattle.sg_tree.proofs.NameLemmas.{made_along}
-use Rattle.sg_tree.specs.Names.{with_number}
+use Rattle.sg_tree.proofs.NameLemmas.{numbered_from}
 use Rattle.sg_toml.specs.View.{view}
 use Rattle.sg_names.proofs.workers.workers_in.Goals as goal
 
 pub returns : goal.returns
 returns c = λ q.
-    made_along view (λ i row. with_number (i + 1) (worker_names row)) (bytes_eq q) c.args.rows.now (get_by_text c.new-made.result q) _ (rw c.new-made.ensures.empty) (c.in_ok-add_workers.ensures q)
+    let empty : get_by_text c.new-made.result q ≡ None = rw c.new-made.ensures.empty in
+    c.in_ok-add_workers.ensures q ∙ rw (empty, numbered_from view worker_names 1 c.args.rows.now)

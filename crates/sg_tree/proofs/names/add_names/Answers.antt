@@ -1,18 +1,14 @@
-use Rattle.std.proofs.Common.{◌≤◌, ◌∙◌, ◌+◌, sym, ap, subst, map, take}
+use Rattle.std.proofs.Common.{◌≤◌, ◌∙◌, sym, ap, subst, map, take}
 use Rattle.std.proofs.lemmas.List.{length-map, take-map}
 use Rattle.std.specs.HashMap.{get_by_text}
-use Rattle.std.specs.Map.{lookup}
-use Rattle.std.specs.Str.{bytes_eq}
-use Rattle.sg_tree.proofs.Along.{along_map}
-use Rattle.sg_tree.proofs.NameLemmas.{on_err}
-use Rattle.sg_tree.specs.Names.{AddsFront, with_number, names_from, or_else, texts_at}
+use Rattle.sg_tree.proofs.NameLemmas.{numbered_from, on_err}
+use Rattle.sg_tree.specs.Names.{AddsFront, found_in, numbered, or_else, texts_at}
 use Rattle.sg_toml.specs.View.{view}
 use Rattle.sg_tree.proofs.names.add_names.Goals as goal
 
 pub returns-clause-added : goal.returns-clause-added
 returns-clause-added c = λ q.
-    c.in_ok-add_texts.ensures.added q
-    ∙ ap (λ names. or_else (get_by_text c.args.space.now q) (lookup (bytes_eq q) names)) (sym (along_map view (λ i row. with_number (c.args.before + i) (texts_at c.args.key.now row)) 0 c.args.rows.now))
+    c.in_ok-add_texts.ensures.added q ∙ ap (λ given. or_else (get_by_text c.args.space.now q) (found_in given q)) (numbered_from view (texts_at c.args.key.now) c.args.before c.args.rows.now)
 
 pub returns-in_err-add_texts-clause-memory : goal.returns-in_err-add_texts-clause-memory
 returns-in_err-add_texts-clause-memory c =
@@ -21,6 +17,6 @@ returns-in_err-add_texts-clause-memory c =
       done = some.0;
       within = subst (λ n. some.0 ≤ n) (sym (length-map c.args.rows.now view)) some.1;
       adds = λ q. some.2 q
-          ∙ ap (λ names. or_else (get_by_text c.args.space.now q) (lookup (bytes_eq q) names))
-          (sym (ap (names_from c.args.key.now c.args.before) (take-map view some.0 c.args.rows.now) ∙ along_map view (λ i row. with_number (c.args.before + i) (texts_at c.args.key.now row)) 0 (take some.0 c.args.rows.now)));
+          ∙ ap (λ given. or_else (get_by_text c.args.space.now q) (found_in given q))
+          (numbered_from view (texts_at c.args.key.now) c.args.before (take some.0 c.args.rows.now) ∙ sym (ap (numbered (texts_at c.args.key.now) c.args.before) (take-map view some.0 c.args.rows.now)));
     })
