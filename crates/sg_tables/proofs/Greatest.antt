@@ -1,8 +1,10 @@
 -- The greatest value of each reader.
-use Rattle.std.proofs.Common.{◌≡◌, ℕ, ◌≤◌, ◌==◌, Bool, true, false, cond, nat_le, List, length, Option, Some, None, Result, Ok, Err, IfOk, inl, inr, arith}
+use Rattle.std.proofs.Common.{◌≡◌, ℕ, ◌≤◌, ◌==◌, ◌&&◌, Bool, true, false, cond, nat_le, ℤ, pos, negsuc, List, length, Option, Some, None, IfSome, option_and_then, Result, Ok, Err, IfOk, inl, inr, arith}
 use Rattle.std.proofs.lemmas.Bool.{cases_Bool}
 use Rattle.std.proofs.lemmas.Bool.Decides.{nat_tests}
-use Rattle.sg_tables.specs.Units.{amount_value, bandwidth_value, factor_value, if_latency, latency_value, speed_value, time_value}
+use Rattle.sg_tables.specs.Units.{quantity_value, whole_value}
+use Rattle.sg_tables.specs.declared.units.Quantity.{Quantity}
+use Rattle.sg_tables.specs.declared.units.Quantity.TheVariants.{Time, Latency, Speed, Bandwidth, Factor, Amount}
 use Rattle.std.specs.Result.{result_ok}
 use Rattle.sg_units.specs.Amount.{up_to, value_in_unit, amount_of, bandwidth_of, factor_of, amount_by, speed_of, time_of, is_short, value_of as amount}
 use Rattle.sg_units.specs.Number.{Number, number_of}
@@ -38,27 +40,7 @@ pub value_within : (greatest : ℕ) (r : Result ℕ AmountFault) (n : ℕ) → W
 value_within greatest (Ok value) n within same = let e : value ≡ n = cc in omega (arith, within, e)
 value_within greatest (Err fault) n within same = cc
 
-pub amount_within : (text : List ℕ) (n : ℕ) → amount_value text ≡ Some n → n ≤ 1000000000000000
-unfolding amount_value
-amount_within text n same = value_within 1000000000000000 (amount_of text) n (within_read amount_units 1000000000000000 text) same
-
-pub speed_within : (text : List ℕ) (n : ℕ) → speed_value text ≡ Some n → n ≤ 1000000000000000
-unfolding speed_value
-speed_within text n same = value_within 1000000000000000 (speed_of text) n (within_read speed_units 1000000000000000 text) same
-
-pub bandwidth_within : (text : List ℕ) (n : ℕ) → bandwidth_value text ≡ Some n → n ≤ 1000000000000000
-unfolding bandwidth_value
-bandwidth_within text n same = value_within 1000000000000000 (bandwidth_of text) n (within_read bandwidth_units 1000000000000000 text) same
-
-pub factor_within : (text : List ℕ) (n : ℕ) → factor_value text ≡ Some n → n ≤ 1000000000
-unfolding factor_value
-factor_within text n same = value_within 1000000000 (factor_of text) n (within_read factor_units 1000000000 text) same
-
-pub time_within : (text : List ℕ) (n : ℕ) → time_value text ≡ Some n → n ≤ 1000000000000000000
-unfolding time_value
-time_within text n same = value_within 1000000000000000000 (time_of text) n (within_read time_units 1000000000000000000 text) same
-
-latency_at_most : (o : Option ℕ) (n : ℕ) → if_latency o ≡ Some n → n ≤ 1000000000000000
+latency_at_most : (o : Option ℕ) (n : ℕ) → option_and_then (λ ns. cond (nat_le ns 1000000000000000) (Some ns) None) o ≡ Some n → n ≤ 1000000000000000
 latency_at_most None n same = cc
 latency_at_most (Some ns) n same =
     elim (cases_Bool (nat_le ns 1000000000000000)) [
@@ -70,6 +52,26 @@ latency_at_most (Some ns) n same =
       | inr over ↦ let none : None ≡ Some n = rw over at same in cc
     ]
 
-pub latency_within : (text : List ℕ) (n : ℕ) → latency_value text ≡ Some n → n ≤ 1000000000000000
-unfolding latency_value
-latency_within text n same = latency_at_most (result_ok (time_of text)) n same
+-- the greatest amount of each kind
+abbrev pub greatest : Quantity → ℕ
+greatest Time = 1000000000000000000
+greatest Factor = 1000000000
+greatest _ = 1000000000000000
+
+pub quantity_within : (quantity : Quantity) (text : List ℕ) (n : ℕ) → quantity_value quantity text ≡ Some n → n ≤ greatest quantity
+unfolding quantity_value
+quantity_within Time text n same = value_within 1000000000000000000 (time_of text) n (within_read time_units 1000000000000000000 text) same
+quantity_within Latency text n same = latency_at_most (result_ok (time_of text)) n same
+quantity_within Speed text n same = value_within 1000000000000000 (speed_of text) n (within_read speed_units 1000000000000000 text) same
+quantity_within Bandwidth text n same = value_within 1000000000000000 (bandwidth_of text) n (within_read bandwidth_units 1000000000000000 text) same
+quantity_within Factor text n same = value_within 1000000000 (factor_of text) n (within_read factor_units 1000000000 text) same
+quantity_within Amount text n same = value_within 1000000000000000 (amount_of text) n (within_read amount_units 1000000000000000 text) same
+
+-- a whole number keeps its bounds
+pub whole_within : (least most : ℕ) (z : ℤ) → IfSome (whole_value least most z) (λ n. (least ≤ n) × (n ≤ most))
+whole_within least most (negsuc n) = tt
+whole_within least most (pos n) =
+    elim (cases_Bool (nat_le least n && nat_le n most)) [
+      | inl fits ↦ rw fits ((let low : least ≤ n = grind (arith, nat_tests) in low), (let high : n ≤ most = grind (arith, nat_tests) in high))
+      | inr other ↦ rw other tt
+    ]

@@ -1,4 +1,4 @@
--- The tables of both texts: of each its number, its limit of rows, and its keys in order; of each key whether it is
+-- The tables of both texts in their order: of each its limit of rows, and its keys in order; of each key whether it is
 -- required, and what its value must be.
 use Rattle.std.specs.Prelude.{ℕ, List, [], ◌∷◌, codes}
 use Rattle.sg_tables.specs.declared.tables.Key.{Key}
@@ -8,9 +8,9 @@ use Rattle.sg_tables.specs.declared.tables.Rule.{Rule}
 use Rattle.sg_tables.specs.declared.tables.Rule.TheVariants.{Text, Whole, Truth, Texts, Powers}
 use Rattle.sg_tables.specs.declared.tables.Table.{Table}
 use Rattle.sg_tables.specs.declared.tables.Table.TheVariants.{Zone, Host, Router, Link, Route, ZoneRoute, Spoke, Network, Profile, StateProfile, Actor, Mutex, Semaphore}
-use Rattle.sg_tables.specs.declared.tables.TextRule.TheVariants.{NewPoint, NewLink, NewActor, NewMutex, NewSemaphore, ZoneName, PointName, EndName, HostName, RouteEnd, ZoneRouteEnd, SpokeChild, RoutingWord, PolicyWord, FunctionWord, SpeedText, BandwidthText, LatencyText, FactorText, PositiveFactorText, AmountText, PositiveTimeText, ProfiledHost, ProfiledLink, SwitchedHost, SwitchedLink}
+use Rattle.sg_tables.specs.declared.tables.TextRule.TheVariants.{NewPoint, NewLink, NewActor, NewMutex, NewSemaphore, ZoneName, PointName, EndName, HostName, RouteEnd, ZoneRouteEnd, SpokeChild, RoutingWord, PolicyWord, FunctionWord, PositiveValue, AnyValue, ProfiledHost, ProfiledLink, SwitchedHost, SwitchedLink}
 use Rattle.sg_tables.specs.declared.tables.TextsRule.TheVariants.{LinkList, DateList, ValueList, StateList, ArgumentList}
-use Rattle.sg_tables.specs.declared.tables.WholeRule.TheVariants.{CoreCount, CapacityCount, Milliwatts}
+use Rattle.sg_tables.specs.declared.units.Quantity.TheVariants.{Time, Latency, Speed, Bandwidth, Factor, Amount}
 use Rattle.sg_tables.specs.declared.tables.Word.{Word}
 use Rattle.sg_tables.specs.declared.tables.Word.TheVariants as word
 
@@ -19,70 +19,57 @@ key word need rule = record { word = word; need = need; rule = rule }
 
 -- the keys of a table, in order
 abbrev pub keys_of : Table → List Key
-keys_of Zone =
-    key word.Id Required (Text NewPoint)
+keys_of Zone = key word.Id Required (Text NewPoint)
     ∷ key word.Parent Optional (Text ZoneName)
     ∷ key word.Routing Required (Text RoutingWord) ∷ []
-keys_of Host =
-    key word.Id Required (Text NewPoint)
+keys_of Host = key word.Id Required (Text NewPoint)
     ∷ key word.Zone Required (Text ZoneName)
-    ∷ key word.Speed Required (Text SpeedText)
-    ∷ key word.Core Optional (Whole CoreCount)
+    ∷ key word.Speed Required (Text (PositiveValue Speed))
+    ∷ key word.Core Optional (Whole 1 1024)
     ∷ key word.Power Optional Powers
-    ∷ key word.PowerOff Optional (Whole Milliwatts) ∷ []
-keys_of Router =
-    key word.Id Required (Text NewPoint)
+    ∷ key word.PowerOff Optional (Whole 0 1000000000) ∷ []
+keys_of Router = key word.Id Required (Text NewPoint)
     ∷ key word.Zone Required (Text ZoneName) ∷ []
-keys_of Link =
-    key word.Id Required (Text NewLink)
-    ∷ key word.Bandwidth Required (Text BandwidthText)
-    ∷ key word.Latency Optional (Text LatencyText)
+keys_of Link = key word.Id Required (Text NewLink)
+    ∷ key word.Bandwidth Required (Text (PositiveValue Bandwidth))
+    ∷ key word.Latency Optional (Text (AnyValue Latency))
     ∷ key word.SharingPolicy Optional (Text PolicyWord) ∷ []
-keys_of Route =
-    key word.Src Required (Text PointName)
+keys_of Route = key word.Src Required (Text PointName)
     ∷ key word.Dst Required (Text RouteEnd)
     ∷ key word.Links Required (Texts LinkList)
     ∷ key word.Symmetrical Optional Truth ∷ []
-keys_of ZoneRoute =
-    key word.Src Required (Text EndName)
+keys_of ZoneRoute = key word.Src Required (Text EndName)
     ∷ key word.Dst Required (Text ZoneRouteEnd)
     ∷ key word.GwSrc (IfZone word.Src) (Text PointName)
     ∷ key word.GwDst (IfZone word.Dst) (Text PointName)
     ∷ key word.Links Required (Texts LinkList)
     ∷ key word.Symmetrical Optional Truth ∷ []
-keys_of Spoke =
-    key word.Zone Required (Text ZoneName)
+keys_of Spoke = key word.Zone Required (Text ZoneName)
     ∷ key word.Child Required (Text SpokeChild)
     ∷ key word.Gateway (IfZone word.Child) (Text PointName)
     ∷ key word.Up Required (Texts LinkList)
     ∷ key word.Down Optional (Texts LinkList) ∷ []
-keys_of Network =
-    key word.LatencyFactor Optional (Text FactorText)
-    ∷ key word.BandwidthFactor Optional (Text PositiveFactorText)
-    ∷ key word.Window Optional (Text AmountText) ∷ []
-keys_of Profile =
-    key word.Host (Unless word.Link) (Text ProfiledHost)
+keys_of Network = key word.LatencyFactor Optional (Text (AnyValue Factor))
+    ∷ key word.BandwidthFactor Optional (Text (PositiveValue Factor))
+    ∷ key word.Window Optional (Text (AnyValue Amount)) ∷ []
+keys_of Profile = key word.Host (Unless word.Link) (Text ProfiledHost)
     ∷ key word.Link Optional (Text ProfiledLink)
     ∷ key word.Dates Required (Texts DateList)
     ∷ key word.Values Required (Texts ValueList)
-    ∷ key word.Loop Optional (Text PositiveTimeText) ∷ []
-keys_of StateProfile =
-    key word.Host (Unless word.Link) (Text SwitchedHost)
+    ∷ key word.Loop Optional (Text (PositiveValue Time)) ∷ []
+keys_of StateProfile = key word.Host (Unless word.Link) (Text SwitchedHost)
     ∷ key word.Link Optional (Text SwitchedLink)
     ∷ key word.Dates Required (Texts DateList)
     ∷ key word.States Required (Texts StateList)
-    ∷ key word.Loop Optional (Text PositiveTimeText) ∷ []
-keys_of Actor =
-    key word.Name Required (Text NewActor)
+    ∷ key word.Loop Optional (Text (PositiveValue Time)) ∷ []
+keys_of Actor = key word.Name Required (Text NewActor)
     ∷ key word.Host Required (Text HostName)
     ∷ key word.Function Required (Text FunctionWord)
     ∷ key word.Argument Optional (Texts ArgumentList)
     ∷ key word.Start Optional Truth ∷ []
-keys_of Mutex =
-    key word.Id Required (Text NewMutex) ∷ []
-keys_of Semaphore =
-    key word.Id Required (Text NewSemaphore)
-    ∷ key word.Capacity Required (Whole CapacityCount) ∷ []
+keys_of Mutex = key word.Id Required (Text NewMutex) ∷ []
+keys_of Semaphore = key word.Id Required (Text NewSemaphore)
+    ∷ key word.Capacity Required (Whole 0 1000000000) ∷ []
 
 abbrev pub table_text : Table → List ℕ
 table_text Zone = codes "zone"
@@ -99,37 +86,18 @@ table_text Actor = codes "actor"
 table_text Mutex = codes "mutex"
 table_text Semaphore = codes "semaphore"
 
--- the number of the table in a place
-abbrev pub table_number : Table → ℕ
-table_number Zone = 1
-table_number Host = 2
-table_number Router = 3
-table_number Link = 4
-table_number Route = 5
-table_number ZoneRoute = 6
-table_number Spoke = 7
-table_number Network = 8
-table_number Profile = 9
-table_number StateProfile = 10
-table_number Actor = 1
-table_number Mutex = 2
-table_number Semaphore = 3
-
 -- how many rows it may have
 abbrev pub row_limit : Table → ℕ
 row_limit Zone = 1024
 row_limit Host = 16384
 row_limit Router = 16384
-row_limit Link = 65536
 row_limit Route = 262144
 row_limit ZoneRoute = 262144
 row_limit Spoke = 32768
 row_limit Network = 1
 row_limit Profile = 4096
 row_limit StateProfile = 4096
-row_limit Actor = 65536
-row_limit Mutex = 65536
-row_limit Semaphore = 65536
+row_limit _ = 65536
 
 -- the tables of a platform, and those of a deployment, in order
 abbrev pub platform_tables : List Table

@@ -7,9 +7,5 @@
 mod tables;
 mod units;
 
-pub use tables::{
-    DEPLOYMENT, Key, Need, PLATFORM, Rule, Table, TextRule, TextsRule, WholeRule, Word,
-};
-pub use units::{
-    Quantity, amount_value, bandwidth_value, factor_value, latency_value, speed_value, time_value,
-};
+pub use tables::{DEPLOYMENT, Key, Need, PLATFORM, Rule, Table, TextRule, TextsRule, Word};
+pub use units::{Quantity, whole_value};

@@ -1,15 +1,15 @@
 //! The tables of both texts, and their keys.
 ghost use Rattle.std.specs.Prelude.{◌≡◌};
-ghost use Rattle.sg_tables.specs.Tables.{keys_of, row_limit, table_number, table_text, word_text};
+ghost use Rattle.sg_tables.specs.Tables.{keys_of, row_limit, table_text, word_text};
 
+use crate::units::Quantity::{self, Amount, Bandwidth, Factor, Latency, Speed, Time};
+use Rule::{Powers, Text, Texts, Truth, Whole};
 use TextRule::{
-    AmountText, BandwidthText, EndName, FactorText, FunctionWord, HostName, LatencyText, NewActor,
-    NewLink, NewMutex, NewPoint, NewSemaphore, PointName, PolicyWord, PositiveFactorText,
-    PositiveTimeText, ProfiledHost, ProfiledLink, RouteEnd, RoutingWord, SpeedText, SpokeChild,
-    SwitchedHost, SwitchedLink, ZoneName, ZoneRouteEnd,
+    AnyValue, EndName, FunctionWord, HostName, NewActor, NewLink, NewMutex, NewPoint, NewSemaphore,
+    PointName, PolicyWord, PositiveValue, ProfiledHost, ProfiledLink, RouteEnd, RoutingWord,
+    SpokeChild, SwitchedHost, SwitchedLink, ZoneName, ZoneRouteEnd,
 };
 use TextsRule::{ArgumentList, DateList, LinkList, StateList, ValueList};
-use WholeRule::{CapacityCount, CoreCount, Milliwatts};
 
 /// A key as a text writes it.
 #[derive(Clone, Copy)]
@@ -67,8 +67,8 @@ pub enum Need {
 pub enum Rule {
     /// A text.
     Text(TextRule),
-    /// A whole number.
-    Whole(WholeRule),
+    /// A whole number from the first to the second.
+    Whole(u64, u64),
     /// `true` or `false`.
     Truth,
     /// A list of texts.
@@ -110,20 +110,10 @@ pub enum TextRule {
     PolicyWord,
     /// What an actor does.
     FunctionWord,
-    /// A speed above zero.
-    SpeedText,
-    /// A bandwidth above zero.
-    BandwidthText,
-    /// A latency up to 10^15 nanoseconds.
-    LatencyText,
-    /// A factor up to 1,000.
-    FactorText,
-    /// A factor up to 1,000 that isn't zero.
-    PositiveFactorText,
-    /// Flops or bytes.
-    AmountText,
-    /// A time that isn't zero.
-    PositiveTimeText,
+    /// A value above zero.
+    PositiveValue(Quantity),
+    /// A value.
+    AnyValue(Quantity),
     /// The name of a host, where no earlier profile row has it.
     ProfiledHost,
     /// The name of a link, where no earlier profile row has it, nor this row a host.
@@ -132,17 +122,6 @@ pub enum TextRule {
     SwitchedHost,
     /// The name of a link, where no earlier row of states has it, nor this row a host.
     SwitchedLink,
-}
-
-/// What a whole number must be.
-#[derive(Clone, Copy)]
-pub enum WholeRule {
-    /// A whole number from 1 to 1,024.
-    CoreCount,
-    /// A whole number from 0 to 10^9.
-    CapacityCount,
-    /// Milliwatts, from 0 to 10^9.
-    Milliwatts,
 }
 
 /// What a list of texts must be.
@@ -249,8 +228,8 @@ impl Word {
 }
 
 macro_rules! key {
-    ($word:ident, $need:ident $(($other:ident))?, $of:ident $(($rule:ident))?) => {
-        Key { word: Word::$word, need: Need::$need $((Word::$other))?, rule: Rule::$of $(($rule))? }
+    ($word:ident, $need:ident $(($other:ident))?, $rule:expr) => {
+        Key { word: Word::$word, need: Need::$need $((Word::$other))?, rule: $rule }
     };
 }
 
@@ -265,10 +244,10 @@ const ZONE_KEYS: [Key; 3] = [
 const HOST_KEYS: [Key; 6] = [
     key!(Id, Required, Text(NewPoint)),
     key!(Zone, Required, Text(ZoneName)),
-    key!(Speed, Required, Text(SpeedText)),
-    key!(Core, Optional, Whole(CoreCount)),
+    key!(Speed, Required, Text(PositiveValue(Speed))),
+    key!(Core, Optional, Whole(1, 1024)),
     key!(Power, Optional, Powers),
-    key!(PowerOff, Optional, Whole(Milliwatts)),
+    key!(PowerOff, Optional, Whole(0, 1_000_000_000)),
 ];
 
 const ROUTER_KEYS: [Key; 2] = [
@@ -278,8 +257,8 @@ const ROUTER_KEYS: [Key; 2] = [
 
 const LINK_KEYS: [Key; 4] = [
     key!(Id, Required, Text(NewLink)),
-    key!(Bandwidth, Required, Text(BandwidthText)),
-    key!(Latency, Optional, Text(LatencyText)),
+    key!(Bandwidth, Required, Text(PositiveValue(Bandwidth))),
+    key!(Latency, Optional, Text(AnyValue(Latency))),
     key!(SharingPolicy, Optional, Text(PolicyWord)),
 ];
 
@@ -308,9 +287,9 @@ const SPOKE_KEYS: [Key; 5] = [
 ];
 
 const NETWORK_KEYS: [Key; 3] = [
-    key!(LatencyFactor, Optional, Text(FactorText)),
-    key!(BandwidthFactor, Optional, Text(PositiveFactorText)),
-    key!(Window, Optional, Text(AmountText)),
+    key!(LatencyFactor, Optional, Text(AnyValue(Factor))),
+    key!(BandwidthFactor, Optional, Text(PositiveValue(Factor))),
+    key!(Window, Optional, Text(AnyValue(Amount))),
 ];
 
 const PROFILE_KEYS: [Key; 5] = [
@@ -318,7 +297,7 @@ const PROFILE_KEYS: [Key; 5] = [
     key!(Link, Optional, Text(ProfiledLink)),
     key!(Dates, Required, Texts(DateList)),
     key!(Values, Required, Texts(ValueList)),
-    key!(Loop, Optional, Text(PositiveTimeText)),
+    key!(Loop, Optional, Text(PositiveValue(Time))),
 ];
 
 const STATE_PROFILE_KEYS: [Key; 5] = [
@@ -326,7 +305,7 @@ const STATE_PROFILE_KEYS: [Key; 5] = [
     key!(Link, Optional, Text(SwitchedLink)),
     key!(Dates, Required, Texts(DateList)),
     key!(States, Required, Texts(StateList)),
-    key!(Loop, Optional, Text(PositiveTimeText)),
+    key!(Loop, Optional, Text(PositiveValue(Time))),
 ];
 
 const ACTOR_KEYS: [Key; 5] = [
@@ -341,7 +320,7 @@ const MUTEX_KEYS: [Key; 1] = [key!(Id, Required, Text(NewMutex))];
 
 const SEMAPHORE_KEYS: [Key; 2] = [
     key!(Id, Required, Text(NewSemaphore)),
-    key!(Capacity, Required, Whole(CapacityCount)),
+    key!(Capacity, Required, Whole(0, 1_000_000_000)),
 ];
 
 impl Table {
@@ -363,24 +342,6 @@ impl Table {
             Table::Actor => "actor",
             Table::Mutex => "mutex",
             Table::Semaphore => "semaphore",
-        }
-    }
-
-    /// The number of the table in a place.
-    pub fn number(self) -> u32
-        ensures { result ≡ table_number self }
-    {
-        match self {
-            Table::Zone | Table::Actor => 1,
-            Table::Host | Table::Mutex => 2,
-            Table::Router | Table::Semaphore => 3,
-            Table::Link => 4,
-            Table::Route => 5,
-            Table::ZoneRoute => 6,
-            Table::Spoke => 7,
-            Table::Network => 8,
-            Table::Profile => 9,
-            Table::StateProfile => 10,
         }
     }
 
