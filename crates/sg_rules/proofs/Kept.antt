@@ -1,14 +1,16 @@
 -- What holds of the rows of a tree that has no fault.
-use Rattle.std.proofs.Common.{◌≡◌, ℕ, ◌+◌, ◌<◌, ◌≤◌, ◌==◌, Bool, true, false, not, nat_le, nat_lt, ◌&&◌, ◌||◌, is_none, List, [], ◌∷◌, length, Option, Some, None, option_and_then, refl, sym, inl, inr, arith}
+use Rattle.std.proofs.Common.{◌≡◌, ℕ, ◌+◌, ◌<◌, ◌≤◌, ◌==◌, Bool, true, false, not, nat_le, nat_lt, ◌&&◌, ◌||◌, is_none, is_some, List, [], ◌∷◌, length, Option, Some, None, option_and_then, refl, sym, inl, inr, arith}
 use Rattle.std.proofs.lemmas.Bool.{cases_Bool}
 use Rattle.std.proofs.lemmas.Bool.Decides.{nat_tests}
 use Rattle.std.specs.List.{All, AllByRecursion, list_all}
+use Rattle.std.specs.Option.{option_map_or}
 use Rattle.sg_rules.proofs.TableLemmas.{few_rows}
-use Rattle.sg_rules.specs.Faults.{key_faults, row_faults, row_faults_at, rows_before, table_faults, table_kinds}
+use Rattle.sg_rules.proofs.FaultParts.{key_faults, row_faults_at}
+use Rattle.sg_rules.specs.Faults.{row_faults, rows_before, table_faults, table_kinds}
 use Rattle.sg_names.specs.Names.{Known}
 use Rattle.sg_rules.specs.Profiles.{items_at}
-use Rattle.sg_rules.specs.Rules.{child_kinds, end_kinds, host_kinds, id_kinds, is_between, is_from, is_positive, is_text, key_kinds, kinds_at, refused_kinds, link_id_kinds, list_kinds, point_kinds, positive_kinds, route_end_kinds, text_kinds, texts_kinds, value_kinds, zone_kinds, zone_route_end_kinds}
-use Rattle.sg_tables.specs.Tables.{key, keys_of, row_limit, table_number, table_text, word_text}
+use Rattle.sg_rules.specs.Rules.{end_kinds, host_kinds, id_kinds, is_zone, key_kinds, kinds_at, link_id_kinds, list_kinds, point_kinds, text_kinds, texts_kinds, value_kinds, zone_kinds}
+use Rattle.sg_tables.specs.Tables.{key, keys_of, row_limit, table_text, word_text}
 use Rattle.sg_tables.specs.declared.tables.Key.{Key}
 use Rattle.sg_tables.specs.declared.tables.Need.TheVariants.{Required, Optional}
 use Rattle.sg_tables.specs.declared.tables.Rule.TheVariants.{Text, Texts}
@@ -23,6 +25,7 @@ use Rattle.sg_tree.specs.Names.{Finds}
 use Rattle.sg_tree.specs.Spelling.{is_name, is_name_byte}
 use Rattle.sg_tree.specs.Tree.{items_or_none, list_of, rows_at, text_at}
 use Rattle.sg_tree.specs.declared.fault.Kind.{Kind}
+use Rattle.sg_tree.specs.declared.fault.Kind.TheVariants.{BadValue}
 use Rattle.toml.specs.Data.{Data, Items, Members, get, get_member, as_array, as_str}
 
 -- a rule that gives no kind is kept
@@ -35,9 +38,9 @@ not_false true e = refl
 not_false false e = sym e
 
 -- no more rows than the limit
-pub rows_few : (names : Known) (tree : Members) (table : Table) → table_faults names tree table ≡ [] → length (rows_at (table_text table) tree) ≤ row_limit table
+pub rows_few : (names : Known) (tree : Members) (t : ℕ) (table : Table) → table_faults names tree t table ≡ [] → length (rows_at (table_text table) tree) ≤ row_limit table
 unfolding table_faults rows_at
-rows_few names tree table empty =
+rows_few names tree t table empty =
     let none = empty_at _ _ _ (table_kinds table (get_member (table_text table) tree)) (empty_left _ _ empty) in
     few_rows table (get_member (table_text table) tree) (rw none)
 
@@ -53,12 +56,12 @@ keys_kept names number t r row i (k ∷ ks) empty =
     (empty_at t r (i + 1) (key_kinds names number row k) (empty_left here rest empty), keys_kept names number t r row (i + 1) ks (empty_right here rest empty))
 
 -- what follows for a row whose keys have no fault holds of each row
-pub rows_kept : (names : Known) (tree : Members) (table : Table) (P : Data → Type 0) → ((number : ℕ) (row : Data) → KeysKept names number row (keys_of table) → P row)
-    → table_faults names tree table ≡ [] → All P (rows_at (table_text table) tree)
+pub rows_kept : (names : Known) (tree : Members) (t : ℕ) (table : Table) (P : Data → Type 0) → ((number : ℕ) (row : Data) → KeysKept names number row (keys_of table) → P row)
+    → table_faults names tree t table ≡ [] → All P (rows_at (table_text table) tree)
 unfolding table_faults row_faults
-rows_kept names tree table P kept empty =
-    all_kept P (row_faults_at names (keys_of table) (rows_before names table) (table_number table))
-    (λ j row none. kept (rows_before names table + j) row (keys_kept names (rows_before names table + j) (table_number table) (j + 1) row 0 (keys_of table) (empty_right _ _ none)))
+rows_kept names tree t table P kept empty =
+    all_kept P (row_faults_at names (keys_of table) (rows_before names table) t)
+    (λ j row none. kept (rows_before names table + j) row (keys_kept names (rows_before names table + j) t (j + 1) row 0 (keys_of table) (empty_right _ _ none)))
     0 (rows_at (table_text table) tree) (empty_right _ _ empty)
 
 -- a text at a key that keeps its rule
@@ -93,17 +96,17 @@ pub optional_text : (names : Known) (number : ℕ) (row : Data) (word : Word) (r
 unfolding key_kinds
 optional_text names number row word rule empty text there = optional_at names number row word rule (get (word_text word) row) empty text there
 
-typed_texts : (names : Known) (row : Data) (rule : TextsRule) (items : List Data) → list_kinds names row rule items ≡ [] → texts_kinds names row rule items ≡ []
-unfolding list_kinds
-typed_texts names row rule items empty =
-    elim (cases_Bool (list_all is_text items)) [
-      | inl texts ↦ let kept : texts_kinds names row rule items ≡ [] = rw texts at empty in kept
+-- the items of a list that breaks no rule have its type, and keep its rule
+pub typed_list : (fits : Data → Bool) (kinds : List Data → List Kind) (items : List Data) → list_kinds fits kinds items ≡ [] → kinds items ≡ []
+typed_list fits kinds items empty =
+    elim (cases_Bool (list_all fits items)) [
+      | inl all ↦ let kept : kinds items ≡ [] = rw all at empty in kept
       | inr other ↦ let wrong = rw other at empty in cc
     ]
 
-typed_items : (names : Known) (row : Data) (rule : TextsRule) (found : Option Items) → of_type (λ items. list_kinds names row rule (list_of items)) found ≡ [] → texts_kinds names row rule (items_or_none found) ≡ []
+typed_items : (names : Known) (row : Data) (rule : TextsRule) (found : Option Items) → of_type (λ items. list_kinds (λ d. is_some (as_str d)) (texts_kinds names row rule) (list_of items)) found ≡ [] → texts_kinds names row rule (items_or_none found) ≡ []
 typed_items names row rule None empty = cc
-typed_items names row rule (Some items) empty = typed_texts names row rule (list_of items) empty
+typed_items names row rule (Some items) empty = typed_list (λ d. is_some (as_str d)) (texts_kinds names row rule) (list_of items) empty
 
 items_there : (names : Known) (number : ℕ) (row : Data) (word : Word) (rule : TextsRule) → (d : Option Data) → kinds_at names number row (key word Required (Texts rule)) d ≡ []
     → texts_kinds names row rule (items_or_none (option_and_then as_array d)) ≡ []
@@ -125,8 +128,16 @@ name_short numbers number name empty = short (length name) (list_all is_name_byt
     short : (n : ℕ) (b : Bool) → (not (n == 0) && nat_le n 64) && b ≡ true → n ≤ 64
     short n b named = grind (arith, nat_tests)
 
+zone_found : (names : Known) (found : Option ℕ) → is_zone names found ≡ true → (n : ℕ) × (found ≡ Some n) × (n < names.zones)
+zone_found names None within = cc
+zone_found names (Some n) within = (n, refl, (let high : n < names.zones = grind (arith, nat_tests) in high))
+
+pub zone_there : (names : Known) (name : List ℕ) → zone_kinds names name ≡ [] → (n : ℕ) × (names.points name ≡ Some n) × (n < names.zones)
+unfolding zone_kinds
+zone_there names name empty = zone_found names (names.points name) (not_false _ (unbroken _ _ empty))
+
 -- a number within bounds
-pub between : (least end : ℕ) (found : Option ℕ) → is_between least end found ≡ true → (n : ℕ) × (found ≡ Some n) × (least ≤ n) × (n < end)
+between : (least end : ℕ) (found : Option ℕ) → option_map_or (λ n. nat_le least n && nat_lt n end) found false ≡ true → (n : ℕ) × (found ≡ Some n) × (least ≤ n) × (n < end)
 between least end None within = cc
 between least end (Some n) within = (n, refl, low, high)
   where
@@ -136,20 +147,15 @@ between least end (Some n) within = (n, refl, low, high)
     high : n < end
     high = grind (arith, nat_tests)
 
-pub zone_there : (names : Known) (name : List ℕ) → zone_kinds names name ≡ [] → (n : ℕ) × (names.points name ≡ Some n) × (0 ≤ n) × (n < names.zones)
-unfolding zone_kinds
-zone_there names name empty = between 0 names.zones (names.points name) (not_false _ (unbroken _ _ empty))
-
 pub host_there : (names : Known) (name : List ℕ) → host_kinds names name ≡ [] → (n : ℕ) × (names.points name ≡ Some n) × (names.zones ≤ n) × (n < names.zones + names.hosts)
 unfolding host_kinds
 host_there names name empty = between names.zones (names.zones + names.hosts) (names.points name) (not_false _ (unbroken _ _ empty))
 
 -- a value that must be above zero is there, and is
-pub positive_there : (value : Option ℕ) → positive_kinds value ≡ [] → (n : ℕ) × (value ≡ Some n) × (1 ≤ n)
-unfolding positive_kinds
+pub positive_there : (value : Option ℕ) → kind_if (not (option_map_or (nat_lt 0) value false)) BadValue ≡ [] → (n : ℕ) × (value ≡ Some n) × (1 ≤ n)
 positive_there value empty = above value (not_false _ (unbroken _ _ empty))
   where
-    above : (o : Option ℕ) → is_positive o ≡ true → (n : ℕ) × (o ≡ Some n) × (1 ≤ n)
+    above : (o : Option ℕ) → option_map_or (nat_lt 0) o false ≡ true → (n : ℕ) × (o ≡ Some n) × (1 ≤ n)
     above None positive = cc
     above (Some n) positive = (n, refl, (let le : 1 ≤ n = grind (arith, nat_tests) in le))
 
@@ -161,7 +167,7 @@ link_name_short taken number split id empty = short (length id) (list_all is_nam
     short : (n : ℕ) (b c : Bool) → not ((not (n == 0) && nat_le n 64) && b) || c ≡ false → n ≤ 64
     short n b c named = grind (arith, nat_tests)
 
-from_there : (least : ℕ) (found : Option ℕ) → is_from least found ≡ true → (n : ℕ) × (found ≡ Some n) × (least ≤ n)
+from_there : (least : ℕ) (found : Option ℕ) → option_map_or (nat_le least) found false ≡ true → (n : ℕ) × (found ≡ Some n) × (least ≤ n)
 from_there least None from = cc
 from_there least (Some n) from = (n, refl, (let low : least ≤ n = grind (arith, nat_tests) in low))
 
@@ -177,18 +183,5 @@ pub end_there : (names : Known) (name : List ℕ) → end_kinds names name ≡ [
 unfolding end_kinds
 end_there names name empty = some_there (names.points name) (unbroken _ _ empty)
 
-pub route_end_point : (names : Known) (number : ℕ) (row : Data) (name : List ℕ) → route_end_kinds names number row name ≡ [] → point_kinds names name ≡ []
-unfolding route_end_kinds
-route_end_point names number row name empty = empty_right _ _ empty
-
-pub zone_route_end_end : (names : Known) (number : ℕ) (row : Data) (name : List ℕ) → zone_route_end_kinds names number row name ≡ [] → end_kinds names name ≡ []
-unfolding zone_route_end_kinds
-zone_route_end_end names number row name empty = empty_right _ _ empty
-
-pub child_end : (names : Known) (number : ℕ) (name : List ℕ) → child_kinds names number name ≡ [] → end_kinds names name ≡ []
-unfolding child_kinds
-child_end names number name empty = empty_right _ _ empty
-
-pub taken_there : (value : Option ℕ) → refused_kinds value ≡ [] → (n : ℕ) × (value ≡ Some n)
-unfolding refused_kinds
+pub taken_there : (value : Option ℕ) → kind_if (is_none value) BadValue ≡ [] → (n : ℕ) × (value ≡ Some n)
 taken_there value empty = some_there value (unbroken _ _ empty)

@@ -1,5 +1,5 @@
 -- What holds of the arguments of a master's row that breaks no rule.
-use Rattle.std.proofs.Common.{◌≡◌, ℕ, ◌+◌, ◌<◌, ◌≤◌, ◌==◌, Bool, true, false, cond, not, ◌&&◌, ◌||◌, is_some, List, [], ◌∷◌, map, length, Option, Some, None, IfSome, option_and_then, option_to_list, unwrap_or, codes, refl, length-append, inl, inr, arith}
+use Rattle.std.proofs.Common.{◌≡◌, ℕ, ◌+◌, ◌-◌, ◌<◌, ◌≤◌, ◌==◌, Bool, true, false, cond, not, ◌&&◌, ◌||◌, is_some, List, [], ◌∷◌, map, length, Option, Some, None, IfSome, option_and_then, option_to_list, nat_le, unwrap_or, codes, refl, length-append, inl, inr, arith}
 use Rattle.std.proofs.lemmas.Bool.{cases_Bool}
 use Rattle.std.proofs.lemmas.Bool.Decides.{nat_tests}
 use Rattle.std.proofs.lemmas.Cmp.{nat_list_eq_equiv}
@@ -8,33 +8,29 @@ use Rattle.std.proofs.lemmas.Map.Steps.{length-le_from_keys}
 use Rattle.std.proofs.lemmas.Slice.Eq.{bytes_eq-Decides}
 use Rattle.std.specs.List.{list_all, list_any}
 use Rattle.std.specs.Map.{lookup}
+use Rattle.std.specs.Option.{option_map_or}
 use Rattle.std.specs.Str.{bytes_eq}
-use Rattle.sg_rules.proofs.Kept.{unbroken}
+use Rattle.sg_rules.proofs.Kept.{typed_list, unbroken}
 use Rattle.sg_rules.proofs.Repeats.{distinct}
-use Rattle.sg_names.specs.Workers.{has_function, worker_names, worker_numbers}
-use Rattle.sg_rules.specs.Arguments.{are_workers, argument_kinds, is_task_count, has_repeat, are_for_master, text_of}
-use Rattle.sg_names.specs.Names.{Known, deployment_known}
-use Rattle.sg_rules.specs.Rules.{is_text, key_kinds, kinds_at, list_kinds, value_kinds}
+use Rattle.sg_names.specs.Workers.{has_function, worker_names}
+use Rattle.sg_rules.specs.Arguments.{are_workers, argument_kinds, has_repeat, are_for_master, text_of}
+use Rattle.sg_names.specs.Names.{Known, known_by}
+use Rattle.sg_rules.specs.Rules.{key_kinds, kinds_at, list_kinds, texts_kinds, value_kinds}
 use Rattle.sg_tables.specs.Tables.{key}
 use Rattle.sg_tables.specs.declared.tables.Need.TheVariants.{Optional}
 use Rattle.sg_tables.specs.declared.tables.Rule.TheVariants.{Texts}
 use Rattle.sg_tables.specs.declared.tables.TextsRule.TheVariants.{ArgumentList}
 use Rattle.sg_tables.specs.declared.tables.Word.TheVariants.{Argument}
 use Rattle.sg_tree.proofs.NameLemmas.{lookup_append}
-use Rattle.sg_tree.specs.Along.{along}
 use Rattle.sg_tree.specs.Faults.{of_type}
-use Rattle.sg_tree.specs.Names.{Finds, or_else, with_number}
+use Rattle.sg_tree.specs.Names.{Finds, found_in, numbered, or_else, with_number}
 use Rattle.sg_tree.specs.Tree.{items_or_none, list_of, rows_at, text_at}
-use Rattle.toml.specs.Data.{Data, Items, Members, as_array, get}
+use Rattle.toml.specs.Data.{Data, Items, Members, as_array, as_str, get}
 
-typed_arguments : (names : Known) (row : Data) (found : Option Items) → of_type (λ items. list_kinds names row ArgumentList (list_of items)) found ≡ [] → argument_kinds names.workers row (items_or_none found) ≡ []
-unfolding list_kinds
+typed_arguments : (names : Known) (row : Data) (found : Option Items) → of_type (λ items. list_kinds (λ d. is_some (as_str d)) (texts_kinds names row ArgumentList) (list_of items)) found ≡ []
+    → argument_kinds names.workers row (items_or_none found) ≡ []
 typed_arguments names row None empty = cc
-typed_arguments names row (Some items) empty =
-    elim (cases_Bool (list_all is_text (list_of items))) [
-      | inl texts ↦ rw texts at empty
-      | inr other ↦ let wrong = rw other at empty in cc
-    ]
+typed_arguments names row (Some items) empty = typed_list (λ d. is_some (as_str d)) (texts_kinds names row ArgumentList) (list_of items) empty
 
 arguments_at : (names : Known) (number : ℕ) (row : Data) (d : Option Data) → kinds_at names number row (key Argument Optional (Texts ArgumentList)) d ≡ []
     → argument_kinds names.workers row (items_or_none (option_and_then as_array d)) ≡ []
@@ -58,7 +54,7 @@ master_fits workers row items empty master = fits _ _ _ (unbroken _ _ empty) mas
     fits false true false kept yes_master = cc
     fits false false c kept yes_master = cc
 
-pub tasks_within : (o : Option ℕ) → is_task_count o ≡ true → unwrap_or o 0 ≤ 1000000000
+pub tasks_within : (o : Option ℕ) → option_map_or (λ n. nat_le n 1000000000) o false ≡ true → unwrap_or o 0 ≤ 1000000000
 tasks_within None fits = cc
 tasks_within (Some n) fits = grind (arith, nat_tests)
 
@@ -88,11 +84,11 @@ names_one row = one (has_function (codes "worker") row) (text_at (codes "name") 
     one false o = omega arith
 
 -- no more workers than rows
-numbers_few : (i : ℕ) (rows : List Data) → length (along (λ i row. with_number (i + 1) (worker_names row)) i rows) ≤ length rows
+numbers_few : (i : ℕ) (rows : List Data) → length (numbered worker_names i rows) ≤ length rows
 numbers_few i [] = omega arith
 numbers_few i (row ∷ rows) =
-    let under : List ℕ → List ℕ × ℕ = λ name. (name, i + 1) in
-    omega (arith, length-append (with_number (i + 1) (worker_names row)) (along (λ i row. with_number (i + 1) (worker_names row)) (i + 1) rows), length-map (worker_names row) under, names_one row, numbers_few (i + 1) rows)
+    let under : List ℕ → List ℕ × ℕ = λ name. (name, i) in
+    omega (arith, length-append (with_number i (worker_names row)) (numbered worker_names (i + 1) rows), length-map (worker_names row) under, names_one row, numbers_few (i + 1) rows)
 
 -- what workers a master has: some, no more than there are rows, and each is known
 pub record HasWorkers (workers : Finds) (rows : List Data) (names : List (List ℕ)) : Type 0 where
@@ -103,16 +99,16 @@ pub record HasWorkers (workers : Finds) (rows : List Data) (names : List (List �
 some_names : (n : ℕ) → not (n == 0) ≡ true → 1 ≤ n
 some_names n other = grind (arith, nat_tests)
 
-pub workers_fit : (rows : List Data) (names : List (List ℕ)) → are_workers (λ q. lookup (bytes_eq q) (worker_numbers rows)) names ≡ true → HasWorkers (λ q. lookup (bytes_eq q) (worker_numbers rows)) rows names
+pub workers_fit : (rows : List Data) (names : List (List ℕ)) → are_workers (found_in (numbered worker_names 1 rows)) names ≡ true → HasWorkers (found_in (numbered worker_names 1 rows)) rows names
 unfolding are_workers
 workers_fit rows names fits =
-    let found : Finds = λ q. lookup (bytes_eq q) (worker_numbers rows) in
+    let found : Finds = found_in (numbered worker_names 1 rows) in
     let front = both_left _ _ fits in
     let known = both_right _ _ front in
     let apart = distinct names (unbroken_not (has_repeat names) (both_right _ _ fits)) in
     record {
       some = some_names (length names) (both_left _ _ front);
-      few = omega (arith, numbers_few 0 rows, length-le_from_keys nat_list_eq_equiv names (worker_numbers rows) apart (found_among found names known));
+      few = omega (arith, numbers_few 1 rows, length-le_from_keys nat_list_eq_equiv names (numbered worker_names 1 rows) apart (found_among found names known));
       known = known;
     }
   where
@@ -132,27 +128,27 @@ numbered_more : (m n : ℕ) (o : Option ℕ) → m ≤ n → IsNumbered m o → 
 numbered_more m n None more p = tt
 numbered_more m n (Some id) more p = (p.0, let most = p.1 in omega (arith, more, most))
 
-one_numbered : (q : List ℕ) (n i : ℕ) (names : List (List ℕ)) → i < n → IsNumbered n (lookup (bytes_eq q) (with_number (i + 1) names))
-one_numbered q n i [] below = tt
-one_numbered q n i (name ∷ names) below =
+one_numbered : (q : List ℕ) (n i : ℕ) (names : List (List ℕ)) → 0 < i → i ≤ n → IsNumbered n (lookup (bytes_eq q) (with_number i names))
+one_numbered q n i [] some below = tt
+one_numbered q n i (name ∷ names) some below =
     elim (cases_Bool (bytes_eq q name)) [
-      | inl here ↦ rw here (omega arith, omega (arith, below))
-      | inr other ↦ rw other (one_numbered q n i names below)
+      | inl here ↦ rw here (some, below)
+      | inr other ↦ rw other (one_numbered q n i names some below)
     ]
 
-all_numbered : (q : List ℕ) (i : ℕ) (rows : List Data) → IsNumbered (i + length rows) (lookup (bytes_eq q) (along (λ i row. with_number (i + 1) (worker_names row)) i rows))
-all_numbered q i [] = tt
-all_numbered q i (row ∷ rows) =
-    let here = with_number (i + 1) (worker_names row) in
-    let rest = along (λ i row. with_number (i + 1) (worker_names row)) (i + 1) rows in
-    let n = i + length (row ∷ rows) in
+all_numbered : (q : List ℕ) (i : ℕ) (rows : List Data) → 0 < i → IsNumbered (i + length rows - 1) (found_in (numbered worker_names i rows) q)
+all_numbered q i [] some = tt
+all_numbered q i (row ∷ rows) some =
+    let here = with_number i (worker_names row) in
+    let rest = numbered worker_names (i + 1) rows in
+    let n = i + length (row ∷ rows) - 1 in
     rw (lookup_append (bytes_eq q) here rest)
-    (numbered_or n _ _ (one_numbered q n i (worker_names row) (omega arith)) (numbered_more (i + 1 + length rows) n _ (omega arith) (all_numbered q (i + 1) rows)))
+    (numbered_or n _ _ (one_numbered q n i (worker_names row) some (omega arith)) (numbered_more (i + 1 + length rows - 1) n _ (omega arith) (all_numbered q (i + 1) rows (omega arith))))
 
 -- workers are actors
-pub workers_numbered : (rows : List Data) (q : List ℕ) → IsNumbered (length rows) (lookup (bytes_eq q) (worker_numbers rows))
-workers_numbered rows q = numbered_more (0 + length rows) (length rows) _ (omega arith) (all_numbered q 0 rows)
+pub workers_numbered : (rows : List Data) (q : List ℕ) → IsNumbered (length rows) (found_in (numbered worker_names 1 rows) q)
+workers_numbered rows q = numbered_more (1 + length rows - 1) (length rows) _ (omega arith) (all_numbered q 1 rows (omega arith))
 
-pub known_workers : (hosts : ℕ) (points : Finds) (tree : Members) → (deployment_known hosts points tree).workers ≡ (λ q. lookup (bytes_eq q) (worker_numbers (rows_at (codes "actor") tree)))
-unfolding deployment_known
-known_workers hosts points tree = refl
+pub known_workers : (zones hosts : ℕ) (points : Finds) (tree : Members) → (known_by zones hosts points tree).workers ≡ found_in (numbered worker_names 1 (rows_at (codes "actor") tree))
+unfolding known_by
+known_workers zones hosts points tree = refl

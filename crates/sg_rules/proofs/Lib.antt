@@ -1,4 +1,5 @@
 pub mod DateLemmas
+pub mod FaultParts
 pub mod Kept
 pub mod KeptArguments
 pub mod Repeats

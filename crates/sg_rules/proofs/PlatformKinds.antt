@@ -1,14 +1,15 @@
 -- No rule of a platform's tables is one of actors.
-use Rattle.std.proofs.Common.{ℕ, ◌+◌, ◌≤◌, Bool, true, false, cond, ℤ, List, [], ◌∷◌, ◌++◌, Option, Some, None, arith}
+use Rattle.std.proofs.Common.{ℕ, ◌+◌, ◌≤◌, Bool, true, false, cond, List, [], ◌∷◌, ◌++◌, Option, Some, None, is_none, is_some, arith}
 use Rattle.std.specs.List.{list_all}
 use Rattle.sg_rules.proofs.Rising.{Each, each_append}
-use Rattle.sg_rules.specs.Faults.{faults_of, key_faults, row_faults, row_faults_at, row_kinds, rows_before, table_faults, table_kinds, top_kinds}
+use Rattle.sg_rules.proofs.FaultParts.{key_faults, row_faults_at, row_kinds, top_kinds}
+use Rattle.sg_rules.specs.Faults.{faults_of, row_faults, rows_before, table_faults, table_kinds}
 use Rattle.sg_names.specs.Names.{Known}
 use Rattle.sg_rules.specs.PlatformKinds.{IsPlatformFault, PlatformKinds}
-use Rattle.sg_rules.specs.Power.{powers_kinds}
+use Rattle.sg_rules.specs.Power.{powers_in}
 use Rattle.sg_rules.specs.Profiles.{dates_kinds, each_date_kinds}
-use Rattle.sg_rules.specs.Rules.{child_kinds, default_kinds, end_kinds, host_kinds, id_kinds, is_text, is_whole, key_kinds, kinds_at, refused_kinds, link_id_kinds, link_list_kinds, list_kinds, point_kinds, positive_kinds, profiled_host_kinds, profiled_link_kinds, route_end_kinds, text_kinds, texts_kinds, value_kinds, whole_kinds, whole_list_kinds, word_kinds, zone_kinds, zone_route_end_kinds}
-use Rattle.sg_tables.specs.Tables.{keys_of, platform_tables, table_number, table_text}
+use Rattle.sg_rules.specs.Rules.{default_kinds, end_kinds, host_kinds, id_kinds, key_kinds, kinds_at, link_id_kinds, link_list_kinds, point_kinds, profiled_link_kinds, text_kinds, texts_kinds, value_kinds, word_kinds, zone_kinds}
+use Rattle.sg_tables.specs.Tables.{keys_of, platform_tables, table_text}
 use Rattle.sg_tables.specs.declared.tables.Key.{Key}
 use Rattle.sg_tables.specs.declared.tables.Rule.{Rule}
 use Rattle.sg_tables.specs.declared.tables.Rule.TheVariants as rule
@@ -16,12 +17,10 @@ use Rattle.sg_tables.specs.declared.tables.TextRule.{TextRule}
 use Rattle.sg_tables.specs.declared.tables.TextRule.TheVariants as text
 use Rattle.sg_tables.specs.declared.tables.TextsRule.{TextsRule}
 use Rattle.sg_tables.specs.declared.tables.TextsRule.TheVariants as texts
-use Rattle.sg_tables.specs.declared.tables.WholeRule.{WholeRule}
-use Rattle.sg_tables.specs.declared.tables.WholeRule.TheVariants as whole
 use Rattle.sg_tables.specs.declared.tables.Table.{Table}
 use Rattle.sg_tree.specs.Along.{along}
 use Rattle.sg_tree.specs.Faults.{at_place, kind_if, kind_number, of_type}
-use Rattle.sg_tree.specs.Tree.{rows_at}
+use Rattle.sg_tree.specs.Tree.{list_of, rows_at}
 use Rattle.sg_tree.specs.declared.fault.Fault.{Fault}
 use Rattle.sg_tree.specs.declared.fault.Kind.{Kind}
 use Rattle.sg_tree.specs.declared.fault.Kind.TheVariants.{MissingKey, WrongType, BadValue, BadName, Duplicate, Unknown, Limit}
@@ -54,7 +53,7 @@ IsPlatformRule (rule.Texts texts.ArgumentList) = ⊥
 IsPlatformRule _ = Unit {0}
 
 text_small : (names : Known) (number : ℕ) (row : Data) (r : TextRule) (t : List ℕ) → IsPlatformRule (rule.Text r) → AreSmall (text_kinds names number row r t)
-unfolding child_kinds end_kinds host_kinds id_kinds refused_kinds link_id_kinds point_kinds positive_kinds profiled_host_kinds profiled_link_kinds route_end_kinds word_kinds zone_kinds zone_route_end_kinds
+unfolding end_kinds host_kinds id_kinds link_id_kinds point_kinds profiled_link_kinds word_kinds zone_kinds
 text_small names number row text.NewPoint t h = two _ _ BadName Duplicate (omega arith) (omega arith)
 text_small names number row text.NewLink t h = two _ _ BadName Duplicate (omega arith) (omega arith)
 text_small names number row text.NewActor t h = two _ _ BadName Duplicate (omega arith) (omega arith)
@@ -70,22 +69,12 @@ text_small names number row text.SpokeChild t h = two _ _ Duplicate Unknown (ome
 text_small names number row text.RoutingWord t h = one _ BadValue (omega arith)
 text_small names number row text.PolicyWord t h = one _ BadValue (omega arith)
 text_small names number row text.FunctionWord t h = absurd h
-text_small names number row text.SpeedText t h = one _ BadValue (omega arith)
-text_small names number row text.BandwidthText t h = one _ BadValue (omega arith)
-text_small names number row text.LatencyText t h = one _ BadValue (omega arith)
-text_small names number row text.FactorText t h = one _ BadValue (omega arith)
-text_small names number row text.PositiveFactorText t h = one _ BadValue (omega arith)
-text_small names number row text.AmountText t h = one _ BadValue (omega arith)
-text_small names number row text.PositiveTimeText t h = one _ BadValue (omega arith)
+text_small names number row (text.PositiveValue quantity) t h = one _ BadValue (omega arith)
+text_small names number row (text.AnyValue quantity) t h = one _ BadValue (omega arith)
 text_small names number row text.ProfiledHost t h = two _ _ Duplicate Unknown (omega arith) (omega arith)
 text_small names number row text.ProfiledLink t h = three _ _ _ BadValue Duplicate Unknown (omega arith) (omega arith) (omega arith)
 text_small names number row text.SwitchedHost t h = two _ _ Duplicate Unknown (omega arith) (omega arith)
 text_small names number row text.SwitchedLink t h = three _ _ _ BadValue Duplicate Unknown (omega arith) (omega arith) (omega arith)
-
-whole_small : (r : WholeRule) (z : ℤ) → AreSmall (whole_kinds r z)
-whole_small whole.CoreCount z = one _ BadValue (omega arith)
-whole_small whole.CapacityCount z = one _ BadValue (omega arith)
-whole_small whole.Milliwatts z = one _ BadValue (omega arith)
 
 texts_small : (names : Known) (row : Data) (r : TextsRule) (items : List Data) → IsPlatformRule (rule.Texts r) → AreSmall (texts_kinds names row r items)
 unfolding dates_kinds each_date_kinds link_list_kinds
@@ -99,21 +88,13 @@ typed_or : (b : Bool) (kinds : List Kind) → AreSmall kinds → AreSmall (cond 
 typed_or true kinds h = h
 typed_or false kinds h = (omega arith, tt)
 
-list_small : (names : Known) (row : Data) (r : TextsRule) (items : List Data) → IsPlatformRule (rule.Texts r) → AreSmall (list_kinds names row r items)
-unfolding list_kinds
-list_small names row r items h = typed_or (list_all is_text items) _ (texts_small names row r items h)
-
-whole_list_small : (items : List Data) → AreSmall (whole_list_kinds items)
-unfolding whole_list_kinds powers_kinds
-whole_list_small items = typed_or (list_all is_whole items) _ (one _ BadValue (omega arith))
-
 value_small : (names : Known) (number : ℕ) (row : Data) (r : Rule) (d : Data) → IsPlatformRule r → AreSmall (value_kinds names number row r d)
 unfolding value_kinds
 value_small names number row (rule.Text r) d h = typed _ (as_str d) (λ t. text_small names number row r t h)
-value_small names number row (rule.Whole r) d h = typed _ (as_integer d) (whole_small r)
+value_small names number row (rule.Whole least greatest) d h = typed _ (as_integer d) (λ z. one _ BadValue (omega arith))
 value_small names number row rule.Truth d h = typed _ (as_bool d) (λ b. tt)
-value_small names number row (rule.Texts r) d h = typed _ (as_array d) (λ items. list_small names row r _ h)
-value_small names number row rule.Powers d h = typed _ (as_array d) (λ items. whole_list_small _)
+value_small names number row (rule.Texts r) d h = typed _ (as_array d) (λ items. typed_or (list_all (λ x. is_some (as_str x)) (list_of items)) (texts_kinds names row r (list_of items)) (texts_small names row r (list_of items) h))
+value_small names number row rule.Powers d h = typed _ (as_array d) (λ items. typed_or (list_all (λ x. is_some (as_integer x)) (list_of items)) (kind_if (is_none (powers_in (list_of items))) BadValue) (one (is_none (powers_in (list_of items))) BadValue (omega arith)))
 
 default_small : (names : Known) (row : Data) (r : Rule) → IsPlatformRule r → AreSmall (default_kinds names row r)
 default_small names row (rule.Texts texts.ArgumentList) h = absurd h
@@ -160,10 +141,9 @@ each_unit : {A : Type 0} (xs : List A) → Each (λ x. Unit {0}) xs
 each_unit [] = tt
 each_unit (x ∷ xs) = (tt, each_unit xs)
 
-table_small : (names : Known) (tree : Members) (table : Table) → IsPlatformTable table → Each IsPlatformFault (table_faults names tree table)
+table_small : (names : Known) (tree : Members) (t : ℕ) (table : Table) → IsPlatformTable table → Each IsPlatformFault (table_faults names tree t table)
 unfolding table_faults
-table_small names tree table h =
-    let t = table_number table in
+table_small names tree t table h =
     let f = row_faults_at names (keys_of table) (rows_before names table) t in
     let rows = rows_at (table_text table) tree in
     each_append IsPlatformFault (at_place t 0 0 (table_kinds table (get_member (table_text table) tree))) (along f 0 rows)
@@ -177,7 +157,7 @@ keys_small =
 pub platform_kinds : PlatformKinds
 unfolding faults_of
 platform_kinds names tree =
-    let f : ℕ → Table → List Fault = λ i table. table_faults names tree table in
+    let f : ℕ → Table → List Fault = λ i table. table_faults names tree (i + 1) table in
     each_append IsPlatformFault (at_place 0 0 0 (top_kinds platform_tables tree)) (along f 0 platform_tables)
     (place_small 0 0 0 _ (one _ Unknown (omega arith)))
-    (along_small IsPlatformTable f (λ i table h. table_small names tree table h) 0 platform_tables keys_small)
+    (along_small IsPlatformTable f (λ i table h. table_small names tree (i + 1) table h) 0 platform_tables keys_small)

@@ -1,14 +1,15 @@
 -- The faults of a tree rise.
-use Rattle.std.proofs.Common.{◌≡◌, ℕ, ◌+◌, ◌<◌, ◌≤◌, Bool, true, false, cond, ℤ, List, [], ◌∷◌, ◌++◌, Option, Some, None, refl, sym, ◌∙◌, inl, inr, arith}
+use Rattle.std.proofs.Common.{◌≡◌, ℕ, ◌+◌, ◌<◌, ◌≤◌, Bool, true, false, cond, List, [], ◌∷◌, ◌++◌, Option, Some, None, is_none, is_some, refl, sym, ◌∙◌, inl, inr, arith}
 use Rattle.std.specs.List.{AllByRecursion, list_all}
 use Rattle.sg_rules.specs.Arguments.{argument_kinds}
-use Rattle.sg_rules.specs.Faults.{faults_of, key_faults, row_faults, row_faults_at, row_kinds, rows_before, table_faults, table_kinds, top_kinds}
+use Rattle.sg_rules.proofs.FaultParts.{key_faults, row_faults_at, row_kinds, top_kinds}
+use Rattle.sg_rules.specs.Faults.{faults_of, row_faults, rows_before, table_faults, table_kinds}
 use Rattle.sg_names.specs.Names.{Known}
 use Rattle.sg_rules.specs.Rising.{FaultsRise, IsBefore, IsRising}
-use Rattle.sg_rules.specs.Power.{powers_kinds}
+use Rattle.sg_rules.specs.Power.{powers_in}
 use Rattle.sg_rules.specs.Profiles.{dates_kinds, each_date_kinds}
-use Rattle.sg_rules.specs.Rules.{child_kinds, default_kinds, end_kinds, host_kinds, id_kinds, is_text, is_whole, key_kinds, kinds_at, refused_kinds, link_id_kinds, link_list_kinds, list_kinds, point_kinds, positive_kinds, profiled_host_kinds, profiled_link_kinds, route_end_kinds, text_kinds, texts_kinds, value_kinds, whole_kinds, whole_list_kinds, word_kinds, zone_kinds, zone_route_end_kinds}
-use Rattle.sg_tables.specs.Tables.{deployment_tables, keys_of, platform_tables, table_number, table_text}
+use Rattle.sg_rules.specs.Rules.{default_kinds, end_kinds, host_kinds, id_kinds, key_kinds, kinds_at, link_id_kinds, link_list_kinds, point_kinds, profiled_link_kinds, text_kinds, texts_kinds, value_kinds, word_kinds, zone_kinds}
+use Rattle.sg_tables.specs.Tables.{deployment_tables, keys_of, platform_tables, table_text}
 use Rattle.sg_tables.specs.declared.tables.Key.{Key}
 use Rattle.sg_tables.specs.declared.tables.Rule.{Rule}
 use Rattle.sg_tables.specs.declared.tables.Rule.TheVariants as rule
@@ -16,12 +17,10 @@ use Rattle.sg_tables.specs.declared.tables.TextRule.{TextRule}
 use Rattle.sg_tables.specs.declared.tables.TextRule.TheVariants as text
 use Rattle.sg_tables.specs.declared.tables.TextsRule.{TextsRule}
 use Rattle.sg_tables.specs.declared.tables.TextsRule.TheVariants as texts
-use Rattle.sg_tables.specs.declared.tables.WholeRule.{WholeRule}
-use Rattle.sg_tables.specs.declared.tables.WholeRule.TheVariants as whole
 use Rattle.sg_tables.specs.declared.tables.Table.{Table}
 use Rattle.sg_tree.specs.Along.{along}
 use Rattle.sg_tree.specs.Faults.{at_place, kind_if, kind_number, of_type}
-use Rattle.sg_tree.specs.Tree.{rows_at}
+use Rattle.sg_tree.specs.Tree.{list_of, rows_at}
 use Rattle.sg_tree.specs.declared.fault.Fault.{Fault}
 use Rattle.sg_tree.specs.declared.fault.Kind.{Kind}
 use Rattle.sg_tree.specs.declared.fault.Kind.TheVariants.{MissingKey, WrongType, BadValue, BadName, Duplicate, Unknown, Limit, Function, Arguments}
@@ -72,7 +71,7 @@ typed kinds None h = (tt, tt)
 typed kinds (Some x) h = h x
 
 text_rise : (names : Known) (number : ℕ) (row : Data) (r : TextRule) (t : List ℕ) → KindsRise (text_kinds names number row r t)
-unfolding child_kinds end_kinds host_kinds id_kinds refused_kinds link_id_kinds point_kinds positive_kinds profiled_host_kinds profiled_link_kinds route_end_kinds word_kinds zone_kinds zone_route_end_kinds
+unfolding end_kinds host_kinds id_kinds link_id_kinds point_kinds profiled_link_kinds word_kinds zone_kinds
 text_rise names number row text.NewPoint t = two _ _ BadName Duplicate (omega arith)
 text_rise names number row text.NewLink t = two _ _ BadName Duplicate (omega arith)
 text_rise names number row text.NewActor t = two _ _ BadName Duplicate (omega arith)
@@ -88,22 +87,12 @@ text_rise names number row text.SpokeChild t = two _ _ Duplicate Unknown (omega 
 text_rise names number row text.RoutingWord t = one _ BadValue
 text_rise names number row text.PolicyWord t = one _ BadValue
 text_rise names number row text.FunctionWord t = one _ Function
-text_rise names number row text.SpeedText t = one _ BadValue
-text_rise names number row text.BandwidthText t = one _ BadValue
-text_rise names number row text.LatencyText t = one _ BadValue
-text_rise names number row text.FactorText t = one _ BadValue
-text_rise names number row text.PositiveFactorText t = one _ BadValue
-text_rise names number row text.AmountText t = one _ BadValue
-text_rise names number row text.PositiveTimeText t = one _ BadValue
+text_rise names number row (text.PositiveValue quantity) t = one _ BadValue
+text_rise names number row (text.AnyValue quantity) t = one _ BadValue
 text_rise names number row text.ProfiledHost t = two _ _ Duplicate Unknown (omega arith)
 text_rise names number row text.ProfiledLink t = three _ _ _ BadValue Duplicate Unknown (omega arith) (omega arith)
 text_rise names number row text.SwitchedHost t = two _ _ Duplicate Unknown (omega arith)
 text_rise names number row text.SwitchedLink t = three _ _ _ BadValue Duplicate Unknown (omega arith) (omega arith)
-
-whole_rise : (r : WholeRule) (z : ℤ) → KindsRise (whole_kinds r z)
-whole_rise whole.CoreCount z = one _ BadValue
-whole_rise whole.CapacityCount z = one _ BadValue
-whole_rise whole.Milliwatts z = one _ BadValue
 
 texts_rise : (names : Known) (row : Data) (r : TextsRule) (items : List Data) → KindsRise (texts_kinds names row r items)
 unfolding argument_kinds dates_kinds each_date_kinds link_list_kinds
@@ -117,21 +106,13 @@ typed_or : (b : Bool) (kinds : List Kind) → KindsRise kinds → KindsRise (con
 typed_or true kinds h = h
 typed_or false kinds h = (tt, tt)
 
-list_rise : (names : Known) (row : Data) (r : TextsRule) (items : List Data) → KindsRise (list_kinds names row r items)
-unfolding list_kinds
-list_rise names row r items = typed_or (list_all is_text items) _ (texts_rise names row r items)
-
-whole_list_rise : (items : List Data) → KindsRise (whole_list_kinds items)
-unfolding whole_list_kinds powers_kinds
-whole_list_rise items = typed_or (list_all is_whole items) _ (one _ BadValue)
-
 value_rise : (names : Known) (number : ℕ) (row : Data) (r : Rule) (d : Data) → KindsRise (value_kinds names number row r d)
 unfolding value_kinds
 value_rise names number row (rule.Text r) d = typed _ (as_str d) (text_rise names number row r)
-value_rise names number row (rule.Whole r) d = typed _ (as_integer d) (whole_rise r)
+value_rise names number row (rule.Whole least greatest) d = typed _ (as_integer d) (λ z. one _ BadValue)
 value_rise names number row rule.Truth d = typed _ (as_bool d) (λ b. tt)
-value_rise names number row (rule.Texts r) d = typed _ (as_array d) (λ items. list_rise names row r _)
-value_rise names number row rule.Powers d = typed _ (as_array d) (λ items. whole_list_rise _)
+value_rise names number row (rule.Texts r) d = typed _ (as_array d) (λ items. typed_or (list_all (λ x. is_some (as_str x)) (list_of items)) (texts_kinds names row r (list_of items)) (texts_rise names row r (list_of items)))
+value_rise names number row rule.Powers d = typed _ (as_array d) (λ items. typed_or (list_all (λ x. is_some (as_integer x)) (list_of items)) (kind_if (is_none (powers_in (list_of items))) BadValue) (one (is_none (powers_in (list_of items))) BadValue))
 
 default_rise : (names : Known) (row : Data) (r : Rule) → KindsRise (default_kinds names row r)
 unfolding argument_kinds
@@ -204,10 +185,9 @@ head_rise : (table : Table) (o : Option Data) → KindsRise (table_kinds table o
 head_rise table None = tt
 head_rise table (Some d) = typed _ (as_array d) (λ items. one _ Limit)
 
-table_rise : (names : Known) (tree : Members) (table : Table) → IsRising (table_faults names tree table) × Each (IsInTable (table_number table)) (table_faults names tree table)
+table_rise : (names : Known) (tree : Members) (t : ℕ) (table : Table) → IsRising (table_faults names tree t table) × Each (IsInTable t) (table_faults names tree t table)
 unfolding table_faults
-table_rise names tree table =
-    let t = table_number table in
+table_rise names tree t table =
     let f = row_faults_at names (keys_of table) (rows_before names table) t in
     let rows = rows_at (table_text table) tree in
     let head = at_place t 0 0 (table_kinds table (get_member (table_text table) tree)) in
@@ -222,36 +202,21 @@ table_rise names tree table =
           (each_mono (λ g. (0 + 1 ≤ g.place.row) × IsInTable t g) (IsInTable t) (λ g p. p.1) (along f 0 rows) rest.1),
     )
 
--- the tables from one on, where their numbers rise
-abbrev NumbersRise : ℕ → List Table → Type 0
-NumbersRise n [] = Unit {0}
-NumbersRise n (t ∷ ts) = (n < table_number t) × NumbersRise (table_number t) ts
-
-tables_rise : (names : Known) (tree : Members) (n i : ℕ) (ts : List Table) → NumbersRise n ts
-    → IsRising (along (λ j t. table_faults names tree t) i ts) × Each (λ g. n < g.place.table) (along (λ j t. table_faults names tree t) i ts)
-tables_rise names tree n i [] h = (tt, tt)
-tables_rise names tree n i (t ∷ ts) h =
-    let m = table_number t in
-    let here = table_rise names tree t in
-    let rest = tables_rise names tree m (i + 1) ts h.1 in
-    let more = along (λ j u. table_faults names tree u) (i + 1) ts in (
-      rising_append (table_faults names tree t) more here.0 rest.0
-          (each_cross IsBefore (IsInTable m) (λ g. m < g.place.table) (λ a b p q. inl (omega (arith, p, q))) (table_faults names tree t) more here.1 rest.1),
-      each_append (λ g. n < g.place.table) (table_faults names tree t) more
-          (each_mono (IsInTable m) (λ g. n < g.place.table) (λ g p. omega (arith, p, h.0)) (table_faults names tree t) here.1)
-          (each_mono (λ g. m < g.place.table) (λ g. n < g.place.table) (λ g p. omega (arith, p, h.0)) more rest.1),
-    )
-
 -- a text as a whole, and then its tables
-text_faults_rise : (names : Known) (tree : Members) (tables : List Table) → NumbersRise 0 tables → IsRising (faults_of names tables tree)
+text_faults_rise : (names : Known) (tree : Members) (tables : List Table) → IsRising (faults_of names tables tree)
 unfolding faults_of
-text_faults_rise names tree tables h =
-    let rest = tables_rise names tree 0 0 tables h in
-    rising_append (at_place 0 0 0 (top_kinds tables tree)) _ (place_rise 0 0 0 _ (one _ Unknown)) rest.0
-    (each_cross IsBefore (IsAt 0 0 0) (λ g. 0 < g.place.table) (λ a b p q. inl (omega (arith, p.0, q))) _ _ (all_at 0 0 0 _) rest.1)
+text_faults_rise names tree tables =
+    let f : ℕ → Table → List Fault = λ i table. table_faults names tree (i + 1) table in
+    let head = at_place 0 0 0 (top_kinds tables tree) in
+    let rest = rising_along (λ g. g.place.table) (λ g. Unit {0}) f
+    (λ i table. (table_rise names tree (i + 1) table).0)
+    (λ i table. each_mono (IsInTable (i + 1)) (λ g. (g.place.table ≡ i + 1) × Unit {0}) (λ g p. (p, tt)) _ (table_rise names tree (i + 1) table).1)
+    (λ a b p q h. inl h) 0 tables in
+    rising_append head (along f 0 tables) (place_rise 0 0 0 _ (one _ Unknown)) rest.0
+    (each_cross IsBefore (IsAt 0 0 0) (λ g. (0 + 1 ≤ g.place.table) × Unit {0}) (λ a b p q. inl (omega (arith, p.0, q.0))) head (along f 0 tables) (all_at 0 0 0 _) rest.1)
 
 pub faults_rise : FaultsRise
 faults_rise = record {
-  platform = λ names tree. text_faults_rise names tree platform_tables (omega arith, (omega arith, (omega arith, (omega arith, (omega arith, (omega arith, (omega arith, (omega arith, (omega arith, (omega arith, tt))))))))));
-  deployment = λ names tree. text_faults_rise names tree deployment_tables (omega arith, (omega arith, (omega arith, tt)));
+  platform = λ names tree. text_faults_rise names tree platform_tables;
+  deployment = λ names tree. text_faults_rise names tree deployment_tables;
 }

@@ -1,5 +1,5 @@
 -- The first fault of a table.
-use Rattle.std.proofs.Common.{◌≡◌, ◌<◌, ◌≤◌, true, nat_lt, List, map, length, Option, Some, None, option_and_then, ap, ◌∙◌, sym, inl, inr, arith}
+use Rattle.std.proofs.Common.{◌≡◌, ℕ, ◌<◌, ◌≤◌, true, nat_lt, List, map, length, Option, Some, None, option_and_then, ap, ◌∙◌, sym, inl, inr, arith}
 use Rattle.std.proofs.lemmas.List.{length-map}
 use Rattle.toml.specs.Data.{Members, get_member, Data, Items, as_array}
 use Rattle.sg_toml.specs.View.{view}
@@ -7,8 +7,9 @@ use Rattle.sg_toml.specs.declared.value.Value.{Value}
 use Rattle.sg_tree.specs.Tree.{rows_at, items_or_none, list_of}
 use Rattle.sg_names.specs.Names.{Known}
 use Rattle.sg_tree.specs.Along.{first, along}
-use Rattle.sg_rules.specs.Faults.{row_faults_at, table_kinds, table_faults, rows_before}
-use Rattle.sg_tables.specs.Tables.{table_text, table_number, keys_of, row_limit}
+use Rattle.sg_rules.proofs.FaultParts.{row_faults_at}
+use Rattle.sg_rules.specs.Faults.{table_kinds, table_faults, rows_before}
+use Rattle.sg_tables.specs.Tables.{table_text, keys_of, row_limit}
 use Rattle.sg_tree.specs.declared.fault.Kind.{Kind}
 use Rattle.sg_tables.specs.declared.tables.Table.{Table}
 use Rattle.sg_tables.specs.declared.tables.Table.TheVariants.{Zone, Host, Router, Link, Route, ZoneRoute, Spoke, Network, Profile, StateProfile, Actor, Mutex, Semaphore}
@@ -30,16 +31,16 @@ few_rows table (Some d) none = few_items table (as_array d) none
           | inr within ↦ grind (arith, nat_tests)
         ]
 
-pub table_head : (names : Known) (tree : Members) (table : Table) (kind : Kind) → first (table_kinds table (get_member (table_text table) tree)) ≡ Some kind
-    → first (table_faults names tree table) ≡ Some (record { place = record { table = table_number table; row = 0; key = 0 }; kind = kind })
+pub table_head : (names : Known) (tree : Members) (t : ℕ) (table : Table) (kind : Kind) → first (table_kinds table (get_member (table_text table) tree)) ≡ Some kind
+    → first (table_faults names tree t table) ≡ Some (record { place = record { table = t; row = 0; key = 0 }; kind = kind })
 unfolding table_faults
-table_head names tree table kind told = first_append_some _ _ _ (first_at_some _ _ _ _ kind told)
+table_head names tree t table kind told = first_append_some _ _ _ (first_at_some _ _ _ _ kind told)
 
-pub table_rest : (names : Known) (tree : Members) (table : Table) (rows : List Value) → map view rows ≡ rows_at (table_text table) tree → first (table_kinds table (get_member (table_text table) tree)) ≡ None
-    → first (along (λ i row. row_faults_at names (keys_of table) (rows_before names table) (table_number table) i (view row)) 0 rows) ≡ first (table_faults names tree table)
+pub table_rest : (names : Known) (tree : Members) (t : ℕ) (table : Table) (rows : List Value) → map view rows ≡ rows_at (table_text table) tree → first (table_kinds table (get_member (table_text table) tree)) ≡ None
+    → first (along (λ i row. row_faults_at names (keys_of table) (rows_before names table) t i (view row)) 0 rows) ≡ first (table_faults names tree t table)
 unfolding table_faults
-table_rest names tree table rows seen none =
-    let f = row_faults_at names (keys_of table) (rows_before names table) (table_number table) in
+table_rest names tree t table rows seen none =
+    let f = row_faults_at names (keys_of table) (rows_before names table) t in
     sym (ap first (along_map view f 0 rows)) ∙ ap (λ rs. first (along f 0 rs)) seen ∙ sym (first_append_none _ _ (first_at_none _ _ _ _ none))
 
 limit_small : (table : Table) → row_limit table < 1048576

@@ -4,7 +4,8 @@ use Rattle.std.specs.List.{list_all, list_any}
 use Rattle.std.specs.Option.{option_map_or}
 use Rattle.std.specs.Str.{bytes_eq}
 use Rattle.sg_names.specs.Workers.{has_function}
-use Rattle.sg_tables.specs.Units.{amount_value}
+use Rattle.sg_tables.specs.Units.{quantity_value}
+use Rattle.sg_tables.specs.declared.units.Quantity.TheVariants.{Amount}
 use Rattle.sg_tree.specs.Faults.{kind_if}
 use Rattle.sg_tree.specs.Names.{Finds}
 use Rattle.sg_tree.specs.declared.fault.Kind.{Kind}
@@ -20,18 +21,14 @@ abbrev pub has_repeat : List (List ℕ) → Bool
 has_repeat [] = false
 has_repeat (text ∷ texts) = list_any (bytes_eq text) texts || has_repeat texts
 
--- how many tasks a master may hand out
-abbrev pub is_task_count : Option ℕ → Bool
-is_task_count count = option_map_or (λ n. nat_le n 1000000000) count false
-
 -- the names of workers: some, and none twice
 unfoldable pub are_workers : Finds → List (List ℕ) → Bool
 are_workers workers names = (not (length names == 0) && list_all (λ name. is_some (workers name)) names) && not (has_repeat names)
 
--- what a master is given: the count of its tasks, the flops and the bytes of each, and its workers
+-- what a master is given: the count of its tasks, at most 10^9, the flops and the bytes of each, and its workers
 abbrev pub are_for_master : Finds → List (List ℕ) → Bool
 are_for_master workers (tasks ∷ (flops ∷ (bytes ∷ names))) =
-    ((is_task_count (amount_value tasks) && is_some (amount_value flops)) && is_some (amount_value bytes)) && are_workers workers names
+    ((option_map_or (λ n. nat_le n 1000000000) (quantity_value Amount tasks) false && is_some (quantity_value Amount flops)) && is_some (quantity_value Amount bytes)) && are_workers workers names
 are_for_master workers items = false
 
 -- an actor of another function is given nothing

@@ -1,18 +1,11 @@
 -- What hosts draw, in milliwatts.
-use Rattle.std.specs.Prelude.{ℕ, ℤ, pos, negsuc, is_none, nat_le, List, [], ◌∷◌, if◌then◌else◌, Option, Some, None, option_and_then}
+use Rattle.std.specs.Prelude.{ℕ, nat_le, List, [], ◌∷◌, if◌then◌else◌, Option, Some, None, option_and_then}
 use Rattle.sg_rules.specs.declared.power.Powers.{Powers}
-use Rattle.sg_tree.specs.Faults.{kind_if}
-use Rattle.sg_tree.specs.declared.fault.Kind.{Kind}
-use Rattle.sg_tree.specs.declared.fault.Kind.TheVariants.{BadValue}
+use Rattle.sg_tables.specs.Units.{whole_value}
 use Rattle.toml.specs.Data.{Data, as_integer}
 
--- from 0 to 10^9
-abbrev pub milliwatts : ℤ → Option ℕ
-milliwatts (pos n) = if nat_le n 1000000000 then Some n else None
-milliwatts (negsuc n) = None
-
 abbrev pub milliwatts_in : Data → Option ℕ
-milliwatts_in item = option_and_then milliwatts (as_integer item)
+milliwatts_in item = option_and_then (whole_value 0 1000000000) (as_integer item)
 
 -- with all of its capacity a host draws no less than with nearly none
 abbrev pub powers_of : Option ℕ → Option ℕ → Option ℕ → Option Powers
@@ -24,6 +17,3 @@ powers_of idle epsilon all = None
 abbrev pub powers_in : List Data → Option Powers
 powers_in (idle ∷ (epsilon ∷ (all ∷ []))) = powers_of (milliwatts_in idle) (milliwatts_in epsilon) (milliwatts_in all)
 powers_in items = None
-
-unfoldable pub powers_kinds : List Data → List Kind
-powers_kinds items = kind_if (is_none (powers_in items)) BadValue

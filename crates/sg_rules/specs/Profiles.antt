@@ -1,7 +1,7 @@
 -- Profiles: when the speed of a host, the bandwidth of a link or the state of one of them changes, and what it is from
 -- then on.
 use Rattle.std.specs.Prelude.{ℕ, ◌==◌, Bool, true, false, not, ◌&&◌, nat_lt, List, [], ◌∷◌, ◌++◌, if◌then◌else◌, Option, Some, None, is_some, length, map, option_and_then, codes}
-use Rattle.std.specs.List.{list_all}
+use Rattle.std.specs.Option.{option_map_or}
 use Rattle.std.specs.Str.{bytes_eq}
 use Rattle.sg_rules.specs.Arguments.{text_of}
 use Rattle.sg_tables.specs.Units.{quantity_value}
@@ -13,13 +13,9 @@ use Rattle.sg_tree.specs.declared.fault.Kind.{Kind}
 use Rattle.sg_tree.specs.declared.fault.Kind.TheVariants.{BadValue, Limit}
 use Rattle.toml.specs.Data.{Data, get, as_array}
 
--- the row names a host
-abbrev pub is_of_host : Data → Bool
-is_of_host row = is_some (get (codes "host") row)
-
--- what the values of a row are
+-- what the values of a row are: speeds where it names a host
 abbrev pub quantity_of : Data → Quantity
-quantity_of row = if is_of_host row then Speed else Bandwidth
+quantity_of row = if is_some (get (codes "host") row) then Speed else Bandwidth
 
 -- the items of the array at a key
 abbrev pub items_at : List ℕ → Data → List Data
@@ -38,15 +34,11 @@ state_of text =
 abbrev pub state_in : Data → Option Bool
 state_in item = state_of (text_of item)
 
-abbrev pub is_later : Option ℕ → Option ℕ → Bool
-is_later (Some date) (Some next) = nat_lt date next
-is_later date next = false
-
 -- one date or more, and each is later than the one before
 abbrev pub are_rising : List (Option ℕ) → Bool
 are_rising [] = false
 are_rising (date ∷ []) = is_some date
-are_rising (date ∷ (next ∷ dates)) = is_later date next && are_rising (next ∷ dates)
+are_rising (date ∷ (next ∷ dates)) = option_map_or (λ d. option_map_or (nat_lt d) next false) date false && are_rising (next ∷ dates)
 
 -- the dates: up to 1,024 times that rise
 unfoldable pub dates_kinds : List Data → List Kind
@@ -56,11 +48,3 @@ dates_kinds items = kind_if (not (are_rising (map (amount_in Time) items))) BadV
 unfoldable pub each_date_kinds : Data → List Data → Bool → List Kind
 each_date_kinds row items fit =
     kind_if (not (length items == length (items_at (codes "dates") row) && fit)) BadValue ++ kind_if (nat_lt 1024 (length items)) Limit
-
--- the values
-abbrev pub values_kinds : Data → List Data → List Kind
-values_kinds row items = each_date_kinds row items (list_all (λ item. is_some (amount_in (quantity_of row) item)) items)
-
--- the states
-abbrev pub states_kinds : Data → List Data → List Kind
-states_kinds row items = each_date_kinds row items (list_all (λ item. is_some (state_in item)) items)

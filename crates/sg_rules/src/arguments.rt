@@ -1,16 +1,18 @@
 //! The arguments that go with what an actor does.
-ghost use Rattle.std.specs.Prelude.{◌≡◌, is_some, IfOk, map};
+ghost use Rattle.std.specs.Prelude.{◌≡◌, false, is_some, nat_le, IfOk, map};
 ghost use Rattle.std.specs.HashMap.{get_by_text};
 ghost use Rattle.std.specs.List.{list_all};
-ghost use Rattle.sg_rules.specs.Arguments.{are_for_master, are_workers, argument_kinds, is_task_count, has_repeat, takes_none, text_of};
-ghost use Rattle.sg_tables.specs.Units.{amount_value};
+ghost use Rattle.std.specs.Option.{option_map_or};
+ghost use Rattle.sg_rules.specs.Arguments.{are_for_master, are_workers, argument_kinds, has_repeat, takes_none, text_of};
+ghost use Rattle.sg_tables.specs.Units.{quantity_value};
+ghost use Rattle.sg_tables.specs.declared.units.Quantity.TheVariants.{Amount};
 ghost use Rattle.sg_tree.specs.Along.{first};
 ghost use Rattle.sg_toml.specs.View.{view};
 
 use indexmap::IndexMap;
 use sg_base::Memory;
 use sg_names::has_function;
-use sg_tables::amount_value;
+use sg_tables::Quantity;
 use sg_toml::Value;
 use sg_tree::{Kind, add_name};
 use std::alloc::Global;
@@ -75,18 +77,20 @@ fn are_workers(
 const GREATEST_TASKS: u64 = 1_000_000_000;
 
 fn is_task_count(item: &Value) -> bool
-    ensures { result ≡ is_task_count (amount_value (text_of (view item.now))) }
+    ensures { result
+        ≡ option_map_or (λ n. nat_le n 1000000000)
+        (quantity_value Amount (text_of (view item.now))) false }
 {
-    match amount_value(text_of(item).as_bytes()) {
+    match Quantity::Amount.value(text_of(item).as_bytes()) {
         Some(tasks) => tasks <= GREATEST_TASKS,
         None => false,
     }
 }
 
 fn is_amount(item: &Value) -> bool
-    ensures { result ≡ is_some (amount_value (text_of (view item.now))) }
+    ensures { result ≡ is_some (quantity_value Amount (text_of (view item.now))) }
 {
-    amount_value(text_of(item).as_bytes()).is_some()
+    Quantity::Amount.value(text_of(item).as_bytes()).is_some()
 }
 
 /// Whether the items are what a master is given.

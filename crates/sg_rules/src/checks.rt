@@ -1,29 +1,32 @@
 //! The first rule that a key of a row breaks.
-ghost use Rattle.std.specs.Prelude.{◌≡◌, IfOk, ◌≤◌, ◌+◌, ◌++◌, length, map};
+ghost use Rattle.std.specs.Prelude.{◌≡◌, IfOk, ◌≤◌, ◌+◌, ◌++◌, ◌∷◌, [], codes, false, is_none, is_some, length, map, nat_lt, not, option_and_then};
 ghost use Rattle.std.specs.HashMap.{get_by, get_by_text};
 ghost use Rattle.std.specs.List.{list_all, list_any};
+ghost use Rattle.std.specs.Option.{option_map_or};
 ghost use Rattle.sg_tree.specs.Along.{first};
+ghost use Rattle.sg_tree.specs.Faults.{kind_if};
 ghost use Rattle.sg_tree.specs.declared.fault.Kind.TheVariants as kind;
-ghost use Rattle.sg_names.specs.kept.NamesView.{names_view, subjects_view};
+ghost use Rattle.sg_names.specs.kept.NamesView.{names_view};
 ghost use Rattle.sg_names.specs.Pairs.{pairs_of};
-ghost use Rattle.sg_tree.specs.Names.{Pair, pair_eq};
+ghost use Rattle.sg_tables.specs.Units.{whole_value};
+ghost use Rattle.sg_tables.specs.declared.tables.TextRule.TheVariants as rule;
+ghost use Rattle.sg_tree.specs.Names.{pair_eq};
 ghost use Rattle.sg_tree.specs.Spelling.{is_name, is_name_byte, split_names};
 ghost use Rattle.sg_tree.specs.Tree.{text_at};
-ghost use Rattle.toml.specs.Data.{as_str};
-ghost use Rattle.sg_rules.specs.Rules.{child_kinds, default_kinds, end_kinds, functions, host_kinds, id_kinds, is_capacity, is_core_count, is_pair_taken, is_required, is_taken, is_text, is_unknown, is_whole, key_kinds, refused_kinds, link_id_kinds, link_list_kinds, list_kinds, names_zone, point_kinds, policies, positive_kinds, profiled_host_kinds, profiled_link_kinds, route_end_kinds, routings, text_kinds, texts_kinds, value_kinds, whole_kinds, whole_list_kinds, word_kinds, zone_kinds, zone_route_end_kinds};
+ghost use Rattle.toml.specs.Data.{as_integer, as_str};
+ghost use Rattle.sg_rules.specs.Arguments.{text_of};
+ghost use Rattle.sg_rules.specs.Power.{powers_in};
+ghost use Rattle.sg_rules.specs.Rules.{default_kinds, end_kinds, host_kinds, id_kinds, is_pair_taken, is_required, is_taken, is_zone, key_kinds, link_id_kinds, link_list_kinds, list_kinds, point_kinds, profiled_link_kinds, text_kinds, texts_kinds, value_kinds, word_kinds, zone_kinds};
 ghost use Rattle.sg_toml.specs.View.{view};
 
-use crate::arguments::argument_fault;
-use crate::power::{milliwatts, powers_fault};
+use crate::arguments::{argument_fault, text_of};
+use crate::power::powers_fault;
 use crate::profiles::{dates_fault, is_of_host, states_fault, values_fault};
 use arrayvec::ArrayString;
 use indexmap::IndexMap;
 use sg_base::Memory;
-use sg_names::{Names, Subjects, is_split, is_symmetrical, point_at};
-use sg_tables::{
-    Key, Need, Rule, TextRule, TextsRule, WholeRule, amount_value, bandwidth_value, factor_value,
-    latency_value, speed_value, time_value,
-};
+use sg_names::{Names, is_split, is_symmetrical, point_at};
+use sg_tables::{Key, Need, Rule, TextRule, TextsRule, whole_value};
 use sg_toml::Value;
 use sg_tree::Kind;
 use std::alloc::Global;
@@ -186,10 +189,9 @@ fn is_pair_taken(
     }
 }
 
-#[tactic(auto, unfolding(crate::specs::Rules::route_end_kinds))]
 fn route_end_fault(names: &Names, number: usize, row: &Value, name: &str) -> Option<Kind>
     ensures { result
-        ≡ first (route_end_kinds (names_view names.now) number (view row.now) name.now) }
+        ≡ first (text_kinds (names_view names.now) number (view row.now) rule.RouteEnd name.now) }
 {
     if is_pair_taken(&names.pairs, &names.points, number, row) {
         Some(Kind::Duplicate)
@@ -198,10 +200,10 @@ fn route_end_fault(names: &Names, number: usize, row: &Value, name: &str) -> Opt
     }
 }
 
-#[tactic(auto, unfolding(crate::specs::Rules::zone_route_end_kinds))]
 fn zone_route_end_fault(names: &Names, number: usize, row: &Value, name: &str) -> Option<Kind>
     ensures { result
-        ≡ first (zone_route_end_kinds (names_view names.now) number (view row.now) name.now) }
+        ≡ first (text_kinds (names_view names.now) number (view row.now) rule.ZoneRouteEnd
+        name.now) }
 {
     if is_pair_taken(&names.zone_pairs, &names.points, number, row) {
         Some(Kind::Duplicate)
@@ -210,9 +212,10 @@ fn zone_route_end_fault(names: &Names, number: usize, row: &Value, name: &str) -
     }
 }
 
-#[tactic(auto, unfolding(crate::specs::Rules::child_kinds))]
 fn child_fault(names: &Names, number: usize, name: &str) -> Option<Kind>
-    ensures { result ≡ first (child_kinds (names_view names.now) number name.now) }
+    ensures { result
+        ≡ first (kind_if (is_taken (get_by_text names.now.children name.now) number) kind.Duplicate
+        ++ end_kinds (names_view names.now) name.now) }
 {
     if is_given(&names.children, number, name) {
         Some(Kind::Duplicate)
@@ -231,13 +234,18 @@ fn host_fault(names: &Names, name: &str) -> Option<Kind>
     }
 }
 
-#[tactic(auto, unfolding(crate::specs::Rules::profiled_host_kinds))]
-fn profiled_host_fault(names: &Names, earlier: &Subjects, number: usize, name: &str) -> Option<Kind>
+/// Of a host that no earlier row of a table of profiles has.
+fn profiled_host_fault(
+    names: &Names,
+    earlier: &IndexMap<String, u32>,
+    number: usize,
+    name: &str,
+) -> Option<Kind>
     ensures { result
-        ≡ first (profiled_host_kinds (names_view names.now) (subjects_view earlier.now) number
-        name.now) }
+        ≡ first (kind_if (is_taken (get_by_text earlier.now name.now) number) kind.Duplicate
+        ++ host_kinds (names_view names.now) name.now) }
 {
-    if is_given(&earlier.hosts, number, name) {
+    if is_given(earlier, number, name) {
         Some(Kind::Duplicate)
     } else {
         host_fault(names, name)
@@ -247,18 +255,18 @@ fn profiled_host_fault(names: &Names, earlier: &Subjects, number: usize, name: &
 #[tactic(auto, unfolding(crate::specs::Rules::profiled_link_kinds))]
 fn profiled_link_fault(
     names: &Names,
-    earlier: &Subjects,
+    earlier: &IndexMap<String, u32>,
     number: usize,
     row: &Value,
     name: &str,
 ) -> Option<Kind>
     ensures { result
-        ≡ first (profiled_link_kinds (names_view names.now) (subjects_view earlier.now) number
+        ≡ first (profiled_link_kinds (names_view names.now) (λ q. get_by_text earlier.now q) number
         (view row.now) name.now) }
 {
     if is_of_host(row) {
         Some(Kind::BadValue)
-    } else if is_given(&earlier.links, number, name) {
+    } else if is_given(earlier, number, name) {
         Some(Kind::Duplicate)
     } else if names.links.contains_key(name) {
         None
@@ -267,9 +275,9 @@ fn profiled_link_fault(
     }
 }
 
-#[tactic(auto, unfolding(crate::specs::Rules::positive_kinds))]
 fn positive_fault(value: Option<u64>) -> Option<Kind>
-    ensures { result ≡ first (positive_kinds value) }
+    ensures { result
+        ≡ first (kind_if (not (option_map_or (nat_lt 0) value false)) kind.BadValue) }
 {
     match value {
         Some(value) if value > 0 => None,
@@ -279,7 +287,9 @@ fn positive_fault(value: Option<u64>) -> Option<Kind>
 
 #[tactic(auto, unfolding(crate::specs::Rules::word_kinds))]
 fn routing_fault(text: &str) -> Option<Kind>
-    ensures { result ≡ first (word_kinds routings kind.BadValue text.now) }
+    ensures { result
+        ≡ first (word_kinds (codes "Full" ∷ codes "Star" ∷ codes "Dijkstra" ∷ []) kind.BadValue
+        text.now) }
 {
     match text {
         "Full" | "Star" | "Dijkstra" => None,
@@ -287,9 +297,8 @@ fn routing_fault(text: &str) -> Option<Kind>
     }
 }
 
-#[tactic(auto, unfolding(crate::specs::Rules::refused_kinds))]
 fn refused_fault(value: Option<u64>) -> Option<Kind>
-    ensures { result ≡ first (refused_kinds value) }
+    ensures { result ≡ first (kind_if (is_none value) kind.BadValue) }
 {
     match value {
         Some(_) => None,
@@ -299,7 +308,9 @@ fn refused_fault(value: Option<u64>) -> Option<Kind>
 
 #[tactic(auto, unfolding(crate::specs::Rules::word_kinds))]
 fn policy_fault(text: &str) -> Option<Kind>
-    ensures { result ≡ first (word_kinds policies kind.BadValue text.now) }
+    ensures { result
+        ≡ first (word_kinds (codes "SHARED" ∷ codes "FATPIPE" ∷ codes "SPLITDUPLEX" ∷ [])
+        kind.BadValue text.now) }
 {
     if text == "SHARED" || text == "FATPIPE" || text == "SPLITDUPLEX" {
         None
@@ -310,7 +321,9 @@ fn policy_fault(text: &str) -> Option<Kind>
 
 #[tactic(auto, unfolding(crate::specs::Rules::word_kinds))]
 fn function_fault(text: &str) -> Option<Kind>
-    ensures { result ≡ first (word_kinds functions kind.Function text.now) }
+    ensures { result
+        ≡ first (word_kinds (codes "replay" ∷ codes "master" ∷ codes "worker" ∷ []) kind.Function
+        text.now) }
 {
     match text {
         "replay" | "master" | "worker" => None,
@@ -338,19 +351,25 @@ fn text_fault(names: &Names, number: usize, row: &Value, rule: TextRule, text: &
         TextRule::RoutingWord => routing_fault(text),
         TextRule::PolicyWord => policy_fault(text),
         TextRule::FunctionWord => function_fault(text),
-        TextRule::SpeedText => positive_fault(speed_value(text.as_bytes())),
-        TextRule::BandwidthText => positive_fault(bandwidth_value(text.as_bytes())),
-        TextRule::LatencyText => refused_fault(latency_value(text.as_bytes())),
-        TextRule::FactorText => refused_fault(factor_value(text.as_bytes())),
-        TextRule::PositiveFactorText => positive_fault(factor_value(text.as_bytes())),
-        TextRule::AmountText => refused_fault(amount_value(text.as_bytes())),
-        TextRule::PositiveTimeText => positive_fault(time_value(text.as_bytes())),
-        TextRule::ProfiledHost => profiled_host_fault(names, &names.profiles, number, text),
-        TextRule::ProfiledLink => profiled_link_fault(names, &names.profiles, number, row, text),
-        TextRule::SwitchedHost => profiled_host_fault(names, &names.state_profiles, number, text),
+        TextRule::PositiveValue(quantity) => positive_fault(quantity.value(text.as_bytes())),
+        TextRule::AnyValue(quantity) => refused_fault(quantity.value(text.as_bytes())),
+        TextRule::ProfiledHost => profiled_host_fault(names, &names.profiles.hosts, number, text),
+        TextRule::ProfiledLink => profiled_link_fault(
+            names,
+            &names.profiles.links,
+            number,
+            row,
+            text,
+        ),
+        TextRule::SwitchedHost => profiled_host_fault(
+            names,
+            &names.state_profiles.hosts,
+            number,
+            text,
+        ),
         TextRule::SwitchedLink => profiled_link_fault(
             names,
-            &names.state_profiles,
+            &names.state_profiles.links,
             number,
             row,
             text,
@@ -358,31 +377,18 @@ fn text_fault(names: &Names, number: usize, row: &Value, rule: TextRule, text: &
     }
 }
 
-fn is_core_count(value: i64) -> bool
-    ensures { result ≡ is_core_count value }
+fn whole_fault(least: u64, greatest: u64, number: i64) -> Option<Kind>
+    ensures { result
+        ≡ first (kind_if (is_none (whole_value least greatest number)) kind.BadValue) }
 {
-    value >= 1 && value <= 1024
-}
-
-fn is_capacity(value: i64) -> bool
-    ensures { result ≡ is_capacity value }
-{
-    value >= 0 && value <= 1_000_000_000
-}
-
-fn whole_fault(rule: WholeRule, value: i64) -> Option<Kind>
-    ensures { result ≡ first (whole_kinds rule value) }
-{
-    match rule {
-        WholeRule::CoreCount if !is_core_count(value) => Some(Kind::BadValue),
-        WholeRule::CapacityCount if !is_capacity(value) => Some(Kind::BadValue),
-        WholeRule::Milliwatts if milliwatts(value).is_none() => Some(Kind::BadValue),
-        _ => None,
+    match whole_value(least, greatest, number) {
+        Some(_) => None,
+        None => Some(Kind::BadValue),
     }
 }
 
 fn are_texts(items: &[Value]) -> bool
-    ensures { result ≡ list_all is_text (map view items.now) }
+    ensures { result ≡ list_all (λ d. is_some (as_str d)) (map view items.now) }
 {
     for item in items {
         if item.as_str().is_none() {
@@ -393,18 +399,17 @@ fn are_texts(items: &[Value]) -> bool
 }
 
 fn is_unknown(links: &IndexMap<String, u32>, item: &Value) -> bool
-    ensures { result ≡ is_unknown (λ name. get_by_text links.now name) (as_str (view item.now)) }
+    ensures { result ≡ is_none (get_by_text links.now (text_of (view item.now))) }
 {
-    match item.as_str() {
-        Some(name) => !links.contains_key(name),
-        None => false,
+    match links.get(text_of(item)) {
+        Some(_) => false,
+        None => true,
     }
 }
 
 fn has_unknown(links: &IndexMap<String, u32>, items: &[Value]) -> bool
     ensures { result
-        ≡ list_any (λ d. is_unknown (λ name. get_by_text links.now name) (as_str d))
-        (map view items.now) }
+        ≡ list_any (λ d. is_none (get_by_text links.now (text_of d))) (map view items.now) }
 {
     for item in items {
         if is_unknown(links, item) {
@@ -450,7 +455,6 @@ fn texts_fault(
     }
 }
 
-#[tactic(auto, unfolding(crate::specs::Rules::list_kinds))]
 fn list_fault(
     alloc: Global,
     names: &Names,
@@ -460,7 +464,8 @@ fn list_fault(
 ) -> Result<Option<Kind>, Memory>
     ensures { IfOk result
         (λ fault. fault
-        ≡ first (list_kinds (names_view names.now) (view row.now) rule (map view items.now))) }
+        ≡ first (list_kinds (λ d. is_some (as_str d))
+        (texts_kinds (names_view names.now) (view row.now) rule) (map view items.now))) }
 {
     if are_texts(items) {
         texts_fault(alloc, names, row, rule, items)
@@ -470,7 +475,7 @@ fn list_fault(
 }
 
 fn are_wholes(items: &[Value]) -> bool
-    ensures { result ≡ list_all is_whole (map view items.now) }
+    ensures { result ≡ list_all (λ d. is_some (as_integer d)) (map view items.now) }
 {
     for item in items {
         if item.as_integer().is_none() {
@@ -480,9 +485,10 @@ fn are_wholes(items: &[Value]) -> bool
     true
 }
 
-#[tactic(auto, unfolding(crate::specs::Rules::whole_list_kinds))]
 fn whole_list_fault(items: &[Value]) -> Option<Kind>
-    ensures { result ≡ first (whole_list_kinds (map view items.now)) }
+    ensures { result
+        ≡ first (list_kinds (λ d. is_some (as_integer d))
+        (λ ds. kind_if (is_none (powers_in ds)) kind.BadValue) (map view items.now)) }
 {
     if are_wholes(items) {
         powers_fault(items)
@@ -509,9 +515,9 @@ fn value_fault(
             None => Ok(Some(Kind::WrongType)),
             Some(text) => Ok(text_fault(names, number, row, rule, text)),
         },
-        Rule::Whole(rule) => match value.as_integer() {
+        Rule::Whole(least, greatest) => match value.as_integer() {
             None => Ok(Some(Kind::WrongType)),
-            Some(whole) => Ok(whole_fault(rule, whole)),
+            Some(number) => Ok(whole_fault(least, greatest, number)),
         },
         Rule::Truth => if value.as_bool().is_some() {
             Ok(None)
@@ -531,7 +537,9 @@ fn value_fault(
 
 /// Whether a key of the row is there and names a zone.
 fn names_zone(names: &Names, row: &Value, key: &str) -> bool
-    ensures { result ≡ names_zone (names_view names.now) (text_at key.now (view row.now)) }
+    ensures { result
+        ≡ is_zone (names_view names.now)
+        (option_and_then (names_view names.now).points (text_at key.now (view row.now))) }
 {
     match point_at(&names.points, row, key) {
         Some(number) => number < names.zones,

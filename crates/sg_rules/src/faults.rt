@@ -1,22 +1,24 @@
 //! The first fault of a tree.
-ghost use Rattle.std.specs.Prelude.{◌≡◌, IfOk, ◌<◌, ◌≤◌, ◌+◌, ◌^◌, length, map, codes};
-ghost use Rattle.toml.specs.Data.{get_member};
+ghost use Rattle.std.specs.Prelude.{◌≡◌, IfOk, ◌<◌, ◌+◌, ◌^◌, length, map, not};
+ghost use Rattle.toml.specs.Data.{as_table, get_member};
 ghost use Rattle.std.specs.List.{list_any, list_all};
 ghost use Rattle.std.specs.Str.{bytes_eq};
 ghost use Rattle.sg_toml.specs.View.{view, table_view, word_bytes};
 ghost use Rattle.sg_names.specs.kept.NamesView.{names_view};
 ghost use Rattle.sg_tree.specs.Along.{first, along};
+ghost use Rattle.sg_tree.specs.Faults.{at_place, kind_if, of_type};
 ghost use Rattle.sg_tree.specs.Tree.{has_only};
-ghost use Rattle.sg_rules.specs.Rules.{key_text};
-ghost use Rattle.sg_tables.specs.Tables.{keys_of, row_limit, table_text};
-ghost use Rattle.sg_rules.specs.Faults.{key_faults, row_faults, row_faults_at, row_kinds, table_kinds, table_faults, rows_before, faults_of, top_kinds};
+ghost use Rattle.sg_tree.specs.declared.fault.Kind.TheVariants as kind;
+ghost use Rattle.sg_rules.specs.Rules.{key_kinds, key_text};
+ghost use Rattle.sg_tables.specs.Tables.{row_limit, table_text};
+ghost use Rattle.sg_rules.specs.Faults.{row_faults, table_kinds, table_faults, rows_before, faults_of};
 
 use crate::checks::key_fault;
 use sg_base::Memory;
 use sg_names::Names;
 use sg_tables::{Key, Table};
 use sg_toml::Value;
-use sg_tree::{Fault, Kind, Place, rows_at, value_at};
+use sg_tree::{Fault, Kind, Place, rows_at, small_number, value_at};
 use std::alloc::Global;
 
 /// The first fault of the keys of the row at a place.
@@ -32,7 +34,8 @@ fn keys_fault(
     ensures { IfOk result
         (λ fault. fault
         ≡ first (along
-        (key_faults (names_view names.now) number place.table place.row (view row.now)) 0
+        (λ i key. at_place place.table place.row (i + 1)
+        (key_kinds (names_view names.now) number (view row.now) key)) 0
         keys.now)) }
 {
     for (i, key) in keys.iter().enumerate() {
@@ -74,7 +77,10 @@ fn has_only(keys: &[Key], members: &sg_toml::Table) -> bool
 
 /// The first rule that a row breaks as a whole.
 fn whole_fault(keys: &[Key], row: &Value) -> Option<Kind>
-    ensures { result ≡ first (row_kinds keys.now (view row.now)) }
+    ensures { result
+        ≡ first (of_type
+        (λ members. kind_if (not (has_only (map key_text keys.now) members)) kind.Unknown)
+        (as_table (view row.now))) }
 {
     match row.as_table() {
         None => Some(Kind::WrongType),
@@ -128,7 +134,7 @@ fn rows_fault(
     ensures { IfOk result
         (λ fault. fault
         ≡ first (along
-        (λ i row. row_faults_at (names_view names.now) keys.now before table i
+        (λ i row. row_faults (names_view names.now) keys.now (before + i) table (i + 1)
         (view row)) 0 rows.now)) }
 {
     for (i, row) in rows.iter().enumerate() {
@@ -177,21 +183,23 @@ fn before(names: &Names, table: Table) -> usize
     }
 }
 
-/// The first fault of a table.
+/// The first fault of the table of a number.
 #[tactic(auto, using(crate::proofs::TableLemmas::table_rest, crate::proofs::TableLemmas::table_head, crate::proofs::TableLemmas::few_at))]
 fn table_fault(
     alloc: Global,
     names: &Names,
     tree: &sg_toml::Table,
+    number: u32,
     table: Table,
 ) -> Result<Option<Fault>, Memory>
     ensures { IfOk result
-        (λ fault. fault ≡ first (table_faults (names_view names.now) (table_view tree.now) table)) }
+        (λ fault. fault
+        ≡ first (table_faults (names_view names.now) (table_view tree.now) number table)) }
 {
     match head_fault(tree, table) {
         Some(kind) => {
             let place = Place {
-                table: table.number(),
+                table: number,
                 row: 0,
                 key: 0,
             };
@@ -204,7 +212,7 @@ fn table_fault(
                 names,
                 table.keys(),
                 before(names, table),
-                table.number(),
+                number,
                 rows,
             )
         }
@@ -238,7 +246,7 @@ fn has_only_tables(tables: &[Table], members: &sg_toml::Table) -> bool
     are_tables(tables, members)
 }
 
-/// The first fault of these tables.
+/// The first fault of these tables, which are numbered in their order.
 fn tables_fault(
     alloc: Global,
     names: &Names,
@@ -249,10 +257,11 @@ fn tables_fault(
         (λ fault. fault
         ≡ first (along
         (λ i table. table_faults (names_view names.now)
-        (table_view tree.now) table) 0 tables.now)) }
+        (table_view tree.now) (i + 1) table) 0 tables.now)) }
 {
-    for table in tables {
-        let found = table_fault(alloc, names, tree, *table)?;
+    for (i, table) in tables.iter().enumerate() {
+        let number = small_number(i + 1)?;
+        let found = table_fault(alloc, names, tree, number, *table)?;
         if found.is_some() {
             return Ok(found);
         }

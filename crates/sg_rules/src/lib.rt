@@ -13,5 +13,5 @@ mod profiles;
 pub use arguments::text_of;
 pub use faults::first_fault;
 pub use laws::{faults_rise, platform_kinds};
-pub use power::{Powers, milliwatts, powers_in};
+pub use power::{Powers, powers_in};
 pub use profiles::{amount_in, is_of_host, items_at, quantity_of, state_in};

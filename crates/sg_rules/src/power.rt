@@ -1,9 +1,12 @@
 //! What hosts draw, in milliwatts.
-ghost use Rattle.std.specs.Prelude.{◌≡◌, map};
-ghost use Rattle.sg_rules.specs.Power.{milliwatts, milliwatts_in, powers_in, powers_kinds, powers_of};
+ghost use Rattle.std.specs.Prelude.{◌≡◌, is_none, map};
+ghost use Rattle.sg_rules.specs.Power.{milliwatts_in, powers_in, powers_of};
 ghost use Rattle.sg_tree.specs.Along.{first};
+ghost use Rattle.sg_tree.specs.Faults.{kind_if};
+ghost use Rattle.sg_tree.specs.declared.fault.Kind.TheVariants.{BadValue};
 ghost use Rattle.sg_toml.specs.View.{view};
 
+use sg_tables::whole_value;
 use sg_toml::Value;
 use sg_tree::Kind;
 
@@ -18,22 +21,11 @@ pub struct Powers {
     pub all: u64,
 }
 
-/// The milliwatts that a number stands for: from 0 to 10^9.
-pub fn milliwatts(number: i64) -> Option<u64>
-    ensures { result ≡ milliwatts number }
-{
-    if number >= 0 && number <= 1_000_000_000 {
-        Some(number as u64)
-    } else {
-        None
-    }
-}
-
 fn milliwatts_in(item: &Value) -> Option<u64>
     ensures { result ≡ milliwatts_in (view item.now) }
 {
     match item.as_integer() {
-        Some(number) => milliwatts(number),
+        Some(number) => whole_value(0, 1_000_000_000, number),
         None => None,
     }
 }
@@ -65,9 +57,8 @@ pub fn powers_in(items: &[Value]) -> Option<Powers>
     }
 }
 
-#[tactic(auto, unfolding(crate::specs::Power::powers_kinds))]
 pub fn powers_fault(items: &[Value]) -> Option<Kind>
-    ensures { result ≡ first (powers_kinds (map view items.now)) }
+    ensures { result ≡ first (kind_if (is_none (powers_in (map view items.now))) BadValue) }
 {
     match powers_in(items) {
         Some(_) => None,

@@ -1,11 +1,12 @@
 //! Profiles: when the speed of a host, the bandwidth of a link or the state of one of them changes, and what it is from
 //! then on.
-ghost use Rattle.std.specs.Prelude.{◌≡◌, is_some, map};
+ghost use Rattle.std.specs.Prelude.{◌≡◌, codes, is_some, map};
 ghost use Rattle.std.specs.List.{list_all};
 ghost use Rattle.sg_tree.specs.Along.{first};
-ghost use Rattle.sg_rules.specs.Profiles.{amount_in, are_rising, dates_kinds, each_date_kinds, is_of_host, items_at, quantity_of, state_in, states_kinds, values_kinds};
+ghost use Rattle.sg_rules.specs.Profiles.{amount_in, are_rising, dates_kinds, each_date_kinds, items_at, quantity_of, state_in};
 ghost use Rattle.sg_tables.specs.declared.units.Quantity.TheVariants.{Time};
 ghost use Rattle.sg_toml.specs.View.{view};
+ghost use Rattle.toml.specs.Data.{get};
 
 use crate::arguments::text_of;
 use sg_tables::Quantity;
@@ -14,7 +15,7 @@ use sg_tree::Kind;
 
 /// Whether the row of a profile names a host.
 pub fn is_of_host(row: &Value) -> bool
-    ensures { result ≡ is_of_host (view row.now) }
+    ensures { result ≡ is_some (get (codes "host") (view row.now)) }
 {
     row.get("host").is_some()
 }
@@ -130,14 +131,19 @@ fn each_date_fault(row: &Value, items: &[Value], fit: bool) -> Option<Kind>
 
 /// What is wrong with the values of a profile.
 pub fn values_fault(row: &Value, items: &[Value]) -> Option<Kind>
-    ensures { result ≡ first (values_kinds (view row.now) (map view items.now)) }
+    ensures { result
+        ≡ first (each_date_kinds (view row.now) (map view items.now)
+        (list_all (λ item. is_some (amount_in (quantity_of (view row.now)) item))
+        (map view items.now))) }
 {
     each_date_fault(row, items, are_amounts(quantity_of(row), items))
 }
 
 /// What is wrong with the states of a profile.
 pub fn states_fault(row: &Value, items: &[Value]) -> Option<Kind>
-    ensures { result ≡ first (states_kinds (view row.now) (map view items.now)) }
+    ensures { result
+        ≡ first (each_date_kinds (view row.now) (map view items.now)
+        (list_all (λ item. is_some (state_in item)) (map view items.now))) }
 {
     each_date_fault(row, items, are_states(items))
 }

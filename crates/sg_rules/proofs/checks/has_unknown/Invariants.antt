@@ -1,12 +1,10 @@
-use Rattle.std.proofs.Common.{◌≡◌, drop, map}
+use Rattle.std.proofs.Common.{◌≡◌, drop, is_none, map}
 use Rattle.std.specs.HashMap.{get_by_text}
 use Rattle.std.specs.List.{list_any}
-use Rattle.sg_rules.specs.Rules.{is_unknown}
-use Rattle.toml.specs.Data.{as_str}
+use Rattle.sg_rules.specs.Arguments.{text_of}
 use Rattle.sg_toml.specs.View.{view}
 use Rattle.sg_rules.proofs.checks.has_unknown.Given as goal
 
 abbrev pub invariant-loop-item : goal.invariant-loop-item
 invariant-loop-item l =
-    list_any (λ d. is_unknown (λ name. get_by_text l.links name) (as_str d)) (map view (drop l.item-index l.items))
-    ≡ list_any (λ d. is_unknown (λ name. get_by_text l.links name) (as_str d)) (map view l.items)
+    list_any (λ d. is_none (get_by_text l.links (text_of d))) (map view (drop l.item-index l.items)) ≡ list_any (λ d. is_none (get_by_text l.links (text_of d))) (map view l.items)

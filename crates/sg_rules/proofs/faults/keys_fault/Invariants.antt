@@ -2,7 +2,7 @@ use Rattle.std.proofs.Common.{◌≡◌, drop}
 use Rattle.sg_toml.specs.View.{view}
 use Rattle.sg_names.specs.kept.NamesView.{names_view}
 use Rattle.sg_tree.specs.Along.{first, along}
-use Rattle.sg_rules.specs.Faults.{key_faults}
+use Rattle.sg_rules.proofs.FaultParts.{key_faults}
 use Rattle.sg_rules.proofs.faults.keys_fault.Given as goal
 
 abbrev pub invariant-loop-i : goal.invariant-loop-i

@@ -2,7 +2,7 @@ use Rattle.std.proofs.Common.{◌≡◌, drop}
 use Rattle.sg_toml.specs.View.{view}
 use Rattle.sg_names.specs.kept.NamesView.{names_view}
 use Rattle.sg_tree.specs.Along.{first, along}
-use Rattle.sg_rules.specs.Faults.{row_faults_at}
+use Rattle.sg_rules.proofs.FaultParts.{row_faults_at}
 use Rattle.sg_rules.proofs.faults.rows_fault.Given as goal
 
 abbrev pub invariant-loop-i : goal.invariant-loop-i
