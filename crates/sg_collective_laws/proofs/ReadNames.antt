@@ -20,17 +20,18 @@ use Rattle.sg_rows.specs.declared.rows.ActorRow.{ActorRow}
 use Rattle.sg_rows.specs.declared.rows.Function.{Function}
 use Rattle.sg_rows.specs.declared.rows.Function.TheVariants.{Replay, Worker, Master, Churn}
 use Rattle.sg_rules.proofs.Kept.{KeysKept, not_false, required_text, unbroken}
-use Rattle.sg_rules.specs.Faults.{faults_of, key_faults, row_faults, row_faults_at, rows_before, table_faults}
-use Rattle.sg_names.specs.Names.{Known, deployment_known}
+use Rattle.sg_rules.proofs.FaultParts.{key_faults, row_faults_at}
+use Rattle.sg_rules.specs.Faults.{faults_of, row_faults, rows_before, table_faults}
+use Rattle.sg_names.specs.Names.{Known, known_by}
 use Rattle.sg_rules.specs.Rules.{id_kinds, is_taken, key_kinds}
-use Rattle.sg_tables.specs.Tables.{deployment_tables, keys_of, table_number}
+use Rattle.sg_tables.specs.Tables.{deployment_tables, keys_of}
 use Rattle.sg_tables.specs.declared.tables.Key.{Key}
 use Rattle.sg_tables.specs.declared.tables.TextRule.TheVariants as text_rule
 use Rattle.sg_tables.specs.declared.tables.Table.TheVariants.{Actor}
 use Rattle.sg_tables.specs.declared.tables.Word.TheVariants as word
 use Rattle.sg_tree.proofs.Kept.{empty_at, empty_left, empty_right, none_empty}
 use Rattle.sg_tree.specs.Along.{along, first}
-use Rattle.sg_tree.specs.Names.{names_from, texts_at, with_number}
+use Rattle.sg_tree.specs.Names.{numbered, texts_at, with_number}
 use Rattle.sg_tree.specs.Spelling.{is_name}
 use Rattle.sg_tree.specs.Tree.{rows_at, text_at, tree_of}
 use Rattle.sg_tree.specs.declared.fault.Fault.{Fault}
@@ -65,7 +66,7 @@ mapped_at f (x ∷ xs) (suc place) y at =
 
 -- ---- the numbers of texts
 abbrev texts_from : List ℕ → ℕ → List Data → List (List ℕ × ℕ)
-texts_from key from rows = along (λ i row. with_number (0 + i) (texts_at key row)) from rows
+texts_from key from rows = numbered (texts_at key) from rows
 
 -- a text that a row has stands under a number that is no greater than the row's
 record StandsBy (text key : List ℕ) (from place : ℕ) (rows : List Data) : Type 0 where
@@ -77,20 +78,20 @@ stands_behind : (key text : List ℕ) (from place : ℕ) (row : Data) (rows : Li
     StandsBy text key from (suc place) (row ∷ rows)
 stands_behind key text from place row rows None e behind = record {
   number = behind.number;
-  is = ap (λ (o : Option (List ℕ)). lookup (bytes_eq text) (with_number (0 + from) (option_to_list o) ++ texts_from key (from + 1) rows)) e ∙ behind.is;
+  is = ap (λ (o : Option (List ℕ)). lookup (bytes_eq text) (with_number from (option_to_list o) ++ texts_from key (from + 1) rows)) e ∙ behind.is;
   early = omega (arith, behind.early);
 }
 stands_behind key text from place row rows (Some other) e behind = elim (cases_Bool (bytes_eq text other)) [
   | inl is ↦ record {
-    number = 0 + from;
-    is = ap (λ (o : Option (List ℕ)). lookup (bytes_eq text) (with_number (0 + from) (option_to_list o) ++ texts_from key (from + 1) rows)) e
-        ∙ ap (λ (b : Bool). cond b (Some (0 + from)) (lookup (bytes_eq text) (texts_from key (from + 1) rows))) is;
+    number = from;
+    is = ap (λ (o : Option (List ℕ)). lookup (bytes_eq text) (with_number from (option_to_list o) ++ texts_from key (from + 1) rows)) e
+        ∙ ap (λ (b : Bool). cond b (Some from) (lookup (bytes_eq text) (texts_from key (from + 1) rows))) is;
     early = omega arith;
   }
   | inr isnt ↦ record {
     number = behind.number;
-    is = ap (λ (o : Option (List ℕ)). lookup (bytes_eq text) (with_number (0 + from) (option_to_list o) ++ texts_from key (from + 1) rows)) e
-        ∙ ap (λ (b : Bool). cond b (Some (0 + from)) (lookup (bytes_eq text) (texts_from key (from + 1) rows))) isnt ∙ behind.is;
+    is = ap (λ (o : Option (List ℕ)). lookup (bytes_eq text) (with_number from (option_to_list o) ++ texts_from key (from + 1) rows)) e
+        ∙ ap (λ (b : Bool). cond b (Some from) (lookup (bytes_eq text) (texts_from key (from + 1) rows))) isnt ∙ behind.is;
     early = omega (arith, behind.early);
   }
 ]
@@ -100,9 +101,9 @@ stands_by key text from [] place row at there = absurd (cc at)
 stands_by key text from (other ∷ rows) zero row at there =
     let same : text_at key other ≡ Some text = ap (text_at key) (same_Some other row at) ∙ there in
     record {
-      number = 0 + from;
-      is = ap (λ (o : Option (List ℕ)). lookup (bytes_eq text) (with_number (0 + from) (option_to_list o) ++ texts_from key (from + 1) rows)) same
-          ∙ ap (λ (b : Bool). cond b (Some (0 + from)) (lookup (bytes_eq text) (texts_from key (from + 1) rows))) ((bytes_eq-Decides text text).1 refl);
+      number = from;
+      is = ap (λ (o : Option (List ℕ)). lookup (bytes_eq text) (with_number from (option_to_list o) ++ texts_from key (from + 1) rows)) same
+          ∙ ap (λ (b : Bool). cond b (Some from) (lookup (bytes_eq text) (texts_from key (from + 1) rows))) ((bytes_eq-Decides text text).1 refl);
       early = omega arith;
     }
 stands_by key text from (other ∷ rows) (suc place) row at there =
@@ -135,7 +136,7 @@ row_named names number row kept =
     }
 
 module _ (names : Known) (tree : Members) (none : first (faults_of names deployment_tables tree) ≡ None) where
-  actors_free : table_faults names tree Actor ≡ []
+  actors_free : table_faults names tree 1 Actor ≡ []
   unfolding faults_of
   actors_free = empty_left _ _ (empty_right _ _ (none_empty _ none))
 
@@ -143,10 +144,10 @@ module _ (names : Known) (tree : Members) (none : first (faults_of names deploym
   unfolding table_faults row_faults
   data_named place row at =
       let number : 0 + (0 + place) ≡ place = omega arith in
-      let free : row_faults_at names (keys_of Actor) (rows_before names Actor) (table_number Actor) (0 + place) row ≡ [] =
-      item_empty (row_faults_at names (keys_of Actor) (rows_before names Actor) (table_number Actor)) 0 (rows_at (codes "actor") tree) place row (empty_right _ _ actors_free) at in
+      let free : row_faults_at names (keys_of Actor) (rows_before names Actor) 1 (0 + place) row ≡ [] =
+      item_empty (row_faults_at names (keys_of Actor) (rows_before names Actor) 1) 0 (rows_at (codes "actor") tree) place row (empty_right _ _ actors_free) at in
       subst (λ (n : ℕ). HasOwnName names n row) number
-      (row_named names (0 + (0 + place)) row (keys_free names (0 + (0 + place)) (table_number Actor) (0 + place + 1) row 0 (keys_of Actor) (empty_right _ _ free)))
+      (row_named names (0 + (0 + place)) row (keys_free names (0 + (0 + place)) 1 (0 + place + 1) row 0 (keys_of Actor) (empty_right _ _ free)))
 
   -- a row of the deployment, with the row of the tree that it was made from
   record IsRow (place : ℕ) (row : ActorRow) : Type 0 where
@@ -174,7 +175,7 @@ module _ (names : Known) (tree : Members) (none : first (faults_of names deploym
 
   -- names stand under the numbers of the rows that have them first
   AreNumbered : Type 0
-  AreNumbered = (text : List ℕ) → names.actors text ≡ lookup (bytes_eq text) (names_from (codes "name") 0 (rows_at (codes "actor") tree))
+  AreNumbered = (text : List ℕ) → names.actors text ≡ lookup (bytes_eq text) (numbered (texts_at (codes "name")) 0 (rows_at (codes "actor") tree))
 
   apart : AreNumbered → (place : ℕ) (row : ActorRow) → slice_get (rows_of names tree).actors place ≡ Some row → (earlier : ℕ) (other : ActorRow) → earlier < place →
       slice_get (rows_of names tree).actors earlier ≡ Some other → other.name ≡ row.name → ⊥
@@ -251,7 +252,7 @@ member_named deployed apart member is =
     ap (replay_actor_named deployed) name ∙ ap (option_map (λ row. record { 0 = row + 1 })) found ∙ (λ i. Some (record { 0 = number i }))
 
 -- ---- texts
-tree_named : (names : Known) (tree : Members) → ((text : List ℕ) → names.actors text ≡ lookup (bytes_eq text) (names_from (codes "name") 0 (rows_at (codes "actor") tree))) →
+tree_named : (names : Known) (tree : Members) → ((text : List ℕ) → names.actors text ≡ lookup (bytes_eq text) (numbered (texts_at (codes "name")) 0 (rows_at (codes "actor") tree))) →
     first (faults_of names deployment_tables tree) ≡ None → HasNames (rows_of names tree)
 unfolding members_among AreNumbered
 tree_named names tree numbered none = record {
@@ -261,8 +262,8 @@ tree_named names tree numbered none = record {
 }
 
 numbered_on : (platform : Platform) (tree : Members) (text : List ℕ) →
-    (names_on platform tree).actors text ≡ lookup (bytes_eq text) (names_from (codes "name") 0 (rows_at (codes "actor") tree))
-unfolding deployment_known
+    (names_on platform tree).actors text ≡ lookup (bytes_eq text) (numbered (texts_at (codes "name")) 0 (rows_at (codes "actor") tree))
+unfolding known_by
 numbered_on platform tree text = refl
 
 abbrev Has : Result Deployed (Option Fault) → Type 0

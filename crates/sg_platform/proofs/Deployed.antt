@@ -11,7 +11,7 @@ use Rattle.sg_platform.specs.DeploymentOf.{rows_of}
 use Rattle.sg_rows.specs.Platform.{Platform}
 use Rattle.sg_rules.proofs.Kept.{rows_few, rows_kept}
 use Rattle.sg_rules.specs.Faults.{faults_of, table_faults}
-use Rattle.sg_names.specs.Names.{Known, deployment_known}
+use Rattle.sg_names.specs.Names.{Known, known_by}
 use Rattle.sg_tables.specs.Tables.{deployment_tables}
 use Rattle.sg_tables.specs.declared.tables.Table.TheVariants.{Actor, Mutex, Semaphore}
 use Rattle.sg_tree.proofs.Kept.{empty_left, empty_right, none_empty}
@@ -22,9 +22,9 @@ use Rattle.toml.specs.Data.{Members}
 
 -- no table has a fault
 record NoFaults (names : Known) (tree : Members) : Type 0 where
-  pub actors : table_faults names tree Actor ≡ []
-  pub mutexes : table_faults names tree Mutex ≡ []
-  pub semaphores : table_faults names tree Semaphore ≡ []
+  pub actors : table_faults names tree 1 Actor ≡ []
+  pub mutexes : table_faults names tree 2 Mutex ≡ []
+  pub semaphores : table_faults names tree 3 Semaphore ≡ []
 
 no_faults : (names : Known) (tree : Members) → first (faults_of names deployment_tables tree) ≡ None → NoFaults names tree
 unfolding faults_of
@@ -38,9 +38,9 @@ no_faults names tree none =
       semaphores = empty_left _ _ semaphores;
     }
 
-pub known_hosts : (hosts : ℕ) (points : Finds) (tree : Members) → (deployment_known hosts points tree).hosts ≡ hosts
-unfolding deployment_known
-known_hosts hosts points tree = refl
+pub known_hosts : (zones hosts : ℕ) (points : Finds) (tree : Members) → (known_by zones hosts points tree).hosts ≡ hosts
+unfolding known_by
+known_hosts zones hosts points tree = refl
 
 pub deployment_without_faults : (names : Known) (tree : Members) → FindsWorkers names (rows_at (codes "actor") tree) → first (faults_of names deployment_tables tree) ≡ None → IsDeployment (rows_of names tree)
 unfolding rows_of
@@ -52,14 +52,14 @@ deployment_without_faults names tree finds none =
     let extent : Extent =
     record { actors = length (map (actor_row names) actors); mutexes = length (map mutex_row mutexes); semaphores = length (map semaphore_row semaphores) } in
     record {
-      few_actors = omega (arith, length-map actors (actor_row names), rows_few names tree Actor kept.actors);
-      few_mutexes = omega (arith, length-map mutexes mutex_row, rows_few names tree Mutex kept.mutexes);
-      few_semaphores = omega (arith, length-map semaphores semaphore_row, rows_few names tree Semaphore kept.semaphores);
-      actors = All-map IsActorRow (actor_row names) actors (rows_kept names tree Actor (λ row. IsActorRow (actor_row names row)) (λ number row fine. (actor_kept names number row fine).row) kept.actors);
+      few_actors = omega (arith, length-map actors (actor_row names), rows_few names tree _ Actor kept.actors);
+      few_mutexes = omega (arith, length-map mutexes mutex_row, rows_few names tree _ Mutex kept.mutexes);
+      few_semaphores = omega (arith, length-map semaphores semaphore_row, rows_few names tree _ Semaphore kept.semaphores);
+      actors = All-map IsActorRow (actor_row names) actors (rows_kept names tree _ Actor (λ row. IsActorRow (actor_row names row)) (λ number row fine. (actor_kept names number row fine).row) kept.actors);
       functions = All-map (λ actor. IsFunction extent actor.function) (actor_row names) actors
-          (rows_kept names tree Actor (λ row. IsFunction extent (actor_row names row).function) (λ number row fine. actor_function_kept names actors extent finds (length-map actors (actor_row names)) (rows_few names tree Actor kept.actors) number row fine) kept.actors);
-      mutexes = All-map (λ mutex. length mutex.id ≤ 64) mutex_row mutexes (rows_kept names tree Mutex (λ row. length (mutex_row row).id ≤ 64) (λ number row fine. mutex_kept names number row fine) kept.mutexes);
-      semaphores = All-map IsSemaphoreRow semaphore_row semaphores (rows_kept names tree Semaphore (λ row. IsSemaphoreRow (semaphore_row row)) (λ number row fine. semaphore_kept names number row fine) kept.semaphores);
+          (rows_kept names tree _ Actor (λ row. IsFunction extent (actor_row names row).function) (λ number row fine. actor_function_kept names actors extent finds (length-map actors (actor_row names)) (rows_few names tree _ Actor kept.actors) number row fine) kept.actors);
+      mutexes = All-map (λ mutex. length mutex.id ≤ 64) mutex_row mutexes (rows_kept names tree _ Mutex (λ row. length (mutex_row row).id ≤ 64) (λ number row fine. mutex_kept names number row fine) kept.mutexes);
+      semaphores = All-map IsSemaphoreRow semaphore_row semaphores (rows_kept names tree _ Semaphore (λ row. IsSemaphoreRow (semaphore_row row)) (λ number row fine. semaphore_kept names number row fine) kept.semaphores);
     }
 
 pub deployed_without_faults : (names : Known) (tree : Members) (platform : Platform) → names.hosts ≡ length platform.hosts → first (faults_of names deployment_tables tree) ≡ None → IsDeployedOn platform (rows_of names tree)
@@ -68,4 +68,4 @@ deployed_without_faults names tree platform same none =
     let kept = no_faults names tree none in
     let actors = rows_at (codes "actor") tree in
     All-map (λ actor. actor.host.0 < length platform.hosts) (actor_row names) actors
-    (rows_kept names tree Actor (λ row. (actor_row names row).host.0 < length platform.hosts) (λ number row fine. subst (λ n. (actor_row names row).host.0 < n) same (actor_kept names number row fine).host) kept.actors)
+    (rows_kept names tree _ Actor (λ row. (actor_row names row).host.0 < length platform.hosts) (λ number row fine. subst (λ n. (actor_row names row).host.0 < n) same (actor_kept names number row fine).host) kept.actors)

@@ -4,41 +4,41 @@ use Rattle.std.proofs.lemmas.Bool.{cases_Bool}
 use Rattle.std.proofs.lemmas.List.{length-map}
 use Rattle.std.proofs.lemmas.List.Elements.{All-cons, All-nil}
 use Rattle.std.specs.List.{All, list_all}
-use Rattle.std.specs.Map.{lookup}
-use Rattle.std.specs.Str.{bytes_eq}
 use Rattle.sg_base.specs.Limits.{Extent, IsActorIn}
 use Rattle.sg_platform.proofs.LinkLists.{and_left, and_right}
 use Rattle.sg_platform.specs.Build.{actor_row}
 use Rattle.sg_rows.specs.Deployment.{IsFunction}
-use Rattle.sg_platform.specs.Functions.{amount_of, arguments_at, function_of, master_of, worker_id}
+use Rattle.sg_platform.specs.Functions.{amount_or_zero, function_of, master_of, worker_id}
 use Rattle.sg_rows.specs.declared.rows.Function.TheVariants.{Replay, Worker}
-use Rattle.sg_tables.proofs.Greatest.{amount_within}
+use Rattle.sg_tables.proofs.Greatest.{quantity_within}
+use Rattle.sg_rules.specs.Profiles.{items_at}
 use Rattle.sg_rules.proofs.Kept.{KeysKept}
 use Rattle.sg_rules.proofs.KeptArguments.{HasWorkers, IsNumbered, arguments_fit, master_fits, tasks_within, workers_fit, workers_numbered}
-use Rattle.sg_names.specs.Workers.{has_function, worker_numbers}
+use Rattle.sg_names.specs.Workers.{has_function, worker_names}
 use Rattle.sg_rules.specs.Arguments.{are_for_master, are_workers, text_of}
 use Rattle.sg_names.specs.Names.{Known}
 use Rattle.sg_rules.specs.Rules.{key_kinds}
 use Rattle.sg_tables.specs.Tables.{key, keys_of}
-use Rattle.sg_tables.specs.Units.{amount_value}
+use Rattle.sg_tables.specs.Units.{quantity_value}
+use Rattle.sg_tables.specs.declared.units.Quantity.TheVariants.{Amount}
 use Rattle.sg_tables.specs.declared.tables.Need.TheVariants.{Optional}
 use Rattle.sg_tables.specs.declared.tables.Rule.TheVariants.{Texts}
 use Rattle.sg_tables.specs.declared.tables.TextsRule.TheVariants.{ArgumentList}
 use Rattle.sg_tables.specs.declared.tables.Word.TheVariants.{Argument}
 use Rattle.sg_tables.specs.declared.tables.Table.TheVariants.{Actor}
-use Rattle.sg_tree.specs.Names.{Finds}
+use Rattle.sg_tree.specs.Names.{Finds, found_in, numbered}
 use Rattle.toml.specs.Data.{Data}
 
 -- workers are found by their identifiers
 abbrev pub FindsWorkers : Known → List Data → Type 0
-FindsWorkers names rows = (names.workers) ≡ (λ q. lookup (bytes_eq q) (worker_numbers rows))
+FindsWorkers names rows = names.workers ≡ found_in (numbered worker_names 1 rows)
 
 value_bound : (o : Option ℕ) (greatest : ℕ) → ((n : ℕ) → o ≡ Some n → n ≤ greatest) → unwrap_or o 0 ≤ greatest
 value_bound None greatest within = omega arith
 value_bound (Some n) greatest within = within n refl
 
-amount_bound : (d : Data) → amount_of d ≤ 1000000000000000
-amount_bound d = value_bound (amount_value (text_of d)) 1000000000000000 (λ n same. amount_within (text_of d) n same)
+amount_bound : (d : Data) → amount_or_zero Amount d ≤ 1000000000000000
+amount_bound d = value_bound (quantity_value Amount (text_of d)) 1000000000000000 (λ n same. quantity_within Amount (text_of d) n same)
 
 found_id : (extent : Extent) (found : Option ℕ) → is_some found ≡ true → IsNumbered extent.actors found → IsActorIn extent (record { 0 = unwrap_or found 1 })
 found_id extent None there numbered = cc
@@ -61,10 +61,10 @@ master_kept names rows extent finds same few (tasks ∷ (flops ∷ (bytes ∷ it
     let workers : HasWorkers names.workers rows (map text_of items) = subst (λ (f : Finds). are_workers f (map text_of items) ≡ true → HasWorkers f rows (map text_of items)) (sym finds) (workers_fit rows (map text_of items)) (and_right _ _ fits) in
     let numbered : (q : List ℕ) → IsNumbered extent.actors (names.workers q)
     = subst (λ (f : Finds). (q : List ℕ) → IsNumbered extent.actors (f q)) (sym finds)
-    (λ q. subst (λ n. IsNumbered n (lookup (bytes_eq q) (worker_numbers rows))) (sym same) (workers_numbered rows q)) in
+    (λ q. subst (λ n. IsNumbered n (found_in (numbered worker_names 1 rows) q)) (sym same) (workers_numbered rows q)) in
     let texts = length-map items text_of in
     let ids = length-map items (worker_id names) in (
-      tasks_within (amount_value (text_of tasks)) (and_left _ _ (and_left _ _ (and_left _ _ fits))),
+      tasks_within (quantity_value Amount (text_of tasks)) (and_left _ _ (and_left _ _ (and_left _ _ fits))),
       amount_bound flops,
       amount_bound bytes,
       omega (arith, ids, texts, workers.some),
@@ -77,7 +77,7 @@ pub function_kept : (names : Known) (rows : List Data) (extent : Extent) → Fin
 unfolding function_of
 function_kept names rows extent finds same few number row kept =
     elim (cases_Bool (has_function (codes "master") row)) [
-      | inl master ↦ rw master (master_kept names rows extent finds same few (arguments_at row) (master_fits names.workers row (arguments_at row) (arguments_fit names number row kept) master))
+      | inl master ↦ rw master (master_kept names rows extent finds same few (items_at (codes "argument") row) (master_fits names.workers row (items_at (codes "argument") row) (arguments_fit names number row kept) master))
       | inr other ↦ rw other (others (has_function (codes "worker") row))
     ]
   where

@@ -1,25 +1,27 @@
 -- What holds of the rows of profiles that break no rule.
-use Rattle.std.proofs.Common.{◌≡◌, ℕ, zero, suc, ◌+◌, ◌<◌, ◌≤◌, ◌==◌, Bool, true, false, ◌&&◌, nat_lt, List, [], ◌∷◌, map, length, get_or, Option, Some, None, IfSome, option_and_then, unwrap_or, codes, refl, sym, subst, ◌∙◌, inl, inr, arith}
+use Rattle.std.proofs.Common.{◌≡◌, ℕ, zero, suc, ◌+◌, ◌<◌, ◌≤◌, ◌==◌, Bool, true, false, ◌&&◌, nat_lt, is_some, List, [], ◌∷◌, ◌++◌, map, length, get_or, Option, Some, None, IfSome, option_and_then, unwrap_or, codes, refl, sym, subst, ◌∙◌, inl, inr, arith}
 use Rattle.std.proofs.lemmas.Bool.{cases_Bool}
 use Rattle.std.proofs.lemmas.Bool.Decides.{nat_tests}
 use Rattle.std.proofs.lemmas.List.{length-map}
 use Rattle.std.proofs.lemmas.List.Elements.{All-map}
 use Rattle.std.specs.List.{All}
+use Rattle.std.specs.Option.{option_map_or}
 use Rattle.std.specs.Prelude.{slice_index}
 use Rattle.std.specs.List.Sorted.{IsStrictlyIncreasing}
 use Rattle.sg_platform.proofs.KeptRows.{IsCounted, point_under}
 use Rattle.sg_platform.proofs.LinkLists.{and_left, and_right}
-use Rattle.sg_platform.specs.Build.{amounts_at, link_id, profile_row, state_profile_row, states_at, subject_by}
+use Rattle.sg_platform.specs.Build.{amounts_at, link_id, point_id, profile_row, state_profile_row, states_at}
+use Rattle.sg_platform.specs.Functions.{amount_or_zero}
 use Rattle.sg_rows.specs.Platform.{Counts, HasDates, IsProfileRow, IsProfiled, IsStateProfileRow}
 use Rattle.sg_rows.specs.declared.rows.Profiled.{Profiled}
-use Rattle.sg_tables.proofs.Greatest.{bandwidth_within, speed_within, time_within}
+use Rattle.sg_rows.specs.declared.rows.Profiled.TheVariants.{Host as OfHost, Link as OfLink}
+use Rattle.sg_tables.proofs.Greatest.{greatest, quantity_within}
 use Rattle.sg_rules.proofs.Kept.{KeysKept, host_there, not_false, optional_text, positive_there, required_at, required_items, some_there, unbroken}
 use Rattle.sg_names.specs.Names.{Known}
-use Rattle.sg_names.specs.Subjects.{Subjects}
-use Rattle.sg_rules.specs.Profiles.{amount_in, are_rising, dates_kinds, each_date_kinds, is_later, is_of_host, items_at, quantity_of, state_in}
-use Rattle.sg_rules.specs.Rules.{host_kinds, key_kinds, kinds_at, profiled_host_kinds, profiled_link_kinds, text_kinds}
+use Rattle.sg_rules.specs.Profiles.{amount_in, are_rising, dates_kinds, each_date_kinds, items_at, quantity_of, state_in}
+use Rattle.sg_rules.specs.Rules.{host_kinds, is_taken, key_kinds, kinds_at, profiled_link_kinds, text_kinds}
 use Rattle.sg_tables.specs.Tables.{key, keys_of}
-use Rattle.sg_tables.specs.Units.{quantity_value, time_value}
+use Rattle.sg_tables.specs.Units.{quantity_value}
 use Rattle.sg_tables.specs.declared.tables.Need.TheVariants.{Optional, Required, Unless}
 use Rattle.sg_tables.specs.declared.tables.Rule.TheVariants as rule
 use Rattle.sg_tables.specs.declared.tables.TextRule.{TextRule}
@@ -30,11 +32,14 @@ use Rattle.sg_tables.specs.declared.tables.Word.TheVariants as word
 use Rattle.sg_tables.specs.declared.units.Quantity.{Quantity}
 use Rattle.sg_tables.specs.declared.units.Quantity.TheVariants.{Time, Speed, Bandwidth}
 use Rattle.sg_tree.proofs.Kept.{empty_left, empty_right}
-use Rattle.sg_tree.specs.Tree.{text_at}
+use Rattle.sg_tree.specs.Faults.{kind_if}
+use Rattle.sg_tree.specs.Names.{Finds}
+use Rattle.sg_tree.specs.Tree.{text_at, text_or_empty}
+use Rattle.sg_tree.specs.declared.fault.Kind.TheVariants.{Duplicate}
 use Rattle.toml.specs.Data.{Data, as_str, get}
 
 -- ---- of what it is
-link_below : (names : Known) (counts : Counts) (earlier : Subjects) → IsCounted names counts → (number : ℕ) (row : Data) (name : List ℕ) → profiled_link_kinds names earlier number row name ≡ []
+link_below : (names : Known) (counts : Counts) (earlier : Finds) → IsCounted names counts → (number : ℕ) (row : Data) (name : List ℕ) → profiled_link_kinds names earlier number row name ≡ []
     → (link_id names name).0 + 1 < counts.links
 unfolding profiled_link_kinds
 link_below names counts earlier counted number row name empty =
@@ -42,45 +47,41 @@ link_below names counts earlier counted number row name empty =
     let below = rw there.1 at (counted.declared name) in
     rw there.1 below
 
-of_host : (names : Known) (earlier : Subjects) (number : ℕ) (name : List ℕ) → profiled_host_kinds names earlier number name ≡ [] → host_kinds names name ≡ []
-unfolding profiled_host_kinds
-of_host names earlier number name empty = empty_right _ _ empty
+-- the host or link that a row names
+abbrev subject_by : Known → Data → Option (List ℕ) → Profiled
+subject_by names row host = option_map_or (λ name. OfHost (point_id names name)) host (OfLink (link_id names (text_or_empty (codes "link") row)))
 
-host_below : (names : Known) (counts : Counts) (earlier : Subjects) → IsCounted names counts → (number : ℕ) (row : Data) (name : List ℕ) → profiled_host_kinds names earlier number name ≡ []
-    → IsProfiled counts (subject_by names row (Some name))
-host_below names counts earlier counted number row name empty =
-    let there = host_there names name (of_host names earlier number name empty) in
+host_below : (names : Known) (counts : Counts) → IsCounted names counts → (row : Data) (name : List ℕ) → host_kinds names name ≡ [] → IsProfiled counts (subject_by names row (Some name))
+host_below names counts counted row name empty =
+    let there = host_there names name empty in
     let below = point_under names.zones names.hosts there.0 there.2 there.3 in
     rw there.1 (omega (arith, below, counted.hosts))
 
--- These rules are those of what a profile is of, where these are the subjects of its table.
-record AreOfSubjects (names : Known) (number : ℕ) (row : Data) (earlier : Subjects) (host link : TextRule) : Type 0 where
-  hosts : (name : List ℕ) → text_kinds names number row host name ≡ profiled_host_kinds names earlier number name
-  links : (name : List ℕ) → text_kinds names number row link name ≡ profiled_link_kinds names earlier number row name
+-- These rules are those of what a profile is of, where its table has these hosts and links.
+record AreOfSubjects (names : Known) (number : ℕ) (row : Data) (earlier_hosts earlier_links : Finds) (host link : TextRule) : Type 0 where
+  hosts : (name : List ℕ) → text_kinds names number row host name ≡ kind_if (is_taken (earlier_hosts name) number) Duplicate ++ host_kinds names name
+  links : (name : List ℕ) → text_kinds names number row link name ≡ profiled_link_kinds names earlier_links number row name
 
-profiled_kept : (names : Known) (counts : Counts) → IsCounted names counts → (number : ℕ) (row : Data) (earlier : Subjects) (hosts links : TextRule) → AreOfSubjects names number row earlier hosts links
+profiled_kept : (names : Known) (counts : Counts) → IsCounted names counts → (number : ℕ) (row : Data) (earlier earlier_links : Finds) (hosts links : TextRule) → AreOfSubjects names number row earlier earlier_links hosts links
     → (host link : Option Data) → get (codes "link") row ≡ link
     → kinds_at names number row (key word.Host (Unless word.Link) (rule.Text hosts)) host ≡ [] → kinds_at names number row (key word.Link Optional (rule.Text links)) link ≡ []
     → IsProfiled counts (subject_by names row (option_and_then as_str host))
-profiled_kept names counts counted number row earlier hosts links rules (Some d) link link_is host_kept link_kept =
+profiled_kept names counts counted number row earlier earlier_links hosts links rules (Some d) link link_is host_kept link_kept =
     let host = required_at names number row word.Host hosts (Some d) host_kept in
-    rw host.1 (host_below names counts earlier counted number row host.0 (sym (rules.hosts host.0) ∙ host.2))
-profiled_kept names counts counted number row earlier hosts links rules None None link_is host_kept link_kept = let missing = rw link_is at host_kept in cc
-profiled_kept names counts counted number row earlier hosts links rules None (Some d) link_is host_kept link_kept =
+    rw host.1 (host_below names counts counted row host.0 (empty_right _ _ (sym (rules.hosts host.0) ∙ host.2)))
+profiled_kept names counts counted number row earlier earlier_links hosts links rules None None link_is host_kept link_kept = let missing = rw link_is at host_kept in cc
+profiled_kept names counts counted number row earlier earlier_links hosts links rules None (Some d) link_is host_kept link_kept =
     let link = required_at names number row word.Link links (Some d) link_kept in
-    rw (link_is, link.1) (link_below names counts earlier counted number row link.0 (sym (rules.links link.0) ∙ link.2))
+    rw (link_is, link.1) (link_below names counts earlier_links counted number row link.0 (sym (rules.links link.0) ∙ link.2))
 
-of_kept : (names : Known) (counts : Counts) → IsCounted names counts → (number : ℕ) (row : Data) (earlier : Subjects) (hosts links : TextRule) → AreOfSubjects names number row earlier hosts links
+of_kept : (names : Known) (counts : Counts) → IsCounted names counts → (number : ℕ) (row : Data) (earlier earlier_links : Finds) (hosts links : TextRule) → AreOfSubjects names number row earlier earlier_links hosts links
     → key_kinds names number row (key word.Host (Unless word.Link) (rule.Text hosts)) ≡ [] → key_kinds names number row (key word.Link Optional (rule.Text links)) ≡ []
     → IsProfiled counts (subject_by names row (text_at (codes "host") row))
 unfolding key_kinds
-of_kept names counts counted number row earlier hosts links rules host link = profiled_kept names counts counted number row earlier hosts links rules (get (codes "host") row) (get (codes "link") row) refl host link
+of_kept names counts counted number row earlier earlier_links hosts links rules host link = profiled_kept names counts counted number row earlier earlier_links hosts links rules (get (codes "host") row) (get (codes "link") row) refl host link
 
 -- ---- its dates
-abbrev amount_or_zero : Quantity → Data → ℕ
-amount_or_zero quantity item = unwrap_or (amount_in quantity item) 0
-
-later_less : (a b : Option ℕ) → is_later a b ≡ true → unwrap_or a 0 < unwrap_or b 0
+later_less : (a b : Option ℕ) → option_map_or (λ d. option_map_or (nat_lt d) b false) a false ≡ true → unwrap_or a 0 < unwrap_or b 0
 later_less None b later = cc
 later_less (Some a) None later = cc
 later_less (Some a) (Some b) later = grind (arith, nat_tests)
@@ -101,17 +102,6 @@ some_dates (item ∷ items) rising = omega arith
 few_items : (n : ℕ) → nat_lt 1024 n ≡ false → n ≤ 1024
 few_items n within = grind (arith, nat_tests)
 
--- the greatest amount of each kind
-abbrev greatest : Quantity → ℕ
-greatest Time = 1000000000000000000
-greatest Speed = 1000000000000000
-greatest Bandwidth = 1000000000000000
-
-quantity_within : (quantity : Quantity) (text : List ℕ) (n : ℕ) → quantity_value quantity text ≡ Some n → n ≤ greatest quantity
-quantity_within Time text n same = time_within text n same
-quantity_within Speed text n same = speed_within text n same
-quantity_within Bandwidth text n same = bandwidth_within text n same
-
 found_within : (found : Option ℕ) (most : ℕ) → ((n : ℕ) → found ≡ Some n → n ≤ most) → unwrap_or found 0 ≤ most
 found_within None most within = omega arith
 found_within (Some n) most within = within n refl
@@ -123,7 +113,7 @@ amounts_within quantity items =
 
 rates_within : (row : Data) (items : List Data) → All (λ value. value ≤ 1000000000000000) (map (amount_or_zero (quantity_of row)) items)
 rates_within row items =
-    elim (cases_Bool (is_of_host row)) [
+    elim (cases_Bool (is_some (get (codes "host") row))) [
       | inl host ↦ rw host (amounts_within Speed items)
       | inr other ↦ rw other (amounts_within Bandwidth items)
     ]
@@ -152,14 +142,14 @@ each_kept : (row : Data) (items : List Data) (fit : Bool) → each_date_kinds ro
 unfolding each_date_kinds
 each_kept row items fit empty = same_count _ _ _ (not_false _ (unbroken _ _ (empty_left _ _ empty)))
 
-gap_kept : (o : Option (List ℕ)) → ((text : List ℕ) → o ≡ Some text → (n : ℕ) × (time_value text ≡ Some n) × (1 ≤ n)) → IfSome (option_and_then time_value o) (λ gap. (1 ≤ gap) × (gap ≤ 1000000000000000000))
+gap_kept : (o : Option (List ℕ)) → ((text : List ℕ) → o ≡ Some text → (n : ℕ) × (quantity_value Time text ≡ Some n) × (1 ≤ n)) → IfSome (option_and_then (quantity_value Time) o) (λ gap. (1 ≤ gap) × (gap ≤ 1000000000000000000))
 gap_kept None kept = tt
-gap_kept (Some text) kept = let there = kept text refl in rw there.1 (there.2, time_within text there.0 there.1)
+gap_kept (Some text) kept = let there = kept text refl in rw there.1 (there.2, quantity_within Time text there.0 there.1)
 
 -- What tables of profiles share: a row with so many items, one for each date.
 turns_kept : (names : Known) (counts : Counts) (number : ℕ) (row : Data) (of : Profiled) (count : ℕ) → IsProfiled counts of → count ≡ length (items_at (codes "dates") row)
-    → key_kinds names number row (key word.Dates Required (rule.Texts texts_rule.DateList)) ≡ [] → key_kinds names number row (key word.Loop Optional (rule.Text text_rule.PositiveTimeText)) ≡ []
-    → HasDates counts of (amounts_at Time (codes "dates") row) count (option_and_then time_value (text_at (codes "loop") row))
+    → key_kinds names number row (key word.Dates Required (rule.Texts texts_rule.DateList)) ≡ [] → key_kinds names number row (key word.Loop Optional (rule.Text (text_rule.PositiveValue Time))) ≡ []
+    → HasDates counts of (amounts_at Time (codes "dates") row) count (option_and_then (quantity_value Time) (text_at (codes "loop") row))
 turns_kept names counts number row of count exists each dates_fine loop_fine =
     let items = items_at (codes "dates") row in
     let dates = dates_kept items (required_items names number row word.Dates texts_rule.DateList dates_fine) in
@@ -170,7 +160,7 @@ turns_kept names counts number row of count exists each dates_fine loop_fine =
       each = omega (arith, each, length-map items (amount_or_zero Time));
       rising = dates.rising;
       soon = amounts_within Time items;
-      wide = gap_kept (text_at (codes "loop") row) (λ text there. positive_there (time_value text) (optional_text names number row word.Loop text_rule.PositiveTimeText loop_fine text there));
+      wide = gap_kept (text_at (codes "loop") row) (λ text there. positive_there (quantity_value Time text) (optional_text names number row word.Loop (text_rule.PositiveValue Time) loop_fine text there));
     }
 
 pub profile_kept : (names : Known) (counts : Counts) → IsCounted names counts → (number : ℕ) (row : Data) → KeysKept names number row (keys_of Profile) → IsProfileRow counts (profile_row names row)
@@ -178,8 +168,8 @@ unfolding profile_row
 profile_kept names counts counted number row kept =
     let values = items_at (codes "values") row in
     let of = subject_by names row (text_at (codes "host") row) in
-    let rules : AreOfSubjects names number row names.profiles text_rule.ProfiledHost text_rule.ProfiledLink = record { hosts = λ name. refl; links = λ name. refl } in
-    let exists = of_kept names counts counted number row names.profiles text_rule.ProfiledHost text_rule.ProfiledLink rules kept.0 kept.1.0 in
+    let rules : AreOfSubjects names number row names.profiled_hosts names.profiled_links text_rule.ProfiledHost text_rule.ProfiledLink = record { hosts = λ name. refl; links = λ name. refl } in
+    let exists = of_kept names counts counted number row names.profiled_hosts names.profiled_links text_rule.ProfiledHost text_rule.ProfiledLink rules kept.0 kept.1.0 in
     let each = each_kept row values _ (required_items names number row word.Values texts_rule.ValueList kept.1.1.1.0) in
     record {
       dates = turns_kept names counts number row of (length (amounts_at (quantity_of row) (codes "values") row)) exists (length-map values (amount_or_zero (quantity_of row)) ∙ each) kept.1.1.0 kept.1.1.1.1.0;
@@ -192,7 +182,7 @@ unfolding state_profile_row
 state_profile_kept names counts counted number row kept =
     let states = items_at (codes "states") row in
     let of = subject_by names row (text_at (codes "host") row) in
-    let rules : AreOfSubjects names number row names.state_profiles text_rule.SwitchedHost text_rule.SwitchedLink = record { hosts = λ name. refl; links = λ name. refl } in
-    let exists = of_kept names counts counted number row names.state_profiles text_rule.SwitchedHost text_rule.SwitchedLink rules kept.0 kept.1.0 in
+    let rules : AreOfSubjects names number row names.switched_hosts names.switched_links text_rule.SwitchedHost text_rule.SwitchedLink = record { hosts = λ name. refl; links = λ name. refl } in
+    let exists = of_kept names counts counted number row names.switched_hosts names.switched_links text_rule.SwitchedHost text_rule.SwitchedLink rules kept.0 kept.1.0 in
     let each = each_kept row states _ (required_items names number row word.States texts_rule.StateList kept.1.1.1.0) in
     turns_kept names counts number row of (length (states_at (codes "states") row)) exists (length-map states (λ item. unwrap_or (state_in item) false) ∙ each) kept.1.1.0 kept.1.1.1.1.0

@@ -1,5 +1,5 @@
 -- What holds of a row that breaks no rule.
-use Rattle.std.proofs.Common.{◌≡◌, ℕ, ◌+◌, ◌-◌, ◌<◌, ◌≤◌, ◌&&◌, false, cond, not, nat_le, nat_lt, ℤ, pos, negsuc, List, [], ◌∷◌, length, Option, Some, None, IfSome, option_and_then, option_map, unwrap_or, codes, refl, inl, inr, arith}
+use Rattle.std.proofs.Common.{◌≡◌, ℕ, ◌+◌, ◌-◌, ◌<◌, ◌≤◌, false, cond, is_none, not, nat_lt, ℤ, List, [], ◌∷◌, length, Option, Some, None, IfSome, option_and_then, option_map, unwrap_or, codes, refl, inl, inr, arith}
 use Rattle.std.specs.List.{All}
 use Rattle.std.specs.Option.{option_map_or}
 use Rattle.std.proofs.lemmas.Bool.{cases_Bool}
@@ -7,31 +7,33 @@ use Rattle.std.proofs.lemmas.Bool.Decides.{nat_tests}
 use Rattle.sg_base.specs.declared.ids.Child.TheVariants.{Point as PointChild, Zone as ZoneChild}
 use Rattle.sg_rows.proofs.EndsBelow.{way_back_kept}
 use Rattle.sg_rows.proofs.Networks.{plain_kept}
-use Rattle.sg_platform.proofs.KeptPower.{power_kept}
+use Rattle.sg_platform.proofs.KeptPower.{power_kept, whole_holds}
 use Rattle.sg_platform.proofs.LinkLists.{required_links, value_link_list}
-use Rattle.sg_platform.specs.Build.{actor_row, capacity_or_zero, child_of, core_or_one, gateway, host_row, link_row, links_at, mutex_row, network_of, network_row, point_id, route_row, router_row, semaphore_row, spoke_row, value_at, zone_id, zone_route_row, zone_row}
+use Rattle.sg_platform.specs.Build.{actor_row, child_of, gateway, host_row, link_row, links_at, mutex_row, network_of, network_row, point_id, route_row, router_row, semaphore_row, spoke_row, value_at, zone_id, zone_route_row, zone_row}
 use Rattle.sg_rows.specs.Deployment.{IsActorRow, IsSemaphoreRow}
 use Rattle.sg_rows.specs.Ends.{link_ends, way_back}
 use Rattle.sg_rows.specs.Network.{IsNetwork}
 use Rattle.sg_rows.specs.Platform.{Counts, IsChild, IsHostRow, IsLinkList, IsLinkRow, IsRouteRow, IsRouterRow, IsSpokeRow, IsZoneRouteRow, IsZoneRow}
 use Rattle.sg_rows.specs.declared.rows.ActorRow.{ActorRow}
 use Rattle.sg_rows.specs.declared.rows.LinkRow.{LinkRow}
-use Rattle.sg_tables.proofs.Greatest.{amount_within, bandwidth_within, factor_within, latency_within, speed_within}
-use Rattle.sg_rules.proofs.Kept.{KeysKept, child_end, end_there, host_there, taken_there, link_name_short, name_short, optional_text, point_there, positive_there, required_text, route_end_point, unbroken, zone_route_end_end, zone_there}
+use Rattle.sg_tables.proofs.Greatest.{quantity_within}
+use Rattle.sg_rules.proofs.Kept.{KeysKept, end_there, host_there, taken_there, link_name_short, name_short, optional_text, point_there, positive_there, required_text, unbroken, zone_there}
 use Rattle.sg_names.specs.LinkNames.{is_split}
 use Rattle.sg_names.specs.Names.{Known}
-use Rattle.sg_rules.specs.Rules.{end_kinds, key_kinds, kinds_at, refused_kinds, names_zone, point_kinds, positive_kinds, value_kinds, whole_kinds, zone_kinds}
+use Rattle.sg_rules.specs.Rules.{end_kinds, is_zone, key_kinds, kinds_at, point_kinds, value_kinds, zone_kinds}
 use Rattle.sg_tables.specs.Tables.{key, keys_of, word_text}
-use Rattle.sg_tables.specs.Units.{amount_value, bandwidth_value, factor_value, latency_value, speed_value}
-use Rattle.sg_tables.specs.declared.tables.Need.TheVariants.{Required, Optional, IfZone}
+use Rattle.sg_tables.specs.Units.{quantity_value, whole_value}
+use Rattle.sg_tables.specs.declared.units.Quantity.TheVariants.{Latency, Speed, Bandwidth, Factor, Amount}
+use Rattle.sg_tables.specs.declared.tables.Need.TheVariants.{Optional, IfZone}
 use Rattle.sg_tables.specs.declared.tables.Rule.TheVariants as rule
 use Rattle.sg_tables.specs.declared.tables.TextRule.TheVariants as text_rule
 use Rattle.sg_tables.specs.declared.tables.TextsRule.TheVariants as texts_rule
-use Rattle.sg_tables.specs.declared.tables.WholeRule.TheVariants as whole_rule
 use Rattle.sg_tables.specs.declared.tables.Table.TheVariants.{Zone, Host, Router, Link, Route, ZoneRoute, Spoke, Network, Actor, Mutex, Semaphore}
 use Rattle.sg_tables.specs.declared.tables.Word.{Word}
 use Rattle.sg_tables.specs.declared.tables.Word.TheVariants as word
-use Rattle.sg_tree.specs.Faults.{of_type}
+use Rattle.sg_tree.proofs.Kept.{empty_right}
+use Rattle.sg_tree.specs.Faults.{kind_if, of_type}
+use Rattle.sg_tree.specs.declared.fault.Kind.TheVariants.{BadValue}
 use Rattle.sg_tree.specs.Tree.{text_at, text_or_empty}
 use Rattle.toml.specs.Data.{Data, as_integer, as_str, get}
 
@@ -46,7 +48,7 @@ pub record IsCounted (names : Known) (counts : Counts) : Type 0 where
 zone_below : (names : Known) (counts : Counts) → IsCounted names counts → (name : List ℕ) → zone_kinds names name ≡ [] → (zone_id names name).0 < counts.zones
 zone_below names counts counted name empty =
     let there = zone_there names name empty in
-    rw there.1 (omega (arith, there.3, counted.zones))
+    rw there.1 (omega (arith, there.2, counted.zones))
 
 pub point_under : (zones points n : ℕ) → zones ≤ n → n < zones + points → n - zones < points
 point_under zones points n low high = omega (arith, low, high)
@@ -72,14 +74,14 @@ child_below names counts counted name empty =
     rw there.1 (child_at names.zones counts.points there.0 counts counted.zones refl below)
 
 -- where a gateway may be left out, its end is a point
-absent_gateway : (names : Known) (counts : Counts) → IsCounted names counts → (end : List ℕ) → end_kinds names end ≡ [] → names_zone names (Some end) ≡ false → (point_id names end).0 < counts.points
+absent_gateway : (names : Known) (counts : Counts) → IsCounted names counts → (end : List ℕ) → end_kinds names end ≡ [] → is_zone names (names.points end) ≡ false → (point_id names end).0 < counts.points
 absent_gateway names counts counted end empty no_zone =
     let there = end_there names end empty in
     let below = rw there.1 at (counted.points end) in
     let other = rw there.1 at no_zone in
     rw there.1 (point_under names.zones counts.points there.0 (from there.0 other) below)
   where
-    from : (n : ℕ) → (nat_le 0 n && nat_lt n names.zones) ≡ false → names.zones ≤ n
+    from : (n : ℕ) → nat_lt n names.zones ≡ false → names.zones ≤ n
     from n other = grind (arith, nat_tests)
 
 value_at_point : (names : Known) (number : ℕ) (row : Data) (d : Data) → value_kinds names number row (rule.Text text_rule.PointName) d ≡ [] → of_type (point_kinds names) (as_str d) ≡ []
@@ -117,28 +119,25 @@ zone_kept names counts counted number row kept =
       parent = parent_below names counts counted _ (optional_text names number row word.Parent text_rule.ZoneName kept.1.0);
     }
 
-core_bounds : (o : Option ℤ) → (1 ≤ core_or_one o) × (core_or_one o ≤ 1024)
-core_bounds None = (omega arith, omega arith)
-core_bounds (Some (negsuc n)) = (omega arith, omega arith)
-core_bounds (Some (pos n)) =
-    elim (cases_Bool (nat_le 1 n && nat_le n 1024)) [
-      | inl fits ↦ rw fits ((let low : 1 ≤ n = grind (arith, nat_tests) in low), (let high : n ≤ 1024 = grind (arith, nat_tests) in high))
-      | inr other ↦ rw other (omega arith, omega arith)
-    ]
+abbrev IsCount : ℕ → Type 0
+IsCount n = (1 ≤ n) × (n ≤ 1024)
+
+core_bounds : (o : Option ℤ) → IsCount (unwrap_or (option_and_then (whole_value 1 1024) o) 1)
+core_bounds o = whole_holds IsCount 1 1024 1 (omega arith, omega arith) (λ n low high. (low, high)) o
 
 pub host_kept : (names : Known) (counts : Counts) → IsCounted names counts → (number : ℕ) (row : Data) → KeysKept names number row (keys_of Host) → IsHostRow counts (host_row names row)
 unfolding host_row
 host_kept names counts counted number row kept =
     let id = required_text names number row word.Id text_rule.NewPoint kept.0 in
     let zone = required_text names number row word.Zone text_rule.ZoneName kept.1.0 in
-    let speed = required_text names number row word.Speed text_rule.SpeedText kept.1.1.0 in
-    let rate = positive_there (speed_value speed.0) speed.2 in
+    let speed = required_text names number row word.Speed (text_rule.PositiveValue Speed) kept.1.1.0 in
+    let rate = positive_there (quantity_value Speed speed.0) speed.2 in
     let cores = core_bounds (option_and_then as_integer (get (codes "core") row)) in
     record {
       id = rw id.1 (name_short names.points number id.0 id.2);
       zone = rw zone.1 (zone_below names counts counted zone.0 zone.2);
       some_speed = rw (speed.1, rate.1) rate.2;
-      speed = rw (speed.1, rate.1) (speed_within speed.0 rate.0 rate.1);
+      speed = rw (speed.1, rate.1) (quantity_within Speed speed.0 rate.0 rate.1);
       some_cores = cores.0;
       cores = cores.1;
       power = power_kept row;
@@ -160,7 +159,7 @@ text_holds : (P : ℕ → Type 0) (reader : List ℕ → Option ℕ) (default : 
 text_holds P reader default p None kept = p
 text_holds P reader default p (Some text) kept = let there = kept text refl in rw there.1 there.2
 
-taken_within : (reader : List ℕ → Option ℕ) (greatest : ℕ) → ((text : List ℕ) (n : ℕ) → reader text ≡ Some n → n ≤ greatest) → (text : List ℕ) → refused_kinds (reader text) ≡ []
+taken_within : (reader : List ℕ → Option ℕ) (greatest : ℕ) → ((text : List ℕ) (n : ℕ) → reader text ≡ Some n → n ≤ greatest) → (text : List ℕ) → kind_if (is_none (reader text)) BadValue ≡ []
     → (n : ℕ) × (reader text ≡ Some n) × (n ≤ greatest)
 taken_within reader greatest within text kept =
     let there = taken_there (reader text) kept in
@@ -170,37 +169,37 @@ pub link_kept : (names : Known) (number : ℕ) (row : Data) → KeysKept names n
 unfolding link_row
 link_kept names number row kept =
     let id = required_text names number row word.Id text_rule.NewLink kept.0 in
-    let bandwidth = required_text names number row word.Bandwidth text_rule.BandwidthText kept.1.0 in
-    let rate = positive_there (bandwidth_value bandwidth.0) bandwidth.2 in
+    let bandwidth = required_text names number row word.Bandwidth (text_rule.PositiveValue Bandwidth) kept.1.0 in
+    let rate = positive_there (quantity_value Bandwidth bandwidth.0) bandwidth.2 in
     record {
       id = rw id.1 (link_name_short names.taken number (is_split row) id.0 id.2);
       some_bandwidth = rw (bandwidth.1, rate.1) rate.2;
-      bandwidth = rw (bandwidth.1, rate.1) (bandwidth_within bandwidth.0 rate.0 rate.1);
-      latency = text_holds (λ n. n ≤ 1000000000000000) latency_value 0 (omega arith) (text_at (codes "latency") row)
-          (λ text there. taken_within latency_value 1000000000000000 latency_within text (optional_text names number row word.Latency text_rule.LatencyText kept.1.1.0 text there));
+      bandwidth = rw (bandwidth.1, rate.1) (quantity_within Bandwidth bandwidth.0 rate.0 rate.1);
+      latency = text_holds (λ n. n ≤ 1000000000000000) (quantity_value Latency) 0 (omega arith) (text_at (codes "latency") row)
+          (λ text there. taken_within (quantity_value Latency) 1000000000000000 (quantity_within Latency) text (optional_text names number row word.Latency (text_rule.AnyValue Latency) kept.1.1.0 text there));
     }
 
 abbrev IsPositiveFactor : ℕ → Type 0
 IsPositiveFactor n = (1 ≤ n) × (n ≤ 1000000000)
 
-positive_factor : (text : List ℕ) → positive_kinds (factor_value text) ≡ [] → (n : ℕ) × (factor_value text ≡ Some n) × IsPositiveFactor n
+positive_factor : (text : List ℕ) → kind_if (not (option_map_or (nat_lt 0) (quantity_value Factor text) false)) BadValue ≡ [] → (n : ℕ) × (quantity_value Factor text ≡ Some n) × IsPositiveFactor n
 positive_factor text kept =
-    let there = positive_there (factor_value text) kept in
-    (there.0, there.1, (there.2, factor_within text there.0 there.1))
+    let there = positive_there (quantity_value Factor text) kept in
+    (there.0, there.1, (there.2, quantity_within Factor text there.0 there.1))
 
 pub network_row_kept : (names : Known) (number : ℕ) (row : Data) → KeysKept names number row (keys_of Network) → IsNetwork (network_row row)
 unfolding network_row
 network_row_kept names number row kept =
-    let bandwidth : IsPositiveFactor (value_at factor_value 1000000 (codes "bandwidth_factor") row)
-    = text_holds IsPositiveFactor factor_value 1000000 (omega arith, omega arith) (text_at (codes "bandwidth_factor") row)
-    (λ text there. positive_factor text (optional_text names number row word.BandwidthFactor text_rule.PositiveFactorText kept.1.0 text there)) in
+    let bandwidth : IsPositiveFactor (value_at Factor 1000000 (codes "bandwidth_factor") row)
+    = text_holds IsPositiveFactor (quantity_value Factor) 1000000 (omega arith, omega arith) (text_at (codes "bandwidth_factor") row)
+    (λ text there. positive_factor text (optional_text names number row word.BandwidthFactor (text_rule.PositiveValue Factor) kept.1.0 text there)) in
     record {
-      latency_factor = text_holds (λ n. n ≤ 1000000000) factor_value 1000000 (omega arith) (text_at (codes "latency_factor") row)
-          (λ text there. taken_within factor_value 1000000000 factor_within text (optional_text names number row word.LatencyFactor text_rule.FactorText kept.0 text there));
+      latency_factor = text_holds (λ n. n ≤ 1000000000) (quantity_value Factor) 1000000 (omega arith) (text_at (codes "latency_factor") row)
+          (λ text there. taken_within (quantity_value Factor) 1000000000 (quantity_within Factor) text (optional_text names number row word.LatencyFactor (text_rule.AnyValue Factor) kept.0 text there));
       some_bandwidth = bandwidth.0;
       bandwidth_factor = bandwidth.1;
-      window = text_holds (λ n. n ≤ 1000000000000000) amount_value 0 (omega arith) (text_at (codes "window") row)
-          (λ text there. taken_within amount_value 1000000000000000 amount_within text (optional_text names number row word.Window text_rule.AmountText kept.1.1.0 text there));
+      window = text_holds (λ n. n ≤ 1000000000000000) (quantity_value Amount) 0 (omega arith) (text_at (codes "window") row)
+          (λ text there. taken_within (quantity_value Amount) 1000000000000000 (quantity_within Amount) text (optional_text names number row word.Window (text_rule.AnyValue Amount) kept.1.1.0 text there));
     }
 
 pub network_kept : (rows : List Data) → All (λ row. IsNetwork (network_row row)) rows → IsNetwork (network_of rows)
@@ -214,7 +213,7 @@ route_kept names counts counted number row kept =
     let dst = required_text names number row word.Dst text_rule.RouteEnd kept.1.0 in
     record {
       src = rw src.1 (point_below names counts counted src.0 src.2);
-      dst = rw dst.1 (point_below names counts counted dst.0 (route_end_point names number row dst.0 dst.2));
+      dst = rw dst.1 (point_below names counts counted dst.0 (empty_right _ _ dst.2));
       links = required_links names counts counted.links number row word.Links kept.1.1.0;
     }
 
@@ -223,7 +222,7 @@ unfolding zone_route_row
 zone_route_kept names counts counted number row kept =
     let src = required_text names number row word.Src text_rule.EndName kept.0 in
     let dst = required_text names number row word.Dst text_rule.ZoneRouteEnd kept.1.0 in
-    let end = zone_route_end_end names number row dst.0 dst.2 in
+    let end = empty_right _ _ dst.2 in
     record {
       src = rw src.1 (child_below names counts counted src.0 src.2);
       dst = rw dst.1 (child_below names counts counted dst.0 end);
@@ -250,7 +249,7 @@ unfolding spoke_row
 spoke_kept names counts counted rows same number row kept =
     let zone = required_text names number row word.Zone text_rule.ZoneName kept.0 in
     let child = required_text names number row word.Child text_rule.SpokeChild kept.1.0 in
-    let end = child_end names number child.0 child.2 in
+    let end = empty_right _ _ child.2 in
     let up = required_links names counts counted.links number row word.Up kept.1.1.1.0 in
     record {
       zone = rw zone.1 (zone_below names counts counted zone.0 zone.2);
@@ -282,28 +281,11 @@ mutex_kept names number row kept =
     let id = required_text names number row word.Id text_rule.NewMutex kept.0 in
     rw id.1 (name_short names.mutexes number id.0 id.2)
 
-capacity_within : (o : Option ℤ) → of_type (whole_kinds whole_rule.CapacityCount) o ≡ [] → capacity_or_zero o ≤ 1000000000
-capacity_within None empty = cc
-capacity_within (Some (negsuc n)) empty = omega arith
-capacity_within (Some (pos n)) empty = within n (unbroken _ _ empty)
-  where
-    within : (n : ℕ) → not (nat_le n 1000000000) ≡ false → n ≤ 1000000000
-    within n fits = grind (arith, nat_tests)
-
-capacity_at : (names : Known) (number : ℕ) (row : Data) (d : Option Data) → kinds_at names number row (key word.Capacity Required (rule.Whole whole_rule.CapacityCount)) d ≡ [] → capacity_or_zero (option_and_then as_integer d) ≤ 1000000000
-unfolding value_kinds
-capacity_at names number row None empty = cc
-capacity_at names number row (Some d) empty = capacity_within (as_integer d) empty
-
-capacity_kept : (names : Known) (number : ℕ) (row : Data) → key_kinds names number row (key word.Capacity Required (rule.Whole whole_rule.CapacityCount)) ≡ [] → capacity_or_zero (option_and_then as_integer (get (codes "capacity") row)) ≤ 1000000000
-unfolding key_kinds
-capacity_kept names number row empty = capacity_at names number row (get (codes "capacity") row) empty
-
 pub semaphore_kept : (names : Known) (number : ℕ) (row : Data) → KeysKept names number row (keys_of Semaphore) → IsSemaphoreRow (semaphore_row row)
 unfolding semaphore_row
 semaphore_kept names number row kept =
     let id = required_text names number row word.Id text_rule.NewSemaphore kept.0 in
     record {
       id = rw id.1 (name_short names.semaphores number id.0 id.2);
-      capacity = capacity_kept names number row kept.1.0;
+      capacity = whole_holds (λ n. n ≤ 1000000000) 0 1000000000 0 (omega arith) (λ n low high. high) (option_and_then as_integer (get (codes "capacity") row));
     }

@@ -1,16 +1,17 @@
 -- A list of link names that breaks no rule gives 1 to 64 links.
-use Rattle.std.proofs.Common.{◌≡◌, ℕ, ◌<◌, ◌≤◌, ◌==◌, ◌&&◌, ◌||◌, Bool, true, false, nat_lt, is_some, is_none, List, [], ◌∷◌, map, length, Option, Some, None, IfSome, option_and_then, unwrap_or, refl, sym, inl, inr, arith}
-use Rattle.std.proofs.lemmas.Bool.{cases_Bool, false≢true}
+use Rattle.std.proofs.Common.{◌≡◌, ℕ, ◌<◌, ◌≤◌, ◌==◌, ◌&&◌, ◌||◌, Bool, true, false, nat_lt, is_some, is_none, List, [], ◌∷◌, map, length, Option, Some, None, IfSome, option_and_then, unwrap_or, refl, sym, arith}
+use Rattle.std.proofs.lemmas.Bool.{false≢true}
 use Rattle.std.proofs.lemmas.Bool.Decides.{nat_tests}
 use Rattle.std.proofs.lemmas.List.{length-map}
 use Rattle.std.proofs.lemmas.List.Elements.{All-cons, All-nil}
-use Rattle.std.specs.List.{All, list_all, list_any}
+use Rattle.std.specs.List.{All, list_any}
 use Rattle.sg_base.specs.declared.ids.LinkId.{LinkId}
-use Rattle.sg_platform.specs.Build.{link_id, link_of, links_at}
+use Rattle.sg_platform.specs.Build.{link_id, links_at}
 use Rattle.sg_rows.specs.Platform.{Counts, IsLinkList}
-use Rattle.sg_rules.proofs.Kept.{unbroken}
+use Rattle.sg_rules.proofs.Kept.{typed_list, unbroken}
+use Rattle.sg_rules.specs.Arguments.{text_of}
 use Rattle.sg_names.specs.Names.{Known}
-use Rattle.sg_rules.specs.Rules.{is_text, is_unknown, key_kinds, kinds_at, link_list_kinds, list_kinds, value_kinds}
+use Rattle.sg_rules.specs.Rules.{key_kinds, kinds_at, link_list_kinds, list_kinds, texts_kinds, value_kinds}
 use Rattle.sg_tables.specs.Tables.{key, word_text}
 use Rattle.sg_tables.specs.declared.tables.Need.TheVariants.{Required}
 use Rattle.sg_tables.specs.declared.tables.Rule.TheVariants.{Texts}
@@ -44,18 +45,16 @@ number_below : (found : Option ℕ) (n : ℕ) → is_none found ≡ false → If
 number_below None n there below = absurd (false≢true (sym there))
 number_below (Some i) n there below = below
 
-name_below : (names : Known) (counts : Counts) → LinksBelow names counts → (found : Option (List ℕ)) → is_some found ≡ true → is_unknown names.links found ≡ false
-    → (link_id names (unwrap_or found [])).0 < counts.links
-name_below names counts below None text known = absurd (false≢true text)
-name_below names counts below (Some name) text known = number_below (names.links name) counts.links known (below name)
+abbrev link_of : Known → Data → LinkId
+link_of names item = link_id names (text_of item)
 
-all_below : (names : Known) (counts : Counts) → LinksBelow names counts → (items : List Data) → list_all is_text items ≡ true → list_any (λ d. is_unknown names.links (as_str d)) items ≡ false
+all_below : (names : Known) (counts : Counts) → LinksBelow names counts → (items : List Data) → list_any (λ d. is_none (names.links (text_of d))) items ≡ false
     → All (λ link. link.0 < counts.links) (map (link_of names) items)
-all_below names counts below [] texts known = All-nil (λ (link : LinkId). link.0 < counts.links)
-all_below names counts below (d ∷ items) texts known =
+all_below names counts below [] known = All-nil (λ (link : LinkId). link.0 < counts.links)
+all_below names counts below (d ∷ items) known =
     All-cons (λ (link : LinkId). link.0 < counts.links) (link_of names d) (map (link_of names) items)
-    (name_below names counts below (as_str d) (and_left _ _ texts) (or_left _ _ known))
-    (all_below names counts below items (and_right _ _ texts) (or_right _ _ known))
+    (number_below (names.links (text_of d)) counts.links (or_left _ _ known) (below (text_of d)))
+    (all_below names counts below items (or_right _ _ known))
 
 some_items : (n : ℕ) → (n == 0) ≡ false → 1 ≤ n
 some_items n other = grind (arith, nat_tests)
@@ -63,29 +62,21 @@ some_items n other = grind (arith, nat_tests)
 few_items : (n : ℕ) → nat_lt 64 n ≡ false → n ≤ 64
 few_items n within = grind (arith, nat_tests)
 
-texts_link_list : (names : Known) (counts : Counts) → LinksBelow names counts → (items : List Data) → list_all is_text items ≡ true → link_list_kinds names.links items ≡ [] → IsLinkList counts (map (link_of names) items)
+items_link_list : (names : Known) (counts : Counts) → LinksBelow names counts → (items : List Data) → link_list_kinds names.links items ≡ [] → IsLinkList counts (map (link_of names) items)
 unfolding link_list_kinds
-texts_link_list names counts below items texts empty =
+items_link_list names counts below items empty =
     let front = empty_left _ _ empty in
     let n = length-map items (link_of names) in
     record {
       some = omega (arith, n, some_items (length items) (unbroken _ _ (empty_left _ _ front)));
       few = omega (arith, n, few_items (length items) (unbroken _ _ (empty_right _ _ empty)));
-      each = all_below names counts below items texts (unbroken _ _ (empty_right _ _ front));
+      each = all_below names counts below items (unbroken _ _ (empty_right _ _ front));
     }
 
-pub items_link_list : (names : Known) (counts : Counts) → LinksBelow names counts → (row : Data) (items : List Data) → list_kinds names row LinkList items ≡ [] → IsLinkList counts (map (link_of names) items)
-unfolding list_kinds
-items_link_list names counts below row items empty =
-    elim (cases_Bool (list_all is_text items)) [
-      | inl texts ↦ texts_link_list names counts below items texts (let kept : link_list_kinds names.links items ≡ [] = rw texts at empty in kept)
-      | inr other ↦ let wrong = rw other at empty in cc
-    ]
-
-typed_link_list : (names : Known) (counts : Counts) → LinksBelow names counts → (row : Data) (found : Option Items) → of_type (λ items. list_kinds names row LinkList (list_of items)) found ≡ []
+typed_link_list : (names : Known) (counts : Counts) → LinksBelow names counts → (row : Data) (found : Option Items) → of_type (λ items. list_kinds (λ x. is_some (as_str x)) (texts_kinds names row LinkList) (list_of items)) found ≡ []
     → IsLinkList counts (map (link_of names) (items_or_none found))
 typed_link_list names counts below row None empty = cc
-typed_link_list names counts below row (Some items) empty = items_link_list names counts below row (list_of items) empty
+typed_link_list names counts below row (Some items) empty = items_link_list names counts below (list_of items) (typed_list (λ x. is_some (as_str x)) (texts_kinds names row LinkList) (list_of items) empty)
 
 pub value_link_list : (names : Known) (counts : Counts) → LinksBelow names counts → (number : ℕ) (row : Data) (d : Data) → value_kinds names number row (Texts LinkList) d ≡ []
     → IsLinkList counts (map (link_of names) (items_or_none (as_array d)))

@@ -3,6 +3,7 @@ use Rattle.std.proofs.Common.{◌≡◌, ℕ, ◌+◌, ◌<◌, ◌≤◌, Bool,
 use Rattle.std.proofs.lemmas.List.{length-map}
 use Rattle.std.proofs.lemmas.List.Elements.{All-map}
 use Rattle.std.specs.List.{All, flat_map}
+use Rattle.std.specs.Option.{option_map_or}
 use Rattle.sg_rows.proofs.EndsBelow.{link_ends_count}
 use Rattle.sg_platform.proofs.KeptProfiles.{profile_kept, state_profile_kept}
 use Rattle.sg_platform.proofs.KeptRows.{IsCounted, host_kept, link_kept, network_kept, network_row_kept, route_kept, router_kept, spoke_kept, zone_kept, zone_route_kept}
@@ -13,38 +14,39 @@ use Rattle.sg_rows.specs.Platform.{Counts, IsHostRow, IsLinkRow, IsPlatform, IsP
 use Rattle.sg_platform.specs.PlatformOf.{links_of, rows_of}
 use Rattle.sg_rows.specs.declared.rows.Policy.TheVariants.{Shared, Fatpipe, SplitDuplex}
 use Rattle.sg_rules.proofs.Kept.{rows_few, rows_kept}
-use Rattle.sg_names.proofs.NumbersBelow.{known_links, known_points, links_below, points_below}
+use Rattle.sg_names.proofs.NumbersBelow.{links_below, points_below}
 use Rattle.sg_rules.specs.Faults.{faults_of, table_faults}
-use Rattle.sg_names.specs.LinkNames.{is_split, link_names, names_by}
-use Rattle.sg_names.specs.Names.{Known, platform_known}
+use Rattle.sg_names.specs.LinkNames.{is_split, link_names}
+use Rattle.sg_names.specs.Names.{Known, known_by, platform_known}
 use Rattle.sg_tables.specs.Tables.{platform_tables}
 use Rattle.sg_tables.specs.declared.tables.Table.TheVariants.{Zone, Host, Router, Link, Route, ZoneRoute, Spoke, Network, Profile, StateProfile}
 use Rattle.sg_tree.proofs.Bounds.{below_all}
 use Rattle.sg_tree.proofs.Kept.{empty_left, empty_right, none_empty}
 use Rattle.sg_tree.specs.Along.{first}
+use Rattle.sg_tree.specs.Spelling.{split_names}
 use Rattle.sg_tree.specs.Tree.{rows_at, text_at}
 use Rattle.toml.specs.Data.{Data, Members}
 
 pub known_zones : (tree : Members) → (platform_known tree).zones ≡ length (rows_at (codes "zone") tree)
-unfolding platform_known
+unfolding known_by
 known_zones tree = refl
 
 known_hosts : (tree : Members) → (platform_known tree).hosts ≡ length (rows_at (codes "host") tree)
-unfolding platform_known
+unfolding known_by
 known_hosts tree = refl
 
 -- no table has a fault
 pub record NoFaults (names : Known) (tree : Members) : Type 0 where
-  pub zones : table_faults names tree Zone ≡ []
-  pub hosts : table_faults names tree Host ≡ []
-  pub routers : table_faults names tree Router ≡ []
-  pub links : table_faults names tree Link ≡ []
-  pub routes : table_faults names tree Route ≡ []
-  pub zone_routes : table_faults names tree ZoneRoute ≡ []
-  pub spokes : table_faults names tree Spoke ≡ []
-  pub network : table_faults names tree Network ≡ []
-  pub profiles : table_faults names tree Profile ≡ []
-  pub state_profiles : table_faults names tree StateProfile ≡ []
+  pub zones : table_faults names tree 1 Zone ≡ []
+  pub hosts : table_faults names tree 2 Host ≡ []
+  pub routers : table_faults names tree 3 Router ≡ []
+  pub links : table_faults names tree 4 Link ≡ []
+  pub routes : table_faults names tree 5 Route ≡ []
+  pub zone_routes : table_faults names tree 6 ZoneRoute ≡ []
+  pub spokes : table_faults names tree 7 Spoke ≡ []
+  pub network : table_faults names tree 8 Network ≡ []
+  pub profiles : table_faults names tree 9 Profile ≡ []
+  pub state_profiles : table_faults names tree 10 StateProfile ≡ []
 
 pub no_faults : (names : Known) (tree : Members) → first (faults_of names platform_tables tree) ≡ None → NoFaults names tree
 unfolding faults_of
@@ -73,7 +75,7 @@ no_faults names tree none =
     }
 
 -- a row gives at least as many links as names of links
-names_fit : (split other : Bool) (id : Option (List ℕ)) (first latency : ℕ) → length (names_by split id) ≤ length (ends_of first latency (cond split SplitDuplex (cond other Fatpipe Shared)))
+names_fit : (split other : Bool) (id : Option (List ℕ)) (first latency : ℕ) → length (option_map_or (λ name. cond split (split_names name) (name ∷ [])) id []) ≤ length (ends_of first latency (cond split SplitDuplex (cond other Fatpipe Shared)))
 names_fit true other None first latency = omega arith
 names_fit true other (Some id) first latency = omega arith
 names_fit false true None first latency = omega arith
@@ -114,9 +116,9 @@ counted tree =
     record {
       zones = known_zones tree;
       hosts = known_hosts tree;
-      points = λ q. rw (known_points tree q, known_zones tree) (below_all _ (length zones + length hosts + length routers) (length zones + (length hosts + length routers)) (omega arith) (points_below zones hosts routers q));
-      links = λ q. rw (known_links tree q) (below_all _ (length (flat_map link_names links)) (length (link_ends (links_of tree))) (omega (arith, names_within 0 links, link_ends_count (links_of tree))) (links_below links q));
-      declared = λ q. rw (known_links tree q) (below_less _ (length (flat_map link_names links)) (length (link_ends (links_of tree))) (omega (arith, names_within 0 links, link_ends_count (links_of tree))) (links_below links q));
+      points = λ q. rw (known_zones tree) (below_all _ (length zones + length hosts + length routers) (length zones + (length hosts + length routers)) (omega arith) (points_below tree q));
+      links = λ q. below_all _ (length (flat_map link_names links)) (length (link_ends (links_of tree))) (omega (arith, names_within 0 links, link_ends_count (links_of tree))) (links_below tree q);
+      declared = λ q. below_less _ (length (flat_map link_names links)) (length (link_ends (links_of tree))) (omega (arith, names_within 0 links, link_ends_count (links_of tree))) (links_below tree q);
     }
 
 counts_same : (names : Known) (tree : Members) → counts_in tree ≡ counts_of (rows_of names tree)
@@ -141,33 +143,33 @@ rows_platform names tree counts same kept ends none =
     let state_profiles = rows_at (codes "state_profile") tree in
     let spoke = spoke_row names (link_ends (links_of tree)) in
     record {
-      few_zones = omega (arith, length-map zones (zone_row names), rows_few names tree Zone none.zones);
-      few_hosts = omega (arith, length-map hosts (host_row names), rows_few names tree Host none.hosts);
-      few_routers = omega (arith, length-map routers (router_row names), rows_few names tree Router none.routers);
-      few_links = omega (arith, length-map links link_row, rows_few names tree Link none.links);
-      few_routes = omega (arith, length-map routes (route_row names), rows_few names tree Route none.routes);
-      few_zone_routes = omega (arith, length-map zone_routes (zone_route_row names), rows_few names tree ZoneRoute none.zone_routes);
-      few_spokes = omega (arith, length-map spokes spoke, rows_few names tree Spoke none.spokes);
-      few_profiles = omega (arith, length-map profiles (profile_row names), rows_few names tree Profile none.profiles);
-      few_state_profiles = omega (arith, length-map state_profiles (state_profile_row names), rows_few names tree StateProfile none.state_profiles);
+      few_zones = omega (arith, length-map zones (zone_row names), rows_few names tree _ Zone none.zones);
+      few_hosts = omega (arith, length-map hosts (host_row names), rows_few names tree _ Host none.hosts);
+      few_routers = omega (arith, length-map routers (router_row names), rows_few names tree _ Router none.routers);
+      few_links = omega (arith, length-map links link_row, rows_few names tree _ Link none.links);
+      few_routes = omega (arith, length-map routes (route_row names), rows_few names tree _ Route none.routes);
+      few_zone_routes = omega (arith, length-map zone_routes (zone_route_row names), rows_few names tree _ ZoneRoute none.zone_routes);
+      few_spokes = omega (arith, length-map spokes spoke, rows_few names tree _ Spoke none.spokes);
+      few_profiles = omega (arith, length-map profiles (profile_row names), rows_few names tree _ Profile none.profiles);
+      few_state_profiles = omega (arith, length-map state_profiles (state_profile_row names), rows_few names tree _ StateProfile none.state_profiles);
       zones = subst (λ c. All (IsZoneRow c) (map (zone_row names) zones)) same
-          (All-map (IsZoneRow counts) (zone_row names) zones (rows_kept names tree Zone (λ row. IsZoneRow counts (zone_row names row)) (λ number row fine. zone_kept names counts kept number row fine) none.zones));
+          (All-map (IsZoneRow counts) (zone_row names) zones (rows_kept names tree _ Zone (λ row. IsZoneRow counts (zone_row names row)) (λ number row fine. zone_kept names counts kept number row fine) none.zones));
       hosts = subst (λ c. All (IsHostRow c) (map (host_row names) hosts)) same
-          (All-map (IsHostRow counts) (host_row names) hosts (rows_kept names tree Host (λ row. IsHostRow counts (host_row names row)) (λ number row fine. host_kept names counts kept number row fine) none.hosts));
+          (All-map (IsHostRow counts) (host_row names) hosts (rows_kept names tree _ Host (λ row. IsHostRow counts (host_row names row)) (λ number row fine. host_kept names counts kept number row fine) none.hosts));
       routers = subst (λ c. All (IsRouterRow c) (map (router_row names) routers)) same
-          (All-map (IsRouterRow counts) (router_row names) routers (rows_kept names tree Router (λ row. IsRouterRow counts (router_row names row)) (λ number row fine. router_kept names counts kept number row fine) none.routers));
-      links = All-map IsLinkRow link_row links (rows_kept names tree Link (λ row. IsLinkRow (link_row row)) (λ number row fine. link_kept names number row fine) none.links);
+          (All-map (IsRouterRow counts) (router_row names) routers (rows_kept names tree _ Router (λ row. IsRouterRow counts (router_row names row)) (λ number row fine. router_kept names counts kept number row fine) none.routers));
+      links = All-map IsLinkRow link_row links (rows_kept names tree _ Link (λ row. IsLinkRow (link_row row)) (λ number row fine. link_kept names number row fine) none.links);
       routes = subst (λ c. All (IsRouteRow c) (map (route_row names) routes)) same
-          (All-map (IsRouteRow counts) (route_row names) routes (rows_kept names tree Route (λ row. IsRouteRow counts (route_row names row)) (λ number row fine. route_kept names counts kept number row fine) none.routes));
+          (All-map (IsRouteRow counts) (route_row names) routes (rows_kept names tree _ Route (λ row. IsRouteRow counts (route_row names row)) (λ number row fine. route_kept names counts kept number row fine) none.routes));
       zone_routes = subst (λ c. All (IsZoneRouteRow c) (map (zone_route_row names) zone_routes)) same
-          (All-map (IsZoneRouteRow counts) (zone_route_row names) zone_routes (rows_kept names tree ZoneRoute (λ row. IsZoneRouteRow counts (zone_route_row names row)) (λ number row fine. zone_route_kept names counts kept number row fine) none.zone_routes));
+          (All-map (IsZoneRouteRow counts) (zone_route_row names) zone_routes (rows_kept names tree _ ZoneRoute (λ row. IsZoneRouteRow counts (zone_route_row names row)) (λ number row fine. zone_route_kept names counts kept number row fine) none.zone_routes));
       spokes = subst (λ c. All (IsSpokeRow c) (map spoke spokes)) same
-          (All-map (IsSpokeRow counts) spoke spokes (rows_kept names tree Spoke (λ row. IsSpokeRow counts (spoke row)) (λ number row fine. spoke_kept names counts kept (links_of tree) ends number row fine) none.spokes));
-      network = network_kept (rows_at (codes "network") tree) (rows_kept names tree Network (λ row. IsNetwork (network_row row)) (λ number row fine. network_row_kept names number row fine) none.network);
+          (All-map (IsSpokeRow counts) spoke spokes (rows_kept names tree _ Spoke (λ row. IsSpokeRow counts (spoke row)) (λ number row fine. spoke_kept names counts kept (links_of tree) ends number row fine) none.spokes));
+      network = network_kept (rows_at (codes "network") tree) (rows_kept names tree _ Network (λ row. IsNetwork (network_row row)) (λ number row fine. network_row_kept names number row fine) none.network);
       profiles = subst (λ c. All (IsProfileRow c) (map (profile_row names) profiles)) same
-          (All-map (IsProfileRow counts) (profile_row names) profiles (rows_kept names tree Profile (λ row. IsProfileRow counts (profile_row names row)) (λ number row fine. profile_kept names counts kept number row fine) none.profiles));
+          (All-map (IsProfileRow counts) (profile_row names) profiles (rows_kept names tree _ Profile (λ row. IsProfileRow counts (profile_row names row)) (λ number row fine. profile_kept names counts kept number row fine) none.profiles));
       state_profiles = subst (λ c. All (IsStateProfileRow c) (map (state_profile_row names) state_profiles)) same
-          (All-map (IsStateProfileRow counts) (state_profile_row names) state_profiles (rows_kept names tree StateProfile (λ row. IsStateProfileRow counts (state_profile_row names row)) (λ number row fine. state_profile_kept names counts kept number row fine) none.state_profiles));
+          (All-map (IsStateProfileRow counts) (state_profile_row names) state_profiles (rows_kept names tree _ StateProfile (λ row. IsStateProfileRow counts (state_profile_row names row)) (λ number row fine. state_profile_kept names counts kept number row fine) none.state_profiles));
     }
 
 links_count : (tree : Members) → (counts_in tree).links ≡ length (link_ends (links_of tree))

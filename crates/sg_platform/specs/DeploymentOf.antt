@@ -7,7 +7,7 @@ use Rattle.sg_rows.specs.Index.{host_number}
 use Rattle.sg_rows.specs.Platform.{Platform}
 use Rattle.sg_platform.specs.PlatformOf.{rows_unless, text_by}
 use Rattle.sg_rules.specs.Faults.{faults_of}
-use Rattle.sg_names.specs.Names.{Known, deployment_known}
+use Rattle.sg_names.specs.Names.{Known, known_by}
 use Rattle.sg_tables.specs.Tables.{deployment_tables}
 use Rattle.sg_tree.specs.Along.{first}
 use Rattle.sg_tree.specs.Tree.{rows_at}
@@ -16,7 +16,7 @@ use Rattle.toml.specs.Data.{Members}
 
 -- the names that a deployment may use on a platform: its hosts, and the names of its own rows
 abbrev pub names_on : Platform → Members → Known
-names_on platform tree = deployment_known (length platform.hosts) (host_number platform.hosts) tree
+names_on platform tree = known_by 0 (length platform.hosts) (host_number platform.hosts) tree
 
 -- the rows of a tree that has no fault
 unfoldable pub rows_of : Known → Members → Deployed

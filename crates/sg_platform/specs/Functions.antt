@@ -6,16 +6,13 @@ use Rattle.sg_rows.specs.declared.rows.Function.TheVariants.{Replay, Worker, Mas
 use Rattle.sg_names.specs.Workers.{has_function}
 use Rattle.sg_rules.specs.Arguments.{text_of}
 use Rattle.sg_names.specs.Names.{Known}
-use Rattle.sg_rules.specs.Profiles.{items_at}
-use Rattle.sg_tables.specs.Units.{amount_value}
+use Rattle.sg_rules.specs.Profiles.{amount_in, items_at}
+use Rattle.sg_tables.specs.declared.units.Quantity.{Quantity}
+use Rattle.sg_tables.specs.declared.units.Quantity.TheVariants.{Amount}
 use Rattle.toml.specs.Data.{Data}
 
--- the arguments of a row
-abbrev pub arguments_at : Data → List Data
-arguments_at row = items_at (codes "argument") row
-
-abbrev pub amount_of : Data → ℕ
-amount_of d = unwrap_or (amount_value (text_of d)) 0
+abbrev pub amount_or_zero : Quantity → Data → ℕ
+amount_or_zero quantity d = unwrap_or (amount_in quantity d) 0
 
 -- the worker that an argument names
 abbrev pub worker_id : Known → Data → ActorId
@@ -23,9 +20,9 @@ worker_id names d = record { 0 = unwrap_or (names.workers (text_of d)) 1 }
 
 -- the count of tasks, the flops and the bytes of each, and the workers in their order
 abbrev pub master_of : Known → List Data → Function
-master_of names (tasks ∷ (flops ∷ (bytes ∷ workers))) = Master (amount_of tasks) (amount_of flops) (amount_of bytes) (map (worker_id names) workers)
+master_of names (tasks ∷ (flops ∷ (bytes ∷ workers))) = Master (amount_or_zero Amount tasks) (amount_or_zero Amount flops) (amount_or_zero Amount bytes) (map (worker_id names) workers)
 master_of names arguments = Master 0 0 0 []
 
 unfoldable pub function_of : Known → Data → Function
 function_of names row =
-    if has_function (codes "master") row then master_of names (arguments_at row) else if has_function (codes "worker") row then Worker else Replay
+    if has_function (codes "master") row then master_of names (items_at (codes "argument") row) else if has_function (codes "worker") row then Worker else Replay

@@ -34,8 +34,7 @@ rows_of names tree = record {
 
 -- the first fault of a tree, else its rows
 abbrev pub rows_unless : {R : Type 0} → Option Fault → R → Result R (Option Fault)
-rows_unless None rows = Ok rows
-rows_unless (Some fault) rows = Err (Some fault)
+rows_unless fault rows = option_map_or (λ f. Err (Some f)) fault (Ok rows)
 
 unfoldable pub tree_platform : Members → Result Platform (Option Fault)
 tree_platform tree = rows_unless (first (faults_of (platform_known tree) platform_tables tree)) (rows_of (platform_known tree) tree)

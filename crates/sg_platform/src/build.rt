@@ -1,14 +1,14 @@
 //! Makes rows of a tree that has no fault.
-ghost use Rattle.std.specs.Prelude.{◌≡◌, ℕ, List, IfOk, codes, map, option_and_then, unwrap_or};
+ghost use Rattle.std.specs.Prelude.{◌≡◌, List, IfOk, codes, map, option_and_then, unwrap_or};
 ghost use Rattle.std.specs.HashMap.{get_by_text};
-ghost use Rattle.sg_platform.specs.Build.{actor_row, amounts_at, capacity_or_zero, child_of, core_or_one, down_links, gateway, host_row, link_id, link_of, link_row, links_at, mutex_row, network_of, network_row, number_of, point_id, policy_of, power_of, power_off, profile_row, route_row, router_row, routing_of, semaphore_row, spoke_row, state_profile_row, states_at, subject_by, value_at, zone_id, zone_route_row, zone_row};
+ghost use Rattle.sg_platform.specs.Build.{actor_row, amounts_at, child_of, down_links, gateway, host_row, link_id, link_row, links_at, mutex_row, network_of, network_row, point_id, policy_of, power_of, profile_row, route_row, router_row, routing_of, semaphore_row, spoke_row, state_profile_row, states_at, subject_of, value_at, whole_at, zone_id, zone_route_row, zone_row};
 ghost use Rattle.sg_rows.specs.declared.ends.LinkEnd.{LinkEnd};
 ghost use Rattle.sg_names.specs.Names.{Known};
-ghost use Rattle.sg_rules.specs.Profiles.{amount_in, state_in};
-ghost use Rattle.sg_tables.specs.Units.{amount_value, factor_value, latency_value, time_value};
+ghost use Rattle.sg_tables.specs.Units.{quantity_value};
+ghost use Rattle.sg_tables.specs.declared.units.Quantity.TheVariants as quantity;
 ghost use Rattle.sg_names.specs.kept.NamesView.{names_view};
 ghost use Rattle.sg_tree.specs.Tree.{text_at};
-ghost use Rattle.toml.specs.Data.{Data, as_integer, get};
+ghost use Rattle.toml.specs.Data.{Data};
 ghost use Rattle.sg_toml.specs.View.{view};
 
 use crate::functions::function_of;
@@ -20,16 +20,14 @@ use sg_rows::{
     Profiled, RouteRow, RouterRow, Routing, SemaphoreRow, SpokeRow, StateProfileRow, States,
     ZoneRouteRow, ZoneRow, way_back,
 };
-use sg_rules::{amount_in, items_at, milliwatts, powers_in, quantity_of, state_in, text_of};
-use sg_tables::{
-    Quantity, amount_value, bandwidth_value, factor_value, latency_value, speed_value, time_value,
-};
+use sg_rules::{amount_in, items_at, powers_in, quantity_of, state_in, text_of};
+use sg_tables::{Quantity, whole_value};
 use sg_toml::Value;
 use sg_tree::{text_at, text_or_empty};
 use std::alloc::Global;
 
 fn number_of(space: &IndexMap<String, u32>, name: &str) -> u32
-    ensures { result ≡ number_of (λ q. get_by_text space.now q) name.now }
+    ensures { result ≡ unwrap_or (get_by_text space.now name.now) 0 }
 {
     match space.get(name) {
         Some(number) => *number,
@@ -61,8 +59,7 @@ fn routing_of(text: &str) -> Routing
 }
 
 fn core_count(row: &Value) -> u32
-    ensures { result
-        ≡ core_or_one (option_and_then as_integer (get (codes "core") (view row.now))) }
+    ensures { result ≡ whole_at 1 1024 1 (codes "core") (view row.now) }
 {
     match row.get("core") {
         Some(value) => match value.as_integer() {
@@ -79,16 +76,26 @@ fn core_count(row: &Value) -> u32
     }
 }
 
-/// What a host draws while it is off, in milliwatts.
-fn power_off(row: &Value) -> u64
-    ensures { result ≡ power_off (view row.now) }
+/// The whole number at a key, where it is from the least to the greatest, or this default.
+fn whole_at(least: u64, greatest: u64, default: u64, row: &Value, key: &str) -> u64
+    ensures { result ≡ whole_at least greatest default key.now (view row.now) }
 {
-    match row.get("power_off") {
+    match row.get(key) {
         Some(value) => match value.as_integer() {
-            Some(number) => milliwatts(number).unwrap_or(0),
-            None => 0,
+            Some(number) => whole_value(least, greatest, number).unwrap_or(default),
+            None => default,
         },
-        None => 0,
+        None => default,
+    }
+}
+
+/// The amount at a key, or this default.
+fn value_at(quantity: Quantity, default: u64, row: &Value, key: &str) -> u64
+    ensures { result ≡ value_at quantity default key.now (view row.now) }
+{
+    match text_at(row, key) {
+        Some(text) => quantity.value(text.as_bytes()).unwrap_or(default),
+        None => default,
     }
 }
 
@@ -96,7 +103,7 @@ fn power_off(row: &Value) -> u64
 fn power_of(row: &Value) -> Option<Power>
     ensures { result ≡ power_of (view row.now) }
 {
-    let off = power_off(row);
+    let off = whole_at(0, 1_000_000_000, 0, row, "power_off");
     match powers_in(items_at(row, "power")) {
         Some(powers) => Some(Power {
             idle: powers.idle,
@@ -135,15 +142,6 @@ fn gateway(names: &Names, row: &Value, key: &str, end: &str) -> PointId
     }
 }
 
-fn latency_of(row: &Value) -> u64
-    ensures { result ≡ value_at latency_value 0 (codes "latency") (view row.now) }
-{
-    match text_at(row, "latency") {
-        Some(text) => latency_value(text.as_bytes()).unwrap_or(0),
-        None => 0,
-    }
-}
-
 fn policy_of(text: &str) -> Policy
     ensures { result ≡ policy_of text.now }
 {
@@ -153,19 +151,6 @@ fn policy_of(text: &str) -> Policy
         Policy::Fatpipe
     } else {
         Policy::Shared
-    }
-}
-
-fn capacity_of(row: &Value) -> u64
-    ensures { result
-        ≡ capacity_or_zero (option_and_then as_integer (get (codes "capacity") (view row.now))) }
-{
-    match row.get("capacity") {
-        Some(value) => match value.as_integer() {
-            Some(count) => { if count >= 0 { count as u64 } else { 0 } }
-            None => 0,
-        },
-        None => 0,
     }
 }
 
@@ -207,9 +192,7 @@ fn states_at(alloc: Global, row: &Value, key: &str) -> Result<States, Memory>
 }
 
 fn subject_of(names: &Names, row: &Value) -> Profiled
-    ensures { result
-        ≡ subject_by (names_view names.now) (view row.now)
-        (text_at (codes "host") (view row.now)) }
+    ensures { result ≡ subject_of (names_view names.now) (view row.now) }
 {
     match text_at(row, "host") {
         Some(host) => Profiled::Host(point_id(names, host)),
@@ -219,10 +202,12 @@ fn subject_of(names: &Names, row: &Value) -> Profiled
 
 /// How long after its last date a profile begins anew, where it does.
 fn gap_of(row: &Value) -> Option<u64>
-    ensures { result ≡ option_and_then time_value (text_at (codes "loop") (view row.now)) }
+    ensures { result
+        ≡ option_and_then (quantity_value quantity.Time)
+        (text_at (codes "loop") (view row.now)) }
 {
     match text_at(row, "loop") {
-        Some(text) => time_value(text.as_bytes()),
+        Some(text) => Quantity::Time.value(text.as_bytes()),
         None => None,
     }
 }
@@ -245,34 +230,14 @@ fn down_links(
     }
 }
 
-/// The factor that a key gives in millionths; 1 where it is absent.
-fn factor_at(row: &Value, key: &str) -> u64
-    ensures { result ≡ value_at factor_value 1000000 key.now (view row.now) }
-{
-    match text_at(row, key) {
-        Some(text) => factor_value(text.as_bytes()).unwrap_or(1_000_000),
-        None => 1_000_000,
-    }
-}
-
-/// The amount that a key gives; 0 where it is absent.
-fn amount_at(row: &Value, key: &str) -> u64
-    ensures { result ≡ value_at amount_value 0 key.now (view row.now) }
-{
-    match text_at(row, key) {
-        Some(text) => amount_value(text.as_bytes()).unwrap_or(0),
-        None => 0,
-    }
-}
-
 #[tactic(auto, unfolding(crate::specs::Build::network_row))]
 fn network_row(row: &Value) -> Network
     ensures { result ≡ network_row (view row.now) }
 {
     Network {
-        latency_factor: factor_at(row, "latency_factor"),
-        bandwidth_factor: factor_at(row, "bandwidth_factor"),
-        window: amount_at(row, "window"),
+        latency_factor: value_at(Quantity::Factor, 1_000_000, row, "latency_factor"),
+        bandwidth_factor: value_at(Quantity::Factor, 1_000_000, row, "bandwidth_factor"),
+        window: value_at(Quantity::Amount, 0, row, "window"),
     }
 }
 
@@ -349,7 +314,7 @@ impl Row for HostRow {
     ) -> Result<HostRow, Memory> {
         let id = Text::new(alloc, text_or_empty(row, "id"))?;
         let zone = zone_id(names, text_or_empty(row, "zone"));
-        let speed = speed_value(text_or_empty(row, "speed").as_bytes()).unwrap_or(0);
+        let speed = value_at(Quantity::Speed, 0, row, "speed");
         let cores = core_count(row);
         Ok(HostRow {
             id,
@@ -388,8 +353,8 @@ impl Row for LinkRow {
         row: &Value,
     ) -> Result<LinkRow, Memory> {
         let id = Text::new(alloc, text_or_empty(row, "id"))?;
-        let bandwidth = bandwidth_value(text_or_empty(row, "bandwidth").as_bytes()).unwrap_or(0);
-        let latency = latency_of(row);
+        let bandwidth = value_at(Quantity::Bandwidth, 0, row, "bandwidth");
+        let latency = value_at(Quantity::Latency, 0, row, "latency");
         let policy = policy_of(text_or_empty(row, "sharing_policy"));
         Ok(LinkRow {
             id,
@@ -567,7 +532,7 @@ impl Row for SemaphoreRow {
         let id = Text::new(alloc, text_or_empty(row, "id"))?;
         Ok(SemaphoreRow {
             id,
-            capacity: capacity_of(row),
+            capacity: whole_at(0, 1_000_000_000, 0, row, "capacity"),
         })
     }
 }

@@ -1,21 +1,22 @@
 //! What the actors of a tree do, where it has no fault.
 ghost use Rattle.std.specs.Prelude.{◌≡◌, IfOk, map};
-ghost use Rattle.sg_platform.specs.Functions.{amount_of, function_of, master_of, worker_id};
+ghost use Rattle.sg_platform.specs.Functions.{amount_or_zero, function_of, master_of, worker_id};
 ghost use Rattle.sg_names.specs.kept.NamesView.{names_view};
+ghost use Rattle.sg_tables.specs.declared.units.Quantity.TheVariants.{Amount};
 ghost use Rattle.sg_toml.specs.View.{view};
 
 use sg_base::{ActorId, Ids, Memory};
 use sg_names::{Names, has_function};
 use sg_rows::Function;
-use sg_rules::{items_at, text_of};
-use sg_tables::amount_value;
+use sg_rules::{amount_in, items_at, text_of};
+use sg_tables::Quantity;
 use sg_toml::Value;
 use std::alloc::Global;
 
 fn amount_of(item: &Value) -> u64
-    ensures { result ≡ amount_of (view item.now) }
+    ensures { result ≡ amount_or_zero Amount (view item.now) }
 {
-    amount_value(text_of(item).as_bytes()).unwrap_or(0)
+    amount_in(Quantity::Amount, item).unwrap_or(0)
 }
 
 /// The worker that an argument names.
