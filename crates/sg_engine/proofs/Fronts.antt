@@ -22,31 +22,31 @@ written_on whole text rest left old mid new first then = record {
 }
 
 -- what waits begins with a text, which is put then
-pub put_on : (whole text rest waiting : List ℕ) (old mid new : Stream → Option (List ℕ)) (f f' : ℕ) → IsPut whole (text ++ rest) old mid f → IsPut text waiting mid new f' → IsPut whole (waiting ++ rest) old new f'
-put_on whole text rest waiting old mid new f f' first then = record {
+pub put_on : (whole text rest waiting : List ℕ) (old mid new : Stream → Option (List ℕ)) (z f f' : ℕ) → IsPut whole (text ++ rest) old mid z f → IsPut text waiting mid new f f' → IsPut whole (waiting ++ rest) old new z f'
+put_on whole text rest waiting old mid new z f f' first then = record {
   written = written_on whole text rest waiting (old Out) (mid Out) (new Out) first.written then.written;
   err_held = then.err_held ∙ first.err_held;
-  sound = then.sound;
+  sound = then.sound ∙ first.sound;
 }
 
 -- the same with what waits in other words
-pub put_as : (whole waiting other : List ℕ) (old new : Stream → Option (List ℕ)) (f : ℕ) → waiting ≡ other → IsPut whole waiting old new f → IsPut whole other old new f
-put_as whole waiting other old new f same put = subst (λ (l : List ℕ). IsPut whole l old new f) same put
+pub put_as : (whole waiting other : List ℕ) (old new : Stream → Option (List ℕ)) (z f : ℕ) → waiting ≡ other → IsPut whole waiting old new z f → IsPut whole other old new z f
+put_as whole waiting other old new z f same put = subst (λ (l : List ℕ). IsPut whole l old new z f) same put
 
 -- a write failed at a text that is put then
-pub broke_on : (whole text rest : List ℕ) (old mid new : Stream → Option (List ℕ)) (f f' : ℕ) → IsPut whole (text ++ rest) old mid f → Broke text mid new f' → Broke whole old new f'
-broke_on whole text rest old mid new f f' first broke = record {
+pub broke_on : (whole text rest : List ℕ) (old mid new : Stream → Option (List ℕ)) (z f f' : ℕ) → IsPut whole (text ++ rest) old mid z f → Broke text mid new f' → Broke whole old new f'
+broke_on whole text rest old mid new z f f' first broke = record {
   front = (broke.front.0 ++ rest, written_on whole text rest broke.front.0 (old Out) (mid Out) (new Out) first.written broke.front.1);
   err_held = broke.err_held ∙ first.err_held;
   failed = broke.failed;
 }
 
 -- all that waits is written
-pub wrote_all : (whole waiting : List ℕ) (old mid new : Stream → Option (List ℕ)) (f f' : ℕ) → IsPut whole waiting old mid f → Wrote waiting mid new f' → Wrote whole old new f'
-wrote_all whole waiting old mid new f f' put wrote = record {
+pub wrote_all : (whole waiting : List ℕ) (old mid new : Stream → Option (List ℕ)) (z f f' : ℕ) → IsPut whole waiting old mid z f → Wrote waiting mid new f f' → Wrote whole old new z f'
+wrote_all whole waiting old mid new z f f' put wrote = record {
   out_held = wrote.out_held ∙ ap (λ (h : Option (List ℕ)). gain h waiting) put.written.held ∙ gain-gain (old Out) put.written.done waiting ∙ ap (gain (old Out)) (sym put.written.split);
   err_held = wrote.err_held ∙ put.err_held;
-  sound = wrote.sound;
+  sound = wrote.sound ∙ put.sound;
 }
 
 -- a front of a text is a front of a longer one
@@ -129,12 +129,12 @@ written_whole : (text : List ℕ) (old new : Option (List ℕ)) → new ≡ gain
 written_whole text old new held = record { done = text; split = sym (append-nil text); held = held }
 
 -- a line on Err behind a text that is written
-pub told_behind : (text err : List ℕ) (result : Result (Unit {0}) Failed) (old mid new : Stream → Option (List ℕ)) (f f' : ℕ) → Wrote text old mid f → Tells [] err result mid new f' → Tells text err result old new f'
-told_behind text err (Ok done) old mid new f f' wrote told = (
+pub told_behind : (text err : List ℕ) (result : Result (Unit {0}) Failed) (old mid new : Stream → Option (List ℕ)) (z f f' : ℕ) → Wrote text old mid z f → Tells [] err result mid new f f' → Tells text err result old new z f'
+told_behind text err (Ok done) old mid new z f f' wrote told = (
   subst (λ (t : List ℕ). GainsAll t err old new) (append-nil text) (all_behind text [] [] err old mid new (written_whole text (old Out) (mid Out) wrote.out_held) wrote.err_held told.0),
-  told.1,
+  told.1 ∙ wrote.sound,
 )
-told_behind text err (Error why) old mid new f f' wrote told = (
+told_behind text err (Error why) old mid new z f f' wrote told = (
   subst (λ (t : List ℕ). GainsFronts t err old new) (append-nil text) (fronts_behind text [] [] err old mid new (written_whole text (old Out) (mid Out) wrote.out_held) wrote.err_held told.0),
   told.1,
 )
@@ -144,26 +144,26 @@ pub told_broke : (text err : List ℕ) (old new : Stream → Option (List ℕ)) 
 told_broke text err old new f broke = (fronts_out text err old new broke.front broke.err_held, broke.failed)
 
 -- ---- for want of memory
-pub memory_front : (waiting : List ℕ) (how : Ended) (old new : Stream → Option (List ℕ)) (f : ℕ) → EndsForMemory waiting how old new f → GainsFront waiting (old Out) (new Out)
-memory_front waiting how old new f (inl h) = ([], written_whole waiting (old Out) (new Out) h.1.out_held)
-memory_front waiting how old new f (inr h) = h.1.front
+pub memory_front : (waiting : List ℕ) (how : Ended) (old new : Stream → Option (List ℕ)) (z f : ℕ) → EndsForMemory waiting how old new z f → GainsFront waiting (old Out) (new Out)
+memory_front waiting how old new z f (inl h) = ([], written_whole waiting (old Out) (new Out) h.1.out_held)
+memory_front waiting how old new z f (inr h) = h.1.front
 
-pub memory_err : (waiting : List ℕ) (how : Ended) (old new : Stream → Option (List ℕ)) (f : ℕ) → EndsForMemory waiting how old new f → new Err ≡ old Err
-memory_err waiting how old new f (inl h) = h.1.err_held
-memory_err waiting how old new f (inr h) = h.1.err_held
+pub memory_err : (waiting : List ℕ) (how : Ended) (old new : Stream → Option (List ℕ)) (z f : ℕ) → EndsForMemory waiting how old new z f → new Err ≡ old Err
+memory_err waiting how old new z f (inl h) = h.1.err_held
+memory_err waiting how old new z f (inr h) = h.1.err_held
 
-pub memory_cuts : (waiting : List ℕ) (how : Ended) (old new : Stream → Option (List ℕ)) (f : ℕ) → EndsForMemory waiting how old new f → is_cut how ≡ true
-memory_cuts waiting how old new f (inl h) = ap is_cut h.0
-memory_cuts waiting how old new f (inr h) = ap is_cut h.0
+pub memory_cuts : (waiting : List ℕ) (how : Ended) (old new : Stream → Option (List ℕ)) (z f : ℕ) → EndsForMemory waiting how old new z f → is_cut how ≡ true
+memory_cuts waiting how old new z f (inl h) = ap is_cut h.0
+memory_cuts waiting how old new z f (inr h) = ap is_cut h.0
 
 -- a failed write of what waited is told, and nothing else of that kind
-pub memory_cause : (waiting : List ℕ) (how : Ended) (old new : Stream → Option (List ℕ)) (f : ℕ) (broke : Type 0) → EndsForMemory waiting how old new f → HasCause (Some how ≡ Some ended.WriteFault) (Some how ≡ Some ended.ReadFault) f broke
-memory_cause waiting how old new f broke (inl h) = record {
+pub memory_cause : (waiting : List ℕ) (how : Ended) (old new : Stream → Option (List ℕ)) (z f : ℕ) (broke : Type 0) → EndsForMemory waiting how old new z f → HasCause (Some how ≡ Some ended.WriteFault) (Some how ≡ Some ended.ReadFault) z f broke
+memory_cause waiting how old new z f broke (inl h) = record {
   write = λ is. let e : Some ended.Memory ≡ Some ended.WriteFault = ap (λ (x : Ended). Some x) (sym h.0) ∙ is in cc e;
   sound = λ isnt. h.1.sound;
   read = λ is. let e : Some ended.Memory ≡ Some ended.ReadFault = ap (λ (x : Ended). Some x) (sym h.0) ∙ is in cc e;
 }
-memory_cause waiting how old new f broke (inr h) = record {
+memory_cause waiting how old new z f broke (inr h) = record {
   write = λ is. h.1.failed;
   sound = λ isnt. absurd (isnt (ap (λ (x : Ended). Some x) h.0));
   read = λ is. let e : Some ended.WriteFault ≡ Some ended.ReadFault = ap (λ (x : Ended). Some x) (sym h.0) ∙ is in cc e;

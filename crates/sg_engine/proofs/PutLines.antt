@@ -20,38 +20,38 @@ use Rattle.sg_engine.proofs.Waiting.{adds_front, adds_then, front_adds}
 
 -- ---- one line of several
 -- a line that stands first in what is left was put
-pub line_put : (whole buffer line left rest waiting : List ℕ) (old mid new : Stream → Option (List ℕ)) (f f' : ℕ) → left ≡ line ++ rest → IsPut whole (buffer ++ left) old mid f → IsPut (buffer ++ line) waiting mid new f' → IsPut whole (waiting ++ rest) old new f'
-line_put whole buffer line left rest waiting old mid new f f' first put then =
-    put_on whole (buffer ++ line) rest waiting old mid new f f' (put_as whole (buffer ++ left) (buffer ++ line ++ rest) old mid f (ap (λ (l : List ℕ). buffer ++ l) first ∙ sym (append_assoc buffer line rest)) put) then
+pub line_put : (whole buffer line left rest waiting : List ℕ) (old mid new : Stream → Option (List ℕ)) (z f f' : ℕ) → left ≡ line ++ rest → IsPut whole (buffer ++ left) old mid z f → IsPut (buffer ++ line) waiting mid new f f' → IsPut whole (waiting ++ rest) old new z f'
+line_put whole buffer line left rest waiting old mid new z f f' first put then =
+    put_on whole (buffer ++ line) rest waiting old mid new z f f' (put_as whole (buffer ++ left) (buffer ++ line ++ rest) old mid z f (ap (λ (l : List ℕ). buffer ++ l) first ∙ sym (append_assoc buffer line rest)) put) then
 
-pub line_broke : (whole buffer line left rest : List ℕ) (old mid new : Stream → Option (List ℕ)) (f f' : ℕ) → left ≡ line ++ rest → IsPut whole (buffer ++ left) old mid f → Broke (buffer ++ line) mid new f' → Broke whole old new f'
-line_broke whole buffer line left rest old mid new f f' first put broke =
-    broke_on whole (buffer ++ line) rest old mid new f f' (put_as whole (buffer ++ left) (buffer ++ line ++ rest) old mid f (ap (λ (l : List ℕ). buffer ++ l) first ∙ sym (append_assoc buffer line rest)) put) broke
+pub line_broke : (whole buffer line left rest : List ℕ) (old mid new : Stream → Option (List ℕ)) (z f f' : ℕ) → left ≡ line ++ rest → IsPut whole (buffer ++ left) old mid z f → Broke (buffer ++ line) mid new f' → Broke whole old new f'
+line_broke whole buffer line left rest old mid new z f f' first put broke =
+    broke_on whole (buffer ++ line) rest old mid new z f f' (put_as whole (buffer ++ left) (buffer ++ line ++ rest) old mid z f (ap (λ (l : List ℕ). buffer ++ l) first ∙ sym (append_assoc buffer line rest)) put) broke
 
 -- nothing is left
-pub none_left : (whole buffer left : List ℕ) (old new : Stream → Option (List ℕ)) (f : ℕ) → left ≡ [] → IsPut whole (buffer ++ left) old new f → IsPut whole buffer old new f
-none_left whole buffer left old new f none put = put_as whole (buffer ++ left) buffer old new f (ap (λ (l : List ℕ). buffer ++ l) none ∙ append-nil buffer) put
+pub none_left : (whole buffer left : List ℕ) (old new : Stream → Option (List ℕ)) (z f : ℕ) → left ≡ [] → IsPut whole (buffer ++ left) old new z f → IsPut whole buffer old new z f
+none_left whole buffer left old new z f none put = put_as whole (buffer ++ left) buffer old new z f (ap (λ (l : List ℕ). buffer ++ l) none ∙ append-nil buffer) put
 
 -- a text, and then one more
-pub put_then : (buffer first second waiting left : List ℕ) (old mid new : Stream → Option (List ℕ)) (f f' : ℕ) → IsPut (buffer ++ first) waiting old mid f → IsPut (waiting ++ second) left mid new f' → IsPut (buffer ++ (first ++ second)) left old new f'
-put_then buffer first second waiting left old mid new f f' put then = record {
+pub put_then : (buffer first second waiting left : List ℕ) (old mid new : Stream → Option (List ℕ)) (z f f' : ℕ) → IsPut (buffer ++ first) waiting old mid z f → IsPut (waiting ++ second) left mid new f f' → IsPut (buffer ++ (first ++ second)) left old new z f'
+put_then buffer first second waiting left old mid new z f f' put then = record {
   written = adds_then first second (pending (old Out) buffer) (pending (mid Out) waiting) (pending (new Out) left) put.written then.written;
   err_held = then.err_held ∙ put.err_held;
-  sound = then.sound;
+  sound = then.sound ∙ put.sound;
 }
 
 -- the second of two texts broke off
-pub put_breaks : (buffer first second waiting : List ℕ) (old mid new : Stream → Option (List ℕ)) (f f' : ℕ) → IsPut (buffer ++ first) waiting old mid f → Broke (waiting ++ second) mid new f' → Broke (buffer ++ (first ++ second)) old new f'
-put_breaks buffer first second waiting old mid new f f' put broke = record {
+pub put_breaks : (buffer first second waiting : List ℕ) (old mid new : Stream → Option (List ℕ)) (z f f' : ℕ) → IsPut (buffer ++ first) waiting old mid z f → Broke (waiting ++ second) mid new f' → Broke (buffer ++ (first ++ second)) old new f'
+put_breaks buffer first second waiting old mid new z f f' put broke = record {
   front = adds_front first second (pending (old Out) buffer) (pending (mid Out) waiting) (new Out) put.written broke.front;
   err_held = broke.err_held ∙ put.err_held;
   failed = broke.failed;
 }
 
 -- the two of them, whatever the second has come to
-pub puts_then : (buffer first second waiting left : List ℕ) (result : Result (Unit {0}) Failed) (old mid new : Stream → Option (List ℕ)) (f f' : ℕ) → IsPut (buffer ++ first) waiting old mid f → Puts (waiting ++ second) left result mid new f' → Puts (buffer ++ (first ++ second)) left result old new f'
-puts_then buffer first second waiting left (Ok done) old mid new f f' put then = put_then buffer first second waiting left old mid new f f' put then
-puts_then buffer first second waiting left (Err why) old mid new f f' put broke = put_breaks buffer first second waiting old mid new f f' put broke
+pub puts_then : (buffer first second waiting left : List ℕ) (result : Result (Unit {0}) Failed) (old mid new : Stream → Option (List ℕ)) (z f f' : ℕ) → IsPut (buffer ++ first) waiting old mid z f → Puts (waiting ++ second) left result mid new f f' → Puts (buffer ++ (first ++ second)) left result old new z f'
+puts_then buffer first second waiting left (Ok done) old mid new z f f' put then = put_then buffer first second waiting left old mid new z f f' put then
+puts_then buffer first second waiting left (Err why) old mid new z f f' put broke = put_breaks buffer first second waiting old mid new z f f' put broke
 
 -- the first of two texts broke off
 pub first_breaks : (buffer first second : List ℕ) (old new : Stream → Option (List ℕ)) (f : ℕ) → Broke (buffer ++ first) old new f → Broke (buffer ++ (first ++ second)) old new f
@@ -62,8 +62,8 @@ first_breaks buffer first second old new f broke = record {
 }
 
 -- a write of what waits failed
-pub put_breaks_off : (whole waiting : List ℕ) (old mid new : Stream → Option (List ℕ)) (f f' : ℕ) → IsPut whole waiting old mid f → Broke waiting mid new f' → Broke whole old new f'
-put_breaks_off whole waiting old mid new f f' put broke = broke_on whole waiting [] old mid new f f' (put_as whole waiting (waiting ++ []) old mid f (sym (append-nil waiting)) put) broke
+pub put_breaks_off : (whole waiting : List ℕ) (old mid new : Stream → Option (List ℕ)) (z f f' : ℕ) → IsPut whole waiting old mid z f → Broke waiting mid new f' → Broke whole old new f'
+put_breaks_off whole waiting old mid new z f f' put broke = broke_on whole waiting [] old mid new z f f' (put_as whole waiting (waiting ++ []) old mid z f (sym (append-nil waiting)) put) broke
 
 -- ---- the lines of actors that are suspended or blocked
 pub stuck_more : (platform : Platform) (deployed : Deployed) (actors : List Actor) (i : ℕ) → i < length actors →

@@ -142,11 +142,11 @@ pub part_kept : {A : Type 0} (mind : A → Option Mind) (plan : Plan) (how : Opt
 part_kept mind plan how shows old new uncut crew setup kept = record { crew = rw uncut crew; setup = setup; kept = rw uncut kept }
 
 -- a part for which memory was wanting
-pub part_short : (spent : ℕ) (names : Names) (trace : Trace) (whole : Answering → Progress) (how : Ended) (taken : List ℕ) (cast : Cast) (old new : Moment) (waits first left : List ℕ) (before after : Stream → Option (List ℕ)) (faults : ℕ) → LacksMemory names whole taken cast.contexts old.part new.part → waits ≡ first → EndsForMemory waits how before after faults →
+pub part_short : (spent : ℕ) (names : Names) (trace : Trace) (whole : Answering → Progress) (how : Ended) (taken : List ℕ) (cast : Cast) (old new : Moment) (waits first left : List ℕ) (before after : Stream → Option (List ℕ)) (had faults : ℕ) → LacksMemory names whole taken cast.contexts old.part new.part → waits ≡ first → EndsForMemory waits how before after had faults →
     PartIs spent names trace whole (Some how) taken cast old new (pending (before Out) first) (pending (after Out) left)
-part_short spent names trace whole how taken cast old new waits first left before after faults lacks same ends =
-    let front : GainsFront first (before Out) (after Out) = subst (λ (w : List ℕ). GainsFront w (before Out) (after Out)) same (memory_front waits how before after faults ends) in
-    part_cuts spent names trace whole (Some how) taken cast old new (pending (before Out) first) (pending (after Out) left) (memory_cuts waits how before after faults ends) (cuts_off_by names trace whole taken cast.contexts old.part new.part (pending (before Out) first) (after Out) lacks front)
+part_short spent names trace whole how taken cast old new waits first left before after had faults lacks same ends =
+    let front : GainsFront first (before Out) (after Out) = subst (λ (w : List ℕ). GainsFront w (before Out) (after Out)) same (memory_front waits how before after had faults ends) in
+    part_cuts spent names trace whole (Some how) taken cast old new (pending (before Out) first) (pending (after Out) left) (memory_cuts waits how before after had faults ends) (cuts_off_by names trace whole taken cast.contexts old.part new.part (pending (before Out) first) (after Out) lacks front)
 
 -- behind it nothing is kept but the setup
 pub short_kept : {A : Type 0} (mind : A → Option Mind) (plan : Plan) (how : Ended) (shows : Part → PartView) (old new : Simulation A) → is_cut how ≡ true → TakesCrew true old new → new.kernel.setup ≡ old.kernel.setup → StaysKept mind plan (Some how) shows old new

@@ -8,6 +8,7 @@ use Rattle.sg_edge.specs.declared.files.Part.TheVariants.{Script}
 use Rattle.sg_edge.specs.declared.files.Stage.TheVariants.{Broken}
 use Rattle.sg_edge.specs.Sources.{Source, Gives}
 use Rattle.sg_edge.specs.declared.sinks.Stream.{Stream}
+use Rattle.sg_edge.specs.declared.sinks.Stream.TheVariants.{Err}
 use Rattle.sg_engine.specs.declared.ended.Ended.{Ended}
 use Rattle.sg_engine.specs.declared.ended.Ended.TheVariants as ended
 use Rattle.sg_engine.specs.declared.setup.Setup.{Setup}
@@ -48,8 +49,8 @@ pub record IsRun (want : Output) (how : Ended) (old new : Stream → Option (Lis
 
 -- why a run ended by a failed write or a failed read: a write has failed; the script's part is broken, and was before or
 -- has broken since
-abbrev pub IsRunCause : Ended → ℕ → (Part → PartView) → (Part → PartView) → Type 0
-IsRunCause how faults old new = HasCause (how ≡ ended.WriteFault) (how ≡ ended.ReadFault) faults (IsBroken (old Script) (new Script))
+abbrev pub IsRunCause : Ended → ℕ → ℕ → (Part → PartView) → (Part → PartView) → Type 0
+IsRunCause how had faults old new = HasCause (how ≡ ended.WriteFault) (how ≡ ended.ReadFault) had faults (IsBroken (old Script) (new Script))
 
 -- the crew has a blank context for each actor that starts, and maybe more
 pub record HasContexts {A : Type 0} (mind : A → Option Mind) (crew : List A) (deployed : Deployed) : Type 0 where
@@ -72,6 +73,13 @@ pub record TakesScript {F : Type 0} (shows : F → Part → PartView) (script : 
   pub unscripted : script ≡ false → new ≡ old
   pub name : (shows new Script).name ≡ (shows old Script).name
   pub telling : KeepsTelling (shows old Script) (shows new Script)
+
+-- How a run has ended: why a write or a read failed, that want of memory leaves Err as it was, and that of all files only
+-- the script's part was read.
+pub record IsEnding {F : Type 0} (shows : F → Part → PartView) (script : Bool) (how : Ended) (before after : F) (old new : Stream → Option (List ℕ)) (had faults : ℕ) : Type 0 where
+  pub cause : IsRunCause how had faults (shows before) (shows after)
+  pub memory : how ≡ ended.Memory → new Err ≡ old Err
+  pub reads : TakesScript shows script before after
 
 -- a fact for each source that the script's part may have given; without a script, for any
 abbrev pub ForSources : Bool → (Part → PartView) → (Part → PartView) → (Source → Type 0) → Type 0

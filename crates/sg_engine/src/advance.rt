@@ -20,9 +20,8 @@ use std::thread::Threads;
 
 // Writes the lines that wait, where memory is wanting for the run to go on. It takes none itself.
 fn end_for_memory<O: Sinks>(buffer: &mut Buffer, out: &mut O) -> Ended
-    requires { O.faults out.old ≡ 0 }
     ensures { EndsForMemory buffer.old result
-        (O.contents out.old) (O.contents out.new) (O.faults out.new) }
+        (O.contents out.old) (O.contents out.new) (O.faults out.old) (O.faults out.new) }
 {
     match buffer.flush(out) {
         Ok(()) => Ended::Memory,
@@ -42,14 +41,14 @@ pub fn advance<R: Threads + Sync, F: Files, O: Sinks, L: Ledger>(
 ) -> Option<Ended>
     requires going { CanAdvance (λ b. mind b) engine.now.plan (F.shows files.old) router.old
         sim.old }
-    requires sound { O.faults out.old ≡ 0 }
     ensures part { LeadsPart engine.now.plan router.old result
         (snapshot_of (λ b. mind b) engine.now.plan (F.shows files.old) (O.contents out.old) sim.old)
         (snapshot_of (λ b. mind b) engine.now.plan (F.shows files.new) (O.contents out.new)
         sim.new) }
     ensures kept { StaysKept (λ b. mind b) engine.now.plan result (F.shows files.new) sim.old
         sim.new }
-    ensures cause { IsCaused engine.now.plan result (F.shows files.new) (O.faults out.new) }
+    ensures cause { IsCaused engine.now.plan result (F.shows files.new)
+        (O.faults out.old) (O.faults out.new) }
     ensures script { ReadsScript F.shows engine.now.plan.script files.old files.new }
     ensures steps { steps.new ≤ steps.old + next_work sim.old.kernel.core }
     ensures router { router.new ≡ router.old }

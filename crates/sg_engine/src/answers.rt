@@ -7,7 +7,7 @@ ghost use Rattle.sg_edge.specs.declared.files.Stage.TheVariants.{Fresh};
 ghost use Rattle.sg_kernel.specs.World.{MayCall, extent};
 ghost use Rattle.sg_kernel.specs.Roads.{AreOver};
 ghost use Rattle.sg_engine.specs.declared.actor_call.ActorCall.{ActorCall};
-ghost use Rattle.sg_engine.specs.kept.Invariant.{at_moment, cast_in, may_be_given, unstarted, CanCreate, FitsNow, IsManned, KeepsOthers, KeepsSeats, LeadsTo};
+ghost use Rattle.sg_engine.specs.kept.Invariant.{at_moment, cast_in, may_be_given, unstarted, CanAnswer, CanCreate, FitsNow, GoesOn, KeepsOthers, LeadsTo};
 ghost use Rattle.sg_engine.specs.kept.Moments.{cuts, moment_in, script_moment, call_at, calls_at, created_at, other_at, FitsIn, FitsScript, IsFree, IsReadFrom, LeavesFree, Leads, LeadsCalls, UsesScript};
 ghost use Rattle.sg_engine.specs.Run.{created_by, is_ask, ask_step};
 
@@ -85,12 +85,12 @@ fn answer_other<F: Files>(
         (moment_in plan.now (F.shows files.old) script.old kernel.old)
         (moment_in plan.now (F.shows files.new) script.new kernel.new) }
     ensures fits { FitsIn plan.now (F.shows files.new) script.new kernel.new }
-    ensures script { UsesScript F.shows plan.now.script result files.old files.new }
+    ensures script { UsesScript F.shows plan.now.script result files.old files.new
+        router.old router.new }
     ensures setup { kernel.new.setup ≡ kernel.old.setup }
     ensures room { kernel.old.room ≤ kernel.new.room + 1 }
     ensures free { LeavesFree made.actor.0 kernel.old.core kernel.new.core }
     ensures begun { unstarted kernel.new.core ≤ unstarted kernel.old.core }
-    ensures router { router.new ≡ router.old }
 {
     if asks_script(plan.script, made.call) {
         answer_ask(plan, kernel, script, files, made.actor)
@@ -177,16 +177,14 @@ fn answer_one<F: Files>(
     requires caller { IsFree sim.old.kernel.core made.actor.0 }
     requires call { IsCall (extent sim.old.kernel.setup) made.call }
     requires room { 0 < sim.old.kernel.room }
-    requires roads { AreOver sim.old.kernel.setup.links router.old }
-    requires fits { FitsNow plan.now (F.shows files.old) sim.old }
-    requires manned { IsManned (λ b. mind b) sim.old }
+    requires can { CanAnswer (λ b. mind b) plan.now (F.shows files.old) router.old sim.old }
     ensures step { LeadsTo (λ b. mind b) plan.now (λ world. world.work)
         (call_at plan.now router.old sim.old.kernel made) result
         (F.shows files.old) (F.shows files.new) sim.old sim.new }
     ensures fits { FitsNow plan.now (F.shows files.new) sim.new }
-    ensures script { UsesScript F.shows plan.now.script result files.old files.new }
+    ensures script { UsesScript F.shows plan.now.script result files.old files.new
+        router.old router.new }
     ensures others { KeepsOthers (λ b. mind b) made.actor.0 (is_err result) sim.old sim.new }
-    ensures router { router.new ≡ router.old }
 {
     if !sim.kernel.alive(made.actor) {
         return Ok(None);
@@ -208,16 +206,12 @@ pub fn answer_calls<F: Files>(
         × IsCall (extent sim.old.kernel.setup) made.call) sim.old.calls.items }
     requires rises { AllPairs (λ (a b : ActorCall). a.actor.0 < b.actor.0) sim.old.calls.items }
     requires room { length sim.old.calls.items ≤ sim.old.kernel.room }
-    requires roads { AreOver sim.old.kernel.setup.links router.old }
-    requires fits { FitsNow plan.now (F.shows files.old) sim.old }
-    requires manned { IsManned (λ b. mind b) sim.old }
+    requires can { CanAnswer (λ b. mind b) plan.now (F.shows files.old) router.old sim.old }
     ensures step { LeadsTo (λ b. mind b) plan.now (λ world. world.work)
         (calls_at plan.now router.old sim.old.kernel sim.old.calls.items) result
         (F.shows files.old) (F.shows files.new) sim.old sim.new }
-    ensures fits { FitsNow plan.now (F.shows files.new) sim.new }
-    ensures seats { KeepsSeats (λ b. mind b) (is_err result) sim.old sim.new }
-    ensures script { UsesScript F.shows plan.now.script result files.old files.new }
-    ensures router { router.new ≡ router.old }
+    ensures goes { GoesOn (λ b. mind b) plan.now F.shows result files.old files.new
+        router.old router.new sim.old sim.new }
 {
     for place in 0..sim.calls.len() {
         let made = sim.calls.as_slice()[place];

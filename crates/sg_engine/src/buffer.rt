@@ -37,9 +37,8 @@ impl Buffer {
     /// Adds a line. Where there is no room for it, what waits is written first.
     pub fn put<O: Sinks>(&mut self, line: &[u8], out: &mut O) -> Result<(), Failed>
         requires line { length line.now ≤ 512 }
-        requires sound { O.faults out.old ≡ 0 }
         ensures { Puts (self.old ++ line.now) self.new result
-            (O.contents out.old) (O.contents out.new) (O.faults out.new) }
+            (O.contents out.old) (O.contents out.new) (O.faults out.old) (O.faults out.new) }
     {
         if self.bytes.len() + line.len() > ROOM {
             match self.flush(out) {
@@ -63,9 +62,8 @@ impl Buffer {
 
     /// Writes what waits.
     pub fn flush<O: Sinks>(&mut self, out: &mut O) -> Result<(), Failed>
-        requires { O.faults out.old ≡ 0 }
         ensures writes { Writes self.old result
-            (O.contents out.old) (O.contents out.new) (O.faults out.new) }
+            (O.contents out.old) (O.contents out.new) (O.faults out.old) (O.faults out.new) }
         ensures empty { OnOk result (self.new ≡ []) }
     {
         match write_all(out, Stream::Out, &self.bytes) {

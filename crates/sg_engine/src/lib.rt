@@ -11,6 +11,7 @@ mod answers;
 mod buffer;
 mod ended;
 mod fault_lines;
+mod final_state;
 mod finish;
 mod laws;
 mod plan;

@@ -1,17 +1,17 @@
 //! The lines on Out. Each is put into the buffer.
-ghost use Rattle.std.specs.Prelude.{◌≡◌, ◌<◌, ◌++◌, length, slice_index_or, IfSome};
+ghost use Rattle.std.specs.Prelude.{◌≡◌, ◌<◌, ◌++◌, slice_index_or, IfSome};
 ghost use Rattle.sg_states.specs.Actors.{actor_at};
 ghost use Rattle.sg_states.specs.Records.{AreRecords, IsRecord};
 ghost use Rattle.sg_kernel.specs.World.{IsActor};
 ghost use Rattle.sg_rows.specs.Deployment.{extent_of};
-ghost use Rattle.sg_trace.specs.Ending.{IsLastOf, ending_of};
+ghost use Rattle.sg_trace.specs.Ending.{IsLastOf};
 ghost use Rattle.sg_trace.specs.Line.{line_of};
 ghost use Rattle.sg_engine.specs.kept.Writing.{Puts};
-ghost use Rattle.sg_engine.specs.kept.Invariant.{IsOfSetup};
-ghost use Rattle.sg_engine.specs.Output.{all_energy, energy_last, line_if, stuck_last, stuck_lines, trace_of};
-ghost use Rattle.sg_engine.specs.kept.Stretches.{trace_in};
+ghost use Rattle.sg_engine.specs.Output.{energy_last, line_if, stuck_last, trace_of};
+ghost use Rattle.sg_engine.specs.kept.Stretches.{ending_in, energy_in, stuck_in, trace_in};
 
 use crate::buffer::Buffer;
+use crate::final_state::Final;
 use crate::plan::Plan;
 use crate::show::Show;
 use sg_base::{ActorId, PointId, Record};
@@ -28,11 +28,10 @@ fn put_record<O: Sinks>(
     out: &mut O,
 ) -> Result<(), Failed>
     requires answered { IsRecord (extent_of plan.now.deployment.now) answered.now }
-    requires sound { O.faults out.old ≡ 0 }
     ensures { Puts
         (buffer.old ++ line_of answered.now plan.now.platform.now plan.now.deployment.now)
         buffer.new result
-        (O.contents out.old) (O.contents out.new) (O.faults out.new) }
+        (O.contents out.old) (O.contents out.new) (O.faults out.old) (O.faults out.new) }
 {
     let text = line(answered, plan.platform, plan.deployment);
     buffer.put(text.as_bytes(), out)
@@ -46,11 +45,10 @@ fn put_records<O: Sinks>(
     out: &mut O,
 ) -> Result<(), Failed>
     requires records { AreRecords (extent_of plan.now.deployment.now) records.now }
-    requires sound { O.faults out.old ≡ 0 }
     ensures { Puts (buffer.old
         ++ trace_of Show.All plan.now.platform.now plan.now.deployment.now records.now)
         buffer.new result
-        (O.contents out.old) (O.contents out.new) (O.faults out.new) }
+        (O.contents out.old) (O.contents out.new) (O.faults out.old) (O.faults out.new) }
 {
     for answered in records {
         match put_record(plan, answered, buffer, out) {
@@ -69,9 +67,8 @@ pub fn put_trace<O: Sinks>(
     out: &mut O,
 ) -> Result<(), Failed>
     requires records { AreRecords (extent_of plan.now.deployment.now) records.now }
-    requires sound { O.faults out.old ≡ 0 }
     ensures { Puts (buffer.old ++ trace_in plan.now records.now) buffer.new result
-        (O.contents out.old) (O.contents out.new) (O.faults out.new) }
+        (O.contents out.old) (O.contents out.new) (O.faults out.old) (O.faults out.new) }
 {
     match plan.terms.show {
         Show::All => {}
@@ -88,10 +85,8 @@ pub fn put_last<O: Sinks>(
     out: &mut O,
 ) -> Result<(), Failed>
     requires last { IsLastOf plan.now.platform.now plan.now.deployment.now last }
-    requires sound { O.faults out.old ≡ 0 }
-    ensures { Puts (buffer.old ++ ending_of last plan.now.platform.now plan.now.deployment.now)
-        buffer.new result
-        (O.contents out.old) (O.contents out.new) (O.faults out.new) }
+    ensures { Puts (buffer.old ++ ending_in plan.now last) buffer.new result
+        (O.contents out.old) (O.contents out.new) (O.faults out.old) (O.faults out.new) }
 {
     let text = ending_line(&last, plan.platform, plan.deployment);
     buffer.put(text.as_bytes(), out)
@@ -107,10 +102,9 @@ pub fn put_two<O: Sinks>(
 ) -> Result<(), Failed>
     requires first { IsLastOf plan.now.platform.now plan.now.deployment.now first }
     requires second { IsLastOf plan.now.platform.now plan.now.deployment.now second }
-    requires sound { O.faults out.old ≡ 0 }
-    ensures { Puts (buffer.old ++ (ending_of first plan.now.platform.now plan.now.deployment.now
-        ++ ending_of second plan.now.platform.now plan.now.deployment.now)) buffer.new result
-        (O.contents out.old) (O.contents out.new) (O.faults out.new) }
+    ensures { Puts (buffer.old ++ (ending_in plan.now first ++ ending_in plan.now second))
+        buffer.new result
+        (O.contents out.old) (O.contents out.new) (O.faults out.old) (O.faults out.new) }
 {
     match put_last(plan, first, buffer, out) {
         Ok(()) => {}
@@ -120,12 +114,13 @@ pub fn put_two<O: Sinks>(
 }
 
 // What is told of an actor for which the run can't go on.
-fn stuck(plan: &Plan<'_>, kernel: &Kernel, actor: ActorId) -> Option<Last>
-    requires actor { IsActor kernel.now.core actor.0 }
-    requires of { IsOfSetup plan.now.deployment.now kernel.now }
-    ensures is { result ≡ stuck_last actor.0 (actor_at kernel.now.core.actors actor.0) }
-    ensures told { IfSome result (IsLastOf plan.now.platform.now plan.now.deployment.now) }
+fn stuck(end: &Final<'_, '_>, actor: ActorId) -> Option<Last>
+    requires { IsActor end.now.kernel.now.core actor.0 }
+    ensures is { result ≡ stuck_last actor.0 (actor_at end.now.kernel.now.core.actors actor.0) }
+    ensures told { IfSome result
+        (IsLastOf end.now.plan.platform.now end.now.plan.deployment.now) }
 {
+    let kernel = end.kernel;
     if kernel.suspended(actor) && kernel.alive(actor) {
         return Some(Last::Suspended(actor));
     }
@@ -143,10 +138,9 @@ fn put_if<O: Sinks>(
     out: &mut O,
 ) -> Result<(), Failed>
     requires told { IfSome told (IsLastOf plan.now.platform.now plan.now.deployment.now) }
-    requires sound { O.faults out.old ≡ 0 }
     ensures { Puts (buffer.old ++ line_if plan.now.platform.now plan.now.deployment.now told)
         buffer.new result
-        (O.contents out.old) (O.contents out.new) (O.faults out.new) }
+        (O.contents out.old) (O.contents out.new) (O.faults out.old) (O.faults out.new) }
 {
     match told {
         Some(last) => put_last(plan, last, buffer, out),
@@ -156,20 +150,16 @@ fn put_if<O: Sinks>(
 
 // Puts a line for each actor that is suspended or blocked into the buffer, in rising id.
 fn put_all_stuck<O: Sinks>(
-    plan: &Plan<'_>,
-    kernel: &Kernel,
+    end: &Final<'_, '_>,
     buffer: &mut Buffer,
     out: &mut O,
 ) -> Result<(), Failed>
-    requires of { IsOfSetup plan.now.deployment.now kernel.now }
-    requires sound { O.faults out.old ≡ 0 }
-    ensures { Puts (buffer.old ++ stuck_lines plan.now.platform.now plan.now.deployment.now 1
-        kernel.now.core.actors) buffer.new result
-        (O.contents out.old) (O.contents out.new) (O.faults out.new) }
+    ensures { Puts (buffer.old ++ stuck_in end.now.plan end.now.kernel.now.core) buffer.new result
+        (O.contents out.old) (O.contents out.new) (O.faults out.old) (O.faults out.new) }
 {
-    for i in 0..kernel.actors() {
-        let told = stuck(plan, kernel, ActorId(i as u32 + 1));
-        match put_if(plan, told, buffer, out) {
+    for i in 0..end.kernel.actors() {
+        let told = stuck(end, ActorId(i as u32 + 1));
+        match put_if(&end.plan, told, buffer, out) {
             Ok(()) => {}
             Err(Failed) => return Err(Failed),
         }
@@ -179,25 +169,21 @@ fn put_all_stuck<O: Sinks>(
 
 /// Puts a last line into the buffer, and behind it one for each actor that is suspended or blocked, in rising id.
 pub fn put_stuck<O: Sinks>(
-    plan: &Plan<'_>,
-    kernel: &Kernel,
+    end: &Final<'_, '_>,
     last: Last,
     buffer: &mut Buffer,
     out: &mut O,
 ) -> Result<(), Failed>
-    requires last { IsLastOf plan.now.platform.now plan.now.deployment.now last }
-    requires of { IsOfSetup plan.now.deployment.now kernel.now }
-    requires sound { O.faults out.old ≡ 0 }
-    ensures { Puts (buffer.old ++ (ending_of last plan.now.platform.now plan.now.deployment.now
-        ++ stuck_lines plan.now.platform.now plan.now.deployment.now 1 kernel.now.core.actors))
-        buffer.new result
-        (O.contents out.old) (O.contents out.new) (O.faults out.new) }
+    requires { IsLastOf end.now.plan.platform.now end.now.plan.deployment.now last }
+    ensures { Puts (buffer.old ++ (ending_in end.now.plan last
+        ++ stuck_in end.now.plan end.now.kernel.now.core)) buffer.new result
+        (O.contents out.old) (O.contents out.new) (O.faults out.old) (O.faults out.new) }
 {
-    match put_last(plan, last, buffer, out) {
+    match put_last(&end.plan, last, buffer, out) {
         Ok(()) => {}
         Err(Failed) => return Err(Failed),
     }
-    put_all_stuck(plan, kernel, buffer, out)
+    put_all_stuck(end, buffer, out)
 }
 
 // What is told of the energy of a host, where it has power.
@@ -217,22 +203,17 @@ fn energy(kernel: &Kernel, host: PointId, row: &HostRow) -> Option<Last>
 
 /// Puts a line for each host with power into the buffer, in declared order.
 pub fn put_energy<O: Sinks>(
-    plan: &Plan<'_>,
-    kernel: &Kernel,
+    end: &Final<'_, '_>,
     buffer: &mut Buffer,
     out: &mut O,
 ) -> Result<(), Failed>
-    requires hosts { length plan.now.platform.now.hosts ≡ kernel.now.setup.hosts }
-    requires sound { O.faults out.old ≡ 0 }
-    ensures { Puts (buffer.old
-        ++ all_energy plan.now.platform.now plan.now.deployment.now kernel.now.core)
-        buffer.new result
-        (O.contents out.old) (O.contents out.new) (O.faults out.new) }
+    ensures { Puts (buffer.old ++ energy_in end.now.plan end.now.kernel.now.core) buffer.new result
+        (O.contents out.old) (O.contents out.new) (O.faults out.old) (O.faults out.new) }
 {
-    let rows = plan.platform.hosts();
+    let rows = end.plan.platform.hosts();
     for (i, row) in rows.iter().enumerate() {
-        let told = energy(kernel, PointId(i as u32), row);
-        match put_if(plan, told, buffer, out) {
+        let told = energy(end.kernel, PointId(i as u32), row);
+        match put_if(&end.plan, told, buffer, out) {
             Ok(()) => {}
             Err(Failed) => return Err(Failed),
         }

@@ -1,9 +1,7 @@
 //! The parts of a run: rounds, and passes where nobody is ready.
 ghost use Rattle.std.specs.Prelude.{◌≡◌, ◌+◌, ◌≤◌, false};
-ghost use Rattle.std.specs.Result.{is_err};
-ghost use Rattle.sg_kernel.specs.Roads.{AreOver};
-ghost use Rattle.sg_engine.specs.kept.Invariant.{FitsNow, HasRoom, KeepsSeats, LeadsTo};
-ghost use Rattle.sg_engine.specs.kept.Moments.{part_at, round_at, UsesScript};
+ghost use Rattle.sg_engine.specs.kept.Invariant.{CanPlay, GoesOn, LeadsTo};
+ghost use Rattle.sg_engine.specs.kept.Moments.{part_at, round_at};
 ghost use Rattle.sg_engine.specs.Run.{are_completed, next_work, work_behind};
 
 use crate::answers::answer_calls;
@@ -25,16 +23,12 @@ fn round<R: Threads + Sync, F: Files>(
     sim: &mut Simulation,
     files: &mut F,
 ) -> Result<Option<Ended>, Memory>
-    requires roads { AreOver sim.old.kernel.setup.links router.old }
-    requires fits { FitsNow engine.now.plan (F.shows files.old) sim.old }
-    requires room { HasRoom (λ b. mind b) sim.old }
+    requires { CanPlay (λ b. mind b) engine.now.plan (F.shows files.old) router.old sim.old }
     ensures step { LeadsTo (λ b. mind b) engine.now.plan (λ world. world.work)
         (round_at engine.now.plan router.old sim.old.kernel) result
         (F.shows files.old) (F.shows files.new) sim.old sim.new }
-    ensures fits { FitsNow engine.now.plan (F.shows files.new) sim.new }
-    ensures seats { KeepsSeats (λ b. mind b) (is_err result) sim.old sim.new }
-    ensures script { UsesScript F.shows engine.now.plan.script result files.old files.new }
-    ensures router { router.new ≡ router.old }
+    ensures goes { GoesOn (λ b. mind b) engine.now.plan F.shows result files.old files.new
+        router.old router.new sim.old sim.new }
 {
     let threads = engine.plan.terms.threads;
     let seats = sim.seats.as_mut_slice();
@@ -50,18 +44,14 @@ pub fn round_or_pass<R: Threads + Sync, F: Files, L: Ledger>(
     files: &mut F,
     steps: &mut Steps<L>,
 ) -> Result<Option<Ended>, Memory>
-    requires roads { AreOver sim.old.kernel.setup.links router.old }
-    requires fits { FitsNow engine.now.plan (F.shows files.old) sim.old }
-    requires room { HasRoom (λ b. mind b) sim.old }
+    requires can { CanPlay (λ b. mind b) engine.now.plan (F.shows files.old) router.old sim.old }
     requires going { are_completed sim.old.kernel.core ≡ false }
     ensures step { LeadsTo (λ b. mind b) engine.now.plan work_behind
         (part_at engine.now.plan router.old sim.old.kernel) result
         (F.shows files.old) (F.shows files.new) sim.old sim.new }
-    ensures fits { FitsNow engine.now.plan (F.shows files.new) sim.new }
-    ensures seats { KeepsSeats (λ b. mind b) (is_err result) sim.old sim.new }
-    ensures script { UsesScript F.shows engine.now.plan.script result files.old files.new }
+    ensures goes { GoesOn (λ b. mind b) engine.now.plan F.shows result files.old files.new
+        router.old router.new sim.old sim.new }
     ensures steps { steps.new ≤ steps.old + next_work sim.old.kernel.core }
-    ensures router { router.new ≡ router.old }
 {
     if sim.kernel.any_ready() {
         round(engine, router, sim, files)

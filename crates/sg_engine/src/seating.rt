@@ -1,5 +1,5 @@
 //! Actors take their seats, each in a context of the crew.
-ghost use Rattle.std.specs.Prelude.{◌≡◌, ◌<◌, ◌-◌, if◌then◌else◌, length, take, All, Some, IfOk, IsTrue, OnErr, OnOk};
+ghost use Rattle.std.specs.Prelude.{◌≡◌, ◌-◌, if◌then◌else◌, length, take, true, All, Some, IfOk, OnErr, OnOk};
 ghost use Rattle.std.specs.Option.{option_and_then};
 ghost use Rattle.sg_base.specs.Limits.{Extent, IsActorIn};
 ghost use Rattle.sg_actor.specs.Roles.{mind_of, CanCast, IsRole};
@@ -8,7 +8,7 @@ ghost use Rattle.sg_rows.specs.Deployment.{extent_of};
 ghost use Rattle.sg_engine.specs.Roles.{role_of, first_mind, first_minds, firsts_of};
 ghost use Rattle.sg_engine.specs.Run.{minds_if, minds_with};
 ghost use Rattle.sg_engine.specs.RunContract.{HasContexts};
-ghost use Rattle.sg_engine.specs.kept.Invariant.{AreBlank, AreSeatsOf, StartsFrom, StartsUpTo};
+ghost use Rattle.sg_engine.specs.kept.Invariant.{AreSeatsOf, CanTake, StartsFrom, StartsUpTo};
 ghost use Rattle.sg_engine.specs.kept.SeatRules.{mind_in, minds_of, IsSeated};
 
 use crate::plan::Plan;
@@ -25,8 +25,7 @@ fn take_context(
     me: ActorId,
     function: &Function,
 ) -> Result<Box<dyn Actor + Send>, Memory>
-    requires some { 0 < length crew.old.items }
-    requires blank { AreBlank (λ b. mind b) crew.old.items }
+    requires crew { CanTake (λ b. mind b) true crew.old.items }
     requires role { CanCast (role_of me.0 function.now) }
     ensures mind { IfOk result (λ context. mind context
         ≡ Some (mind_of (role_of me.0 function.now))) }
@@ -47,8 +46,7 @@ fn starter(
     me: ActorId,
     row: &ActorRow,
 ) -> Result<Option<Box<dyn Actor + Send>>, Memory>
-    requires some { IsTrue row.now.start → 0 < length crew.old.items }
-    requires blank { AreBlank (λ b. mind b) crew.old.items }
+    requires crew { CanTake (λ b. mind b) row.now.start crew.old.items }
     requires role { CanCast (role_of me.0 row.now.function) }
     ensures mind { IfOk result (λ actor. option_and_then (λ b. mind b) actor
         ≡ first_mind me.0 row.now) }
@@ -69,8 +67,7 @@ fn seat(
     me: ActorId,
     row: &ActorRow,
 ) -> Result<Seat, Memory>
-    requires some { IsTrue row.now.start → 0 < length crew.old.items }
-    requires blank { AreBlank (λ b. mind b) crew.old.items }
+    requires crew { CanTake (λ b. mind b) row.now.start crew.old.items }
     requires role { CanCast (role_of me.0 row.now.function) }
     ensures mind { IfOk result (λ seat. mind_in (seat_view (λ b. mind b) seat)
         ≡ first_mind me.0 row.now) }
@@ -118,8 +115,7 @@ fn take_seat(
     seats: &mut [Seat],
     actor: ActorId,
 ) -> Result<(), Memory>
-    requires some { 0 < length crew.old.items }
-    requires blank { AreBlank (λ b. mind b) crew.old.items }
+    requires crew { CanTake (λ b. mind b) true crew.old.items }
     requires actor { IsActorIn (extent_of plan.now.deployment.now) actor }
     requires seats { AreSeatsOf plan.now.deployment.now (seat_views (λ b. mind b) seats.old) }
     ensures minds { OnOk result (minds_of (seat_views (λ b. mind b) seats.new)
@@ -144,8 +140,7 @@ pub fn seat_if(
     actor: ActorId,
     given: bool,
 ) -> Result<(), Memory>
-    requires some { IsTrue given → 0 < length crew.old.items }
-    requires blank { AreBlank (λ b. mind b) crew.old.items }
+    requires crew { CanTake (λ b. mind b) given crew.old.items }
     requires actor { IsActorIn (extent_of plan.now.deployment.now) actor }
     requires seats { AreSeatsOf plan.now.deployment.now (seat_views (λ b. mind b) seats.old) }
     ensures minds { OnOk result (minds_of (seat_views (λ b. mind b) seats.new)

@@ -2,13 +2,14 @@
 ghost use Rattle.std.specs.Prelude.{◌≡◌, ◌≢◌, ◌+◌, ◌<◌, ◌≤◌, ⊤, length, IsTrue, MatchBool};
 ghost use Rattle.sg_edge.specs.declared.files.Stage.TheVariants.{Fresh, Broken};
 ghost use Rattle.sg_edge.specs.Cause.{HasCause};
-ghost use Rattle.sg_engine.specs.RunContract.{is_cut as is_cut_spec, ForSources, HasContexts, IsRun, IsRunCause, StandsAsBefore, TakesFirst, TakesScript, output_of};
+ghost use Rattle.sg_engine.specs.RunContract.{is_cut as is_cut_spec, ForSources, HasContexts, IsEnding, IsRun, StandsAsBefore, TakesFirst, output_of};
 ghost use Rattle.sg_engine.specs.kept.Invariant.{crew_in, AreRoadsOf, Holds, IsBeginning, TakesInAll, TakesLast};
 ghost use Rattle.sg_engine.specs.kept.Moments.{script_in, ReadsScript};
 ghost use Rattle.sg_engine.specs.kept.Stretches.{HasRun, planned_output};
 
 use crate::advance::advance;
 use crate::ended::Ended;
+use crate::final_state::Final;
 use crate::finish::finish;
 use crate::plan::{Engine, Plan, Terms};
 use crate::setup::Setup;
@@ -35,7 +36,6 @@ fn simulate<R: Threads + Sync, F: Files, O: Sinks, L: Ledger>(
 ) -> Ended
     requires beginning { IsBeginning (λ b. mind b) engine.now.plan (F.shows files.old) router.old
         sim.old }
-    requires sound { O.faults out.old ≡ 0 }
     ensures run { HasRun engine.now.plan (crew_in engine.now.plan sim.old) result sim.new
         steps.old steps.new (script_in engine.now.plan (F.shows files.old))
         (script_in engine.now.plan (F.shows files.new))
@@ -45,7 +45,8 @@ fn simulate<R: Threads + Sync, F: Files, O: Sinks, L: Ledger>(
     ensures crew { TakesInAll sim.old sim.new }
     ensures err { O.contents out.new Stream.Err ≡ O.contents out.old Stream.Err }
     ensures cause { HasCause (result ≡ Ended.WriteFault) (result ≡ Ended.ReadFault)
-        (O.faults out.new) ((script_in engine.now.plan (F.shows files.new)).stage ≡ Broken) }
+        (O.faults out.old) (O.faults out.new)
+        ((script_in engine.now.plan (F.shows files.new)).stage ≡ Broken) }
     ensures script { ReadsScript F.shows engine.now.plan.script files.old files.new }
     ensures router { router.new ≡ router.old }
 {
@@ -88,23 +89,24 @@ fn run_from<R: Threads + Sync, F: Files, O: Sinks, L: Ledger>(
 ) -> Ended
     requires beginning { IsBeginning (λ b. mind b) engine.now.plan (F.shows files.old) router.old
         sim.old }
-    requires sound { O.faults out.old ≡ 0 }
     ensures output { ForSources engine.now.plan.script (F.shows files.old) (F.shows files.new)
         (λ source. IsRun (planned_output engine.now.plan (crew_in engine.now.plan sim.old) source)
         result (O.contents out.old) (O.contents out.new) (crew_in engine.now.plan sim.old)
         (length sim.new.crew.items) steps.old steps.new (F.shows files.old) (F.shows files.new)) }
     ensures crew { TakesInAll sim.old sim.new }
-    ensures cause { IsRunCause result (O.faults out.new) (F.shows files.old) (F.shows files.new) }
-    ensures memory { result ≡ Ended.Memory →
-        O.contents out.new Stream.Err ≡ O.contents out.old Stream.Err }
-    ensures script { TakesScript F.shows engine.now.plan.script files.old files.new }
+    ensures ending { IsEnding F.shows engine.now.plan.script result files.old files.new
+        (O.contents out.old) (O.contents out.new) (O.faults out.old) (O.faults out.new) }
     ensures router { router.new ≡ router.old }
 {
     let how = simulate(engine, router, sim, files, out, steps);
     if is_cut(how) {
         how
     } else {
-        finish(&engine.plan, &sim.kernel, how, &mut sim.buffer, out)
+        let end = Final {
+            plan: engine.plan,
+            kernel: &sim.kernel,
+        };
+        finish(&end, how, &mut sim.buffer, out)
     }
 }
 
@@ -121,16 +123,13 @@ fn run_plan<R: Threads + Sync, F: Files, O: Sinks, L: Ledger>(
         → (F.shows files.old Part.Script).stage ≢ Fresh }
     requires crew { HasContexts (λ b. mind b) crew.old.items engine.now.plan.deployment.now }
     requires roads { AreRoadsOf engine.now.plan.platform.now router.old }
-    requires sound { O.faults out.old ≡ 0 }
     ensures output { ForSources engine.now.plan.script (F.shows files.old) (F.shows files.new)
         (λ source. IsRun (planned_output engine.now.plan (length crew.old.items) source) result
         (O.contents out.old) (O.contents out.new) (length crew.old.items) (length crew.new.items)
         steps.old steps.new (F.shows files.old) (F.shows files.new)) }
     ensures crew { TakesLast engine.now.plan.deployment.now result crew.old.items crew.new.items }
-    ensures cause { IsRunCause result (O.faults out.new) (F.shows files.old) (F.shows files.new) }
-    ensures memory { result ≡ Ended.Memory →
-        O.contents out.new Stream.Err ≡ O.contents out.old Stream.Err }
-    ensures script { TakesScript F.shows engine.now.plan.script files.old files.new }
+    ensures ending { IsEnding F.shows engine.now.plan.script result files.old files.new
+        (O.contents out.old) (O.contents out.new) (O.faults out.old) (O.faults out.new) }
     ensures router { router.new ≡ router.old }
 {
     match start(&engine.plan, crew) {
@@ -171,16 +170,13 @@ pub fn run<R: Threads + Sync, F: Files, O: Sinks, L: Ledger>(
     requires threads { 0 < threads }
     requires begun { IsTrue setup.old.script → (F.shows files.old Part.Script).stage ≢ Fresh }
     requires crew { HasContexts (λ b. mind b) crew.old.items setup.old.deployment }
-    requires sound { O.faults out.old ≡ 0 }
     ensures output { ForSources setup.old.script (F.shows files.old) (F.shows files.new)
         (λ source. IsRun (output_of setup.old budget (length crew.old.items) show source) result
         (O.contents out.old) (O.contents out.new) (length crew.old.items) (length crew.new.items)
         steps.old steps.new (F.shows files.old) (F.shows files.new)) }
     ensures crew { TakesFirst setup.old.deployment result crew.old.items crew.new.items }
-    ensures cause { IsRunCause result (O.faults out.new) (F.shows files.old) (F.shows files.new) }
-    ensures memory { result ≡ Ended.Memory →
-        O.contents out.new Stream.Err ≡ O.contents out.old Stream.Err }
-    ensures script { TakesScript F.shows setup.old.script files.old files.new }
+    ensures ending { IsEnding F.shows setup.old.script result files.old files.new
+        (O.contents out.old) (O.contents out.new) (O.faults out.old) (O.faults out.new) }
     ensures setup { StandsAsBefore setup.old setup.new }
 {
     let plan = Plan {

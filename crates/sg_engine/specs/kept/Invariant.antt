@@ -1,6 +1,7 @@
 -- What holds of a simulation between the parts of a run.
-use Rattle.std.specs.Prelude.{◌≡◌, ◌≢◌, ◌+◌, ◌<◌, ◌≤◌, ◌&&◌, nat_lt, ℕ, ⊤, Bool, List, [], length, take, All, Option, None, Some, Result, MatchBool, true, false, vec_capacity}
+use Rattle.std.specs.Prelude.{◌≡◌, ◌≢◌, ◌+◌, ◌<◌, ◌≤◌, ◌&&◌, nat_lt, ℕ, ⊤, Bool, List, [], length, take, All, Option, None, Some, Result, MatchBool, IsTrue, true, false, vec_capacity}
 use Rattle.std.specs.List.{count_by}
+use Rattle.std.specs.Result.{is_err}
 use Rattle.sg_base.specs.declared.ids.ActorId.{ActorId}
 use Rattle.sg_base.specs.Limits.{IsActorIn}
 use Rattle.sg_base.specs.Mind.{Mind}
@@ -28,7 +29,7 @@ use Rattle.sg_states.specs.Actors.{is_unstarted}
 use Rattle.sg_states.specs.declared.state.Actor.{Actor}
 use Rattle.sg_engine.specs.World.{World}
 use Rattle.sg_engine.specs.Output.{first_of}
-use Rattle.sg_engine.specs.kept.Moments.{Cast, Moment, moment, moment_in, names_of, part_at, script_in, cuts, Fits, Leads, LeavesFree, StandsFor}
+use Rattle.sg_engine.specs.kept.Moments.{Cast, Moment, moment, moment_in, names_of, part_at, script_in, cuts, Fits, Leads, LeavesFree, StandsFor, UsesScript}
 use Rattle.sg_engine.specs.kept.SeatRules.{IsSeated, minds_of}
 use Rattle.sg_engine.specs.Run.{Answering, Progress, are_completed, work_behind}
 use Rattle.sg_engine.specs.kept.Stretches.{Trace, trace_in, Advances, CutsOff}
@@ -56,6 +57,11 @@ now_at plan shows sim = moment_in plan shows sim.script sim.kernel
 -- the contexts that are left are blank
 abbrev pub AreBlank : {A : Type 0} → (A → Option Mind) → List A → Type 0
 AreBlank mind crew = All (λ context. mind context ≡ None) crew
+
+-- a crew has a blank context for an actor, if that is given one
+pub record CanTake {A : Type 0} (mind : A → Option Mind) (given : Bool) (crew : List A) : Type 0 where
+  pub some : IsTrue given → 0 < length crew
+  pub blank : AreBlank mind crew
 
 -- contexts were taken from the end of a crew, one for each actor that starts
 pub record StartsFrom {A : Type 0} (deployed : Deployed) (old new : List A) : Type 0 where
@@ -149,8 +155,9 @@ pub record KeepsSeats {A : Type 0} (mind : A → Option Mind) (cut : Bool) (old 
   pub calls : vec_capacity new.calls ≡ vec_capacity old.calls
   pub buffer : new.buffer ≡ old.buffer
 
--- what the kernel knows is of these actors
-pub record IsOfSetup (deployed : Deployed) (known : Known) : Type 0 where
+-- what the kernel knows is of these hosts and these actors
+pub record IsOfSetup (platform : Platform) (deployed : Deployed) (known : Known) : Type 0 where
+  pub hosts : length platform.hosts ≡ known.setup.hosts
   pub number : length known.core.actors ≡ length deployed.actors
   pub extent : extent known.setup ≡ extent_of deployed
   pub few : length known.core.actors ≤ 65536
@@ -204,6 +211,25 @@ Holds mind plan shows sim = IsKept mind plan.deployment.now (script_in plan show
 abbrev pub FitsNow : {A : Type 0} → Plan → (Part → PartView) → Simulation A → Type 0
 FitsNow plan shows sim = Fits plan.deployment.now (now_at plan shows sim)
 
+-- calls can be answered: reader and kernel are of the plan's actors, who are seated, over the roads of the kernel's links
+pub record CanAnswer {A : Type 0} (mind : A → Option Mind) (plan : Plan) (shows : Part → PartView) (router : Roads) (sim : Simulation A) : Type 0 where
+  pub roads : AreOver sim.kernel.setup.links router
+  pub fits : FitsNow plan shows sim
+  pub manned : IsManned mind sim
+
+-- a round or a pass can be made: there is room besides
+pub record CanPlay {A : Type 0} (mind : A → Option Mind) (plan : Plan) (shows : Part → PartView) (router : Roads) (sim : Simulation A) : Type 0 where
+  pub roads : AreOver sim.kernel.setup.links router
+  pub fits : FitsNow plan shows sim
+  pub room : HasRoom mind sim
+
+-- What holds behind calls, a round or a pass: all is of the plan's actors still, who are seated, and but for the script
+-- nothing was read.
+pub record GoesOn {A F : Type 0} (mind : A → Option Mind) (plan : Plan) (shows : F → Part → PartView) (result : Result (Option Ended) Memory) (before after : F) (had has : Roads) (old new : Simulation A) : Type 0 where
+  pub fits : FitsNow plan (shows after) new
+  pub seats : KeepsSeats mind (is_err result) old new
+  pub script : UsesScript shows plan.script result before after had has
+
 -- a part more can be made: somebody hasn't ended
 pub record CanAdvance {A : Type 0} (mind : A → Option Mind) (plan : Plan) (shows : Part → PartView) (router : Roads) (sim : Simulation A) : Type 0 where
   pub kept : Holds mind plan shows sim
@@ -217,8 +243,8 @@ pub record StaysKept {A : Type 0} (mind : A → Option Mind) (plan : Plan) (how 
   pub kept : MatchBool (cuts how) ⊤ (Holds mind plan shows new)
 
 -- a part that ended a run by a failed write or read has its cause
-abbrev pub IsCaused : Plan → Option Ended → (Part → PartView) → ℕ → Type 0
-IsCaused plan how shows faults = HasCause (how ≡ Some ended.WriteFault) (how ≡ Some ended.ReadFault) faults ((script_in plan shows).stage ≡ Broken)
+abbrev pub IsCaused : Plan → Option Ended → (Part → PartView) → ℕ → ℕ → Type 0
+IsCaused plan how shows had faults = HasCause (how ≡ Some ended.WriteFault) (how ≡ Some ended.ReadFault) had faults ((script_in plan shows).stage ≡ Broken)
 
 -- ---- with what is written
 -- a moment of a run, its cast, what the streams hold, and the lines that wait

@@ -185,9 +185,10 @@ pub record ReadsScript {F : Type 0} (shows : F → Part → PartView) (script : 
   pub others : Only Script (shows old) (shows new)
   pub unscripted : script ≡ false → new ≡ old
 
--- What a stretch has to do with the script: nothing else was read, it cuts the run off only where memory is wanting, and a
--- read fault is told only of a part that is broken.
-pub record UsesScript {F : Type 0} (shows : F → Part → PartView) (script : Bool) (result : Result (Option Ended) Memory) (old new : F) : Type 0 where
+-- What a stretch has to do with the script and the roads: nothing else was read, the roads stay, it cuts the run off only
+-- where memory is wanting, and a read fault is told only of a part that is broken.
+pub record UsesScript {F : Type 0} (shows : F → Part → PartView) (script : Bool) (result : Result (Option Ended) Memory) (old new : F) (had has : Roads) : Type 0 where
   pub reads : ReadsScript shows script old new
+  pub roads : has ≡ had
   pub uncut : IfOk result (λ how. cuts how ≡ false)
   pub cause : IsReadFrom result (script_part script (shows new Script))

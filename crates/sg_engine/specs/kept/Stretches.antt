@@ -13,7 +13,9 @@ use Rattle.sg_engine.specs.declared.ended.Ended.{Ended}
 use Rattle.sg_engine.specs.declared.plan.Plan.{Plan}
 use Rattle.sg_engine.specs.declared.simulation.Simulation.{Simulation}
 use Rattle.sg_engine.specs.RunContract.{is_cut}
-use Rattle.sg_engine.specs.Output.{Output, first_of, run_output, trace_of, scene_of}
+use Rattle.sg_engine.specs.Output.{Output, all_energy, first_of, how_lines, last_lines, run_output, stuck_lines, trace_of, scene_of}
+use Rattle.sg_trace.specs.Ending.{ending_of}
+use Rattle.sg_trace.specs.declared.last.Last.{Last}
 use Rattle.sg_engine.specs.Run.{Answering, Progress, run_of}
 use Rattle.sg_engine.specs.kept.Moments.{AreNeededBy, Cast, LeavesContexts, Moment, moment, IsStretch, ending}
 use Rattle.sg_engine.specs.kept.Writing.{Pending, pending, Adds, AddsFront}
@@ -58,6 +60,22 @@ pub record IsOver (start count left : ℕ) (names : Names) (trace : Trace) (whol
 -- ---- in the words of contracts
 abbrev pub trace_in : Plan → Trace
 trace_in plan = trace_of plan.terms.show plan.platform.now plan.deployment.now
+
+-- a line of the end, those of who can't go on, those of the energies, and all lines behind the trace lines
+abbrev pub ending_in : Plan → Last → List ℕ
+ending_in plan last = ending_of last plan.platform.now plan.deployment.now
+
+abbrev pub stuck_in : Plan → Core → List ℕ
+stuck_in plan core = stuck_lines plan.platform.now plan.deployment.now 1 core.actors
+
+abbrev pub energy_in : Plan → Core → List ℕ
+energy_in plan core = all_energy plan.platform.now plan.deployment.now core
+
+abbrev pub how_in : Plan → Core → Ended → List ℕ
+how_in plan core how = how_lines plan.terms.show plan.platform.now plan.deployment.now plan.terms.budget core how
+
+abbrev pub last_in : Plan → Core → Ended → List ℕ
+last_in plan core how = last_lines plan.terms.show plan.platform.now plan.deployment.now plan.terms.budget core how
 
 -- the run of a plan with a crew of so many contexts, by its script
 abbrev pub run_by : Plan → ℕ → Answering → Progress

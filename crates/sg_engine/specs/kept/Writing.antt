@@ -8,11 +8,11 @@ use Rattle.sg_engine.specs.declared.ended.Ended.{Ended}
 use Rattle.sg_engine.specs.declared.ended.Ended.TheVariants as ended
 use Rattle.sg_engine.specs.Gains.{GainsAll, GainsFronts}
 
--- the text was appended to Out, and no write has failed
-pub record Wrote (text : List ℕ) (old new : Stream → Option (List ℕ)) (faults : ℕ) : Type 0 where
+-- the text was appended to Out, and no write has failed since
+pub record Wrote (text : List ℕ) (old new : Stream → Option (List ℕ)) (had faults : ℕ) : Type 0 where
   pub out_held : new Out ≡ gain (old Out) text
   pub err_held : new Err ≡ old Err
-  pub sound : faults ≡ 0
+  pub sound : faults ≡ had
 
 -- a write failed, behind a front of the text
 pub record Broke (text : List ℕ) (old new : Stream → Option (List ℕ)) (faults : ℕ) : Type 0 where
@@ -21,24 +21,24 @@ pub record Broke (text : List ℕ) (old new : Stream → Option (List ℕ)) (fau
   pub failed : 0 < faults
 
 -- what writing a text to Out has done
-abbrev pub Writes : List ℕ → Result (Unit {0}) Failed → (Stream → Option (List ℕ)) → (Stream → Option (List ℕ)) → ℕ → Type 0
-Writes text (Ok done) old new faults = Wrote text old new faults
-Writes text (Error why) old new faults = Broke text old new faults
+abbrev pub Writes : List ℕ → Result (Unit {0}) Failed → (Stream → Option (List ℕ)) → (Stream → Option (List ℕ)) → ℕ → ℕ → Type 0
+Writes text (Ok done) old new had faults = Wrote text old new had faults
+Writes text (Error why) old new had faults = Broke text old new faults
 
--- of a text that was handed over this waits, what stands before it was appended to Out, and no write has failed
-pub record IsPut (text waiting : List ℕ) (old new : Stream → Option (List ℕ)) (faults : ℕ) : Type 0 where
+-- of a text that was handed over this waits, what stands before it was appended to Out, and no write has failed since
+pub record IsPut (text waiting : List ℕ) (old new : Stream → Option (List ℕ)) (had faults : ℕ) : Type 0 where
   pub written : IsWritten text waiting (old Out) (new Out)
   pub err_held : new Err ≡ old Err
-  pub sound : faults ≡ 0
+  pub sound : faults ≡ had
 
 -- what putting a text into a buffer has done
-abbrev pub Puts : List ℕ → List ℕ → Result (Unit {0}) Failed → (Stream → Option (List ℕ)) → (Stream → Option (List ℕ)) → ℕ → Type 0
-Puts text waiting (Ok done) old new faults = IsPut text waiting old new faults
-Puts text waiting (Error why) old new faults = Broke text old new faults
+abbrev pub Puts : List ℕ → List ℕ → Result (Unit {0}) Failed → (Stream → Option (List ℕ)) → (Stream → Option (List ℕ)) → ℕ → ℕ → Type 0
+Puts text waiting (Ok done) old new had faults = IsPut text waiting old new had faults
+Puts text waiting (Error why) old new had faults = Broke text old new faults
 
 -- how a run ends for which memory is wanting: what waited is written, or a write of it failed
-abbrev pub EndsForMemory : List ℕ → Ended → (Stream → Option (List ℕ)) → (Stream → Option (List ℕ)) → ℕ → Type 0
-EndsForMemory waiting how old new faults = ((how ≡ ended.Memory) × Wrote waiting old new faults) ⊎ ((how ≡ ended.WriteFault) × Broke waiting old new faults)
+abbrev pub EndsForMemory : List ℕ → Ended → (Stream → Option (List ℕ)) → (Stream → Option (List ℕ)) → ℕ → ℕ → Type 0
+EndsForMemory waiting how old new had faults = ((how ≡ ended.Memory) × Wrote waiting old new had faults) ⊎ ((how ≡ ended.WriteFault) × Broke waiting old new faults)
 
 -- ---- from part to part
 -- what Out holds, where that is told, and the lines that wait to be written to it
@@ -59,6 +59,6 @@ AddsFront text old new = GainsFront (old.waiting ++ text) old.held new
 
 -- ---- at the end
 -- what writing a text to Out and then one to Err has done
-abbrev pub Tells : List ℕ → List ℕ → Result (Unit {0}) Failed → (Stream → Option (List ℕ)) → (Stream → Option (List ℕ)) → ℕ → Type 0
-Tells out err (Ok done) old new faults = GainsAll out err old new × (faults ≡ 0)
-Tells out err (Error why) old new faults = GainsFronts out err old new × (0 < faults)
+abbrev pub Tells : List ℕ → List ℕ → Result (Unit {0}) Failed → (Stream → Option (List ℕ)) → (Stream → Option (List ℕ)) → ℕ → ℕ → Type 0
+Tells out err (Ok done) old new had faults = GainsAll out err old new × (faults ≡ had)
+Tells out err (Error why) old new had faults = GainsFronts out err old new × (0 < faults)

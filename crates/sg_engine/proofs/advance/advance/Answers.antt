@@ -5,7 +5,7 @@ use Rattle.sg_edge.specs.declared.files.Part.TheVariants.{Script}
 use Rattle.sg_edge.specs.declared.sinks.Stream.TheVariants.{Out}
 use Rattle.sg_kernel.specs.Known.{Known}
 use Rattle.sg_kernel.specs.Roads.{AreOver}
-use Rattle.sg_kernel.specs.World.{Setup}
+use Rattle.sg_kernel.specs.World.{Setup, extent}
 use Rattle.sg_script.specs.Known.{known_in}
 use Rattle.sg_script.specs.Stands.{kept_of}
 use Rattle.sg_engine.specs.declared.ended.Ended.{Ended}
@@ -40,27 +40,22 @@ takes_as cut old new last room same takes crew core = record {
   begun = omega (arith, takes.begun, ap length crew, ap (still_unstarted cut) core, ap (λ (k : Known). unstarted k.core) same);
 }
 
-pub round_or_pass-requires-clause-roads : goal.round_or_pass-requires-clause-roads
-round_or_pass-requires-clause-roads g c κs within =
-    let setup = ap (λ (k : Known). k.setup) c.in-Ok.ensures.kept in
-    subst (λ (s : Setup). AreOver s.links c.args.router.now) (sym setup) c.requires.going.roads
-
 pub returns-in-Err-clause-part : goal.returns-in-Err-clause-part
 returns-in-Err-clause-part g c = (
-  memory_err _ _ _ _ _ c.end_for_memory.ensures,
+  memory_err _ _ _ _ _ _ c.end_for_memory.ensures,
   λ taken world stands.
-      part_short _ _ _ _ c.end_for_memory.result taken _ _ _ c.args.sim.now.buffer c.args.sim.now.buffer c.end_for_memory.new.buffer (g.O.Sinks.contents c.args.out.now) (g.O.Sinks.contents c.end_for_memory.new.out) _
+      part_short _ _ _ _ c.end_for_memory.result taken _ _ _ c.args.sim.now.buffer c.args.sim.now.buffer c.end_for_memory.new.buffer (g.O.Sinks.contents c.args.out.now) (g.O.Sinks.contents c.end_for_memory.new.out) _ _
       (lacks_room _ (scene c.args.router.now c.args.sim.now.kernel.setup (firsts_of c.args.engine.now.plan.deployment.now) c.args.engine.now.plan.script) taken _ _ world c.requires.going.kept.fits.begun stands) refl c.end_for_memory.ensures,
 )
 
 pub returns-in-Err-round_or_pass-clause-part : goal.returns-in-Err-round_or_pass-clause-part
 returns-in-Err-round_or_pass-clause-part g c = (
-  memory_err _ _ _ _ _ c.end_for_memory-in-Err-round_or_pass.ensures,
+  memory_err _ _ _ _ _ _ c.end_for_memory-in-Err-round_or_pass.ensures,
   λ taken world stands.
       let core = ap (λ (k : Known). k.core) c.in-Ok.ensures.kept in
-      part_short _ _ _ _ c.end_for_memory-in-Err-round_or_pass.result taken _ _ _ c.round_or_pass.new.sim.buffer c.args.sim.now.buffer c.end_for_memory-in-Err-round_or_pass.new.buffer (g.O.Sinks.contents c.args.out.now) (g.O.Sinks.contents c.end_for_memory-in-Err-round_or_pass.new.out) _
+      part_short _ _ _ _ c.end_for_memory-in-Err-round_or_pass.result taken _ _ _ c.round_or_pass.new.sim.buffer c.args.sim.now.buffer c.end_for_memory-in-Err-round_or_pass.new.buffer (g.O.Sinks.contents c.args.out.now) (g.O.Sinks.contents c.end_for_memory-in-Err-round_or_pass.new.out) _ _
       (lacks_scene _ c.args.router.now (firsts_of c.args.engine.now.plan.deployment.now) c.args.engine.now.plan.script c.args.sim.now.kernel.setup c.reserve_round.new.self.setup taken _ world _ _ (ap (λ (k : Known). k.setup) c.in-Ok.ensures.kept)
-      (c.in-Err-round_or_pass.ensures.step taken world (record { script = stands.script; core = core ∙ stands.core; cast = stands.cast }))) c.round_or_pass.ensures.seats.buffer
+      (c.in-Err-round_or_pass.ensures.step taken world (record { script = stands.script; core = core ∙ stands.core; cast = stands.cast }))) c.round_or_pass.ensures.goes.seats.buffer
       c.end_for_memory-in-Err-round_or_pass.ensures,
 )
 
@@ -82,7 +77,7 @@ returns-in-Err-put_trace-clause-part g c = (
       let before = pending (g.O.Sinks.contents c.args.out.now Out) c.args.sim.now.buffer in
       let after = g.O.Sinks.contents c.put_trace.new.out Out in
       let front : AddsFront (trace new.records) before after =
-      subst (λ (b : List ℕ). AddsFront (trace new.records) (pending before.held b) after) c.round_or_pass.ensures.seats.buffer
+      subst (λ (b : List ℕ). AddsFront (trace new.records) (pending before.held b) after) c.round_or_pass.ensures.goes.seats.buffer
       (subst (λ (l : List Record). AddsFront (trace l) (pending before.held c.round_or_pass.new.sim.buffer) after) c.records.ensures.are c.in-Err-put_trace.ensures.front) in
       cuts_off_at names trace (λ answers. round_or_pass (scene c.args.router.now old.setup (firsts_of c.args.engine.now.plan.deployment.now) c.args.engine.now.plan.script) answers world) c.in-Ok-round_or_pass.how taken _ part part' kept kept' mid new before after
       (scene_as names c.args.router.now (firsts_of c.args.engine.now.plan.deployment.now) c.args.engine.now.plan.script old.setup mid.setup c.in-Ok-round_or_pass.how taken _ world (moment part kept mid) (moment part' kept' new) (ap (λ (k : Known). k.setup) same) reached)
@@ -109,9 +104,9 @@ returns-clause-part g c = (
       let before = pending (g.O.Sinks.contents c.args.out.now Out) c.args.sim.now.buffer in
       let after = pending (g.O.Sinks.contents c.put_trace.new.out Out) c.put_trace.new.buffer in
       let printed : Adds (trace new.records) before after =
-      subst (λ (b : List ℕ). Adds (trace new.records) (pending before.held b) after) c.round_or_pass.ensures.seats.buffer
+      subst (λ (b : List ℕ). Adds (trace new.records) (pending before.held b) after) c.round_or_pass.ensures.goes.seats.buffer
       (subst (λ (l : List Record). Adds (trace l) (pending before.held c.round_or_pass.new.sim.buffer) after) c.records.ensures.are c.in-Ok-put_trace.ensures.written) in
-      part_is names trace _ how taken _ _ _ before after c.in-Ok-round_or_pass.ensures.script.uncut
+      part_is names trace _ how taken _ _ _ before after c.in-Ok-round_or_pass.ensures.goes.script.uncut
       (advances names trace (λ answers. round_or_pass (scene c.args.router.now old.setup (firsts_of c.args.engine.now.plan.deployment.now) c.args.engine.now.plan.script) answers world) how taken _ part part' kept kept' old mid new before after
       (scene_as names c.args.router.now (firsts_of c.args.engine.now.plan.deployment.now) c.args.engine.now.plan.script old.setup mid.setup how taken _ world (moment part kept mid) (moment part' kept' new) (ap (λ (k : Known). k.setup) same) reached)
       (ap (λ (k : Known). k.records) same ∙ c.requires.going.kept.cleared)
@@ -123,56 +118,51 @@ returns-clause-part g c = (
       (ap (λ (k : Known). k.setup) c.clear_records.ensures)),
 )
 
-pub round_or_pass-requires-clause-room : goal.round_or_pass-requires-clause-room
-round_or_pass-requires-clause-room g c κs within =
-    let number : c.len.result ≡ length c.args.sim.now.seats.items = search rules in
-    room_for c.reserve_round.new.self c.requires.going.kept c.in-Ok.ensures.kept (omega (arith, number, c.in-Ok.ensures.room))
-
 pub returns-in-Err-clause-cause : goal.returns-in-Err-clause-cause
-returns-in-Err-clause-cause g c = memory_cause _ _ _ _ _ _ c.end_for_memory.ensures
+returns-in-Err-clause-cause g c = memory_cause _ _ _ _ _ _ _ c.end_for_memory.ensures
 
 pub returns-in-Err-clause-kept : goal.returns-in-Err-clause-kept
-returns-in-Err-clause-kept g c = short_kept _ _ c.end_for_memory.result _ _ _ (memory_cuts _ _ _ _ _ c.end_for_memory.ensures) (crew_cut false c.args.sim.now _ (crew_same c.args.sim.now _ refl (unstarted_as c.args.sim.now.kernel c.reserve_round.new.self c.in-Err.ensures.kept))) (ap (λ (k : Known). k.setup) c.in-Err.ensures.kept)
+returns-in-Err-clause-kept g c = short_kept _ _ c.end_for_memory.result _ _ _ (memory_cuts _ _ _ _ _ _ c.end_for_memory.ensures) (crew_cut false c.args.sim.now _ (crew_same c.args.sim.now _ refl (unstarted_as c.args.sim.now.kernel c.reserve_round.new.self c.in-Err.ensures.kept))) (ap (λ (k : Known). k.setup) c.in-Err.ensures.kept)
 
 pub returns-in-Err-clause-script : goal.returns-in-Err-clause-script
 returns-in-Err-clause-script g c = script_unread g.F.Files.shows c.args.engine.now.plan.script c.args.files.now
 
 pub returns-in-Err-round_or_pass-clause-cause : goal.returns-in-Err-round_or_pass-clause-cause
-returns-in-Err-round_or_pass-clause-cause g c = memory_cause _ _ _ _ _ _ c.end_for_memory-in-Err-round_or_pass.ensures
+returns-in-Err-round_or_pass-clause-cause g c = memory_cause _ _ _ _ _ _ _ c.end_for_memory-in-Err-round_or_pass.ensures
 
 pub returns-in-Err-round_or_pass-clause-kept : goal.returns-in-Err-round_or_pass-clause-kept
 returns-in-Err-round_or_pass-clause-kept g c =
-    short_kept _ _ c.end_for_memory-in-Err-round_or_pass.result _ _ _ (memory_cuts _ _ _ _ _ c.end_for_memory-in-Err-round_or_pass.ensures)
-    (takes_as true c.args.sim.now c.round_or_pass.new.sim _ c.reserve_round.new.self c.in-Ok.ensures.kept c.in-Err-round_or_pass.ensures.seats.crew refl refl)
-    (c.round_or_pass.ensures.seats.setup ∙ ap (λ (k : Known). k.setup) c.in-Ok.ensures.kept)
+    short_kept _ _ c.end_for_memory-in-Err-round_or_pass.result _ _ _ (memory_cuts _ _ _ _ _ _ c.end_for_memory-in-Err-round_or_pass.ensures)
+    (takes_as true c.args.sim.now c.round_or_pass.new.sim _ c.reserve_round.new.self c.in-Ok.ensures.kept c.in-Err-round_or_pass.ensures.goes.seats.crew refl refl)
+    (c.round_or_pass.ensures.goes.seats.setup ∙ ap (λ (k : Known). k.setup) c.in-Ok.ensures.kept)
 
 pub returns-in-Err-put_trace-clause-cause : goal.returns-in-Err-put_trace-clause-cause
 returns-in-Err-put_trace-clause-cause g c = record { write = λ is. c.in-Err-put_trace.ensures.failed; sound = λ isnt. absurd (isnt refl); read = λ is. cc is }
 
 pub returns-in-Err-put_trace-clause-kept : goal.returns-in-Err-put_trace-clause-kept
 returns-in-Err-put_trace-clause-kept g c = record {
-  crew = crew_cut false c.args.sim.now _ (takes_as false c.args.sim.now c.round_or_pass.new.sim _ c.reserve_round.new.self c.in-Ok.ensures.kept c.in-Ok-round_or_pass.ensures.seats.crew refl refl);
-  setup = c.round_or_pass.ensures.seats.setup ∙ ap (λ (k : Known). k.setup) c.in-Ok.ensures.kept;
+  crew = crew_cut false c.args.sim.now _ (takes_as false c.args.sim.now c.round_or_pass.new.sim _ c.reserve_round.new.self c.in-Ok.ensures.kept c.in-Ok-round_or_pass.ensures.goes.seats.crew refl refl);
+  setup = c.round_or_pass.ensures.goes.seats.setup ∙ ap (λ (k : Known). k.setup) c.in-Ok.ensures.kept;
   kept = tt;
 }
 
 pub returns-clause-cause : goal.returns-clause-cause
 returns-clause-cause g c = record {
-  write = λ is. absurd (uncut_write c.in-Ok-round_or_pass.how c.in-Ok-round_or_pass.ensures.script.uncut is);
+  write = λ is. absurd (uncut_write c.in-Ok-round_or_pass.how c.in-Ok-round_or_pass.ensures.goes.script.uncut is);
   sound = λ isnt. c.in-Ok-put_trace.ensures.sound;
-  read = λ is. c.in-Ok-round_or_pass.ensures.script.cause (ap (λ (h : Option Ended). Ok h) is);
+  read = λ is. c.in-Ok-round_or_pass.ensures.goes.script.cause (ap (λ (h : Option Ended). Ok h) is);
 }
 
 pub returns-clause-kept : goal.returns-clause-kept
 returns-clause-kept g c =
     let kept = c.requires.going.kept in
-    let seats = c.in-Ok-round_or_pass.ensures.seats in
+    let seats = c.in-Ok-round_or_pass.ensures.goes.seats in
     let setup = seats.setup ∙ ap (λ (k : Known). k.setup) c.in-Ok.ensures.kept in
     let sim = record c.round_or_pass.new.sim { kernel = c.clear_records.new.self; buffer = c.put_trace.new.buffer } in
-    part_kept _ _ _ _ _ _ c.in-Ok-round_or_pass.ensures.script.uncut
+    part_kept _ _ _ _ _ _ c.in-Ok-round_or_pass.ensures.goes.script.uncut
     (takes_as false c.args.sim.now c.round_or_pass.new.sim sim c.reserve_round.new.self c.in-Ok.ensures.kept seats.crew refl (ap (λ (k : Known). k.core) c.clear_records.ensures))
     (ap (λ (k : Known). k.setup) c.clear_records.ensures ∙ setup)
-    (kept_on _ c.args.engine.now.plan.deployment.now _ sim c.round_or_pass.new.sim.kernel c.round_or_pass.ensures.fits c.clear_records.ensures (ap (λ (s : Setup). length s.homes) setup ∙ kept.homes) seats.seated
+    (kept_on _ c.args.engine.now.plan.deployment.now _ sim c.round_or_pass.new.sim.kernel c.round_or_pass.ensures.goes.fits c.clear_records.ensures (ap (λ (s : Setup). length s.homes) setup ∙ kept.homes) seats.seated
     (seats.number ∙ kept.number) (omega (arith, seats.calls, kept.calls)) kept.few (front_all (λ b. (goal.Actor-dyn g (b.vtable, b.value)).mind b.value ≡ None) _ _ seats.crew.front kept.blank))
 
 pub returns-clause-steps : goal.returns-clause-steps
@@ -185,10 +175,36 @@ pub returns-in-Err-put_trace-clause-steps : goal.returns-in-Err-put_trace-clause
 returns-in-Err-put_trace-clause-steps g c = next_as c.args.sim.now.kernel c.reserve_round.new.self c.args.steps.now c.round_or_pass.new.steps c.in-Ok.ensures.kept c.round_or_pass.ensures.steps
 
 pub returns-in-Err-round_or_pass-clause-script : goal.returns-in-Err-round_or_pass-clause-script
-returns-in-Err-round_or_pass-clause-script g c = c.in-Err-round_or_pass.ensures.script.reads
+returns-in-Err-round_or_pass-clause-script g c = c.in-Err-round_or_pass.ensures.goes.script.reads
 
 pub returns-in-Err-put_trace-clause-script : goal.returns-in-Err-put_trace-clause-script
-returns-in-Err-put_trace-clause-script g c = c.in-Ok-round_or_pass.ensures.script.reads
+returns-in-Err-put_trace-clause-script g c = c.in-Ok-round_or_pass.ensures.goes.script.reads
 
 pub returns-clause-script : goal.returns-clause-script
-returns-clause-script g c = c.in-Ok-round_or_pass.ensures.script.reads
+returns-clause-script g c = c.in-Ok-round_or_pass.ensures.goes.script.reads
+
+pub round_or_pass-requires-clause-can : goal.round_or_pass-requires-clause-can
+round_or_pass-requires-clause-can g c κs within =
+    let same = c.in-Ok.ensures.kept in
+    let kept = c.requires.going.kept in
+    let number : c.len.result ≡ length c.args.sim.now.seats.items = search rules in
+    record {
+      roads = subst (λ (s : Setup). AreOver s.links c.args.router.now) (sym (ap (λ (k : Known). k.setup) same)) c.requires.going.roads;
+      fits = record {
+        actors = ap (λ (k : Known). length k.core.actors) same ∙ kept.fits.actors;
+        queues = kept.fits.queues;
+        begun = kept.fits.begun;
+        extent = ap (λ (k : Known). extent k.setup) same ∙ kept.fits.extent;
+        waiting = kept.fits.waiting;
+      };
+      room = room_for c.reserve_round.new.self kept same (omega (arith, number, c.in-Ok.ensures.room));
+    }
+
+pub returns-in-Err-round_or_pass-clause-router : goal.returns-in-Err-round_or_pass-clause-router
+returns-in-Err-round_or_pass-clause-router g c = c.in-Err-round_or_pass.ensures.goes.script.roads
+
+pub returns-in-Err-put_trace-clause-router : goal.returns-in-Err-put_trace-clause-router
+returns-in-Err-put_trace-clause-router g c = c.in-Ok-round_or_pass.ensures.goes.script.roads
+
+pub returns-clause-router : goal.returns-clause-router
+returns-clause-router g c = c.in-Ok-round_or_pass.ensures.goes.script.roads

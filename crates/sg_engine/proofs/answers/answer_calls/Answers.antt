@@ -15,8 +15,8 @@ use Rattle.sg_engine.proofs.answers.answer_calls.Goals as goal
 
 pub loop-place-init : goal.loop-place-init
 loop-place-init g c = record {
-  reached = λ taken world stands. reached_none _ (rest_from (scene c.args.router.now c.args.sim.now.kernel.setup (firsts_of c.args.plan.now.deployment.now) c.args.plan.now.script) c.args.sim.now.calls.items 0) taken _ _ world (reads_none _ c.requires.fits.begun) stands;
-  fits = c.requires.fits;
+  reached = λ taken world stands. reached_none _ (rest_from (scene c.args.router.now c.args.sim.now.kernel.setup (firsts_of c.args.plan.now.deployment.now) c.args.plan.now.script) c.args.sim.now.calls.items 0) taken _ _ world (reads_none _ c.requires.can.fits.begun) stands;
+  fits = c.requires.can.fits;
   script = script_unread g.F.Files.shows c.args.plan.now.script c.args.files.now;
   router = refl;
   setup = refl;
@@ -24,15 +24,10 @@ loop-place-init g c = record {
   calls = refl;
   buffer = refl;
   seats = refl;
-  manned = c.requires.manned;
+  manned = c.requires.can.manned;
   crew = crew_same c.args.sim.now c.args.sim.now refl (omega arith);
   callers = λ j d from below. free_may c.args.sim.now.kernel.core (get_or c.args.sim.now.calls.items j d).actor.0 (c.requires.callers j d below).0;
 }
-
-pub answer_one-requires-clause-roads : goal.answer_one-requires-clause-roads
-answer_one-requires-clause-roads g c κs within =
-    (subst (λ (setup : Setup). AreOver setup.links c.loop-place.router) (sym c.loop-place.invariant.setup)
-    (subst (λ (roads : Roads). AreOver c.args.sim.now.kernel.setup.links roads) (sym c.loop-place.invariant.router) c.requires.roads)) κs within
 
 pub returns-in-Ok-Some-clause-step : goal.returns-in-Ok-Some-clause-step
 returns-in-Ok-Some-clause-step g c = λ taken world stands.
@@ -64,7 +59,7 @@ loop-place-preserved g c =
           (rw (c.in-Ok-None.field-0-is, inv.router, c.as_slice.ensures.value, inv.calls) at (c.in-Ok-None.ensures.step (taken ++ first.piece) first.world first.stands));
       fits = c.in-Ok-None.ensures.fits;
       script = script_then _ _ _ _ _ inv.script c.in-Ok-None.ensures.script.reads;
-      router = c.in-Ok-None.ensures.router ∙ inv.router;
+      router = c.in-Ok-None.ensures.script.roads ∙ inv.router;
       setup = one.setup ∙ inv.setup;
       room = omega (arith, inv.room, one.room);
       calls = one.calls ∙ inv.calls;
@@ -78,3 +73,11 @@ loop-place-preserved g c =
 pub returns-clause-step : goal.returns-clause-step
 returns-clause-step g c = λ taken world stands.
     all_called _ _ (scene c.args.router.now c.args.sim.now.kernel.setup (firsts_of c.args.plan.now.deployment.now) c.args.plan.now.script) c.args.sim.now.calls.items c.loop-place.place taken _ _ _ (omega (arith, c.loop-place-test.false, c.len-place-end.ensures)) (c.loop-place.invariant.reached taken world stands)
+
+pub answer_one-requires-clause-can : goal.answer_one-requires-clause-can
+answer_one-requires-clause-can g c = record {
+  roads = subst (λ (setup : Setup). AreOver setup.links c.loop-place.router) (sym c.loop-place.invariant.setup)
+      (subst (λ (roads : Roads). AreOver c.args.sim.now.kernel.setup.links roads) (sym c.loop-place.invariant.router) c.requires.can.roads);
+  fits = c.loop-place.invariant.fits;
+  manned = c.loop-place.invariant.manned;
+}

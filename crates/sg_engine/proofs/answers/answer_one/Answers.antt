@@ -13,14 +13,14 @@ returns-then-not-alive-clause-step g c = λ taken world stands.
     let over : is_ended (state_of world.core c.args.made.actor.0) ≡ true =
     ap (λ (core : Core). is_ended (state_of core c.args.made.actor.0)) (sym stands.core) ∙ free_ended (state_of c.args.sim.now.kernel.core c.args.made.actor.0) c.requires.caller.free (sym c.alive.ensures ∙ c.if-not-alive.true) in
     reached_as _ (λ answers. at_world None world) _ (ending None) taken _ _ _ (λ answers. as_killed _ answers c.args.made.actor.0 c.args.made.call world over)
-    (reached_none _ (ending None) taken _ _ world (reads_none _ c.requires.fits.begun) stands)
+    (reached_none _ (ending None) taken _ _ world (reads_none _ c.requires.can.fits.begun) stands)
 
 pub returns-in-Some-clause-step : goal.returns-in-Some-clause-step
 returns-in-Some-clause-step g c = λ taken world stands.
     let alive : is_ended (state_of world.core c.args.made.actor.0) ≡ false =
     ap (λ (core : Core). is_ended (state_of core c.args.made.actor.0)) (sym stands.core) ∙ not_ended (state_of c.args.sim.now.kernel.core c.args.made.actor.0) (sym c.alive.ensures ∙ c.if-not-alive.false) in
     matched_as world.work c.answer_create.result _ _ _ taken _ _ _ (λ answers. as_created _ answers c.args.made.actor.0 c.args.made.call c.in-Some.target world alive (sym c.created.ensures ∙ c.in-Some.is))
-    (c.answer_create.ensures.step _ c.requires.fits.begun taken world stands)
+    (c.answer_create.ensures.step _ c.requires.can.fits.begun taken world stands)
 
 pub returns-in-None-clause-step : goal.returns-in-None-clause-step
 returns-in-None-clause-step g c = λ taken world stands.

@@ -21,6 +21,7 @@ returns-then-asks_script-clause-script g c =
     let scripted = (is_scripted c.args.plan.now.script (is_ask c.args.made.call) (sym c.asks_script.ensures ∙ c.if-asks_script.true)) in
     record {
       reads = record { others = c.answer_ask.ensures.others; unscripted = λ isnt. not_unscripted c.args.plan.now.script scripted isnt };
+      roads = refl;
       uncut = c.answer_ask.ensures.uncut;
       cause = λ is. broken_scripted c.args.plan.now.script _ scripted (c.answer_ask.ensures.read is);
     }
@@ -28,6 +29,7 @@ returns-then-asks_script-clause-script g c =
 pub returns-else-asks_script-clause-script : goal.returns-else-asks_script-clause-script
 returns-else-asks_script-clause-script g c = record {
   reads = record { others = λ q away. refl; unscripted = λ isnt. refl };
+  roads = c.answer.ensures.router;
   uncut = c.end_of.ensures.uncut;
   cause = λ is. absurd (c.end_of.ensures.no_fault (cc is));
 }

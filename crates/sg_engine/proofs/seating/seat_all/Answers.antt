@@ -5,9 +5,11 @@ use Rattle.sg_engine.proofs.Castings.{all_seated_more, function_can, function_is
 use Rattle.sg_engine.proofs.Crews.{front_all, front_less, front_then}
 use Rattle.sg_engine.proofs.seating.seat_all.Goals as goal
 
-pub seat-requires-clause-some : goal.seat-requires-clause-some
-seat-requires-clause-some g c =
-    left_some c.actors-rows.result.now c.loop-i.i c.index-rows-i.result (length c.args.crew.now.items) (length c.loop-i.crew.items) c.loop-i-test.true c.index-rows-i.is (omega (arith, c.requires.enough, ap (count_by starts) c.actors-rows.ensures.rows)) c.loop-i.invariant.taken
+pub seat-requires-clause-crew : goal.seat-requires-clause-crew
+seat-requires-clause-crew g c = record {
+  some = left_some c.actors-rows.result.now c.loop-i.i c.index-rows-i.result (length c.args.crew.now.items) (length c.loop-i.crew.items) c.loop-i-test.true c.index-rows-i.is (omega (arith, c.requires.enough, ap (count_by starts) c.actors-rows.ensures.rows)) c.loop-i.invariant.taken;
+  blank = c.loop-i.invariant.blank;
+}
 
 pub loop-i-preserved : goal.loop-i-preserved
 loop-i-preserved g c =

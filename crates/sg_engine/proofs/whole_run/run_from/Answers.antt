@@ -3,18 +3,23 @@ use Rattle.sg_engine.specs.kept.Invariant.{crew_in}
 use Rattle.sg_kernel.specs.World.{Setup}
 use Rattle.sg_edge.specs.declared.files.Part.TheVariants.{Script}
 use Rattle.sg_engine.proofs.Endings.{run_ends, run_cut, run_left, run_left_cut, run_needed, run_work, is_going, goes_on_telling, keeps_name, broken_part, in_cut, in_over}
+use Rattle.sg_engine.proofs.Uncut.{not_write}
 use Rattle.sg_engine.proofs.whole_run.run_from.Goals as goal
 
-pub finish-requires-clause-of : goal.finish-requires-clause-of
-finish-requires-clause-of g c =
+pub invariant_of-end : goal.invariant_of-end
+invariant_of-end g c =
     let kept = in_over _ _ (sym c.is_cut.ensures ∙ c.if-is_cut.false) c.simulate-how.ensures.kept in
-    record { number = kept.fits.actors; extent = kept.fits.extent; few = omega (arith, kept.fits.actors, kept.few) }
+    record {
+      of = record {
+        hosts = sym (ap (λ (setup : Setup). setup.hosts) (c.simulate-how.ensures.crew.setup ∙ c.requires.beginning.first.setup));
+        number = kept.fits.actors;
+        extent = kept.fits.extent;
+        few = omega (arith, kept.fits.actors, kept.few);
+      };
+    }
 
-pub finish-requires-clause-hosts : goal.finish-requires-clause-hosts
-finish-requires-clause-hosts g c = sym (ap (λ (setup : Setup). setup.hosts) (c.simulate-how.ensures.crew.setup ∙ c.requires.beginning.first.setup))
-
-pub finish-requires-clause-how : goal.finish-requires-clause-how
-finish-requires-clause-how g c = sym c.is_cut.ensures ∙ c.if-is_cut.false
+pub finish-requires : goal.finish-requires
+finish-requires g c = sym c.is_cut.ensures ∙ c.if-is_cut.false
 
 pub returns-then-is_cut-clause-output : goal.returns-then-is_cut-clause-output
 returns-then-is_cut-clause-output g c = λ source gives.
@@ -31,23 +36,6 @@ returns-then-is_cut-clause-output g c = λ source gives.
           (λ isnt. ap (λ (f : _). g.F.Files.shows f Script) (c.simulate-how.ensures.script.unscripted isnt)) cut.cut.needed;
     }
 
-pub returns-then-is_cut-clause-cause : goal.returns-then-is_cut-clause-cause
-returns-then-is_cut-clause-cause g c =
-    let cut = (in_cut _ _ (sym c.is_cut.ensures ∙ c.if-is_cut.true) c.simulate-how.ensures.run).cut in
-    let cause = c.simulate-how.ensures.cause in
-    record { write = cause.write; sound = cause.sound; read = λ is. broken_part c.args.engine.now.plan.script cut.piece _ _ cut.reads (cause.read is) }
-
-pub returns-then-is_cut-clause-script : goal.returns-then-is_cut-clause-script
-returns-then-is_cut-clause-script g c =
-    let cut = (in_cut _ _ (sym c.is_cut.ensures ∙ c.if-is_cut.true) c.simulate-how.ensures.run).cut in
-    let script = c.simulate-how.ensures.script in
-    record {
-      others = script.others;
-      unscripted = script.unscripted;
-      name = keeps_name c.args.engine.now.plan.script cut.piece _ _ cut.reads (λ isnt. ap (λ (f : _). g.F.Files.shows f Script) (script.unscripted isnt));
-      telling = goes_on_telling c.args.engine.now.plan.script cut.piece _ _ cut.reads (λ isnt. ap (λ (f : _). g.F.Files.shows f Script) (script.unscripted isnt));
-    }
-
 pub returns-else-is_cut-clause-output : goal.returns-else-is_cut-clause-output
 returns-else-is_cut-clause-output g c = λ source gives.
     let going = is_going c.args.engine.now.plan.script _ _ source (λ over. g.met.F.Files.nothing_left c.simulate-how.new.files Script over) gives in
@@ -61,22 +49,38 @@ returns-else-is_cut-clause-output g c = λ source gives.
           (λ isnt. ap (λ (f : _). g.F.Files.shows f Script) (c.simulate-how.ensures.script.unscripted isnt)) over.needed;
     }
 
-pub returns-else-is_cut-clause-cause : goal.returns-else-is_cut-clause-cause
-returns-else-is_cut-clause-cause g c =
-    let over = in_over _ _ (sym c.is_cut.ensures ∙ c.if-is_cut.false) c.simulate-how.ensures.run in
-    let cause = c.finish.ensures.cause in
-    record { write = cause.write; sound = cause.sound; read = λ is. broken_part c.args.engine.now.plan.script over.piece _ _ over.reads (c.simulate-how.ensures.cause.read (cause.read is)) }
-
-pub returns-else-is_cut-clause-memory : goal.returns-else-is_cut-clause-memory
-returns-else-is_cut-clause-memory g c = λ is. absurd (c.finish.ensures.memory is)
-
-pub returns-else-is_cut-clause-script : goal.returns-else-is_cut-clause-script
-returns-else-is_cut-clause-script g c =
-    let over = in_over _ _ (sym c.is_cut.ensures ∙ c.if-is_cut.false) c.simulate-how.ensures.run in
+pub returns-then-is_cut-clause-ending : goal.returns-then-is_cut-clause-ending
+returns-then-is_cut-clause-ending g c =
+    let cut = (in_cut _ _ (sym c.is_cut.ensures ∙ c.if-is_cut.true) c.simulate-how.ensures.run).cut in
+    let cause = c.simulate-how.ensures.cause in
     let script = c.simulate-how.ensures.script in
     record {
-      others = script.others;
-      unscripted = script.unscripted;
-      name = keeps_name c.args.engine.now.plan.script over.piece _ _ over.reads (λ isnt. ap (λ (f : _). g.F.Files.shows f Script) (script.unscripted isnt));
-      telling = goes_on_telling c.args.engine.now.plan.script over.piece _ _ over.reads (λ isnt. ap (λ (f : _). g.F.Files.shows f Script) (script.unscripted isnt));
+      cause = record { write = cause.write; sound = cause.sound; read = λ is. broken_part c.args.engine.now.plan.script cut.piece _ _ cut.reads (cause.read is) };
+      memory = λ is. c.simulate-how.ensures.err;
+      reads = record {
+        others = script.others;
+        unscripted = script.unscripted;
+        name = keeps_name c.args.engine.now.plan.script cut.piece _ _ cut.reads (λ isnt. ap (λ (f : _). g.F.Files.shows f Script) (script.unscripted isnt));
+        telling = goes_on_telling c.args.engine.now.plan.script cut.piece _ _ cut.reads (λ isnt. ap (λ (f : _). g.F.Files.shows f Script) (script.unscripted isnt));
+      };
+    }
+
+pub returns-else-is_cut-clause-ending : goal.returns-else-is_cut-clause-ending
+returns-else-is_cut-clause-ending g c =
+    let over = in_over _ _ (sym c.is_cut.ensures ∙ c.if-is_cut.false) c.simulate-how.ensures.run in
+    let cause = c.finish.ensures.cause in
+    let script = c.simulate-how.ensures.script in
+    record {
+      cause = record {
+        write = cause.write;
+        sound = λ isnt. cause.sound isnt ∙ c.simulate-how.ensures.cause.sound (not_write c.simulate-how.result (sym c.is_cut.ensures ∙ c.if-is_cut.false));
+        read = λ is. broken_part c.args.engine.now.plan.script over.piece _ _ over.reads (c.simulate-how.ensures.cause.read (cause.read is));
+      };
+      memory = λ is. absurd (c.finish.ensures.memory is);
+      reads = record {
+        others = script.others;
+        unscripted = script.unscripted;
+        name = keeps_name c.args.engine.now.plan.script over.piece _ _ over.reads (λ isnt. ap (λ (f : _). g.F.Files.shows f Script) (script.unscripted isnt));
+        telling = goes_on_telling c.args.engine.now.plan.script over.piece _ _ over.reads (λ isnt. ap (λ (f : _). g.F.Files.shows f Script) (script.unscripted isnt));
+      };
     }

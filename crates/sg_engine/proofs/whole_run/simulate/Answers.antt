@@ -39,7 +39,7 @@ loop-turn-init g c =
       router = refl;
       same = first.setup;
       err = refl;
-      sound = c.requires.sound;
+      sound = refl;
       script = script_unread g.F.Files.shows c.args.engine.now.plan.script c.args.files.now;
     }
 
@@ -123,7 +123,7 @@ loop-turn-preserved g c =
       router = c.in-None.ensures.router ∙ inv.router;
       same = c.in-None.ensures.kept.setup ∙ inv.same;
       err = c.in-None.ensures.part.0 ∙ inv.err;
-      sound = c.in-None.ensures.cause.sound (none_not ended.WriteFault);
+      sound = c.in-None.ensures.cause.sound (none_not ended.WriteFault) ∙ inv.sound;
       script = script_then _ _ _ _ _ inv.script c.in-None.ensures.script;
     }
 
@@ -144,7 +144,7 @@ returns-in-Some-clause-cause g c =
     let cause = c.in-Some.ensures.cause in
     record {
       write = λ is. cause.write (ap (λ (h : Ended). Some h) is);
-      sound = λ isnt. cause.sound (λ is. isnt (cc is));
+      sound = λ isnt. cause.sound (λ is. isnt (cc is)) ∙ c.loop-turn.invariant.sound;
       read = λ is. cause.read (ap (λ (h : Ended). Some h) is);
     }
 

@@ -22,6 +22,6 @@ invariant-loop-turn g l =
       router : l.router ≡ l.fn.router;
       same : l.sim.kernel.setup ≡ at.setup;
       err : g.O.Sinks.contents l.out Err ≡ g.O.Sinks.contents l.fn.out Err;
-      sound : g.O.Sinks.faults l.out ≡ 0;
+      sound : g.O.Sinks.faults l.out ≡ g.O.Sinks.faults l.fn.out;
       script : ReadsScript g.F.Files.shows l.engine.plan.script l.fn.files l.files;
     }
