@@ -124,10 +124,10 @@ broke_since old mid new rising broke more (inl before) = let first = broke befor
 broke_since old mid new rising broke more (inr since) = omega (arith, rising, since)
 
 -- the cause of a run's fault is the call's
-pub run_cause : (how : Ended) (code : Status) (faults : ℕ) (old mid new : PartView) → code ≡ status_of how → old.faults ≤ mid.faults → (mid.stage ≡ Broken → old.faults < mid.faults) →
-    HasCause (how ≡ E.WriteFault) (how ≡ E.ReadFault) faults (IsBroken mid new) →
-    HasCause (code ≡ S.WriteFault) (code ≡ S.ReadFault) faults ((new.stage ≡ Broken) × (old.faults < new.faults))
-run_cause how code faults old mid new is rising broke cause = record {
+pub run_cause : (how : Ended) (code : Status) (had faults : ℕ) (old mid new : PartView) → code ≡ status_of how → old.faults ≤ mid.faults → (mid.stage ≡ Broken → old.faults < mid.faults) →
+    HasCause (how ≡ E.WriteFault) (how ≡ E.ReadFault) had faults (IsBroken mid new) →
+    HasCause (code ≡ S.WriteFault) (code ≡ S.ReadFault) had faults ((new.stage ≡ Broken) × (old.faults < new.faults))
+run_cause how code had faults old mid new is rising broke cause = record {
   write = λ told. cause.write (write_status how (sym is ∙ told));
   sound = λ untold. cause.sound (λ ended. untold (is ∙ ap status_of ended));
   read = λ told. let broken = cause.read (read_status how (sym is ∙ told)) in (broken.0, broke_since old mid new rising broke broken.1 broken.2);
@@ -345,34 +345,34 @@ unrefused_spares how old new not = record {
 }
 
 -- where no write failed, the outcome is there whole, or memory was wanting
-whole_or_memory : (want : Outcome) (how : Status) (faults : ℕ) (broke : Type 0) (old new : Stream → Option (List ℕ)) → Prints want how old new →
-    HasCause (how ≡ S.WriteFault) (how ≡ S.ReadFault) faults broke → faults ≡ 0 → (how ≡ S.Memory) ⊎ IsWhole want how old new
-whole_or_memory want S.WriteFault faults broke old new prints cause none = absurd (let some = cause.write refl in omega (arith, some, none))
-whole_or_memory want S.Memory faults broke old new prints cause none = inl refl
-whole_or_memory want S.Completed faults broke old new prints cause none = inr prints
-whole_or_memory want S.Words faults broke old new prints cause none = inr prints
-whole_or_memory want S.Platform faults broke old new prints cause none = inr prints
-whole_or_memory want S.Deployment faults broke old new prints cause none = inr prints
-whole_or_memory want S.Script faults broke old new prints cause none = inr prints
-whole_or_memory want S.Deadlock faults broke old new prints cause none = inr prints
-whole_or_memory want S.Starved faults broke old new prints cause none = inr prints
-whole_or_memory want S.Budget faults broke old new prints cause none = inr prints
-whole_or_memory want S.Route faults broke old new prints cause none = inr prints
-whole_or_memory want S.ReadFault faults broke old new prints cause none = inr prints
+whole_or_memory : (want : Outcome) (how : Status) (had faults : ℕ) (broke : Type 0) (old new : Stream → Option (List ℕ)) → Prints want how old new →
+    HasCause (how ≡ S.WriteFault) (how ≡ S.ReadFault) had faults broke → faults ≡ 0 → (how ≡ S.Memory) ⊎ IsWhole want how old new
+whole_or_memory want S.WriteFault had faults broke old new prints cause none = absurd (let some = cause.write refl in omega (arith, some, none))
+whole_or_memory want S.Memory had faults broke old new prints cause none = inl refl
+whole_or_memory want S.Completed had faults broke old new prints cause none = inr prints
+whole_or_memory want S.Words had faults broke old new prints cause none = inr prints
+whole_or_memory want S.Platform had faults broke old new prints cause none = inr prints
+whole_or_memory want S.Deployment had faults broke old new prints cause none = inr prints
+whole_or_memory want S.Script had faults broke old new prints cause none = inr prints
+whole_or_memory want S.Deadlock had faults broke old new prints cause none = inr prints
+whole_or_memory want S.Starved had faults broke old new prints cause none = inr prints
+whole_or_memory want S.Budget had faults broke old new prints cause none = inr prints
+whole_or_memory want S.Route had faults broke old new prints cause none = inr prints
+whole_or_memory want S.ReadFault had faults broke old new prints cause none = inr prints
 
 -- without want of memory it is there whole
-pub whole_of : (want : Outcome) (how : Status) (faults : ℕ) (broke : Type 0) (old new : Stream → Option (List ℕ)) → Prints want how old new →
-    HasCause (how ≡ S.WriteFault) (how ≡ S.ReadFault) faults broke → faults ≡ 0 → how ≢ S.Memory → IsWhole want how old new
-whole_of want how faults broke old new prints cause none some = all (whole_or_memory want how faults broke old new prints cause none)
+pub whole_of : (want : Outcome) (how : Status) (had faults : ℕ) (broke : Type 0) (old new : Stream → Option (List ℕ)) → Prints want how old new →
+    HasCause (how ≡ S.WriteFault) (how ≡ S.ReadFault) had faults broke → faults ≡ 0 → how ≢ S.Memory → IsWhole want how old new
+whole_of want how had faults broke old new prints cause none some = all (whole_or_memory want how had faults broke old new prints cause none)
   where
     all : (how ≡ S.Memory) ⊎ IsWhole want how old new → IsWhole want how old new
     all (inl memory) = absurd (some memory)
     all (inr whole) = whole
 
 -- what completes by the definition says so, or that memory was wanting
-pub completed_of : (want : Outcome) (how : Status) (faults : ℕ) (broke : Type 0) (old new : Stream → Option (List ℕ)) → Prints want how old new →
-    HasCause (how ≡ S.WriteFault) (how ≡ S.ReadFault) faults broke → faults ≡ 0 → want.status ≡ S.Completed → (how ≡ S.Completed) ⊎ (how ≡ S.Memory)
-completed_of want how faults broke old new prints cause none done = told (whole_or_memory want how faults broke old new prints cause none)
+pub completed_of : (want : Outcome) (how : Status) (had faults : ℕ) (broke : Type 0) (old new : Stream → Option (List ℕ)) → Prints want how old new →
+    HasCause (how ≡ S.WriteFault) (how ≡ S.ReadFault) had faults broke → faults ≡ 0 → want.status ≡ S.Completed → (how ≡ S.Completed) ⊎ (how ≡ S.Memory)
+completed_of want how had faults broke old new prints cause none done = told (whole_or_memory want how had faults broke old new prints cause none)
   where
     told : (how ≡ S.Memory) ⊎ IsWhole want how old new → (how ≡ S.Completed) ⊎ (how ≡ S.Memory)
     told (inl memory) = inr memory

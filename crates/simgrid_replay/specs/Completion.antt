@@ -16,7 +16,7 @@ pub record IsWholeIfSound (want : Outcome) (how : Status) (faults : ℕ) (old ne
 
 -- so it is of whatever has its outcome and its cause
 abbrev pub OutcomesAreWhole : Type 0
-OutcomesAreWhole = (want : Outcome) (how : Status) (faults : ℕ) (old new : Stream → Option (List ℕ)) (start count : ℕ) (before after : Part → PartView)
+OutcomesAreWhole = (want : Outcome) (how : Status) (had faults : ℕ) (old new : Stream → Option (List ℕ)) (start count : ℕ) (before after : Part → PartView)
     → HasOutcome want how old new start count
-    → HasCause (how ≡ status.WriteFault) (how ≡ status.ReadFault) faults (SomeBroke before after)
+    → HasCause (how ≡ status.WriteFault) (how ≡ status.ReadFault) had faults (SomeBroke before after)
     → IsWholeIfSound want how faults old new

@@ -39,7 +39,6 @@ pub fn exit_of<R: Threads + Sync, F: Files, O: Sinks, L: Ledger>(
     steps: &mut Steps<L>,
 ) -> ExitCode
     requires fresh { (part : Part) → (F.shows files.old part).stage ≡ Fresh }
-    requires sound { O.faults out.old ≡ 0 }
     requires blank { All (λ b. mind b ≡ None) crew.old.items }
     ensures output { (job : Asked) → AskFor (map string_bytes words.now) job
         → (p d s : Source) → PartsGive job.request (F.shows files.old) (F.shows files.new) p d s
@@ -49,7 +48,7 @@ pub fn exit_of<R: Threads + Sync, F: Files, O: Sinks, L: Ledger>(
         → Exits (exit_status result) (λ how. ReportsWords (refusals (map string_bytes words.now))
         how (O.contents out.old) (O.contents out.new)) }
     ensures cause { Exits (exit_status result) (λ how. HasCause (how ≡ Status.WriteFault)
-        (how ≡ Status.ReadFault) (O.faults out.new)
+        (how ≡ Status.ReadFault) (O.faults out.old) (O.faults out.new)
         (SomeBroke (F.shows files.old) (F.shows files.new))) }
 {
     exit_code(simgrid(host.rt, host.alloc, words, files, out, crew, steps))

@@ -85,7 +85,6 @@ pub fn run_job<R: Threads + Sync, F: Files, O: Sinks, L: Ledger>(
 ) -> Status
     requires setup { IsSetupOfJob on.job.now (length crew.old.items) on.setup }
     requires fresh { (F.shows files.old Part.Script).stage ≡ Fresh }
-    requires sound { O.faults out.old ≡ 0 }
     requires blank { All (λ b. mind b ≡ None) crew.old.items }
     ensures output { (s : Source) → ScriptGives (request_of on.entry.job.now) (F.shows files.old)
         (F.shows files.new) s → ComesTo (run_on (job_view on.entry.job.now) (length crew.old.items)
@@ -95,7 +94,7 @@ pub fn run_job<R: Threads + Sync, F: Files, O: Sinks, L: Ledger>(
     ensures crew { TakesFirst (Ok (setting_in on.entry.setup)) result crew.old.items
         crew.new.items }
     ensures unrefused { is_refusal result ≡ false }
-    ensures cause { IsCallCause result (O.faults out.new)
+    ensures cause { IsCallCause result (O.faults out.old) (O.faults out.new)
         (Broke Part.Script (F.shows files.old) (F.shows files.new)) }
     ensures script { BeginsScript F.shows (request_of on.entry.job.now) files.old files.new }
 {

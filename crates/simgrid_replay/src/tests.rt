@@ -64,7 +64,6 @@ fn code_of<R: Threads + Sync, F: Files, O: Sinks, L: Ledger>(
     blank: Blank,
 ) -> u8
     requires fresh { (part : Part) → (F.shows files.old part).stage ≡ Fresh }
-    requires sound { O.faults out.old ≡ 0 }
     requires blank { All (λ b. mind b ≡ None) crew.old.items }
     requires name { blank.name ≡ L.name }
     requires parts { blank.parts ≡ L.parts }

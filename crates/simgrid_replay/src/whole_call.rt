@@ -38,7 +38,6 @@ fn do_job<R: Threads + Sync, F: Files, O: Sinks, L: Ledger>(
     steps: &mut Steps<L>,
 ) -> Status
     requires start { IsStart (F.shows files.old) (λ b. mind b) crew.old.items }
-    requires sound { O.faults out.old ≡ 0 }
     ensures output { (p d s : Source)
         → PartsGive (request_of job.now) (F.shows files.old) (F.shows files.new) p d s
         → ComesTo (outcome (job_view job.now) (length crew.old.items) p d s) result
@@ -50,7 +49,7 @@ fn do_job<R: Threads + Sync, F: Files, O: Sinks, L: Ledger>(
         files.old files.new }
     ensures rest { SparesRest result (F.shows files.old) (F.shows files.new) }
     ensures words { result ≢ Status.Words }
-    ensures cause { IsCallCause result (O.faults out.new)
+    ensures cause { IsCallCause result (O.faults out.old) (O.faults out.new)
         (SomeBroke (F.shows files.old) (F.shows files.new)) }
 {
     match prepare(host.alloc, files, job, crew.len()) {
@@ -76,7 +75,6 @@ pub fn simgrid<R: Threads + Sync, F: Files, O: Sinks, L: Ledger>(
     steps: &mut Steps<L>,
 ) -> Status
     requires fresh { (part : Part) → (F.shows files.old part).stage ≡ Fresh }
-    requires sound { O.faults out.old ≡ 0 }
     requires blank { All (λ b. mind b ≡ None) crew.old.items }
 
     // Words that are accepted ask for a job.
@@ -117,7 +115,7 @@ pub fn simgrid<R: Threads + Sync, F: Files, O: Sinks, L: Ledger>(
 
     // The causes of a failed write and of a failed read.
     ensures cause { HasCause (result ≡ Status.WriteFault) (result ≡ Status.ReadFault)
-        (O.faults out.new) (SomeBroke (F.shows files.old) (F.shows files.new)) }
+        (O.faults out.old) (O.faults out.new) (SomeBroke (F.shows files.old) (F.shows files.new)) }
 {
     accepted_words_have_a_job();
     outcomes_are_whole();

@@ -28,8 +28,8 @@ pub record IsStart {A : Type 0} (shows : Part → PartView) (mind : A → Option
   pub blank : All (λ context. mind context ≡ None) crew
 
 -- why a call ended by a failed write, or by a failed read of what broke
-abbrev pub IsCallCause : Status → ℕ → Type 0 → Type 0
-IsCallCause how faults broke = HasCause (how ≡ status.WriteFault) (how ≡ status.ReadFault) faults broke
+abbrev pub IsCallCause : Status → ℕ → ℕ → Type 0 → Type 0
+IsCallCause how had faults broke = HasCause (how ≡ status.WriteFault) (how ≡ status.ReadFault) had faults broke
 
 -- of a crew of so many contexts so many are left: the call took as many as its outcome takes, or was cut off and took no more
 abbrev pub LeavesContexts : ℕ → Status → ℕ → ℕ → Type 0

@@ -33,12 +33,12 @@ returns-clause-crew g c = seats_run (setting_in c.args.on.setup) c.run-ended.res
 
 pub returns-clause-cause : goal.returns-clause-cause
 returns-clause-cause g c =
-    run_cause c.run-ended.result c.status.result _ (g.F.Files.shows c.args.files.now Script) (g.F.Files.shows c.begin_script.new.files Script) (g.F.Files.shows c.run-ended.new.files Script)
-    c.status.ensures.is c.begin_script.ensures.faults c.begin_script.ensures.cause c.run-ended.ensures.cause
+    run_cause c.run-ended.result c.status.result _ _ (g.F.Files.shows c.args.files.now Script) (g.F.Files.shows c.begin_script.new.files Script) (g.F.Files.shows c.run-ended.new.files Script)
+    c.status.ensures.is c.begin_script.ensures.faults c.begin_script.ensures.cause c.run-ended.ensures.ending.cause
 
 pub returns-clause-script : goal.returns-clause-script
 returns-clause-script g c =
-    let script = c.run-ended.ensures.script in
+    let script = c.run-ended.ensures.ending.reads in
     record {
       others = λ q away. script.others q away ∙ c.begin_script.ensures.others q away;
       unscripted = λ none. script.unscripted (c.requires.setup.script ∙ none) ∙ c.begin_script.ensures.unscripted none;
