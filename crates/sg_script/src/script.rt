@@ -115,7 +115,8 @@ impl Script {
     }
 
     // Takes a good line, where no action waits for the actor that asks: the answer is the first one that then waits for
-    // it, where one does. An action alone of that actor never goes into its queue.
+    // it, where one does. An action alone of that actor never goes into its queue, and behind a line of another one none
+    // waits.
     #[tactic(auto, using(crate::proofs::LimitLemmas::limited_same))]
     fn answer_by_entry(
         &mut self,
@@ -137,6 +138,9 @@ impl Script {
         }
         if let Some(fault) = self.take_entry(entry, end) {
             return Some(Err(fault));
+        }
+        if entry.actor.0 != actor.0 {
+            return None;
         }
         match self.take_waiting(actor, deployment) {
             Some(action) => Some(Ok(Some(action))),
