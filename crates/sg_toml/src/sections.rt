@@ -73,14 +73,24 @@ fn pair(alloc: Global, s: &str) -> Option<(Word, Value, &str)>
     }
 }
 
-/// The entries of a section, behind its header, and what follows them.
-fn section(alloc: Global, s: &str) -> Option<(Table, &str)>
+/// A table without entries, with room for so many where there is memory for it.
+fn with_room(alloc: Global, entries: usize) -> Table
+    ensures { result.items ≡ [] }
+{
+    match Vec::with_capacity(alloc, entries) {
+        Ok(table) => table,
+        Err(_) => Vec::new(alloc),
+    }
+}
+
+/// The entries of a section, which may be so many, behind its header, and what follows them.
+fn section(alloc: Global, s: &str, entries: usize) -> Option<(Table, &str)>
     ensures value { IfSome result
         (λ p. (n : ℕ) (k : List ℕ) (done : Items) (root : Nodes) → length s.now < n
         → ReadsSection s.now (opened p.0.items) p.1.now n k done root) }
     ensures within { IfSome result (λ p. length p.1.now ≤ length s.now) }
 {
-    let mut found = Vec::new(alloc);
+    let mut found = with_room(alloc, entries);
     let mut rest = s;
     'pairs: loop {
         let start = skip_blank(rest, true);
@@ -127,10 +137,13 @@ fn group<'a>(alloc: Global, name: &Word, s: &'a str) -> Option<(Vec<Value>, &'a 
 {
     let mut rows = Vec::new(alloc);
     let mut rest = s;
+    // A section mostly has as many entries as the one before.
+    let mut entries = 0;
     'sections: loop {
-        let Some((table, after)) = section(alloc, rest) else {
+        let Some((table, after)) = section(alloc, rest, entries) else {
             return None;
         };
+        entries = table.len();
         match rows.push(Value::Table(table)) {
             Ok(()) => {}
             Err(_) => return None,

@@ -7,7 +7,7 @@ use Rattle.sg_toml.proofs.sections.section.Goals as goal
 
 pub pairs-init : goal.pairs-init
 pairs-init c =
-    (search rules, le_refl _, λ n k done root h. record { left = n; room = h; same = rw c.new-found.ensures.items })
+    (search rules, le_refl _, λ n k done root h. record { left = n; room = h; same = rw c.with_room-found.ensures })
 
 pub pairs-preserved : goal.pairs-preserved
 pairs-preserved c =
