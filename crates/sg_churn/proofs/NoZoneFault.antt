@@ -1,5 +1,5 @@
 -- The platform of a churn has no zone fault: each host stands in the only zone, which is Star, and is its own gateway.
-use Rattle.std.proofs.Common.{◌≡◌, ℕ, zero, suc, ◌+◌, ◌==◌, ◌||◌, false, true, not, Option, None, Some, Ok, [], ◌∷◌, ◌++◌, map, slice_index_or, refl, ap, ◌∙◌, arith}
+use Rattle.std.proofs.Common.{◌≡◌, ℕ, zero, suc, ◌+◌, ◌==◌, ◌||◌, false, true, not, Option, None, Ok, [], ◌∷◌, ◌++◌, map, slice_index_or, refl, ap, ◌∙◌, arith}
 use Rattle.std.proofs.lemmas.Bool.Decides.{nat_tests}
 use Rattle.std.specs.List.{range_with_len}
 use Rattle.std.specs.Option.{option_or}

@@ -15,11 +15,11 @@ use Rattle.sg_rows.specs.declared.rows.Routing.{Routing}
 use Rattle.sg_rows.specs.declared.rows.Routing.TheVariants.{Dijkstra}
 use Rattle.sg_route.specs.declared.leg.Leg.{Leg}
 use Rattle.sg_route.specs.declared.router.RouteFault.{RouteFault}
-use Rattle.sg_route.specs.declared.router.RouteFault.TheVariants.{NoRoute, TooLong}
+use Rattle.sg_route.specs.declared.router.RouteFault.TheVariants.{TooLong}
 use Rattle.sg_route.specs.DistinctLinks.{distinct_links}
 use Rattle.sg_route.specs.Made.{HasNoneFrom, IsJoined, IsLeastThere, IsMadeOf, IsReached, IsWithoutPath, LeavesMade, UnlessThere}
 use Rattle.sg_route.specs.Roads.{Roads}
-use Rattle.sg_route.specs.Route.{LeavesRoute, Passage, Route, Way, by_path, latency_of, leg, passage, passage_on, route_of, route_or_fault, unless_there, way, way_over, whole_way}
+use Rattle.sg_route.specs.Route.{LeavesRoute, Passage, Way, by_path, latency_of, leg, passage, passage_on, route_of, route_or_fault, unless_there, way, way_over, whole_way}
 use Rattle.sg_route.proofs.Passages.{by_passage}
 use Rattle.sg_route.specs.PathRoutes.{path_routes}
 use Rattle.sg_route.proofs.LegLemmas.{from_point, to_point}

@@ -1,5 +1,5 @@
 -- A way by the local route of a leg, where there is one.
-use Rattle.std.proofs.Common.{List, [], ◌∷◌, Option, Result, Err}
+use Rattle.std.proofs.Common.{List, [], ◌∷◌, Option, Err}
 use Rattle.std.specs.Option.{option_map, option_map_or}
 use Rattle.sg_base.specs.declared.ids.LinkId.{LinkId}
 use Rattle.sg_base.specs.declared.ids.PointId.{PointId}
