@@ -110,6 +110,11 @@ pub record HasPlaces (s : Sharing) (filling : Filling) : Type 0 where
   pub stale_room : filling.stale.room ≡ length s.capacities
   pub slots : length filling.agenda ≡ length s.capacities
 
+-- and the flow is held
+pub record HasFlow (s : Sharing) (filling : Filling) (id : ℕ) : Type 0 where
+  pub places : HasPlaces s filling
+  pub held : IsSome (flow_at s.slots id)
+
 -- levels, holds, keys and what is fixed stay
 pub record KeepsLevels (old new : Filling) : Type 0 where
   pub fixed : new.fixed.items ≡ old.fixed.items
@@ -219,6 +224,12 @@ pub record StepsPartly (s : Sharing) (low : ℕ) (old new : Filling) : Type 0 wh
   pub stays : (c : ℕ) → is_in c new.stale.members ≡ false → StaysAt c old new
   pub fewer : (c : ℕ) → slice_index new.waiting.items c ≤ slice_index old.waiting.items c
   pub gone : (c : ℕ) → key_at old.agenda c ≡ None → key_at new.agenda c ≡ None
+
+-- the same where no resource is noted and no key taken
+pub record FixesFlows (s : Sharing) (low : ℕ) (old new : Filling) : Type 0 where
+  pub partly : StepsPartly s low old new
+  pub agenda : new.agenda ≡ old.agenda
+  pub holds : new.holds.items ≡ old.holds.items
 
 -- how many uses the unfixed flows have
 abbrev pub unfixed_uses : List (Option Flow) → List (Option ℕ) → List ℕ → ℕ

@@ -8,7 +8,7 @@ ghost use Rattle.sg_maxmin.specs.Sharing.{IsSound, flow_at, uses_at};
 ghost use Rattle.sg_filling.specs.Component.{AreIn, MarksRow, lengths};
 ghost use Rattle.sg_filling.specs.Dates.{AreDated, HaveKeys, IsIdle, StayDated};
 ghost use Rattle.sg_levels.specs.Numbered.{bound_at, flow_in};
-ghost use Rattle.sg_filling.specs.Filling.{AreAbove, AreAmong, AreCounted, AreFixed, AreJoined, AreLeveled, AreLevels, ArePart, AreTaken, FlowSteps, HasPlaces, HasResources, IsFloor, IsLeast, IsLessBy, IsLow, IsMoreBy, IsNext, IsNextOf, IsOver, IsUpTo, KeepsCount, KeepsFixed, KeepsHolds, KeepsLevels, StepsPartly, bound_limit, fixed_at, flows_at, least_with, limits_at, unfixed_bounds, unfixed_limits, waited_levels, weight_of, weight_on};
+ghost use Rattle.sg_filling.specs.Filling.{AreAbove, AreAmong, AreCounted, AreFixed, AreJoined, AreLeveled, AreLevels, ArePart, AreTaken, FixesFlows, FlowSteps, HasFlow, HasPlaces, HasResources, IsFloor, IsLeast, IsLessBy, IsLow, IsMoreBy, IsNext, IsNextOf, IsOver, IsUpTo, KeepsCount, KeepsFixed, KeepsHolds, KeepsLevels, StepsPartly, bound_limit, fixed_at, flows_at, least_with, limits_at, unfixed_bounds, unfixed_limits, waited_levels, weight_of, weight_on};
 ghost use Rattle.sg_filling.specs.Holds.{AreNoted, CountsOnce, FixesUsers, IsAtLevel, IsBegun, IsEnded, NotesHolds, noted_at, users_at};
 
 use crate::dates::{date_all, due, has_keys, is_late};
@@ -426,8 +426,7 @@ fn fix<L: Ledger>(
     filling: &mut Filling,
     steps: &mut Steps<L>,
 )
-    requires held { IsSome (flow_at system.now.slots flow) }
-    requires places { HasPlaces system.now filling.old }
+    requires { HasFlow system.now filling.old flow }
     ensures places { HasPlaces system.now filling.new }
     ensures levels { filling.new.levels.items ≡ filling.old.levels.items }
     ensures agenda { filling.new.agenda ≡ filling.old.agenda }
@@ -460,13 +459,10 @@ fn fix_flow<L: Ledger>(
     filling: &mut Filling,
     steps: &mut Steps<L>,
 )
-    requires held { IsSome (flow_at system.now.slots flow) }
-    requires places { HasPlaces system.now filling.old }
+    requires of { HasFlow system.now filling.old flow }
     requires at { fixed_at filling.old.fixed.items flow ≡ None
         → IsLeast (Some low) (limits_at system.now.slots filling.old.levels.items flow) }
-    ensures partly { StepsPartly system.now low filling.old filling.new }
-    ensures agenda { filling.new.agenda ≡ filling.old.agenda }
-    ensures holds { filling.new.holds.items ≡ filling.old.holds.items }
+    ensures fixes { FixesFlows system.now low filling.old filling.new }
     ensures done { IsSome (fixed_at filling.new.fixed.items flow) }
     ensures count { (touched : List ℕ) → AllPairs (λ a b. a ≢ b) touched
         → is_in flow touched ≡ true
@@ -489,9 +485,7 @@ fn fix_users<L: Ledger>(
     requires resource { resource < length system.now.capacities }
     requires level { slice_index filling.old.levels.items resource ≡ low }
     requires above { AreAbove system.now (users_on system.now.users resource) low filling.old }
-    ensures partly { StepsPartly system.now low filling.old filling.new }
-    ensures agenda { filling.new.agenda ≡ filling.old.agenda }
-    ensures holds { filling.new.holds.items ≡ filling.old.holds.items }
+    ensures fixes { FixesFlows system.now low filling.old filling.new }
     ensures done { AreFixed (users_on system.now.users resource) filling.new }
     ensures count { (touched : List ℕ) → AllPairs (λ a b. a ≢ b) touched
         → AreIn (users_on system.now.users resource) touched
@@ -554,11 +548,9 @@ fn fix_bounded<L: Ledger>(
     filling: &mut Filling,
     steps: &mut Steps<L>,
 )
-    requires held { IsSome (flow_at system.now.slots flow) }
-    requires places { HasPlaces system.now filling.old }
+    requires of { HasFlow system.now filling.old flow }
     requires above { AreAbove system.now (flow ∷ []) low filling.old }
-    ensures partly { StepsPartly system.now low filling.old filling.new }
-    ensures holds { filling.new.holds.items ≡ filling.old.holds.items }
+    ensures fixes { FixesFlows system.now low filling.old filling.new }
     ensures done { bound_limit system.now.slots flow ≡ Some low
         → IsSome (fixed_at filling.new.fixed.items flow) }
     ensures count { (touched : List ℕ) → AllPairs (λ a b. a ≢ b) touched
@@ -588,8 +580,7 @@ fn fix_all_bounded<L: Ledger>(
     requires above { AreAbove system.now touched.now low filling.old }
     requires floor { IsFloor floor
         (unfixed_bounds system.now.slots filling.old.fixed.items touched.now) }
-    ensures partly { StepsPartly system.now low filling.old filling.new }
-    ensures holds { filling.new.holds.items ≡ filling.old.holds.items }
+    ensures fixes { FixesFlows system.now low filling.old filling.new }
     ensures bounds { (i : ℕ) → i < length touched.now
         → bound_limit system.now.slots (slice_index touched.now i) ≡ Some low
         → IsSome (fixed_at filling.new.fixed.items (slice_index touched.now i)) }

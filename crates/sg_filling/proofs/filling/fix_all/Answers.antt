@@ -18,7 +18,7 @@ fix_all_bounded-requires-clause-floor g c =
 
 pub returns-clause-partly : goal.returns-clause-partly
 returns-clause-partly g c =
-    partly_on c.args.system.now c.args.low.level c.args.filling.now c.fix_all_users.new.filling c.fix_all_bounded.new.filling c.fix_all_users.ensures.partly c.fix_all_bounded.ensures.partly
+    partly_on c.args.system.now c.args.low.level c.args.filling.now c.fix_all_users.new.filling c.fix_all_bounded.new.filling c.fix_all_users.ensures.partly c.fix_all_bounded.ensures.fixes.partly
 
 pub returns-clause-stepped : goal.returns-clause-stepped
 returns-clause-stepped g c = λ i h.
@@ -30,16 +30,16 @@ returns-clause-stepped g c = λ i h.
     let first = c.args.filling.now in
     let mid = c.fix_all_users.new.filling in
     let new = c.fix_all_bounded.new.filling in
-    let partly = partly_on s low first mid new c.fix_all_users.ensures.partly c.fix_all_bounded.ensures.partly in
+    let partly = partly_on s low first mid new c.fix_all_users.ensures.partly c.fix_all_bounded.ensures.fixes.partly in
     may_step low (IsLeast (Some low) (limits_at s.slots first.levels.items f)) (fixed_at first.fixed.items f) (fixed_at new.fixed.items f) (partly.flows f)
     (all_at s touched reached first.levels.items new low f c.requires.at.joined (in_at f touched i h refl)
-    (λ k l e. fixed_stay s low (users_on s.users (get_or reached k 0)) mid new c.fix_all_bounded.ensures.partly (c.fix_all_users.ensures.on k l e)) (c.fix_all_bounded.ensures.bounds i h))
+    (λ k l e. fixed_stay s low (users_on s.users (get_or reached k 0)) mid new c.fix_all_bounded.ensures.fixes.partly (c.fix_all_users.ensures.on k l e)) (c.fix_all_bounded.ensures.bounds i h))
 
 pub returns-clause-count : goal.returns-clause-count
 returns-clause-count g c =
     let a = c.fix_all_users.ensures.count in
     let b = c.fix_all_bounded.ensures.count in
-    record { counted = λ r h. b.counted r (a.counted r h); looks = omega (arith, a.looks, b.looks, untaken_same c.args.system.now c.args.reached.now c.fix_all_users.new.filling c.fix_all_bounded.new.filling c.fix_all_bounded.ensures.holds) }
+    record { counted = λ r h. b.counted r (a.counted r h); looks = omega (arith, a.looks, b.looks, untaken_same c.args.system.now c.args.reached.now c.fix_all_users.new.filling c.fix_all_bounded.new.filling c.fix_all_bounded.ensures.fixes.holds) }
 
 pub returns-clause-noted : goal.returns-clause-noted
-returns-clause-noted g c = notes_kept c.args.reached.now c.args.low.level c.args.filling.now c.fix_all_users.new.filling c.fix_all_bounded.new.filling c.fix_all_users.ensures.noted c.fix_all_bounded.ensures.holds
+returns-clause-noted g c = notes_kept c.args.reached.now c.args.low.level c.args.filling.now c.fix_all_users.new.filling c.fix_all_bounded.new.filling c.fix_all_users.ensures.noted c.fix_all_bounded.ensures.fixes.holds

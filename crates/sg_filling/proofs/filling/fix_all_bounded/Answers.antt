@@ -1,5 +1,7 @@
 use Rattle.std.proofs.Common.{◌≡◌, ◌∙◌, zero, suc, inl, inr, Option, List, ◌<◌, ℕ, true, IsSome, Some, None, length, [], ◌∷◌, get_or, below_more, refl, sym, subst, arith}
+use Rattle.std.proofs.lemmas.List.Elements.{All-get_or}
 use Rattle.sg_base.specs.MarkSet.{is_in}
+use Rattle.sg_maxmin.specs.Sharing.{flow_at}
 use Rattle.sg_filling.specs.Filling.{IsLeast, fixed_at, limits_at}
 use Rattle.sg_filling.proofs.Growing.{in_at}
 use Rattle.sg_filling.proofs.Fixing.{above_still, count_same, in_one, partly_on, partly_same, some_stays}
@@ -19,6 +21,7 @@ in_index (x ∷ xs) (suc i) h = inr (in_index xs i (omega arith))
 pub loop-flow-init : goal.loop-flow-init
 loop-flow-init g c = record {
   partly = partly_same c.args.system.now c.args.low c.args.filling.now c.requires.places;
+  agenda = refl;
   holds = refl;
   bounds = λ i h. absurd (omega (arith, h));
   count = count_same c.args.system.now c.args.touched.now c.args.filling.now c.args.steps.now;
@@ -46,16 +49,17 @@ loop-flow-preserved g c =
     let a = inv.count in
     let b = out.count touched c.requires.once (in_at f touched k c.loop-flow-test.true refl) in
     record {
-      partly = partly_on s c.args.low first old new inv.partly out.partly;
-      holds = out.holds ∙ inv.holds;
+      partly = partly_on s c.args.low first old new inv.partly out.fixes.partly;
+      agenda = out.fixes.agenda ∙ inv.agenda;
+      holds = out.fixes.holds ∙ inv.holds;
       bounds = below_more _ _
-          (λ i h e. let id = get_or touched i 0 in some_stays c.args.low (IsLeast (Some c.args.low) (limits_at s.slots old.levels.items id)) (fixed_at old.fixed.items id) (fixed_at new.fixed.items id) (out.partly.flows id) (inv.bounds i h e))
+          (λ i h e. let id = get_or touched i 0 in some_stays c.args.low (IsLeast (Some c.args.low) (limits_at s.slots old.levels.items id)) (fixed_at old.fixed.items id) (fixed_at new.fixed.items id) (out.fixes.partly.flows id) (inv.bounds i h e))
           out.done;
       count = record { counted = λ r h. b.counted r (a.counted r h); looks = omega (arith, a.looks, b.looks) };
     }
 
-pub returns-then-is_over-clause-partly : goal.returns-then-is_over-clause-partly
-returns-then-is_over-clause-partly g c = partly_same c.args.system.now c.args.low c.args.filling.now c.requires.places
+pub returns-then-is_over-clause-fixes : goal.returns-then-is_over-clause-fixes
+returns-then-is_over-clause-fixes g c = record { partly = partly_same c.args.system.now c.args.low c.args.filling.now c.requires.places; agenda = refl; holds = refl }
 
 pub returns-then-is_over-clause-bounds : goal.returns-then-is_over-clause-bounds
 returns-then-is_over-clause-bounds g c = λ i h at.
@@ -67,3 +71,9 @@ returns-then-is_over-clause-bounds g c = λ i h at.
 
 pub returns-then-is_over-clause-count : goal.returns-then-is_over-clause-count
 returns-then-is_over-clause-count g c = count_same c.args.system.now c.args.touched.now c.args.filling.now c.args.steps.now
+
+pub returns-clause-fixes : goal.returns-clause-fixes
+returns-clause-fixes g c = let inv = c.loop-flow.invariant in record { partly = inv.partly; agenda = inv.agenda; holds = inv.holds }
+
+pub fix_bounded-requires-clause-of : goal.fix_bounded-requires-clause-of
+fix_bounded-requires-clause-of g c = record { places = c.loop-flow.invariant.partly.places; held = All-get_or (λ id. IsSome (flow_at c.args.system.now.slots id)) c.args.touched.now c.loop-flow.flow-index 0 c.loop-flow-test.true c.requires.part.held }

@@ -21,28 +21,32 @@ none_read fixed flow x h e none = sym (e ∙ any_default fixed flow x None h) �
 some_read : (fixed : List (Option ℕ)) (flow : ℕ) (x : Option ℕ) → flow < length fixed → x ≡ get_or fixed flow x → is_some x ≡ true → IsSome (fixed_at fixed flow)
 some_read fixed flow x h e some = subst IsSome (e ∙ any_default fixed flow x None h) some
 
-pub returns-then-is_none-clause-partly : goal.returns-then-is_none-clause-partly
-returns-then-is_none-clause-partly g c =
+pub returns-then-is_none-clause-fixes : goal.returns-then-is_none-clause-fixes
+returns-then-is_none-clause-fixes g c =
     let s = c.args.system.now in
     let f = c.args.filling.now in
     let flow = c.args.flow in
     let low = c.args.low in
     let new = c.fix.new.filling in
     let out = c.fix.ensures in
-    let below : flow < length f.fixed.items = omega (arith, held_below s.slots flow c.requires.held, c.requires.places.fixed_len) in
+    let below : flow < length f.fixed.items = omega (arith, held_below s.slots flow c.requires.of.held, c.requires.of.places.fixed_len) in
     let none = none_read f.fixed.items flow c.index.result.now below c.index.ensures (c.is_none.ensures ∙ ap not c.if-is_none.true) in
     record {
-      places = out.places;
-      levels = out.levels;
-      flows = subst (λ (xs : List (Option ℕ)). (id : ℕ) → MayStep low (IsLeast (Some low) (limits_at s.slots f.levels.items id)) (fixed_at f.fixed.items id) (fixed_at xs id)) (sym out.fixed) (one_steps s f.fixed.items flow low below none f.levels.items (c.requires.at none));
-      stays = λ n h. record {
-        fresh = elim (bool_cases (is_in n f.stale.members)) [ inr e ↦ e | inl e ↦ absurd (true≢false (sym (stays n f.stale.members new.stale.members out.stale.grows e) ∙ h)) ];
-        left = off_stays f.left.items new.left.items (uses_at s.slots flow) new.stale.members (share_at (flow_in s.slots flow) low) n (out.left n) out.stale.marked h;
-        waiting = off_stays f.waiting.items new.waiting.items (uses_at s.slots flow) new.stale.members (weight_at s.slots flow) n (out.waiting n) out.stale.marked h;
-        key = ap (λ ks. key_at ks n) out.agenda;
+      partly = record {
+        places = out.places;
+        levels = out.levels;
+        flows = subst (λ (xs : List (Option ℕ)). (id : ℕ) → MayStep low (IsLeast (Some low) (limits_at s.slots f.levels.items id)) (fixed_at f.fixed.items id) (fixed_at xs id)) (sym out.fixed) (one_steps s f.fixed.items flow low below none f.levels.items (c.requires.at none));
+        stays = λ n h. record {
+          fresh = elim (bool_cases (is_in n f.stale.members)) [ inr e ↦ e | inl e ↦ absurd (true≢false (sym (stays n f.stale.members new.stale.members out.stale.grows e) ∙ h)) ];
+          left = off_stays f.left.items new.left.items (uses_at s.slots flow) new.stale.members (share_at (flow_in s.slots flow) low) n (out.left n) out.stale.marked h;
+          waiting = off_stays f.waiting.items new.waiting.items (uses_at s.slots flow) new.stale.members (weight_at s.slots flow) n (out.waiting n) out.stale.marked h;
+          key = ap (λ ks. key_at ks n) out.agenda;
+        };
+        fewer = λ n. omega (arith, out.waiting n);
+        gone = λ n e. ap (λ ks. key_at ks n) out.agenda ∙ e;
       };
-      fewer = λ n. omega (arith, out.waiting n);
-      gone = λ n e. ap (λ ks. key_at ks n) out.agenda ∙ e;
+      agenda = out.agenda;
+      holds = out.holds;
     }
 
 pub returns-then-is_none-clause-done : goal.returns-then-is_none-clause-done
@@ -50,7 +54,7 @@ returns-then-is_none-clause-done g c =
     let s = c.args.system.now in
     let f = c.args.filling.now in
     let flow = c.args.flow in
-    let below : flow < length f.fixed.items = omega (arith, held_below s.slots flow c.requires.held, c.requires.places.fixed_len) in
+    let below : flow < length f.fixed.items = omega (arith, held_below s.slots flow c.requires.of.held, c.requires.of.places.fixed_len) in
     subst (λ (xs : List (Option ℕ)). IsSome (fixed_at xs flow)) (sym c.fix.ensures.fixed) (subst IsSome (sym (get_or-set_same f.fixed.items flow (Some c.args.low) None below)) refl)
 
 pub returns-then-is_none-clause-count : goal.returns-then-is_none-clause-count
@@ -61,7 +65,7 @@ returns-then-is_none-clause-count g c = λ touched once there.
     let low = c.args.low in
     let new = c.fix.new.filling in
     let out = c.fix.ensures in
-    let below : flow < length f.fixed.items = omega (arith, held_below s.slots flow c.requires.held, c.requires.places.fixed_len) in
+    let below : flow < length f.fixed.items = omega (arith, held_below s.slots flow c.requires.of.held, c.requires.of.places.fixed_len) in
     let none = none_read f.fixed.items flow c.index.result.now below c.index.ensures (c.is_none.ensures ∙ ap not c.if-is_none.true) in
     let i = is_in_In flow touched there in
     record {
@@ -71,14 +75,14 @@ returns-then-is_none-clause-count g c = λ touched once there.
           (omega (arith, out.looks, unfixed_one s f.fixed.items flow low below none touched once i));
     }
 
-pub returns-else-is_none-clause-partly : goal.returns-else-is_none-clause-partly
-returns-else-is_none-clause-partly g c = partly_same c.args.system.now c.args.low c.args.filling.now c.requires.places
+pub returns-else-is_none-clause-fixes : goal.returns-else-is_none-clause-fixes
+returns-else-is_none-clause-fixes g c = record { partly = partly_same c.args.system.now c.args.low c.args.filling.now c.requires.of.places; agenda = refl; holds = refl }
 
 pub returns-else-is_none-clause-done : goal.returns-else-is_none-clause-done
 returns-else-is_none-clause-done g c =
     let s = c.args.system.now in
     let f = c.args.filling.now in
-    let below : c.args.flow < length f.fixed.items = omega (arith, held_below s.slots c.args.flow c.requires.held, c.requires.places.fixed_len) in
+    let below : c.args.flow < length f.fixed.items = omega (arith, held_below s.slots c.args.flow c.requires.of.held, c.requires.of.places.fixed_len) in
     some_read f.fixed.items c.args.flow c.index.result.now below c.index.ensures (c.is_none.ensures ∙ ap not c.if-is_none.false)
 
 pub returns-else-is_none-clause-count : goal.returns-else-is_none-clause-count

@@ -36,14 +36,14 @@ loop-at-smaller g c =
     let inv = c.loop-at.invariant in
     nearer next_on user_of s.uses (users_on s.users c.args.resource) inv.0 c.loop-at.at inv.1.walk c.in-Some.i c.look-one.result c.in-Some.is c.look-one.ensures.there
 
-pub fix_flow-requires-clause-held : goal.fix_flow-requires-clause-held
-fix_flow-requires-clause-held g c =
+pub fix_flow-requires-clause-of : goal.fix_flow-requires-clause-of
+fix_flow-requires-clause-of g c =
     let s = c.args.system.now in
     let row = users_on s.users c.args.resource in
     let inv = c.loop-at.invariant in
     let r = looked next_on user_of s.uses row inv.0 c.loop-at.at inv.1.walk c.in-Some.i c.look-one.result c.in-Some.is c.look-one.ensures.there in
     let f = on_held s c.requires.places.sound c.args.resource c.look-one.result.flow (in_at c.look-one.result.flow row inv.0 r.less (sym r.is)) in
-    subst IsSome (sym f.1) refl
+    record { places = inv.1.partly.places; held = subst IsSome (sym f.1) refl }
 
 pub fix_flow-requires-clause-at : goal.fix_flow-requires-clause-at
 fix_flow-requires-clause-at g c = λ none.
@@ -72,11 +72,11 @@ loop-at-preserved g c =
       suc k,
       record {
         walk = walk_on next_on user_of s.uses row k c.loop-at.at inv.1.walk c.in-Some.i c.look-one.result c.in-Some.is c.look-one.ensures.there;
-        partly = partly_on s c.args.low first old new inv.1.partly out.partly;
-        agenda = out.agenda ∙ inv.1.agenda;
-        holds = out.holds ∙ inv.1.holds;
+        partly = partly_on s c.args.low first old new inv.1.partly out.fixes.partly;
+        agenda = out.fixes.agenda ∙ inv.1.agenda;
+        holds = out.fixes.holds ∙ inv.1.holds;
         done = λ i h. below_more _ _
-            (λ i h. let id = get_or row i 0 in some_stays c.args.low (IsLeast (Some c.args.low) (limits_at s.slots old.levels.items id)) (fixed_at old.fixed.items id) (fixed_at new.fixed.items id) (out.partly.flows id) (inv.1.done i h))
+            (λ i h. let id = get_or row i 0 in some_stays c.args.low (IsLeast (Some c.args.low) (limits_at s.slots old.levels.items id)) (fixed_at old.fixed.items id) (fixed_at new.fixed.items id) (out.fixes.partly.flows id) (inv.1.done i h))
             (subst (λ n. IsSome (fixed_at new.fixed.items n)) r.is out.done) i (omega (arith, h));
         count = λ touched once there.
             let a = inv.1.count touched once there in
@@ -99,3 +99,6 @@ returns-clause-count g c = λ touched once there.
     let end = walked next_on user_of s.uses (users_on s.users c.args.resource) inv.0 c.loop-at.at inv.1.walk c.in_default.not-Some in
     let a = inv.1.count touched once there in
     record { counted = a.counted; looks = omega (arith, a.looks, end) }
+
+pub returns-clause-fixes : goal.returns-clause-fixes
+returns-clause-fixes g c = let inv = c.loop-at.invariant.1 in record { partly = inv.partly; agenda = inv.agenda; holds = inv.holds }
