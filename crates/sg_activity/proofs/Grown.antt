@@ -6,14 +6,14 @@ use Rattle.sg_base.specs.MarkSet.{is_in}
 use Rattle.sg_heap.specs.Agenda.{Key, key_at}
 use Rattle.sg_maxmin.specs.Fill.{share_of}
 use Rattle.sg_lazy.specs.RunningFlow.{RunningFlow, running_at, flows_in}
-use Rattle.sg_activity.specs.declared.lives.Live.{Live}
+use Rattle.sg_lives.specs.declared.lives.Live.{Live}
 use Rattle.std.proofs.lemmas.List.Sums.{sum_by-cons}
 use Rattle.sg_activity.specs.declared.kept.Kept.{Kept}
 use Rattle.sg_activity.specs.Links.{capacities_of, machines}
 use Rattle.sg_activity.specs.kept.Grows.{Grows}
-use Rattle.sg_activity.specs.Task.{takes_share}
-use Rattle.sg_activity.specs.Slots.{passes, serials}
-use Rattle.sg_activity.specs.kept.Pool.{slot_at}
+use Rattle.sg_lives.specs.Kinds.{takes_share}
+use Rattle.sg_lives.specs.Slots.{passes, serials}
+use Rattle.sg_lives.specs.Pool.{slot_at}
 use Rattle.sg_activity.specs.kept.State.{State, state_of, links_at, task_from, task_of, stamp_of, is_now, is_dated, is_so, told_at, told_by, is_marked, changed_at, changed_by, under_of, doing_of, ways_of}
 use Rattle.sg_activity.specs.kept.Sound.{AreApart, IsKept, IsSound, slot_ahead, slot_uses}
 use Rattle.sg_activity.proofs.Indexing.{ways_grown}

@@ -1,4 +1,3 @@
-mod CellLemmas
 pub mod Routed
 pub mod Times
 pub mod Serials
@@ -18,8 +17,6 @@ pub mod Settled
 pub mod Starts
 pub mod Renewed
 pub mod Turning
-pub mod Pooled
-pub mod Found
 pub mod Swapped
 pub mod Runs
 pub mod Drawn

@@ -1,7 +1,7 @@
 -- Lists of what stands under each number, and what is found in them.
 use Rattle.std.proofs.Common.{◌≡◌, ◌≢◌, ℕ, zero, suc, ◌+◌, ◌<◌, ◌≤◌, min, ◌⊎◌, inl, inr, Bool, true, false, cond, Option, None, Some, List, [], ◌∷◌, ◌++◌, length, get_or, set, length-set, get_or-set_same, get_or-set_other, refl, sym, ap, ap₂, subst, ◌∙◌, arith, map}
 use Rattle.std.proofs.lemmas.List.{ext_get_or, get_or_past}
-use Rattle.sg_activity.specs.Slots.{listed, passes, serials, sooner, soonest}
+use Rattle.sg_lives.specs.Slots.{listed, passes, serials, sooner, soonest}
 use Rattle.sg_activity.specs.Doing.{IsUpTo}
 use Rattle.sg_activity.proofs.Times.{sooner_cases}
 

@@ -5,11 +5,12 @@ use Rattle.sg_base.specs.MarkSet.{is_in}
 use Rattle.sg_heap.specs.Agenda.{key_at}
 use Rattle.sg_maxmin.specs.Sharing.{HasLimit}
 use Rattle.sg_lazy.specs.RunningFlow.{running_at}
-use Rattle.sg_activity.specs.declared.lives.Live.{Live}
+use Rattle.sg_lives.specs.declared.lives.Live.{Live}
 use Rattle.sg_activity.specs.Links.{Capacities}
-use Rattle.sg_activity.specs.Slots.{listed, passes, serials}
-use Rattle.sg_activity.specs.Task.{takes_share, flow_of}
-use Rattle.sg_activity.specs.kept.Pool.{IsMissing, slot_at}
+use Rattle.sg_lives.specs.Slots.{listed, passes, serials}
+use Rattle.sg_activity.specs.Task.{flow_of}
+use Rattle.sg_lives.specs.Kinds.{takes_share}
+use Rattle.sg_lives.specs.Pool.{IsMissing, slot_at}
 use Rattle.sg_activity.specs.kept.State.{State, links_at, place_of, task_from, task_of, asked_by, date_of, due_at, is_now, is_dated, is_so, told_at, told_by}
 use Rattle.sg_activity.specs.kept.Sound.{IsPlace, IsHeld, AreApart, IsKept, place_at}
 use Rattle.sg_activity.specs.kept.Turns.{Turns}

@@ -2,10 +2,10 @@
 use Rattle.std.specs.Prelude.{◌≡◌, ◌≢◌, ℕ, ◌+◌, ◌-◌, ◌*◌, ◌^◌, ◌++◌, ◌==◌, ◌<◌, ◌≤◌, not, Bool, true, false, IsTrue, Option, None, Some, List, [], ◌∷◌, All, AllPairs, filter, length, slice_index_or}
 use Rattle.sg_base.specs.declared.ids.LinkId.{LinkId}
 use Rattle.sg_base.specs.Limits.{IsAmount}
-use Rattle.sg_activity.specs.declared.kinds.HostCap.{HostCap}
-use Rattle.sg_activity.specs.declared.kinds.LinkCap.{LinkCap}
-use Rattle.sg_activity.specs.declared.kinds.Phase.{Phase}
-use Rattle.sg_activity.specs.declared.kinds.Transfer.{Transfer}
+use Rattle.sg_lives.specs.declared.kinds.HostCap.{HostCap}
+use Rattle.sg_lives.specs.declared.kinds.LinkCap.{LinkCap}
+use Rattle.sg_lives.specs.declared.kinds.Phase.{Phase}
+use Rattle.sg_lives.specs.declared.kinds.Transfer.{Transfer}
 use Rattle.sg_activity.specs.Links.{machines}
 use Rattle.sg_activity.specs.Stamp.{Stamp, stamped, anew, all_rerated}
 use Rattle.sg_activity.specs.Task.{Task, Way, is_cut, task_at}

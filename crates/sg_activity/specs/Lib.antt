@@ -1,4 +1,3 @@
-pub mod Slots
 pub mod Hosts
 pub mod Links
 pub mod Task

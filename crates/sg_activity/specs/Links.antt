@@ -1,10 +1,10 @@
 -- Links: what their flows share, and what bounds each flow.
 use Rattle.std.specs.Prelude.{ℕ, ◌+◌, ◌≤◌, ◌^◌, ◌++◌, not, Bool, true, Option, None, Some, false, if◌then◌else◌, List, [], ◌∷◌, map, filter, slice_index_or, slice_set}
 use Rattle.sg_base.specs.declared.ids.LinkId.{LinkId}
-use Rattle.sg_activity.specs.declared.kinds.HostCap.{HostCap}
-use Rattle.sg_activity.specs.declared.kinds.LinkCap.{LinkCap}
+use Rattle.sg_lives.specs.declared.kinds.HostCap.{HostCap}
+use Rattle.sg_lives.specs.declared.kinds.LinkCap.{LinkCap}
 use Rattle.sg_activity.specs.Hosts.{offers_of, host_at}
-use Rattle.sg_activity.specs.Slots.{sooner}
+use Rattle.sg_lives.specs.Slots.{sooner}
 
 -- its bandwidth keeps to its limit
 abbrev pub IsLink : LinkCap → Type 0

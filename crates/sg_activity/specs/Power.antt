@@ -1,10 +1,10 @@
 -- What hosts take, by their load.
 use Rattle.std.specs.Prelude.{ℕ, ◌+◌, ◌-◌, ◌*◌, ◌/◌, ◌==◌, ◌&&◌, Bool, false, Option, None, Some, if◌then◌else◌, List, sum_by}
 use Rattle.std.specs.List.{list_any}
-use Rattle.sg_activity.specs.declared.kinds.Power.{Power}
+use Rattle.sg_lives.specs.declared.kinds.Power.{Power}
 use Rattle.sg_activity.specs.Hosts.{host_at, offer_of}
 use Rattle.sg_activity.specs.Links.{Capacities, Switches, is_off}
-use Rattle.sg_activity.specs.Slots.{passes}
+use Rattle.sg_lives.specs.Slots.{passes}
 use Rattle.sg_activity.specs.Task.{Place, nowhere, on_host, over, Task, is_filled}
 
 -- whether this is the host

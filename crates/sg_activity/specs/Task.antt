@@ -1,13 +1,14 @@
 -- Phases: what goes on and where, what it asks for, and what follows it.
-use Rattle.std.specs.Prelude.{ℕ, ◌-◌, ◌*◌, ◌||◌, Bool, true, false, Option, None, Some, if◌then◌else◌, List, [], ◌∷◌, filter_map, length, slice_index_or}
+use Rattle.std.specs.Prelude.{ℕ, ◌-◌, ◌*◌, ◌||◌, Bool, false, Option, None, Some, if◌then◌else◌, List, [], ◌∷◌, filter_map, length, slice_index_or}
 use Rattle.std.specs.List.{list_any}
 use Rattle.sg_base.specs.declared.ids.LinkId.{LinkId}
 use Rattle.sg_maxmin.specs.Fill.{Flow, flow}
-use Rattle.sg_activity.specs.declared.kinds.PhaseKind.{PhaseKind}
-use Rattle.sg_activity.specs.declared.kinds.PhaseKind.TheVariants as phase
+use Rattle.sg_lives.specs.declared.kinds.PhaseKind.{PhaseKind}
+use Rattle.sg_lives.specs.declared.kinds.PhaseKind.TheVariants as phase
 use Rattle.sg_activity.specs.Hosts.{host_at}
 use Rattle.sg_activity.specs.Links.{Capacities, Switches, is_off, route_bound, shared_of}
-use Rattle.sg_activity.specs.Slots.{sooner}
+use Rattle.sg_lives.specs.Kinds.{takes_share, goes_by}
+use Rattle.sg_lives.specs.Slots.{sooner}
 
 -- all links of a route, FATPIPE links too, and the hosts of the sender and of the receiver
 pub record Way : Type 0 where
@@ -93,29 +94,8 @@ abbrev pub is_hit : Switches → Task → Bool
 is_hit on task = uses_off on task.place
 
 -- ---- what takes shares
--- whether phases of this kind take shares of resources
-abbrev pub takes_share : PhaseKind → Bool
-takes_share phase.Flow = true
-takes_share phase.Exec = true
-takes_share other = false
-
 abbrev pub is_filled : Task → Bool
 is_filled task = takes_share task.kind
-
--- how much a nanosecond takes of a phase that takes no share
-abbrev pub pace : PhaseKind → ℕ
-pace phase.Kept = 0
-pace other = 1
-
--- when a phase is due, of which nothing is left in that time: an execution that is held never is
-abbrev pub wait_by : PhaseKind → Option ℕ → Option ℕ
-wait_by phase.Kept time = None
-wait_by other time = time
-
--- whether a phase of this kind goes on: an execution that is held doesn't
-abbrev pub goes_by : PhaseKind → Bool
-goes_by phase.Kept = false
-goes_by other = true
 
 abbrev pub goes : Task → Bool
 goes task = goes_by task.kind
@@ -135,11 +115,6 @@ next_phase phase.Latency task =
     Some (record task { kind = phase.Flow; left = task.bytes * 1000000000 })
 next_phase other task = None
 
--- how many flows begin once a phase of this kind is over
-abbrev pub flows_ahead : PhaseKind → ℕ
-flows_ahead phase.Latency = 1
-flows_ahead other = 0
-
 abbrev pub phase_after : Option Task → Option Task
 phase_after None = None
 phase_after (Some task) = next_phase task.kind task
@@ -149,14 +124,6 @@ abbrev pub task_at : List (Option Task) → ℕ → Option Task
 task_at tasks serial = slice_index_or tasks (serial - 1) None
 
 -- ---- executions that are held
-abbrev pub is_exec : PhaseKind → Bool
-is_exec phase.Exec = true
-is_exec other = false
-
-abbrev pub is_held : PhaseKind → Bool
-is_held phase.Kept = true
-is_held other = false
-
 abbrev pub of_kind : (PhaseKind → Bool) → Task → Bool
 of_kind test task = test task.kind
 

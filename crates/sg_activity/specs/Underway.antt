@@ -7,11 +7,12 @@ use Rattle.sg_maxmin.specs.Fill.{Flow, share_of}
 use Rattle.sg_lazy.specs.RunningFlow.{RunningFlow, is_same_bound}
 use Rattle.sg_lazy.specs.Work.{work}
 use Rattle.sg_activity.specs.Links.{Capacities, Switches, all_on, capacities_of, at_speed, at_bandwidth}
-use Rattle.sg_activity.specs.Slots.{soonest, passes, serials, is_at, listed}
-use Rattle.sg_activity.specs.declared.kinds.PhaseKind.{PhaseKind}
-use Rattle.sg_activity.specs.declared.kinds.PhaseKind.TheVariants as phase
+use Rattle.sg_lives.specs.Slots.{soonest, passes, serials, is_at, listed}
+use Rattle.sg_lives.specs.declared.kinds.PhaseKind.{PhaseKind}
+use Rattle.sg_lives.specs.declared.kinds.PhaseKind.TheVariants as phase
 use Rattle.sg_activity.specs.Power.{load_by, power_of}
-use Rattle.sg_activity.specs.Task.{Task, is_filled, pace, wait_by, goes, flow_in, flow_of, flows, is_hit, phase_after, task_at, is_exec, is_held, of_kind, rekinded}
+use Rattle.sg_activity.specs.Task.{Task, is_filled, goes, flow_in, flow_of, flows, is_hit, phase_after, task_at, of_kind, rekinded}
+use Rattle.sg_lives.specs.Kinds.{pace, wait_by, is_exec, is_held}
 
 -- What changed since the rates were brought up to date: by serial whether the phase that is under way began, or has another bound; what those asked for that ended; and the numbers of the resources whose capacity changed.
 pub record Marks : Type 0 where

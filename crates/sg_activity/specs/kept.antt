@@ -1,7 +1,5 @@
 -- How `Activities` keeps what is under way.
-pub mod Cells
 pub mod Stamps
-pub mod Pool
 pub mod Rows
 pub mod State
 pub mod Sound

@@ -12,8 +12,6 @@ ghost use Rattle.sg_activity.specs.Doing.{idle_on, started_in, drawn_in, begun_i
 use crate::beginning::first_parts;
 use crate::capacities::{set_bandwidth, set_speed};
 use crate::kept::Kept;
-use crate::kinds::{HostCap, LinkCap, Phase, PhaseKind, Transfer};
-use crate::lives::{Live, Lives, is_exec, is_held};
 use crate::phases::{end_phase, first_due, go_on, hold, leave};
 use crate::power::{first_meter, load, note, set_powers};
 use crate::renewal::{renew, restamp};
@@ -24,6 +22,7 @@ use sg_base::{LinkId, Marks, Memory, PointId, Serial, Steps};
 use sg_energy::Meter;
 use sg_heap::Agenda;
 use sg_lazy::Lazy;
+use sg_lives::{HostCap, LinkCap, Live, Lives, Phase, PhaseKind, Transfer, is_exec, is_held};
 use std::alloc::Global;
 use std::marker::Model;
 use std::sync::ledger::Ledger;

@@ -7,12 +7,11 @@ ghost use Rattle.sg_activity.specs.kept.Whole.{AreIdle};
 
 use crate::index::Index;
 use crate::kept::Kept;
-use crate::kinds::{HostCap, LinkCap};
-use crate::lives::Lives;
 use arrayvec::ArrayVec;
 use sg_base::{Marks, Memory};
 use sg_heap::Agenda;
 use sg_lazy::Lazy;
+use sg_lives::{HostCap, LinkCap, Lives};
 use std::alloc::Global;
 
 /// All that is kept but for the meter.

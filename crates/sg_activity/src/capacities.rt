@@ -6,17 +6,16 @@ ghost use Rattle.sg_activity.specs.Hosts.{IsHost};
 ghost use Rattle.sg_activity.specs.Links.{at_bandwidth, at_speed};
 ghost use Rattle.sg_activity.specs.kept.Bounds.{HasFlows, Rebounds, Resets};
 ghost use Rattle.sg_activity.specs.kept.Index.{used_in};
-ghost use Rattle.sg_activity.specs.kept.Pool.{slot_at};
+ghost use Rattle.sg_lives.specs.Pool.{slot_at};
 ghost use Rattle.sg_activity.specs.kept.Rows.{row_at};
 ghost use Rattle.sg_activity.specs.kept.Sound.{IsPlace, IsSound, place_at};
 ghost use Rattle.sg_activity.specs.kept.State.{asked_by, state_of};
 ghost use Rattle.sg_activity.specs.kept.Whole.{IsUsed};
 
 use crate::kept::Kept;
-use crate::kinds::{HostCap, LinkCap, PhaseKind};
-use crate::lives::{Live, takes_share};
 use crate::routes::{bound_of, tighter, way_of};
 use sg_base::Steps;
+use sg_lives::{HostCap, LinkCap, Live, PhaseKind, takes_share};
 use std::marker::Brand;
 use std::sync::ledger::{Blank, Ledger};
 

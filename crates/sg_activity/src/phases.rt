@@ -1,7 +1,7 @@
 //! Phases that are due, and their ends, and executions that are held.
 
 ghost use Rattle.std.specs.Prelude.{◌≡◌, ◌<◌, List, MatchOption, None, Option, Some};
-ghost use Rattle.sg_activity.specs.declared.kinds.PhaseKind.TheVariants as phase;
+ghost use Rattle.sg_lives.specs.declared.kinds.PhaseKind.TheVariants as phase;
 ghost use Rattle.sg_activity.specs.kept.State.{state_of, task_of};
 ghost use Rattle.sg_activity.specs.Task.{next_phase, rekinded};
 ghost use Rattle.sg_heap.specs.Agenda.{Key};
@@ -11,11 +11,10 @@ ghost use Rattle.sg_activity.specs.kept.Ends.{Ends, GoesOn, IsFirst, IsIdle};
 ghost use Rattle.sg_activity.specs.kept.Whole.{IsLiveAt, IsUsed};
 
 use crate::kept::Kept;
-use crate::kinds::PhaseKind;
-use crate::lives::{Live, flows_ahead, takes_share, uses_ahead};
 use crate::renewal::left_at;
 use crate::routes::{bound_of, tighter, write_uses, write_way};
 use sg_heap::Agenda;
+use sg_lives::{Live, PhaseKind, flows_ahead, takes_share, uses_ahead};
 
 /// The activity whose phase is due first, and its key.
 pub(crate) fn first_due(kept: &Kept) -> Option<(usize, Live)>

@@ -2,16 +2,16 @@
 
 ghost use Rattle.std.specs.Prelude.{◌≡◌, ◌+◌, ◌-◌, ◌<◌, ◌≤◌, ◌^◌, [], ◌∷◌, ◌++◌, All, length};
 ghost use Rattle.sg_base.specs.declared.ids.LinkId.{LinkId};
-ghost use Rattle.sg_activity.specs.Slots.{sooner};
+ghost use Rattle.sg_lives.specs.Slots.{sooner};
 ghost use Rattle.sg_activity.specs.Task.{over};
 ghost use Rattle.sg_activity.specs.kept.Index.{used_at};
 ghost use Rattle.sg_activity.specs.kept.Rows.{IsWayRow, link_of, row_at, way_in};
 ghost use Rattle.sg_activity.specs.Links.{bound_of_link, route_bound, shared_of};
 
 use crate::index::Index;
-use crate::kinds::LinkCap;
 use arrayvec::ArrayVec;
 use sg_base::{LinkId, Steps};
+use sg_lives::LinkCap;
 use std::marker::Brand;
 use std::sync::ledger::{Blank, Ledger};
 

@@ -8,18 +8,17 @@ ghost use Rattle.sg_activity.specs.Links.{is_off};
 ghost use Rattle.sg_activity.specs.Task.{is_cut, uses_off as uses_off_spec};
 ghost use Rattle.sg_activity.specs.kept.Hits.{AreHit, AreLooked, ArePlaced, AreSwitches, Flips, hit_in};
 ghost use Rattle.sg_activity.specs.kept.Index.{used_in};
-ghost use Rattle.sg_activity.specs.kept.Pool.{slot_at};
+ghost use Rattle.sg_lives.specs.Pool.{slot_at};
 ghost use Rattle.sg_activity.specs.kept.Rows.{row_at};
 ghost use Rattle.sg_activity.specs.kept.Sound.{IsPlace, place_at};
 ghost use Rattle.sg_activity.specs.kept.State.{links_at, state_of, ways_of};
 ghost use Rattle.sg_activity.specs.kept.Whole.{CanSwitch, IsUsed};
 
 use crate::kept::Kept;
-use crate::kinds::PhaseKind;
-use crate::lives::Live;
 use crate::routes::way_of;
 use sg_base::{LinkId, Serial, Steps};
 use sg_heap::Agenda;
+use sg_lives::{Live, PhaseKind};
 use std::marker::Brand;
 use std::sync::ledger::{Blank, Ledger};
 

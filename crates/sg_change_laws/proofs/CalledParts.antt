@@ -14,8 +14,8 @@ use Rattle.sg_base.specs.declared.call.Call.{Call}
 use Rattle.sg_base.specs.declared.call.Call.TheVariants as call
 use Rattle.sg_base.specs.declared.ids.ActorId.{ActorId}
 use Rattle.sg_base.specs.declared.ids.BoxId.{BoxId}
-use Rattle.sg_activity.specs.declared.kinds.PhaseKind.{PhaseKind}
-use Rattle.sg_activity.specs.declared.kinds.PhaseKind.TheVariants as phase
+use Rattle.sg_lives.specs.declared.kinds.PhaseKind.{PhaseKind}
+use Rattle.sg_lives.specs.declared.kinds.PhaseKind.TheVariants as phase
 use Rattle.sg_activity.specs.Links.{is_off}
 use Rattle.sg_activity.specs.Task.{Task, exec_of, is_cut, rekinded, task_at, timer_of}
 use Rattle.sg_activity.specs.Underway.{Underway, begun, gone_on, held, is_computing, is_kept, started, turned}

@@ -8,7 +8,7 @@ use Rattle.sg_base.specs.declared.awaits.Party.{Party}
 use Rattle.sg_base.specs.declared.awaits.Party.TheVariants as party
 use Rattle.sg_base.specs.declared.call.Answer.{Answer}
 use Rattle.sg_base.specs.declared.call.Call.{Call}
-use Rattle.sg_activity.specs.Slots.{passes, serials}
+use Rattle.sg_lives.specs.Slots.{passes, serials}
 use Rattle.sg_activity.specs.Task.{Task, is_hit, phase_after, task_at}
 use Rattle.sg_activity.specs.Underway.{due_in, hits, passed}
 use Rattle.sg_mailbox.specs.declared.sides.Side.{Side}

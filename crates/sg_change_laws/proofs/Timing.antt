@@ -1,6 +1,6 @@
 -- A pass changes the date and the energies of hosts only as time passes.
 use Rattle.std.proofs.Common.{◌≡◌, ℕ, ◌+◌, ◌*◌, ◌<◌, ◌==◌, Bool, true, false, cond, List, [], length, get_or, Option, None, Some, refl, ap, ◌∙◌, arith}
-use Rattle.sg_activity.specs.Slots.{listed}
+use Rattle.sg_lives.specs.Slots.{listed}
 use Rattle.sg_activity.specs.Underway.{Underway, due_in, later, power_at, rate, used_later}
 use Rattle.sg_activity.specs.Underway as underway
 use Rattle.sg_activity.proofs.Listing.{at_listed, length-listed}

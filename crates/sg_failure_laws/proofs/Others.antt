@@ -16,10 +16,10 @@ use Rattle.sg_base.specs.declared.ids.ActorId.{ActorId}
 use Rattle.sg_base.specs.declared.ids.Serial.{Serial}
 use Rattle.sg_base.specs.declared.trace_record.End.{End}
 use Rattle.sg_base.specs.declared.trace_record.End.TheVariants as end
-use Rattle.sg_activity.specs.declared.kinds.PhaseKind.{PhaseKind}
-use Rattle.sg_activity.specs.declared.kinds.PhaseKind.TheVariants as phase
+use Rattle.sg_lives.specs.declared.kinds.PhaseKind.{PhaseKind}
+use Rattle.sg_lives.specs.declared.kinds.PhaseKind.TheVariants as phase
 use Rattle.sg_activity.specs.Links.{Capacities, Switches, is_off}
-use Rattle.sg_activity.specs.Slots.{passes, serials}
+use Rattle.sg_lives.specs.Slots.{passes, serials}
 use Rattle.sg_activity.specs.Task.{Place, Task, exec_of, is_cut, is_hit, next_phase, nowhere, on_host, over, phase_after, rekinded, task_at, timer_of, uses_off}
 use Rattle.sg_activity.specs.Underway.{Underway, due_in, gone_on, held, hits, is_computing, is_kept, passed, turned}
 use Rattle.sg_mailbox.specs.declared.sides.Post.{Post}

@@ -2,7 +2,7 @@
 use Rattle.std.proofs.Common.{◌≡◌, ◌≢◌, ℕ, ◌+◌, ◌-◌, ◌<◌, ◌≤◌, ◌==◌, min, Bool, true, false, cond, inl, inr, ◌⊎◌, Option, None, Some, List, [], ◌∷◌, length, refl, sym, ap, subst, ◌∙◌, arith}
 use Rattle.std.specs.Option.{IfSome, MatchOption}
 use Rattle.sg_activity.specs.Doing.{Doing, IsNext, IsUpTo, later_in}
-use Rattle.sg_activity.specs.Slots.{sooner, soonest, serials, is_at}
+use Rattle.sg_lives.specs.Slots.{sooner, soonest, serials, is_at}
 use Rattle.sg_activity.specs.Underway.{next_in, wait_in}
 use Rattle.sg_activity.proofs.Times.{sooner_cases, sooner_never}
 use Rattle.sg_profile.specs.Ahead.{IsNear}

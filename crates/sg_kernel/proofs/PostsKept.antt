@@ -6,8 +6,8 @@ use Rattle.std.proofs.lemmas.List.{append-nil, get_or-set_same, get_or-set_other
 use Rattle.sg_base.specs.declared.ids.ActorId.{ActorId}
 use Rattle.sg_activity.specs.Doing.{Doing}
 use Rattle.sg_activity.specs.Task.{Task, next_phase}
-use Rattle.sg_activity.specs.declared.kinds.PhaseKind.{PhaseKind}
-use Rattle.sg_activity.specs.declared.kinds.PhaseKind.TheVariants as phase
+use Rattle.sg_lives.specs.declared.kinds.PhaseKind.{PhaseKind}
+use Rattle.sg_lives.specs.declared.kinds.PhaseKind.TheVariants as phase
 use Rattle.sg_base.specs.declared.awaits.Await.{Await}
 use Rattle.sg_kernel.specs.declared.fields.Fields.{Fields}
 use Rattle.sg_kernel.specs.declared.owners.How.{How}

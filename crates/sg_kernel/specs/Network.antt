@@ -1,7 +1,7 @@
 -- What the network does to a communication over a route.
 use Rattle.std.specs.Prelude.{ℕ, ◌+◌, ◌==◌, Bool, false, Option, None, Some, if◌then◌else◌, List, [], ◌∷◌}
 use Rattle.sg_base.specs.declared.ids.LinkId.{LinkId}
-use Rattle.sg_activity.specs.Slots.{sooner}
+use Rattle.sg_lives.specs.Slots.{sooner}
 use Rattle.sg_rows.specs.Network as network
 use Rattle.sg_rows.specs.Network.{window_bound}
 use Rattle.sg_route.specs.Route.{Route}

@@ -1,6 +1,6 @@
 -- How a pass goes: the date moves to where the next phases are due or the next entries of profiles come. First the entries of that date come, in order of rows, each followed by its failures, and then the phases that are due end, by rising serial. Each entry, each failure and each phase end is one event.
 use Rattle.std.specs.Prelude.{ℕ, ◌+◌, ◌-◌, Option, None, Some, option_map, if◌then◌else◌, List, [], ◌∷◌}
-use Rattle.sg_activity.specs.Slots.{sooner}
+use Rattle.sg_lives.specs.Slots.{sooner}
 use Rattle.sg_activity.specs.Task.{Task, phase_after, task_at}
 use Rattle.sg_activity.specs.Underway as underway
 use Rattle.sg_activity.specs.Underway.{Underway, due_in, hits, is_running, later, next_in, with_bandwidth, with_host_on, with_link_on, with_speed, with_task}

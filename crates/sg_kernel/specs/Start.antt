@@ -1,9 +1,9 @@
 -- Where a simulation begins: from a platform and a deployment.
 use Rattle.std.specs.Prelude.{ℕ, Bool, true, false, None, option_map, List, [], ◌∷◌, ◌++◌, length, map, replicate}
 use Rattle.std.specs.List.{count_by, flat_map}
-use Rattle.sg_activity.specs.declared.kinds.HostCap.{HostCap}
-use Rattle.sg_activity.specs.declared.kinds.LinkCap.{LinkCap}
-use Rattle.sg_activity.specs.declared.kinds.Power.{Power}
+use Rattle.sg_lives.specs.declared.kinds.HostCap.{HostCap}
+use Rattle.sg_lives.specs.declared.kinds.LinkCap.{LinkCap}
+use Rattle.sg_lives.specs.declared.kinds.Power.{Power}
 use Rattle.sg_activity.specs.Links.{Capacities}
 use Rattle.sg_activity.specs.Underway.{nothing_on}
 use Rattle.sg_profile.specs.Profiles.{first_turns, profiles_in}

@@ -1,6 +1,6 @@
 //! What the network does to a communication over a route.
 ghost use Rattle.std.specs.Prelude.{◌≡◌, ◌≤◌, ◌^◌};
-ghost use Rattle.sg_activity.specs.Slots.{sooner};
+ghost use Rattle.sg_lives.specs.Slots.{sooner};
 ghost use Rattle.sg_rows.specs.Network.{IsNetwork};
 ghost use Rattle.sg_kernel.specs.Network.{is_loopback, latency_over, own_bound, rate_bound};
 ghost use Rattle.sg_kernel.specs.kept.Sound.{setup_in};

@@ -1,7 +1,7 @@
 //! Passes, and ends of phases.
 
 ghost use Rattle.std.specs.Prelude.{◌≡◌, ◌≢◌, ◌<◌, ◌⊎◌, [], IsTrue, MatchOption, None, Some, false, if◌then◌else◌};
-ghost use Rattle.sg_activity.specs.declared.kinds.PhaseKind.TheVariants as phase_kind;
+ghost use Rattle.sg_lives.specs.declared.kinds.PhaseKind.TheVariants as phase_kind;
 ghost use Rattle.sg_activity.specs.Underway.{is_running};
 ghost use Rattle.std.specs.List.{list_any};
 ghost use Rattle.sg_states.specs.Actors.{is_ready};

@@ -4,7 +4,7 @@ use Rattle.std.specs.Prelude.{IsSome, is_some}
 use Rattle.std.specs.List.{All}
 use Rattle.std.specs.Option.{IfSome}
 use Rattle.std.proofs.lemmas.List.Elements.{All-nil, All-append}
-use Rattle.sg_activity.specs.Slots.{sooner, soonest, serials, is_at}
+use Rattle.sg_lives.specs.Slots.{sooner, soonest, serials, is_at}
 use Rattle.sg_activity.specs.Task.{Task, phase_after, task_at}
 use Rattle.sg_activity.specs.Underway.{Underway, due_in, hits, is_running, next_in, passed, wait_in, with_task}
 use Rattle.sg_activity.proofs.Times.{sooner_cases}

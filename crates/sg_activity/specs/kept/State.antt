@@ -6,17 +6,18 @@ use Rattle.sg_heap.specs.Agenda.{Key, key_at}
 use Rattle.sg_maxmin.specs.Fill.{Flow}
 use Rattle.sg_lazy.specs.RunningFlow.{RunningFlow, running_at}
 use Rattle.sg_activity.specs.declared.kept.Kept.{Kept}
-use Rattle.sg_activity.specs.declared.kinds.PhaseKind.{PhaseKind}
-use Rattle.sg_activity.specs.declared.kinds.PhaseKind.TheVariants as phase
-use Rattle.sg_activity.specs.declared.lives.Live.{Live}
+use Rattle.sg_lives.specs.declared.kinds.PhaseKind.{PhaseKind}
+use Rattle.sg_lives.specs.declared.kinds.PhaseKind.TheVariants as phase
+use Rattle.sg_lives.specs.declared.lives.Live.{Live}
 use Rattle.sg_activity.specs.Doing.{Doing}
 use Rattle.sg_activity.specs.Links.{Capacities, Switches, machines}
-use Rattle.sg_activity.specs.Slots.{listed, passes, serials}
+use Rattle.sg_lives.specs.Slots.{listed, passes, serials}
 use Rattle.sg_activity.specs.Stamp.{Stamp}
-use Rattle.sg_activity.specs.Task.{Place, nowhere, on_host, over, Task, flow_of, takes_share, wait_by}
+use Rattle.sg_activity.specs.Task.{Place, nowhere, on_host, over, Task, flow_of}
+use Rattle.sg_lives.specs.Kinds.{takes_share, wait_by}
 use Rattle.sg_activity.specs.Underway.{Underway}
 use Rattle.sg_activity.specs.kept.Stamps.{left_at, due_of}
-use Rattle.sg_activity.specs.kept.Pool.{slot_at}
+use Rattle.sg_lives.specs.Pool.{slot_at}
 use Rattle.sg_activity.specs.kept.Rows.{row_at, way_in}
 
 -- What is kept: by key the activities, the links of their ways and their dates; by number the flows, and the keys of these; the keys under which phases began since the rates were brought up to date, the flows that ended since, and the resources whose capacity changed since; and whether those whose date is now are due.

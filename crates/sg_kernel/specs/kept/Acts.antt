@@ -3,7 +3,7 @@ use Rattle.std.specs.Prelude.{◌≡◌, ◌≢◌, ℕ, ◌+◌, ◌-◌, ◌<�
 use Rattle.sg_base.specs.declared.call.Call.{Call}
 use Rattle.sg_base.specs.declared.ids.Serial.{Serial}
 use Rattle.sg_base.specs.Limits.{IsCall}
-use Rattle.sg_activity.specs.declared.kinds.Phase.{Phase}
+use Rattle.sg_lives.specs.declared.kinds.Phase.{Phase}
 use Rattle.sg_activity.specs.Doing.{IsDue}
 use Rattle.sg_mailbox.specs.declared.sides.Found.{Found}
 use Rattle.sg_mailbox.specs.declared.sides.Side.{Side}

@@ -12,7 +12,7 @@ use Rattle.sg_heap.specs.Agenda.{key_at}
 use Rattle.sg_activity.specs.kept.Hits.{hit_in}
 use Rattle.sg_activity.specs.kept.Index.{used_by}
 use Rattle.sg_activity.specs.kept.Rows.{row_at, way_in}
-use Rattle.sg_activity.specs.kept.Pool.{slot_at}
+use Rattle.sg_lives.specs.Pool.{slot_at}
 use Rattle.sg_activity.specs.kept.State.{links_at}
 use Rattle.sg_activity.proofs.beginning.first_parts.Goals as goal
 

@@ -1,8 +1,9 @@
 use Rattle.std.proofs.Common.{◌≡◌, ◌+◌, ◌-◌, ◌++◌, [], ◌∷◌, None, Some, ap, length, ◌∙◌, arith, rules}
 use Rattle.std.proofs.lemmas.List.{get_or_push, length-append}
 use Rattle.sg_activity.specs.Doing.{Doing}
-use Rattle.sg_activity.specs.Slots.{passes}
-use Rattle.sg_activity.specs.Task.{exec_of, is_exec, of_kind, task_at}
+use Rattle.sg_lives.specs.Slots.{passes}
+use Rattle.sg_activity.specs.Task.{exec_of, of_kind, task_at}
+use Rattle.sg_lives.specs.Kinds.{is_exec}
 use Rattle.sg_activity.specs.Underway.{is_computing}
 use Rattle.sg_base.specs.declared.awaits.Await.{Await}
 use Rattle.sg_base.specs.declared.call.Call.TheVariants as call

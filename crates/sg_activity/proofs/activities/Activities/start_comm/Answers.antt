@@ -1,9 +1,9 @@
 use Rattle.std.proofs.Common.{◌≡◌, ◌+◌, ◌-◌, ◌<◌, ◌≤◌, ◌^◌, ℕ, false, None, Some, List, All, get_or, length, length-set, set, sum_by, sym, ap, ap₂, subst, ◌∙◌, refl, arith}
 use Rattle.sg_base.specs.MarkSet.{MarkSet, with_mark}
 use Rattle.sg_base.specs.declared.ids.LinkId.{LinkId}
-use Rattle.sg_activity.specs.declared.kinds.PhaseKind.TheVariants as phase
-use Rattle.sg_activity.specs.declared.kinds.Transfer.{Transfer}
-use Rattle.sg_activity.specs.declared.lives.Live.{Live}
+use Rattle.sg_lives.specs.declared.kinds.PhaseKind.TheVariants as phase
+use Rattle.sg_lives.specs.declared.kinds.Transfer.{Transfer}
+use Rattle.sg_lives.specs.declared.lives.Live.{Live}
 use Rattle.sg_activity.specs.Task.{comm_of, is_cut, over, task_at}
 use Rattle.sg_activity.specs.Doing.{Doing, IsTransfer, begun_in, way_of}
 use Rattle.sg_activity.specs.kept.Index.{used_at, used_by}
@@ -23,7 +23,7 @@ use Rattle.sg_activity.specs.Laws.{IsSameHost}
 use Rattle.sg_activity.specs.kept.Metered.{energies, metered_in}
 use Rattle.sg_activity.specs.kept.State.{under_of}
 use Rattle.sg_activity.specs.Power.{loads}
-use Rattle.sg_activity.specs.Slots.{passes}
+use Rattle.sg_lives.specs.Slots.{passes}
 use Rattle.sg_activity.proofs.Elsewhere.{same_task}
 use Rattle.sg_activity.proofs.Metering.{metered_kept}
 use Rattle.sg_activity.proofs.activities.Activities.start_comm.Goals as goal

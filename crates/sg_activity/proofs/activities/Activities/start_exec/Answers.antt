@@ -1,8 +1,8 @@
 use Rattle.std.proofs.Common.{◌≡◌, ◌+◌, ◌-◌, ◌*◌, ◌<◌, ◌≤◌, ◌^◌, true, false, None, Some, [], ◌∷◌, length, length-set, set, sum_by, sym, ap, subst, ◌∙◌, refl, arith}
 use Rattle.sg_base.specs.MarkSet.{MarkSet, with_mark}
-use Rattle.sg_activity.specs.declared.kinds.PhaseKind.TheVariants as phase
-use Rattle.sg_activity.specs.declared.lives.Live.{Live}
-use Rattle.sg_activity.specs.declared.kinds.HostCap.{HostCap}
+use Rattle.sg_lives.specs.declared.kinds.PhaseKind.TheVariants as phase
+use Rattle.sg_lives.specs.declared.lives.Live.{Live}
+use Rattle.sg_lives.specs.declared.kinds.HostCap.{HostCap}
 use Rattle.sg_activity.specs.Hosts.{host_at}
 use Rattle.sg_activity.specs.Task.{exec_of, on_host}
 use Rattle.sg_lazy.specs.Lazily.{Lazily}

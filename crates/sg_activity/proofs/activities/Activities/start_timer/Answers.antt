@@ -1,7 +1,7 @@
 use Rattle.std.proofs.Common.{◌≡◌, ◌+◌, ◌-◌, ◌≤◌, ◌^◌, false, None, Some, length, length-set, set, sum_by, sym, ap, subst, ◌∙◌, refl, arith}
 use Rattle.sg_base.specs.MarkSet.{MarkSet, with_mark}
-use Rattle.sg_activity.specs.declared.kinds.PhaseKind.TheVariants as phase
-use Rattle.sg_activity.specs.declared.lives.Live.{Live}
+use Rattle.sg_lives.specs.declared.kinds.PhaseKind.TheVariants as phase
+use Rattle.sg_lives.specs.declared.lives.Live.{Live}
 use Rattle.sg_activity.specs.Task.{timer_of, nowhere}
 use Rattle.sg_activity.specs.Doing.{Doing, started_in}
 use Rattle.sg_activity.specs.kept.State.{State, state_of, told_at, task_of, doing_of}

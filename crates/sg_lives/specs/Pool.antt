@@ -1,10 +1,10 @@
 -- What contracts see of `Lives`.
 use Rattle.std.specs.Prelude.{◌≡◌, ◌≢◌, ℕ, ◌+◌, ◌<◌, ◌≤◌, Bool, Option, None, Some, is_some, List, All, AllPairs, length, count_by, slice_index_or}
-use Rattle.sg_activity.specs.declared.kinds.PhaseKind.{PhaseKind}
-use Rattle.sg_activity.specs.declared.kinds.PhaseKind.TheVariants as phase
-use Rattle.sg_activity.specs.declared.lives.Live.{Live}
-use Rattle.sg_activity.specs.Slots.{passes}
-use Rattle.sg_activity.specs.Task.{goes_by}
+use Rattle.sg_lives.specs.declared.kinds.PhaseKind.{PhaseKind}
+use Rattle.sg_lives.specs.declared.kinds.PhaseKind.TheVariants as phase
+use Rattle.sg_lives.specs.declared.lives.Live.{Live}
+use Rattle.sg_lives.specs.Slots.{passes}
+use Rattle.sg_lives.specs.Kinds.{goes_by}
 
 -- the activity under each key, or nothing, how many keys are free, and room for so many activities more
 pub record Pool : Type 0 where

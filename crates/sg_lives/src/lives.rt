@@ -1,11 +1,11 @@
 //! The activities under way, by key.
 
 ghost use Rattle.std.specs.Prelude.{◌≡◌, ◌<◌, ◌≤◌, ◌+◌, ◌-◌, ◌==◌, None, Some, IfSome, IsSome, MatchOption, OnOk, [], if◌then◌else◌, count_by, length, slice_set};
-ghost use Rattle.sg_activity.specs.Slots.{passes};
-ghost use Rattle.sg_activity.specs.Task.{goes_by, is_exec as is_exec_spec, is_held as is_held_spec, takes_share as takes_share_spec};
-ghost use Rattle.sg_activity.specs.kept.Cells.{HasEnds};
-ghost use Rattle.sg_activity.specs.kept.Pool.{IsFound, IsMissing, SameSlots, goes_on, slot_at, uses_ahead as uses_ahead_spec};
-ghost use Rattle.sg_activity.specs.Task.{flows_ahead as flows_ahead_spec};
+ghost use Rattle.sg_lives.specs.Slots.{passes};
+ghost use Rattle.sg_lives.specs.Kinds.{goes_by, is_exec as is_exec_spec, is_held as is_held_spec, takes_share as takes_share_spec};
+ghost use Rattle.sg_lives.specs.Cells.{HasEnds};
+ghost use Rattle.sg_lives.specs.Pool.{IsFound, IsMissing, SameSlots, goes_on, slot_at, uses_ahead as uses_ahead_spec};
+ghost use Rattle.sg_lives.specs.Kinds.{flows_ahead as flows_ahead_spec};
 
 use crate::cells::{Cell, cell_with, free_cell, live_in};
 use crate::kinds::PhaseKind;
@@ -16,33 +16,33 @@ use std::marker::Model;
 
 /// An activity under way, as it was at a stamp.
 #[derive(Clone, Copy)]
-pub(crate) struct Live {
-    pub(crate) serial: u64,
-    pub(crate) kind: PhaseKind,
+pub struct Live {
+    pub serial: u64,
+    pub kind: PhaseKind,
     /// How many links the way of a communication has.
-    pub(crate) links: u32,
+    pub links: u32,
     /// What was left of its phase at the stamp.
-    pub(crate) kept: u128,
+    pub kept: u128,
     /// A date.
-    pub(crate) stamp: u128,
+    pub stamp: u128,
     /// How much a nanosecond takes of it since.
-    pub(crate) rate: u64,
+    pub rate: u64,
     /// What it weighs among those that share with it.
-    pub(crate) weight: u32,
+    pub weight: u32,
     /// What its rate is to be at most.
-    pub(crate) bound: Option<u64>,
+    pub bound: Option<u64>,
     /// The bytes of a communication.
-    pub(crate) bytes: u64,
+    pub bytes: u64,
     /// The host of an execution, or that of the sender of a communication.
-    pub(crate) host: usize,
+    pub host: usize,
     /// The host of the receiver of a communication.
-    pub(crate) peer: usize,
+    pub peer: usize,
     /// The number of a flow or an execution among the flows.
-    pub(crate) flow: usize,
+    pub flow: usize,
 }
 
 /// Whether phases of this kind take shares of resources.
-pub(crate) fn takes_share(kind: PhaseKind) -> bool
+pub fn takes_share(kind: PhaseKind) -> bool
     ensures { result ≡ takes_share_spec kind }
 {
     match kind {
@@ -52,7 +52,7 @@ pub(crate) fn takes_share(kind: PhaseKind) -> bool
 }
 
 /// How many flows begin once a phase of this kind is over.
-pub(crate) fn flows_ahead(kind: PhaseKind) -> usize
+pub fn flows_ahead(kind: PhaseKind) -> usize
     ensures { result ≡ flows_ahead_spec kind }
 {
     match kind {
@@ -62,7 +62,7 @@ pub(crate) fn flows_ahead(kind: PhaseKind) -> usize
 }
 
 /// How many uses the flow takes that begins once the phase of this activity is over.
-pub(crate) fn uses_ahead(live: &Live) -> usize
+pub fn uses_ahead(live: &Live) -> usize
     ensures { result ≡ uses_ahead_spec live.now.kind live.now.links }
 {
     match live.kind {
@@ -72,7 +72,7 @@ pub(crate) fn uses_ahead(live: &Live) -> usize
 }
 
 /// Whether it is an execution that goes on.
-pub(crate) fn is_exec(kind: PhaseKind) -> bool
+pub fn is_exec(kind: PhaseKind) -> bool
     ensures { result ≡ is_exec_spec kind }
 {
     match kind {
@@ -82,7 +82,7 @@ pub(crate) fn is_exec(kind: PhaseKind) -> bool
 }
 
 /// Whether it is an execution that is held.
-pub(crate) fn is_held(kind: PhaseKind) -> bool
+pub fn is_held(kind: PhaseKind) -> bool
     ensures { result ≡ is_held_spec kind }
 {
     match kind {
@@ -104,7 +104,7 @@ fn going_by(kind: PhaseKind) -> usize
 /// Activities under keys from 0 on, as many as there were at once at most. The key of one that is done is given to
 /// another. Nothing but `reserve` takes memory.
 #[derive(Drop)]
-pub(crate) struct Lives {
+pub struct Lives {
     slots: Vec<Cell>,
     // the keys without an activity; the last one is given next
     free: Vec<usize>,
@@ -117,14 +117,14 @@ pub(crate) struct Lives {
 }
 
 impl Model for Lives {
-    ghost use Rattle.sg_activity.specs.kept.Pool.{Pool};
+    ghost use Rattle.sg_lives.specs.Pool.{Pool};
 
     ghost Value = { Pool };
 
     ghost use Rattle.std.specs.Prelude.{length, vec_capacity};
     ghost use Rattle.sg_serials.specs.Serials as serials;
-    ghost use Rattle.sg_activity.specs.kept.Cells.{lives_in};
-    ghost use Rattle.sg_activity.specs.kept.Pool.{IsLives};
+    ghost use Rattle.sg_lives.specs.Cells.{lives_in};
+    ghost use Rattle.sg_lives.specs.Pool.{IsLives};
 
     ghost view = { λ s. record {
       slots = lives_in s.slots.items;
@@ -138,7 +138,7 @@ impl Model for Lives {
 
 impl Lives {
     /// No activities, and no keys.
-    pub(crate) fn new(alloc: Global) -> Lives
+    pub fn new(alloc: Global) -> Lives
         ensures slots { result.slots ≡ [] }
         ensures room { result.room ≡ 0 }
     {
@@ -152,21 +152,21 @@ impl Lives {
     }
 
     /// How many keys there are.
-    pub(crate) fn numbers(&self) -> usize
+    pub fn numbers(&self) -> usize
         ensures { result ≡ length self.now.slots }
     {
         self.slots.len()
     }
 
     /// Whether no activity goes on.
-    pub(crate) fn is_idle(&self) -> bool
+    pub fn is_idle(&self) -> bool
         ensures { result ≡ (count_by (passes goes_on) self.now.slots == 0) }
     {
         self.going == 0
     }
 
     /// The activity under a key.
-    pub(crate) fn get(&self, key: usize) -> Option<Live>
+    pub fn get(&self, key: usize) -> Option<Live>
         requires { key < length self.now.slots }
         ensures { result ≡ slot_at self.now.slots key }
     {
@@ -174,7 +174,7 @@ impl Lives {
     }
 
     /// The activity of a serial, and its key.
-    pub(crate) fn find(&self, serial: Serial) -> Option<(usize, Live)>
+    pub fn find(&self, serial: Serial) -> Option<(usize, Live)>
         ensures { MatchOption result (IsMissing self.now.slots serial.0)
             (λ found. IsFound self.now.slots serial.0 found.0 found.1) }
     {
@@ -188,7 +188,7 @@ impl Lives {
     }
 
     /// Puts an activity under a free key, and answers the key. No other is of its serial.
-    pub(crate) fn put(&mut self, live: Live) -> usize
+    pub fn put(&mut self, live: Live) -> usize
         requires room { 0 < self.old.room }
         requires apart { IsMissing self.old.slots live.serial }
         requires ends { HasEnds live }
@@ -208,7 +208,7 @@ impl Lives {
     }
 
     /// Puts an activity of the same serial, on the same hosts, in place of the one under a key.
-    pub(crate) fn set(&mut self, key: usize, live: Live)
+    pub fn set(&mut self, key: usize, live: Live)
         requires there { IsSome (slot_at self.old.slots key) }
         requires same { IfSome (slot_at self.old.slots key) (λ old. old.serial ≡ live.serial) }
         requires host { IfSome (slot_at self.old.slots key) (λ old. old.host ≡ live.host) }
@@ -224,7 +224,7 @@ impl Lives {
     }
 
     /// Takes away the activity under a key, which is then free.
-    pub(crate) fn remove(&mut self, key: usize)
+    pub fn remove(&mut self, key: usize)
         requires { IsSome (slot_at self.old.slots key) }
         ensures slots { self.new.slots ≡ slice_set self.old.slots key None }
         ensures room { self.new.room ≡ self.old.room }
@@ -257,7 +257,7 @@ impl Lives {
     }
 
     /// Makes room for so many more.
-    pub(crate) fn reserve(&mut self, n: usize) -> Result<(), Memory>
+    pub fn reserve(&mut self, n: usize) -> Result<(), Memory>
         ensures same { SameSlots self.old.slots self.new.slots }
         ensures longer { length self.old.slots ≤ length self.new.slots }
         ensures few { length self.new.slots ≤ length self.old.slots + n }

@@ -1,6 +1,6 @@
 //! What is kept of an activity, in 96 bytes.
 ghost use Rattle.std.specs.Prelude.{◌≡◌, None, Some, IfSome, if◌then◌else◌};
-ghost use Rattle.sg_activity.specs.kept.Cells.{HasEnds, live_in as live_in_spec};
+ghost use Rattle.sg_lives.specs.Cells.{HasEnds, live_in as live_in_spec};
 
 use crate::kinds::PhaseKind;
 use crate::lives::Live;

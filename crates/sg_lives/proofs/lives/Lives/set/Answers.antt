@@ -2,14 +2,14 @@ use Rattle.std.proofs.Common.{◌≡◌, ◌<◌, ℕ, cond, is_some, IsSome, No
 use Rattle.sg_serials.specs.Serials as serials
 use Rattle.std.specs.Prelude.{vec_capacity}
 use Rattle.std.specs.Option.{IfSome}
-use Rattle.sg_activity.specs.Slots.{passes}
-use Rattle.sg_activity.specs.declared.lives.Live.{Live}
-use Rattle.sg_activity.specs.kept.Cells.{lives_in}
-use Rattle.sg_activity.specs.kept.Pool.{Pool, goes_on, slot_at}
-use Rattle.sg_activity.proofs.CellLemmas.{live_read, lives_set}
-use Rattle.sg_activity.proofs.Found.{found_set}
-use Rattle.sg_activity.proofs.Pooled.{counts_set, replaced, within_there}
-use Rattle.sg_activity.proofs.lives.Lives.set.Goals as goal
+use Rattle.sg_lives.specs.Slots.{passes}
+use Rattle.sg_lives.specs.declared.lives.Live.{Live}
+use Rattle.sg_lives.specs.Cells.{lives_in}
+use Rattle.sg_lives.specs.Pool.{Pool, goes_on, slot_at}
+use Rattle.sg_lives.proofs.CellLemmas.{live_read, lives_set}
+use Rattle.sg_lives.proofs.Found.{found_set}
+use Rattle.sg_lives.proofs.Pooled.{counts_set, replaced, within_there}
+use Rattle.sg_lives.proofs.lives.Lives.set.Goals as goal
 
 pub invariant_of-self : goal.invariant_of-self
 invariant_of-self c =

@@ -1,6 +1,6 @@
 use Rattle.std.proofs.Common.{◌≡◌, ◌+◌, ◌≤◌, max, length}
-use Rattle.sg_activity.specs.kept.Pool.{SameSlots}
-use Rattle.sg_activity.proofs.lives.Lives.reserve.Given as goal
+use Rattle.sg_lives.specs.Pool.{SameSlots}
+use Rattle.sg_lives.proofs.lives.Lives.reserve.Given as goal
 
 abbrev pub invariant-loop-key : goal.invariant-loop-key
 invariant-loop-key l = record {

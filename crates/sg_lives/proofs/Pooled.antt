@@ -3,12 +3,12 @@ use Rattle.std.proofs.Common.{◌≡◌, ◌≢◌, ℕ, zero, suc, ◌+◌, ◌
 use Rattle.std.proofs.lemmas.List.{get_or_append_left, length-append}
 use Rattle.std.proofs.Math.Seq.{get_or-append_seam}
 use Rattle.std.proofs.lemmas.List.Sums.{sum_by-cons, sum_by-set}
-use Rattle.sg_activity.specs.declared.lives.Live.{Live}
-use Rattle.sg_activity.specs.kept.Pool.{slot_at, goes_on, IsPool}
-use Rattle.sg_activity.specs.Slots.{passes}
-use Rattle.sg_activity.proofs.Listing.{eq_cases}
-use Rattle.sg_activity.proofs.Pairing.{there_within}
-use Rattle.sg_activity.proofs.Turned.{not_there}
+use Rattle.sg_lives.specs.declared.lives.Live.{Live}
+use Rattle.sg_lives.specs.Pool.{slot_at, goes_on, IsPool}
+use Rattle.sg_lives.specs.Slots.{passes}
+use Rattle.sg_lives.proofs.Places.{eq_cases}
+use Rattle.sg_lives.proofs.Places.{there_within}
+use Rattle.sg_lives.proofs.Places.{not_there}
 
 -- the last of the free keys is given
 pub given : (slots : List (Option Live)) (free rest : List ℕ) (key : ℕ) (live : Live) (capacity : ℕ) → IsPool slots free capacity → free ≡ rest ++ key ∷ [] → IsPool (set slots key (Some live)) rest capacity

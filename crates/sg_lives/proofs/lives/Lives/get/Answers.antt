@@ -1,8 +1,8 @@
 use Rattle.std.proofs.Common.{◌≡◌, ◌<◌, length, sym, subst, ◌∙◌}
-use Rattle.sg_activity.specs.kept.Cells.{lives_in}
-use Rattle.sg_activity.specs.kept.Pool.{Pool, slot_at}
-use Rattle.sg_activity.proofs.CellLemmas.{live_read}
-use Rattle.sg_activity.proofs.lives.Lives.get.Goals as goal
+use Rattle.sg_lives.specs.Cells.{lives_in}
+use Rattle.sg_lives.specs.Pool.{Pool, slot_at}
+use Rattle.sg_lives.proofs.CellLemmas.{live_read}
+use Rattle.sg_lives.proofs.lives.Lives.get.Goals as goal
 
 pub returns : goal.returns
 returns c =

@@ -1,7 +1,7 @@
 -- How an activity is kept in 96 bytes.
 use Rattle.std.specs.Prelude.{◌<◌, if◌then◌else◌, Option, None, Some, List, map}
-use Rattle.sg_activity.specs.declared.cells.Cell.{Cell}
-use Rattle.sg_activity.specs.declared.lives.Live.{Live}
+use Rattle.sg_lives.specs.declared.cells.Cell.{Cell}
+use Rattle.sg_lives.specs.declared.lives.Live.{Live}
 
 -- the activity in a cell
 abbrev pub live_in : Cell → Option Live

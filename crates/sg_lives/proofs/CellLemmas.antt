@@ -1,10 +1,10 @@
 -- The activities in cells.
 use Rattle.std.proofs.Common.{◌≡◌, ℕ, ◌<◌, List, [], ◌∷◌, ◌++◌, Option, None, length, get_or, set, ap, ◌∙◌, arith}
 use Rattle.std.proofs.lemmas.List.{get_or-map, length-map, map-set, map_push}
-use Rattle.sg_activity.specs.declared.cells.Cell.{Cell}
-use Rattle.sg_activity.specs.declared.lives.Live.{Live}
-use Rattle.sg_activity.specs.kept.Cells.{live_in, lives_in}
-use Rattle.sg_activity.specs.kept.Pool.{slot_at}
+use Rattle.sg_lives.specs.declared.cells.Cell.{Cell}
+use Rattle.sg_lives.specs.declared.lives.Live.{Live}
+use Rattle.sg_lives.specs.Cells.{live_in, lives_in}
+use Rattle.sg_lives.specs.Pool.{slot_at}
 
 pub lives_set : (cells : List Cell) (i : ℕ) (cell : Cell) (o : Option Live) → live_in cell ≡ o → lives_in (set cells i cell) ≡ set (lives_in cells) i o
 lives_set cells i cell o e = map-set live_in cells i cell ∙ ap (λ x. set (lives_in cells) i x) e

@@ -4,13 +4,13 @@ use Rattle.std.specs.Prelude.{vec_capacity}
 use Rattle.std.specs.Option.{option_to_list}
 use Rattle.std.proofs.lemmas.List.{length-append}
 use Rattle.std.proofs.Math.Seq.{get_or-append_seam}
-use Rattle.sg_activity.specs.Slots.{passes}
-use Rattle.sg_activity.specs.kept.Cells.{lives_in}
-use Rattle.sg_activity.specs.kept.Pool.{Pool, IsPool, IsMissing, goes_on, slot_at}
-use Rattle.sg_activity.proofs.CellLemmas.{lives_set}
-use Rattle.sg_activity.proofs.Found.{agrees, differs, found_put}
-use Rattle.sg_activity.proofs.Pooled.{counts_set, given}
-use Rattle.sg_activity.proofs.lives.Lives.put.Goals as goal
+use Rattle.sg_lives.specs.Slots.{passes}
+use Rattle.sg_lives.specs.Cells.{lives_in}
+use Rattle.sg_lives.specs.Pool.{Pool, IsPool, IsMissing, goes_on, slot_at}
+use Rattle.sg_lives.proofs.CellLemmas.{lives_set}
+use Rattle.sg_lives.proofs.Found.{agrees, differs, found_put}
+use Rattle.sg_lives.proofs.Pooled.{counts_set, given}
+use Rattle.sg_lives.proofs.lives.Lives.put.Goals as goal
 
 pub invariant_of-self : goal.invariant_of-self
 invariant_of-self c =

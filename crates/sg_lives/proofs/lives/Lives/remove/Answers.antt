@@ -2,13 +2,13 @@ use Rattle.std.proofs.Common.{◌≡◌, ◌<◌, ◌++◌, [], ◌∷◌, ℕ, 
 use Rattle.sg_serials.specs.Serials as serials
 use Rattle.std.specs.Prelude.{vec_capacity}
 use Rattle.std.proofs.lemmas.List.{length-append}
-use Rattle.sg_activity.specs.Slots.{passes}
-use Rattle.sg_activity.specs.kept.Cells.{lives_in}
-use Rattle.sg_activity.specs.kept.Pool.{Pool, IsPool, goes_on, slot_at}
-use Rattle.sg_activity.proofs.CellLemmas.{live_read, lives_set}
-use Rattle.sg_activity.proofs.Found.{agrees, differs, found_gone}
-use Rattle.sg_activity.proofs.Pooled.{counts_set, given_back, within_there}
-use Rattle.sg_activity.proofs.lives.Lives.remove.Goals as goal
+use Rattle.sg_lives.specs.Slots.{passes}
+use Rattle.sg_lives.specs.Cells.{lives_in}
+use Rattle.sg_lives.specs.Pool.{Pool, IsPool, goes_on, slot_at}
+use Rattle.sg_lives.proofs.CellLemmas.{live_read, lives_set}
+use Rattle.sg_lives.proofs.Found.{agrees, differs, found_gone}
+use Rattle.sg_lives.proofs.Pooled.{counts_set, given_back, within_there}
+use Rattle.sg_lives.proofs.lives.Lives.remove.Goals as goal
 
 pub invariant_of-self : goal.invariant_of-self
 invariant_of-self c =

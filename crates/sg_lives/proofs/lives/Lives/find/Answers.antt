@@ -1,12 +1,12 @@
 use Rattle.std.proofs.Common.{◌≡◌, Some, sym, ap, subst, ◌∙◌}
 use Rattle.sg_serials.specs.Serials as serials
-use Rattle.sg_activity.specs.declared.lives.Live.{Live}
-use Rattle.sg_activity.specs.kept.Cells.{lives_in}
-use Rattle.sg_activity.specs.kept.Pool.{Pool, IsFound, slot_at}
-use Rattle.sg_activity.proofs.CellLemmas.{live_read}
-use Rattle.sg_activity.proofs.Listing.{some_same}
-use Rattle.sg_activity.proofs.Pairing.{there_within}
-use Rattle.sg_activity.proofs.lives.Lives.find.Goals as goal
+use Rattle.sg_lives.specs.declared.lives.Live.{Live}
+use Rattle.sg_lives.specs.Cells.{lives_in}
+use Rattle.sg_lives.specs.Pool.{Pool, IsFound, slot_at}
+use Rattle.sg_lives.proofs.CellLemmas.{live_read}
+use Rattle.sg_lives.proofs.Places.{some_same}
+use Rattle.sg_lives.proofs.Places.{there_within}
+use Rattle.sg_lives.proofs.lives.Lives.find.Goals as goal
 
 pub returns : goal.returns
 returns c =

@@ -1,10 +1,10 @@
 -- The key of each serial, as an activity comes, changes and goes.
 use Rattle.std.proofs.Common.{◌≡◌, ◌≢◌, ℕ, ◌<◌, inl, inr, nat_eq, true, false, Option, None, Some, List, length, set, sym, ap, ◌∙◌, arith}
-use Rattle.sg_activity.specs.declared.lives.Live.{Live}
-use Rattle.sg_activity.specs.kept.Pool.{slot_at, IsMissing, FindsEach}
-use Rattle.sg_activity.proofs.Listing.{eq_cases, some_same}
-use Rattle.sg_activity.proofs.Pairing.{set_cases}
-use Rattle.sg_activity.proofs.Starts.{set_here, set_there}
+use Rattle.sg_lives.specs.declared.lives.Live.{Live}
+use Rattle.sg_lives.specs.Pool.{slot_at, IsMissing, FindsEach}
+use Rattle.sg_lives.proofs.Places.{eq_cases, some_same}
+use Rattle.sg_lives.proofs.Places.{set_cases}
+use Rattle.sg_lives.proofs.Places.{set_here, set_there}
 
 module _ (slots : List (Option Live)) (find : ℕ → Option ℕ) (key : ℕ) (is : FindsEach slots find) (within : key < length slots) where
   pub found_put : (new : ℕ → Option ℕ) (live : Live) → IsMissing slots live.serial → slot_at slots key ≡ None → new live.serial ≡ Some key → ((j : ℕ) → j ≢ live.serial → new j ≡ find j) → FindsEach (set slots key (Some live)) new

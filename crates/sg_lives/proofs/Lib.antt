@@ -1,0 +1,4 @@
+pub mod Places
+pub mod CellLemmas
+pub mod Pooled
+pub mod Found

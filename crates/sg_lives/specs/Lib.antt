@@ -1,0 +1,4 @@
+pub mod Slots
+pub mod Kinds
+pub mod Pool
+pub mod Cells
