@@ -5,5 +5,6 @@ pub mod Coming
 pub mod Waking
 pub mod Whole
 pub mod Acts
+pub mod Asks
 pub mod Killing
 pub mod First

@@ -10,6 +10,7 @@ ghost use Rattle.sg_kernel.specs.Known.{after_call};
 ghost use Rattle.sg_kernel.specs.Roads.{AreOver};
 ghost use Rattle.sg_kernel.specs.kept.Sound.{core_of, known_of, setup_in};
 ghost use Rattle.sg_kernel.specs.kept.Acts.{CanMake, Replies};
+ghost use Rattle.sg_kernel.specs.kept.Asks.{CanAnswer};
 ghost use Rattle.sg_kernel.specs.kept.Whole.{IsWhole};
 
 use crate::at_once::{answer_now, go_on};
@@ -66,11 +67,8 @@ pub(crate) fn answer_call(
     router: &mut Router,
     links: &mut ArrayVec<LinkId, 64>,
 ) -> Result<(), Stop>
-    requires caller { MayCall (core_of fields.old) actor.0 }
-    requires call { IsCall (extent (setup_in fields.old)) call }
-    requires room { 0 < fields.old.states.room }
+    requires answers { CanAnswer fields.old actor.0 call }
     requires roads { AreOver fields.old.links router.old }
-    requires whole { IsWhole fields.old }
     ensures replies { Replies
         (answered router.old (setup_in fields.old) (core_of fields.old) actor.0 call)
         fields.old fields.new result }

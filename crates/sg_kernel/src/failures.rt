@@ -1,10 +1,10 @@
 //! Failures of what uses a host or a link that is off.
 
 ghost use Rattle.std.specs.Prelude.{◌≡◌, ◌≢◌, ◌≤◌, [], drop};
-ghost use Rattle.sg_activity.specs.Doing.{IsHit};
 ghost use Rattle.sg_activity.specs.Underway.{hits};
 ghost use Rattle.sg_kernel.specs.Passes.{all_fail, fails_one};
 ghost use Rattle.sg_kernel.specs.kept.Acts.{Changes, Enters};
+ghost use Rattle.sg_kernel.specs.kept.Asks.{CanFail};
 ghost use Rattle.sg_kernel.specs.kept.Sound.{setup_in};
 ghost use Rattle.sg_kernel.specs.kept.Whole.{IsPassing};
 
@@ -16,9 +16,7 @@ use sg_base::Serial;
 
 // The first activity of those that use something that is off fails, and whose it was is answered.
 fn fail(fields: &mut Fields, serial: Serial)
-    requires hit { IsHit fields.old.doing serial.0 }
-    requires passing { IsPassing fields.old }
-    requires budget { fields.old.events ≢ fields.old.budget }
+    requires { CanFail fields.old serial.0 }
     ensures enters { Enters (fails_one serial.0) fields.old fields.new }
     ensures hits { hits fields.new.doing.under ≡ drop 1 (hits fields.old.doing.under) }
     ensures profiles { fields.new.profiles ≡ fields.old.profiles }

@@ -1,6 +1,5 @@
 //! Actors are suspended and resumed.
-ghost use Rattle.std.specs.Prelude.{◌≡◌, ◌≢◌, ◌+◌, ◌-◌, ◌<◌, ◌≤◌, IsTrue, length};
-ghost use Rattle.sg_activity.specs.Underway.{is_computing};
+ghost use Rattle.std.specs.Prelude.{◌≡◌, ◌≢◌, ◌+◌, ◌-◌, ◌<◌, ◌≤◌, length};
 ghost use Rattle.sg_base.specs.declared.call.Answer.TheVariants as answer;
 ghost use Rattle.sg_states.specs.Records.{IsTellable};
 ghost use Rattle.sg_states.specs.States.{with_suspended, CanCall, IsAlive};
@@ -8,6 +7,7 @@ ghost use Rattle.sg_kernel.specs.World.{extent, is_suspended, IsActor};
 ghost use Rattle.sg_kernel.specs.Steps.{at_once};
 ghost use Rattle.sg_kernel.specs.Suspensions.{held_by, held_if, held_to, resumes, suspended_to, suspends};
 ghost use Rattle.sg_kernel.specs.kept.Acts.{Answers, CanMake};
+ghost use Rattle.sg_kernel.specs.kept.Asks.{CanHold};
 ghost use Rattle.sg_kernel.specs.kept.Sound.{core_of, known_of, setup_in, AwaitsMade};
 ghost use Rattle.sg_kernel.specs.kept.Waking.{LeavesCallers};
 ghost use Rattle.sg_kernel.specs.kept.Whole.{IsWhole, IsWholeFor};
@@ -19,10 +19,7 @@ use sg_states::{Blocking, States};
 
 /// The execution that begins is held at once, where its actor is suspended.
 pub(crate) fn hold_if(fields: &mut Fields, actor: ActorId, serial: Serial)
-    requires actor { IsActor (core_of fields.old) actor.0 }
-    requires from { 0 < serial.0 }
-    requires computing { IsTrue (is_computing fields.old.doing.under serial.0) }
-    requires whole { IsWhole fields.old }
+    requires { CanHold fields.old actor.0 serial.0 }
     ensures known { let core = core_of fields.old in
         let held = held_if (is_suspended core actor.0) serial.0 core in
         known_of fields.new ≡ record (known_of fields.old) { core = held } }

@@ -8,6 +8,7 @@ ghost use Rattle.sg_states.specs.Actors.{is_ready};
 ghost use Rattle.sg_kernel.specs.Steps.{all_of, each, result_of};
 ghost use Rattle.sg_kernel.specs.Passes.{ends, ends_one, next_span, settled_pass};
 ghost use Rattle.sg_kernel.specs.kept.Acts.{CanEnd, Ends, Passes};
+ghost use Rattle.sg_kernel.specs.kept.Asks.{CanMoveOn, CanPass};
 ghost use Rattle.sg_kernel.specs.kept.Coming.{coming, CountsSome, IsNextDate};
 ghost use Rattle.sg_kernel.specs.kept.Sound.{core_of, rows_now, setup_in, StepsBy};
 ghost use Rattle.sg_kernel.specs.kept.Whole.{IsPassing, IsWhole};
@@ -81,9 +82,7 @@ fn end_due(fields: &mut Fields) -> Result<(), Stop>
 
 // All that comes at the date: the entries of profiles, and then the ends of phases, as far as the budget goes.
 fn come(fields: &mut Fields) -> Result<(), Stop>
-    requires passing { IsPassing fields.old }
-    requires some { (rows_now fields.old ≢ []) ⊎ (fields.old.doing.due ≢ []) }
-    requires budget { fields.old.events ≢ fields.old.budget }
+    requires { CanPass fields.old }
     ensures passes { Passes (all_of (coming fields.old)) fields.old fields.new result }
     ensures events { fields.old.events < fields.new.events }
 {
@@ -111,9 +110,7 @@ fn next_date(fields: &Fields) -> Option<u128>
 
 /// Moves the date to where something comes next, and lets come what does. The rates are up to date.
 pub(crate) fn move_on(fields: &mut Fields) -> Result<(), Stop>
-    requires settled { IsTrue fields.old.doing.settled }
-    requires whole { IsWhole fields.old }
-    requires idle { list_any is_ready fields.old.states.actors ≡ false }
+    requires { CanMoveOn fields.old }
     ensures known { StepsBy (settled_pass (setup_in fields.old)) fields.old fields.new }
     ensures result { result
         ≡ result_of (settled_pass (setup_in fields.old) (core_of fields.old)).stop }

@@ -13,7 +13,7 @@ use Rattle.sg_kernel.proofs.calls.answer_call.Goals as goal
 
 pub answer_alone-requires-clause-makes : goal.answer_alone-requires-clause-makes
 answer_alone-requires-clause-makes c = record {
-  able = can_step c.args.fields.now c.args.actor.0 c.requires.whole c.requires.caller c.requires.room c.if-fields.false;
+  able = can_step c.args.fields.now c.args.actor.0 c.requires.answers.whole c.requires.answers.caller c.requires.answers.room c.if-fields.false;
   call = search rules;
 }
 
@@ -21,11 +21,11 @@ pub come-requires-clause-comes : goal.come-requires-clause-comes
 come-requires-clause-comes c = record {
   able =
       let comes : c.in-Some.comer.side.actor.0 ≡ c.args.actor.0 = comer_actor c.args.actor.0 c.args.call c.in-Some.comer (sym c.comer_of.ensures ∙ c.in-Some.is) in
-      subst (CanStep c.args.fields.now) (sym comes) (can_step c.args.fields.now c.args.actor.0 c.requires.whole c.requires.caller c.requires.room c.if-fields.false);
+      subst (CanStep c.args.fields.now) (sym comes) (can_step c.args.fields.now c.args.actor.0 c.requires.answers.whole c.requires.answers.caller c.requires.answers.room c.if-fields.false);
   comer =
       let fields = c.args.fields.now in
-      let caller = c.requires.caller in
-      comer_limited (extent (setup_in fields)) c.args.actor.0 c.args.call c.in-Some.comer (caller.from, omega (arith, caller.to, homes_counted fields c.requires.whole.sound)) c.requires.call (sym c.comer_of.ensures ∙ c.in-Some.is);
+      let caller = c.requires.answers.caller in
+      comer_limited (extent (setup_in fields)) c.args.actor.0 c.args.call c.in-Some.comer (caller.from, omega (arith, caller.to, homes_counted fields c.requires.answers.whole.sound)) c.requires.answers.call (sym c.comer_of.ensures ∙ c.in-Some.is);
 }
 
 pub returns-in-None-clause-replies : goal.returns-in-None-clause-replies

@@ -10,16 +10,18 @@ use Rattle.sg_kernel.specs.kept.Sound.{core_of, known_of, setup_in}
 use Rattle.sg_kernel.proofs.Stated.{actor_same}
 use Rattle.sg_kernel.proofs.executions.execute.Goals as goal
 
-pub hold_if-requires-clause-actor : goal.hold_if-requires-clause-actor
-hold_if-requires-clause-actor c =
-    let may = c.requires.computes.able.call.caller in
-    let long = ap (λ (k : Known). length k.core.actors) c.start-serial.ensures.counts.known in
-    let actors = c.args.fields.now.states.actors in
-    let many : length (core_of c.start-serial.new.fields).actors ≡ length actors = long ∙ length-set actors (c.args.actor.0 - 1) _ in
-    record { from = may.from; to = omega (arith, may.to, many) }
-
-pub hold_if-requires-clause-from : goal.hold_if-requires-clause-from
-hold_if-requires-clause-from c = omega (arith, c.start-serial.ensures.serial)
+pub hold_if-requires : goal.hold_if-requires
+hold_if-requires c = record {
+  actor =
+      let may = c.requires.computes.able.call.caller in
+      let long = ap (λ (k : Known). length k.core.actors) c.start-serial.ensures.counts.known in
+      let actors = c.args.fields.now.states.actors in
+      let many : length (core_of c.start-serial.new.fields).actors ≡ length actors = long ∙ length-set actors (c.args.actor.0 - 1) _ in
+      record { from = may.from; to = omega (arith, may.to, many) };
+  from = omega (arith, c.start-serial.ensures.serial);
+  computing = c.start-serial.ensures.computing;
+  whole = c.start-serial.ensures.counts.whole;
+}
 
 pub returns : goal.returns
 returns c = record {

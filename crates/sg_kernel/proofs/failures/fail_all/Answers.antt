@@ -90,3 +90,6 @@ returns-clause-changes c = record {
   passing = search rules;
   due = search rules;
 }
+
+pub fail-requires : goal.fail-requires
+fail-requires c = record { hit = c.in-Some.ensures; passing = c.loop-serial.invariant.passing; budget = c.if-fields.false }

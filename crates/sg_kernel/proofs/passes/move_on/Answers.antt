@@ -46,11 +46,12 @@ advance_to-requires-clause-small c =
     let sound = c.requires.whole.sound in
     omega (arith, c.in-Some.ensures.soon, sound.within, sound.budgeted, c.if-fields.false)
 
-pub come-stopped-requires-clause-passing : goal.come-stopped-requires-clause-passing
-come-stopped-requires-clause-passing c = passing_began c.args.fields.now c.advance_to.new.self c.begin_pass.new.self c.in-Some.date c.in-Some.ensures c.advance_to.ensures c.begin_pass.ensures c.if-fields.false c.requires.whole
-
-pub come-stopped-requires-clause-some : goal.come-stopped-requires-clause-some
-come-stopped-requires-clause-some c = some_moved c.args.fields.now c.advance_to.new.self c.begin_pass.new.self c.in-Some.date c.requires.whole.timely c.in-Some.ensures c.advance_to.ensures
+pub come-stopped-requires : goal.come-stopped-requires
+come-stopped-requires c = record {
+  passing = passing_began c.args.fields.now c.advance_to.new.self c.begin_pass.new.self c.in-Some.date c.in-Some.ensures c.advance_to.ensures c.begin_pass.ensures c.if-fields.false c.requires.whole;
+  some = some_moved c.args.fields.now c.advance_to.new.self c.begin_pass.new.self c.in-Some.date c.requires.whole.timely c.in-Some.ensures c.advance_to.ensures;
+  budget = c.if-fields.false;
+}
 
 pub returns-clause-known : goal.returns-clause-known
 returns-clause-known c =

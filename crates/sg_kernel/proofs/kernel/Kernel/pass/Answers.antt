@@ -1,5 +1,7 @@
 use Rattle.std.proofs.Common.{length, ap, ◌∙◌}
+use Rattle.std.specs.List.{list_any}
 use Rattle.sg_activity.specs.Doing.{Doing}
+use Rattle.sg_states.specs.Actors.{is_ready}
 use Rattle.sg_kernel.specs.declared.fields.Fields.{Fields}
 use Rattle.sg_kernel.specs.Known.{Known, after}
 use Rattle.sg_kernel.specs.Passes.{pass_of, settled_pass}
@@ -8,11 +10,12 @@ use Rattle.sg_kernel.specs.kept.Sound.{core_of, known_of, setup_in}
 use Rattle.sg_kernel.proofs.Passed.{actors_same, whole_settled}
 use Rattle.sg_kernel.proofs.kernel.Kernel.pass.Goals as goal
 
-pub move_on-requires-clause-settled : goal.move_on-requires-clause-settled
-move_on-requires-clause-settled g c = ap (λ (d : Doing). d.settled) c.settle.ensures.settles
-
-pub move_on-requires-clause-whole : goal.move_on-requires-clause-whole
-move_on-requires-clause-whole g c = whole_settled c.self.inside.fields c.settle.new.self c.settle.ensures.settles c.self.invariant
+pub move_on-requires : goal.move_on-requires
+move_on-requires g c = record {
+  settled = ap (λ (d : Doing). d.settled) c.settle.ensures.settles;
+  whole = whole_settled c.self.inside.fields c.settle.new.self c.settle.ensures.settles c.self.invariant;
+  idle = ap (λ (k : Known). list_any is_ready k.core.actors) c.self.view_is ∙ c.requires.idle;
+}
 
 pub returns-clause-step : goal.returns-clause-step
 returns-clause-step g c =
