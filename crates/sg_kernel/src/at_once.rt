@@ -1,5 +1,4 @@
 //! Calls that begin nothing: the actor goes on.
-ghost use Rattle.std.specs.Prelude.{◌≡◌};
 ghost use Rattle.sg_base.specs.Limits.{IsAmount, IsAnswer};
 ghost use Rattle.sg_states.specs.Records.{IsTellable};
 ghost use Rattle.sg_kernel.specs.World.{extent};

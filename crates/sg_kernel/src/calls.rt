@@ -1,9 +1,7 @@
 //! How a call is answered.
 
 ghost use Rattle.std.specs.Prelude.{◌≡◌, ◌<◌, None, true};
-ghost use Rattle.sg_base.specs.Limits.{IsCall};
 ghost use Rattle.sg_route.specs.Roads.{Roads};
-ghost use Rattle.sg_kernel.specs.World.{extent, MayCall};
 ghost use Rattle.sg_kernel.specs.Calls.{answered, answered_call};
 ghost use Rattle.sg_kernel.specs.Meetings.{comer_of as comer_of_spec};
 ghost use Rattle.sg_kernel.specs.Known.{after_call};

@@ -1,5 +1,5 @@
 //! Actors begin.
-ghost use Rattle.std.specs.Prelude.{◌≡◌, IsTrue};
+ghost use Rattle.std.specs.Prelude.{IsTrue};
 ghost use Rattle.sg_states.specs.Actors.{is_unstarted};
 ghost use Rattle.sg_kernel.specs.World.{state_of};
 ghost use Rattle.sg_kernel.specs.Lives.{creates};

@@ -1,6 +1,6 @@
 //! Failures of what uses a host or a link that is off.
 
-ghost use Rattle.std.specs.Prelude.{◌≡◌, ◌≢◌, ◌≤◌, [], drop};
+ghost use Rattle.std.specs.Prelude.{◌≡◌, ◌≤◌, drop};
 ghost use Rattle.sg_activity.specs.Underway.{hits};
 ghost use Rattle.sg_kernel.specs.Passes.{all_fail, fails_one};
 ghost use Rattle.sg_kernel.specs.kept.Acts.{Changes, Enters};

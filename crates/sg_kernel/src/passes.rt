@@ -1,16 +1,14 @@
 //! Passes, and ends of phases.
 
-ghost use Rattle.std.specs.Prelude.{◌≡◌, ◌≢◌, ◌<◌, ◌⊎◌, [], IsTrue, MatchOption, None, Some, false, if◌then◌else◌};
+ghost use Rattle.std.specs.Prelude.{◌≡◌, ◌≢◌, ◌<◌, IsTrue, MatchOption, None, Some, if◌then◌else◌};
 ghost use Rattle.sg_lives.specs.declared.kinds.PhaseKind.TheVariants as phase_kind;
 ghost use Rattle.sg_activity.specs.Underway.{is_running};
-ghost use Rattle.std.specs.List.{list_any};
-ghost use Rattle.sg_states.specs.Actors.{is_ready};
 ghost use Rattle.sg_kernel.specs.Steps.{all_of, each, result_of};
 ghost use Rattle.sg_kernel.specs.Passes.{ends, ends_one, next_span, settled_pass};
 ghost use Rattle.sg_kernel.specs.kept.Acts.{CanEnd, Ends, Passes};
 ghost use Rattle.sg_kernel.specs.kept.Asks.{CanMoveOn, CanPass};
 ghost use Rattle.sg_kernel.specs.kept.Coming.{coming, CountsSome, IsNextDate};
-ghost use Rattle.sg_kernel.specs.kept.Sound.{core_of, rows_now, setup_in, StepsBy};
+ghost use Rattle.sg_kernel.specs.kept.Sound.{core_of, setup_in, StepsBy};
 ghost use Rattle.sg_kernel.specs.kept.Whole.{IsPassing, IsWhole};
 
 use crate::answers::answer_owners;
